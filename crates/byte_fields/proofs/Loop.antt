@@ -1,0 +1,43 @@
+-- Reading items one after the other, as a loop does.
+use Rattle.std.proofs.Common.{◌≡◌, ℕ, suc, ◌-◌, ◌+◌, ◌≤◌, ◌<◌, List, [], ◌∷◌, ◌++◌, Result, Ok, Err, refl, sym, ap, ◌∙◌, append_assoc, arith}
+use Rattle.std.proofs.lemmas.List.{append-nil}
+use Rattle.byte_fields.specs.declared.error.TakeError.{TakeError}
+use Rattle.byte_fields.specs.declared.error.TakeError.TheVariants as errors
+use Rattle.byte_fields.specs.Field.{Reader, ◌>>=◌, Fails, each_at}
+
+-- what was read before, and what is still read
+abbrev pub with_front : {A : Type 0} → List A → Result (List A × ℕ) ℕ → Result (List A × ℕ) ℕ
+with_front front read = read >>= λ x. Ok (front ++ x.0, x.1)
+
+regroup : {A : Type 0} (front : List A) (first : A) (read : Result (List A × ℕ) ℕ) → with_front front (read >>= λ x. Ok (first ∷ x.0, x.1)) ≡ with_front (front ++ first ∷ []) read
+regroup {A} front first (Ok x) = ap (λ (items : List A). Ok (items, x.1)) (simp append_assoc)
+regroup front first (Err place) = refl
+
+module _ {S A : Type 0} (item : S → Reader A) (after : S → A → S) (bytes : List ℕ) (total : Result (List A × ℕ) ℕ) where
+  -- what was read before, and the items from here on, are all of them
+  abbrev pub SoFar : List A → ℕ → S → ℕ → Type 0
+  SoFar front left state at = with_front front (each_at item after left state bytes at) ≡ total
+
+  pub goes_on : (front : List A) (count i : ℕ) (state : S) (at : ℕ) (first : A) (next : ℕ) → i < count → item state bytes at ≡ Ok (first, next)
+      → SoFar front (count - i) state at → SoFar (front ++ first ∷ []) (count - (i + 1)) (after state first) next
+  unfolding each_at
+  goes_on front count i state at first next lt h so_far =
+      let k : count - i ≡ suc (count - (i + 1)) = omega arith in
+      let one : with_front front (each_at item after (count - i) state bytes at) ≡ with_front (front ++ first ∷ []) (each_at item after (count - (i + 1)) (after state first) bytes next) =
+      rw (k, h) (regroup front first (each_at item after (count - (i + 1)) (after state first) bytes next)) in
+      sym one ∙ so_far
+
+  pub breaks_off : (e : TakeError) (front : List A) (count i : ℕ) (state : S) (at : ℕ) → i < count → Fails e (item state bytes at) → SoFar front (count - i) state at → Fails e total
+  unfolding each_at
+  breaks_off errors.Memory front count i state at lt h so_far = tt
+  breaks_off (errors.At place) front count i state at lt h so_far =
+      let k : count - i ≡ suc (count - (i + 1)) = omega arith in
+      let one : with_front front (each_at item after (count - i) state bytes at) ≡ Err place = rw (k, h) refl in
+      sym so_far ∙ one
+
+  pub is_done : (front : List A) (count i : ℕ) (state : S) (at : ℕ) → count ≤ i → SoFar front (count - i) state at → total ≡ Ok (front, at)
+  unfolding each_at
+  is_done front count i state at le so_far =
+      let k : count - i ≡ 0 = omega arith in
+      let one : with_front front (each_at item after (count - i) state bytes at) ≡ Ok (front, at) = rw k (ap (λ (items : List A). Ok (items, at)) (append-nil front)) in
+      sym so_far ∙ one

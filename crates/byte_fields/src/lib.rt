@@ -1,0 +1,19 @@
+//! Fields of bytes: reading them one after the other with the place of the first faulty one, and appending them.
+#![tactic(auto)]
+
+mod each;
+mod error;
+mod field;
+mod laws;
+mod numbers;
+mod put;
+
+pub use each::{Item, Spelled, put_each, take_each};
+pub use error::TakeError;
+pub use field::{span_at, u8_at, u16_at, u32_at, u64_at};
+pub use laws::{fields_are_spelled_once, fields_end_with_their_bytes};
+pub use numbers::saturate_u32;
+pub use put::{put_u16, put_u32, put_u64};
+
+#[cfg(test)]
+mod tests;
