@@ -1,0 +1,18 @@
+//! What a program reads from and writes to: traits with a written meaning, and objects in memory that meet them.
+//!
+//! An object may tell its content to contracts; a real stream tells none. Each has a count of faults, and a call
+//! answers `Failed` only where this count rose in the call. A count stands still at its type's end, which counts as risen.
+#![tactic(auto)]
+
+mod errors;
+mod memory;
+mod sink;
+mod source;
+
+pub use errors::{Failed, SinkError};
+pub use memory::{MemSink, MemSource};
+pub use sink::{Sink, write_all};
+pub use source::Source;
+
+#[cfg(test)]
+mod tests;

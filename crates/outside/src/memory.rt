@@ -1,0 +1,140 @@
+ghost use Rattle.std.specs.Prelude.{◌≡◌, ◌↔◌, ◌<◌, ◌≤◌, [], drop, length, min, IsErr, IsErrOf, IsTrue, IfOk, Some};
+ghost use Rattle.outside.specs.Outside.{Told, Reads, Writes, HasCause};
+ghost use Rattle.outside.specs.Memory.{InMemory, is_named, fails_now, after_call};
+
+use crate::{Failed, Sink, SinkError, Source};
+use std::alloc::Global;
+use std::marker::Model;
+
+/// A source of given bytes. Contracts see the bytes left, the calls made, which of them fail, and the faults.
+#[derive(Drop)]
+pub struct MemSource {
+    bytes: Vec<u8>,
+    at: usize,
+    calls: u64,
+    fails: Vec<u32>,
+    faults: u64,
+}
+
+impl Model for MemSource {
+    ghost Value = { InMemory };
+
+    ghost view = { λ s. record { bytes = drop s.at s.bytes.items; calls = s.calls; fails = s.fails.items; faults = s.faults } };
+
+    ghost invariant = { λ s. s.at ≤ length s.bytes.items };
+}
+
+impl MemSource {
+    /// A source of these bytes that fails in the named calls, counted from 0 over all its calls.
+    pub fn new(_alloc: Global, bytes: Vec<u8>, fails: Vec<u32>) -> MemSource
+        ensures { result ≡ record { bytes = bytes.items; calls = 0; fails = fails.items; faults = 0 } }
+    {
+        MemSource {
+            bytes,
+            at: 0,
+            calls: 0,
+            fails,
+            faults: 0,
+        }
+    }
+}
+
+/// Whether a call is one of those named.
+fn is_named(fails: &[u32], call: u64) -> bool
+    ensures { result ≡ is_named fails.now call }
+{
+    fails.iter().any(|fail| u64::from(*fail) == call)
+}
+
+impl Source for MemSource {
+    ghost left = { λ s. Some s.bytes };
+
+    ghost faults = { λ s. s.faults };
+
+    /// Takes as many bytes as are left and fit, but in the named calls.
+    fn read(&mut self, buf: &mut [u8]) -> Result<usize, Failed>
+        requires { 0 < length buf.old }
+        ensures within { IfOk result (λ count. count ≤ length buf.old) }
+        ensures bytes { Told (Some self.old.bytes) (Some self.new.bytes) (λ old new. Reads old new buf.new result) }
+        ensures cause { HasCause (record {}) self.old.faults self.new.faults result }
+
+        ensures full { IfOk result (λ count. count ≡ min (length self.old.bytes) (length buf.old)) }
+        ensures exactly { IsErr result ↔ IsTrue (fails_now self.old) }
+        ensures counted { self.new ≡ after_call self.old self.new.bytes }
+    {
+        let call = self.calls;
+        self.calls = call.saturating_add(1);
+        if is_named(&self.fails, call) {
+            self.faults = self.faults.saturating_add(1);
+            return Err(Failed);
+        }
+        let left = &self.bytes[self.at..];
+        let count = left.len().min(buf.len());
+        buf[..count].copy_from_slice(&left[..count]);
+        self.at += count;
+        Ok(count)
+    }
+}
+
+/// A sink that keeps what is written. Contracts see these bytes, the calls made, which of them fail, and the faults.
+#[derive(Drop)]
+pub struct MemSink {
+    bytes: Vec<u8>,
+    calls: u64,
+    fails: Vec<u32>,
+    faults: u64,
+}
+
+impl Model for MemSink {
+    ghost Value = { InMemory };
+
+    ghost view = { λ s. record { bytes = s.bytes.items; calls = s.calls; fails = s.fails.items; faults = s.faults } };
+}
+
+impl MemSink {
+    /// A sink with nothing written that fails in the named calls, counted from 0 over all its calls.
+    pub fn new(alloc: Global, fails: Vec<u32>) -> MemSink
+        ensures { result ≡ record { bytes = []; calls = 0; fails = fails.items; faults = 0 } }
+    {
+        MemSink {
+            bytes: Vec::new(alloc),
+            calls: 0,
+            fails,
+            faults: 0,
+        }
+    }
+
+    /// The bytes that were written.
+    pub fn bytes(&self) -> &[u8]
+        ensures { result.now ≡ self.now.bytes }
+    {
+        &self.bytes
+    }
+}
+
+impl Sink for MemSink {
+    ghost written = { λ s. Some s.bytes };
+
+    ghost faults = { λ s. s.faults };
+
+    /// Takes the whole piece, but in the named calls.
+    fn write(&mut self, piece: &[u8]) -> Result<usize, SinkError>
+        requires { 0 < length piece.now }
+        ensures within { IfOk result (λ count. (0 < count) × (count ≤ length piece.now)) }
+        ensures bytes { Told (Some self.old.bytes) (Some self.new.bytes) (λ old new. Writes old new piece.now result) }
+        ensures cause { HasCause SinkError.Failed self.old.faults self.new.faults result }
+
+        ensures full { IfOk result (λ count. count ≡ length piece.now) }
+        ensures exactly { IsErrOf result SinkError.Failed ↔ IsTrue (fails_now self.old) }
+        ensures counted { self.new ≡ after_call self.old self.new.bytes }
+    {
+        let call = self.calls;
+        self.calls = call.saturating_add(1);
+        if is_named(&self.fails, call) {
+            self.faults = self.faults.saturating_add(1);
+            return Err(SinkError::Failed);
+        }
+        self.bytes.extend_from_slice(piece)?;
+        Ok(piece.len())
+    }
+}

@@ -1,0 +1,29 @@
+use crate::*;
+use std::test::Fail;
+
+#[test]
+fn a_named_read_takes_nothing(rt: HostRuntime) -> Result<(), Fail> {
+    let alloc = rt.alloc();
+    let bytes = b"abcde".to_vec(alloc)?;
+    let fails = [1].to_vec(alloc)?;
+    let mut source = MemSource::new(alloc, bytes, fails);
+    let mut buffer = [0; 3];
+    assert_eq!(rt; source.read(&mut buffer), Ok(3));
+    assert_eq!(rt; source.read(&mut buffer), Err(Failed));
+    assert_eq!(rt; source.read(&mut buffer), Ok(2));
+    assert_eq!(rt; buffer, *b"dec");
+    assert_eq!(rt; source.read(&mut buffer), Ok(0));
+    Ok(())
+}
+
+#[test]
+fn a_named_write_adds_nothing(rt: HostRuntime) -> Result<(), Fail> {
+    let alloc = rt.alloc();
+    let fails = [1].to_vec(alloc)?;
+    let mut sink = MemSink::new(alloc, fails);
+    assert_eq!(rt; write_all(&mut sink, b"one "), Ok(()));
+    assert_eq!(rt; write_all(&mut sink, b"two "), Err(SinkError::Failed));
+    assert_eq!(rt; sink.write(b"three"), Ok(5));
+    assert_eq!(rt; sink.bytes(), b"one three".as_slice());
+    Ok(())
+}
