@@ -1,0 +1,224 @@
+-- Rows that are in order, with one row changed.
+use Rattle.std.proofs.Common.{◌≡◌, ℕ, ◌+◌, Bool, true, false, List, [], ◌∷◌, ◌++◌, filter, find, Option, Some, None, arith, refl, sym, ap, ◌∙◌, true≢false, cond}
+use Rattle.std.specs.List.{AllByRecursion}
+use Rattle.std.specs.Option.{option_or, option_to_list, option_and_then}
+use Rattle.std.proofs.lemmas.List.Folds.{find-append}
+use Rattle.std.proofs.lemmas.List.Sums.{sum_by-append}
+use Rattle.std.proofs.lemmas.Cmp.{tied_itself}
+use Rattle.std.proofs.lemmas.Bool.Decides.{nat_tests}
+use Rattle.std.specs.declared.cmp.Ordering.{Ordering}
+use Rattle.std.specs.declared.cmp.Ordering.TheVariants.{Less, Equal, Greater}
+use Rattle.std.specs.Ordering.{ordering_reverse, is_lt, is_eq, is_gt}
+use Rattle.vol_tree.specs.Inside.{is_at}
+use Rattle.vol_tree.specs.Path.{path_cmp}
+use Rattle.vol_tree.specs.declared.tree.Row.{Row}
+use Rattle.vol_tree.specs.Tree.{AreInOrder, row_at, rows_below, rows_above, with_row, without_row, restored, total_size, node_size, node_at}
+use Rattle.vol_tree.proofs.Places.{paths_total, same_path, are_above, after_row}
+
+-- ---- facts of each row
+
+module _ (P : Row → Type 0) where
+  pub all_append : (xs ys : List Row) → AllByRecursion P xs → AllByRecursion P ys → AllByRecursion P (xs ++ ys)
+  all_append [] ys all more = more
+  all_append (x ∷ xs) ys all more = (all.0, all_append xs ys all.1 more)
+
+  pub all_filter : (f : Row → Bool) (xs : List Row) → AllByRecursion P xs → AllByRecursion P (filter f xs)
+  all_filter f [] all = tt
+  all_filter f (x ∷ xs) all =
+      elim (f x) as (λ b. AllByRecursion P (cond b (x ∷ filter f xs) (filter f xs))) [
+        | true ↦ (all.0, all_filter f xs all.1)
+        | false ↦ all_filter f xs all.1
+      ]
+
+  -- what a test shows holds of each element that passes
+  pub all_passing : (f : Row → Bool) → ((x : Row) → f x ≡ true → P x) → (xs : List Row) → AllByRecursion P (filter f xs)
+  all_passing f shows [] = tt
+  all_passing f shows (x ∷ xs) =
+      elim (f x) as (λ b. f x ≡ b → AllByRecursion P (cond b (x ∷ filter f xs) (filter f xs))) [
+        | true ↦ λ e. (shows x e, all_passing f shows xs)
+        | false ↦ λ e. all_passing f shows xs
+      ] refl
+
+pub all_map : {P Q : Row → Type 0} → ((x : Row) → P x → Q x) → (xs : List Row) → AllByRecursion P xs → AllByRecursion Q xs
+all_map to [] all = tt
+all_map to (x ∷ xs) all = (to x all.0, all_map to xs all.1)
+
+-- ---- order
+
+pub same_place : (a : List (List ℕ)) → path_cmp a a ≡ Equal
+same_place = tied_itself paths_total
+
+-- a path below another is below what is not below that
+pub below_trans : (a p b : List (List ℕ)) → path_cmp a p ≡ Less → is_lt (path_cmp b p) ≡ false → path_cmp a b ≡ Less
+below_trans a p b low not_low =
+    elim (path_cmp b p) as (λ o. path_cmp b p ≡ o → is_lt o ≡ false → path_cmp a b ≡ Less) [
+      | Less ↦ λ e no. absurd (true≢false no)
+      | Equal ↦ λ e no. ap (path_cmp a) (same_path b p e) ∙ low
+      | Greater ↦ λ e no. paths_total.trans a p b low (paths_total.antisymm p b ∙ ap ordering_reverse e)
+    ] refl not_low
+
+pub order_filter : (f : Row → Bool) (rows : List Row) → AreInOrder rows → AreInOrder (filter f rows)
+order_filter f [] order = tt
+order_filter f (row ∷ rows) order =
+    elim (f row) as (λ b. AreInOrder (cond b (row ∷ filter f rows) (filter f rows))) [
+      | true ↦ (all_filter (λ next. path_cmp row.path next.path ≡ Less) f rows order.0, order_filter f rows order.1)
+      | false ↦ order_filter f rows order.1
+    ]
+
+-- rows below a path, and then rows that are not below it
+pub order_join : (p : List (List ℕ)) (xs ys : List Row) → AllByRecursion (λ x. path_cmp x.path p ≡ Less) xs → AllByRecursion (λ y. is_lt (path_cmp y.path p) ≡ false) ys → AreInOrder xs → AreInOrder ys → AreInOrder (xs ++ ys)
+order_join p [] ys low high front back = back
+order_join p (x ∷ xs) ys low high front back =
+    (all_append (λ y. path_cmp x.path y.path ≡ Less) xs ys front.0 (all_map (λ y no. below_trans x.path p y.path low.0 no) ys high), order_join p xs ys low.1 high front.1 back)
+
+pub is_less : (o : Ordering) → is_lt o ≡ true → o ≡ Less
+is_less Less e = refl
+is_less Equal e = absurd (true≢false (sym e))
+is_less Greater e = absurd (true≢false (sym e))
+
+is_greater : (o : Ordering) → is_gt o ≡ true → o ≡ Greater
+is_greater Greater e = refl
+is_greater Equal e = absurd (true≢false (sym e))
+is_greater Less e = absurd (true≢false (sym e))
+
+pub all_below : (rows : List Row) (p : List (List ℕ)) → AllByRecursion (λ row. path_cmp row.path p ≡ Less) (rows_below rows p)
+all_below rows p = all_passing (λ row. path_cmp row.path p ≡ Less) (λ row. is_lt (path_cmp row.path p)) (λ row e. is_less (path_cmp row.path p) e) rows
+
+pub all_above : (rows : List Row) (p : List (List ℕ)) → AllByRecursion (λ row. path_cmp row.path p ≡ Greater) (rows_above rows p)
+all_above rows p = all_passing (λ row. path_cmp row.path p ≡ Greater) (λ row. is_gt (path_cmp row.path p)) (λ row e. is_greater (path_cmp row.path p) e) rows
+
+none_low : (rows : List Row) (p : List (List ℕ)) → AllByRecursion (λ row. is_lt (path_cmp row.path p) ≡ false) (rows_above rows p)
+none_low rows p = all_map (λ row e. ap is_lt e) (rows_above rows p) (all_above rows p)
+
+pub without_row_in_order : (rows : List Row) (p : List (List ℕ)) → AreInOrder rows → AreInOrder (without_row rows p)
+without_row_in_order rows p order =
+    order_join p (rows_below rows p) (rows_above rows p) (all_below rows p) (none_low rows p) (order_filter (λ row. is_lt (path_cmp row.path p)) rows order) (order_filter (λ row. is_gt (path_cmp row.path p)) rows order)
+
+pub with_row_in_order : (rows : List Row) (new : Row) → AreInOrder rows → AreInOrder (with_row rows new)
+with_row_in_order rows new order =
+    order_join new.path (rows_below rows new.path) (new ∷ rows_above rows new.path) (all_below rows new.path)
+    (ap is_lt (same_place new.path), none_low rows new.path)
+    (order_filter (λ row. is_lt (path_cmp row.path new.path)) rows order) (
+      all_map (λ row e. paths_total.antisymm new.path row.path ∙ ap ordering_reverse e) (rows_above rows new.path) (all_above rows new.path),
+      order_filter (λ row. is_gt (path_cmp row.path new.path)) rows order,
+    )
+
+-- ---- the rows below a path, its row, and the rows above it
+
+pub split_at_path : (rows : List Row) (p : List (List ℕ)) → AreInOrder rows → rows ≡ rows_below rows p ++ option_to_list (row_at rows p) ++ rows_above rows p
+split_at_path [] p order = refl
+split_at_path (row ∷ rows) p order = by (path_cmp row.path p) refl (split_at_path rows p order.1)
+  where
+    by : (o : Ordering) → path_cmp row.path p ≡ o → rows ≡ rows_below rows p ++ option_to_list (row_at rows p) ++ rows_above rows p → row ∷ rows ≡ rows_below (row ∷ rows) p ++ option_to_list (row_at (row ∷ rows) p) ++ rows_above (row ∷ rows) p
+    by Less e rest = simp e (ap (λ more. row ∷ more) rest)
+    by Equal e _ =
+        let rest = are_above p rows (after_row p row rows (ap is_lt e) order.0) in
+        simp (e, rest.none_below, rest.all_above) refl
+    by Greater e _ =
+        let rest = are_above p rows (after_row p row rows (ap is_lt e) order.0) in
+        simp (e, rest.none_below, rest.all_above, rest.none_there) refl
+
+-- what is put back where there was a row
+pub restored_row : (rows : List Row) (kept : Row) → (kept.version ≡ 0 → ⊥) → restored rows kept ≡ with_row rows kept
+restored_row rows kept some = grind (arith, nat_tests)
+
+-- ---- what stands at each path after a change of one row
+
+pub filter_all : (f : Row → Bool) (xs : List Row) → AllByRecursion (λ x. f x ≡ true) xs → filter f xs ≡ xs
+filter_all f [] all = refl
+filter_all f (x ∷ xs) all = rw all.0 (ap (λ more. x ∷ more) (filter_all f xs all.1))
+
+pub filter_none : (f : Row → Bool) (xs : List Row) → AllByRecursion (λ x. f x ≡ false) xs → filter f xs ≡ []
+filter_none f [] all = refl
+filter_none f (x ∷ xs) all = rw all.0 (filter_none f xs all.1)
+
+pub find_none : (t : Row → Bool) (xs : List Row) → AllByRecursion (λ x. t x ≡ false) xs → find t xs ≡ None
+find_none t [] all = refl
+find_none t (x ∷ xs) all = rw all.0 (find_none t xs all.1)
+
+-- a search finds the same among what passes, where all that it looks for passes
+pub find_filter : (t f : Row → Bool) (xs : List Row) → ((x : Row) → t x ≡ true → f x ≡ true) → find t (filter f xs) ≡ find t xs
+find_filter t f [] passes = refl
+find_filter t f (x ∷ xs) passes = by (t x) (f x) refl refl (find_filter t f xs passes)
+  where
+    by : (b c : Bool) → t x ≡ b → f x ≡ c → find t (filter f xs) ≡ find t xs → find t (filter f (x ∷ xs)) ≡ find t (x ∷ xs)
+    by true true e g rest = simp (e, g) refl
+    by true false e g rest = absurd (true≢false (sym (passes x e) ∙ g))
+    by false true e g rest = simp (e, g) rest
+    by false false e g rest = simp (e, g) rest
+
+pub is_at_equal : (row : Row) (p : List (List ℕ)) → is_at p row ≡ true → row.path ≡ p
+is_at_equal row p h = same_path row.path p (is_equal (path_cmp row.path p) h)
+  where
+    is_equal : (o : Ordering) → is_eq o ≡ true → o ≡ Equal
+    is_equal Equal e = refl
+    is_equal Less e = absurd (true≢false (sym e))
+    is_equal Greater e = absurd (true≢false (sym e))
+
+-- rows that are all on one side of a path are not at it
+not_at_below : (rows : List Row) (p : List (List ℕ)) → AllByRecursion (λ row. is_at p row ≡ false) (rows_below rows p)
+not_at_below rows p = all_map (λ row e. ap is_eq e) (rows_below rows p) (all_below rows p)
+
+not_at_above : (rows : List Row) (p : List (List ℕ)) → AllByRecursion (λ row. is_at p row ≡ false) (rows_above rows p)
+not_at_above rows p = all_map (λ row e. ap is_eq e) (rows_above rows p) (all_above rows p)
+
+pub row_at-with_row : (rows : List Row) (new : Row) → row_at (with_row rows new) new.path ≡ Some new
+row_at-with_row rows new =
+    find-append (is_at new.path) (rows_below rows new.path) (new ∷ rows_above rows new.path)
+    ∙ rw (find_none (is_at new.path) (rows_below rows new.path) (not_at_below rows new.path), same_place new.path) refl
+
+no_more : (o : Option Row) → option_or o None ≡ o
+no_more None = refl
+no_more (Some x) = refl
+
+-- where rows lie on the other side of p than q does, q is not among them
+other_side : (p q : List (List ℕ)) (o o' : Ordering) → (o ≡ o' → ⊥) → path_cmp q p ≡ o → (row : Row) → path_cmp row.path p ≡ o' → is_at q row ≡ false
+other_side p q o o' differ here row there = by (is_at q row) refl
+  where
+    by : (b : Bool) → is_at q row ≡ b → b ≡ false
+    by false e = refl
+    by true e = absurd (differ (sym here ∙ ap (λ a. path_cmp a p) (sym (is_at_equal row q e)) ∙ there))
+
+pub row_at-other : (rows : List Row) (new : Row) (q : List (List ℕ)) → (q ≡ new.path → ⊥) → row_at (with_row rows new) q ≡ row_at rows q
+row_at-other rows new q other =
+    find-append (is_at q) (rows_below rows new.path) (new ∷ rows_above rows new.path) ∙ by (path_cmp q new.path) refl
+  where
+    p : List (List ℕ)
+    p = new.path
+
+    at_q : (row : Row) (o : Ordering) → path_cmp q new.path ≡ o → is_at q row ≡ true → path_cmp row.path new.path ≡ o
+    at_q row o e h = ap (λ a. path_cmp a new.path) (is_at_equal row q h) ∙ e
+
+    by : (o : Ordering) → path_cmp q new.path ≡ o → option_or (find (is_at q) (rows_below rows new.path)) (find (is_at q) (new ∷ rows_above rows new.path)) ≡ row_at rows q
+    by Equal e = absurd (other (same_path q new.path e))
+    by Less e =
+        let below = find_filter (is_at q) (λ row. is_lt (path_cmp row.path new.path)) rows (λ row h. ap is_lt (at_q row Less e h)) in
+        let above = find_none (is_at q) (rows_above rows new.path) (all_map (λ row g. other_side new.path q Less Greater (λ same. cc) e row g) (rows_above rows new.path) (all_above rows new.path)) in
+        let here : is_at q new ≡ false = ap is_eq (paths_total.antisymm new.path q ∙ ap ordering_reverse e) in
+        rw (below, here, above) (no_more (row_at rows q))
+    by Greater e =
+        let above = find_filter (is_at q) (λ row. is_gt (path_cmp row.path new.path)) rows (λ row h. ap is_gt (at_q row Greater e h)) in
+        let below = find_none (is_at q) (rows_below rows new.path) (all_map (λ row g. other_side new.path q Greater Less (λ same. cc) e row g) (rows_below rows new.path) (all_below rows new.path)) in
+        let here : is_at q new ≡ false = ap is_eq (paths_total.antisymm new.path q ∙ ap ordering_reverse e) in
+        rw (below, here, above) refl
+
+-- ---- sizes
+
+pub size_append : (xs ys : List Row) → total_size (xs ++ ys) ≡ total_size xs + total_size ys
+size_append = sum_by-append (λ row. node_size row.node)
+
+pub size-with_row : (rows : List Row) (new : Row) → AreInOrder rows → total_size (with_row rows new) + node_size (node_at rows new.path) ≡ total_size rows + node_size new.node
+size-with_row rows new order =
+    let split = ap total_size (split_at_path rows new.path order) in
+    let front = size_append (rows_below rows new.path) (new ∷ rows_above rows new.path) ∙ ap (λ n. total_size (rows_below rows new.path) + n) (size_append (new ∷ []) (rows_above rows new.path)) in
+    by (row_at rows new.path) split front
+  where
+    by : (o : Option Row) → total_size rows ≡ total_size (rows_below rows new.path ++ option_to_list o ++ rows_above rows new.path) → total_size (with_row rows new) ≡ total_size (rows_below rows new.path) + (total_size (new ∷ []) + total_size (rows_above rows new.path)) → total_size (with_row rows new) + node_size (option_and_then (λ row. row.node) o) ≡ total_size rows + node_size new.node
+    by None split front =
+        let parts = size_append (rows_below rows new.path ++ []) (rows_above rows new.path) in
+        let part = size_append (rows_below rows new.path) [] in
+        omega (arith, split, front, parts, part)
+    by (Some row) split front =
+        let parts = size_append (rows_below rows new.path ++ row ∷ []) (rows_above rows new.path) in
+        let part = size_append (rows_below rows new.path) (row ∷ []) in
+        omega (arith, split, front, parts, part)

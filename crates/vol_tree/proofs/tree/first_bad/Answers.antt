@@ -1,0 +1,14 @@
+use Rattle.std.proofs.Common.{◌≡◌, true, false, take, arith}
+use Rattle.vol_tree.specs.Inside.{may_follow}
+use Rattle.vol_tree.proofs.Appending.{next_is_tree, next_is_no_tree}
+use Rattle.vol_tree.proofs.tree.first_bad.Goals as goal
+
+pub returns-then-not-follows-clause-some : goal.returns-then-not-follows-clause-some
+returns-then-not-follows-clause-some c =
+    let refused : may_follow (take c.loop-i.i c.args.rows.now) c.index-rows-i.result ≡ false = cc (c.split_at.ensures.front, c.follows.ensures.follows, c.if-not-follows.true) in
+    (omega arith, c.loop-i.invariant, next_is_no_tree c.args.rows.now c.loop-i.i c.index-rows-i.result (omega arith) c.index-rows-i.is refused)
+
+pub loop-i-preserved : goal.loop-i-preserved
+loop-i-preserved c =
+    let follows : may_follow (take c.loop-i.i c.args.rows.now) c.index-rows-i.result ≡ true = cc (c.split_at.ensures.front, c.follows.ensures.follows, c.if-not-follows.false) in
+    next_is_tree c.args.rows.now c.loop-i.i c.index-rows-i.result (omega arith) c.index-rows-i.is c.loop-i.invariant (record { is_path = c.follows.ensures.path; version_fits = c.follows.ensures.version }) follows

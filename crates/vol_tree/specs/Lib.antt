@@ -1,0 +1,11 @@
+pub mod Path
+pub mod Refusals
+pub mod Tree
+pub mod Undos
+pub mod Effects
+pub mod Behind
+pub mod Laws
+pub mod Inside
+pub mod Spelling
+pub mod Reading
+pub mod Fields

@@ -1,0 +1,115 @@
+// A list of items, which contracts see as the list of them.
+ghost use Rattle.std.specs.Prelude.{◌≡◌, ℕ, ◌+◌, ◌<◌, ◌≤◌, ◌^◌, List, [], ◌∷◌, ◌++◌, length, take, IfOk, OnOk, OnErr, slice_get};
+ghost use Rattle.std.specs.Option.{option_copied};
+
+use std::alloc::{AllocError, Global};
+use std::marker::Model;
+
+/// A value whose copy takes memory, and is equal to it.
+pub trait TryCopy: Drop {
+    /// A copy of the value.
+    fn copy(&self) -> Result<Self, AllocError>
+        ensures { IfOk result (λ copied. copied ≡ self.now) };
+}
+
+/// At most 4,294,967,295 items.
+#[derive(Debug, Drop)]
+pub struct List<T> {
+    items: Vec<T>,
+}
+
+impl<T> Model for List<T> {
+    ghost Value = { List T };
+
+    ghost view = { λ list. list.items.items };
+
+    ghost invariant = { λ list. length list.items.items < 2 ^ 32 };
+}
+
+impl<T: Drop> List<T> {
+    /// The list without items.
+    pub fn new(alloc: Global) -> List<T>
+        ensures { result ≡ [] }
+    {
+        List {
+            items: Vec::new(alloc),
+        }
+    }
+
+    /// The number of items.
+    pub fn len(&self) -> usize
+        ensures value { result ≡ length self.now }
+        ensures bound { result < 2 ^ 32 }
+    {
+        self.items.len()
+    }
+
+    /// Item `i`, counted from 0.
+    pub fn get(&self, i: usize) -> Option<&T>
+        ensures { option_copied result ≡ slice_get self.now i }
+    {
+        self.items.get(i)
+    }
+
+    /// Lends the items.
+    pub fn as_slice(&self) -> &[T]
+        ensures items { result.now ≡ self.now }
+        ensures bound { length self.now < 2 ^ 32 }
+    {
+        self.items.as_slice()
+    }
+
+    /// Adds the item last; past 4,294,967,295 items it is refused.
+    pub fn push(&mut self, item: T) -> Result<(), AllocError>
+        ensures ok { OnOk result (self.new ≡ self.old ++ item ∷ []) }
+        ensures err { OnErr result (self.new ≡ self.old) }
+    {
+        if self.items.len() >= 4_294_967_295 {
+            return Err(AllocError);
+        }
+        self.items.push(item)?;
+        Ok(())
+    }
+}
+
+impl<T: Drop> List<T> {
+    /// The list of these items. It takes no memory.
+    pub(crate) fn from_vec(items: Vec<T>) -> List<T>
+        requires { length items.items < 2 ^ 32 }
+        ensures { result ≡ items.items }
+    {
+        List { items }
+    }
+
+    /// The items as a vector. It takes no memory.
+    pub(crate) fn into_vec(self) -> Vec<T>
+        ensures { result.items ≡ self }
+    {
+        let List { items } = self;
+        items
+    }
+
+    pub(crate) fn allocator(&self) -> Global {
+        *self.items.allocator()
+    }
+}
+
+impl<T: TryCopy> List<T> {
+    /// A copy of the first `n` items.
+    pub(crate) fn copy_front(&self, n: usize) -> Result<List<T>, AllocError>
+        requires { n ≤ length self.now }
+        ensures { IfOk result (λ copied. copied ≡ take n self.now) }
+    {
+        let mut items = Vec::with_capacity(*self.items.allocator(), n)?;
+        for item in &self.items[..n] {
+            items.push(item.copy()?)?;
+        }
+        Ok(List { items })
+    }
+}
+
+impl<T: TryCopy> TryCopy for List<T> {
+    fn copy(&self) -> Result<List<T>, AllocError> {
+        self.copy_front(self.items.len())
+    }
+}

@@ -1,0 +1,209 @@
+//! Appending the spellings of values, and how long they are.
+
+ghost use Rattle.std.specs.Prelude.{◌≡◌, ◌<◌, ◌≤◌, ◌+◌, ◌^◌, ◌++◌, length, OnOk};
+ghost use Rattle.vol_tree.specs.Tree.{IsTree, node_size};
+ghost use Rattle.vol_tree.specs.Effects.{content_size};
+ghost use Rattle.vol_tree.specs.Spelling.{path, content, effect, effects, base, bases, node, row, rows, EffectFits, EffectsFit};
+ghost use Rattle.vol_tree.specs.Path.{path_text};
+ghost use Rattle.vol_tree.specs.declared.tree.Row.{Row};
+
+use crate::content::Content;
+use crate::list::List;
+use crate::path::Path;
+use crate::tree::{Base, Effect, Node, Row};
+use byte_fields::{Spelled, put_each, put_u16, put_u32, put_u64};
+use std::alloc::AllocError;
+
+impl Path {
+    /// Appends the spelling: two bytes for the length of the text, and the text.
+    pub fn spell(value: &Path, out: &mut Vec<u8>) -> Result<(), AllocError>
+        ensures { OnOk result (out.new.items ≡ out.old.items ++ path value.now) }
+    {
+        put_u16(out, value.text_len() as u16)?;
+        out.extend_from_slice(value.text()?.bytes())?;
+        Ok(())
+    }
+
+    /// The number of bytes of the spelling.
+    #[tactic(auto, using(crate::proofs::Sizes::path_length))]
+    pub fn size(&self) -> u64
+        ensures value { result ≡ length (path self.now) }
+        ensures bound { result ≤ 1026 }
+    {
+        2 + self.text_len()
+    }
+}
+
+impl Content {
+    /// Appends the spelling: four bytes for the length, and the bytes.
+    pub fn spell(value: &Content, out: &mut Vec<u8>) -> Result<(), AllocError>
+        requires { length value.now ≤ 8388608 }
+        ensures { OnOk result (out.new.items ≡ out.old.items ++ content value.now) }
+    {
+        let bytes = value.bytes();
+        put_u32(out, bytes.len() as u32)?;
+        out.extend_from_slice(bytes)?;
+        Ok(())
+    }
+}
+
+impl Effect {
+    /// Appends the spelling: a byte for the kind, and the effect's paths and content.
+    pub fn spell(value: &Effect, out: &mut Vec<u8>) -> Result<(), AllocError>
+        requires { EffectFits value.now }
+        ensures { OnOk result (out.new.items ≡ out.old.items ++ effect value.now) }
+    {
+        match value {
+            Effect::Make(path) => {
+                out.push(1)?;
+                Path::spell(path, out)?;
+            }
+            Effect::Put(path, content) => {
+                out.push(2)?;
+                Path::spell(path, out)?;
+                Content::spell(content, out)?;
+            }
+            Effect::Remove(path) => {
+                out.push(3)?;
+                Path::spell(path, out)?;
+            }
+            Effect::Move(from, to) => {
+                out.push(4)?;
+                Path::spell(from, out)?;
+                Path::spell(to, out)?;
+            }
+        }
+        Ok(())
+    }
+
+    /// The number of bytes of the spelling.
+    #[tactic(auto, using(crate::proofs::Sizes::put_length))]
+    pub fn size(&self) -> u64
+        ensures value { result ≡ length (effect self.now) }
+        ensures bound { result ≤ 2053 + content_size self.now }
+    {
+        match self {
+            Effect::Make(path) => 1 + path.size(),
+            Effect::Put(path, content) => 1 + path.size() + 4 + content.bytes().len() as u64,
+            Effect::Remove(path) => 1 + path.size(),
+            Effect::Move(from, to) => 1 + from.size() + to.size(),
+        }
+    }
+}
+
+impl List<Effect> {
+    /// Appends the spelling: four bytes for the number of effects, and the effects.
+    pub fn spell(value: &List<Effect>, out: &mut Vec<u8>) -> Result<(), AllocError>
+        requires { EffectsFit value.now }
+        ensures { OnOk result (out.new.items ≡ out.old.items ++ effects value.now) }
+    {
+        let items = value.as_slice();
+        put_u32(out, value.len() as u32)?;
+        put_each(items, out)?;
+        Ok(())
+    }
+}
+
+impl Base {
+    /// Appends the spelling: the path, and eight bytes for the version.
+    pub fn spell(value: &Base, out: &mut Vec<u8>) -> Result<(), AllocError>
+        ensures { OnOk result (out.new.items ≡ out.old.items ++ base value.now) }
+    {
+        Path::spell(&value.path, out)?;
+        put_u64(out, value.version)?;
+        Ok(())
+    }
+
+    /// The number of bytes of the spelling.
+    #[tactic(auto, using(crate::proofs::Sizes::base_length))]
+    pub fn size(&self) -> u64
+        ensures value { result ≡ length (base self.now) }
+        ensures bound { result ≤ 1034 }
+    {
+        self.path.size() + 8
+    }
+}
+
+impl List<Base> {
+    /// Appends the spelling: four bytes for the number of bases, and the bases.
+    pub fn spell(value: &List<Base>, out: &mut Vec<u8>) -> Result<(), AllocError>
+        ensures { OnOk result (out.new.items ≡ out.old.items ++ bases value.now) }
+    {
+        let items = value.as_slice();
+        put_u32(out, value.len() as u32)?;
+        put_each(items, out)?;
+        Ok(())
+    }
+}
+
+/// Appends what stands at a path: a byte for its kind, and a file's content.
+fn spell_node(value: &Option<Node>, out: &mut Vec<u8>) -> Result<(), AllocError>
+    requires { node_size value.now ≤ 8388608 }
+    ensures { OnOk result (out.new.items ≡ out.old.items ++ node value.now) }
+{
+    match value {
+        None => out.push(0)?,
+        Some(Node::Folder) => out.push(1)?,
+        Some(Node::File(content)) => {
+            out.push(2)?;
+            Content::spell(content, out)?;
+        }
+    }
+    Ok(())
+}
+
+impl Row {
+    /// Appends the spelling: the path, eight bytes for the version, and what stands at the path.
+    pub fn spell(value: &Row, out: &mut Vec<u8>) -> Result<(), AllocError>
+        requires { node_size value.now.node ≤ 8388608 }
+        ensures { OnOk result (out.new.items ≡ out.old.items ++ row value.now) }
+    {
+        Path::spell(&value.path, out)?;
+        put_u64(out, value.version)?;
+        spell_node(&value.node, out)?;
+        Ok(())
+    }
+}
+
+impl List<Row> {
+    /// Appends the spelling of a tree's rows: four bytes for their number, and the rows.
+    pub fn spell(value: &List<Row>, out: &mut Vec<u8>) -> Result<(), AllocError>
+        requires { IsTree value.now }
+        ensures { OnOk result (out.new.items ≡ out.old.items ++ rows value.now) }
+    {
+        let items = value.as_slice();
+        put_u32(out, value.len() as u32)?;
+        put_each(items, out)?;
+        Ok(())
+    }
+}
+
+impl Spelled for Effect {
+    ghost spelling = { effect };
+
+    ghost fits = { EffectFits };
+
+    fn put(&self, out: &mut Vec<u8>) -> Result<(), AllocError> {
+        Effect::spell(self, out)
+    }
+}
+
+impl Spelled for Base {
+    ghost spelling = { base };
+
+    ghost fits = { λ _. Unit {0} };
+
+    fn put(&self, out: &mut Vec<u8>) -> Result<(), AllocError> {
+        Base::spell(self, out)
+    }
+}
+
+impl Spelled for Row {
+    ghost spelling = { row };
+
+    ghost fits = { λ x. node_size x.node ≤ 8388608 };
+
+    fn put(&self, out: &mut Vec<u8>) -> Result<(), AllocError> {
+        Row::spell(self, out)
+    }
+}

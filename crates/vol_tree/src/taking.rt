@@ -1,0 +1,212 @@
+//! Taking values from the bytes that spell them, with the place of the first faulty field.
+
+ghost use Rattle.std.specs.Prelude.{◌≡◌, length, ◌≤◌, ◌<◌, ◌^◌, ◌-◌, IfOk};
+ghost use Rattle.byte_fields.specs.Field.{Gives, each_at};
+ghost use Rattle.vol_tree.specs.Tree.{IsTree, total_size};
+ghost use Rattle.vol_tree.specs.Reading.{path_at, content_at, effect_at, make_at, put_at, remove_at, move_at, room_after, effects_at, base_at, first_base_at, others_after, bases_at, may_stand, standing_at, file_at, room_beside, next_row_at, with_next, rows_at};
+
+use crate::content::Content;
+use crate::list::List;
+use crate::path::{Path, PathError};
+use crate::tree::{Base, Effect, Node, Row};
+use crate::{Bases, Effects, Paths, Rows};
+use byte_fields::{Item, TakeError, span_at, take_each, u8_at, u16_at, u32_at, u64_at};
+use std::alloc::Global;
+
+impl Path {
+    /// Takes the path at the place, and gives the place after it.
+    ///
+    /// Refuses `At` where the bytes end in one of the two fields, or where the text spells no path.
+    #[tactic(auto, unfolding(crate::specs::Reading::path_at, byte_fields::specs::Field::mapped))]
+    pub fn take(alloc: Global, bytes: &[u8], at: usize) -> Result<(Path, usize), TakeError>
+        ensures { Gives result (path_at bytes.now at) }
+    {
+        let (size, start) = u16_at(bytes, at)?;
+        let (text, next) = span_at(bytes, start, size as usize)?;
+        match Path::read(alloc, text) {
+            Ok(path) => Ok((path, next)),
+            Err(PathError::Memory) => Err(TakeError::Memory),
+            Err(_) => Err(TakeError::At(start)),
+        }
+    }
+}
+
+impl Content {
+    /// Takes the content of at most so many bytes at the place, and gives the place after it.
+    ///
+    /// Refuses `At` at a length above the limit before it looks at the content.
+    #[tactic(auto, unfolding(crate::specs::Reading::content_at, byte_fields::specs::Field::ruled))]
+    pub fn take_within(
+        alloc: Global,
+        bytes: &[u8],
+        at: usize,
+        limit: usize,
+    ) -> Result<(Content, usize), TakeError>
+        ensures { Gives result (content_at limit bytes.now at) }
+    {
+        let (size, start) = u32_at(bytes, at)?;
+        let size = size as usize;
+        if size > limit {
+            return Err(TakeError::At(at));
+        }
+        let (content, next) = span_at(bytes, start, size)?;
+        Ok((Content::of(alloc, content)?, next))
+    }
+
+    /// Takes the content of at most 8 MiB at the place, and gives the place after it.
+    pub fn take(alloc: Global, bytes: &[u8], at: usize) -> Result<(Content, usize), TakeError>
+        ensures { Gives result (content_at 8388608 bytes.now at) }
+    {
+        Content::take_within(alloc, bytes, at, 8_388_608)
+    }
+}
+
+#[tactic(auto, unfolding(crate::specs::Reading::make_at))]
+fn make_at(alloc: Global, bytes: &[u8], at: usize) -> Result<(Effect, usize), TakeError>
+    ensures { Gives result (make_at bytes.now at) }
+{
+    let (path, next) = Path::take(alloc, bytes, at)?;
+    Ok((Effect::Make(path), next))
+}
+
+#[tactic(auto, unfolding(crate::specs::Reading::put_at))]
+fn put_at(alloc: Global, bytes: &[u8], at: usize, room: usize) -> Result<(Effect, usize), TakeError>
+    ensures { Gives result (put_at room bytes.now at) }
+{
+    let (path, middle) = Path::take(alloc, bytes, at)?;
+    let (content, next) = Content::take_within(alloc, bytes, middle, room.min(8_388_608))?;
+    Ok((Effect::Put(path, content), next))
+}
+
+#[tactic(auto, unfolding(crate::specs::Reading::remove_at))]
+fn remove_at(alloc: Global, bytes: &[u8], at: usize) -> Result<(Effect, usize), TakeError>
+    ensures { Gives result (remove_at bytes.now at) }
+{
+    let (path, next) = Path::take(alloc, bytes, at)?;
+    Ok((Effect::Remove(path), next))
+}
+
+#[tactic(auto, unfolding(crate::specs::Reading::move_at))]
+fn move_at(alloc: Global, bytes: &[u8], at: usize) -> Result<(Effect, usize), TakeError>
+    ensures { Gives result (move_at bytes.now at) }
+{
+    let (from, middle) = Path::take(alloc, bytes, at)?;
+    let (to, next) = Path::take(alloc, bytes, middle)?;
+    Ok((Effect::Move(from, to), next))
+}
+
+impl Effect {
+    /// Takes the effect at the place, where there is still room for so many bytes of content, and gives the place
+    /// after it.
+    #[tactic(auto, unfolding(crate::specs::Reading::effect_at))]
+    pub fn take_within(
+        alloc: Global,
+        bytes: &[u8],
+        at: usize,
+        room: usize,
+    ) -> Result<(Effect, usize), TakeError>
+        ensures { Gives result (effect_at room bytes.now at) }
+    {
+        let (kind, start) = u8_at(bytes, at)?;
+        match kind {
+            1 => make_at(alloc, bytes, start),
+            2 => put_at(alloc, bytes, start, room),
+            3 => remove_at(alloc, bytes, start),
+            4 => move_at(alloc, bytes, start),
+            _ => Err(TakeError::At(at)),
+        }
+    }
+}
+
+// The state is the bytes of content for which there is still room.
+impl Item<usize> for Effect {
+    ghost item_at = { effect_at };
+
+    ghost after = { room_after };
+
+    fn take_next(
+        alloc: Global,
+        bytes: &[u8],
+        at: usize,
+        room: &usize,
+    ) -> Result<(Effect, usize), TakeError> {
+        Effect::take_within(alloc, bytes, at, *room)
+    }
+
+    fn passed(&self, room: usize) -> usize {
+        room.saturating_sub(self.content_size() as usize)
+    }
+}
+
+impl List<Effect> {
+    /// Takes the effects at the place, and gives the place after them.
+    ///
+    /// Refuses `At` also at a count that is not from 1 to 4,096, and at the length with which the contents have more
+    /// than 32 MiB together.
+    #[tactic(auto, unfolding(crate::specs::Reading::effects_at, byte_fields::specs::Field::ruled))]
+    pub fn take(alloc: Global, bytes: &[u8], at: usize) -> Result<(Effects, usize), TakeError>
+        ensures { Gives result (effects_at bytes.now at) }
+    {
+        let (count, start) = u32_at(bytes, at)?;
+        if count < 1 || count > 4096 {
+            return Err(TakeError::At(at));
+        }
+        let (items, next) = take_each::<usize, Effect>(alloc, bytes, start, count, 33_554_432)?;
+        Ok((Effects::from_vec(items), next))
+    }
+}
+
+/// The version of a path that is known.
+#[tactic(auto, unfolding(crate::specs::Reading::base_at, byte_fields::specs::Field::ruled))]
+fn base_at(alloc: Global, bytes: &[u8], at: usize, known: &Path) -> Result<(Base, usize), TakeError>
+    ensures { Gives result (base_at known.now bytes.now at) }
+{
+    let (path, middle) = Path::take(alloc, bytes, at)?;
+    if !known.cmp(&path).is_eq() {
+        return Err(TakeError::At(at));
+    }
+    let (version, next) = u64_at(bytes, middle)?;
+    Ok((Base { path, version }, next))
+}
+
+/// The versions of these paths, one after the other.
+fn bases_from(
+    alloc: Global,
+    bytes: &[u8],
+    start: usize,
+    touched: &[Path],
+) -> Result<(Bases, usize), TakeError>
+    ensures { Gives result (each_at first_base_at others_after (length touched.now) touched.now bytes.now start) }
+{
+    let mut bases = Bases::new(alloc);
+    let mut at = start;
+    for known in touched {
+        let (base, next) = base_at(alloc, bytes, at, known)?;
+        bases.push(base)?;
+        at = next;
+    }
+    Ok((bases, at))
+}
+
+impl List<Base> {
+    /// Takes the versions of the touched paths at the place, and gives the place after them.
+    ///
+    /// Refuses `At` also at a count other than that of the touched paths, and at the first path that is not the
+    /// touched one.
+    #[tactic(auto, unfolding(crate::specs::Reading::bases_at, byte_fields::specs::Field::ruled))]
+    pub fn take(
+        alloc: Global,
+        bytes: &[u8],
+        at: usize,
+        touched: &Paths,
+    ) -> Result<(Bases, usize), TakeError>
+        ensures { Gives result (bases_at touched.now bytes.now at) }
+    {
+        let (count, start) = u32_at(bytes, at)?;
+        let touched = touched.as_slice();
+        if count as usize != touched.len() {
+            return Err(TakeError::At(at));
+        }
+        bases_from(alloc, bytes, start, touched)
+    }
+}
