@@ -1,0 +1,5 @@
+pub mod Entries
+pub mod Appending
+pub mod Kept
+pub mod Sums
+pub mod Codec

@@ -1,0 +1,8 @@
+use Rattle.std.proofs.Common.{◌≡◌, length, take}
+use Rattle.std.specs.List.{sum_by}
+use Rattle.byte_fields.specs.Numbers.{as_u64}
+use Rattle.vol_tree.specs.Spelling.{effect}
+use Rattle.mod_log.proofs.sizes.effects_size.Given as goal
+
+abbrev pub invariant-loop-effect : goal.invariant-loop-effect
+invariant-loop-effect l = l.size ≡ as_u64 (sum_by (λ e. length (effect e)) (take l.effect-index l.effects))

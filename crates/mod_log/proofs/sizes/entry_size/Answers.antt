@@ -1,0 +1,12 @@
+use Rattle.std.proofs.Common.{length, arith, ap, ◌∙◌}
+use Rattle.std.specs.List.{sum_by}
+use Rattle.byte_fields.specs.Numbers.{as_u64}
+use Rattle.vol_tree.specs.Spelling.{effect, base}
+use Rattle.mod_log.proofs.Sums.{entry_length}
+use Rattle.mod_log.proofs.sizes.entry_size.Goals as goal
+
+pub returns : goal.returns
+returns c =
+    let changes = c.effects_size.ensures ∙ ap (λ all. as_u64 (sum_by (λ e. length (effect e)) all)) c.as_slice.ensures.items in
+    let versions = c.bases_size.ensures ∙ ap (λ all. as_u64 (sum_by (λ b. length (base b)) all)) c.as_slice-2.ensures.items in
+    omega (arith, changes, versions, c.saturating_add.ensures, c.saturating_add-2.ensures, entry_length c.args.changes.now c.args.versions.now)

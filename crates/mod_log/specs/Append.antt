@@ -1,0 +1,51 @@
+-- When an entry is logged.
+use Rattle.std.specs.Prelude.{ℕ, ◌+◌, Bool, ◌||◌, nat_lt, nat_le, ◌==◌, List, [], ◌∷◌, ◌++◌, length, Option, Some, None, Result, Ok, Err}
+use Rattle.std.specs.List.{flat_map}
+use Rattle.byte_fields.specs.Numbers.{as_u64}
+use Rattle.vol_tree.specs.Refusals.{when, unless_refused}
+use Rattle.vol_tree.specs.Tree.{Volume}
+use Rattle.vol_tree.specs.Effects.{apply_all, base_of, contents_size}
+use Rattle.vol_tree.specs.declared.tree.Effect.{Effect}
+use Rattle.vol_tree.specs.declared.tree.TreeError.{TreeError}
+use Rattle.mod_log.specs.declared.log.Entry.{Entry}
+use Rattle.mod_log.specs.declared.log.LogError.{LogError}
+use Rattle.mod_log.specs.declared.log.LogError.TheVariants.{EntryTooLarge, LogFull, LastNumber, Tree}
+use Rattle.mod_log.specs.Log.{Log, entry, tree_of, logged}
+
+-- the next entry: its number follows the last, and its base list has the versions of the log's tree
+abbrev pub next_entry : List Effect → Log → Entry
+next_entry effects log = record { seq = log.acked + length log.pending + 1; effects = effects; base = base_of effects (tree_of log) }
+
+-- more than 4,096 effects or 33,554,432 bytes of content
+abbrev pub is_too_large : List Effect → Bool
+is_too_large effects = nat_lt 4096 (length effects) || nat_lt 33554432 (contents_size effects)
+
+-- the bytes of the spelled entries, this one behind them
+abbrev pub size_with : Entry → Log → ℕ
+size_with next log = length (flat_map entry (log.pending ++ next ∷ []))
+
+-- 1,024 entries pending, or more than 67,108,864 spelled bytes with this entry
+abbrev pub has_no_room : Entry → Log → Bool
+has_no_room next log = nat_le 1024 (length log.pending) || nat_lt 67108864 (size_with next log)
+
+-- whether the last entry has the greatest number
+abbrev pub is_at_last : Log → Bool
+is_at_last log = log.acked + length log.pending == 18446744073709551615
+
+-- the first effect that the tree refuses
+abbrev pub refused_effect : Result Volume (ℕ × TreeError) → Option LogError
+refused_effect (Ok tree) = None
+refused_effect (Err refusal) = Some (Tree refusal.0 refusal.1)
+
+-- why effects are not logged, in the order in which it is tried
+abbrev pub append_refusals : List Effect → Log → List (Option LogError)
+append_refusals effects log =
+    when (is_too_large effects) (EntryTooLarge (length effects) (as_u64 (contents_size effects)))
+    ∷ when (has_no_room (next_entry effects log) log) (LogFull (length log.pending) (as_u64 (size_with (next_entry effects log) log)))
+    ∷ when (is_at_last log) LastNumber
+    ∷ refused_effect (apply_all 0 effects (tree_of log))
+    ∷ []
+
+-- the log with one more entry, or the first refusal
+abbrev pub appended : List Effect → Log → Result Log LogError
+appended effects log = unless_refused (append_refusals effects log) (logged (next_entry effects log) log)

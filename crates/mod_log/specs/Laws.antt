@@ -1,0 +1,31 @@
+-- What logging, acknowledging and pulling leave, in their own words.
+use Rattle.std.specs.Prelude.{◌≡◌, ℕ, ◌+◌, ◌≤◌, List, [], length, Ok}
+use Rattle.std.specs.List.{AllByRecursion}
+use Rattle.vol_tree.specs.declared.tree.Effect.{Effect}
+use Rattle.vol_tree.specs.Tree.{Volume, IsTree, IsLegalEffect}
+use Rattle.vol_tree.specs.Effects.{changed_all}
+use Rattle.mod_log.specs.Log.{Log, tree_of, tree_after, IsLog, new_log_of, logged, acknowledged, pulled}
+use Rattle.mod_log.specs.Append.{next_entry, appended}
+
+-- an appended entry is the last of a log that has all else as before, and its effects lead to the new tree
+abbrev pub AppendingAddsAnEntry : Type 0
+AppendingAddsAnEntry = (effects : List Effect) (log new : Log) → IsLog log → AllByRecursion IsLegalEffect effects → 1 ≤ length effects → appended effects log ≡ Ok new
+    → (new ≡ logged (next_entry effects log) log) × IsLog new × (tree_of new ≡ changed_all effects (tree_of log))
+
+-- acknowledged entries go into the base, and the tree stays
+abbrev pub AcknowledgingKeepsTheTree : Type 0
+AcknowledgingKeepsTheTree = (log : Log) (number : ℕ) → IsLog log → log.acked ≤ number → number ≤ log.acked + length log.pending
+    → IsLog (acknowledged number log) × (tree_of (acknowledged number log) ≡ tree_of log)
+
+-- where nothing is pending, the tree is what was pulled
+abbrev pub PullingReplacesTheTree : Type 0
+PullingReplacesTheTree = (log : Log) (seen : Volume) → IsLog log → log.pending ≡ [] → IsTree seen
+    → IsLog (pulled seen log) × (tree_of (pulled seen log) ≡ seen)
+
+-- a tree is a log with nothing pending
+abbrev pub TreesAreLogs : Type 0
+TreesAreLogs = (acked : ℕ) (base : Volume) → acked ≤ 18446744073709551615 → IsTree base → IsLog (new_log_of acked base)
+
+-- the base and the tree after each entry are trees
+abbrev pub LogsHoldTrees : Type 0
+LogsHoldTrees = (log : Log) (count : ℕ) → IsLog log → IsTree (tree_after count log)

@@ -1,0 +1,13 @@
+//! A client's log: the acknowledged tree and the entries that wait.
+#![tactic(auto)]
+
+mod laws;
+mod log;
+mod sizes;
+mod taking;
+
+pub use laws::{entries_are_spelled_once, logs_keep_their_trees};
+pub use log::{Entry, Log, LogError};
+
+#[cfg(test)]
+mod tests;

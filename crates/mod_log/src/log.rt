@@ -1,0 +1,331 @@
+// A client's log, which contracts see as the acknowledged number, the base tree and the pending entries.
+ghost use Rattle.std.specs.Prelude.{◌≡◌, ◌≢◌, ℕ, ◌+◌, ◌<◌, ◌≤◌, List, [], ◌∷◌, ◌++◌, length, false, ◌||◌, nat_le, nat_lt, Ok, Err, Some, IfSome, IfOk, IfErr, OnOk, OnErr, slice_get};
+ghost use Rattle.std.specs.Option.{option_copied};
+ghost use Rattle.byte_fields.specs.Numbers.{as_u64};
+ghost use Rattle.vol_tree.specs.Effects.{base_of as bases_of, contents_size as contents_total};
+ghost use Rattle.vol_tree.specs.Spelling.{EffectsFit};
+ghost use Rattle.vol_tree.specs.Refusals.{when, unless_refused};
+ghost use Rattle.mod_log.specs.declared.log.LogError.TheVariants.{Memory, EntryTooLarge};
+ghost use Rattle.mod_log.specs.Log.{IsLog, IsEntryOf, tree_after, entry as spelled, new_log_of, acknowledged, pulled, tree_of};
+ghost use Rattle.mod_log.specs.Append.{appended, is_too_large, has_no_room, is_at_last};
+ghost use Rattle.mod_log.specs.Inside.{entry_with, room_refusals, log_error, AreKept, entries_of, rolled_back as tree_before};
+
+use crate::sizes::{contents_size, entry_size};
+use std::alloc::AllocError;
+use std::marker::Model;
+use thiserror::Error;
+use vol_tree::{
+    ApplyAllError, Base, Bases, Effects, Tree, TreeError, TryCopy, Undo, apply_all, undo_all,
+};
+
+/// Effects that are applied or refused together, and the versions that they rest on.
+#[derive(Debug, Drop)]
+pub struct Entry {
+    /// The entry's number, counted from 1 over all entries of the client.
+    pub seq: u64,
+    pub effects: Effects,
+    /// The touched paths in the order of their first touch, each with its version before the effects.
+    pub base: Bases,
+}
+
+/// An entry beside the undos of its effects and the bytes of its spelling.
+#[derive(Drop)]
+struct Pending {
+    entry: Entry,
+    undos: Vec<Undo>,
+    size: u64,
+}
+
+/// Why effects are not logged. A number of bytes that is too great for its type stands as the greatest.
+#[derive(Debug, Drop, Error)]
+pub enum LogError {
+    /// More than 4,096 effects, or more than 33,554,432 bytes in their contents.
+    #[error("an entry of {effects} effects with {bytes} bytes")]
+    EntryTooLarge { effects: u32, bytes: u64 },
+    /// 1,024 entries are pending, or with this one the spelled entries have more than 67,108,864 bytes.
+    #[error("{entries} entries and {bytes} bytes in the log")]
+    LogFull { entries: u32, bytes: u64 },
+    /// The last entry has the greatest number that there is.
+    #[error("the last number")]
+    LastNumber,
+    /// The index of the first effect that the tree refuses, counted from 0, and its refusal.
+    #[error("effect {0} is refused")]
+    Tree(u32, TreeError),
+    #[error("out of memory")]
+    Memory,
+}
+
+impl From<AllocError> for LogError {
+    ghost from_gives = { λ _ e. e ≡ Memory };
+
+    fn from(_: AllocError) -> LogError {
+        LogError::Memory
+    }
+}
+
+impl From<ApplyAllError> for LogError {
+    ghost from_gives = { λ cause e. e ≡ log_error cause };
+
+    fn from(cause: ApplyAllError) -> LogError {
+        match cause {
+            ApplyAllError::At(i, refusal) => LogError::Tree(i, refusal),
+            ApplyAllError::Memory => LogError::Memory,
+        }
+    }
+}
+
+impl TryCopy for Entry {
+    fn copy(&self) -> Result<Entry, AllocError> {
+        Ok(Entry {
+            seq: self.seq,
+            effects: self.effects.copy()?,
+            base: self.base.copy()?,
+        })
+    }
+}
+
+impl Entry {
+    /// Appends the spelling, which has no number: a byte 0, the effects and the base list.
+    pub fn spell(value: &Entry, out: &mut Vec<u8>) -> Result<(), AllocError>
+        requires { EffectsFit value.now.effects }
+        ensures { OnOk result (out.new.items ≡ out.old.items ++ spelled value.now) }
+    {
+        out.push(0)?;
+        Effects::spell(&value.effects, out)?;
+        Bases::spell(&value.base, out)?;
+        Ok(())
+    }
+}
+
+/// A client's log: at most 1,024 entries that wait, with at most 67,108,864 spelled bytes.
+#[derive(Drop)]
+pub struct Log {
+    acked: u64,
+    tree: Tree,
+    pending: Vec<Pending>,
+    /// The bytes of all spelled entries.
+    size: u64,
+}
+
+impl Model for Log {
+    ghost use Rattle.mod_log.specs.Log.{Log};
+    ghost use Rattle.mod_log.specs.Inside.{log_of, AreFields};
+
+    ghost Value = { Log };
+
+    ghost view = { λ log. log_of log.acked log.tree log.pending.items };
+
+    ghost invariant = { λ log. AreFields log.acked log.tree log.pending.items log.size };
+}
+
+impl Log {
+    /// A log with nothing pending. It takes no memory.
+    pub fn new(acked: u64, base: Tree) -> Log
+        ensures new { result ≡ new_log_of acked base }
+        ensures log { IsLog result }
+    {
+        let _rows = base.count();
+        let pending = Vec::new(base.allocator());
+        Log {
+            acked,
+            tree: base,
+            pending,
+            size: 0,
+        }
+    }
+
+    /// The number of the last acknowledged entry.
+    pub fn acked(&self) -> u64
+        ensures acked { result ≡ self.now.acked }
+        ensures log { IsLog self.now }
+    {
+        self.acked
+    }
+
+    /// How many entries are pending.
+    pub fn pending(&self) -> u32
+        ensures count { result ≡ length self.now.pending }
+        ensures log { IsLog self.now }
+    {
+        let pending = &self.pending;
+        pending.len() as u32
+    }
+
+    /// The tree after all pending entries.
+    pub fn tree(&self) -> &Tree
+        ensures tree { result.now ≡ tree_of self.now }
+        ensures log { IsLog self.now }
+    {
+        &self.tree
+    }
+
+    /// A copy of the base: the tree before all pending entries.
+    pub fn base(&self) -> Result<Tree, AllocError>
+        ensures base { IfOk result (λ tree. tree ≡ self.now.base) }
+        ensures log { IsLog self.now }
+    {
+        rolled_back(&self.tree, &self.pending)
+    }
+
+    /// Pending entry `i`, counted from 0.
+    pub fn entry(&self, i: u32) -> Option<&Entry>
+        ensures entry { option_copied result ≡ slice_get self.now.pending i }
+        ensures sound { IfSome (option_copied result) (IsEntryOf (self.now.acked + 1 + i) (tree_after i self.now)) }
+        ensures log { IsLog self.now }
+    {
+        entry_of(&self.pending, i as usize)
+    }
+
+    /// Logs effects as the next entry, and gives its number; after a refusal the log is as before.
+    pub fn append(&mut self, effects: Effects) -> Result<u64, LogError>
+        requires { effects ≢ [] }
+        ensures ok { OnOk result (appended effects self.old ≡ Ok self.new) }
+        ensures seq { IfOk result (λ seq. seq ≡ self.old.acked + length self.old.pending + 1) }
+        ensures err { IfErr result (λ e. e ≢ LogError.Memory → appended effects self.old ≡ Err e) }
+        ensures unchanged { OnErr result (self.new ≡ self.old) }
+        ensures log { IsLog self.new }
+    {
+        let acked = self.acked;
+        check_size(&effects)?;
+        let base = base_of(&self.tree, &effects)?;
+        let size = self.size_in_room(&effects, &base)?;
+        let undos = apply_all(&mut self.tree, &effects)?;
+        let seq = acked + self.pending.len() as u64 + 1;
+        let entry = Entry { seq, effects, base };
+        match push(&mut self.pending, Pending { entry, undos, size }) {
+            Ok(()) => {
+                self.size += size;
+                Ok(seq)
+            }
+            Err(refused) => {
+                undo_all(&mut self.tree, refused.undos);
+                Err(LogError::Memory)
+            }
+        }
+    }
+
+    /// The size of one more entry, where there is room for it and a number.
+    fn size_in_room(&self, effects: &Effects, base: &Bases) -> Result<u64, LogError>
+        ensures size { IfOk result (λ size. size ≡ length (spelled (entry_with effects.now base.now self.now))) }
+        ensures room { OnOk result (has_no_room (entry_with effects.now base.now self.now) self.now ≡ false) }
+        ensures number { OnOk result (is_at_last self.now ≡ false) }
+        ensures err { IfErr result (λ e. unless_refused (room_refusals (entry_with effects.now base.now self.now) self.now) self.now ≡ Err e) }
+    {
+        let pending = self.pending.len();
+        let size = entry_size(effects, base);
+        let all = self.size.saturating_add(size);
+        if is_full(pending, all) {
+            return Err(LogError::LogFull {
+                entries: pending as u32,
+                bytes: all,
+            });
+        }
+        if self.acked + pending as u64 == u64::MAX {
+            return Err(LogError::LastNumber);
+        }
+        Ok(size)
+    }
+
+    /// The base takes the first pending entry, and the tree stays. It takes no memory.
+    pub fn acknowledge(&mut self, seq: u64)
+        requires pending { self.old.pending ≢ [] }
+        requires next { seq ≡ self.old.acked + 1 }
+        ensures acknowledged { self.new ≡ acknowledged seq self.old }
+        ensures log { IsLog self.new }
+    {
+        let first = self.pending.remove(0);
+        self.size -= first.size;
+        self.acked = seq;
+    }
+
+    /// Base and tree become this tree. It takes no memory.
+    pub fn replace(&mut self, tree: Tree)
+        requires { self.old.pending ≡ [] }
+        ensures pulled { self.new ≡ pulled tree self.old }
+        ensures log { IsLog self.new }
+    {
+        let _rows = tree.count();
+        self.tree = tree;
+    }
+}
+
+fn entry_of(pending: &[Pending], i: usize) -> Option<&Entry>
+    ensures { option_copied result ≡ slice_get (entries_of pending.now) i }
+{
+    match pending.get(i) {
+        Some(pending) => Some(&pending.entry),
+        None => None,
+    }
+}
+
+fn check_size(effects: &Effects) -> Result<(), LogError>
+    ensures ok { OnOk result (is_too_large effects.now ≡ false) }
+    ensures err { IfErr result (λ e. when (is_too_large effects.now) (EntryTooLarge (length effects.now) (as_u64 (contents_total effects.now))) ≡ Some e) }
+{
+    let count = effects.len();
+    let bytes = contents_size(effects.as_slice());
+    if count > 4096 || bytes > 33_554_432 {
+        return Err(LogError::EntryTooLarge {
+            effects: count as u32,
+            bytes,
+        });
+    }
+    Ok(())
+}
+
+/// The touched paths with their versions in the tree.
+fn base_of(tree: &Tree, effects: &Effects) -> Result<Bases, AllocError>
+    ensures { IfOk result (λ bases. bases ≡ bases_of effects.now tree.now) }
+{
+    let touched = effects.touched()?;
+    let mut bases = Bases::new(tree.allocator());
+    for path in touched.as_slice() {
+        bases.push(Base {
+            path: path.copy()?,
+            version: tree.version(path),
+        })?;
+    }
+    Ok(bases)
+}
+
+/// A copy of the tree once all these entries are undone, the last first.
+fn rolled_back(tree: &Tree, pending: &[Pending]) -> Result<Tree, AllocError>
+    requires { AreKept pending.now tree.now }
+    ensures { IfOk result (λ base. base ≡ tree_before pending.now tree.now) }
+{
+    let mut base = tree.copy()?;
+    let count = pending.len();
+    for i in 0..count {
+        let undos = copy_of(&pending[count - 1 - i].undos)?;
+        undo_all(&mut base, undos);
+    }
+    Ok(base)
+}
+
+fn copy_of(undos: &Vec<Undo>) -> Result<Vec<Undo>, AllocError>
+    ensures { IfOk result (λ copied. copied.items ≡ undos.now.items) }
+{
+    let mut copied = Vec::with_capacity(*undos.allocator(), undos.len())?;
+    for undo in undos {
+        copied.push(undo.copy()?)?;
+    }
+    Ok(copied)
+}
+
+/// Adds it last, or gives it back.
+fn push(pending: &mut Vec<Pending>, kept: Pending) -> Result<(), Pending>
+    ensures ok { OnOk result (pending.new.items ≡ pending.old.items ++ kept ∷ []) }
+    ensures err { IfErr result (λ refused. refused ≡ kept) }
+    ensures unchanged { OnErr result (pending.new.items ≡ pending.old.items) }
+{
+    match pending.push(kept) {
+        Ok(()) => Ok(()),
+        Err(refused) => Err(refused.value),
+    }
+}
+
+fn is_full(count: usize, size: u64) -> bool
+    ensures { result ≡ (nat_le 1024 count || nat_lt 67108864 size) }
+{
+    count >= 1024 || size > 67_108_864
+}

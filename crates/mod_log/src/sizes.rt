@@ -1,0 +1,47 @@
+// How large the spelling of an entry is; a number past the greatest stands as the greatest.
+ghost use Rattle.std.specs.Prelude.{◌≡◌, ◌∷◌, ◌++◌, length};
+ghost use Rattle.std.specs.List.{sum_by};
+ghost use Rattle.byte_fields.specs.Numbers.{as_u64};
+ghost use Rattle.vol_tree.specs.Effects.{contents_size as contents_total};
+ghost use Rattle.vol_tree.specs.Spelling.{effect, effects, base, bases};
+
+use vol_tree::{Base, Bases, Effect, Effects};
+
+/// The bytes of all contents.
+pub(crate) fn contents_size(effects: &[Effect]) -> u64
+    ensures { result ≡ as_u64 (contents_total effects.now) }
+{
+    let mut size = 0u64;
+    for effect in effects {
+        size = size.saturating_add(effect.content_size());
+    }
+    size
+}
+
+fn effects_size(effects: &[Effect]) -> u64
+    ensures { result ≡ as_u64 (sum_by (λ e. length (effect e)) effects.now) }
+{
+    let mut size = 0u64;
+    for effect in effects {
+        size = size.saturating_add(effect.size());
+    }
+    size
+}
+
+fn bases_size(bases: &[Base]) -> u64
+    ensures { result ≡ as_u64 (sum_by (λ b. length (base b)) bases.now) }
+{
+    let mut size = 0u64;
+    for base in bases {
+        size = size.saturating_add(base.size());
+    }
+    size
+}
+
+/// The bytes of the spelling of an entry: a byte, and the two lists behind their counts.
+pub(crate) fn entry_size(changes: &Effects, versions: &Bases) -> u64
+    ensures { result ≡ as_u64 (length (0 ∷ (effects changes.now ++ bases versions.now))) }
+{
+    9u64.saturating_add(effects_size(changes.as_slice()))
+        .saturating_add(bases_size(versions.as_slice()))
+}
