@@ -1,0 +1,148 @@
+-- A frame that is cut short: the field in which it ends is the faulty one.
+use Rattle.std.proofs.Common.{◌≡◌, ℕ, suc, ◌+◌, ◌-◌, ◌^◌, ◌<◌, ◌≤◌, true, ◌&&◌, not, leb, eqb, List, [], ◌∷◌, ◌++◌, length, get_or, take, drop, Err, refl, sym, ap, subst, ◌∙◌, arith, lit<, length-append, length-take}
+use Rattle.std.specs.Prelude.{sum}
+use Rattle.std.specs.Int.{w32, w64, from_be_bytes}
+use Rattle.std.proofs.lemmas.List.{drop_at, append-nil}
+use Rattle.std.proofs.Math.Seq.{drop-length}
+use Rattle.std.proofs.lemmas.Nat.{from_be_bytes-to_be_bytes_4}
+use Rattle.byte_fields.specs.Field.{digits}
+use Rattle.byte_fields.specs.Codec.{Stands}
+use Rattle.byte_fields.specs.Cuts.{start_of, IsCut}
+use Rattle.byte_fields.proofs.Codec.{u32_codec, u64_codec, stands_first, stands_second}
+use Rattle.byte_fields.proofs.Cutting.{sum_more, sum_both, u8_cut, u32_cut, u64_cut, ruled_cut, one_cut, two_cut, three_cut, tagged_cut, then_cut}
+use Rattle.vol_tree.specs.declared.tree.TreeError.{TreeError}
+use Rattle.vol_tree.specs.declared.tree.TreeError.TheVariants.{RootFixed, NoParent, Exists, Missing, IsFolder, NotEmpty, RowsFull, FileTooLarge, TreeFull, VersionTop, Memory}
+use Rattle.vol_tree.specs.Spelling.{path}
+use Rattle.vol_tree.specs.Fields.{path_fields}
+use Rattle.vol_tree.specs.Effects.{touched_all, distinct}
+use Rattle.vol_tree.proofs.Parts.{path_codec, effects_codec}
+use Rattle.vol_tree.proofs.CutParts.{path_cut, effects_cut, bases_cut, rows_cut}
+use Rattle.wire_frames.specs.declared.message.Message.{Message}
+use Rattle.wire_frames.specs.declared.message.Message.TheVariants as messages
+use Rattle.wire_frames.specs.declared.message.FrameError.TheVariants.{BadField}
+use Rattle.wire_frames.specs.Fault.{tree_fault, UnfitFits, FullFits}
+use Rattle.wire_frames.specs.FaultReading.{unfit_kinds, full_kinds, unfit_fault_at, full_fault_at}
+use Rattle.wire_frames.specs.Fields.{fault_fields, body_fields, message_fields}
+use Rattle.wire_frames.specs.Frame.{kind, client_of, number_of, code_of, client_rule, number_rule, offset_rule, body, payload, frame, BodyFits}
+use Rattle.wire_frames.specs.Reading.{store_at, stale_at, unfit_at, full_at, snapshot_at, gap_at, malformed_at, body_at, message_at, is_sized, frame_of}
+use Rattle.wire_frames.specs.Laws.{CutFramesNameTheField}
+use Rattle.wire_frames.proofs.Messages.{tail, number_codec, refusal, touched_few}
+use Rattle.wire_frames.proofs.Frames.{are_sized, kind_again, four_digits}
+use Rattle.wire_frames.proofs.Sizes.{frame_small}
+
+-- ---- refusals of the volume
+
+unfit_whole : (x : TreeError) → UnfitFits x → sum (fault_fields x) ≡ length (tree_fault x)
+unfit_whole RootFixed fits = refl
+unfit_whole (NoParent p) fits = omega (arith, sum_more 1 (path_fields p), path_cut.whole p fits)
+unfit_whole (Exists p) fits = omega (arith, sum_more 1 (path_fields p), path_cut.whole p fits)
+unfit_whole (Missing p) fits = omega (arith, sum_more 1 (path_fields p), path_cut.whole p fits)
+unfit_whole (IsFolder p) fits = omega (arith, sum_more 1 (path_fields p), path_cut.whole p fits)
+unfit_whole (NotEmpty p q) fits =
+    omega (arith, sum_more 1 (path_fields p ++ path_fields q), sum_both (path_fields p) (path_fields q), length-append (path p) (path q), path_cut.whole p fits.0, path_cut.whole q fits.1)
+unfit_whole (RowsFull n) fits = absurd fits
+unfit_whole (FileTooLarge n) fits = omega (arith, sum_more 1 (8 ∷ []), u64_cut.whole n fits)
+unfit_whole (TreeFull n) fits = absurd fits
+unfit_whole (VersionTop p) fits = omega (arith, sum_more 1 (path_fields p), path_cut.whole p fits)
+unfit_whole Memory fits = absurd fits
+
+unfit_ends : (bytes : List ℕ) (at : ℕ) (x : TreeError) (next end : ℕ) → Stands bytes at (tree_fault x) next → UnfitFits x → at ≤ end → end < next → unfit_fault_at (take end bytes) at ≡ Err (at + start_of (end - at) (fault_fields x))
+unfolding unfit_fault_at
+unfit_ends bytes at RootFixed next end stands fits le lt = tagged_cut unfit_kinds 1 (lit< tt) bytes at [] next end [] stands le (λ ge. absurd (omega (arith, stands.next_is)))
+unfit_ends bytes at (NoParent p) next end stands fits le lt =
+    tagged_cut unfit_kinds 2 (lit< tt) bytes at (path p) next end (path_fields p) stands le (λ ge. one_cut path_cut NoParent bytes (at + 1) p next end (stands_second bytes at (2 ∷ []) (path p) next stands) fits ge lt)
+unfit_ends bytes at (Exists p) next end stands fits le lt =
+    tagged_cut unfit_kinds 3 (lit< tt) bytes at (path p) next end (path_fields p) stands le (λ ge. one_cut path_cut Exists bytes (at + 1) p next end (stands_second bytes at (3 ∷ []) (path p) next stands) fits ge lt)
+unfit_ends bytes at (Missing p) next end stands fits le lt =
+    tagged_cut unfit_kinds 4 (lit< tt) bytes at (path p) next end (path_fields p) stands le (λ ge. one_cut path_cut Missing bytes (at + 1) p next end (stands_second bytes at (4 ∷ []) (path p) next stands) fits ge lt)
+unfit_ends bytes at (IsFolder p) next end stands fits le lt =
+    tagged_cut unfit_kinds 5 (lit< tt) bytes at (path p) next end (path_fields p) stands le (λ ge. one_cut path_cut IsFolder bytes (at + 1) p next end (stands_second bytes at (5 ∷ []) (path p) next stands) fits ge lt)
+unfit_ends bytes at (NotEmpty p q) next end stands fits le lt =
+    tagged_cut unfit_kinds 6 (lit< tt) bytes at (path p ++ path q) next end (path_fields p ++ path_fields q) stands le
+    (λ ge. two_cut path_codec path_cut (λ _ _. path_cut) NotEmpty bytes (at + 1) p q next end (stands_second bytes at (6 ∷ []) (path p ++ path q) next stands) fits.0 fits.1 ge lt)
+unfit_ends bytes at (RowsFull n) next end stands fits le lt = absurd fits
+unfit_ends bytes at (FileTooLarge n) next end stands fits le lt =
+    tagged_cut unfit_kinds 8 (lit< tt) bytes at (digits w64 n) next end (8 ∷ []) stands le (λ ge. one_cut u64_cut FileTooLarge bytes (at + 1) n next end (stands_second bytes at (8 ∷ []) (digits w64 n) next stands) fits ge lt)
+unfit_ends bytes at (TreeFull n) next end stands fits le lt = absurd fits
+unfit_ends bytes at (VersionTop p) next end stands fits le lt =
+    tagged_cut unfit_kinds 10 (lit< tt) bytes at (path p) next end (path_fields p) stands le (λ ge. one_cut path_cut VersionTop bytes (at + 1) p next end (stands_second bytes at (10 ∷ []) (path p) next stands) fits ge lt)
+unfit_ends bytes at Memory next end stands fits le lt = absurd fits
+
+pub unfit_cut : IsCut unfit_fault_at tree_fault fault_fields UnfitFits
+unfit_cut = record { whole = unfit_whole; cut = unfit_ends }
+
+full_whole : (x : TreeError) → FullFits x → sum (fault_fields x) ≡ length (tree_fault x)
+full_whole (RowsFull n) fits = omega (arith, sum_more 1 (4 ∷ []), u32_cut.whole n fits)
+full_whole (TreeFull n) fits = omega (arith, sum_more 1 (8 ∷ []), u64_cut.whole n fits)
+full_whole _ fits = absurd fits
+
+full_ends : (bytes : List ℕ) (at : ℕ) (x : TreeError) (next end : ℕ) → Stands bytes at (tree_fault x) next → FullFits x → at ≤ end → end < next → full_fault_at (take end bytes) at ≡ Err (at + start_of (end - at) (fault_fields x))
+unfolding full_fault_at
+full_ends bytes at (RowsFull n) next end stands fits le lt =
+    tagged_cut full_kinds 7 (lit< tt) bytes at (digits w32 n) next end (4 ∷ []) stands le (λ ge. one_cut u32_cut RowsFull bytes (at + 1) n next end (stands_second bytes at (7 ∷ []) (digits w32 n) next stands) fits ge lt)
+full_ends bytes at (TreeFull n) next end stands fits le lt =
+    tagged_cut full_kinds 9 (lit< tt) bytes at (digits w64 n) next end (8 ∷ []) stands le (λ ge. one_cut u64_cut TreeFull bytes (at + 1) n next end (stands_second bytes at (9 ∷ []) (digits w64 n) next stands) fits ge lt)
+full_ends bytes at _ next end stands fits le lt = absurd fits
+
+pub full_cut : IsCut full_fault_at tree_fault fault_fields FullFits
+full_cut = record { whole = full_whole; cut = full_ends }
+
+-- ---- bodies
+
+no_room : (bytes : List ℕ) (at next end : ℕ) → Stands bytes at [] next → at ≤ end → end < next → ⊥
+no_room bytes at next end stands le lt = omega (arith, stands.next_is)
+
+body_ends : (m : Message) (bytes : List ℕ) (at next end : ℕ) → Stands bytes at (body m) next → BodyFits m → at ≤ end → end < next
+    → body_at (kind m) (client_of m) (number_of m) (take end bytes) at ≡ Err (at + start_of (end - at) (body_fields m))
+unfolding store_at stale_at unfit_at full_at snapshot_at gap_at malformed_at
+body_ends (messages.Store c n es bs) bytes at next end stands fits le lt =
+    two_cut effects_codec effects_cut (λ xs few. bases_cut (distinct (touched_all xs)) (touched_few xs few)) (messages.Store c n) bytes at es bs next end stands fits.0 fits.1 le lt
+body_ends (messages.Pull c n) bytes at next end stands fits le lt = absurd (no_room bytes at next end stands le lt)
+body_ends (messages.Accepted c n) bytes at next end stands fits le lt = absurd (no_room bytes at next end stands le lt)
+body_ends (messages.Stale c n p theirs ours) bytes at next end stands fits le lt =
+    three_cut path_codec path_cut (λ _ _. u64_codec) (λ _ _. u64_cut) (λ _ t _ _. ruled_cut u64_cut (λ v. not (eqb v t))) (messages.Stale c n) bytes at p theirs ours next end stands fits.0 fits.1 (fits.2, fits.3) le lt
+body_ends (messages.Unfit c n i f) bytes at next end stands fits le lt =
+    two_cut u32_codec u32_cut (λ _ _. unfit_cut) (messages.Unfit c n) bytes at i f next end stands fits.0 fits.1 le lt
+body_ends (messages.Full c n i f) bytes at next end stands fits le lt =
+    two_cut u32_codec u32_cut (λ _ _. full_cut) (messages.Full c n) bytes at i f next end stands fits.0 fits.1 le lt
+body_ends (messages.Gap c n last) bytes at next end stands fits le lt =
+    one_cut (ruled_cut u64_cut (λ v. leb (v + 2) n)) (messages.Gap c n) bytes at last next end stands (fits.0, fits.1) le lt
+body_ends (messages.Snapshot c n last rs) bytes at next end stands fits le lt =
+    two_cut u64_codec u64_cut (λ _ _. rows_cut) (messages.Snapshot c n) bytes at last rs next end stands fits.0 fits.1 le lt
+body_ends (messages.Malformed code offset) bytes at next end stands fits le lt =
+    two_cut refusal (ruled_cut u8_cut (λ v. leb 1 v && leb v 7)) (λ v _. ruled_cut u32_cut (offset_rule v)) messages.Malformed bytes at code offset next end stands (fits.0, fits.1) (fits.2, fits.3) le lt
+
+message_ends : (m : Message) (bytes : List ℕ) (at next end : ℕ) → Stands bytes at (tail m) next → number_rule (kind m) (number_of m) ≡ true → number_of m < 2 ^ 64 → BodyFits m → at ≤ end → end < next
+    → message_at (kind m) (client_of m) (take end bytes) at ≡ Err (at + start_of (end - at) (message_fields m))
+unfolding message_at
+message_ends m bytes at next end stands nr small fits le lt =
+    let middle = at + length (digits w64 (number_of m)) in
+    then_cut (number_codec (kind m)) (ruled_cut u64_cut (number_rule (kind m))) (λ n. body_at (kind m) (client_of m) n.0 (take end bytes) n.1) bytes at (number_of m) middle end (body_fields m)
+    (stands_first bytes at (digits w64 (number_of m)) (body m) next stands) (small, nr) le
+    (λ ge. body_ends m bytes middle next end (stands_second bytes at (digits w64 (number_of m)) (body m) next stands) fits ge lt)
+
+-- ---- frames
+
+fails_again : (bytes : List ℕ) (m : Message) (place : ℕ) → is_sized bytes ≡ true → get_or bytes 4 0 ≡ 1 → get_or bytes 5 0 ≡ code_of (kind m) → get_or bytes 6 0 ≡ client_of m → client_rule (kind m) (client_of m) ≡ true
+    → message_at (kind m) (client_of m) bytes 7 ≡ Err place → frame_of bytes ≡ Err (BadField place)
+unfolding frame_of
+fails_again bytes m place is version code c fits read = rw (is, version, code, kind_again (kind m), c, fits, read) refl
+
+pub cut_frames : CutFramesNameTheField
+unfolding digits
+cut_frames m end valid low lt =
+    let size : length (frame m) ≡ 4 + length (payload m) = length-append (digits w32 (length (payload m))) (payload m) in
+    let rest : drop 4 (frame m) ≡ payload m = drop_at (digits w32 (length (payload m))) (payload m) 4 (four_digits (length (payload m))) in
+    let whole : List ℕ = digits w32 (end - 4) ++ payload m in
+    let long : length whole ≡ 4 + length (payload m) = length-append (digits w32 (end - 4)) (payload m) in
+    let short : length (take end whole) ≡ end = omega (arith, length-take end whole) in
+    let seven : end ≡ suc (suc (suc (suc (suc (suc (suc (end - 7))))))) = omega arith in
+    let told : from_be_bytes w32 (take 4 (take end whole)) + 4 ≡ length (take end whole) =
+    subst (λ (n : ℕ). from_be_bytes w32 (take 4 (take n whole)) + 4 ≡ length (take end whole)) (sym seven) (rw (from_be_bytes-to_be_bytes_4 (end - 4) (omega (arith, frame_small m valid))) (omega (arith, short))) in
+    let is : is_sized (take end whole) ≡ true = are_sized (take end whole) (record { low = omega (arith, short); high = omega (arith, short, frame_small m valid); told = told }) in
+    let stands : Stands whole 7 (tail m) (length whole) = record { here = sym (ap (λ (x : List ℕ). tail m ++ x) (drop-length whole) ∙ append-nil (tail m)); next_is = omega arith; within = omega arith } in
+    let read = message_ends m whole 7 (length whole) end stands valid.number_fits valid.number_small valid.body_fits (omega arith) (omega (arith, size, long)) in
+    let version : get_or (take end whole) 4 0 ≡ 1 = subst (λ (n : ℕ). get_or (take n whole) 4 0 ≡ 1) (sym seven) refl in
+    let code : get_or (take end whole) 5 0 ≡ code_of (kind m) = subst (λ (n : ℕ). get_or (take n whole) 5 0 ≡ code_of (kind m)) (sym seven) refl in
+    let client : get_or (take end whole) 6 0 ≡ client_of m = subst (λ (n : ℕ). get_or (take n whole) 6 0 ≡ client_of m) (sym seven) refl in
+    rw rest (fails_again (take end whole) m _ is version code client valid.client_fits read)

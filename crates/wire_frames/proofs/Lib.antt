@@ -1,0 +1,6 @@
+pub mod FaultLaws
+pub mod Messages
+pub mod Sizes
+pub mod Frames
+pub mod HeaderLaws
+pub mod CutFrames

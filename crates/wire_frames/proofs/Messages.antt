@@ -1,0 +1,193 @@
+-- The laws of messages: what is read is spelled so, and what is spelled so is read.
+use Rattle.std.proofs.Common.{◌≡◌, ℕ, ◌+◌, ◌*◌, ◌^◌, ◌<◌, ◌≤◌, Bool, true, false, cond, ◌&&◌, not, leb, eqb, List, [], ◌∷◌, ◌++◌, length, Ok, Err, refl, sym, ap, subst, arith, length-append, inl, inr}
+use Rattle.std.specs.Int.{w8, w32, w64}
+use Rattle.std.specs.List.{flat_map, filter}
+use Rattle.std.proofs.lemmas.Bool.{eqb-true}
+use Rattle.std.proofs.lemmas.List.Concat.{flat_map-cons}
+use Rattle.vol_tree.specs.declared.tree.Effect.{Effect}
+use Rattle.vol_tree.specs.declared.tree.Effect.TheVariants.{Make, Put, Remove, Move}
+use Rattle.std.proofs.lemmas.List.{length-map}
+use Rattle.vol_tree.specs.declared.tree.Base.{Base}
+use Rattle.byte_fields.specs.Field.{digits, ruled, number_at}
+use Rattle.byte_fields.specs.Codec.{Stands, IsBytes, IsFault, IsCodec}
+use Rattle.vol_tree.specs.Spelling.{bases, EffectsFit, AreBasesOf}
+use Rattle.vol_tree.specs.Path.{FilePath, is_same_path}
+use Rattle.vol_tree.specs.Tree.{touched_paths}
+use Rattle.vol_tree.specs.Effects.{touched_all, distinct}
+use Rattle.vol_tree.specs.Reading.{bases_at}
+use Rattle.byte_fields.proofs.Codec.{done, later_fault, ok_is, never_err, bind_ok, bind_err, u8_codec, u32_codec, u64_codec, ruled_codec, found1, found2, found3, again1, again2, again3, fault1, fault2, fault3, stands_none, stands_first, stands_second, stands_both}
+use Rattle.vol_tree.proofs.Parts.{path_codec, effects_codec, bases_codec, rows_codec}
+use Rattle.wire_frames.specs.declared.message.Message.{Message}
+use Rattle.wire_frames.specs.declared.message.Message.TheVariants as messages
+use Rattle.wire_frames.specs.declared.message.Kind.{Kind}
+use Rattle.wire_frames.specs.declared.message.Kind.TheVariants.{Store, Pull, Accepted, Stale, Unfit, Gap, Snapshot, Full, Malformed}
+use Rattle.wire_frames.proofs.FaultLaws.{unfit_codec, full_codec}
+use Rattle.wire_frames.specs.Frame.{kind, client_of, number_of, body, client_rule, number_rule, offset_rule, BodyFits}
+use Rattle.wire_frames.specs.Reading.{store_at, stale_at, unfit_at, full_at, snapshot_at, gap_at, malformed_at, body_at, message_at}
+
+-- ---- the paths that effects touch are few
+
+kept_length : {A : Type 0} (f : A → Bool) (xs : List A) → length (filter f xs) ≤ length xs
+kept_length f [] = omega arith
+kept_length f (x ∷ xs) =
+    elim (f x) as (λ kept. length (cond kept (x ∷ filter f xs) (filter f xs)) ≤ length (x ∷ xs)) [
+      | true ↦ omega (arith, kept_length f xs)
+      | false ↦ omega (arith, kept_length f xs)
+    ]
+
+distinct_length : (ps : List FilePath) → length (distinct ps) ≤ length ps
+distinct_length [] = omega arith
+distinct_length (p ∷ ps) = omega (arith, kept_length (λ other. not (is_same_path other p)) (distinct ps), distinct_length ps)
+
+touches_length : (e : Effect) → length (touched_paths e) ≤ 2
+touches_length (Make p) = omega arith
+touches_length (Put p c) = omega arith
+touches_length (Remove p) = omega arith
+touches_length (Move p q) = omega arith
+
+all_touches_length : (es : List Effect) → length (touched_all es) ≤ 2 * length es
+all_touches_length [] = omega arith
+all_touches_length (e ∷ es) =
+    omega (arith, ap length (flat_map-cons touched_paths e es), length-append (touched_paths e) (flat_map touched_paths es), touches_length e, all_touches_length es)
+
+pub touched_few : (es : List Effect) → EffectsFit es → length (distinct (touched_all es)) < 2 ^ 32
+touched_few es fits = omega (arith, distinct_length (touched_all es), all_touches_length es, fits.few)
+
+-- for each effect at most two
+pub few_bases : (es : List Effect) (bs : List Base) → AreBasesOf (distinct (touched_all es)) bs → EffectsFit es → length bs ≤ 8192
+few_bases es bs are fits =
+    omega (arith, length-map bs (λ (b : Base). b.path), ap length are.0, distinct_length (touched_all es), all_touches_length es, fits.few)
+
+-- ---- bodies
+
+bases_of : (es : List Effect) → EffectsFit es → IsCodec (bases_at (distinct (touched_all es))) bases (AreBasesOf (distinct (touched_all es)))
+bases_of es fits = bases_codec (distinct (touched_all es)) (touched_few es fits)
+
+other_than : (theirs : ℕ) → IsCodec (ruled (λ n. not (eqb n theirs)) (number_at w64)) (digits w64) (λ n. (n < 2 ^ 64) × (not (eqb n theirs) ≡ true))
+other_than theirs = ruled_codec (λ n. not (eqb n theirs)) u64_codec
+
+before : (limit : ℕ) → IsCodec (ruled (λ n. leb (n + 2) limit) (number_at w64)) (digits w64) (λ n. (n < 2 ^ 64) × (leb (n + 2) limit ≡ true))
+before limit = ruled_codec (λ n. leb (n + 2) limit) u64_codec
+
+pub refusal : IsCodec (ruled (λ n. leb 1 n && leb n 7) (number_at w8)) (λ n. n ∷ []) (λ n. (n < 2 ^ 8) × ((leb 1 n && leb n 7) ≡ true))
+refusal = ruled_codec (λ n. leb 1 n && leb n 7) u8_codec
+
+offset_of : (code : ℕ) → IsCodec (ruled (offset_rule code) (number_at w32)) (digits w32) (λ n. (n < 2 ^ 32) × (offset_rule code n ≡ true))
+offset_of code = ruled_codec (offset_rule code) u32_codec
+
+-- a message of this kind, client and number
+pub record IsOf (k : Kind) (c n : ℕ) (m : Message) : Type 0 where
+  pub kind_is : kind m ≡ k
+  pub client_is : client_of m ≡ c
+  pub number_is : number_of m ≡ n
+  pub body_fits : BodyFits m
+
+abbrev IsFound : Kind → ℕ → ℕ → List ℕ → ℕ → ℕ → Message → Type 0
+IsFound k c n bytes at next m = Stands bytes at (body m) next × IsOf k c n m
+
+empty_found : (bytes : List ℕ) (at next : ℕ) (made m : Message) (k : Kind) (c n : ℕ) → at ≤ length bytes → body made ≡ [] → IsOf k c n made → done {A = Message × ℕ} (made, at) ≡ Ok (m, next) → IsFound k c n bytes at next m
+empty_found bytes at next made m k c n le no_body of e =
+    subst (λ (x : Message × ℕ). IsFound k c n bytes at x.1 x.0) (ok_is (made, at) (m, next) e) (rw no_body (stands_none bytes at le), of)
+
+body_found : (k : Kind) (c n : ℕ) → client_rule k c ≡ true → number_rule k n ≡ true → (bytes : List ℕ) (at : ℕ) (m : Message) (next : ℕ) → IsBytes bytes → at ≤ length bytes → body_at k c n bytes at ≡ Ok (m, next) → IsFound k c n bytes at next m
+unfolding store_at stale_at unfit_at full_at snapshot_at gap_at malformed_at
+body_found Store c n cr nr bytes at m next fits le e =
+    let r = found2 effects_codec bases_of (messages.Store c n) bytes at m next fits le e in
+    subst (IsFound Store c n bytes at next) r.is (r.stands, record { kind_is = refl; client_is = refl; number_is = refl; body_fits = (r.first_fits, r.second_fits) })
+body_found Pull c n cr nr bytes at m next fits le e = empty_found bytes at next (messages.Pull c n) m Pull c n le refl (record { kind_is = refl; client_is = refl; number_is = refl; body_fits = tt }) e
+body_found Accepted c n cr nr bytes at m next fits le e = empty_found bytes at next (messages.Accepted c n) m Accepted c n le refl (record { kind_is = refl; client_is = refl; number_is = refl; body_fits = tt }) e
+body_found Stale c n cr nr bytes at m next fits le e =
+    let r = found3 path_codec (λ _ _. u64_codec) (λ _ theirs _ _. other_than theirs) (messages.Stale c n) bytes at m next fits le e in
+    subst (IsFound Stale c n bytes at next) r.is (r.stands, record { kind_is = refl; client_is = refl; number_is = refl; body_fits = (r.first_fits, r.second_fits, r.third_fits.0, r.third_fits.1) })
+body_found Unfit c n cr nr bytes at m next fits le e =
+    let r = found2 u32_codec (λ _ _. unfit_codec) (messages.Unfit c n) bytes at m next fits le e in
+    subst (IsFound Unfit c n bytes at next) r.is (r.stands, record { kind_is = refl; client_is = refl; number_is = refl; body_fits = (r.first_fits, r.second_fits) })
+body_found Full c n cr nr bytes at m next fits le e =
+    let r = found2 u32_codec (λ _ _. full_codec) (messages.Full c n) bytes at m next fits le e in
+    subst (IsFound Full c n bytes at next) r.is (r.stands, record { kind_is = refl; client_is = refl; number_is = refl; body_fits = (r.first_fits, r.second_fits) })
+body_found Gap c n cr nr bytes at m next fits le e =
+    let r = found1 (before n) (messages.Gap c n) bytes at m next fits le e in
+    subst (IsFound Gap c n bytes at next) r.is (r.stands, record { kind_is = refl; client_is = refl; number_is = refl; body_fits = (r.fits.0, r.fits.1) })
+body_found Snapshot c n cr nr bytes at m next fits le e =
+    let r = found2 u64_codec (λ _ _. rows_codec) (messages.Snapshot c n) bytes at m next fits le e in
+    subst (IsFound Snapshot c n bytes at next) r.is (r.stands, record { kind_is = refl; client_is = refl; number_is = refl; body_fits = (r.first_fits, r.second_fits) })
+body_found Malformed c n cr nr bytes at m next fits le e =
+    let r = found2 refusal (λ code _. offset_of code) messages.Malformed bytes at m next fits le e in
+    subst (IsFound Malformed c n bytes at next) r.is (r.stands, record { kind_is = refl; client_is = sym (eqb-true c 0 cr); number_is = sym (eqb-true n 0 nr); body_fits = (r.first_fits.0, r.first_fits.1, r.second_fits.0, r.second_fits.1) })
+
+body_fault : (k : Kind) (c n : ℕ) (bytes : List ℕ) (at : ℕ) (place : ℕ) → IsBytes bytes → at ≤ length bytes → body_at k c n bytes at ≡ Err place → IsFault bytes at place
+unfolding store_at stale_at unfit_at full_at snapshot_at gap_at malformed_at
+body_fault Store c n bytes at place fits le e = fault2 effects_codec bases_of (messages.Store c n) bytes at place fits le e
+body_fault Stale c n bytes at place fits le e = fault3 path_codec (λ _ _. u64_codec) (λ _ theirs _ _. other_than theirs) (messages.Stale c n) bytes at place fits le e
+body_fault Unfit c n bytes at place fits le e = fault2 u32_codec (λ _ _. unfit_codec) (messages.Unfit c n) bytes at place fits le e
+body_fault Full c n bytes at place fits le e = fault2 u32_codec (λ _ _. full_codec) (messages.Full c n) bytes at place fits le e
+body_fault Gap c n bytes at place fits le e = fault1 (before n) (messages.Gap c n) bytes at place fits le e
+body_fault Malformed c n bytes at place fits le e = fault2 refusal (λ code _. offset_of code) messages.Malformed bytes at place fits le e
+body_fault Pull c n bytes at place fits le e = absurd (never_err (messages.Pull c n, at) place e)
+body_fault Accepted c n bytes at place fits le e = absurd (never_err (messages.Accepted c n, at) place e)
+body_fault Snapshot c n bytes at place fits le e = fault2 u64_codec (λ _ _. rows_codec) (messages.Snapshot c n) bytes at place fits le e
+
+empty_again : (m : Message) (bytes : List ℕ) (at next : ℕ) → Stands bytes at [] next → done {A = Message × ℕ} (m, at) ≡ Ok (m, next)
+empty_again m bytes at next stands = let e : at ≡ next = omega (arith, stands.next_is) in rw e refl
+
+body_again : (m : Message) (bytes : List ℕ) (at next : ℕ) → Stands bytes at (body m) next → BodyFits m → body_at (kind m) (client_of m) (number_of m) bytes at ≡ Ok (m, next)
+unfolding store_at stale_at unfit_at full_at snapshot_at gap_at malformed_at
+body_again (messages.Store c n es bs) bytes at next stands fits = again2 effects_codec bases_of (messages.Store c n) bytes at es bs next stands fits.0 fits.1
+body_again (messages.Pull c n) bytes at next stands fits = empty_again (messages.Pull c n) bytes at next stands
+body_again (messages.Accepted c n) bytes at next stands fits = empty_again (messages.Accepted c n) bytes at next stands
+body_again (messages.Stale c n p theirs ours) bytes at next stands fits = again3 path_codec (λ _ _. u64_codec) (λ _ t _ _. other_than t) (messages.Stale c n) bytes at p theirs ours next stands fits.0 fits.1 (fits.2, fits.3)
+body_again (messages.Unfit c n i f) bytes at next stands fits = again2 u32_codec (λ _ _. unfit_codec) (messages.Unfit c n) bytes at i f next stands fits.0 fits.1
+body_again (messages.Full c n i f) bytes at next stands fits = again2 u32_codec (λ _ _. full_codec) (messages.Full c n) bytes at i f next stands fits.0 fits.1
+body_again (messages.Gap c n last) bytes at next stands fits = again1 (before n) (messages.Gap c n) bytes at last next stands (fits.0, fits.1)
+body_again (messages.Snapshot c n last rs) bytes at next stands fits = again2 u64_codec (λ _ _. rows_codec) (messages.Snapshot c n) bytes at last rs next stands fits.0 fits.1
+body_again (messages.Malformed code offset) bytes at next stands fits = again2 refusal (λ code _. offset_of code) messages.Malformed bytes at code offset next stands (fits.0, fits.1) (fits.2, fits.3)
+
+-- ---- the number and the body
+
+abbrev pub tail : Message → List ℕ
+tail m = digits w64 (number_of m) ++ body m
+
+pub record IsTail (k : Kind) (c : ℕ) (bytes : List ℕ) (at : ℕ) (m : Message) (next : ℕ) : Type 0 where
+  pub stands : Stands bytes at (tail m) next
+  pub kind_is : kind m ≡ k
+  pub client_is : client_of m ≡ c
+  pub number_fits : number_rule k (number_of m) ≡ true
+  pub number_small : number_of m < 2 ^ 64
+  pub body_fits : BodyFits m
+
+pub number_codec : (k : Kind) → IsCodec (ruled (number_rule k) (number_at w64)) (digits w64) (λ n. (n < 2 ^ 64) × (number_rule k n ≡ true))
+number_codec k = ruled_codec (number_rule k) u64_codec
+
+pub message_found : (k : Kind) (c : ℕ) → client_rule k c ≡ true → (bytes : List ℕ) (at : ℕ) (m : Message) (next : ℕ) → IsBytes bytes → at ≤ length bytes → message_at k c bytes at ≡ Ok (m, next) → IsTail k c bytes at m next
+unfolding message_at
+message_found k c cr bytes at m next fits le e =
+    let b = bind_ok (ruled (number_rule k) (number_at w64) bytes at) (λ n. body_at k c n.0 bytes n.1) (m, next) e in
+    let n = b.0.0 in
+    let first = (number_codec k).found bytes at n b.0.1 fits le b.1 in
+    let rest = body_found k c n cr first.1.1 bytes b.0.1 m next fits first.0.within b.2 in
+    let is : n ≡ number_of m = sym rest.1.number_is in
+    let both = stands_both bytes at (digits w64 n) b.0.1 (body m) next first.0 rest.0 in
+    record {
+      stands = subst (λ (x : ℕ). Stands bytes at (digits w64 x ++ body m) next) is both;
+      kind_is = rest.1.kind_is;
+      client_is = rest.1.client_is;
+      number_fits = subst (λ (x : ℕ). number_rule k x ≡ true) is first.1.1;
+      number_small = subst (λ (x : ℕ). x < 2 ^ 64) is first.1.0;
+      body_fits = rest.1.body_fits;
+    }
+
+pub message_fault : (k : Kind) (c : ℕ) (bytes : List ℕ) (at : ℕ) (place : ℕ) → IsBytes bytes → at ≤ length bytes → message_at k c bytes at ≡ Err place → IsFault bytes at place
+unfolding message_at
+message_fault k c bytes at place fits le e =
+    elim (bind_err (ruled (number_rule k) (number_at w64) bytes at) (λ n. body_at k c n.0 bytes n.1) place e) [
+      | inl here ↦ (number_codec k).fault bytes at place fits le here
+      | inr b ↦
+          let first = (number_codec k).found bytes at b.0.0 b.0.1 fits le b.1 in
+          later_fault bytes at (digits w64 b.0.0) b.0.1 place first.0 (body_fault k c b.0.0 bytes b.0.1 place fits first.0.within b.2)
+    ]
+
+pub message_again : (m : Message) (bytes : List ℕ) (at next : ℕ) → Stands bytes at (tail m) next → number_rule (kind m) (number_of m) ≡ true → number_of m < 2 ^ 64 → BodyFits m → message_at (kind m) (client_of m) bytes at ≡ Ok (m, next)
+unfolding message_at
+message_again m bytes at next stands nr small fits =
+    rw ((number_codec (kind m)).again bytes at (number_of m) (at + length (digits w64 (number_of m))) (stands_first bytes at (digits w64 (number_of m)) (body m) next stands) (small, nr))
+    (body_again m bytes (at + length (digits w64 (number_of m))) next (stands_second bytes at (digits w64 (number_of m)) (body m) next stands) fits)

@@ -1,0 +1,51 @@
+-- Each valid message has a frame that the reader takes.
+use Rattle.std.proofs.Common.{◌^◌, ◌<◌, ◌≤◌, ◌++◌, length, arith, length-append}
+use Rattle.std.specs.Int.{w64}
+use Rattle.byte_fields.specs.Field.{digits}
+use Rattle.vol_tree.specs.Spelling.{path, effects, bases, rows}
+use Rattle.vol_tree.proofs.Sizes.{path_size, effects_size, bases_size, rows_size}
+use Rattle.vol_tree.specs.declared.tree.TreeError.{TreeError}
+use Rattle.vol_tree.specs.declared.tree.TreeError.TheVariants.{RootFixed, NoParent, Exists, Missing, IsFolder, NotEmpty, RowsFull, FileTooLarge, TreeFull, VersionTop}
+use Rattle.wire_frames.specs.declared.message.Message.{Message}
+use Rattle.wire_frames.specs.declared.message.Message.TheVariants as messages
+use Rattle.wire_frames.specs.Fault.{tree_fault, UnfitFits, FullFits}
+use Rattle.wire_frames.specs.Frame.{body, payload, frame, BodyFits, IsValid}
+use Rattle.wire_frames.proofs.Messages.{few_bases}
+
+unfit_size : (f : TreeError) → UnfitFits f → length (tree_fault f) ≤ 2053
+unfolding digits
+unfit_size RootFixed fits = omega arith
+unfit_size (NoParent p) fits = omega (arith, path_size p fits)
+unfit_size (Exists p) fits = omega (arith, path_size p fits)
+unfit_size (Missing p) fits = omega (arith, path_size p fits)
+unfit_size (IsFolder p) fits = omega (arith, path_size p fits)
+unfit_size (NotEmpty p q) fits = omega (arith, length-append (path p) (path q), path_size p fits.0, path_size q fits.1)
+unfit_size (FileTooLarge n) fits = omega arith
+unfit_size (VersionTop p) fits = omega (arith, path_size p fits)
+unfit_size _ fits = absurd fits
+
+full_size : (f : TreeError) → FullFits f → length (tree_fault f) ≤ 9
+unfolding digits
+full_size (RowsFull n) fits = omega arith
+full_size (TreeFull n) fits = omega arith
+full_size _ fits = absurd fits
+
+body_size : (m : Message) → BodyFits m → length (body m) ≤ 50999000
+unfolding digits
+body_size (messages.Store c n es bs) fits = omega (arith, length-append (effects es) (bases bs), effects_size es fits.0, bases_size bs fits.1.1, few_bases es bs fits.1 fits.0)
+body_size (messages.Stale c n p theirs ours) fits = omega (arith, length-append (path p) (digits w64 theirs ++ digits w64 ours), path_size p fits.0)
+body_size (messages.Unfit c n i f) fits = omega (arith, unfit_size f fits.1)
+body_size (messages.Full c n i f) fits = omega (arith, full_size f fits.1)
+body_size (messages.Gap c n last) fits = omega arith
+body_size (messages.Malformed code offset) fits = omega arith
+body_size (messages.Pull c n) fits = omega arith
+body_size (messages.Accepted c n) fits = omega arith
+body_size (messages.Snapshot c n last rs) fits = omega (arith, length-append (digits w64 last) (rows rs), rows_size rs fits.1)
+
+pub frame_small : (m : Message) → IsValid m → length (frame m) ≤ 51000000
+unfolding digits
+frame_small m valid = omega (arith, body_size m valid.body_fits)
+
+pub payload_small : (m : Message) → IsValid m → length (payload m) < 2 ^ 32
+unfolding digits
+payload_small m valid = omega (arith, body_size m valid.body_fits)

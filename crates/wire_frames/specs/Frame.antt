@@ -1,0 +1,137 @@
+-- The frame of each message, and which messages have one.
+use Rattle.std.specs.Prelude.{◌≡◌, ℕ, ◌+◌, ◌<◌, ◌^◌, nat_le, ◌==◌, ◌&&◌, ◌||◌, not, Bool, true, List, [], ◌∷◌, ◌++◌, length}
+use Rattle.std.specs.Int.{w32, w64}
+use Rattle.byte_fields.specs.Field.{digits}
+use Rattle.vol_tree.specs.Path.{IsPath}
+use Rattle.vol_tree.specs.Tree.{IsTree}
+use Rattle.vol_tree.specs.Effects.{touched_all, distinct}
+use Rattle.vol_tree.specs.Spelling.{path, effects, bases, rows, EffectsFit, AreBasesOf}
+use Rattle.wire_frames.specs.Fault.{tree_fault, UnfitFits, FullFits}
+use Rattle.wire_frames.specs.declared.message.Message.{Message}
+use Rattle.wire_frames.specs.declared.message.Message.TheVariants as messages
+use Rattle.wire_frames.specs.declared.message.Kind.{Kind}
+use Rattle.wire_frames.specs.declared.message.Kind.TheVariants.{Store, Pull, Accepted, Stale, Unfit, Gap, Snapshot, Full, Malformed}
+
+abbrev pub kind : Message → Kind
+kind (messages.Store client number es bs) = Store
+kind (messages.Pull client number) = Pull
+kind (messages.Accepted client number) = Accepted
+kind (messages.Stale client number p theirs ours) = Stale
+kind (messages.Unfit client number index fault) = Unfit
+kind (messages.Gap client number last) = Gap
+kind (messages.Snapshot client number last rs) = Snapshot
+kind (messages.Full client number index fault) = Full
+kind (messages.Malformed code offset) = Malformed
+
+-- the client that a message is of or for; no client has number 0
+abbrev pub client_of : Message → ℕ
+client_of (messages.Store client number es bs) = client
+client_of (messages.Pull client number) = client
+client_of (messages.Accepted client number) = client
+client_of (messages.Stale client number p theirs ours) = client
+client_of (messages.Unfit client number index fault) = client
+client_of (messages.Gap client number last) = client
+client_of (messages.Snapshot client number last rs) = client
+client_of (messages.Full client number index fault) = client
+client_of (messages.Malformed code offset) = 0
+
+abbrev pub number_of : Message → ℕ
+number_of (messages.Store client number es bs) = number
+number_of (messages.Pull client number) = number
+number_of (messages.Accepted client number) = number
+number_of (messages.Stale client number p theirs ours) = number
+number_of (messages.Unfit client number index fault) = number
+number_of (messages.Gap client number last) = number
+number_of (messages.Snapshot client number last rs) = number
+number_of (messages.Full client number index fault) = number
+number_of (messages.Malformed code offset) = 0
+
+-- the byte that tells the kind
+abbrev pub code_of : Kind → ℕ
+code_of Store = 1
+code_of Pull = 3
+code_of Accepted = 17
+code_of Stale = 18
+code_of Unfit = 19
+code_of Gap = 20
+code_of Snapshot = 21
+code_of Full = 24
+code_of Malformed = 31
+
+-- what stands behind the number
+abbrev pub body : Message → List ℕ
+body (messages.Store client number es bs) = effects es ++ bases bs
+body (messages.Pull client number) = []
+body (messages.Accepted client number) = []
+body (messages.Stale client number p theirs ours) = path p ++ (digits w64 theirs ++ digits w64 ours)
+body (messages.Unfit client number index fault) = digits w32 index ++ tree_fault fault
+body (messages.Gap client number last) = digits w64 last
+body (messages.Snapshot client number last rs) = digits w64 last ++ rows rs
+body (messages.Full client number index fault) = digits w32 index ++ tree_fault fault
+body (messages.Malformed code offset) = code ∷ digits w32 offset
+
+-- the version of the format
+abbrev pub frame_version : ℕ
+frame_version = 1
+
+-- what follows the length: version, kind, client, number and body
+abbrev pub payload : Message → List ℕ
+payload m = frame_version ∷ code_of (kind m) ∷ client_of m ∷ digits w64 (number_of m) ++ body m
+
+-- the message's one spelling
+abbrev pub frame : Message → List ℕ
+frame m = digits w32 (length (payload m)) ++ payload m
+
+-- ---- which messages are valid
+
+-- a message has a client from 1 to 64, but for Malformed, which has none
+abbrev pub client_rule : Kind → ℕ → Bool
+client_rule Malformed client = client == 0
+client_rule _ client = nat_le 1 client && nat_le client 64
+
+-- entries are numbered from 1; a Pull may come before the first
+abbrev pub number_rule : Kind → ℕ → Bool
+number_rule Pull number = true
+number_rule Snapshot number = true
+number_rule Malformed number = number == 0
+number_rule _ number = nat_le 1 number
+
+-- an offset is told for a faulty field and for bytes that are left over
+abbrev pub offset_rule : ℕ → ℕ → Bool
+offset_rule code offset = offset == 0 || code == 5 || code == 6
+
+abbrev pub BodyFits : Message → Type 0
+BodyFits (messages.Store client number es bs) = EffectsFit es × AreBasesOf (distinct (touched_all es)) bs
+BodyFits (messages.Stale client number p theirs ours) = IsPath p × (theirs < 2 ^ 64) × (ours < 2 ^ 64) × (not (ours == theirs) ≡ true)
+BodyFits (messages.Unfit client number index fault) = (index < 2 ^ 32) × UnfitFits fault
+BodyFits (messages.Full client number index fault) = (index < 2 ^ 32) × FullFits fault
+BodyFits (messages.Gap client number last) = (last < 2 ^ 64) × (nat_le (last + 2) number ≡ true)
+BodyFits (messages.Snapshot client number last rs) = (last < 2 ^ 64) × IsTree rs
+BodyFits (messages.Malformed code offset) = (code < 2 ^ 8) × ((nat_le 1 code && nat_le code 7) ≡ true) × (offset < 2 ^ 32) × (offset_rule code offset ≡ true)
+BodyFits _ = Unit {0}
+
+-- the message keeps all rules, so that it has a frame
+pub record IsValid (m : Message) : Type 0 where
+  pub client_fits : client_rule (kind m) (client_of m) ≡ true
+  pub number_fits : number_rule (kind m) (number_of m) ≡ true
+  pub number_small : number_of m < 2 ^ 64
+  pub body_fits : BodyFits m
+
+-- the bytes are the message's frame
+abbrev pub Spells : Message → List ℕ → Type 0
+Spells m bytes = IsValid m × (bytes ≡ frame m)
+
+-- ---- which replies answer a request
+
+abbrev pub Answers : Kind → Kind → Type 0
+Answers Store Accepted = Unit {0}
+Answers Store Stale = Unit {0}
+Answers Store Unfit = Unit {0}
+Answers Store Gap = Unit {0}
+Answers Store Full = Unit {0}
+Answers Pull Snapshot = Unit {0}
+Answers _ _ = ⊥
+
+-- the kinds fit, and client and number are equal
+abbrev pub Echoes : Message → Message → Type 0
+Echoes request reply = Answers (kind request) (kind reply) × (client_of request ≡ client_of reply) × (number_of request ≡ number_of reply)

@@ -1,0 +1,48 @@
+-- Which frames are refused, and why: the refusals of a header, and what is left over.
+use Rattle.std.specs.Prelude.{◌≡◌, ◌≢◌, ◌↔◌, ℕ, ◌+◌, ◌-◌, ◌≤◌, ◌<◌, ◌++◌, false, true, List, length, take, drop, slice_index, Err}
+use Rattle.std.specs.Int.{w32}
+use Rattle.byte_fields.specs.Field.{digits}
+use Rattle.byte_fields.specs.Codec.{IsBytes}
+use Rattle.byte_fields.specs.Cuts.{start_of}
+use Rattle.wire_frames.specs.declared.message.Message.{Message}
+use Rattle.wire_frames.specs.declared.message.Kind.{Kind}
+use Rattle.wire_frames.specs.declared.message.FrameError.TheVariants.{BadLength, BadVersion, BadKind, BadClient, BadField, Trailing}
+use Rattle.wire_frames.specs.Frame.{frame_version, code_of, client_rule, frame, IsValid}
+use Rattle.wire_frames.specs.Fields.{message_fields}
+use Rattle.wire_frames.specs.Reading.{is_sized, frame_of}
+
+-- the bytes are as long as they say, and of this version
+pub record HasVersion (bytes : List ℕ) : Type 0 where
+  pub sized : is_sized bytes ≡ true
+  pub version : slice_index bytes 4 ≡ frame_version
+
+-- the length is refused exactly where the bytes are too few, too many, or not as many as they say
+abbrev pub LengthIsFirst : Type 0
+LengthIsFirst = (bytes : List ℕ) → (frame_of bytes ≡ Err BadLength) ↔ (is_sized bytes ≡ false)
+
+-- the version is refused exactly where the length stands and it is another
+abbrev pub VersionIsSecond : Type 0
+VersionIsSecond = (bytes : List ℕ) → (frame_of bytes ≡ Err BadVersion) ↔ ((is_sized bytes ≡ true) × (slice_index bytes 4 ≢ frame_version))
+
+-- the kind is refused exactly where the version stands and no kind has this code
+abbrev pub KindIsThird : Type 0
+KindIsThird = (bytes : List ℕ) → (frame_of bytes ≡ Err BadKind) ↔ (HasVersion bytes × ((kind : Kind) → code_of kind ≢ slice_index bytes 5))
+
+-- the client is refused exactly where a kind has this code and takes no such client
+abbrev pub ClientIsFourth : Type 0
+ClientIsFourth = (bytes : List ℕ) → (frame_of bytes ≡ Err BadClient)
+    ↔ (HasVersion bytes × ((kind : Kind) × (code_of kind ≡ slice_index bytes 5) × (client_rule kind (slice_index bytes 6) ≡ false)))
+
+-- a faulty field begins behind the client
+abbrev pub FieldsAreBehindTheClient : Type 0
+FieldsAreBehindTheClient = (bytes : List ℕ) (place : ℕ) → IsBytes bytes → frame_of bytes ≡ Err (BadField place) → (7 ≤ place) × (place ≤ length bytes)
+
+-- what is left over stands behind the fields of a valid message
+abbrev pub MessagesStandBeforeWhatIsLeft : Type 0
+MessagesStandBeforeWhatIsLeft = (bytes : List ℕ) (place : ℕ) → IsBytes bytes → frame_of bytes ≡ Err (Trailing place)
+    → (place < length bytes) × ((message : Message) × IsValid message × (drop 4 (frame message) ≡ drop 4 (take place bytes)))
+
+-- A valid message's frame that is cut short, and says its new length, is refused at the field in which it ends.
+abbrev pub CutFramesNameTheField : Type 0
+CutFramesNameTheField = (message : Message) (end : ℕ) → IsValid message → 15 ≤ end → end < length (frame message)
+    → frame_of (take end (digits w32 (end - 4) ++ drop 4 (frame message))) ≡ Err (BadField (7 + start_of (end - 7) (message_fields message)))

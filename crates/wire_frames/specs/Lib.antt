@@ -1,0 +1,6 @@
+pub mod Fault
+pub mod Frame
+pub mod FaultReading
+pub mod Reading
+pub mod Fields
+pub mod Laws

@@ -1,0 +1,115 @@
+-- Reading a frame: the first refusal that fits, or the message.
+use Rattle.std.specs.Prelude.{ℕ, ◌+◌, nat_le, ◌==◌, ◌&&◌, not, Bool, List, [], ◌∷◌, length, take, slice_index, Option, Some, None, Result, Ok, Err, if◌then◌else◌}
+use Rattle.std.specs.Int.{w8, w32, w64, from_be_bytes}
+use Rattle.std.specs.List.{find}
+use Rattle.byte_fields.specs.Field.{Reader, Answers, none, two, ◌>>=◌, ruled, number_at}
+use Rattle.vol_tree.specs.Effects.{touched_all, distinct}
+use Rattle.vol_tree.specs.Reading.{path_at, effects_at, bases_at, rows_at}
+use Rattle.wire_frames.specs.FaultReading.{unfit_fault_at, full_fault_at}
+use Rattle.wire_frames.specs.declared.message.Message.{Message}
+use Rattle.wire_frames.specs.declared.message.Message.TheVariants as messages
+use Rattle.wire_frames.specs.declared.message.Kind.{Kind}
+use Rattle.wire_frames.specs.declared.message.Kind.TheVariants.{Store, Pull, Accepted, Stale, Unfit, Gap, Snapshot, Full, Malformed}
+use Rattle.wire_frames.specs.declared.message.FrameError.{FrameError}
+use Rattle.wire_frames.specs.declared.message.FrameError.TheVariants.{BadLength, BadVersion, BadKind, BadClient, BadField, Trailing, Memory}
+use Rattle.wire_frames.specs.Frame.{frame_version, code_of, client_rule, number_rule, offset_rule}
+
+-- the effects, and the versions of the paths that they touch
+unfoldable pub store_at : ℕ → ℕ → Reader Message
+store_at client number bytes at = do
+  effects ← effects_at bytes at
+  base ← bases_at (distinct (touched_all effects.0)) bytes effects.1
+  Ok (messages.Store client number effects.0 base.0, base.1)
+
+-- the path, the server's version and the client's, which is another
+unfoldable pub stale_at : ℕ → ℕ → Reader Message
+stale_at client number bytes at = do
+  path ← path_at bytes at
+  theirs ← number_at w64 bytes path.1
+  ours ← ruled (λ n. not (n == theirs.0)) (number_at w64) bytes theirs.1
+  Ok (messages.Stale client number path.0 theirs.0 ours.0, ours.1)
+
+-- the index of the effect, and why it was refused for another cause than want of room
+unfoldable pub unfit_at : ℕ → ℕ → Reader Message
+unfit_at client number = two (number_at w32) (λ _. unfit_fault_at) (messages.Unfit client number)
+
+-- the client's last accepted number, and the rows
+unfoldable pub snapshot_at : ℕ → ℕ → Reader Message
+snapshot_at client number = two (number_at w64) (λ _. rows_at) (messages.Snapshot client number)
+
+-- the index of the effect, and why there was no room for it
+unfoldable pub full_at : ℕ → ℕ → Reader Message
+full_at client number = two (number_at w32) (λ _. full_fault_at) (messages.Full client number)
+
+-- the last accepted number, the one after which is below the message's
+unfoldable pub gap_at : ℕ → ℕ → Reader Message
+gap_at client number bytes at = do
+  last ← ruled (λ n. nat_le (n + 2) number) (number_at w64) bytes at
+  Ok (messages.Gap client number last.0, last.1)
+
+-- the code of the refusal, and the place that it names
+unfoldable pub malformed_at : Reader Message
+malformed_at bytes at = do
+  code ← ruled (λ n. nat_le 1 n && nat_le n 7) (number_at w8) bytes at
+  offset ← ruled (offset_rule code.0) (number_at w32) bytes code.1
+  Ok (messages.Malformed code.0 offset.0, offset.1)
+
+-- what stands behind the number, kind by kind
+abbrev pub body_at : Kind → ℕ → ℕ → Reader Message
+body_at Store client number = store_at client number
+body_at Pull client number = none (messages.Pull client number)
+body_at Accepted client number = none (messages.Accepted client number)
+body_at Stale client number = stale_at client number
+body_at Unfit client number = unfit_at client number
+body_at Full client number = full_at client number
+body_at Gap client number = gap_at client number
+body_at Snapshot client number = snapshot_at client number
+body_at Malformed client number = malformed_at
+
+-- the number and the body
+unfoldable pub message_at : Kind → ℕ → Reader Message
+message_at kind client bytes at = do
+  number ← ruled (number_rule kind) (number_at w64) bytes at
+  body_at kind client number.0 bytes number.1
+
+-- all kinds
+abbrev pub kinds : List Kind
+kinds = Store ∷ Pull ∷ Accepted ∷ Stale ∷ Unfit ∷ Gap ∷ Snapshot ∷ Full ∷ Malformed ∷ []
+
+-- the kind with this code
+abbrev pub kind_of : ℕ → Option Kind
+kind_of code = find (λ k. code_of k == code) kinds
+
+-- the message, where nothing is left over
+abbrev pub whole : List ℕ → Result (Message × ℕ) ℕ → Result Message FrameError
+whole bytes (Ok x) = if x.1 == length bytes then Ok x.0 else Err (Trailing x.1)
+whole bytes (Err place) = Err (BadField place)
+
+-- a message of this kind, behind the client's number at byte 6
+abbrev pub of_kind : Option Kind → List ℕ → Result Message FrameError
+of_kind None bytes = Err BadKind
+of_kind (Some kind) bytes =
+    let client = slice_index bytes 6 in
+    if client_rule kind client then whole bytes (message_at kind client bytes 7) else Err BadClient
+
+-- 15 bytes to 64 MiB, the first four of which count those behind them
+abbrev pub is_sized : List ℕ → Bool
+is_sized bytes =
+    nat_le 15 (length bytes) && nat_le (length bytes) 67108864 && from_be_bytes w32 (take 4 bytes) + 4 == length bytes
+
+-- the message that the bytes spell, or the first refusal: of the length, the version, the kind, the client, a field,
+-- and what is left over
+unfoldable pub frame_of : List ℕ → Result Message FrameError
+frame_of bytes =
+    if is_sized bytes then
+    (if slice_index bytes 4 == frame_version then of_kind (kind_of (slice_index bytes 5)) bytes else Err BadVersion)
+    else Err BadLength
+
+-- the refusal that an error names; want of memory is none
+abbrev pub refusal_of : FrameError → Option FrameError
+refusal_of Memory = None
+refusal_of e = Some e
+
+-- what a call returned is what the bytes come to, unless memory ran out
+abbrev pub GivesFrame : Result Message FrameError → Result Message FrameError → Type 0
+GivesFrame = Answers (λ m. m) refusal_of

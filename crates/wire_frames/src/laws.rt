@@ -1,0 +1,32 @@
+//! What holds of frames: functions that do nothing, whose contracts are laws.
+
+ghost use Rattle.std.specs.Prelude.{◌≡◌, ℕ, List, ◌++◌};
+ghost use Rattle.byte_fields.specs.Codec.{IsCodec};
+ghost use Rattle.wire_frames.specs.declared.message.Message.{Message};
+ghost use Rattle.wire_frames.specs.Fault.{tree_fault, UnfitFits, FullFits};
+ghost use Rattle.wire_frames.specs.FaultReading.{unfit_fault_at, full_fault_at};
+ghost use Rattle.wire_frames.specs.Frame.{frame, IsValid};
+ghost use Rattle.wire_frames.specs.Laws.{LengthIsFirst, VersionIsSecond, KindIsThird, ClientIsFourth, FieldsAreBehindTheClient, MessagesStandBeforeWhatIsLeft, CutFramesNameTheField};
+
+/// States that, whatever follows it, a frame is the frame of one message.
+pub fn frames_are_apart()
+    ensures { (m n : Message) (x y : List ℕ) → IsValid m → IsValid n → frame m ++ x ≡ frame n ++ y → (m ≡ n) × (x ≡ y) }
+{}
+
+/// States that each refusal that a message tells has one spelling, and each spelling one refusal.
+pub fn faults_are_spelled_once()
+    ensures unfit { IsCodec unfit_fault_at tree_fault UnfitFits }
+    ensures full { IsCodec full_fault_at tree_fault FullFits }
+{}
+
+/// States which frames are refused at their header, where a faulty field may begin, what stands before bytes that are
+/// left over, and which field is faulty where a frame is cut short.
+pub fn refusals_name_the_first_fault()
+    ensures length { LengthIsFirst }
+    ensures version { VersionIsSecond }
+    ensures kind { KindIsThird }
+    ensures client { ClientIsFourth }
+    ensures fields { FieldsAreBehindTheClient }
+    ensures trailing { MessagesStandBeforeWhatIsLeft }
+    ensures cut { CutFramesNameTheField }
+{}

@@ -1,0 +1,21 @@
+//! Messages of client and server, as frames of bytes.
+#![tactic(auto)]
+
+mod copies;
+mod faults;
+mod kind;
+mod laws;
+mod message;
+mod reading;
+mod replies;
+mod writing;
+
+pub use faults::{full_fault_at, spell_fault, unfit_fault_at};
+pub use laws::{faults_are_spelled_once, frames_are_apart, refusals_name_the_first_fault};
+pub use message::{FrameError, Kind, Message};
+pub use reading::read;
+pub use replies::echoes;
+pub use writing::write;
+
+#[cfg(test)]
+mod tests;

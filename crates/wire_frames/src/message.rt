@@ -1,0 +1,104 @@
+//! What client and server say to each other, and why a frame is refused.
+
+use thiserror::Error;
+use vol_tree::{Bases, Effects, Path, Rows, TreeError};
+
+/// A message. `Store` and `Pull` are requests of a client to the server, all others are replies. Each but `Malformed`
+/// is of one client, 1 to 64, and repeats the number of the request that it answers.
+#[derive(Debug, Drop)]
+pub enum Message {
+    /// The client's entry of this number: its effects, and the versions that they rest on.
+    Store {
+        client: u8,
+        number: u64,
+        effects: Effects,
+        base: Bases,
+    },
+    /// Asks for all rows. `number` is the last number that the client knows to be accepted.
+    Pull {
+        client: u8,
+        number: u64,
+    },
+    /// The entry is part of the volume, from this delivery or an earlier one.
+    Accepted {
+        client: u8,
+        number: u64,
+    },
+    /// The first path of the base whose version is no longer that of the server.
+    Stale {
+        client: u8,
+        number: u64,
+        path: Path,
+        /// The server's version.
+        theirs: u64,
+        /// The version in the base.
+        ours: u64,
+    },
+    /// Effect `index`, counted from 0, is refused by the volume for another cause than want of room.
+    Unfit {
+        client: u8,
+        number: u64,
+        index: u32,
+        fault: TreeError,
+    },
+    /// The number is beyond the next. `last` is the last accepted one.
+    Gap {
+        client: u8,
+        number: u64,
+        last: u64,
+    },
+    /// The volume's rows in path order, and the number of the client's last accepted entry.
+    Snapshot {
+        client: u8,
+        number: u64,
+        last: u64,
+        rows: Rows,
+    },
+    /// Effect `index`, counted from 0, is refused since the volume has no room for it.
+    Full {
+        client: u8,
+        number: u64,
+        index: u32,
+        fault: TreeError,
+    },
+    /// The bytes were no frame (codes 1 to 6, the number of the refusal), or the message was not for this node (7).
+    Malformed {
+        code: u8,
+        offset: u32,
+    },
+}
+
+/// Which message it is.
+#[derive(Clone, Copy, Debug, PartialEq, Eq)]
+pub enum Kind {
+    Store,
+    Pull,
+    Accepted,
+    Stale,
+    Unfit,
+    Gap,
+    Snapshot,
+    Full,
+    Malformed,
+}
+
+/// The first rule that the bytes of a frame break.
+#[derive(Debug, Drop, Error)]
+pub enum FrameError {
+    #[error("the frame is too short, too long, or not as long as it says")]
+    BadLength,
+    #[error("the frame has another version")]
+    BadVersion,
+    #[error("the frame is of no known kind")]
+    BadKind,
+    #[error("the frame's client number does not fit its kind")]
+    BadClient,
+    /// The place where the first faulty field begins.
+    #[error("the field at byte {0} is faulty")]
+    BadField(u32),
+    /// The place of the first byte after the last field.
+    #[error("bytes are left from byte {0} on")]
+    Trailing(u32),
+    #[error("out of memory")]
+    Memory,
+}
