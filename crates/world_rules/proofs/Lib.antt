@@ -1,0 +1,10 @@
+pub mod Asks
+pub mod Replies
+pub mod Steps
+pub mod Sending
+pub mod Client
+pub mod Events
+pub mod Runs
+pub mod Replay
+pub mod Replying
+pub mod FirstPull

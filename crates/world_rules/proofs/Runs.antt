@@ -1,0 +1,480 @@
+-- Every run of a client in its world keeps its log in step, takes the client's entries in order, and leaves what it wrote alone.
+use Rattle.std.proofs.Common.{true, ◌≡◌, ◌≢◌, inl, inr, ℕ, zero, suc, ◌+◌, ◌-◌, ◌≤◌, List, [], ◌∷◌, ◌++◌, length, take, drop, refl, sym, ◌∙◌, ap, subst, arith, append_assoc, append-nil, length-append, length-drop, length-take}
+use Rattle.std.specs.Prelude.{Bool, ◌==◌, if◌then◌else◌}
+use Rattle.std.proofs.lemmas.Bool.Decides.{nat_tests}
+use Rattle.std.proofs.lemmas.List.{length-take-le, take-append-le, drop-append-le, drop_all}
+use Rattle.std.proofs.lemmas.List.Elements.{filter-append}
+use Rattle.vol_tree.specs.Path.{FilePath}
+use Rattle.vol_tree.specs.Tree.{Volume, version_at, IsTree}
+use Rattle.vol_tree.specs.Effects.{changed_all}
+use Rattle.vol_tree.specs.Behind.{IsBehind, IsIn}
+use Rattle.vol_tree.proofs.Behind.{IsIn-left, IsIn-right, applied_all-tree, same_volume}
+use Rattle.mod_log.specs.declared.log.Entry.{Entry}
+use Rattle.mod_log.specs.Log.{Log, IsLog, AreEntriesOf, after, tree_at, acknowledged, pulled, new_log}
+use Rattle.wire_frames.specs.declared.message.Message.{Message}
+use Rattle.wire_frames.specs.declared.message.Message.TheVariants.{Store, Accepted, Snapshot}
+use Rattle.wire_frames.specs.Frame.{client_of, IsValid}
+use Rattle.world_rules.specs.declared.asking.Ask.{Ask}
+use Rattle.world_rules.specs.Served.{IsServed}
+use Rattle.world_rules.specs.World.{World, Step, Send, Deliver, Other, happens, happen, noted, Is, IsAllowed, AreAllowed, Moved}
+use Rattle.world_rules.specs.InStep.{InStep, MaySend}
+use Rattle.world_rules.specs.Run.{State, Move, Network, Notes, Logs, Acknowledges, Pulls, moved, IsPossible, AllPossible, moved_by, entry_in, entries_in, ask_in, asks_in, taken_by, taken_in_move, taken_in, own, numbered, stores_between, Spares, IsSameAt, Runs}
+use Rattle.world_rules.proofs.Asks.{kept_packet, noted-none, noted-noted}
+use Rattle.world_rules.proofs.Replies.{legal_effects}
+use Rattle.world_rules.proofs.Steps.{Agree, tree_at-acked, TakesFirst}
+use Rattle.world_rules.proofs.Client.{logged_agree, tree_at-logged, acknowledged-next, acknowledged_agree, is_next, tree_at-acknowledged, pulled_agree, IsLog-new, new_behind}
+use Rattle.world_rules.proofs.Events.{agree, in_step, steps_on, noted_in_step}
+
+-- ---- the client's moves on a log in step
+
+acknowledged_pending : (client acked : ℕ) (tree : Volume) (pending : List Entry) (last : ℕ) (volume : Volume) (packets : List Message) → pending ≢ [] → acked + 1 ≤ last
+    → Agree client (record { acked = acked; base = tree; pending = pending }) last volume packets → Agree client (acknowledged (acked + 1) (record { acked = acked; base = tree; pending = pending })) last volume packets
+acknowledged_pending client acked tree [] last volume packets some at_least now = absurd (some refl)
+acknowledged_pending client acked tree (entry ∷ entries) last volume packets some at_least now =
+    subst (λ log. Agree client log last volume packets) (sym (acknowledged-next acked tree entry entries)) (acknowledged_agree client acked tree entry entries last volume packets at_least now)
+
+-- what was accepted was taken
+pub accepted_at_most : (client : ℕ) (log : Log) (world : World) (number : ℕ) (reply : Message) → InStep client log world → reply ≡ Accepted client number → IsIn reply world.packets → number ≤ world.served.last client
+accepted_at_most client log world number reply now is among = now.fitting (Accepted client number) (subst (λ m. IsIn m world.packets) is among) refl
+
+pulled_idle : (client acked : ℕ) (tree : Volume) (pending : List Entry) (seen : Volume) (last : ℕ) (volume : Volume) (packets : List Message) (upto : ℕ) → pending ≡ [] → IsIn (Snapshot client acked upto seen) packets
+    → Agree client (record { acked = acked; base = tree; pending = pending }) last volume packets → Agree client (record { acked = acked; base = seen; pending = pending }) last volume packets
+pulled_idle client acked tree [] seen last volume packets upto none among now = pulled_agree client acked tree seen last volume packets acked upto among now
+pulled_idle client acked tree (entry ∷ entries) seen last volume packets upto none among now = absurd (cc)
+
+-- ---- moves keep in step
+
+-- a log in step gives way to another that agrees with the world
+same_world : (client : ℕ) (log next : Log) (world : World) → InStep client log world → Agree client next (world.served.last client) world.served.volume world.packets → InStep client next world
+same_world client log next world now agrees = in_step client next world now.about now.own_number now.valid now.served_is agrees
+
+pub move_keeps : (client : ℕ) (state : State) (move : Move) → InStep client state.log state.world → IsPossible client state move → InStep client (moved move state).log (moved move state).world
+move_keeps client state (Network step) now may = (steps_on client state.log state.world step now may).in_step
+move_keeps client state (Notes ask) now may = noted_in_step client state.log state.world (ask ∷ []) now
+move_keeps client state (Logs entry) now may = same_world client state.log _ state.world now (logged_agree client state.log _ _ _ (agree client state.log state.world now) entry may)
+move_keeps client state (Acknowledges reply) now may = same_world client state.log _ state.world now
+    (acknowledged_pending client state.log.acked state.log.base state.log.pending _ _ _ may.0
+    (accepted_at_most client state.log state.world (state.log.acked + 1) reply now may.1 may.2)
+    (agree client state.log state.world now))
+move_keeps client state (Pulls last seen) now may = same_world client state.log _ state.world now
+    (pulled_idle client state.log.acked state.log.base state.log.pending seen _ _ _ last may.0 may.2 (agree client state.log state.world now))
+
+pub moves_keep : (client : ℕ) (moves : List Move) (state : State) → InStep client state.log state.world → AllPossible client state moves → InStep client (moved_by moves state).log (moved_by moves state).world
+moves_keep client [] state now may = now
+moves_keep client (move ∷ moves) state now may = moves_keep client moves (moved move state) (move_keeps client state move now may.0) may.1
+
+-- ---- the taken stores of the client are its entries, in order
+
+take_next : {X : Type 0} (k : ℕ) (xs : List X) (x : X) (rest : List X) → drop k xs ≡ x ∷ rest → take (suc k) xs ≡ take k xs ++ x ∷ []
+take_next zero [] x rest e = absurd (cc)
+take_next zero (y ∷ xs) x rest e = let same : y ≡ x = cc in ap (λ z. z ∷ []) same
+take_next (suc k) [] x rest e = absurd (cc)
+take_next (suc k) (y ∷ xs) x rest e = ap (λ zs. y ∷ zs) (take_next k xs x rest e)
+
+drop_next : {X : Type 0} (k : ℕ) (xs : List X) (x : X) (rest : List X) → drop k xs ≡ x ∷ rest → drop (suc k) xs ≡ rest
+drop_next zero [] x rest e = absurd (cc)
+drop_next zero (y ∷ xs) x rest e = cc
+drop_next (suc k) [] x rest e = absurd (cc)
+drop_next (suc k) (y ∷ xs) x rest e = drop_next k xs x rest e
+
+drop_within : {X : Type 0} (k : ℕ) (xs : List X) (x : X) (rest : List X) → drop k xs ≡ x ∷ rest → suc k ≤ length xs
+drop_within zero [] x rest e = absurd (cc)
+drop_within zero (y ∷ xs) x rest e = omega arith
+drop_within (suc k) [] x rest e = absurd (cc)
+drop_within (suc k) (y ∷ xs) x rest e = omega (arith, drop_within k xs x rest e)
+
+length-numbered : (client number : ℕ) (entries : List Entry) → length (numbered client number entries) ≡ length entries
+length-numbered client number [] = refl
+length-numbered client number (entry ∷ entries) = ap suc (length-numbered client (number + 1) entries)
+
+numbered-push : (client number : ℕ) (entries : List Entry) (entry : Entry) (next : ℕ) → next ≡ number + length entries
+    → numbered client number (entries ++ entry ∷ []) ≡ numbered client number entries ++ Store client next entry.effects entry.base ∷ []
+numbered-push client number [] entry next e = let same : number ≡ next = omega arith in ap (λ n. Store client n entry.effects entry.base ∷ []) same
+numbered-push client number (first ∷ entries) entry next e = ap (λ ms. Store client number first.effects first.base ∷ ms) (numbered-push client (number + 1) entries entry next (omega arith))
+
+module _ (client acked first : ℕ) (low : acked ≤ first) where
+  stores_next : (last : ℕ) (entered rest : List Entry) (entry : Entry) → first ≤ last → drop (last - acked) entered ≡ entry ∷ rest
+      → stores_between client acked first (last + 1) entered ≡ stores_between client acked first last entered ++ Store client (last + 1) entry.effects entry.base ∷ []
+  stores_next last entered rest entry above is =
+      let count = last - acked in
+      let more : last + 1 - acked ≡ suc (last - acked) = omega arith in
+      let within = drop_within count entered entry rest is in
+      let long : length (take count entered) ≡ count = length-take-le count entered (omega arith) in
+      let taken : take (last + 1 - acked) entered ≡ take (last - acked) entered ++ entry ∷ [] = ap (λ k. take k entered) more ∙ take_next count entered entry rest is in
+      ap (λ es. drop (first - acked) (numbered client (acked + 1) es)) taken
+      ∙ ap (drop (first - acked)) (numbered-push client (acked + 1) (take count entered) entry (last + 1) (omega (arith, long)))
+      ∙ drop-append-le (first - acked) (numbered client (acked + 1) (take count entered)) _ (omega (arith, length-numbered client (acked + 1) (take count entered), long))
+
+  -- what is pending are the entries after the acknowledged one, and what was taken are those up to the last
+  record InOrder (state : State) (entered : List Entry) (taken : List Message) : Type 0 where
+    above : acked ≤ state.log.acked
+    within : state.log.acked ≤ acked + length entered
+    last_above : first ≤ state.world.served.last client
+    pending : state.log.pending ≡ drop (state.log.acked - acked) entered
+    own_taken : own client taken ≡ stores_between client acked first (state.world.served.last client) entered
+
+  taken_more : (taken news : List Message) (stores more : List Message) → own client taken ≡ stores → own client news ≡ more → own client (taken ++ news) ≡ stores ++ more
+  taken_more taken news stores more e f = filter-append (λ message. client_of message == client) taken news ∙ cc
+
+  abbrev last_of : State → ℕ
+  last_of state = state.world.served.last client
+
+  step_in_order : (state : State) (step : Step) (entered : List Entry) (taken news : List Message)
+      → TakesFirst client state.log (last_of state) (last_of (moved (Network step) state)) (own client news) → InOrder state entered taken → InOrder (moved (Network step) state) entered (taken ++ news)
+  step_in_order state step entered taken news (inl none) told = record {
+    above = told.above;
+    within = told.within;
+    last_above = omega (arith, told.last_above, none.1);
+    pending = told.pending;
+    own_taken = taken_more taken news _ [] told.own_taken none.0 ∙ append-nil _ ∙ ap (λ n. stores_between client acked first n entered) (sym none.1);
+  }
+  step_in_order state step entered taken news (inr some) told =
+      let entry = some.0 in
+      let last = last_of state in
+      let is : drop (last - acked) entered ≡ entry ∷ some.1 = ap (λ n. drop (n - acked) entered) some.3 ∙ sym told.pending ∙ some.2 in
+      let next : last_of (moved (Network step) state) ≡ last_of state + 1 = omega (arith, some.3, some.4) in
+      let number : state.log.acked + 1 ≡ last_of state + 1 = omega (arith, some.3) in
+      record {
+        above = told.above;
+        within = told.within;
+        last_above = omega (arith, told.last_above, next);
+        pending = told.pending;
+        own_taken = taken_more taken news _ _ told.own_taken (some.5 ∙ ap (λ n. Store client n entry.effects entry.base ∷ []) number)
+            ∙ sym (stores_next last entered some.1 entry told.last_above is)
+            ∙ ap (λ n. stores_between client acked first n entered) (sym next);
+      }
+
+  -- after an entry is logged the ones up to the last are the same
+  stores_same : (last : ℕ) (entered : List Entry) (entry : Entry) → last ≤ acked + length entered → stores_between client acked first last (entered ++ entry ∷ []) ≡ stores_between client acked first last entered
+  stores_same last entered entry within =
+      let short : last - acked ≤ length entered = omega arith in
+      ap (λ es. drop (first - acked) (numbered client (acked + 1) es)) (take-append-le (last - acked) entered (entry ∷ []) short)
+
+  own_nil : (taken : List Message) (stores : List Message) → own client taken ≡ stores → own client (taken ++ []) ≡ stores
+  own_nil taken stores e = ap (own client) (append-nil taken) ∙ e
+
+  logs_in_order : (state : State) (entry : Entry) (entered : List Entry) (taken : List Message) → InStep client state.log state.world → InOrder state entered taken → InOrder (moved (Logs entry) state) (entered ++ entry ∷ []) (taken ++ [])
+  logs_in_order state entry entered taken now told =
+      let long = length-append entered (entry ∷ []) in
+      let pending_long : length state.log.pending ≡ length entered - (state.log.acked - acked) = ap length told.pending ∙ length-drop (state.log.acked - acked) entered in
+      record {
+        above = told.above;
+        within = omega (arith, told.within, long);
+        last_above = told.last_above;
+        pending = ap (λ es. es ++ entry ∷ []) told.pending ∙ sym (drop-append-le (state.log.acked - acked) entered (entry ∷ []) (omega (arith, told.within, told.above)));
+        own_taken = own_nil taken _ told.own_taken ∙ sym (stores_same (last_of state) entered entry (omega (arith, now.not_higher.at_most_logged, pending_long, told.within, told.above)));
+      }
+
+  -- the acknowledged number goes up by one where an entry is pending
+  acknowledged_in_order : (world : World) (number : ℕ) (tree : Volume) (pending : List Entry) (entered : List Entry) (taken : List Message) → pending ≢ []
+      → InOrder (record { log = record { acked = number; base = tree; pending = pending }; world = world }) entered taken
+      → InOrder (record { log = acknowledged (number + 1) (record { acked = number; base = tree; pending = pending }); world = world }) entered taken
+  acknowledged_in_order world number tree [] entered taken some told = absurd (some refl)
+  acknowledged_in_order world number tree (entry ∷ entries) entered taken some told =
+      let within = drop_within (number - acked) entered entry entries (sym told.pending) in
+      let more : number + 1 - acked ≡ suc (number - acked) = omega (arith, told.above) in
+      subst (λ log. InOrder (record { log = log; world = world }) entered taken) (sym (acknowledged-next number tree entry entries))
+      (record {
+        above = omega (arith, told.above);
+        within = omega (arith, told.above, within);
+        last_above = told.last_above;
+        pending = sym (ap (λ k. drop k entered) more ∙ drop_next (number - acked) entered entry entries (sym told.pending));
+        own_taken = told.own_taken;
+      })
+
+  InOrder-nil : (state : State) (entered : List Entry) (taken : List Message) → InOrder state entered taken → InOrder state (entered ++ []) (taken ++ [])
+  InOrder-nil state entered taken told = subst (λ es. InOrder state es (taken ++ [])) (sym (append-nil entered)) (subst (λ ms. InOrder state entered ms) (sym (append-nil taken)) told)
+
+  move_in_order : (state : State) (move : Move) (entered : List Entry) (taken : List Message)
+      → InStep client state.log state.world → IsPossible client state move → InOrder state entered taken → InOrder (moved move state) (entered ++ entry_in move) (taken ++ taken_in_move move state)
+  move_in_order state (Network step) entered taken now may told =
+      let on = steps_on client state.log state.world step now may in
+      subst (λ es. InOrder (moved (Network step) state) es (taken ++ taken_by step state.world.served)) (sym (append-nil entered))
+      (step_in_order state step entered taken (taken_by step state.world.served) on.takes told)
+  move_in_order state (Notes ask) entered taken now may told =
+      InOrder-nil _ entered taken (record { above = told.above; within = told.within; last_above = told.last_above; pending = told.pending; own_taken = told.own_taken })
+  move_in_order state (Logs entry) entered taken now may told = logs_in_order state entry entered taken now told
+  move_in_order state (Acknowledges reply) entered taken now may told = InOrder-nil _ entered taken (acknowledged_in_order state.world state.log.acked state.log.base state.log.pending entered taken may.0 told)
+  move_in_order state (Pulls last seen) entered taken now may told =
+      InOrder-nil _ entered taken (record { above = told.above; within = told.within; last_above = told.last_above; pending = told.pending; own_taken = told.own_taken })
+
+  moves_in_order : (moves : List Move) (state : State) (entered : List Entry) (taken : List Message)
+      → InStep client state.log state.world → AllPossible client state moves → InOrder state entered taken → InOrder (moved_by moves state) (entered ++ entries_in moves) (taken ++ taken_in moves state)
+  moves_in_order [] state entered taken now may told = InOrder-nil state entered taken told
+  moves_in_order (move ∷ moves) state entered taken now may told =
+      let rest = moves_in_order moves (moved move state) (entered ++ entry_in move) (taken ++ taken_in_move move state) (move_keeps client state move now may.0) may.1 (move_in_order state move entered taken now may.0 told) in
+      subst (λ es. InOrder (moved_by moves (moved move state)) es (taken ++ taken_in (move ∷ moves) state)) (append_assoc entered (entry_in move) (entries_in moves))
+      (subst (λ ms. InOrder (moved_by moves (moved move state)) ((entered ++ entry_in move) ++ entries_in moves) ms) (append_assoc taken (taken_in_move move state) (taken_in moves (moved move state))) rest)
+
+-- ---- a path that no other client writes stays as the client's tree has it
+
+-- the path has one version in the served volume and in the client's tree
+abbrev pub IsSameVersion : ℕ → Log → World → FilePath → Type 0
+IsSameVersion client log world path = version_at (tree_at (world.served.last client) log) path ≡ version_at world.served.volume path
+
+acknowledged_same : (client acked : ℕ) (tree : Volume) (pending : List Entry) (last : ℕ) (volume : Volume) (packets : List Message) (path : FilePath) → pending ≢ [] → acked + 1 ≤ last
+    → Agree client (record { acked = acked; base = tree; pending = pending }) last volume packets
+    → version_at (tree_at last (record { acked = acked; base = tree; pending = pending })) path ≡ version_at volume path
+    → version_at (tree_at last (acknowledged (acked + 1) (record { acked = acked; base = tree; pending = pending }))) path ≡ version_at volume path
+acknowledged_same client acked tree [] last volume packets path some at_least now e = absurd (some refl)
+acknowledged_same client acked tree (entry ∷ entries) last volume packets path some at_least now e =
+    ap (λ log. version_at (tree_at last log) path) (acknowledged-next acked tree entry entries)
+    ∙ ap (λ t. version_at t path) (tree_at-acknowledged client acked tree entry entries last volume packets (is_next client acked tree entry entries last volume packets now at_least))
+    ∙ e
+
+pulled_same : (client : ℕ) (log : Log) (seen : Volume) (last : ℕ) (volume : Volume) (packets : List Message) (upto : ℕ) (path : FilePath) → log.pending ≡ []
+    → IsIn (Snapshot client log.acked upto seen) packets → version_at log.base path ≤ version_at seen path → Agree client log last volume packets
+    → version_at (tree_at last log) path ≡ version_at volume path → version_at (tree_at last (pulled seen log)) path ≡ version_at volume path
+pulled_same client log seen last volume packets upto path none among newer now e =
+    let fits = now.fitting (Snapshot client log.acked upto seen) among refl in
+    let is : last ≡ log.acked = omega (arith, now.not_lower, now.not_higher.at_most_logged, ap length none) in
+    let base : version_at log.base path ≡ version_at volume path = ap (λ t. version_at t path) (sym (tree_at-acked log last is)) ∙ e in
+    ap (λ t. version_at t path) (tree_at-acked (pulled seen log) last is) ∙ omega (arith, newer, base, fits.2.versions path)
+
+-- none of the stores of other clients touches the path
+abbrev pub AllSpare : ℕ → FilePath → List Message → Type 0
+AllSpare client path taken = (message : Message) → IsIn message taken → client_of message ≢ client → Spares path message
+
+move_spares : (client : ℕ) (path : FilePath) (state : State) (move : Move) → AllSpare client path (taken_in_move move state)
+    → InStep client state.log state.world → IsPossible client state move → IsSameVersion client state.log state.world path → IsSameVersion client (moved move state).log (moved move state).world path
+move_spares client path state (Network step) spare now may same = (steps_on client state.log state.world step now may).same path spare same
+move_spares client path state (Notes ask) spare now may same = same
+move_spares client path state (Logs entry) spare now may same = ap (λ t. version_at t path) (tree_at-logged client state.log _ _ _ (agree client state.log state.world now) entry) ∙ same
+move_spares client path state (Acknowledges reply) spare now may same =
+    acknowledged_same client state.log.acked state.log.base state.log.pending _ _ _ path may.0
+    (accepted_at_most client state.log state.world (state.log.acked + 1) reply now may.1 may.2) (agree client state.log state.world now) same
+move_spares client path state (Pulls last seen) spare now may same = pulled_same client state.log seen _ _ _ last path may.0 may.2 (may.3 path) (agree client state.log state.world now) same
+
+moves_spare : (client : ℕ) (path : FilePath) (moves : List Move) (state : State) → AllSpare client path (taken_in moves state)
+    → InStep client state.log state.world → AllPossible client state moves → IsSameVersion client state.log state.world path → IsSameVersion client (moved_by moves state).log (moved_by moves state).world path
+moves_spare client path [] state spare now may same = same
+moves_spare client path (move ∷ moves) state spare now may same =
+    let next = move_keeps client state move now may.0 in
+    let same_next = move_spares client path state move (λ message among. spare message (IsIn-left message _ _ among)) now may.0 same in
+    moves_spare client path moves (moved move state) (λ message among. spare message (IsIn-right message _ _ among)) next may.1 same_next
+
+-- ---- whole runs
+
+pub runs_in_step : (client : ℕ) (entries : List Entry) (made : List Ask) (old new : State) → InStep client old.log old.world → Runs client entries made old new → InStep client new.log new.world
+runs_in_step client entries made old new now runs = subst (λ s. InStep client s.log s.world) (sym runs.result) (moves_keep client runs.moves old now runs.possible)
+
+in_order_at_end : (client : ℕ) (entries : List Entry) (made : List Ask) (old new : State) (now : InStep client old.log old.world) → (runs : Runs client entries made old new)
+    → InOrder client old.log.acked (old.world.served.last client) now.not_lower new (old.log.pending ++ entries) (taken_in runs.moves old)
+in_order_at_end client entries made old new now runs =
+    let acked = old.log.acked in
+    let last = old.world.served.last client in
+    let none : acked - acked ≡ 0 = omega arith in
+    let short : length (numbered client (acked + 1) (take (last - acked) old.log.pending)) ≤ last - acked = omega (arith, length-numbered client (acked + 1) (take (last - acked) old.log.pending), length-take (last - acked) old.log.pending) in
+    let told : InOrder client old.log.acked (old.world.served.last client) now.not_lower old old.log.pending [] =
+    record {
+      above = omega arith;
+      within = omega arith;
+      last_above = omega arith;
+      pending = ap (λ k. drop k old.log.pending) (sym none);
+      own_taken = sym (drop_all _ _ short);
+    } in
+    subst (λ es. InOrder client acked last now.not_lower new (old.log.pending ++ es) (taken_in runs.moves old)) runs.entries
+    (subst (λ s. InOrder client acked last now.not_lower s (old.log.pending ++ entries_in runs.moves) (taken_in runs.moves old)) (sym runs.result)
+    (moves_in_order client acked last now.not_lower runs.moves old old.log.pending [] now runs.possible told))
+
+pub entries_in_order : (client : ℕ) (entries : List Entry) (made : List Ask) (old new : State) → InStep client old.log old.world → (runs : Runs client entries made old new)
+    → own client (taken_in runs.moves old) ≡ stores_between client old.log.acked (old.world.served.last client) (new.world.served.last client) (old.log.pending ++ entries)
+entries_in_order client entries made old new now runs = (in_order_at_end client entries made old new now runs).own_taken
+
+pub pending_later : (client : ℕ) (entries : List Entry) (made : List Ask) (old new : State) → InStep client old.log old.world → Runs client entries made old new
+    → (old.log.acked ≤ new.log.acked) × (new.log.pending ≡ drop (new.log.acked - old.log.acked) (old.log.pending ++ entries))
+pending_later client entries made old new now runs = let told = in_order_at_end client entries made old new now runs in (told.above, told.pending)
+
+pub path_is_same : (client : ℕ) (entries : List Entry) (made : List Ask) (old new : State) (path : FilePath) → InStep client old.log old.world → (runs : Runs client entries made old new)
+    → version_at old.world.served.volume path ≡ version_at (tree_at (old.world.served.last client) old.log) path → AllSpare client path (taken_in runs.moves old) → IsSameAt client new.log new.world path
+path_is_same client entries made old new path now runs e spare =
+    let same = moves_spare client path runs.moves old spare now runs.possible (sym e) in
+    let same_new = subst (λ s. IsSameVersion client s.log s.world path) (sym runs.result) same in
+    let end = runs_in_step client entries made old new now runs in
+    record { version = sym same_new; node = sym (end.behind.nodes path same_new) }
+
+-- ---- a client that writes alone
+
+-- the client's tree after some of its entries is a tree
+after-tree : (k number : ℕ) (entries : List Entry) (volume : Volume) → IsTree volume → AreEntriesOf number volume entries → IsTree (after (take k entries) volume)
+after-tree zero number entries volume tree are = tree
+after-tree (suc k) number [] volume tree are = tree
+after-tree (suc k) number (entry ∷ entries) volume tree are =
+    after-tree k (number + 1) entries (changed_all entry.effects volume) (applied_all-tree entry.effects 0 volume _ tree (legal_effects entry.effects are.0.fits.each) are.0.applies) are.1
+
+pub tree_at-tree : (number : ℕ) (log : Log) → IsLog log → IsTree (tree_at number log)
+tree_at-tree number log is = after-tree (number - log.acked) (log.acked + 1) log.pending log.base is.base_is is.entries
+
+pub lone_tree : (client : ℕ) (entries : List Entry) (made : List Ask) (old new : State) → InStep client old.log old.world → (runs : Runs client entries made old new)
+    → ((message : Message) → IsIn message (taken_in runs.moves old) → client_of message ≡ client)
+    → old.world.served.volume ≡ tree_at (old.world.served.last client) old.log → new.world.served.volume ≡ tree_at (new.world.served.last client) new.log
+lone_tree client entries made old new now runs alone same =
+    let end = runs_in_step client entries made old new now runs in
+    let at = λ (path : FilePath). path_is_same client entries made old new path now runs (ap (λ v. version_at v path) same) (λ message among differ. absurd (differ (alone message among))) in
+    sym (same_volume (tree_at (new.world.served.last client) new.log) new.world.served.volume end.behind (tree_at-tree (new.world.served.last client) new.log end.log_is) end.served_is.tree
+    (λ path. omega (arith, (at path).version)))
+
+test_is : (client : ℕ) (message : Message) → client_of message ≡ client → (client_of message == client) ≡ true
+test_is client message is = grind (arith, nat_tests)
+
+own-all : (client : ℕ) (messages : List Message) → ((message : Message) → IsIn message messages → client_of message ≡ client) → own client messages ≡ messages
+own-all client [] alone = refl
+own-all client (message ∷ messages) alone =
+    let P : Bool → Type 0 = λ b. (if b then message ∷ own client messages else own client messages) ≡ message ∷ messages in
+    subst P (sym (test_is client message (alone message (inl refl)))) (ap (λ rest. message ∷ rest) (own-all client messages (λ other among. alone other (inr among))))
+
+pub lone_entries : (client : ℕ) (entries : List Entry) (made : List Ask) (old new : State) → InStep client old.log old.world → (runs : Runs client entries made old new)
+    → ((message : Message) → IsIn message (taken_in runs.moves old) → client_of message ≡ client)
+    → taken_in runs.moves old ≡ stores_between client old.log.acked (old.world.served.last client) (new.world.served.last client) (old.log.pending ++ entries)
+lone_entries client entries made old new now runs alone = sym (own-all client (taken_in runs.moves old) alone) ∙ entries_in_order client entries made old new now runs
+
+-- ---- a new client
+
+pub new_in_step : (client : ℕ) (world : World) → world.client ≡ client → 1 ≤ client → client ≤ 64 → IsServed world.served → world.served.last client ≡ 0
+    → ((message : Message) → IsIn message world.packets → (client_of message ≢ client) × IsValid message) → InStep client new_log world
+new_in_step client world about low high served_is none_taken others = record {
+  about = about;
+  own_number = (low, high);
+  not_lower = omega arith;
+  not_higher = record { at_most_next = omega arith; at_most_logged = omega arith };
+  behind = subst (λ t. IsBehind t world.served.volume) (sym (tree_at-acked new_log (world.served.last client) none_taken)) (new_behind world.served.volume served_is.tree);
+  fitting = λ message among own. absurd ((others message among).0 own);
+  valid = λ message among. (others message among).1;
+  log_is = IsLog-new;
+  served_is = served_is;
+}
+
+-- ---- a pull
+
+-- the snapshot's last is the acknowledged number where the reply echoes the pull
+pub pulled_last : (client : ℕ) (log : Log) (world : World) (last : ℕ) (seen : Volume) → InStep client log world → log.pending ≡ [] → IsIn (Snapshot client log.acked last seen) world.packets → last ≡ log.acked
+pulled_last client log world last seen now none among =
+    let fits = now.fitting (Snapshot client log.acked last seen) among refl in
+    omega (arith, fits.0, fits.1, now.not_higher.at_most_logged, ap length none)
+
+-- ---- runs join
+
+moved_by-append : (before after : List Move) (state : State) → moved_by (before ++ after) state ≡ moved_by after (moved_by before state)
+moved_by-append [] after state = refl
+moved_by-append (move ∷ before) after state = moved_by-append before after (moved move state)
+
+AllPossible-append : (client : ℕ) (before after : List Move) (state : State) → AllPossible client state before → AllPossible client (moved_by before state) after → AllPossible client state (before ++ after)
+AllPossible-append client [] after state first second = second
+AllPossible-append client (move ∷ before) after state first second = (first.0, AllPossible-append client before after (moved move state) first.1 second)
+
+entries_in-append : (before after : List Move) → entries_in (before ++ after) ≡ entries_in before ++ entries_in after
+entries_in-append [] after = refl
+entries_in-append (move ∷ before) after = ap (λ es. entry_in move ++ es) (entries_in-append before after) ∙ sym (append_assoc (entry_in move) (entries_in before) (entries_in after))
+
+asks_in-append : (before after : List Move) → asks_in (before ++ after) ≡ asks_in before ++ asks_in after
+asks_in-append [] after = refl
+asks_in-append (move ∷ before) after = ap (λ asks. ask_in move ++ asks) (asks_in-append before after) ∙ sym (append_assoc (ask_in move) (asks_in before) (asks_in after))
+
+pub runs_none : (client : ℕ) (state : State) → Runs client [] [] state state
+runs_none client state = record { moves = []; entries = refl; asks = refl; possible = tt; result = refl }
+
+pub runs_then : (client : ℕ) (es fs : List Entry) (m n : List Ask) (old mid new : State) → Runs client es m old mid → Runs client fs n mid new → Runs client (es ++ fs) (m ++ n) old new
+runs_then client es fs m n old mid new first second = record {
+  moves = first.moves ++ second.moves;
+  entries = entries_in-append first.moves second.moves ∙ ap (λ gs. gs ++ entries_in second.moves) first.entries ∙ ap (λ gs. es ++ gs) second.entries;
+  asks = asks_in-append first.moves second.moves ∙ ap (λ asks. asks ++ asks_in second.moves) first.asks ∙ ap (λ asks. m ++ asks) second.asks;
+  possible = AllPossible-append client first.moves second.moves old first.possible (subst (λ s. AllPossible client s second.moves) first.result second.possible);
+  result = second.result ∙ ap (moved_by second.moves) first.result ∙ sym (moved_by-append first.moves second.moves old);
+}
+
+-- one possible move
+pub runs_once : (client : ℕ) (state : State) (move : Move) → IsPossible client state move → Runs client (entry_in move) (ask_in move) state (moved move state)
+runs_once client state move may = record { moves = move ∷ []; entries = append-nil (entry_in move); asks = append-nil (ask_in move); possible = (may, tt); result = refl }
+
+-- ---- what a link tells of one request that the log may send
+
+request_allowed : (client : ℕ) (log : Log) (request : Message) (world : World) (step : Step) → MaySend client log request → IsAllowed (Is request) world step → IsAllowed (MaySend client log) world step
+request_allowed client log request world (Send message) may is = subst (MaySend client log) (sym is) may
+request_allowed client log request world (Deliver message joins) may is = is
+request_allowed client log request world (Other message) may is = is
+
+steps_run : (client : ℕ) (log : Log) (request : Message) (steps : List Step) (world : World) → MaySend client log request → AreAllowed (Is request) world steps
+    → Runs client [] [] (record { log = log; world = world }) (record { log = log; world = happen steps world })
+steps_run client log request [] world may are = runs_none client (record { log = log; world = world })
+steps_run client log request (step ∷ steps) world may are =
+    runs_then client [] [] [] [] (record { log = log; world = world }) (record { log = log; world = happens step world }) (record { log = log; world = happen steps (happens step world) })
+    (runs_once client (record { log = log; world = world }) (Network step) (request_allowed client log request world step may are.0))
+    (steps_run client log request steps (happens step world) may are.1)
+
+notes_run : (client : ℕ) (log : Log) (made : List Ask) (world : World) → Runs client [] made (record { log = log; world = world }) (record { log = log; world = noted made world })
+notes_run client log [] world =
+    subst (λ w. Runs client [] [] (record { log = log; world = world }) (record { log = log; world = w })) (sym (noted-none world)) (runs_none client (record { log = log; world = world }))
+notes_run client log (ask ∷ made) world =
+    let rest = notes_run client log made (noted (ask ∷ []) world) in
+    subst (λ w. Runs client [] (ask ∷ made) (record { log = log; world = world }) (record { log = log; world = w })) (noted-noted (ask ∷ []) made world)
+    (runs_then client [] [] (ask ∷ []) made (record { log = log; world = world }) (record { log = log; world = noted (ask ∷ []) world }) (record { log = log; world = noted made (noted (ask ∷ []) world) })
+    (runs_once client (record { log = log; world = world }) (Notes ask) tt) rest)
+
+-- while a request is asked that the log may send, the world goes on by possible moves
+pub moved_runs : (client : ℕ) (log : Log) (request : Message) (made : List Ask) (old new : World) → MaySend client log request → Moved request made old new
+    → Runs client [] made (record { log = log; world = old }) (record { log = log; world = new })
+moved_runs client log request made old new may moves =
+    subst (λ w. Runs client [] made (record { log = log; world = old }) (record { log = log; world = w })) (sym moves.result)
+    (runs_then client [] [] [] made (record { log = log; world = old }) (record { log = log; world = happen moves.steps old }) (record { log = log; world = noted made (happen moves.steps old) })
+    (steps_run client log request moves.steps old may moves.allowed)
+    (notes_run client log made (happen moves.steps old)))
+
+-- ---- the world's list of taken stores grows by those of the run
+
+taken_by_step : (step : Step) (world : World) → (happens step world).taken ≡ world.taken ++ taken_by step world.served
+taken_by_step (Send message) world = sym (append-nil world.taken)
+taken_by_step (Deliver message joins) world = refl
+taken_by_step (Other message) world = sym (append-nil world.taken)
+
+taken_by_move : (move : Move) (state : State) → (moved move state).world.taken ≡ state.world.taken ++ taken_in_move move state
+taken_by_move (Network step) state = taken_by_step step state.world
+taken_by_move (Notes ask) state = sym (append-nil state.world.taken)
+taken_by_move (Logs entry) state = sym (append-nil state.world.taken)
+taken_by_move (Acknowledges reply) state = sym (append-nil state.world.taken)
+taken_by_move (Pulls last seen) state = sym (append-nil state.world.taken)
+
+taken_grows : (moves : List Move) (state : State) → (moved_by moves state).world.taken ≡ state.world.taken ++ taken_in moves state
+taken_grows [] state = sym (append-nil state.world.taken)
+taken_grows (move ∷ moves) state =
+    taken_grows moves (moved move state) ∙ ap (λ ts. ts ++ taken_in moves (moved move state)) (taken_by_move move state) ∙ append_assoc state.world.taken (taken_in_move move state) (taken_in moves (moved move state))
+
+pub run_taken : (client : ℕ) (entries : List Entry) (made : List Ask) (old new : State) → (runs : Runs client entries made old new) → new.world.taken ≡ old.world.taken ++ taken_in runs.moves old
+run_taken client entries made old new runs = ap (λ s. s.world.taken) runs.result ∙ taken_grows runs.moves old
+
+-- ---- the world's asks grow by those of the run
+
+asked_by_step : (step : Step) (world : World) → (happens step world).asks ≡ world.asks
+asked_by_step (Send message) world = refl
+asked_by_step (Deliver message joins) world = refl
+asked_by_step (Other message) world = refl
+
+asked_by_move : (move : Move) (state : State) → (moved move state).world.asks ≡ state.world.asks ++ ask_in move
+asked_by_move (Network step) state = asked_by_step step state.world ∙ sym (append-nil state.world.asks)
+asked_by_move (Notes ask) state = refl
+asked_by_move (Logs entry) state = sym (append-nil state.world.asks)
+asked_by_move (Acknowledges reply) state = sym (append-nil state.world.asks)
+asked_by_move (Pulls last seen) state = sym (append-nil state.world.asks)
+
+asks_grow : (moves : List Move) (state : State) → (moved_by moves state).world.asks ≡ state.world.asks ++ asks_in moves
+asks_grow [] state = sym (append-nil state.world.asks)
+asks_grow (move ∷ moves) state =
+    asks_grow moves (moved move state) ∙ ap (λ asks. asks ++ asks_in moves) (asked_by_move move state) ∙ append_assoc state.world.asks (ask_in move) (asks_in moves)
+
+pub run_asked : (client : ℕ) (entries : List Entry) (made : List Ask) (old new : State) → Runs client entries made old new → new.world.asks ≡ old.world.asks ++ made
+run_asked client entries made old new runs = ap (λ s. s.world.asks) runs.result ∙ asks_grow runs.moves old ∙ ap (λ asks. old.world.asks ++ asks) runs.asks
+
+-- ---- each packet stays
+
+packet_stays : (move : Move) (state : State) (message : Message) → IsIn message state.world.packets → IsIn message (moved move state).world.packets
+packet_stays (Network step) state message among = kept_packet step state.world message among
+packet_stays (Notes ask) state message among = among
+packet_stays (Logs entry) state message among = among
+packet_stays (Acknowledges reply) state message among = among
+packet_stays (Pulls last seen) state message among = among
+
+packets_stay : (moves : List Move) (state : State) (message : Message) → IsIn message state.world.packets → IsIn message (moved_by moves state).world.packets
+packets_stay [] state message among = among
+packets_stay (move ∷ moves) state message among = packets_stay moves (moved move state) message (packet_stays move state message among)
+
+pub run_packets : (client : ℕ) (entries : List Entry) (made : List Ask) (old new : State) (message : Message) → Runs client entries made old new → IsIn message old.world.packets → IsIn message new.world.packets
+run_packets client entries made old new message runs among = subst (λ s. IsIn message s.world.packets) (sym runs.result) (packets_stay runs.moves old message among)

@@ -1,0 +1,105 @@
+-- What a client may send is valid.
+use Rattle.std.proofs.Common.{◌≡◌, inl, inr, ℕ, ◌+◌, ◌≤◌, true, List, [], ◌∷◌, ◌++◌, map, refl, sym, ap, subst, arith}
+use Rattle.std.specs.Prelude.{nat_le, ◌&&◌}
+use Rattle.std.specs.List.{AllByRecursion}
+use Rattle.std.proofs.lemmas.Bool.Decides.{nat_tests}
+use Rattle.vol_tree.specs.Path.{FilePath, IsPath}
+use Rattle.vol_tree.specs.Effects.{touched_all, distinct, base_of}
+use Rattle.vol_tree.specs.Tree.{Volume, version_at, IsTree, IsLegalEffect, touched_paths}
+use Rattle.vol_tree.specs.Behind.{IsIn}
+use Rattle.vol_tree.specs.Spelling.{BaseFits, EffectsFit, AreBasesOf}
+use Rattle.vol_tree.specs.declared.tree.Effect.{Effect}
+use Rattle.vol_tree.specs.declared.tree.Effect.TheVariants.{Make, Put, Remove, Move}
+use Rattle.vol_tree.specs.declared.tree.Base.{Base}
+use Rattle.vol_tree.proofs.Distinct.{in_distinct}
+use Rattle.mod_log.specs.declared.log.Entry.{Entry}
+use Rattle.mod_log.specs.Log.{IsLog}
+use Rattle.wire_frames.specs.declared.message.Message.{Message}
+use Rattle.wire_frames.specs.declared.message.Message.TheVariants.{Store, Pull, Accepted, Stale, Unfit, Gap, Snapshot, Full, Malformed}
+use Rattle.wire_frames.specs.Frame.{IsValid}
+use Rattle.world_rules.specs.InStep.{MaySend}
+use Rattle.world_rules.proofs.Replies.{legal_effects, version-small}
+
+-- ---- the base list of legal effects
+
+all_paths : (xs ys : List FilePath) → AllByRecursion IsPath xs → AllByRecursion IsPath ys → AllByRecursion IsPath (xs ++ ys)
+all_paths [] ys all more = more
+all_paths (x ∷ xs) ys all more = (all.0, all_paths xs ys all.1 more)
+
+touched-legal : (effect : Effect) → IsLegalEffect effect → AllByRecursion IsPath (touched_paths effect)
+touched-legal (Make p) legal = (legal, tt)
+touched-legal (Put p content) legal = (legal, tt)
+touched-legal (Remove p) legal = (legal, tt)
+touched-legal (Move p q) legal = (legal.0, (legal.1, tt))
+
+touched_all-legal : (effects : List Effect) → AllByRecursion IsLegalEffect effects → AllByRecursion IsPath (touched_all effects)
+touched_all-legal [] legal = tt
+touched_all-legal (effect ∷ effects) legal = all_paths (touched_paths effect) (touched_all effects) (touched-legal effect legal.0) (touched_all-legal effects legal.1)
+
+path_of_all : (paths : List FilePath) (path : FilePath) → AllByRecursion IsPath paths → IsIn path paths → IsPath path
+path_of_all [] path all among = absurd among
+path_of_all (first ∷ paths) path all (inl is) = subst IsPath (sym is) all.0
+path_of_all (first ∷ paths) path all (inr among) = path_of_all paths path all.1 among
+
+all_of_each : (paths : List FilePath) → ((path : FilePath) → IsIn path paths → IsPath path) → AllByRecursion IsPath paths
+all_of_each [] each = tt
+all_of_each (path ∷ paths) each = (each path (inl refl), all_of_each paths (λ other among. each other (inr among)))
+
+-- the versions of these paths
+abbrev bases_at : List FilePath → Volume → List Base
+bases_at paths rows = map (λ path. record { path = path; version = version_at rows path }) paths
+
+paths_of_bases : (paths : List FilePath) (rows : Volume) → map (λ base. base.path) (bases_at paths rows) ≡ paths
+paths_of_bases [] rows = refl
+paths_of_bases (path ∷ paths) rows = ap (λ rest. path ∷ rest) (paths_of_bases paths rows)
+
+bases_fit : (paths : List FilePath) (rows : Volume) → IsTree rows → AllByRecursion IsPath paths → AllByRecursion BaseFits (bases_at paths rows)
+bases_fit [] rows tree all = tt
+bases_fit (path ∷ paths) rows tree all = ((all.0, version-small rows path tree), bases_fit paths rows tree all.1)
+
+base_of-fits : (effects : List Effect) (rows : Volume) → EffectsFit effects → IsTree rows → AreBasesOf (distinct (touched_all effects)) (base_of effects rows)
+base_of-fits effects rows fits tree =
+    let legal = touched_all-legal effects (legal_effects effects fits.each) in
+    let paths = distinct (touched_all effects) in
+    let all = all_of_each paths (λ path among. path_of_all (touched_all effects) path legal (in_distinct (touched_all effects) path among)) in
+    (paths_of_bases paths rows, bases_fit paths rows tree all)
+
+-- ---- the messages
+
+client_ok : (client : ℕ) → 1 ≤ client → client ≤ 64 → (nat_le 1 client && nat_le client 64) ≡ true
+client_ok client low high = grind (arith, nat_tests)
+
+number_ok : (number : ℕ) → 1 ≤ number → nat_le 1 number ≡ true
+number_ok number low = grind (arith, nat_tests)
+
+store_valid : (client acked : ℕ) (tree : Volume) (entry : Entry) (entries : List Entry) → 1 ≤ client → client ≤ 64 → IsLog (record { acked = acked; base = tree; pending = entry ∷ entries })
+    → IsValid (Store client (acked + 1) entry.effects entry.base)
+store_valid client acked tree entry entries low high log_is = record {
+  client_fits = client_ok client low high;
+  number_fits = number_ok (acked + 1) (omega arith);
+  number_small = omega (arith, log_is.last);
+  body_fits = (
+    log_is.entries.0.fits,
+    subst (AreBasesOf (distinct (touched_all entry.effects))) (sym log_is.entries.0.based) (base_of-fits entry.effects tree log_is.entries.0.fits log_is.base_is),
+  );
+}
+
+pub sent_valid : (client acked : ℕ) (tree : Volume) (pending : List Entry) (message : Message) → 1 ≤ client → client ≤ 64 → IsLog (record { acked = acked; base = tree; pending = pending })
+    → MaySend client (record { acked = acked; base = tree; pending = pending }) message → IsValid message
+sent_valid client acked tree [] (Store of number effects base) low high log_is may = absurd may.2
+sent_valid client acked tree (entry ∷ entries) (Store of number effects base) low high log_is may =
+    let same : Store client (acked + 1) entry.effects entry.base ≡ Store of number effects base = λ i. Store (sym may.0 i) (sym may.1 i) (sym may.2.0 i) (sym may.2.1 i) in
+    subst IsValid same (store_valid client acked tree entry entries low high log_is)
+sent_valid client acked tree pending (Pull of number) low high log_is may = record {
+  client_fits = subst (λ c. (nat_le 1 c && nat_le c 64) ≡ true) (sym may.0) (client_ok client low high);
+  number_fits = refl;
+  number_small = omega (arith, may.1, log_is.last);
+  body_fits = tt;
+}
+sent_valid client acked tree pending (Accepted of number) low high log_is may = absurd may
+sent_valid client acked tree pending (Stale of number path theirs ours) low high log_is may = absurd may
+sent_valid client acked tree pending (Unfit of number index cause) low high log_is may = absurd may
+sent_valid client acked tree pending (Gap of number last) low high log_is may = absurd may
+sent_valid client acked tree pending (Snapshot of number upto seen) low high log_is may = absurd may
+sent_valid client acked tree pending (Full of number index cause) low high log_is may = absurd may
+sent_valid client acked tree pending (Malformed code offset) low high log_is may = absurd may

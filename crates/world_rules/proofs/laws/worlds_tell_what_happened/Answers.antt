@@ -1,0 +1,15 @@
+use Rattle.world_rules.proofs.Replay.{steps_replayed}
+use Rattle.world_rules.proofs.Runs.{run_taken, run_asked, run_packets}
+use Rattle.world_rules.proofs.laws.worlds_tell_what_happened.Goals as goal
+
+pub returns-clause-served : goal.returns-clause-served
+returns-clause-served c = steps_replayed
+
+pub returns-clause-taken : goal.returns-clause-taken
+returns-clause-taken c = run_taken
+
+pub returns-clause-asked : goal.returns-clause-asked
+returns-clause-asked c = run_asked
+
+pub returns-clause-sent : goal.returns-clause-sent
+returns-clause-sent c = run_packets

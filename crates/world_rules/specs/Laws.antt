@@ -1,0 +1,122 @@
+-- What holds of every run of a client in its world.
+use Rattle.std.specs.Prelude.{◌≡◌, ◌≢◌, ℕ, ◌+◌, ◌-◌, ◌<◌, ◌≤◌, List, [], ◌++◌, drop}
+use Rattle.vol_tree.specs.Path.{FilePath}
+use Rattle.vol_tree.specs.Tree.{Volume, version_at}
+use Rattle.vol_tree.specs.Behind.{IsIn, IsAhead}
+use Rattle.mod_log.specs.declared.log.Entry.{Entry}
+use Rattle.mod_log.specs.Log.{Log, tree_at, new_log}
+use Rattle.wire_frames.specs.declared.message.Message.{Message}
+use Rattle.wire_frames.specs.declared.message.Message.TheVariants.{Pull, Accepted, Stale, Gap, Snapshot}
+use Rattle.wire_frames.specs.Frame.{client_of, IsValid}
+use Rattle.world_rules.specs.declared.asking.Ask.{Ask}
+use Rattle.world_rules.specs.Served.{IsServed}
+use Rattle.world_rules.specs.World.{World, Step, happen, IsReplayed, Moved, IsFresh}
+use Rattle.world_rules.specs.InStep.{InStep, MaySend, IsRefusal}
+use Rattle.world_rules.specs.Run.{State, Runs, taken_in, own, stores_between, Spares, IsSameAt}
+
+-- ---- in step
+
+-- Every run from a log in step ends in step.
+abbrev pub RunsStayInStep : Type 0
+RunsStayInStep = (client : ℕ) (entries : List Entry) (made : List Ask) (old new : State) → InStep client old.log old.world → Runs client entries made old new
+    → InStep client new.log new.world
+
+-- A new client is in step with each served state that took nothing of it, where no message of it was sent.
+abbrev pub NewClientsAreInStep : Type 0
+NewClientsAreInStep = (client : ℕ) (world : World) → world.client ≡ client → 1 ≤ client → client ≤ 64 → IsServed world.served → world.served.last client ≡ 0
+    → ((message : Message) → IsIn message world.packets → (client_of message ≢ client) × IsValid message)
+    → InStep client new_log world
+
+-- While a request is asked that the log may send, the world goes on by possible moves, in which the asks are noted.
+abbrev pub AsksArePossible : Type 0
+AsksArePossible = (client : ℕ) (log : Log) (request : Message) (made : List Ask) (old new : World) → MaySend client log request → Moved request made old new
+    → Runs client [] made (record { log = log; world = old }) (record { log = log; world = new })
+
+-- ---- entries
+
+-- The client's stores that are taken in a run are its entries after the last taken one, in order and each once.
+abbrev pub EntriesAreTakenOnce : Type 0
+EntriesAreTakenOnce = (client : ℕ) (entries : List Entry) (made : List Ask) (old new : State) → InStep client old.log old.world → (runs : Runs client entries made old new)
+    → own client (taken_in runs.moves old)
+    ≡ stores_between client old.log.acked (old.world.served.last client) (new.world.served.last client) (old.log.pending ++ entries)
+
+-- The acknowledged number only grows, and pending are, of the entries that were pending or logged, those after it.
+abbrev pub LaterEntriesArePending : Type 0
+LaterEntriesArePending = (client : ℕ) (entries : List Entry) (made : List Ask) (old new : State) → InStep client old.log old.world → Runs client entries made old new
+    → (old.log.acked ≤ new.log.acked) × (new.log.pending ≡ drop (new.log.acked - old.log.acked) (old.log.pending ++ entries))
+
+-- Where only the client's own stores are taken, what is taken are its entries after the last taken one, in order and each once.
+abbrev pub LoneClientsEntriesAreTaken : Type 0
+LoneClientsEntriesAreTaken = (client : ℕ) (entries : List Entry) (made : List Ask) (old new : State) → InStep client old.log old.world → (runs : Runs client entries made old new)
+    → ((message : Message) → IsIn message (taken_in runs.moves old) → client_of message ≡ client)
+    → taken_in runs.moves old ≡ stores_between client old.log.acked (old.world.served.last client) (new.world.served.last client) (old.log.pending ++ entries)
+
+-- ---- what the client wrote
+
+-- A path whose version was the client's, and that no other client's taken store touches, has at the end what the client's
+-- tree had after the entries that were taken.
+abbrev pub SparedPathsAreTheClients : Type 0
+SparedPathsAreTheClients = (client : ℕ) (entries : List Entry) (made : List Ask) (old new : State) (path : FilePath) → InStep client old.log old.world
+    → (runs : Runs client entries made old new)
+    → version_at old.world.served.volume path ≡ version_at (tree_at (old.world.served.last client) old.log) path
+    → ((message : Message) → IsIn message (taken_in runs.moves old) → client_of message ≢ client → Spares path message)
+    → IsSameAt client new.log new.world path
+
+-- Where only the client's own stores are taken in a run, and it begins with the client's tree served, it ends with the
+-- client's tree after the entries that were taken.
+abbrev pub LoneClientsAreServedTheirTree : Type 0
+LoneClientsAreServedTheirTree = (client : ℕ) (entries : List Entry) (made : List Ask) (old new : State) → InStep client old.log old.world → (runs : Runs client entries made old new)
+    → ((message : Message) → IsIn message (taken_in runs.moves old) → client_of message ≡ client)
+    → old.world.served.volume ≡ tree_at (old.world.served.last client) old.log
+    → new.world.served.volume ≡ tree_at (new.world.served.last client) new.log
+
+-- ---- what a world tells
+
+-- The served state is the opening one after the taken stores.
+abbrev pub ServedIsReplayed : Type 0
+ServedIsReplayed = (steps : List Step) (world : World) → IsReplayed world → IsReplayed (happen steps world)
+
+-- What a world took in a run is what it had taken before, and what is taken in the run.
+abbrev pub RunsTellWhatIsTaken : Type 0
+RunsTellWhatIsTaken = (client : ℕ) (entries : List Entry) (made : List Ask) (old new : State) → (runs : Runs client entries made old new)
+    → new.world.taken ≡ old.world.taken ++ taken_in runs.moves old
+
+-- What was asked in a world is what had been asked before, and what is asked in the run.
+abbrev pub RunsTellWhatIsAsked : Type 0
+RunsTellWhatIsAsked = (client : ℕ) (entries : List Entry) (made : List Ask) (old new : State) → Runs client entries made old new → new.world.asks ≡ old.world.asks ++ made
+
+-- What was ever sent stays among the packets.
+abbrev pub PacketsStay : Type 0
+PacketsStay = (client : ℕ) (entries : List Entry) (made : List Ask) (old new : State) (message : Message) → Runs client entries made old new
+    → IsIn message old.world.packets → IsIn message new.world.packets
+
+-- ---- what replies tell
+
+-- What was accepted was taken.
+abbrev pub AcceptedEntriesWereTaken : Type 0
+AcceptedEntriesWereTaken = (client : ℕ) (log : Log) (world : World) (number : ℕ) → InStep client log world → IsIn (Accepted client number) world.packets → number ≤ world.served.last client
+
+-- A reply never says that a number of the client was left out.
+abbrev pub NoGapComes : Type 0
+NoGapComes = (client : ℕ) (log : Log) (world : World) (number last : ℕ) → InStep client log world → IsIn (Gap client number last) world.packets → ⊥
+
+-- Where the first pending entry is stale, the path that the reply names has a newer version at the server than in the
+-- client's tree after the last taken entry.
+abbrev pub StaleNamesAPathAhead : Type 0
+StaleNamesAPathAhead = (client : ℕ) (log : Log) (world : World) (path : FilePath) (theirs ours : ℕ) → InStep client log world
+    → IsIn (Stale client (log.acked + 1) path theirs ours) world.packets → version_at (tree_at (world.served.last client) log) path < version_at world.served.volume path
+
+-- Where the first pending entry is refused, some path has.
+abbrev pub RefusalsShowAPathAhead : Type 0
+RefusalsShowAPathAhead = (client : ℕ) (log : Log) (world : World) (reply : Message) → InStep client log world → IsRefusal client (log.acked + 1) reply → IsIn reply world.packets
+    → IsAhead world.served.volume (tree_at (world.served.last client) log)
+
+-- Where nothing is pending, a snapshot that echoes the client's pull has the acknowledged number as its last.
+abbrev pub PullsFindTheirNumber : Type 0
+PullsFindTheirNumber = (client : ℕ) (log : Log) (world : World) (last : ℕ) (seen : Volume) → InStep client log world → log.pending ≡ []
+    → IsIn (Snapshot client log.acked last seen) world.packets → last ≡ log.acked
+
+-- A snapshot that the server gave during a pull is at no path older than the client's base.
+abbrev pub FreshPullsAreNotOlder : Type 0
+FreshPullsAreNotOlder = (client : ℕ) (log : Log) (made : List Ask) (old new : World) (last : ℕ) (seen : Volume) (path : FilePath) → InStep client log old → log.pending ≡ []
+    → IsFresh (Pull client log.acked) (Snapshot client log.acked last seen) made old new → version_at log.base path ≤ version_at seen path

@@ -1,0 +1,128 @@
+-- A client and the world as both go on: what the network does, and what the client does to its log.
+use Rattle.std.specs.Prelude.{◌≡◌, ◌≢◌, ℕ, ◌+◌, ◌-◌, ◌==◌, ◌≤◌, List, [], ◌∷◌, ◌++◌, take, drop, filter}
+use Rattle.vol_tree.specs.Path.{FilePath}
+use Rattle.vol_tree.specs.Effects.{touched_all}
+use Rattle.vol_tree.specs.Tree.{Volume, version_at, node_at}
+use Rattle.vol_tree.specs.Behind.{IsIn}
+use Rattle.mod_log.specs.declared.log.Entry.{Entry}
+use Rattle.mod_log.specs.Log.{Log, tree_at, IsLog, logged, acknowledged, pulled}
+use Rattle.wire_frames.specs.declared.message.Message.{Message}
+use Rattle.wire_frames.specs.declared.message.Message.TheVariants.{Store, Accepted, Snapshot}
+use Rattle.wire_frames.specs.Frame.{client_of}
+use Rattle.world_rules.specs.Served.{Served, taken_of}
+use Rattle.world_rules.specs.World.{World, Step, Deliver, happens, noted, IsAllowed}
+use Rattle.world_rules.specs.declared.asking.Ask.{Ask}
+use Rattle.world_rules.specs.InStep.{MaySend}
+
+-- The client's log, and the world. A log that is kept outside memory becomes a further field, and keeping it a further move.
+pub record State : Type 0 where
+  pub log : Log
+  pub world : World
+
+-- What may come next for a client in its world.
+pub data Move : Type 0 where
+  -- a step of the world
+  Network : Step → Move
+  -- an ask is noted
+  Notes : Ask → Move
+  -- the client logs an entry
+  Logs : Entry → Move
+  -- the client acknowledges its first pending entry on this reply
+  Acknowledges : Message → Move
+  -- the client takes these rows of a snapshot as its base
+  Pulls : ℕ → Volume → Move
+
+-- the state after a move
+abbrev pub moved : Move → State → State
+moved (Network step) state = record { log = state.log; world = happens step state.world }
+moved (Notes ask) state = record { log = state.log; world = noted (ask ∷ []) state.world }
+moved (Logs entry) state = record { log = logged entry state.log; world = state.world }
+moved (Acknowledges reply) state = record { log = acknowledged (state.log.acked + 1) state.log; world = state.world }
+moved (Pulls last seen) state = record { log = pulled seen state.log; world = state.world }
+
+-- The client sends what its log may send, logs an entry with which it has a log, acknowledges on a reply that was sent, and
+-- pulls a snapshot that was sent, has its acknowledged number as the last and is at no path older than its base.
+abbrev pub IsPossible : ℕ → State → Move → Type 0
+IsPossible client state (Network step) = IsAllowed (MaySend client state.log) state.world step
+IsPossible client state (Notes ask) = Unit {0}
+IsPossible client state (Logs entry) = IsLog (logged entry state.log)
+IsPossible client state (Acknowledges reply) = (state.log.pending ≢ []) × (reply ≡ Accepted client (state.log.acked + 1)) × IsIn reply state.world.packets
+IsPossible client state (Pulls last seen) =
+    (state.log.pending ≡ []) × (last ≡ state.log.acked) × IsIn (Snapshot client state.log.acked last seen) state.world.packets
+    × ((path : FilePath) → version_at state.log.base path ≤ version_at seen path)
+
+-- each move is possible after those before it
+abbrev pub AllPossible : ℕ → State → List Move → Type 0
+AllPossible client state [] = Unit {0}
+AllPossible client state (move ∷ moves) = IsPossible client state move × AllPossible client (moved move state) moves
+
+-- the state after these moves, one after the other
+abbrev pub moved_by : List Move → State → State
+moved_by [] state = state
+moved_by (move ∷ moves) state = moved_by moves (moved move state)
+
+-- the entry that a move logs
+abbrev pub entry_in : Move → List Entry
+entry_in (Logs entry) = entry ∷ []
+entry_in _ = []
+
+-- the entries that the moves log, in order
+abbrev pub entries_in : List Move → List Entry
+entries_in [] = []
+entries_in (move ∷ moves) = entry_in move ++ entries_in moves
+
+-- the ask that a move notes
+abbrev pub ask_in : Move → List Ask
+ask_in (Notes ask) = ask ∷ []
+ask_in _ = []
+
+-- the asks that the moves note, in order
+abbrev pub asks_in : List Move → List Ask
+asks_in [] = []
+asks_in (move ∷ moves) = ask_in move ++ asks_in moves
+
+-- the store that the server takes in a step
+abbrev pub taken_by : Step → Served → List Message
+taken_by (Deliver message joins) served = taken_of message served
+taken_by _ served = []
+
+-- the store that the server takes in a move
+abbrev pub taken_in_move : Move → State → List Message
+taken_in_move (Network step) state = taken_by step state.world.served
+taken_in_move _ state = []
+
+-- the stores that the server takes in the moves, in order
+abbrev pub taken_in : List Move → State → List Message
+taken_in [] state = []
+taken_in (move ∷ moves) state = taken_in_move move state ++ taken_in moves (moved move state)
+
+-- the messages of one client
+abbrev pub own : ℕ → List Message → List Message
+own client messages = filter (λ message. client_of message == client) messages
+
+-- the entries as stores, numbered on from the first number
+abbrev pub numbered : ℕ → ℕ → List Entry → List Message
+numbered client number [] = []
+numbered client number (entry ∷ entries) = Store client number entry.effects entry.base ∷ numbered client (number + 1) entries
+
+-- of the entries after `acked`, the stores of those above one number and up to another
+abbrev pub stores_between : ℕ → ℕ → ℕ → ℕ → List Entry → List Message
+stores_between client acked above upto entries = drop (above - acked) (numbered client (acked + 1) (take (upto - acked) entries))
+
+-- the message touches no such path
+abbrev pub Spares : FilePath → Message → Type 0
+Spares path (Store of number effects base) = IsIn path (touched_all effects) → ⊥
+Spares path message = Unit {0}
+
+-- The served volume has at the path what the client's tree had after the entries that were taken.
+pub record IsSameAt (client : ℕ) (log : Log) (world : World) (path : FilePath) : Type 0 where
+  pub version : version_at world.served.volume path ≡ version_at (tree_at (world.served.last client) log) path
+  pub node : node_at world.served.volume path ≡ node_at (tree_at (world.served.last client) log) path
+
+-- The state went on by possible moves, in which these entries were logged and these asks were made.
+pub record Runs (client : ℕ) (logged_entries : List Entry) (made : List Ask) (old new : State) : Type 0 where
+  pub moves : List Move
+  pub entries : entries_in moves ≡ logged_entries
+  pub asks : asks_in moves ≡ made
+  pub possible : AllPossible client old moves
+  pub result : new ≡ moved_by moves old

@@ -1,0 +1,42 @@
+// What holds of every run of a client in its world, as contracts of calls that do nothing.
+ghost use Rattle.world_rules.specs.Laws.{RunsStayInStep, NewClientsAreInStep, AsksArePossible, EntriesAreTakenOnce, LaterEntriesArePending, LoneClientsEntriesAreTaken, SparedPathsAreTheClients, LoneClientsAreServedTheirTree, ServedIsReplayed, RunsTellWhatIsTaken, RunsTellWhatIsAsked, PacketsStay, AcceptedEntriesWereTaken, NoGapComes, StaleNamesAPathAhead, RefusalsShowAPathAhead, PullsFindTheirNumber, FreshPullsAreNotOlder};
+
+/// Every run from a log in step ends in step, a new client begins in step, and asking is a run.
+pub fn runs_stay_in_step()
+    ensures runs { RunsStayInStep }
+    ensures beginning { NewClientsAreInStep }
+    ensures asking { AsksArePossible }
+{}
+
+/// The server takes the client's entries in order, each once, and those that are not acknowledged are
+/// pending.
+pub fn entries_are_taken_once()
+    ensures order { EntriesAreTakenOnce }
+    ensures pending { LaterEntriesArePending }
+    ensures alone { LoneClientsEntriesAreTaken }
+{}
+
+/// Where no other client writes, the server has what the client's tree had.
+pub fn unshared_paths_are_the_clients()
+    ensures spared { SparedPathsAreTheClients }
+    ensures alone { LoneClientsAreServedTheirTree }
+{}
+
+/// A world tells what was taken, asked and sent in a run, and what is served follows from it.
+pub fn worlds_tell_what_happened()
+    ensures served { ServedIsReplayed }
+    ensures taken { RunsTellWhatIsTaken }
+    ensures asked { RunsTellWhatIsAsked }
+    ensures sent { PacketsStay }
+{}
+
+/// What a reply tells a client in step is so: what was accepted was taken, what was refused met a newer
+/// version, and a pull finds the client's own number and, where it is fresh, nothing older.
+pub fn replies_are_true()
+    ensures accepted { AcceptedEntriesWereTaken }
+    ensures gap { NoGapComes }
+    ensures stale { StaleNamesAPathAhead }
+    ensures refused { RefusalsShowAPathAhead }
+    ensures number { PullsFindTheirNumber }
+    ensures fresh { FreshPullsAreNotOlder }
+{}
