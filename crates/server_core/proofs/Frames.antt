@@ -1,0 +1,53 @@
+-- Replies in frames.
+use Rattle.std.proofs.Common.{◌≡◌, ◌∙◌, ℕ, false, [], ◌∷◌, Result, Ok, Err, ap, refl, arith}
+use Rattle.wire_frames.specs.Frame.{IsValid, frame}
+use Rattle.wire_frames.proofs.Frames.{frame_found, frame_again}
+use Rattle.wire_frames.specs.declared.message.Message.{Message}
+use Rattle.wire_frames.specs.declared.message.Message.TheVariants.{Store, Pull, Accepted, Malformed}
+use Rattle.world_rules.specs.Served.{Served, IsServed, refusal, answer, state_after, replay}
+use Rattle.world_rules.proofs.Replies.{answer-valid}
+use Rattle.server_core.specs.Holding.{is_acceptance}
+use Rattle.wire_frames.specs.declared.message.FrameError.{FrameError}
+use Rattle.wire_frames.specs.Reading.{frame_of}
+use Rattle.std.specs.List.{cons_option}
+use Rattle.std.specs.Result.{result_ok}
+use Rattle.server_core.specs.Framing.{code_of, offset_of, answer_to, state_with, frames_after, messages_of}
+use Rattle.server_core.specs.Laws.{FramesAreAnswered, OtherBytesAreMalformed, FramesActAsTheirMessages}
+
+not_for_server : (s : Served) → IsValid (Malformed 7 0)
+not_for_server s = record { client_fits = refl; number_fits = refl; number_small = omega arith; body_fits = (omega arith, refl, omega arith, refl) }
+
+-- the answer to a valid message is valid
+pub answer-is-valid : (m : Message) (s : Served) → IsValid m → IsServed s → IsValid (answer m s)
+answer-is-valid (Store client number effects base) s valid served = answer-valid (Store client number effects base) s valid served tt
+answer-is-valid (Pull client number) s valid served = answer-valid (Pull client number) s valid served tt
+answer-is-valid _ s valid served = not_for_server s
+
+-- what is no Accepted is no acceptance
+pub no_acceptance : (m : Message) → ((client number : ℕ) → m ≡ Accepted client number → ⊥) → is_acceptance m ≡ false
+no_acceptance (Accepted client number) apart = absurd (apart client number refl)
+no_acceptance _ apart = refl
+
+-- ---- frames
+
+pub frames_are_answered : FramesAreAnswered
+frames_are_answered m bytes s spells =
+    let e : frame_of bytes ≡ Ok m = ap frame_of spells.1 ∙ frame_again m spells.0 in
+    (λ i. frame (answer_to (e i) s), λ i. state_with (e i) s)
+
+pub others_are_malformed : OtherBytesAreMalformed
+others_are_malformed bytes s are_bytes none = by (frame_of bytes) refl
+  where
+    by : (read : Result Message FrameError) → frame_of bytes ≡ read
+        → (refusal : FrameError) × (frame_of bytes ≡ Err refusal) × (frame (answer_to (frame_of bytes) s) ≡ frame (Malformed (code_of refusal) (offset_of refusal))) × (state_with (frame_of bytes) s ≡ s)
+    by (Ok m) e = absurd (none m (frame_found bytes m are_bytes e))
+    by (Err refusal) e = (refusal, e, λ i. frame (answer_to (e i) s), λ i. state_with (e i) s)
+
+pub frames_replay : FramesActAsTheirMessages
+frames_replay [] s = refl
+frames_replay (bytes ∷ frames) s = by (frame_of bytes) (frames_replay frames)
+  where
+    by : (read : Result Message FrameError) → ((t : Served) → frames_after frames t ≡ replay (messages_of frames) t)
+        → frames_after frames (state_with read s) ≡ replay (cons_option (result_ok read) (messages_of frames)) s
+    by (Ok message) rest = rest (state_after message s)
+    by (Err refusal) rest = rest s

@@ -1,0 +1,61 @@
+-- The numbers that a server counts: their view, and what raising one of them does to it.
+use Rattle.std.proofs.Common.{◌≡◌, ℕ, zero, suc, ◌-◌, ◌≤◌, Bool, true, false, List, [], length, get_or, set, replicate, refl, sym, subst, arith, eqb-true}
+use Rattle.std.specs.Prelude.{◌==◌, nat_lt, if◌then◌else◌}
+use Rattle.std.proofs.lemmas.Bool.{eqb-false, ltb-true}
+use Rattle.std.proofs.lemmas.Bool.Decides.{nat_tests}
+use Rattle.std.proofs.lemmas.List.{get_or-set_same, get_or-set_other, get_or-replicate, get_or_past, length-replicate}
+use Rattle.vol_tree.specs.Tree.{Volume}
+use Rattle.vol_tree.proofs.Behind.{IsTree-empty}
+use Rattle.world_rules.specs.Served.{IsServed, new_served, with_last}
+use Rattle.server_core.specs.Holding.{number_of, served}
+
+-- ---- raising a number
+
+raised_at : (last : List ℕ) (client number other : ℕ) (b : Bool) → 1 ≤ client → client ≤ length last → (other == client) ≡ b
+    → number_of (set last (client - 1) number) other ≡ (if b then number else number_of last other)
+raised_at last client number zero true low high e = let same : 0 ≡ client = eqb-true 0 client e in absurd (omega arith)
+raised_at last client number zero false low high e = refl
+raised_at last client number (suc k) true low high e =
+    let same : suc k ≡ client = eqb-true (suc k) client e in
+    let at : client - 1 ≡ k = omega arith in
+    rw at (get_or-set_same last k number 0 (omega arith))
+raised_at last client number (suc k) false low high e =
+    let other = eqb-false (suc k) client e in
+    get_or-set_other last (client - 1) k number 0 (λ (same : k ≡ client - 1). other (omega arith))
+
+-- raising one number in the list raises that client's number
+pub number_of-set : (last : List ℕ) (client number : ℕ) → 1 ≤ client → client ≤ length last → number_of (set last (client - 1) number) ≡ with_last (number_of last) client number
+number_of-set last client number low high = λ i. λ other. raised_at last client number other (other == client) low high refl i
+
+pub served-raised : (rows : Volume) (last : List ℕ) (client number : ℕ) → 1 ≤ client → client ≤ length last
+    → served (record { rows = rows; last = set last (client - 1) number }) ≡ record { volume = rows; last = with_last (number_of last) client number }
+served-raised rows last client number low high = let same = number_of-set last client number low high in λ i. record { volume = rows; last = same i }
+
+-- ---- a new server
+
+not_below : (k count : ℕ) → nat_lt k count ≡ false → count ≤ k
+not_below k count e = grind (arith, nat_tests)
+
+abbrev zeros : ℕ → List ℕ
+zeros count = replicate count 0
+
+-- a list of zeros has 0 at every place, and past its end
+get_or-zeros : (count k : ℕ) → get_or (zeros count) k 0 ≡ 0
+get_or-zeros count k = by (nat_lt k count) refl
+  where
+    by : (b : Bool) → nat_lt k count ≡ b → get_or (zeros count) k 0 ≡ 0
+    by true e = get_or-replicate count k 0 0 (ltb-true k count e)
+    by false e = let past : length (zeros count) ≤ k = rw length-replicate (not_below k count e) in get_or_past (replicate count 0) k 0 past
+
+number_of-zeros : (count client : ℕ) → number_of (replicate count 0) client ≡ 0
+number_of-zeros count zero = refl
+number_of-zeros count (suc k) = get_or-zeros count k
+
+pub served-new : served (record { rows = []; last = replicate 64 0 }) ≡ new_served
+served-new = λ i. record { volume = []; last = λ client. number_of-zeros 64 client i }
+
+new_served-legal : IsServed new_served
+new_served-legal = record { tree = IsTree-empty; small = λ client. omega arith; of_none = refl; of_no_others = λ client above. refl }
+
+pub new-legal : IsServed (served (record { rows = []; last = replicate 64 0 }))
+new-legal = subst IsServed (sym served-new) new_served-legal

@@ -1,0 +1,5 @@
+use Rattle.server_core.proofs.Frames.{frames_are_answered, others_are_malformed}
+use Rattle.server_core.proofs.laws.frames_are_answered.Goals as goal
+
+pub returns : goal.returns
+returns c = record { spelled = frames_are_answered; others = others_are_malformed }

@@ -1,0 +1,54 @@
+-- How a server answers frames.
+use Rattle.std.specs.Prelude.{ℕ, List, [], ◌∷◌, Result, Ok, Err}
+use Rattle.std.specs.List.{filter_map}
+use Rattle.std.specs.Result.{result_ok}
+use Rattle.wire_frames.specs.declared.message.Message.{Message}
+use Rattle.wire_frames.specs.declared.message.Message.TheVariants.{Malformed}
+use Rattle.wire_frames.specs.declared.message.FrameError.{FrameError}
+use Rattle.wire_frames.specs.declared.message.FrameError.TheVariants.{BadLength, BadVersion, BadKind, BadClient, BadField, Trailing, Memory}
+use Rattle.wire_frames.specs.Frame.{frame}
+use Rattle.wire_frames.specs.Reading.{frame_of}
+use Rattle.world_rules.specs.Served.{Served, answer, state_after}
+
+-- the number that tells a refusal; want of memory is never told
+abbrev pub code_of : FrameError → ℕ
+code_of BadLength = 1
+code_of BadVersion = 2
+code_of BadKind = 3
+code_of BadClient = 4
+code_of (BadField offset) = 5
+code_of (Trailing offset) = 6
+code_of Memory = 0
+
+-- the place that a refusal tells
+abbrev pub offset_of : FrameError → ℕ
+offset_of (BadField offset) = offset
+offset_of (Trailing offset) = offset
+offset_of _ = 0
+
+-- what is answered to bytes that were read, or refused
+abbrev pub answer_to : Result Message FrameError → Served → Message
+answer_to (Ok message) served = answer message served
+answer_to (Err refusal) served = Malformed (code_of refusal) (offset_of refusal)
+
+-- what is held then
+abbrev pub state_with : Result Message FrameError → Served → Served
+state_with (Ok message) served = state_after message served
+state_with (Err refusal) served = served
+
+-- the frame that answers a frame
+abbrev pub frame_answer : List ℕ → Served → List ℕ
+frame_answer bytes served = frame (answer_to (frame_of bytes) served)
+
+-- the served state after a frame
+abbrev pub frame_after : List ℕ → Served → Served
+frame_after bytes served = state_with (frame_of bytes) served
+
+-- the served state after these frames, one after the other
+abbrev pub frames_after : List (List ℕ) → Served → Served
+frames_after [] served = served
+frames_after (bytes ∷ frames) served = frames_after frames (frame_after bytes served)
+
+-- the messages that the frames spell, without the bytes that are refused
+abbrev pub messages_of : List (List ℕ) → List Message
+messages_of frames = filter_map (λ bytes. result_ok (frame_of bytes)) frames

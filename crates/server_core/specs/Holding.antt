@@ -1,0 +1,24 @@
+-- What a server keeps: its rows, and the numbers that it counts for its clients.
+use Rattle.wire_frames.specs.declared.message.Message.{Message}
+use Rattle.wire_frames.specs.declared.message.Message.TheVariants.{Accepted}
+use Rattle.std.specs.Prelude.{Bool, true, false, ℕ, List, ◌∷◌, slice_index_or}
+use Rattle.vol_tree.specs.Tree.{Volume}
+use Rattle.world_rules.specs.Served.{Served}
+
+-- the volume's rows, and the numbers of the last accepted entries of clients 1, 2, 3 and so on
+pub record Holding : Type 0 where
+  pub rows : Volume
+  pub last : List ℕ
+
+-- the number of a client; 0 for the client number 0, and for one past the end
+abbrev pub number_of : List ℕ → ℕ → ℕ
+number_of last client = slice_index_or (0 ∷ last) client 0
+
+-- the served state that it stands for
+abbrev pub served : Holding → Served
+served holding = record { volume = holding.rows; last = number_of holding.last }
+
+-- whether a reply accepts a store
+abbrev pub is_acceptance : Message → Bool
+is_acceptance (Accepted client number) = true
+is_acceptance _ = false

@@ -1,0 +1,32 @@
+-- Words that only the contracts of private functions cite.
+use Rattle.std.specs.Prelude.{◌≡◌, ℕ, List, not, ◌==◌, Bool, Result, Ok, Err}
+use Rattle.vol_tree.specs.declared.tree.Base.{Base}
+use Rattle.vol_tree.specs.Tree.{Volume, version_at}
+use Rattle.vol_tree.specs.Effects.{apply_all, Conflict}
+use Rattle.vol_tree.specs.declared.tree.Effect.{Effect}
+use Rattle.vol_tree.specs.declared.tree.TreeError.{TreeError}
+use Rattle.wire_frames.specs.declared.message.Message.{Message}
+use Rattle.wire_frames.specs.declared.message.Message.TheVariants.{Accepted, Store}
+use Rattle.wire_frames.specs.Frame.{frame}
+use Rattle.world_rules.specs.Served.{Served, refusal, with_last}
+
+-- whether the path has another version in the volume
+abbrev pub is_outdated : Volume → Base → Bool
+is_outdated volume base = not (version_at volume base.path == base.version)
+
+-- the conflict at a path of a base
+abbrev pub conflict_at : Volume → Base → Conflict
+conflict_at volume base = record { path = base.path; theirs = version_at volume base.path; ours = base.version }
+
+-- the reply and the state after a client's next store, whose base is current
+abbrev pub EndsAs : ℕ → ℕ → Served → Served → Message → Result Volume (ℕ × TreeError) → Type 0
+EndsAs client number old new reply (Ok volume) = (reply ≡ Accepted client number) × (new ≡ record { volume = volume; last = with_last old.last client number })
+EndsAs client number old new reply (Err cause) = (reply ≡ refusal client number cause.0 cause.1) × (new ≡ old)
+
+abbrev pub Ends : ℕ → ℕ → List Effect → Served → Served → Message → Type 0
+Ends client number effects old new reply = EndsAs client number old new reply (apply_all 0 effects old.volume)
+
+-- the bytes are the frame that accepts this store; of another message nothing is said
+abbrev pub IsAcceptanceOf : Message → List ℕ → Type 0
+IsAcceptanceOf (Store client number effects base) bytes = bytes ≡ frame (Accepted client number)
+IsAcceptanceOf _ bytes = Unit {0}

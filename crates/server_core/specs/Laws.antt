@@ -1,0 +1,123 @@
+-- What a server answers to a store, case by case, and what becomes of stores that come in any order and any number of times.
+use Rattle.std.specs.Prelude.{◌≡◌, ℕ, ◌+◌, ◌<◌, ◌≤◌, List, [], ◌∷◌, ◌++◌, length, map, filter, count_by, ◌==◌, Ok, Err, true, false}
+use Rattle.std.specs.List.{AllByRecursion, flat_map, range_with_len}
+use Rattle.vol_tree.specs.Path.{FilePath, is_same_path}
+use Rattle.vol_tree.specs.declared.tree.Base.{Base}
+use Rattle.vol_tree.specs.declared.tree.Effect.{Effect}
+use Rattle.vol_tree.specs.declared.tree.TreeError.{TreeError}
+use Rattle.vol_tree.specs.Tree.{Volume, version_at, apply}
+use Rattle.vol_tree.specs.Effects.{apply_all, touched_all}
+use Rattle.wire_frames.specs.Frame.{client_of, number_of}
+use Rattle.wire_frames.specs.declared.message.Message.{Message}
+use Rattle.wire_frames.specs.declared.message.Message.TheVariants.{Store, Pull, Accepted, Stale, Unfit, Gap, Snapshot, Full, Malformed}
+use Rattle.wire_frames.specs.declared.message.FrameError.{FrameError}
+use Rattle.wire_frames.specs.Frame.{frame, Spells}
+use Rattle.wire_frames.specs.Reading.{frame_of}
+use Rattle.byte_fields.specs.Codec.{IsBytes}
+use Rattle.world_rules.specs.World.{IsForServer}
+use Rattle.server_core.specs.Framing.{code_of, offset_of, frame_answer, frame_after, frames_after, messages_of}
+use Rattle.world_rules.specs.Served.{Served, answer, state_after, taken_of, replay, with_last, is_want_of_room}
+
+-- ---- one store
+
+-- the reply to a message, and what is held then
+pub record IsServedAs (message : Message) (served : Served) (reply : Message) (after : Served) : Type 0 where
+  pub replies : answer message served ≡ reply
+  pub holds : state_after message served ≡ after
+
+-- the path still has the version that the store rests on
+abbrev pub IsCurrent : Volume → Base → Type 0
+IsCurrent volume base = version_at volume base.path ≡ base.version
+
+-- a number that was accepted before is accepted again, and changes nothing
+abbrev pub RepeatsChangeNothing : Type 0
+RepeatsChangeNothing = (client number : ℕ) (effects : List Effect) (base : List Base) (served : Served) → number ≤ served.last client
+    → IsServedAs (Store client number effects base) served (Accepted client number) served
+
+-- to a number beyond the next the last accepted one is told
+abbrev pub GapsChangeNothing : Type 0
+GapsChangeNothing = (client number : ℕ) (effects : List Effect) (base : List Base) (served : Served) → served.last client + 1 < number
+    → IsServedAs (Store client number effects base) served (Gap client number (served.last client)) served
+
+-- the next number is refused at the first path of its base that has another version
+abbrev pub StaleStoresChangeNothing : Type 0
+StaleStoresChangeNothing = (client : ℕ) (effects : List Effect) (before : List Base) (first : Base) (later : List Base) (served : Served)
+    → AllByRecursion (IsCurrent served.volume) before → (IsCurrent served.volume first → ⊥)
+    → let number = served.last client + 1 in
+    IsServedAs (Store client number effects (before ++ first ∷ later)) served (Stale client number first.path (version_at served.volume first.path) first.version) served
+
+-- else it is refused at its first effect that does not apply after those before it: as Full for want of room
+abbrev pub FullStoresChangeNothing : Type 0
+FullStoresChangeNothing = (client : ℕ) (before : List Effect) (first : Effect) (later : List Effect) (base : List Base) (served : Served) (middle : Volume) (fault : TreeError)
+    → AllByRecursion (IsCurrent served.volume) base → apply_all 0 before served.volume ≡ Ok middle → apply first middle ≡ Err fault → is_want_of_room fault ≡ true
+    → let number = served.last client + 1 in
+    IsServedAs (Store client number (before ++ first ∷ later) base) served (Full client number (length before) fault) served
+
+-- and as Unfit for any other cause
+abbrev pub UnfitStoresChangeNothing : Type 0
+UnfitStoresChangeNothing = (client : ℕ) (before : List Effect) (first : Effect) (later : List Effect) (base : List Base) (served : Served) (middle : Volume) (fault : TreeError)
+    → AllByRecursion (IsCurrent served.volume) base → apply_all 0 before served.volume ≡ Ok middle → apply first middle ≡ Err fault → is_want_of_room fault ≡ false
+    → let number = served.last client + 1 in
+    IsServedAs (Store client number (before ++ first ∷ later) base) served (Unfit client number (length before) fault) served
+
+-- else it is accepted: its effects are applied, and its number is the client's last, while every other client keeps its own
+abbrev pub OtherStoresAreTaken : Type 0
+OtherStoresAreTaken = (client : ℕ) (effects : List Effect) (base : List Base) (served : Served) (new : Volume)
+    → AllByRecursion (IsCurrent served.volume) base → apply_all 0 effects served.volume ≡ Ok new
+    → let number = served.last client + 1 in
+    IsServedAs (Store client number effects base) served (Accepted client number) (record { volume = new; last = with_last served.last client number })
+
+-- a pull is answered by all rows and the client's last number
+abbrev pub PullsTellTheRows : Type 0
+PullsTellTheRows = (client number : ℕ) (served : Served) → IsServedAs (Pull client number) served (Snapshot client number (served.last client) served.volume) served
+
+-- any other message is not for a server
+abbrev pub OthersAreMalformed : Type 0
+OthersAreMalformed = (message : Message) (served : Served) → (IsForServer message → ⊥) → IsServedAs message served (Malformed 7 0) served
+
+-- ---- many messages, in any order and any number of times
+
+-- the stores that are taken of these messages, in order
+abbrev pub taken_among : List Message → Served → List Message
+taken_among [] served = []
+taken_among (message ∷ messages) served = taken_of message served ++ taken_among messages (state_after message served)
+
+-- the effects of a store
+abbrev pub effects_of : Message → List Effect
+effects_of (Store client number effects base) = effects
+effects_of _ = []
+
+-- the numbers of a client's messages, in order
+abbrev pub numbers_of : ℕ → List Message → List ℕ
+numbers_of client messages = map number_of (filter (λ message. client_of message == client) messages)
+
+-- how often the effects of the messages touch a path
+abbrev pub touches : FilePath → List Message → ℕ
+touches path messages = count_by (λ touched. is_same_path path touched) (touched_all (flat_map effects_of messages))
+
+-- the stores taken of a client are numbered on from its last one, without a gap and each once
+abbrev pub StoresAreTakenInOrder : Type 0
+StoresAreTakenInOrder = (messages : List Message) (served : Served) (client : ℕ)
+    → let numbers = numbers_of client (taken_among messages served) in
+    (numbers ≡ range_with_len (served.last client + 1) (length numbers)) × ((replay messages served).last client ≡ served.last client + length numbers)
+
+-- a path's version grows by the touches of the stores that are taken, and by nothing else
+abbrev pub VersionsCountTouches : Type 0
+VersionsCountTouches = (messages : List Message) (served : Served) (path : FilePath)
+    → version_at (replay messages served).volume path ≡ version_at served.volume path + touches path (taken_among messages served)
+
+-- ---- frames
+
+-- the frame of a message is answered by the frame of its answer
+abbrev pub FramesAreAnswered : Type 0
+FramesAreAnswered = (message : Message) (bytes : List ℕ) (served : Served) → Spells message bytes
+    → (frame_answer bytes served ≡ frame (answer message served)) × (frame_after bytes served ≡ state_after message served)
+
+-- bytes that are no message's frame change nothing, and are answered by why they were refused
+abbrev pub OtherBytesAreMalformed : Type 0
+OtherBytesAreMalformed = (bytes : List ℕ) (served : Served) → IsBytes bytes → ((message : Message) → Spells message bytes → ⊥)
+    → (refusal : FrameError) × (frame_of bytes ≡ Err refusal) × (frame_answer bytes served ≡ frame (Malformed (code_of refusal) (offset_of refusal))) × (frame_after bytes served ≡ served)
+
+-- frames do what their messages do; bytes that are refused change nothing
+abbrev pub FramesActAsTheirMessages : Type 0
+FramesActAsTheirMessages = (frames : List (List ℕ)) (served : Served) → frames_after frames served ≡ replay (messages_of frames) served

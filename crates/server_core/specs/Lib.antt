@@ -1,0 +1,4 @@
+pub mod Holding
+pub mod Inside
+pub mod Laws
+pub mod Framing

@@ -1,0 +1,29 @@
+// What a server makes of stores: functions that do nothing, whose contracts are laws.
+ghost use Rattle.server_core.specs.Laws.{RepeatsChangeNothing, GapsChangeNothing, StaleStoresChangeNothing, FullStoresChangeNothing, UnfitStoresChangeNothing, OtherStoresAreTaken, PullsTellTheRows, OthersAreMalformed, StoresAreTakenInOrder, VersionsCountTouches, FramesActAsTheirMessages, FramesAreAnswered, OtherBytesAreMalformed};
+
+/// States the answer to a message and what is held then, case by case.
+pub fn messages_are_answered()
+    ensures repeated { RepeatsChangeNothing }
+    ensures early { GapsChangeNothing }
+    ensures stale { StaleStoresChangeNothing }
+    ensures full { FullStoresChangeNothing }
+    ensures unfit { UnfitStoresChangeNothing }
+    ensures taken { OtherStoresAreTaken }
+    ensures pulled { PullsTellTheRows }
+    ensures others { OthersAreMalformed }
+{}
+
+/// States what becomes of messages that come in any order and any number of times: the stores of
+/// each client are taken in the order of their numbers, each once, and a path's version counts how
+/// often their effects touch it. Frames do what their messages do.
+pub fn stores_are_taken_once()
+    ensures order { StoresAreTakenInOrder }
+    ensures versions { VersionsCountTouches }
+    ensures frames { FramesActAsTheirMessages }
+{}
+
+/// States how frames are answered, those that spell a message and those that do not.
+pub fn frames_are_answered()
+    ensures spelled { FramesAreAnswered }
+    ensures others { OtherBytesAreMalformed }
+{}

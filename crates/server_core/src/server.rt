@@ -1,0 +1,276 @@
+// What a server holds, and how it answers.
+ghost use Rattle.std.specs.Prelude.{◌≡◌, ◌≤◌, ◌+◌, ◌<◌, ◌^◌, IfOk, OnOk, OnErr, find, option_map, replicate, Some, None, Ok, Err, ◌-◌, ◌≢◌, false};
+ghost use Rattle.std.specs.Option.{option_copied};
+ghost use Rattle.vol_tree.specs.Effects.{first_conflict as conflict_in, apply_all as applied_all};
+ghost use Rattle.std.specs.List.{AllByRecursion};
+ghost use Rattle.vol_tree.specs.Tree.{IsLegalEffect};
+ghost use Rattle.wire_frames.specs.Frame.{IsValid, frame};
+ghost use Rattle.world_rules.specs.Served.{IsServed, new_served, answer, state_after, refusal as refusal_of, with_last};
+ghost use Rattle.server_core.specs.Holding.{Holding, served, is_acceptance};
+ghost use Rattle.server_core.specs.Framing.{code_of, offset_of, frame_answer, frame_after};
+ghost use Rattle.server_core.specs.Inside.{is_outdated, Ends, IsAcceptanceOf};
+
+use std::alloc::{AllocError, Global};
+use std::marker::Model;
+use vol_tree::{ApplyAllError, Base, Bases, Effects, Tree, TreeError, TryCopy, apply_all};
+use wire_frames::{FrameError, Message, read, write};
+
+/// The volume, and for each of the clients 1 to 64 the number of its last accepted entry.
+#[derive(Drop)]
+pub struct Server {
+    tree: Tree,
+    last: [u64; 64],
+}
+
+impl Model for Server {
+    ghost use Rattle.server_core.specs.Holding.{Holding};
+
+    ghost Value = { Holding };
+
+    ghost view = { λ server. record { rows = server.tree; last = server.last } };
+
+    ghost use Rattle.world_rules.specs.Served.{IsServed};
+    ghost use Rattle.server_core.specs.Holding.{served};
+
+    ghost invariant = { λ server. IsServed (served (record { rows = server.tree; last = server.last })) };
+}
+
+impl Server {
+    /// The server without rows, to which no client has written. It takes no memory.
+    pub fn new(alloc: Global) -> Server
+        ensures new { served result ≡ new_served }
+    {
+        Server {
+            tree: Tree::new(alloc),
+            last: none_accepted(),
+        }
+    }
+
+    /// The volume.
+    pub fn tree(&self) -> &Tree
+        ensures tree { result.now ≡ (served self.now).volume }
+        ensures legal { IsServed (served self.now) }
+    {
+        &self.tree
+    }
+
+    /// The number of the client's last accepted entry; 0 where there is none.
+    pub fn last(&self, client: u8) -> u64
+        requires low { 1 ≤ client }
+        requires high { client ≤ 64 }
+        ensures last { result ≡ (served self.now).last client }
+        ensures legal { IsServed (served self.now) }
+    {
+        self.last[client as usize - 1]
+    }
+
+    /// Answers a message. A store whose number was accepted before is accepted again and changes
+    /// nothing; one beyond the next is answered `Gap`. The next one is answered `Stale` at the
+    /// first path of its base that has another version, else `Full` or `Unfit` at its first effect
+    /// that does not apply, and is else accepted: its effects are applied. A pull is answered by
+    /// all rows; any other message is `Malformed`. After `AllocError` all is as before.
+    pub fn serve(&mut self, message: &Message) -> Result<Message, AllocError>
+        requires valid { IsValid message.now }
+        ensures ok { IfOk result (λ reply. reply ≡ answer message.now (served self.old)) }
+        ensures state { OnOk result (served self.new ≡ state_after message.now (served self.old)) }
+        ensures err { OnErr result (self.new ≡ self.old) }
+        // Only an acceptance changes anything.
+        ensures kept { IfOk result (λ reply. is_acceptance reply ≡ false → self.new ≡ self.old) }
+        ensures legal { IsServed (served self.new) }
+    {
+        match message {
+            Message::Store {
+                client,
+                number,
+                effects,
+                base,
+            } => self.store(*client, *number, effects, base),
+            Message::Pull { client, number } => self.snapshot(*client, *number),
+            _ => {
+                let _ = &self.tree;
+                Ok(Message::Malformed { code: 7, offset: 0 })
+            }
+        }
+    }
+
+    /// Answers a frame by a frame: reads it, serves the message and writes the reply. Bytes that
+    /// are refused are answered by `Malformed` with the number of the refusal, 1 to 6, and the
+    /// place that it tells, or 0. After `AllocError` all is as before.
+    pub fn serve_frame(&mut self, bytes: &[u8]) -> Result<Vec<u8>, AllocError>
+        ensures ok { IfOk result (λ reply. reply.items ≡ frame_answer bytes.now (served self.old)) }
+        ensures state { OnOk result (served self.new ≡ frame_after bytes.now (served self.old)) }
+        ensures err { OnErr result (self.new ≡ self.old) }
+        ensures legal { IsServed (served self.new) }
+    {
+        let alloc = self.tree.allocator();
+        match read(alloc, bytes) {
+            Ok(message) => self.serve_in_frame(&message),
+            Err(FrameError::Memory) => Err(AllocError),
+            Err(refusal) => in_frame(alloc, malformed(&refusal)),
+        }
+    }
+
+    /// Serves a message, and writes the reply.
+    fn serve_in_frame(&mut self, message: &Message) -> Result<Vec<u8>, AllocError>
+        requires valid { IsValid message.now }
+        ensures ok { IfOk result (λ reply. reply.items ≡ frame (answer message.now (served self.old))) }
+        ensures state { OnOk result (served self.new ≡ state_after message.now (served self.old)) }
+        ensures err { OnErr result (self.new ≡ self.old) }
+        ensures legal { IsServed (served self.new) }
+    {
+        let alloc = self.tree.allocator();
+        // Once a store is taken nothing may fail, so its acceptance is written before.
+        let accepted = acceptance(alloc, message)?;
+        match self.serve(message)? {
+            Message::Accepted { .. } => Ok(accepted),
+            reply => in_frame(alloc, reply),
+        }
+    }
+
+    fn snapshot(&self, client: u8, number: u64) -> Result<Message, AllocError>
+        requires valid { IsValid (Message.Pull client number) }
+        ensures ok { IfOk result (λ reply. reply ≡ answer (Message.Pull client number) (served self.now)) }
+        ensures legal { IsServed (served self.now) }
+    {
+        let last = self.last(client);
+        let rows = self.tree.rows()?;
+        Ok(Message::Snapshot {
+            client,
+            number,
+            last,
+            rows,
+        })
+    }
+
+    /// Applies the effects of the client's next store, whose base is current.
+    fn take(&mut self, client: u8, number: u64, effects: &Effects) -> Result<Message, AllocError>
+        requires low { 1 ≤ client }
+        requires high { client ≤ 64 }
+        requires legal { AllByRecursion IsLegalEffect effects.now }
+        ensures ok { IfOk result (Ends client number effects.now (served self.old) (served self.new)) }
+        ensures err { OnErr result (self.new ≡ self.old) }
+        ensures kept { IfOk result (λ reply. is_acceptance reply ≡ false → self.new ≡ self.old) }
+        ensures legal { IsServed (served self.new) }
+    {
+        match apply_all(&mut self.tree, effects) {
+            Ok(_undos) => {
+                self.last[client as usize - 1] = number;
+                Ok(Message::Accepted { client, number })
+            }
+            Err(ApplyAllError::At(index, fault)) => Ok(refusal(client, number, index, fault)),
+            Err(ApplyAllError::Memory) => Err(AllocError),
+        }
+    }
+
+    fn store(
+        &mut self,
+        client: u8,
+        number: u64,
+        effects: &Effects,
+        base: &Bases,
+    ) -> Result<Message, AllocError>
+        requires valid { IsValid (Message.Store client number effects.now base.now) }
+        ensures ok { IfOk result (λ reply. reply ≡ answer (Message.Store client number effects.now base.now) (served self.old)) }
+        ensures state { OnOk result (served self.new ≡ state_after (Message.Store client number effects.now base.now) (served self.old)) }
+        ensures err { OnErr result (self.new ≡ self.old) }
+        ensures kept { IfOk result (λ reply. is_acceptance reply ≡ false → self.new ≡ self.old) }
+        ensures legal { IsServed (served self.new) }
+    {
+        let last = self.last(client);
+        if number <= last {
+            return Ok(Message::Accepted { client, number });
+        }
+        if number - 1 > last {
+            return Ok(Message::Gap {
+                client,
+                number,
+                last,
+            });
+        }
+        if let Some(base) = first_conflict(&self.tree, base.as_slice()) {
+            let path = base.path.copy()?;
+            let theirs = self.tree.version(&base.path);
+            let ours = base.version;
+            return Ok(Message::Stale {
+                client,
+                number,
+                path,
+                theirs,
+                ours,
+            });
+        }
+        self.take(client, number, effects)
+    }
+}
+
+fn none_accepted() -> [u64; 64]
+    ensures { result ≡ replicate 64 0 }
+{
+    [0; 64]
+}
+
+/// The first path whose version is not that of the tree.
+fn first_conflict<'a>(tree: &Tree, base: &'a [Base]) -> Option<&'a Base>
+    ensures { option_copied result ≡ find (is_outdated tree.now) base.now }
+{
+    base.iter()
+        .find(|base| tree.version(&base.path) != base.version)
+}
+
+fn refusal(client: u8, number: u64, index: u32, fault: TreeError) -> Message
+    ensures { result ≡ refusal_of client number index fault }
+{
+    match fault {
+        TreeError::RowsFull(_) | TreeError::TreeFull(_) => Message::Full {
+            client,
+            number,
+            index,
+            fault,
+        },
+        _ => Message::Unfit {
+            client,
+            number,
+            index,
+            fault,
+        },
+    }
+}
+
+/// The frame that accepts a store; no bytes for any other message.
+fn acceptance(alloc: Global, message: &Message) -> Result<Vec<u8>, AllocError>
+    requires { IsValid message.now }
+    ensures { IfOk result (λ bytes. IsAcceptanceOf message.now bytes.items) }
+{
+    match message {
+        Message::Store { client, number, .. } => {
+            let (client, number) = (*client, *number);
+            write(alloc, &Message::Accepted { client, number })
+        }
+        _ => Ok(Vec::new(alloc)),
+    }
+}
+
+fn in_frame(alloc: Global, message: Message) -> Result<Vec<u8>, AllocError>
+    requires { IsValid message }
+    ensures { IfOk result (λ bytes. bytes.items ≡ frame message) }
+{
+    write(alloc, &message)
+}
+
+/// What is answered to bytes that are refused.
+fn malformed(refusal: &FrameError) -> Message
+    requires { refusal.now ≢ FrameError.Memory }
+    ensures reply { result ≡ Message.Malformed (code_of refusal.now) (offset_of refusal.now) }
+    ensures valid { IsValid result }
+{
+    let (code, offset) = match refusal {
+        FrameError::BadLength => (1, 0),
+        FrameError::BadVersion => (2, 0),
+        FrameError::BadKind => (3, 0),
+        FrameError::BadClient => (4, 0),
+        FrameError::BadField(offset) => (5, *offset),
+        FrameError::Trailing(offset) => (6, *offset),
+        FrameError::Memory => unreachable!(),
+    };
+    Message::Malformed { code, offset }
+}
