@@ -1,0 +1,129 @@
+-- Reading an input piece by piece.
+use Rattle.std.proofs.Common.{◌≡◌, ℕ, zero, suc, ◌+◌, ◌-◌, ◌≤◌, ◌<◌, List, [], ◌∷◌, ◌++◌, length, take, drop, Option, None, Some, Ok, refl, sym, ◌∙◌, ap, arith, Bool, true, false, nat_lt, if◌then◌else◌}
+use Rattle.std.proofs.lemmas.List.{append-nil, length-take-le, take_all, length-append}
+use Rattle.std.proofs.lemmas.Bool.Decides.{nat_tests}
+use Rattle.client_prog.specs.Inside.{end_by_count}
+use Rattle.outside.specs.Outside.{Told, Reads, Takes}
+use Rattle.outside.proofs.Taking.{takes_nothing, takes_then, takes_read}
+use Rattle.client_prog.specs.declared.input.InputEnd.{InputEnd}
+use Rattle.client_prog.specs.declared.input.InputEnd.TheVariants.{Read, Failed, TooLong}
+use Rattle.client_prog.specs.declared.input.TheConstants.{MAX_INPUT}
+use Rattle.client_prog.specs.Input.{last_at, Reading, IsAtEnd, EndsAt, GoesOnOrEnds, ReadsPiece, within_limit, lines_at, HasRead}
+use Rattle.client_prog.specs.Lines.{parts, whole_lines, unfinished, lines_of, last_line, BeginsWithLine}
+use Rattle.client_prog.proofs.Cutting.{piece_added, line_taken, all_lines_taken, pieces_are_cut_alike}
+
+take_nothing : (n : ℕ) → take {A = ℕ} n [] ≡ []
+take_nothing zero = refl
+take_nothing (suc n) = refl
+
+-- nothing was read
+pub no_piece : (left rest : Option (List ℕ)) (reading : Reading) (end : InputEnd) → Takes left rest [] → EndsAt rest reading.count end → ReadsPiece left rest reading reading (Some end)
+no_piece left rest reading end taken ended = record {
+  piece = [];
+  taken = taken;
+  count = omega arith;
+  bytes = sym (append-nil reading.bytes) ∙ ap (λ (l : List ℕ). reading.bytes ++ l) (sym (take_nothing (MAX_INPUT - reading.count)));
+  ended = ended;
+}
+
+-- a read of nothing is at the end
+pub at_end : (E : Type 0) (left rest : Option (List ℕ)) (buf : List ℕ) → Told left rest (λ old new. Reads {E = E} old new buf (Ok 0)) → IsAtEnd rest
+at_end E None None buf reads = tt
+at_end E None (Some y) buf reads = absurd (cc reads)
+at_end E (Some x) None buf reads = tt
+at_end E (Some x) (Some y) buf reads = reads.2 ∙ reads.3 refl
+
+end_after : (rest : Option (List ℕ)) (before n count : ℕ) (late : Bool) → nat_lt MAX_INPUT count ≡ late → count ≡ before + n → 0 < n → count ≤ MAX_INPUT + 1
+    → GoesOnOrEnds rest before count (if late then Some TooLong else None)
+end_after rest before n count true late is some few = grind (arith, nat_tests)
+end_after rest before n count false late is some few = (omega arith, grind (arith, nat_tests))
+
+-- a piece was read
+pub one_piece : (E : Type 0) (left rest : Option (List ℕ)) (old new : Reading) (buf : List ℕ) (n : ℕ)
+    → Told left rest (λ before after. Reads {E = E} before after buf (Ok n)) → n ≤ length buf → 0 < n → old.count + n ≤ MAX_INPUT + 1
+    → new ≡ record { bytes = old.bytes ++ take (MAX_INPUT - old.count) (take n buf); count = old.count + length (take n buf) }
+    → ReadsPiece left rest old new (end_by_count new.count)
+one_piece E left rest old new buf n reads fits some few is =
+    let long : length (take n buf) ≡ n = length-take-le n buf fits in
+    let count : new.count ≡ old.count + length (take n buf) = ap (λ (r : Reading). r.count) is in
+    record {
+      piece = take n buf;
+      taken = takes_read E left rest buf n reads;
+      count = count;
+      bytes = ap (λ (r : Reading). r.bytes) is;
+      ended = end_after rest old.count n new.count (nat_lt MAX_INPUT new.count) refl (omega arith) some (omega arith);
+    }
+
+-- the end of the input
+pub end_piece : (E : Type 0) (left rest : Option (List ℕ)) (reading : Reading) (buf : List ℕ) (n : ℕ)
+    → Told left rest (λ before after. Reads {E = E} before after buf (Ok n)) → n ≡ 0 → reading.count ≤ MAX_INPUT → ReadsPiece left rest reading reading (Some Read)
+end_piece E left rest reading buf zero reads none few =
+    no_piece left rest reading Read (takes_read E left rest buf 0 reads) (at_end E left rest buf reads, few)
+end_piece E left rest reading buf (suc n) reads none few = absurd (omega arith)
+
+-- ---- the lines that are behind
+
+-- nothing was read yet
+pub has_read_none : (left : Option (List ℕ)) (reading : Reading) → reading ≡ record { bytes = []; count = 0 } → HasRead left left reading []
+has_read_none left reading is = record {
+  input = [];
+  taken = takes_nothing left;
+  count = ap (λ (r : Reading). r.count) is;
+  cut = ap parts (take_nothing MAX_INPUT) ∙ ap parts (sym (ap (λ (r : Reading). r.bytes) is));
+}
+
+-- a list in two parts, cut behind the first
+pub take-append-over : (n : ℕ) (xs ys : List ℕ) → length xs ≤ n → take n (xs ++ ys) ≡ xs ++ take (n - length xs) ys
+take-append-over n [] ys fits = ap (λ (k : ℕ). take k ys) (omega arith)
+take-append-over zero (x ∷ xs) ys fits = absurd (omega arith)
+take-append-over (suc n) (x ∷ xs) ys fits =
+    ap (λ (l : List ℕ). x ∷ l) (take-append-over n xs ys (omega arith) ∙ ap (λ (k : ℕ). xs ++ take k ys) (omega arith))
+
+-- one more piece was read
+pub has_read_piece : (left mid rest : Option (List ℕ)) (old new : Reading) (behind : List (List ℕ)) (end : Option InputEnd)
+    → HasRead left mid old behind → old.count ≤ MAX_INPUT → ReadsPiece mid rest old new end → HasRead left rest new behind
+has_read_piece left mid rest old new behind end before few reads =
+    let short : length before.input ≤ MAX_INPUT = omega (arith, before.count) in
+    let whole : within_limit before.input ≡ before.input = take_all MAX_INPUT before.input short in
+    let piece : within_limit (before.input ++ reads.piece) ≡ before.input ++ take (MAX_INPUT - old.count) reads.piece =
+    take-append-over MAX_INPUT before.input reads.piece short ∙ ap (λ (k : ℕ). before.input ++ take (MAX_INPUT - k) reads.piece) (sym before.count) in
+    record {
+      input = before.input ++ reads.piece;
+      taken = takes_then left mid rest before.input reads.piece before.taken reads.taken;
+      count = reads.count ∙ ap (λ (k : ℕ). k + length reads.piece) before.count ∙ sym (length-append before.input reads.piece);
+      cut =
+          ap parts piece
+          ∙ piece_added behind before.input old.bytes (take (MAX_INPUT - old.count) reads.piece) (ap parts (sym whole) ∙ before.cut)
+          ∙ ap (λ (l : List ℕ). behind ++ parts l) (sym reads.bytes);
+    }
+
+-- one more line was cut
+pub has_read_line : (left rest : Option (List ℕ)) (old new : Reading) (behind : List (List ℕ)) (line : List ℕ)
+    → HasRead left rest old behind → BeginsWithLine old.bytes line → new ≡ record old { bytes = drop (length line + 1) old.bytes } → HasRead left rest new (behind ++ line ∷ [])
+has_read_line left rest old new behind line before begins is = record {
+  input = before.input;
+  taken = before.taken;
+  count = ap (λ (r : Reading). r.count) is ∙ before.count;
+  cut =
+      line_taken behind (within_limit before.input) old.bytes line before.cut begins
+      ∙ ap (λ (r : Reading). (behind ++ line ∷ []) ++ parts r.bytes) (sym is);
+}
+
+-- no line is left: those behind, and the last one where it is a line, are the lines of the input
+pub has_read_all : (left rest : Option (List ℕ)) (reading : Reading) (behind : List (List ℕ)) (end : InputEnd) (now : HasRead left rest reading behind)
+    → parts reading.bytes ≡ reading.bytes ∷ [] → EndsAt rest reading.count end → lines_at end now.input ≡ behind ++ last_at end reading.bytes
+has_read_all left rest reading behind Read now none ended =
+    let short : length now.input ≤ MAX_INPUT = omega (arith, now.count, ended.1) in
+    let whole : within_limit now.input ≡ now.input = take_all MAX_INPUT now.input short in
+    let lines : (whole_lines (within_limit now.input) ≡ behind) × (unfinished (within_limit now.input) ≡ reading.bytes) =
+    all_lines_taken behind (within_limit now.input) reading.bytes now.cut none in
+    ap lines_of (sym whole) ∙ ap (λ (l : List (List ℕ)). l ++ last_line (unfinished (within_limit now.input))) lines.0 ∙ ap (λ (l : List ℕ). behind ++ last_line l) lines.1
+has_read_all left rest reading behind Failed now none ended =
+    let short : length now.input ≤ MAX_INPUT = omega (arith, now.count) in
+    ap whole_lines (sym (take_all MAX_INPUT now.input short)) ∙ (all_lines_taken behind (within_limit now.input) reading.bytes now.cut none).0 ∙ sym (append-nil behind)
+has_read_all left rest reading behind TooLong now none ended =
+    (all_lines_taken behind (within_limit now.input) reading.bytes now.cut none).0 ∙ sym (append-nil behind)
+
+-- the lines of an input whose reading was broken off are the first of those that it has: what comes behind adds lines only
+pub lines_go_on : (xs ys : List ℕ) → whole_lines xs ++ parts (unfinished xs ++ ys) ≡ parts (xs ++ ys)
+lines_go_on xs ys = sym (pieces_are_cut_alike xs ys)

@@ -1,0 +1,17 @@
+pub mod Commanding
+pub mod Cutting
+pub mod Firsts
+pub mod Going
+pub mod InputReading
+pub mod Network
+pub mod Numbers
+pub mod RunningEnds
+pub mod RunningInput
+pub mod RunningLeaves
+pub mod RunningLines
+pub mod RunningPieces
+pub mod Settling
+pub mod Splitting
+pub mod Taking
+pub mod Turning
+pub mod WordCutting

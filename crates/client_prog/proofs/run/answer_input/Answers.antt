@@ -1,0 +1,198 @@
+use Rattle.std.proofs.Common.{◌∷◌, [], Ok, Err, sym, ap, ◌∙◌, subst, arith}
+use Rattle.world_rules.proofs.Asks.{told_start, told_as, told_then}
+use Rattle.client_prog.specs.declared.run.Stop.TheVariants.{Memory}
+use Rattle.client_prog.specs.Lines.{whole_lines, parts}
+use Rattle.client_prog.specs.Input.{last_at, Reading, EndsAt, GoesOnOrEnds}
+use Rattle.client_prog.specs.Session.{state}
+use Rattle.client_prog.specs.Goes.{Goes}
+use Rattle.client_prog.specs.InsideRun.{AnswersLines, AnswersSoFar, AnswersInput}
+use Rattle.outside.proofs.Taking.{takes_nothing}
+use Rattle.client_prog.proofs.Going.{goes_none, goes_as, goes_then}
+use Rattle.client_prog.proofs.RunningPieces.{so_far_none, so_far_more, so_far_stops, so_far_lost, all_answered, all_stops, so_far_taken, taken_lost, stopped_at, ended_at, ends_at}
+use Rattle.client_prog.proofs.run.answer_input.Goals as goal
+
+pub loop-end-init : goal.loop-end-init
+loop-end-init g c =
+    let r = c.args.route.now in
+    let s = state c.args.log.now in
+    let t = g.L.Link.troubles c.args.link.now in
+    let o = g.O.Sink.written c.args.output.now in
+    let left = g.I.Source.left c.args.input.now in
+    let reader = c.new-reader.result in
+    record {
+      few = omega (arith, ap (λ (x : Reading). x.count) c.new-reader.ensures);
+      no_line = ap (λ (x : Reading). parts x.bytes) c.new-reader.ensures ∙ ap (λ (x : Reading). x.bytes ∷ []) (sym c.new-reader.ensures);
+      taken = ([], takes_nothing left, ap (λ (x : Reading). x.count) c.new-reader.ensures);
+      later = omega arith;
+      source_later = omega arith;
+      sink_later = omega arith;
+      world = told_start _ (λ x y. Goes r.client (AnswersSoFar r s left left reader o o s) s s t t x y) (λ x. goes_none r.client _ s t x (so_far_none r s left o reader c.new-reader.ensures));
+    }
+
+pub returns-in-Err-clause-world : goal.returns-in-Err-clause-world
+returns-in-Err-clause-world g c =
+    let r = c.args.route.now in
+    let a = state c.args.log.now in
+    let b = state c.loop-end.log in
+    let t = g.L.Link.troubles c.args.link.now in
+    let u = g.L.Link.troubles c.loop-end.link in
+    let o = g.O.Sink.written c.args.output.now in
+    let m = g.O.Sink.written c.loop-end.output in
+    let left = g.I.Source.left c.args.input.now in
+    let mid = g.I.Source.left c.loop-end.input in
+    let rest = g.I.Source.left c.read_piece.new.input in
+    let old = c.loop-end.reader in
+    told_as _ _ (λ x y. Goes r.client (AnswersSoFar r a left mid old o m b) a b t u x y)
+    (λ x y. Goes r.client (AnswersInput r a left rest o m (Err Memory) b) a b t u x y) c.loop-end.invariant.world
+    (λ x y goes. goes_as r.client _ _ a b t u x y goes
+    (λ p so_far. so_far_lost r a left o mid rest old c.in-Err.ensures.err.0 b m p c.loop-end.invariant.few c.in-Err.ensures.err.1 c.in-Err.ensures.err.2 so_far))
+
+pub returns-in-Err-clause-input : goal.returns-in-Err-clause-input
+returns-in-Err-clause-input g c =
+    taken_lost _ _ _ c.loop-end.reader.count c.in-Err.ensures.err.0 c.loop-end.invariant.taken c.in-Err.ensures.err.1 c.in-Err.ensures.err.2
+
+pub returns-in-Err-answer_lines-clause-world : goal.returns-in-Err-answer_lines-clause-world
+returns-in-Err-answer_lines-clause-world g c =
+    let r = c.args.route.now in
+    let a = state c.args.log.now in
+    let b = state c.loop-end.log in
+    let d = state c.answer_lines.new.log in
+    let t = g.L.Link.troubles c.args.link.now in
+    let u = g.L.Link.troubles c.loop-end.link in
+    let v = g.L.Link.troubles c.answer_lines.new.link in
+    let o = g.O.Sink.written c.args.output.now in
+    let m = g.O.Sink.written c.loop-end.output in
+    let n = g.O.Sink.written c.answer_lines.new.output in
+    let left = g.I.Source.left c.args.input.now in
+    let mid = g.I.Source.left c.loop-end.input in
+    let rest = g.I.Source.left c.read_piece.new.input in
+    let old = c.loop-end.reader in
+    let new = c.read_piece.new.self in
+    let stop = c.in-Err-answer_lines.stop in
+    told_then _ _ _ (λ x y. Goes r.client (AnswersSoFar r a left mid old o m b) a b t u x y)
+    (λ x y. Goes r.client (AnswersLines r b (whole_lines new.bytes) m n (Err stop) d) b d u v x y)
+    (λ x y. Goes r.client (AnswersInput r a left rest o n (Err stop) d) a d t v x y)
+    c.loop-end.invariant.world c.in-Err-answer_lines.ensures.world
+    (λ x y z so_far stops. goes_then r.client _ _ _ a b d t u v x y z so_far stops
+    (λ p q. so_far_stops r a left o mid rest old new c.in-Ok.end stop b d m n p q c.loop-end.invariant.few c.in-Ok.ensures.ok))
+
+pub returns-in-Err-answer_lines-clause-input : goal.returns-in-Err-answer_lines-clause-input
+returns-in-Err-answer_lines-clause-input g c =
+    stopped_at _ _ _ c.loop-end.reader c.read_piece.new.self c.in-Ok.end c.loop-end.invariant.taken c.in-Ok.ensures.ok
+
+pub returns-in-Err-answer_last-clause-world : goal.returns-in-Err-answer_last-clause-world
+returns-in-Err-answer_last-clause-world g c =
+    let r = c.args.route.now in
+    let a = state c.args.log.now in
+    let b = state c.loop-end.log in
+    let d = state c.answer_lines.new.log in
+    let e = state c.answer_last.new.log in
+    let t = g.L.Link.troubles c.args.link.now in
+    let u = g.L.Link.troubles c.loop-end.link in
+    let v = g.L.Link.troubles c.answer_lines.new.link in
+    let w = g.L.Link.troubles c.answer_last.new.link in
+    let o = g.O.Sink.written c.args.output.now in
+    let m = g.O.Sink.written c.loop-end.output in
+    let n = g.O.Sink.written c.answer_lines.new.output in
+    let k = g.O.Sink.written c.answer_last.new.output in
+    let left = g.I.Source.left c.args.input.now in
+    let mid = g.I.Source.left c.loop-end.input in
+    let rest = g.I.Source.left c.read_piece.new.input in
+    let old = c.loop-end.reader in
+    let new = c.read_piece.new.self in
+    let final = c.answer_lines.new.reader in
+    let end = c.in-Some.end in
+    let stop = c.in-Err-answer_last.stop in
+    let ends : EndsAt rest final.count end = ends_at rest old.count new final c.in-Ok.end end c.in-Some.is c.in_default.ensures.left c.in-Ok.ensures.ok.ended in
+    told_then _ _ _ (λ x y. Goes r.client (AnswersSoFar r a left rest final o n d) a d t v x y)
+    (λ x y. Goes r.client (AnswersLines r d (last_at end final.bytes) n k (Err stop) e) d e v w x y)
+    (λ x y. Goes r.client (AnswersInput r a left rest o k (Err stop) e) a e t w x y)
+    (told_then _ _ _ (λ x y. Goes r.client (AnswersSoFar r a left mid old o m b) a b t u x y)
+    (λ x y. Goes r.client (AnswersLines r b (whole_lines new.bytes) m n (Ok c.in_default.field-0) d) b d u v x y)
+    (λ x y. Goes r.client (AnswersSoFar r a left rest final o n d) a d t v x y)
+    c.loop-end.invariant.world c.in_default.ensures.world
+    (λ x y z so_far more. goes_then r.client _ _ _ a b d t u v x y z so_far more
+    (λ p q. so_far_more r a left o mid rest old new final c.in-Ok.end b d m n c.in_default.field-0 p q c.loop-end.invariant.few c.in-Ok.ensures.ok c.in_default.ensures.left)))
+    c.in-Err-answer_last.ensures.world
+    (λ x y z so_far last. goes_then r.client _ _ _ a d e t v w x y z so_far last
+    (λ p q. all_stops r a left o rest final end stop d e n k p q c.in_default.ensures.left.no_line ends))
+
+pub returns-in-Err-answer_last-clause-input : goal.returns-in-Err-answer_last-clause-input
+returns-in-Err-answer_last-clause-input g c =
+    stopped_at _ _ _ c.loop-end.reader c.read_piece.new.self c.in-Ok.end c.loop-end.invariant.taken c.in-Ok.ensures.ok
+
+pub returns-in-Some-clause-world : goal.returns-in-Some-clause-world
+returns-in-Some-clause-world g c =
+    let r = c.args.route.now in
+    let a = state c.args.log.now in
+    let b = state c.loop-end.log in
+    let d = state c.answer_lines.new.log in
+    let e = state c.answer_last.new.log in
+    let t = g.L.Link.troubles c.args.link.now in
+    let u = g.L.Link.troubles c.loop-end.link in
+    let v = g.L.Link.troubles c.answer_lines.new.link in
+    let w = g.L.Link.troubles c.answer_last.new.link in
+    let o = g.O.Sink.written c.args.output.now in
+    let m = g.O.Sink.written c.loop-end.output in
+    let n = g.O.Sink.written c.answer_lines.new.output in
+    let k = g.O.Sink.written c.answer_last.new.output in
+    let left = g.I.Source.left c.args.input.now in
+    let mid = g.I.Source.left c.loop-end.input in
+    let rest = g.I.Source.left c.read_piece.new.input in
+    let old = c.loop-end.reader in
+    let new = c.read_piece.new.self in
+    let final = c.answer_lines.new.reader in
+    let end = c.in-Some.end in
+    let done = c.in_default-answer_last.field-0 in
+    let ends : EndsAt rest final.count end = ends_at rest old.count new final c.in-Ok.end end c.in-Some.is c.in_default.ensures.left c.in-Ok.ensures.ok.ended in
+    told_then _ _ _ (λ x y. Goes r.client (AnswersSoFar r a left rest final o n d) a d t v x y)
+    (λ x y. Goes r.client (AnswersLines r d (last_at end final.bytes) n k (Ok done) e) d e v w x y)
+    (λ x y. Goes r.client (AnswersInput r a left rest o k (Ok end) e) a e t w x y)
+    (told_then _ _ _ (λ x y. Goes r.client (AnswersSoFar r a left mid old o m b) a b t u x y)
+    (λ x y. Goes r.client (AnswersLines r b (whole_lines new.bytes) m n (Ok c.in_default.field-0) d) b d u v x y)
+    (λ x y. Goes r.client (AnswersSoFar r a left rest final o n d) a d t v x y)
+    c.loop-end.invariant.world c.in_default.ensures.world
+    (λ x y z so_far more. goes_then r.client _ _ _ a b d t u v x y z so_far more
+    (λ p q. so_far_more r a left o mid rest old new final c.in-Ok.end b d m n c.in_default.field-0 p q c.loop-end.invariant.few c.in-Ok.ensures.ok c.in_default.ensures.left)))
+    c.in_default-answer_last.ensures.world
+    (λ x y z so_far last. goes_then r.client _ _ _ a d e t v w x y z so_far last
+    (λ p q. all_answered r a left o rest final end d e n k done p q c.in_default.ensures.left.no_line ends))
+
+pub returns-in-Some-clause-input : goal.returns-in-Some-clause-input
+returns-in-Some-clause-input g c =
+    ended_at _ _ _ c.loop-end.reader c.read_piece.new.self c.in-Ok.end c.in-Some.end c.in-Some.is c.loop-end.invariant.taken c.in-Ok.ensures.ok
+
+pub loop-end-preserved : goal.loop-end-preserved
+loop-end-preserved g c =
+    let r = c.args.route.now in
+    let a = state c.args.log.now in
+    let b = state c.loop-end.log in
+    let d = state c.answer_lines.new.log in
+    let t = g.L.Link.troubles c.args.link.now in
+    let u = g.L.Link.troubles c.loop-end.link in
+    let v = g.L.Link.troubles c.answer_lines.new.link in
+    let o = g.O.Sink.written c.args.output.now in
+    let m = g.O.Sink.written c.loop-end.output in
+    let n = g.O.Sink.written c.answer_lines.new.output in
+    let left = g.I.Source.left c.args.input.now in
+    let mid = g.I.Source.left c.loop-end.input in
+    let rest = g.I.Source.left c.read_piece.new.input in
+    let old = c.loop-end.reader in
+    let new = c.read_piece.new.self in
+    let final = c.answer_lines.new.reader in
+    let left_is = c.in_default.ensures.left in
+    let taken = so_far_taken left mid rest old new c.in-Ok.end c.loop-end.invariant.taken c.in-Ok.ensures.ok in
+    record {
+      few = omega (arith, left_is.count, (subst (GoesOnOrEnds rest old.count new.count) c.in_default-end.is c.in-Ok.ensures.ok.ended).1);
+      no_line = left_is.no_line;
+      taken = (taken.0, taken.1, left_is.count ∙ taken.2);
+      later = omega (arith, c.answer_lines.ensures.later);
+      source_later = omega (arith, c.read_piece.ensures.later);
+      sink_later = omega (arith, c.answer_lines.ensures.cause.later);
+      world = told_then _ _ _ (λ x y. Goes r.client (AnswersSoFar r a left mid old o m b) a b t u x y)
+          (λ x y. Goes r.client (AnswersLines r b (whole_lines new.bytes) m n (Ok c.in_default.field-0) d) b d u v x y)
+          (λ x y. Goes r.client (AnswersSoFar r a left rest final o n d) a d t v x y)
+          c.loop-end.invariant.world c.in_default.ensures.world
+          (λ x y z so_far more. goes_then r.client _ _ _ a b d t u v x y z so_far more
+          (λ p q. so_far_more r a left o mid rest old new final c.in-Ok.end b d m n c.in_default.field-0 p q c.loop-end.invariant.few c.in-Ok.ensures.ok left_is));
+    }

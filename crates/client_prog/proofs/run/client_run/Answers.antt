@@ -1,0 +1,38 @@
+use Rattle.std.proofs.Common.{ℕ, List, Option, refl, sym, subst}
+use Rattle.std.specs.Prelude.{IfSome}
+use Rattle.outside.specs.Outside.{Told}
+use Rattle.world_rules.proofs.Asks.{told_start, told_as}
+use Rattle.client_prog.specs.Words.{Run}
+use Rattle.client_prog.specs.Run.{route_of}
+use Rattle.client_prog.specs.Headline.{Ran}
+use Rattle.client_prog.specs.InsideRun.{RunGoes}
+use Rattle.client_prog.proofs.RunningLeaves.{ran, nothing_ran}
+use Rattle.client_prog.proofs.run.client_run.Goals as goal
+
+pub returns-in-Err-clause-session : goal.returns-in-Err-clause-session
+returns-in-Err-clause-session g c =
+    let left = g.I.Source.left c.args.input.now in
+    let o = g.O.Sink.written c.args.output.now in
+    let t = g.L.Link.troubles c.args.link.now in
+    let w = g.L.Link.world c.args.link.now in
+    let run : Run = record { client = c.in-Some.words.client; server = c.in-Some.words.server.now } in
+    subst (λ (f : Option Run). IfSome f (λ r. Told w w (Ran (route_of r) left left o o 7 t t))) (sym c.in-Some.ensures.form)
+    (told_start w (Ran (route_of run) left left o o 7 t t) (λ x. nothing_ran (route_of run) left o 7 t x refl))
+
+pub returns-clause-session : goal.returns-clause-session
+returns-clause-session g c =
+    let left = g.I.Source.left c.args.input.now in
+    let rest = g.I.Source.left c.run.new.input in
+    let o = g.O.Sink.written c.args.output.now in
+    let n = g.O.Sink.written c.run.new.output in
+    let t = g.L.Link.troubles c.args.link.now in
+    let u = g.L.Link.troubles c.run.new.link in
+    let v = g.L.Link.world c.args.link.now in
+    let w = g.L.Link.world c.run.new.link in
+    let ended = c.run.result in
+    let run : Run = record { client = c.in-Some.words.client; server = c.in-Some.words.server.now } in
+    let goes : Told v w (RunGoes (route_of run) left rest o n ended t u) =
+    subst (λ (s : List ℕ). Told v w (RunGoes (record { client = c.in-Some.words.client; server = s }) left rest o n ended t u)) c.in-Ok.ensures c.run.ensures.world in
+    subst (λ (f : Option Run). IfSome f (λ r. Told v w (Ran (route_of r) left rest o n c.status_of.result t u))) (sym c.in-Some.ensures.form)
+    (told_as v w (RunGoes (route_of run) left rest o n ended t u) (Ran (route_of run) left rest o n c.status_of.result t u) goes
+    (λ x y went. ran (route_of run) left rest o n ended c.status_of.result t u x y c.status_of.ensures went))

@@ -1,0 +1,17 @@
+pub mod Beginning
+pub mod Causes
+pub mod Commands
+pub mod Goes
+pub mod Headline
+pub mod Input
+pub mod Inside
+pub mod InsideNet
+pub mod InsideRun
+pub mod InsideSession
+pub mod Lines
+pub mod Net
+pub mod Run
+pub mod Session
+pub mod SyncTexts
+pub mod Texts
+pub mod Words
