@@ -1,0 +1,6 @@
+pub mod Sums
+pub mod Division
+pub mod Symbols
+pub mod Distance
+pub mod Unique
+pub mod Spelled

@@ -1,0 +1,100 @@
+-- What is read of a sketch is spelled so, and what is spelled so is read.
+use Rattle.std.proofs.Common.{◌≡◌, ℕ, zero, suc, ◌-◌, ◌<◌, ◌^◌, Bool, true, min, List, [], ◌∷◌, ◌++◌, length, get_or, leb, Result, Ok, Err, refl, sym, ap, subst, ◌∙◌, arith, lit<}
+use Rattle.std.specs.Int.{w16, w32}
+use Rattle.std.specs.List.{flat_map, AllByRecursion}
+use Rattle.std.proofs.lemmas.Bool.{leb-true, le-leb}
+use Rattle.byte_fields.specs.Field.{digits, number_at, ruled, each_at, EachFits}
+use Rattle.byte_fields.specs.Codec.{Stands, IsCodec}
+use Rattle.byte_fields.proofs.Codec.{span_codec, u16_codec, u32_codec, ruled_codec, codec_for, each_codec, found3, again3, fault3}
+use Rattle.byte_fields.proofs.Loop.{with_front, SoFar}
+use Rattle.rs_parity.specs.Blocks.{blocks_in, IsCheck}
+use Rattle.sha2.proofs.Facts256.{length-sha256}
+use Rattle.rs_parity.specs.Weight.{HasElements}
+use Rattle.rs_parity.specs.Spelling.{parity_spelling, sketch_spelling, SketchFits, parity_at, parities_at, sketch_at, OneSpelling, SketchesFit}
+use Rattle.rs_parity.specs.declared.sketch.Sketch.{Sketch}
+
+-- symbols that fit, one by one, and as elements
+elements_from : (ws : List ℕ) → EachFits (λ (state : Unit {0}) w. w < 2 ^ 16) (λ state w. state) tt ws → HasElements ws
+elements_from [] fits k = lit< tt
+elements_from (w ∷ ws) fits zero = fits.0
+elements_from (w ∷ ws) fits (suc k) = elements_from ws fits.1 k
+
+elements_to : (ws : List ℕ) → HasElements ws → EachFits (λ (state : Unit {0}) w. w < 2 ^ 16) (λ state w. state) tt ws
+elements_to [] elements = tt
+elements_to (w ∷ ws) elements = (elements 0, elements_to ws (λ k. elements (suc k)))
+
+parity_codec : IsCodec parity_at parity_spelling IsCheck
+unfolding parity_at parity_spelling
+parity_codec =
+    codec_for (each_codec (λ (state : Unit {0}). number_at w16) (λ state w. state) (digits w16) (λ state w. w < 2 ^ 16) (λ state. u16_codec) 32 tt)
+    (λ ws fits. record { size = fits.0; elements = elements_from ws fits.1 })
+    (λ ws check. (check.size, elements_to ws check.elements))
+
+checks_from : (ps : List (List ℕ)) → EachFits (λ (state : Unit {0}) p. IsCheck p) (λ state p. state) tt ps → AllByRecursion IsCheck ps
+checks_from [] fits = tt
+checks_from (p ∷ ps) fits = (fits.0, checks_from ps fits.1)
+
+checks_to : (ps : List (List ℕ)) → AllByRecursion IsCheck ps → EachFits (λ (state : Unit {0}) p. IsCheck p) (λ state p. state) tt ps
+checks_to [] all = tt
+checks_to (p ∷ ps) all = (all.0, checks_to ps all.1)
+
+parities_codec : (count : ℕ) → IsCodec (parities_at count) (flat_map parity_spelling) (λ ps. (length ps ≡ count) × AllByRecursion IsCheck ps)
+unfolding parities_at
+parities_codec count =
+    codec_for (each_codec (λ (state : Unit {0}). parity_at) (λ state p. state) parity_spelling (λ state p. IsCheck p) (λ state. parity_codec) count tt)
+    (λ ps fits. (fits.0, checks_from ps fits.1))
+    (λ ps all. (all.0, checks_to ps all.1))
+
+module _ (room : ℕ) where
+  abbrev within : ℕ → Bool
+  within len = leb len (min room 8388608)
+
+  len_codec : IsCodec (ruled within (number_at w32)) (digits w32) (λ len. (len < 2 ^ 32) × (within len ≡ true))
+  len_codec = ruled_codec within u32_codec
+
+  abbrev sketch_of_parts : ℕ → List ℕ → List (List ℕ) → Sketch
+  sketch_of_parts len print parities = record { len = len; print = print; parities = parities }
+
+  pub sketch_codec : IsCodec (sketch_at room) sketch_spelling (SketchFits room)
+  unfolding sketch_at sketch_spelling
+  sketch_codec = record {
+    found = λ bytes at sketch next fits le e.
+        let f = found3 len_codec (λ len fit. span_codec 32) (λ len print fit fit'. parities_codec (blocks_in len)) sketch_of_parts bytes at sketch next fits le e in
+        subst (λ (s : Sketch). Stands bytes at (digits w32 s.len ++ (s.print ++ flat_map parity_spelling s.parities)) next × SketchFits room s) f.is
+        (f.stands, record { len = leb-true _ _ f.first_fits.1; print = f.second_fits; count = f.third_fits.0; checks = f.third_fits.1 });
+    again = λ bytes at sketch next stands fits.
+        again3 len_codec (λ len fit. span_codec 32) (λ len print fit fit'. parities_codec (blocks_in len)) sketch_of_parts bytes at sketch.len sketch.print sketch.parities next stands
+        (omega (arith, fits.len), le-leb _ _ fits.len) fits.print (fits.count, fits.checks);
+    fault = fault3 len_codec (λ len fit. span_codec 32) (λ len print fit fit'. parities_codec (blocks_in len)) sketch_of_parts;
+  }
+
+pub one_spelling_each : OneSpelling
+one_spelling_each room = sketch_codec room
+
+-- before a loop over items nothing stands in front
+from_start : {A : Type 0} (read : Result (List A × ℕ) ℕ) → with_front [] read ≡ read
+from_start (Ok x) = refl
+from_start (Err place) = refl
+
+pub symbols_start : (bytes : List ℕ) (start : ℕ) → SoFar (λ (state : Unit {0}). number_at w16) (λ state symbol. state) bytes (parity_at bytes start) [] 32 tt start
+unfolding parity_at
+symbols_start bytes start = from_start (parity_at bytes start)
+
+pub parities_start : (bytes : List ℕ) (count start : ℕ) (parities : List (List ℕ)) → parities ≡ []
+    → SoFar (λ (state : Unit {0}). parity_at) (λ state parity. state) bytes (parities_at count bytes start) parities (count - 0) tt start
+unfolding parities_at
+parities_start bytes count start parities none =
+    let left : count - 0 ≡ count = omega arith in
+    (λ i. with_front (none i) (each_at (λ (state : Unit {0}). parity_at) (λ state parity. state) (left i) tt bytes start)) ∙ from_start (parities_at count bytes start)
+
+checks_each : (ps : List (List ℕ)) → ((i : ℕ) → i < length ps → IsCheck (get_or ps i [])) → AllByRecursion IsCheck ps
+checks_each [] each = tt
+checks_each (p ∷ ps) each = (each 0 (omega arith), checks_each ps (λ i h. each (suc i) (omega arith)))
+
+pub sketches_fit_each : SketchesFit
+sketches_fit_each content sketch room is short = record {
+  len = omega (arith, is.len);
+  print = ap length is.print ∙ length-sha256 content;
+  count = is.parities.count ∙ ap blocks_in (sym is.len);
+  checks = checks_each sketch.parities (λ i h. (is.parities.each i (omega (arith, is.parities.count))).check);
+}

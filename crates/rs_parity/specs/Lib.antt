@@ -1,0 +1,6 @@
+pub mod CodeWord
+pub mod Weight
+pub mod Blocks
+pub mod Sketches
+pub mod Inside
+pub mod Spelling

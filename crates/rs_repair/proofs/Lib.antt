@@ -1,0 +1,9 @@
+pub mod Unique
+pub mod Locate
+pub mod Values
+pub mod Roots
+pub mod Pairings
+pub mod Search
+pub mod Exact
+pub mod Check
+pub mod Blocks
