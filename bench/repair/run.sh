@@ -1,0 +1,33 @@
+#!/bin/sh
+# Seconds and memory of `repair` on 8 MiB with no difference, with 16 symbols changed in one block, in each of the 65 blocks, and with 17
+# changed in one, which is beyond repair; beside them `sketch_of` of the same bytes, and a plain decoder in C built with -O2, in turn:
+# one thread each, the best of three runs. The ratio is the decoder's time by ours.
+set -eu
+here=$(cd "$(dirname "$0")" && pwd)
+work=$(mktemp -d -p /dev/shm 2>/dev/null || mktemp -d)
+trap 'rm -rf "$work"' EXIT
+head -c 8388608 /dev/urandom > "$work/content"
+gcc -O2 -o "$work/decoder" "$here/decoder.c"
+cd "$here/../../crates/repair_bench"
+rt run > "$work/built" 2>&1 || { cat "$work/built"; exit 1; }
+printf '%-28s %9s %9s %9s %7s %12s %12s\n' case sketch_of repair decoder ratio 'repair KiB' 'decoder KiB'
+while read -r blocks symbols name; do
+    for turn in 1 2 3; do
+        echo "ours $(out/repair_bench measure "$work/content" "$blocks" "$symbols")"
+        echo "theirs $("$work/decoder" "$work/content" "$blocks" "$symbols")"
+    done > "$work/times"
+    ours=$("$work/decoder" peak "$PWD/out/repair_bench" measure "$work/content" "$blocks" "$symbols" | tail -n 1)
+    theirs=$("$work/decoder" peak "$work/decoder" "$work/content" "$blocks" "$symbols" | tail -n 1)
+    awk -v name="$name" -v ours="$ours" -v theirs="$theirs" '
+        $2 != "-" && (!sketch || $2 < sketch) { sketch = $2 }
+        !($1 in best) || $3 < best[$1] { best[$1] = $3 }
+        { answers[$4] = 1 }
+        END { for (a in answers) { given = given " " a; n++ }
+              printf "%-28s %9.3f %9.3f %9.3f %7.2f %12d %12d %s\n", name, sketch / 1e9, best["ours"] / 1e9,
+                     best["theirs"] / 1e9, best["theirs"] / best["ours"], ours, theirs, (n == 1 ? given : "DIFFERENT" given) }' "$work/times"
+done << 'END'
+0 0 no difference
+1 16 16 symbols of one block
+65 16 16 symbols of each block
+1 17 17 symbols of one block
+END

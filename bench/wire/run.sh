@@ -1,0 +1,21 @@
+#!/bin/sh
+# MB/s with which stores of 1, 8 and 33 MB of content and snapshots of 1,024, 4,096 and 16,384 rows are read and written, and the
+# nanoseconds a byte, which stay the same where the time is linear in the bytes. The best of five runs.
+set -eu
+here=$(cd "$(dirname "$0")" && pwd)
+log=$(mktemp)
+trap 'rm -f "$log"' EXIT
+cd "$here/../../crates/wire_bench"
+rt run > "$log" 2>&1 || { cat "$log"; exit 1; }
+for turn in 1 2 3 4 5; do
+    out/wire_bench measure
+done | awk '
+    $4 != $2 * $3 { print "a frame was not written as long as it was read"; exit 1 }
+    { frame = $1 " " $2
+      if (!(frame in reading)) order[++frames] = frame
+      if (!(frame in reading) || $5 / $4 < reading[frame]) reading[frame] = $5 / $4
+      if (!(frame in writing) || $6 / $4 < writing[frame]) writing[frame] = $6 / $4 }
+    END { for (i = 1; i <= frames; i++) {
+              frame = order[i]; split(frame, words, " ")
+              printf "%-8s of %8d bytes   read %7.1f MB/s %7.2f ns a byte   written %7.1f MB/s %7.2f ns a byte\n", words[1], words[2],
+                  1000 / reading[frame], reading[frame], 1000 / writing[frame], writing[frame] } }'

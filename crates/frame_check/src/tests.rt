@@ -1,0 +1,384 @@
+//! Frames that are cut, spoilt or break a rule, and what the reader says of each.
+
+use Answer::{BadClient, BadKind, BadLength, BadVersion, Field, Message, Trailing};
+use std::alloc::{AllocError, Global};
+use std::test::Fail;
+use wire_frames::{FrameError, read};
+
+/// What the reader says of bytes.
+#[derive(Clone, Copy, Debug, PartialEq, Eq)]
+enum Answer {
+    Message,
+    BadLength,
+    BadVersion,
+    BadKind,
+    BadClient,
+    Field(u32),
+    Trailing(u32),
+    Memory,
+}
+
+/// Client 1's acceptance of entry 1.
+const ACCEPTED: &str = "0000000b 01 11 01 0000000000000001";
+
+/// Client 1 asks for all rows.
+const PULL: &str = "0000000b 01 03 01 0000000000000000";
+
+/// A refusal of bytes that are left from byte 15 on.
+const MALFORMED: &str = "00000010 01 1f 00 0000000000000000 06 0000000f";
+
+/// Client 1's entry 1, which writes six bytes at `a`, untouched before.
+const STORE: &str =
+    "0000002c 01 01 01 0000000000000001 00000001 02 000161 00000006 68656c6c6f0a 00000001 000161 0000000000000000";
+
+/// One row: the six bytes at `a`, in version 1.
+const SNAPSHOT: &str =
+    "0000002d 01 15 01 0000000000000000 0000000000000001 00000001 000161 0000000000000001 02 00000006 68656c6c6f0a";
+
+/// Version, kind, client and number of a store.
+const STORE_HEAD: &str = "01 01 01 0000000000000001";
+
+/// Version, kind, client, number and last number of a snapshot.
+const SNAPSHOT_HEAD: &str = "01 15 01 0000000000000000 0000000000000000";
+
+/// The bytes that the hexadecimal digits spell; other letters stand between them.
+fn bytes_of(alloc: Global, text: &str) -> Result<Vec<u8>, AllocError> {
+    let mut bytes = Vec::new(alloc);
+    let mut high = None;
+    for letter in text.bytes() {
+        let digit = match letter {
+            b'0'..=b'9' => letter - b'0',
+            b'a'..=b'f' => letter - b'a' + 10,
+            _ => continue,
+        };
+        high = match high {
+            None => Some(digit),
+            Some(first) => {
+                let first: u8 = first;
+                bytes.push(first.wrapping_mul(16).wrapping_add(digit))?;
+                None
+            }
+        };
+    }
+    Ok(bytes)
+}
+
+/// The frame that has this behind its length.
+fn framed(alloc: Global, payload: &[u8]) -> Result<Vec<u8>, AllocError> {
+    let size = u32::try_from(payload.len()).unwrap_or(u32::MAX);
+    let mut frame = Vec::from_slice(alloc, &size.to_be_bytes())?;
+    frame.extend_from_slice(payload)?;
+    Ok(frame)
+}
+
+/// What the reader says of a frame.
+fn answer_of(alloc: Global, frame: &[u8]) -> Answer {
+    match read(alloc, frame) {
+        Ok(_) => Answer::Message,
+        Err(FrameError::BadLength) => Answer::BadLength,
+        Err(FrameError::BadVersion) => Answer::BadVersion,
+        Err(FrameError::BadKind) => Answer::BadKind,
+        Err(FrameError::BadClient) => Answer::BadClient,
+        Err(FrameError::BadField(place)) => Answer::Field(place),
+        Err(FrameError::Trailing(place)) => Answer::Trailing(place),
+        Err(FrameError::Memory) => Answer::Memory,
+    }
+}
+
+/// What the reader says of the frame with this head and this body.
+fn answer_to(alloc: Global, head: &str, body: &str) -> Result<Answer, AllocError> {
+    let mut payload = bytes_of(alloc, head)?;
+    payload.extend_from_slice(&bytes_of(alloc, body)?)?;
+    Ok(answer_of(alloc, &framed(alloc, &payload)?))
+}
+
+/// The answer that a table states for a place: that of the first entry whose end is behind it.
+fn stated(table: &[(usize, Answer)], place: usize) -> Option<Answer> {
+    table
+        .iter()
+        .find(|entry| place < entry.0)
+        .map(|entry| entry.1)
+}
+
+/// The first place of a frame where a byte ff in place of its own gets another answer than the stated one.
+fn first_wrong_byte(
+    alloc: Global,
+    text: &str,
+    table: &[(usize, Answer)],
+) -> Result<Option<usize>, AllocError> {
+    let frame = bytes_of(alloc, text)?;
+    for place in 0..frame.len() {
+        let mut other = frame.clone()?;
+        if let Some(byte) = other.get_mut(place) {
+            *byte = 255;
+        }
+        if Some(answer_of(alloc, &other)) != stated(table, place) {
+            return Ok(Some(place));
+        }
+    }
+    Ok(None)
+}
+
+/// The first number of bytes, fewer than the frame has, with which its front is not refused for its length.
+fn first_wrong_cut(alloc: Global, text: &str) -> Result<Option<usize>, AllocError> {
+    let frame = bytes_of(alloc, text)?;
+    for size in 0..frame.len() {
+        if answer_of(alloc, &frame[..size]) != Answer::BadLength {
+            return Ok(Some(size));
+        }
+    }
+    Ok(None)
+}
+
+/// The first number of bytes, at least 4 and fewer than the frame has, with which its front gets another answer than
+/// the stated one once its length is that of the front.
+fn first_wrong_front(
+    alloc: Global,
+    text: &str,
+    table: &[(usize, Answer)],
+) -> Result<Option<usize>, AllocError> {
+    let frame = bytes_of(alloc, text)?;
+    for size in 4..frame.len() {
+        let front = framed(alloc, &frame[4..size])?;
+        if Some(answer_of(alloc, &front)) != stated(table, size) {
+            return Ok(Some(size));
+        }
+    }
+    Ok(None)
+}
+
+#[test]
+fn example_frames_are_read(rt: HostRuntime) -> Result<(), Fail> {
+    for text in [PULL, STORE, ACCEPTED, MALFORMED, SNAPSHOT] {
+        let frame = bytes_of(rt.alloc(), text)?;
+        assert_eq!(rt; answer_of(rt.alloc(), &frame), Message, "{text}");
+    }
+    Ok(())
+}
+
+#[test]
+fn cut_frames_have_another_length(rt: HostRuntime) -> Result<(), Fail> {
+    for text in [PULL, STORE, ACCEPTED, MALFORMED, SNAPSHOT] {
+        assert_eq!(rt; first_wrong_cut(rt.alloc(), text)?, None, "{text}");
+    }
+    Ok(())
+}
+
+#[test]
+fn fronts_end_in_the_field_that_is_cut(rt: HostRuntime) -> Result<(), Fail> {
+    let store = [
+        (15, BadLength),
+        (19, Field(15)),
+        (20, Field(19)),
+        (22, Field(20)),
+        (23, Field(22)),
+        (27, Field(23)),
+        (33, Field(27)),
+        (37, Field(33)),
+        (39, Field(37)),
+        (40, Field(39)),
+        (48, Field(40)),
+    ];
+    let snapshot = [
+        (15, BadLength),
+        (23, Field(15)),
+        (27, Field(23)),
+        (29, Field(27)),
+        (30, Field(29)),
+        (38, Field(30)),
+        (39, Field(38)),
+        (43, Field(39)),
+        (49, Field(43)),
+    ];
+    let malformed = [(15, BadLength), (16, Field(15)), (20, Field(16))];
+    assert_eq!(rt; first_wrong_front(rt.alloc(), STORE, &store)?, None);
+    assert_eq!(rt; first_wrong_front(rt.alloc(), SNAPSHOT, &snapshot)?, None);
+    assert_eq!(rt; first_wrong_front(rt.alloc(), MALFORMED, &malformed)?, None);
+    Ok(())
+}
+
+#[test]
+fn spoilt_bytes_are_refused_in_their_field(rt: HostRuntime) -> Result<(), Fail> {
+    let accepted = [
+        (4, BadLength),
+        (5, BadVersion),
+        (6, BadKind),
+        (7, BadClient),
+        (15, Message),
+    ];
+    // 255 effects are allowed, and byte 33 is no kind of the second; the name of byte 22 is no longer that of the base.
+    let store = [
+        (4, BadLength),
+        (5, BadVersion),
+        (6, BadKind),
+        (7, BadClient),
+        (15, Message),
+        (18, Field(15)),
+        (19, Field(33)),
+        (20, Field(19)),
+        (22, Field(22)),
+        (23, Field(37)),
+        (25, Field(23)),
+        (27, Field(27)),
+        (33, Message),
+        (37, Field(33)),
+        (39, Field(39)),
+        (40, Field(37)),
+        (48, Message),
+    ];
+    assert_eq!(rt; first_wrong_byte(rt.alloc(), ACCEPTED, &accepted)?, None);
+    assert_eq!(rt; first_wrong_byte(rt.alloc(), STORE, &store)?, None);
+    Ok(())
+}
+
+#[test]
+fn great_counts_have_too_few_bytes_behind(rt: HostRuntime) -> Result<(), Fail> {
+    let stores = [
+        ("ffffffff 01 000161", Field(15)),
+        ("00001000 01 000161", Field(23)),
+        ("00000001 02 000161 ffffffff 6f6b", Field(23)),
+        ("00000001 02 000161 00800000 6f6b", Field(27)),
+        ("00000001 01 000161 ffffffff 000161", Field(23)),
+        ("00000001 01 ffff 61", Field(22)),
+    ];
+    for (body, wanted) in stores {
+        assert_eq!(rt; answer_to(rt.alloc(), STORE_HEAD, body)?, wanted, "{body}");
+    }
+    for (body, wanted) in [("ffffffff 000161", Field(23)), ("00004000", Field(27))] {
+        assert_eq!(rt;
+            answer_to(rt.alloc(), SNAPSHOT_HEAD, body)?,
+            wanted,
+            "{body}"
+        );
+    }
+    Ok(())
+}
+
+#[test]
+fn a_base_has_the_touched_paths_in_their_order(rt: HostRuntime) -> Result<(), Fail> {
+    let made_and_removed = "01 01 01 0000000000000001 00000002 01 000164 03 000165";
+    let bases = [
+        (
+            "00000002 000164 0000000000000000 000165 0000000000000000",
+            Message,
+        ),
+        (
+            "00000002 000164 0000000000000000 000164 0000000000000000",
+            Field(42),
+        ),
+        (
+            "00000002 000165 0000000000000000 000164 0000000000000000",
+            Field(31),
+        ),
+        ("00000001 000164 0000000000000000", Field(27)),
+        (
+            "00000002 000164 0000000000000000 000165 0000000000000000 00",
+            Trailing(53),
+        ),
+    ];
+    for (base, wanted) in bases {
+        assert_eq!(rt;
+            answer_to(rt.alloc(), made_and_removed, base)?,
+            wanted,
+            "{base}"
+        );
+    }
+    let twice = "01 01 01 0000000000000001 00000002 01 000164 03 000164";
+    let doubled = "00000002 000164 0000000000000000 000164 0000000000000000";
+    assert_eq!(rt; answer_to(rt.alloc(), twice, doubled)?, Field(27));
+    Ok(())
+}
+
+#[test]
+fn rows_are_those_of_a_tree(rt: HostRuntime) -> Result<(), Fail> {
+    let rows = [
+        ("00000000", Message),
+        (
+            "00000002 000161 0000000000000001 00 000162 0000000000000001 00",
+            Message,
+        ),
+        (
+            "00000002 000162 0000000000000001 00 000161 0000000000000001 00",
+            Field(39),
+        ),
+        (
+            "00000002 000161 0000000000000001 00 000161 0000000000000001 00",
+            Field(39),
+        ),
+        ("00000001 0000 0000000000000001 00", Field(27)),
+        ("00000001 000161 0000000000000000 00", Field(30)),
+        ("00000001 000161 0000000000000001 03", Field(38)),
+        (
+            "00000002 000161 0000000000000001 01 0003612f62 0000000000000001 01",
+            Message,
+        ),
+        (
+            "00000002 000161 0000000000000001 00 0003612f62 0000000000000001 00",
+            Message,
+        ),
+        (
+            "00000002 000161 0000000000000001 00 0003612f62 0000000000000001 01",
+            Field(52),
+        ),
+        (
+            "00000001 0003612f62 0000000000000001 02 00000000",
+            Field(40),
+        ),
+    ];
+    for (body, wanted) in rows {
+        assert_eq!(rt;
+            answer_to(rt.alloc(), SNAPSHOT_HEAD, body)?,
+            wanted,
+            "{body}"
+        );
+    }
+    Ok(())
+}
+
+#[test]
+fn effects_are_1_to_4096(rt: HostRuntime) -> Result<(), Fail> {
+    assert_eq!(rt;
+        answer_to(rt.alloc(), STORE_HEAD, "00000000 00000000")?,
+        Field(15)
+    );
+    assert_eq!(rt; answer_to_folders(rt.alloc(), 4096)?, Message);
+    assert_eq!(rt; answer_to_folders(rt.alloc(), 4097)?, Field(15));
+    Ok(())
+}
+
+/// What the reader says of a store that makes the folder `a` so many times.
+fn answer_to_folders(alloc: Global, count: u32) -> Result<Answer, AllocError> {
+    let mut payload = bytes_of(alloc, STORE_HEAD)?;
+    payload.extend_from_slice(&count.to_be_bytes())?;
+    let effect = bytes_of(alloc, "01 000161")?;
+    for _ in 0..count {
+        payload.extend_from_slice(&effect)?;
+    }
+    payload.extend_from_slice(&bytes_of(alloc, "00000001 000161 0000000000000000")?)?;
+    Ok(answer_of(alloc, &framed(alloc, &payload)?))
+}
+
+#[test]
+fn contents_have_32_mib_together(rt: HostRuntime) -> Result<(), Fail> {
+    assert_eq!(rt; answer_to_contents(rt.alloc(), "00000000")?, Message);
+    assert_eq!(rt;
+        answer_to_contents(rt.alloc(), "00000001 6f")?,
+        Field(33_554_487)
+    );
+    Ok(())
+}
+
+/// What the reader says of a store that writes 8 MiB four times and then this content.
+fn answer_to_contents(alloc: Global, last: &str) -> Result<Answer, AllocError> {
+    let mut payload = bytes_of(alloc, STORE_HEAD)?;
+    payload.extend_from_slice(&bytes_of(alloc, "00000005")?)?;
+    let content = vec![in alloc; 0u8; 8_388_608]?;
+    for _ in 0..4 {
+        payload.extend_from_slice(&bytes_of(alloc, "02 000161 00800000")?)?;
+        payload.extend_from_slice(&content)?;
+    }
+    payload.extend_from_slice(&bytes_of(alloc, "02 000161")?)?;
+    payload.extend_from_slice(&bytes_of(alloc, last)?)?;
+    payload.extend_from_slice(&bytes_of(alloc, "00000001 000161 0000000000000000")?)?;
+    Ok(answer_of(alloc, &framed(alloc, &payload)?))
+}

@@ -1,0 +1,5 @@
+//! Tests of the log at its limits, and of the bytes of an entry.
+#![tactic(auto)]
+
+#[cfg(test)]
+mod tests;

@@ -1,0 +1,168 @@
+ghost use Rattle.std.specs.Prelude.{◌≢◌, IfOk, []};
+
+use mod_log::{Entry, Log, LogError};
+use std::alloc::Global;
+use std::rt::HostRuntime;
+use std::test::Fail;
+use vol_tree::{Content, Effect, Effects, Path, TakeError, Tree};
+
+/// The entry of a put of "hello\n" at "a", where there was nothing: the byte 0, one effect, one base.
+const HELLO: [u8; 34] = [
+    0x00, 0x00, 0x00, 0x00, 0x01, 0x02, 0x00, 0x01, 0x61, 0x00, 0x00, 0x00, 0x06, 0x68, 0x65, 0x6c,
+    0x6c, 0x6f, 0x0a, 0x00, 0x00, 0x00, 0x01, 0x00, 0x01, 0x61, 0x00, 0x00, 0x00, 0x00, 0x00, 0x00,
+    0x00, 0x00,
+];
+
+fn put(alloc: Global, bytes: &[u8]) -> Result<Effect, Fail> {
+    Ok(Effect::Put(Path::read(alloc, b"a")?, Content::of(alloc, bytes)?))
+}
+
+/// A put of "hello\n" at "a".
+fn hello(alloc: Global) -> Result<Effects, Fail>
+    ensures { IfOk result (λ effects. effects ≢ []) }
+{
+    let mut effects = Effects::new(alloc);
+    effects.push(put(alloc, b"hello\n")?)?;
+    Ok(effects)
+}
+
+/// So many puts of no bytes at "a", and one more.
+fn puts(alloc: Global, count: usize) -> Result<Effects, Fail>
+    ensures { IfOk result (λ effects. effects ≢ []) }
+{
+    let mut effects = Effects::new(alloc);
+    for _ in 0..count {
+        effects.push(put(alloc, b"")?)?;
+    }
+    effects.push(put(alloc, b"")?)?;
+    Ok(effects)
+}
+
+/// The version on which the pending entry rests.
+fn base_version(log: &Log, i: u32) -> Result<u64, Fail> {
+    let entry = log.entry(i).ok_or("no entry")?;
+    let base = entry.base.as_slice().first().ok_or("no base")?;
+    Ok(base.version)
+}
+
+/// The version of "a" in the base of the log.
+fn version_in_base(alloc: Global, log: &Log) -> Result<u64, Fail> {
+    let path = Path::read(alloc, b"a")?;
+    Ok(log.base()?.version(&path))
+}
+
+/// Acknowledges the first pending entry, where there is one.
+fn acknowledge_next(log: &mut Log) {
+    if log.pending() > 0 {
+        let next = log.acked() + 1;
+        log.acknowledge(next);
+    }
+}
+
+#[test]
+fn each_entry_rests_on_the_one_before(rt: HostRuntime) -> Result<(), Fail> {
+    let alloc = rt.alloc();
+    let mut log = Log::new(0, Tree::new(alloc));
+    for _ in 0..3 {
+        let _ = log.append(hello(alloc)?)?;
+    }
+    for i in 0..3u32 {
+        assert_eq!(rt; base_version(&log, i)?, i as u64);
+    }
+    Ok(())
+}
+
+#[test]
+fn each_acknowledged_entry_goes_into_the_base(rt: HostRuntime) -> Result<(), Fail> {
+    let alloc = rt.alloc();
+    let mut log = Log::new(0, Tree::new(alloc));
+    for _ in 0..3 {
+        let _ = log.append(hello(alloc)?)?;
+    }
+    for i in 0..3u32 {
+        assert_eq!(rt; version_in_base(alloc, &log)?, i as u64);
+        acknowledge_next(&mut log);
+    }
+    assert_eq!(rt; version_in_base(alloc, &log)?, 3);
+    assert_eq!(rt; log.pending(), 0);
+    Ok(())
+}
+
+#[test]
+fn holds_1024_entries(rt: HostRuntime) -> Result<(), Fail> {
+    let alloc = rt.alloc();
+    let mut log = Log::new(0, Tree::new(alloc));
+    for _ in 0..1024 {
+        let _ = log.append(hello(alloc)?)?;
+    }
+    let refused = log.append(hello(alloc)?);
+    assert!(rt;
+        matches!(
+            refused,
+            Err(LogError::LogFull {
+                entries: 1024,
+                bytes: 34850
+            })
+        )
+    );
+    assert_eq!(rt; log.pending(), 1024);
+    Ok(())
+}
+
+#[test]
+fn holds_4096_effects_in_an_entry(rt: HostRuntime) -> Result<(), Fail> {
+    let alloc = rt.alloc();
+    let mut log = Log::new(0, Tree::new(alloc));
+    let refused = log.append(puts(alloc, 4096)?);
+    assert!(rt;
+        matches!(
+            refused,
+            Err(LogError::EntryTooLarge {
+                effects: 4097,
+                bytes: 0
+            })
+        )
+    );
+    assert_eq!(rt; log.append(puts(alloc, 4095)?)?, 1);
+    Ok(())
+}
+
+#[test]
+fn spells_an_entry(rt: HostRuntime) -> Result<(), Fail> {
+    let alloc = rt.alloc();
+    let mut log = Log::new(0, Tree::new(alloc));
+    let _ = log.append(hello(alloc)?)?;
+    let mut bytes = Vec::new(alloc);
+    if let Some(entry) = log.entry(0) {
+        Entry::spell(entry, &mut bytes)?;
+    }
+    assert_eq!(rt; bytes.as_slice(), HELLO.as_slice());
+    Ok(())
+}
+
+#[test]
+fn takes_an_entry(rt: HostRuntime) -> Result<(), Fail> {
+    let alloc = rt.alloc();
+    let (entry, next) = Entry::take(alloc, &HELLO, 0, 7).ok().ok_or("refused")?;
+    assert!(rt; next == 34 && entry.seq == 7);
+    assert!(rt; matches!(entry.effects.as_slice(), [Effect::Put(_, _)]));
+    assert_eq!(rt; entry.base.len(), 1);
+    Ok(())
+}
+
+#[test]
+fn refuses_the_first_faulty_field(rt: HostRuntime) -> Result<(), Fail> {
+    let alloc = rt.alloc();
+    let mut bytes = HELLO;
+    bytes[25] = b'b';
+    assert!(rt; matches!(Entry::take(alloc, &bytes, 0, 7), Err(TakeError::At(23))));
+    bytes[0] = 1;
+    assert!(rt; matches!(Entry::take(alloc, &bytes, 0, 7), Err(TakeError::At(0))));
+    assert!(rt;
+        matches!(
+            Entry::take(alloc, &HELLO[..33], 0, 7),
+            Err(TakeError::At(26))
+        )
+    );
+    Ok(())
+}
