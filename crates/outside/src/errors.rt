@@ -1,5 +1,6 @@
 ghost use Rattle.std.specs.Prelude.{◌≡◌};
 ghost use Rattle.outside.specs.declared.errors.SinkError.TheVariants.{Memory};
+ghost use Rattle.outside.specs.declared.errors.PortError.TheVariants as ports;
 
 use std::alloc::AllocError;
 use thiserror::Error;
@@ -25,5 +26,24 @@ impl From<AllocError> for SinkError {
 
     fn from(_: AllocError) -> Self {
         SinkError::Memory
+    }
+}
+
+/// Why a call of a port took or answered nothing.
+#[derive(Clone, Copy, Debug, PartialEq, Eq, Error)]
+pub enum PortError {
+    /// The port failed, and counted it.
+    #[error("the connection failed")]
+    Failed,
+    /// Memory ran out.
+    #[error("out of memory")]
+    Memory,
+}
+
+impl From<AllocError> for PortError {
+    ghost from_gives = { λ _ e. e ≡ ports.Memory };
+
+    fn from(_: AllocError) -> Self {
+        PortError::Memory
     }
 }

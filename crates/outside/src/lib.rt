@@ -6,11 +6,15 @@
 
 mod errors;
 mod memory;
+mod memory_port;
+mod port;
 mod sink;
 mod source;
 
-pub use errors::{Failed, SinkError};
+pub use errors::{Failed, PortError, SinkError};
 pub use memory::{MemSink, MemSource};
+pub use memory_port::MemPort;
+pub use port::Port;
 pub use sink::{Sink, write_all};
 pub use source::Source;
 

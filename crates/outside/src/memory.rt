@@ -40,7 +40,7 @@ impl MemSource {
 }
 
 /// Whether a call is one of those named.
-fn is_named(fails: &[u32], call: u64) -> bool
+pub(crate) fn is_named(fails: &[u32], call: u64) -> bool
     ensures { result ≡ is_named fails.now call }
 {
     fails.iter().any(|fail| u64::from(*fail) == call)

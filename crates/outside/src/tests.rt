@@ -27,3 +27,25 @@ fn a_named_write_adds_nothing(rt: HostRuntime) -> Result<(), Fail> {
     assert_eq!(rt; sink.bytes(), b"one three".as_slice());
     Ok(())
 }
+
+#[test]
+fn a_named_take_uses_up_its_frame(rt: HostRuntime) -> Result<(), Fail> {
+    let alloc = rt.alloc();
+    let frames = vec![in alloc;
+        b"one".to_vec(alloc)?,
+        b"two".to_vec(alloc)?,
+        b"three".to_vec(alloc)?,
+    ]?;
+    let fails = [1, 3, 6].to_vec(alloc)?;
+    let mut port = MemPort::new(alloc, frames, fails);
+    assert_eq!(rt; port.take(), Ok(Some(b"one".to_vec(alloc)?)));
+    assert_eq!(rt; port.take(), Err(PortError::Failed));
+    assert_eq!(rt; port.take(), Ok(Some(b"three".to_vec(alloc)?)));
+    assert_eq!(rt; port.answer(b"lost"), Err(PortError::Failed));
+    assert_eq!(rt; port.answer(b"kept"), Ok(()));
+    assert_eq!(rt; port.take(), Ok(None));
+    assert_eq!(rt; port.take(), Ok(None));
+    assert_eq!(rt; port.answered(0), Some(b"kept".as_slice()));
+    assert_eq!(rt; port.answered(1), None);
+    Ok(())
+}
