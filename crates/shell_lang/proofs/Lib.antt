@@ -1,0 +1,6 @@
+pub mod Cutting
+pub mod Pieces
+pub mod Read
+pub mod Refused
+pub mod Spelled
+pub mod Splitting

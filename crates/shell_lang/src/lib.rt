@@ -1,0 +1,25 @@
+//! The lines of the shell: their words and commands, and the texts of their answers.
+#![tactic(auto)]
+
+mod answer;
+mod command;
+mod fault_text;
+mod laws;
+mod line;
+mod lines;
+mod text;
+mod value;
+mod words;
+
+pub use answer::{Answer, Child, Children, Fault, has_no_memory};
+pub use command::{put_content, read_line};
+pub use laws::{
+    bad_words_are_refused, inputs_are_cut_alike_in_pieces, inputs_are_cut_at_line_ends,
+    lines_have_one_reading, read_words_are_spelled, spelled_words_are_read,
+};
+pub use line::{Line, LineError};
+pub use lines::LineBuffer;
+pub use text::text_of;
+
+#[cfg(test)]
+mod tests;

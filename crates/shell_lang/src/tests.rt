@@ -1,0 +1,171 @@
+use super::*;
+use mod_log::LogError;
+use std::alloc::Global;
+use std::test::Fail;
+use vol_tree::{Content, Path, PathError, TreeError, TryCopy};
+
+#[test]
+fn lines_are_read(rt: HostRuntime) -> Result<(), Fail> {
+    let alloc = rt.alloc();
+    assert!(rt; matches!(read_line(alloc, b"")?, Line::Empty));
+    let put = read_line(alloc, b"put 'a b' ''")?;
+    assert!(rt; matches!(&put, Line::Put(path, _) if path.bytes() == b"a b".as_slice()));
+    assert!(rt; matches!(&put, Line::Put(_, text) if text.bytes() == b"".as_slice()));
+    let moved = read_line(alloc, b"'mv' a b/c")?;
+    assert!(rt; matches!(&moved, Line::Move(from, _) if from.bytes() == b"a".as_slice()));
+    assert!(rt; matches!(&moved, Line::Move(_, to) if to.bytes() == b"b/c".as_slice()));
+    assert!(rt; matches!(read_line(alloc, b"ls")?, Line::List(None)));
+    let list = read_line(alloc, b"ls d")?;
+    assert!(rt; matches!(&list, Line::List(Some(path)) if path.bytes() == b"d".as_slice()));
+    assert!(rt; matches!(read_line(alloc, b"quit")?, Line::Quit));
+    Ok(())
+}
+
+#[test]
+fn lines_are_refused(rt: HostRuntime) -> Result<(), Fail> {
+    let alloc = rt.alloc();
+    let rows: [(&[u8], &[u8]); 15] = [
+        (b"put a", b"refused WrongCount 1\n"),
+        (b"ls a b", b"refused WrongCount 2\n"),
+        (b"status x", b"refused WrongCount 1\n"),
+        (b"put  a x", b"refused BadWord 1\n"),
+        (b"put ", b"refused BadWord 1\n"),
+        (b" put", b"refused BadWord 0\n"),
+        (b"put a'b c'", b"refused BadWord 1\n"),
+        (b"put 'a'b 'c", b"refused BadWord 1\n"),
+        (b"put a 'b'' c", b"refused BadWord 2\n"),
+        (b"cat 'a", b"refused OpenQuote\n"),
+        (b"copy  'a", b"refused BadWord 1\n"),
+        (b"copy a b", b"refused UnknownWord\n"),
+        (b"'' a", b"refused UnknownWord\n"),
+        (b"run x", b"refused UnknownWord\n"),
+        (b"pull", b"refused UnknownWord\n"),
+    ];
+    for (line, text) in &rows {
+        assert_eq!(rt; refusal_of(alloc, *line)?.as_slice(), *text);
+    }
+    Ok(())
+}
+
+/// The answer to a line that is refused.
+fn refusal_of(alloc: Global, line: &[u8]) -> Result<Vec<u8>, Fail> {
+    match read_line(alloc, line) {
+        Ok(_) | Err(LineError::Memory) => Ok(b"read".to_vec(alloc)?),
+        Err(fault) => Ok(text_of(alloc, &Answer::Refused(Fault::Line(fault)))?),
+    }
+}
+
+#[test]
+fn answers_are_printed(rt: HostRuntime) -> Result<(), Fail> {
+    let alloc = rt.alloc();
+    let root = Path::root(alloc);
+    let path = Path::read(alloc, b"d/x")?;
+    let content = Content::of(alloc, b"hi")?;
+    let mut children = Children::new(alloc);
+    for folder in [true, false] {
+        let name = content.copy()?;
+        children.push(Child { name, folder })?;
+    }
+    let full = TreeError::NotEmpty(root.copy()?, path.copy()?);
+    let unfit = TreeError::FileTooLarge(8_388_609);
+    let large = LogError::EntryTooLarge {
+        effects: 4_097,
+        bytes: 5,
+    };
+    let nested = LogError::Tree(3, TreeError::Missing(path.copy()?));
+    let rows: [(Answer, &[u8]); 17] = [
+        (Answer::Logged { seq: 1 }, b"logged 1\n"),
+        (Answer::Text(content), b"2\nhi"),
+        (Answer::Listing(children), b"2\nd hi\nf hi\n"),
+        (Answer::At(root), b"at /\n"),
+        (Answer::At(path.copy()?), b"at /d/x\n"),
+        (
+            Answer::Status {
+                acked: 7,
+                pending: 2,
+            },
+            b"acknowledged 7 pending 2\n",
+        ),
+        (
+            Answer::Synced(18_446_744_073_709_551_615),
+            b"synced 18446744073709551615\n",
+        ),
+        (
+            Answer::Stale {
+                seq: 3,
+                path: path.copy()?,
+                theirs: 2,
+                ours: 1,
+            },
+            b"stale 3 d/x 2 1\n",
+        ),
+        (
+            Answer::Unfit {
+                seq: 4,
+                index: 0,
+                fault: unfit,
+            },
+            b"unfit 4 0 FileTooLarge 8388609\n",
+        ),
+        (
+            Answer::Full {
+                seq: 5,
+                index: 9,
+                fault: full,
+            },
+            b"full 5 9 NotEmpty / d/x\n",
+        ),
+        (Answer::Unanswered { seq: 6 }, b"unanswered 6\n"),
+        (Answer::Behind { seq: 6, last: 3 }, b"behind 6 3\n"),
+        (
+            Answer::Refused(Fault::Path(PathError::TooDeep(33))),
+            b"refused TooDeep 33\n",
+        ),
+        (
+            Answer::Refused(Fault::Tree(TreeError::RootFixed)),
+            b"refused RootFixed\n",
+        ),
+        (
+            Answer::Refused(Fault::Log(large)),
+            b"refused EntryTooLarge 4097 5\n",
+        ),
+        (
+            Answer::Refused(Fault::Log(nested)),
+            b"refused Missing d/x\n",
+        ),
+        (
+            Answer::Refused(Fault::NotFolder(path)),
+            b"refused NotFolder d/x\n",
+        ),
+    ];
+    for (answer, text) in &rows {
+        assert!(rt; has_no_memory(answer));
+        if has_no_memory(answer) {
+            assert_eq!(rt; text_of(alloc, answer)?.as_slice(), *text);
+        }
+    }
+    assert!(rt; !has_no_memory(&Answer::Refused(Fault::Line(LineError::Memory))));
+    Ok(())
+}
+
+#[test]
+fn lines_are_cut(rt: HostRuntime) -> Result<(), Fail> {
+    let alloc = rt.alloc();
+    let mut buffer = LineBuffer::new(alloc);
+    buffer.add(b"a\n\nb")?;
+    assert!(rt; matches!(buffer.take_line()?, Some(line) if line.bytes() == b"a".as_slice()));
+    assert!(rt; matches!(buffer.take_line()?, Some(line) if line.bytes() == b"".as_slice()));
+    assert!(rt; matches!(buffer.take_line()?, None));
+    buffer.add(b"c\nd")?;
+    assert!(rt; matches!(buffer.take_line()?, Some(line) if line.bytes() == b"bc".as_slice()));
+    assert_eq!(rt; buffer.bytes(), b"d".as_slice());
+    Ok(())
+}
+
+#[test]
+fn puts_have_a_line_end(rt: HostRuntime) -> Result<(), Fail> {
+    let alloc = rt.alloc();
+    let content = put_content(alloc, &Content::of(alloc, b"x y")?)?;
+    assert_eq!(rt; content.bytes(), b"x y\n".as_slice());
+    Ok(())
+}

@@ -1,0 +1,83 @@
+//! The words of a line.
+
+ghost use Rattle.std.specs.Prelude.{◌≡◌, ◌+◌, ◌^◌, ◌<◌, length, position, IfSome};
+ghost use Rattle.shell_lang.specs.Words.{Gives, EndsFirst, is_quote, bare_word, closed_word, word_of, words_of};
+
+use crate::line::LineError;
+use byte_fields::saturate_u32;
+use std::alloc::Global;
+use vol_tree::{Content, List};
+
+/// The words of a line, from the left.
+#[tactic(auto, using(crate::proofs::Pieces::next_word, crate::proofs::Pieces::refused_word, crate::proofs::Pieces::last_word))]
+pub(crate) fn split_words(alloc: Global, line: &[u8]) -> Result<List<Content>, LineError>
+    ensures { Gives result (words_of line.now) }
+{
+    let mut words = List::new(alloc);
+    let mut rest = line;
+    while let Some(end) = first_end(rest) {
+        words.push(read_word(alloc, words.len(), &rest[..end])?)?;
+        rest = rest.split_at(end + 1).1;
+    }
+    words.push(read_word(alloc, words.len(), rest)?)?;
+    Ok(words)
+}
+
+/// The place of the first space outside quotes.
+#[tactic(auto, using(crate::proofs::Pieces::one_more_byte, crate::proofs::Pieces::first_piece, crate::proofs::Pieces::only_piece))]
+fn first_end(text: &[u8]) -> Option<usize>
+    ensures within { IfSome result (λ end. end < length text.now) }
+    ensures fits { IfSome result (λ end. end + 1 < 2 ^ 64) }
+    ensures ends { EndsFirst text.now result }
+{
+    let mut inside = false;
+    for (i, b) in text.iter().enumerate() {
+        if *b == b' ' && !inside {
+            return Some(i);
+        }
+        if *b == b'\'' {
+            inside = !inside;
+        }
+    }
+    None
+}
+
+/// Word `i`, which this piece of the line spells.
+fn read_word(alloc: Global, i: usize, piece: &[u8]) -> Result<Content, LineError>
+    ensures { Gives result (word_of i piece.now) }
+{
+    match piece {
+        [b'\'', inner @ ..] => read_quoted(alloc, i, inner),
+        _ => read_bare(alloc, i, piece),
+    }
+}
+
+/// Word `i`, from what stands behind its first quote.
+fn read_quoted(alloc: Global, i: usize, inner: &[u8]) -> Result<Content, LineError>
+    ensures { Gives result (closed_word i inner.now (position is_quote inner.now)) }
+{
+    let Some(end) = first_quote(inner) else {
+        return Err(LineError::OpenQuote);
+    };
+    if end + 1 != inner.len() {
+        return Err(LineError::BadWord(saturate_u32(i)));
+    }
+    Ok(Content::of(alloc, &inner[..end])?)
+}
+
+/// Word `i`, which begins with no quote.
+fn read_bare(alloc: Global, i: usize, piece: &[u8]) -> Result<Content, LineError>
+    ensures { Gives result (bare_word i piece.now) }
+{
+    if piece.is_empty() || first_quote(piece).is_some() {
+        return Err(LineError::BadWord(saturate_u32(i)));
+    }
+    Ok(Content::of(alloc, piece)?)
+}
+
+/// The place of the first quote.
+fn first_quote(text: &[u8]) -> Option<usize>
+    ensures { result ≡ position is_quote text.now }
+{
+    text.iter().position(|b| *b == b'\'')
+}
