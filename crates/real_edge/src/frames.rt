@@ -1,0 +1,71 @@
+// One frame of a stream.
+ghost use Rattle.std.specs.Prelude.{◌≡◌, ◌+◌, ◌≤◌, ◌<◌, IfOk, IfSome, OnOk, length};
+ghost use Rattle.real_edge.specs.Frames.{frame_limit, behind, first_frame};
+ghost use Rattle.real_edge.specs.Inside.{ReadsBlock, ReadsUpTo};
+
+use std::alloc::Global;
+use std::io;
+use std::io::{ErrorKind, Read};
+
+/// The most bytes of a frame.
+pub(crate) const MAX_FRAME: usize = 67_108_864;
+
+/// How many bytes are read at once.
+const BLOCK: usize = 16_384;
+
+/// Reads once, at most so many bytes, and says how many came: none only at the end.
+fn read_block<S: Read>(stream: &mut S, most: usize, frame: &mut Vec<u8>) -> io::Result<usize>
+    requires { 0 < most }
+    ensures { IfOk result (ReadsBlock most (S.remaining stream.old) (S.remaining stream.new) frame.old.items frame.new.items) }
+{
+    let mut block = [0; BLOCK];
+    let room = &mut block[..most.min(BLOCK)];
+    let count = stream.read(room)?;
+    frame.extend_from_slice(&room[..count])?;
+    Ok(count)
+}
+
+/// Reads until so many more bytes have come, or the stream ends.
+fn read_up_to<S: Read>(stream: &mut S, most: usize, frame: &mut Vec<u8>) -> io::Result<()>
+    ensures { OnOk result (ReadsUpTo most (S.remaining stream.old) (S.remaining stream.new) frame.old.items frame.new.items) }
+{
+    let mut left = most;
+    while left > 0 {
+        match read_block(stream, left, frame) {
+            Ok(0) => return Ok(()),
+            Ok(count) => left -= count,
+            Err(error) => return Err(error),
+        }
+    }
+    Ok(())
+}
+
+/// How many bytes the first four announce behind them: none where there are no four, or where the frame would be over the
+/// limit.
+fn bytes_behind(head: &[u8]) -> usize
+    ensures announced { result ≡ behind head.now }
+    ensures fits { result + 4 ≤ frame_limit }
+{
+    match head.first_chunk::<4>() {
+        Some(said) => {
+            let behind = u32::from_be_bytes(*said) as usize;
+            if behind + 4 <= MAX_FRAME { behind } else { 0 }
+        }
+        None => 0,
+    }
+}
+
+/// Reads one frame: its length of four bytes, and as many more as it says. Where the stream ends before, what came is
+/// given; the length alone, where it is over the limit.
+#[tactic(auto, using(crate::proofs::Framing::frame_form, crate::proofs::Framing::frame_known))]
+pub(crate) fn read_frame<S: Read>(alloc: Global, stream: &mut S) -> io::Result<Vec<u8>>
+    ensures limit { IfOk result (λ frame. length frame.items ≤ frame_limit) }
+    ensures form { IfOk result (λ frame. first_frame frame.items ≡ frame.items) }
+    ensures known { IfOk result (λ frame. IfSome (S.remaining stream.old) (λ bytes. frame.items ≡ first_frame bytes)) }
+{
+    let mut frame = Vec::new(alloc);
+    read_up_to(stream, 4, &mut frame)?;
+    let behind = bytes_behind(&frame);
+    read_up_to(stream, behind, &mut frame)?;
+    Ok(frame)
+}

@@ -1,0 +1,16 @@
+//! The real streams and sockets behind the traits of the outside. An adapter tells nothing of what it carries, and counts
+//! each call that failed. Every wait for a peer has an end.
+#![tactic(auto)]
+
+mod faults;
+mod frames;
+mod link;
+mod pace;
+mod port;
+mod streams;
+mod words;
+
+pub use link::TcpLink;
+pub use port::TcpPort;
+pub use streams::{StdSink, StdSource};
+pub use words::program_words;

@@ -1,0 +1,146 @@
+// Asks over TCP.
+ghost use Rattle.std.specs.Prelude.{◌≡◌, ◌≤◌, None, IfOk, OnOk};
+ghost use Rattle.outside.specs.Outside.{Told, Rose, HasCause};
+ghost use Rattle.wire_frames.specs.declared.message.Message.{Message};
+ghost use Rattle.wire_frames.specs.Frame.{Spells};
+ghost use Rattle.world_rules.specs.World.{World};
+ghost use Rattle.world_rules.specs.Asking.{IsRequest, IsReplyTo, AsksOnce, IsDirect};
+ghost use Rattle.real_edge.specs.Counting.{Counts};
+
+use crate::faults::count_fault;
+use crate::frames::read_frame;
+use crate::pace::{Paced, TALK};
+use std::alloc::Global;
+use std::io;
+use std::io::{ErrorKind, Write};
+use std::net::{Net, TcpStream, ToSocketAddrs};
+use std::time::{Clock, Duration};
+use wire_frames::{FrameError, Message, echoes, read};
+use world_rules::{Link, LinkError, Peer};
+
+/// The longest wait for one address of a peer to answer.
+const CONNECT_SECONDS: u64 = 10;
+
+/// The most addresses of one name that are tried.
+const MOST_ADDRESSES: usize = 4;
+
+/// Asks over TCP, each over a connection of its own.
+#[derive(Drop)]
+pub struct TcpLink<'a, N: Net + Clock> {
+    alloc: Global,
+    net: &'a N,
+    troubles: u64,
+}
+
+impl<'a, N: Net + Clock> TcpLink<'a, N> {
+    /// A link without trouble yet. It opens nothing.
+    pub fn new(alloc: Global, net: &'a N) -> TcpLink<'a, N>
+        ensures { result.troubles ≡ 0 }
+    {
+        TcpLink {
+            alloc,
+            net,
+            troubles: 0,
+        }
+    }
+
+    /// Sends the frame over a new connection, and gives the frame that comes back.
+    fn exchange(&self, address: &[u8], frame: &[u8]) -> io::Result<Vec<u8>> {
+        let stream = connect(self.net, address)?;
+        let mut stream = Paced::start(stream, self.net, TALK)?;
+        stream.write_all(frame)?;
+        read_frame(self.alloc, &mut stream)
+    }
+
+    /// Asks once, and gives the frame that comes back where it spells a reply to the request.
+    fn reply_to(&self, address: &[u8], frame: &[u8]) -> Result<Vec<u8>, LinkError>
+        ensures { (request : Message) → Spells request frame.now → IfOk result (λ bytes. IsReplyTo request bytes.items) }
+    {
+        let bytes = match self.exchange(address, frame) {
+            Ok(bytes) => bytes,
+            Err(error) => return Err(refusal_of(error)),
+        };
+        match check_reply(self.alloc, frame, &bytes) {
+            Ok(()) => Ok(bytes),
+            Err(refused) => Err(refused),
+        }
+    }
+}
+
+/// Refuses bytes that spell no reply to the request of this frame.
+fn check_reply(alloc: Global, frame: &[u8], bytes: &[u8]) -> Result<(), LinkError>
+    ensures { (request : Message) → Spells request frame.now → OnOk result (IsReplyTo request bytes.now) }
+{
+    match read(alloc, frame) {
+        Ok(request) => check_echo(alloc, &request, bytes),
+        Err(refused) => Err(failure_of(&refused)),
+    }
+}
+
+/// Refuses bytes that spell no reply to the request.
+fn check_echo(alloc: Global, request: &Message, bytes: &[u8]) -> Result<(), LinkError>
+    ensures { OnOk result (IsReplyTo request.now bytes.now) }
+{
+    match read(alloc, bytes) {
+        Ok(reply) if echoes(request, &reply) => Ok(()),
+        Ok(_) => Err(LinkError::Failed),
+        Err(refused) => Err(failure_of(&refused)),
+    }
+}
+
+/// What bytes that are no frame are to an ask.
+fn failure_of(refused: &FrameError) -> LinkError {
+    match refused {
+        FrameError::Memory => LinkError::Memory,
+        _ => LinkError::Failed,
+    }
+}
+
+/// Connects to the first address of a peer that answers.
+fn connect<N: Net>(net: &N, address: &[u8]) -> io::Result<N::Stream> {
+    let Ok(address) = str::from_utf8(address) else {
+        return Err(io::Error::from(ErrorKind::InvalidInput));
+    };
+    let mut last = io::Error::from(ErrorKind::InvalidInput);
+    for found in address.to_socket_addrs(net)?.take(MOST_ADDRESSES) {
+        match TcpStream::connect_timeout(net, &found, Duration::from_secs(CONNECT_SECONDS)) {
+            Ok(stream) => return Ok(stream),
+            Err(error) => last = error,
+        }
+    }
+    Err(last)
+}
+
+/// What an error of the platform is to an ask.
+fn refusal_of(error: io::Error) -> LinkError {
+    match error.kind() {
+        ErrorKind::OutOfMemory => LinkError::Memory,
+        _ => LinkError::Failed,
+    }
+}
+
+impl<'a, N: Net + Clock> Link for TcpLink<'a, N> {
+    ghost world = { λ _. None };
+
+    ghost troubles = { λ l. l.troubles };
+
+    fn ask(&mut self, _to: Peer, address: &[u8], frame: &[u8]) -> Result<Vec<u8>, LinkError>
+        requires { (request : Message) × Spells request frame.now × IsRequest _to request }
+        ensures reply { (request : Message) → Spells request frame.now
+            → IfOk result (λ bytes. IsReplyTo request bytes.items) }
+        ensures world { (request : Message) → Spells request frame.now
+            → Told {A = World} None None (λ old new. AsksOnce _to address.now request old new result) }
+        ensures direct { (request : Message) → Spells request frame.now → _to ≡ Peer.Server
+            → (Rose self.old.troubles self.new.troubles → ⊥)
+            → Told {A = World} None None (λ old new. IsDirect _to address.now request old new result) }
+        ensures cause { HasCause LinkError.Failed self.old.troubles self.new.troubles result }
+
+        ensures counted { Counts LinkError.Failed self.old.troubles self.new.troubles result }
+    {
+        let answered = self.reply_to(address, frame);
+        if let Err(LinkError::Failed) = &answered {
+            count_fault(&mut self.troubles);
+        }
+        answered
+    }
+}

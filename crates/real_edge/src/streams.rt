@@ -1,0 +1,87 @@
+// The standard streams as a source and a sink.
+ghost use Rattle.std.specs.Prelude.{◌≡◌, ◌<◌, ◌≤◌, ℕ, List, None, length, IfOk};
+ghost use Rattle.outside.specs.Outside.{Told, Reads, Writes, HasCause};
+ghost use Rattle.real_edge.specs.Counting.{Counts};
+
+use crate::faults::count_fault;
+use outside::{Failed, Sink, SinkError, Source};
+use std::io::{Read, Write};
+
+/// A reader, as standard input.
+#[derive(Drop)]
+pub struct StdSource<R: Read + Drop> {
+    reader: R,
+    faults: u64,
+}
+
+impl<R: Read + Drop> StdSource<R> {
+    /// The bytes that the reader gives.
+    pub fn new(reader: R) -> StdSource<R>
+        ensures { result.faults ≡ 0 }
+    {
+        StdSource { reader, faults: 0 }
+    }
+}
+
+impl<R: Read + Drop> Source for StdSource<R> {
+    ghost left = { λ _. None };
+
+    ghost faults = { λ s. s.faults };
+
+    fn read(&mut self, buf: &mut [u8]) -> Result<usize, Failed>
+        requires { 0 < length buf.old }
+        ensures within { IfOk result (λ count. count ≤ length buf.old) }
+        ensures bytes { Told {A = List ℕ} None None (λ old new. Reads old new buf.new result) }
+        ensures cause { HasCause (record {}) self.old.faults self.new.faults result }
+
+        ensures counted { Counts (record {}) self.old.faults self.new.faults result }
+    {
+        match self.reader.read(buf) {
+            Ok(count) => Ok(count),
+            Err(_) => {
+                count_fault(&mut self.faults);
+                Err(Failed)
+            }
+        }
+    }
+}
+
+/// A writer, as standard output.
+#[derive(Drop)]
+pub struct StdSink<W: Write + Drop> {
+    writer: W,
+    faults: u64,
+}
+
+impl<W: Write + Drop> StdSink<W> {
+    /// What is written goes to the writer.
+    pub fn new(writer: W) -> StdSink<W>
+        ensures { result.faults ≡ 0 }
+    {
+        StdSink { writer, faults: 0 }
+    }
+}
+
+impl<W: Write + Drop> Sink for StdSink<W> {
+    ghost written = { λ _. None };
+
+    ghost faults = { λ s. s.faults };
+
+    /// A write that takes nothing is a fault, too.
+    fn write(&mut self, piece: &[u8]) -> Result<usize, SinkError>
+        requires { 0 < length piece.now }
+        ensures within { IfOk result (λ count. (0 < count) × (count ≤ length piece.now)) }
+        ensures bytes { Told {A = List ℕ} None None (λ old new. Writes old new piece.now result) }
+        ensures cause { HasCause SinkError.Failed self.old.faults self.new.faults result }
+
+        ensures counted { Counts SinkError.Failed self.old.faults self.new.faults result }
+    {
+        match self.writer.write(piece) {
+            Ok(count) if count > 0 => Ok(count),
+            _ => {
+                count_fault(&mut self.faults);
+                Err(SinkError::Failed)
+            }
+        }
+    }
+}
