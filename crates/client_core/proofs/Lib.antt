@@ -1,0 +1,9 @@
+pub mod Acknowledging
+pub mod Firsts
+pub mod Going
+pub mod Locals
+pub mod Olders
+pub mod Pulls
+pub mod Settled
+pub mod Syncs
+pub mod Truths

@@ -1,0 +1,40 @@
+-- What the end of a sync or a pull means to a client that was in step with a world that is told.
+use Rattle.std.specs.Prelude.{◌≡◌, ◌≢◌, ◌⊎◌, ℕ, ◌<◌, []}
+use Rattle.vol_tree.specs.Path.{FilePath}
+use Rattle.vol_tree.specs.Tree.{Volume, version_at}
+use Rattle.vol_tree.specs.Behind.{IsAhead}
+use Rattle.mod_log.specs.Log.{Log, tree_at}
+use Rattle.world_rules.specs.World.{World}
+use Rattle.client_core.specs.declared.syncing.SyncEnd.{SyncEnd}
+use Rattle.client_core.specs.declared.syncing.SyncEnd.TheVariants.{Stale, Unfit, Full, Behind, Synced, Memory}
+use Rattle.client_core.specs.declared.pulling.PullEnd.{PullEnd}
+use Rattle.client_core.specs.declared.pulling.PullEnd.TheVariants.{OtherLast, Older}
+
+-- the client's tree after its last entry that the server took
+abbrev pub taken_tree : ℕ → Log → World → Volume
+taken_tree client log world = tree_at (world.served.last client) log
+
+-- some path has a newer version at the server than in the client's tree after the last taken entry
+abbrev pub IsOvertaken : ℕ → Log → World → Type 0
+IsOvertaken client log world = IsAhead world.served.volume (taken_tree client log world)
+
+-- The server is never behind. Where an entry is refused, others have written: at the path that a stale end names, or at some.
+abbrev pub IsTrueSync : SyncEnd → ℕ → Log → World → Type 0
+IsTrueSync (Behind seq last) client after world = ⊥
+IsTrueSync (Stale seq path theirs ours) client after world = version_at (taken_tree client after world) path < version_at world.served.volume path
+IsTrueSync (Unfit seq index fault) client after world = IsOvertaken client after world
+IsTrueSync (Full seq index fault) client after world = IsOvertaken client after world
+IsTrueSync end client after world = Unit {0}
+
+-- where no path is ahead of the client's at the end, nothing is pending, but for want of memory
+abbrev pub IsComplete : SyncEnd → ℕ → Log → World → Type 0
+IsComplete end client after world =
+    (IsOvertaken client after world → ⊥) → ((end ≡ Synced after.acked) × (after.pending ≡ [])) ⊎ (end ≡ Memory)
+
+-- the pull did not meet another last number
+abbrev pub IsNotOtherLast : PullEnd → Type 0
+IsNotOtherLast end = (last acked : ℕ) → end ≢ OtherLast last acked
+
+-- the pull did not meet older rows
+abbrev pub IsNotOlder : PullEnd → Type 0
+IsNotOlder end = (path : FilePath) (theirs ours : ℕ) → end ≢ Older path theirs ours

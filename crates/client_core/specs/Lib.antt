@@ -1,0 +1,10 @@
+pub mod Causes
+pub mod Client
+pub mod Goes
+pub mod Honest
+pub mod Inside
+pub mod Logging
+pub mod Pulling
+pub mod Settling
+pub mod Syncing
+pub mod Trace

@@ -1,0 +1,67 @@
+-- A pull: where nothing is pending, the server's rows become the client's base.
+use Rattle.std.specs.Prelude.{◌≡◌, ◌≢◌, ◌⊎◌, ℕ, ◌<◌, ◌≤◌, List, [], ◌∷◌, length, None, Some}
+use Rattle.std.specs.declared.cmp.Ordering.TheVariants.{Less}
+use Rattle.vol_tree.specs.Path.{FilePath, path_cmp}
+use Rattle.vol_tree.specs.Tree.{Volume, version_at}
+use Rattle.mod_log.specs.Log.{Log, pulled}
+use Rattle.wire_frames.specs.declared.message.Message.{Message}
+use Rattle.wire_frames.specs.declared.message.Message.TheVariants.{Pull, Snapshot}
+use Rattle.world_rules.specs.declared.asking.Peer.TheVariants.{Server}
+use Rattle.world_rules.specs.declared.asking.Ask.{Ask}
+use Rattle.client_core.specs.declared.route.Route.{Route}
+use Rattle.client_core.specs.declared.pulling.PullEnd.{PullEnd}
+use Rattle.client_core.specs.declared.pulling.PullEnd.TheVariants.{Pulled, Pending, OtherLast, Older, Unanswered, Memory}
+use Rattle.client_core.specs.Trace.{Trace, nothing, asking}
+use Rattle.client_core.specs.Settling.{IsSettling, BreaksSettling}
+
+-- the client's pull, which tells the number that it knows to be accepted
+abbrev pub pull_of : ℕ → Log → Message
+pull_of client log = Pull client log.acked
+
+-- the seen rows have at each path at least the version that the base has
+abbrev pub IsNowhereOlder : Volume → Volume → Type 0
+IsNowhereOlder base seen = (path : FilePath) → version_at base path ≤ version_at seen path
+
+-- the first path, in path order, at which the seen rows have a lower version than the base
+pub record IsFirstOlder (base seen : Volume) (path : FilePath) : Type 0 where
+  pub lower : version_at seen path < version_at base path
+  pub first : (other : FilePath) → path_cmp other path ≡ Less → version_at base other ≤ version_at seen other
+
+-- What a log with nothing pending makes of a snapshot: how the pull ends, and the log after it.
+abbrev pub Meets : Log → ℕ → Volume → PullEnd → Log → Type 0
+Meets before last seen (OtherLast other acked) after = (last ≢ before.acked) × (other ≡ last) × (acked ≡ before.acked) × (after ≡ before)
+Meets before last seen (Older path theirs ours) after =
+    (last ≡ before.acked) × IsFirstOlder before.base seen path × (theirs ≡ version_at seen path) × (ours ≡ version_at before.base path) × (after ≡ before)
+Meets before last seen (Pulled count) after = (last ≡ before.acked) × IsNowhereOlder before.base seen × (count ≡ length seen) × (after ≡ pulled seen before)
+Meets before last seen end after = ⊥
+
+-- the changes of the log by a pull
+abbrev pub pull_changes : PullEnd → Log → List Log
+pull_changes (Pulled count) after = after ∷ []
+pull_changes end after = []
+
+-- the settling of the pull, and what the log makes of the snapshot that came
+pub record PullsSnapshot (client : ℕ) (route : Route) (before : Log) (end : PullEnd) (after : Log) (trace : Trace) : Type 0 where
+  pub last : ℕ
+  pub seen : Volume
+  pub asks : List Ask
+  pub idle : before.pending ≡ []
+  pub settling : IsSettling Server route.server (pull_of client before) (Some (Snapshot client before.acked last seen)) asks
+  pub met : Meets before last seen end after
+  pub trace_is : trace ≡ record { asks = asks; entries = []; changes = pull_changes end after }
+
+-- Where entries are pending, nothing is asked. Else the pull is settled with the server: eight asks failed, or a snapshot came.
+abbrev pub PullTurn : ℕ → Route → Log → PullEnd → Log → Trace → Type 0
+PullTurn client route before (Pending count) after trace = (before.pending ≢ []) × (count ≡ length before.pending) × (after ≡ before) × (trace ≡ nothing)
+PullTurn client route before Unanswered after trace =
+    (before.pending ≡ []) × ((asks : List Ask) × IsSettling Server route.server (pull_of client before) None asks × (after ≡ before) × (trace ≡ asking asks))
+PullTurn client route before end after trace = PullsSnapshot client route before end after trace
+
+-- nothing is done, or the settling is broken off
+abbrev pub BreaksPull : ℕ → Route → Log → Log → Trace → Type 0
+BreaksPull client route before after trace =
+    (asks : List Ask) × (before.pending ≡ []) × (after ≡ before) × BreaksSettling Server route.server (pull_of client before) asks × (trace ≡ asking asks)
+
+-- a pull that ended, or that want of memory broke off
+abbrev pub PullEnds : ℕ → Route → Log → PullEnd → Log → Trace → Type 0
+PullEnds client route before end after trace = PullTurn client route before end after trace ⊎ ((end ≡ Memory) × BreaksPull client route before after trace)

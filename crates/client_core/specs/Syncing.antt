@@ -1,0 +1,73 @@
+-- A sync: the pending entries are settled with the server, the first one first, until none is left or one is not accepted.
+use Rattle.std.specs.Prelude.{◌≡◌, ◌⊎◌, ℕ, zero, suc, ◌+◌, List, [], ◌∷◌, Option, None, Some}
+use Rattle.mod_log.specs.declared.log.Entry.{Entry}
+use Rattle.mod_log.specs.Log.{Log, acknowledged}
+use Rattle.wire_frames.specs.declared.message.Message.{Message}
+use Rattle.wire_frames.specs.declared.message.Message.TheVariants as messages
+use Rattle.world_rules.specs.declared.asking.Peer.TheVariants.{Server}
+use Rattle.world_rules.specs.declared.asking.Ask.{Ask}
+use Rattle.client_core.specs.declared.route.Route.{Route}
+use Rattle.client_core.specs.declared.syncing.SyncEnd.{SyncEnd}
+use Rattle.client_core.specs.declared.syncing.SyncEnd.TheVariants.{Synced, Stale, Unfit, Full, Unanswered, Behind, Memory}
+use Rattle.client_core.specs.Trace.{Trace, nothing, followed, asking}
+use Rattle.client_core.specs.Settling.{IsSettling, BreaksSettling}
+
+-- the store of an entry of this client
+abbrev pub store_of : ℕ → Entry → Message
+store_of client entry = messages.Store client entry.seq entry.effects entry.base
+
+-- the first pending entry
+abbrev pub IsFirst : Entry → List Entry → Type 0
+IsFirst entry [] = ⊥
+IsFirst entry (first ∷ entries) = first ≡ entry
+
+-- the log once its first pending entry is acknowledged
+abbrev pub acknowledged_first : Log → Log
+acknowledged_first log = acknowledged (log.acked + 1) log
+
+-- How a sync ends, by what settling the entry of this number came to. On an acceptance it goes on.
+abbrev pub end_by : ℕ → Option Message → Option SyncEnd
+end_by number None = Some (Unanswered number)
+end_by number (Some (messages.Accepted client seq)) = None
+end_by number (Some (messages.Stale client seq path theirs ours)) = Some (Stale number path theirs ours)
+end_by number (Some (messages.Unfit client seq index fault)) = Some (Unfit number index fault)
+end_by number (Some (messages.Full client seq index fault)) = Some (Full number index fault)
+end_by number (Some (messages.Gap client seq last)) = Some (Behind number last)
+end_by number (Some reply) = Some (Unanswered number)
+
+-- the settling of the first pending entry's store with the server
+pub record SettlesFirst (client : ℕ) (route : Route) (log : Log) (entry : Entry) (reply : Option Message) (asks : List Ask) : Type 0 where
+  pub first : IsFirst entry log.pending
+  pub settling : IsSettling Server route.server (store_of client entry) reply asks
+
+-- so many entries are acknowledged, each on the reply that accepts the first pending one
+abbrev pub Acknowledges : ℕ → Route → ℕ → Log → Log → Trace → Type 0
+Acknowledges client route zero before after trace = (after ≡ before) × (trace ≡ nothing)
+Acknowledges client route (suc count) before after trace =
+    (middle : Log) × (earlier : Trace) × (entry : Entry) × (asks : List Ask) × Acknowledges client route count before middle earlier
+    × SettlesFirst client route middle entry (Some (messages.Accepted client entry.seq)) asks
+    × (after ≡ acknowledged_first middle)
+    × (trace ≡ followed earlier (record { asks = asks; entries = []; changes = after ∷ [] }))
+
+-- the last settling of a sync: none where nothing is pending, and else one that accepts no entry
+abbrev pub EndsSync : ℕ → Route → Log → SyncEnd → List Ask → Type 0
+EndsSync client route after end asks =
+    ((after.pending ≡ []) × (end ≡ Synced after.acked) × (asks ≡ []))
+    ⊎ ((entry : Entry) × (reply : Option Message) × SettlesFirst client route after entry reply asks × (end_by entry.seq reply ≡ Some end))
+
+-- some entries are acknowledged, and then the sync ends
+abbrev pub SyncTurn : ℕ → Route → Log → SyncEnd → Log → Trace → Type 0
+SyncTurn client route before end after trace =
+    (count : ℕ) × (earlier : Trace) × (last : List Ask) × Acknowledges client route count before after earlier × EndsSync client route after end last
+    × (trace ≡ followed earlier (asking last))
+
+-- some entries are acknowledged, and then nothing more is done, or the settling of the next one is broken off
+abbrev pub BreaksSync : ℕ → Route → Log → Log → Trace → Type 0
+BreaksSync client route before after trace =
+    (count : ℕ) × (earlier : Trace) × (last : List Ask) × Acknowledges client route count before after earlier
+    × ((last ≡ []) ⊎ ((entry : Entry) × IsFirst entry after.pending × BreaksSettling Server route.server (store_of client entry) last))
+    × (trace ≡ followed earlier (asking last))
+
+-- a sync that ended, or that want of memory broke off
+abbrev pub SyncEnds : ℕ → Route → Log → SyncEnd → Log → Trace → Type 0
+SyncEnds client route before end after trace = SyncTurn client route before end after trace ⊎ ((end ≡ Memory) × BreaksSync client route before after trace)

@@ -1,0 +1,23 @@
+-- What a call or a stretch of a session did.
+use Rattle.std.specs.Prelude.{List, [], ◌++◌}
+use Rattle.mod_log.specs.declared.log.Entry.{Entry}
+use Rattle.mod_log.specs.Log.{Log}
+use Rattle.world_rules.specs.declared.asking.Ask.{Ask}
+
+-- Each in order: the asks that were made, the entries that were logged, and the log after each change. A change is one entry
+-- that is logged, one that is acknowledged, or one pull that replaced the base.
+pub record Trace : Type 0 where
+  pub asks : List Ask
+  pub entries : List Entry
+  pub changes : List Log
+
+abbrev pub nothing : Trace
+nothing = record { asks = []; entries = []; changes = [] }
+
+-- one trace, and then another
+abbrev pub followed : Trace → Trace → Trace
+followed earlier later = record { asks = earlier.asks ++ later.asks; entries = earlier.entries ++ later.entries; changes = earlier.changes ++ later.changes }
+
+-- these asks, which change nothing
+abbrev pub asking : List Ask → Trace
+asking asks = record { asks = asks; entries = []; changes = [] }

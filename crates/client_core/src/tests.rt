@@ -1,0 +1,143 @@
+ghost use Rattle.std.specs.Prelude.{None, IfSome};
+ghost use Rattle.wire_frames.specs.Frame.{IsValid, Echoes};
+
+use crate::*;
+use std::alloc::Global;
+use std::test::Fail;
+use vol_tree::{Content, Effect, Path, Rows};
+use wire_frames::{Message, read, write};
+use world_rules::{Link, LinkError, Peer};
+
+/// A link over which no reply ever comes.
+#[derive(Drop)]
+struct Dead {
+    troubles: u64,
+}
+
+impl Link for Dead {
+    ghost world = { λ link. None };
+
+    ghost troubles = { λ link. link.troubles };
+
+    fn ask(&mut self, _to: Peer, _address: &[u8], _frame: &[u8]) -> Result<Vec<u8>, LinkError> {
+        self.troubles = self.troubles.saturating_add(1);
+        Err(LinkError::Failed)
+    }
+}
+
+/// A link to a server that accepts each store and has no rows, and whose last number is so far ahead of a pull's.
+#[derive(Drop)]
+struct Willing {
+    alloc: Global,
+    ahead: u64,
+}
+
+impl Link for Willing {
+    ghost world = { λ link. None };
+
+    ghost troubles = { λ link. 0 };
+
+    fn ask(&mut self, _to: Peer, _address: &[u8], frame: &[u8]) -> Result<Vec<u8>, LinkError> {
+        let request = match read(self.alloc, frame) {
+            Ok(request) => request,
+            Err(_refused) => return Err(LinkError::Memory),
+        };
+        let reply = match reply_to(self.alloc, &request, self.ahead) {
+            Some(reply) => reply,
+            None => return Err(LinkError::Memory),
+        };
+        match write(self.alloc, &reply) {
+            Ok(bytes) => Ok(bytes),
+            Err(_refused) => Err(LinkError::Memory),
+        }
+    }
+}
+
+fn reply_to(alloc: Global, request: &Message, ahead: u64) -> Option<Message>
+    requires { IsValid request.now }
+    ensures { IfSome result (λ reply. IsValid reply × Echoes request.now reply) }
+{
+    match request {
+        Message::Store { client, number, .. } => Some(Message::Accepted {
+            client: *client,
+            number: *number,
+        }),
+        Message::Pull { client, number } => Some(Message::Snapshot {
+            client: *client,
+            number: *number,
+            last: number.saturating_add(ahead),
+            rows: Rows::new(alloc),
+        }),
+        _ => None,
+    }
+}
+
+fn route(alloc: Global) -> Result<Route, Fail> {
+    Ok(Route {
+        image: Content::of(alloc, b"image")?,
+        server: Content::of(alloc, b"server")?,
+        surrogate: None,
+        work: Content::of(alloc, b"work")?,
+    })
+}
+
+fn put(alloc: Global, path: &[u8], text: &[u8]) -> Result<Effect, Fail> {
+    Ok(Effect::Put(Path::read(alloc, path)?, Content::of(alloc, text)?))
+}
+
+#[test]
+fn logs_and_syncs(rt: HostRuntime) -> Result<(), Fail> {
+    let alloc = rt.alloc();
+    let route = route(alloc)?;
+    let mut client = Client::new(alloc, 7);
+    assert_eq!(rt; client.number(), 7);
+    assert_eq!(rt; client.local(put(alloc, b"a", b"x\n")?)?, 1);
+    assert_eq!(rt; client.local(put(alloc, b"b", b"y\n")?)?, 2);
+    let mut dead = Dead { troubles: 0 };
+    assert!(rt;
+        matches!(
+            client.sync(&route, &mut dead),
+            SyncEnd::Unanswered { seq: 1 }
+        )
+    );
+    assert_eq!(rt; dead.troubles, 8);
+    assert_eq!(rt; client.log().pending(), 2);
+    let mut willing = Willing { alloc, ahead: 0 };
+    assert!(rt; matches!(client.sync(&route, &mut willing), SyncEnd::Synced(2)));
+    assert_eq!(rt; client.log().pending(), 0);
+    Ok(())
+}
+
+#[test]
+fn pulls(rt: HostRuntime) -> Result<(), Fail> {
+    let alloc = rt.alloc();
+    let route = route(alloc)?;
+    let mut client = Client::new(alloc, 64);
+    let mut willing = Willing { alloc, ahead: 0 };
+    assert!(rt; matches!(client.pull(&route, &mut willing), PullEnd::Pulled(0)));
+    let mut dead = Dead { troubles: 0 };
+    assert!(rt; matches!(client.pull(&route, &mut dead), PullEnd::Unanswered));
+    let _ = client.local(put(alloc, b"a", b"x\n")?)?;
+    assert!(rt; matches!(client.pull(&route, &mut dead), PullEnd::Pending(1)));
+    assert_eq!(rt; dead.troubles, 8);
+    assert!(rt; matches!(client.sync(&route, &mut willing), SyncEnd::Synced(1)));
+    assert!(rt;
+        matches!(
+            client.pull(&route, &mut willing),
+            PullEnd::Older {
+                theirs: 0,
+                ours: 1,
+                ..
+            }
+        )
+    );
+    willing.ahead = 2;
+    assert!(rt;
+        matches!(
+            client.pull(&route, &mut willing),
+            PullEnd::OtherLast { last: 3, acked: 1 }
+        )
+    );
+    assert_eq!(rt; client.log().tree().count(), 1);
+    Ok(())
+}
