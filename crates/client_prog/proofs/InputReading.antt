@@ -9,8 +9,8 @@ use Rattle.client_prog.specs.declared.input.InputEnd.{InputEnd}
 use Rattle.client_prog.specs.declared.input.InputEnd.TheVariants.{Read, Failed, TooLong}
 use Rattle.client_prog.specs.declared.input.TheConstants.{MAX_INPUT}
 use Rattle.client_prog.specs.Input.{last_at, Reading, IsAtEnd, EndsAt, GoesOnOrEnds, ReadsPiece, within_limit, lines_at, HasRead}
-use Rattle.client_prog.specs.Lines.{parts, whole_lines, unfinished, lines_of, last_line, BeginsWithLine}
-use Rattle.client_prog.proofs.Cutting.{piece_added, line_taken, all_lines_taken, pieces_are_cut_alike}
+use Rattle.shell_lang.specs.Lines.{parts, whole_lines, unfinished, lines_of, last_line, BeginsWithLine}
+use Rattle.shell_lang.proofs.Cutting.{piece_added, line_taken, all_lines_taken}
 
 take_nothing : (n : ℕ) → take {A = ℕ} n [] ≡ []
 take_nothing zero = refl
@@ -123,7 +123,3 @@ has_read_all left rest reading behind Failed now none ended =
     ap whole_lines (sym (take_all MAX_INPUT now.input short)) ∙ (all_lines_taken behind (within_limit now.input) reading.bytes now.cut none).0 ∙ sym (append-nil behind)
 has_read_all left rest reading behind TooLong now none ended =
     (all_lines_taken behind (within_limit now.input) reading.bytes now.cut none).0 ∙ sym (append-nil behind)
-
--- the lines of an input whose reading was broken off are the first of those that it has: what comes behind adds lines only
-pub lines_go_on : (xs ys : List ℕ) → whole_lines xs ++ parts (unfinished xs ++ ys) ≡ parts (xs ++ ys)
-lines_go_on xs ys = sym (pieces_are_cut_alike xs ys)

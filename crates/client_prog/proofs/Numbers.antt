@@ -4,7 +4,7 @@ use Rattle.std.specs.Str.{all_ascii_digits}
 use Rattle.std.proofs.lemmas.Str.Parse.{IsNumeralModel, numerals_by_fold}
 use Rattle.std.proofs.lemmas.Fmt.{decimal_digit, decimal-digits_value}
 use Rattle.std.proofs.lemmas.Bool.Decides.{nat_tests}
-use Rattle.client_prog.proofs.Splitting.{both}
+use Rattle.shell_lang.proofs.Splitting.{both}
 use Rattle.client_prog.specs.Words.{client_number, up_to_64, NumbersArePrinted}
 
 abbrev read_on : ℕ → List ℕ → ℕ

@@ -1,36 +1,45 @@
 -- How a run ends, and what its status says.
-use Rattle.std.proofs.Common.{◌≡◌, ◌≢◌, ◌⊎◌, inl, inr, ℕ, ◌≤◌, List, [], length, take, Option, None, Some, Result, Ok, Err, refl, ap, arith, length-append}
+use Rattle.std.proofs.Common.{◌≡◌, ◌≢◌, ◌⊎◌, inl, inr, ℕ, ◌+◌, ◌≤◌, Bool, true, false, List, [], ◌∷◌, length, take, Option, None, Some, Result, Ok, Err, refl, sym, ◌∙◌, ap, subst, arith, length-append, true≢false}
 use Rattle.std.specs.Prelude.{IfSome}
+use Rattle.std.proofs.lemmas.List.{take_all}
 use Rattle.outside.specs.Outside.{Told, Adds, Takes, Rose}
 use Rattle.outside.proofs.Writing.{adds_nothing, adds_then}
 use Rattle.outside.proofs.Taking.{takes_nothing}
+use Rattle.client_core.specs.declared.route.Route.{Route}
+use Rattle.client_core.specs.Trace.{Trace, nothing}
+use Rattle.shell_lang.specs.Lines.{whole_lines}
 use Rattle.client_prog.specs.declared.input.InputEnd.{InputEnd}
 use Rattle.client_prog.specs.declared.input.InputEnd.TheVariants.{Read, Failed, TooLong}
 use Rattle.client_prog.specs.declared.input.TheConstants.{MAX_INPUT}
 use Rattle.client_prog.specs.declared.run.Stop.{Stop}
 use Rattle.client_prog.specs.declared.run.Stop.TheVariants.{Sink, Memory}
-use Rattle.client_prog.specs.declared.syncing.Route.{Route}
-use Rattle.client_prog.specs.Session.{State, Trace, new_state, nothing}
-use Rattle.client_prog.specs.Run.{status_of, closing_at, closing_line, HasTaken, RunTurn, IsRead}
+use Rattle.client_prog.specs.Input.{EndsAt, within_limit, lines_at}
+use Rattle.client_prog.specs.Words.{Run}
+use Rattle.client_prog.specs.Session.{State}
+use Rattle.client_prog.specs.Run.{status_of, closing_at, closing_line, has_quit, end_of, HasLines, RunTurn, IsRead}
 use Rattle.client_prog.specs.InsideRun.{AnswersInput, TakesInput}
 
-module _ (route : Route) (left rest o : Option (List ℕ)) where
-  pub run_stops : (stop : Stop) (n : Option (List ℕ)) (after : State) (p : Trace) → AnswersInput route new_state left rest o n (Err stop) after p → RunTurn route left rest o n (Err stop) after p
+module _ (route : Route) (before : State) (left rest o : Option (List ℕ)) where
+  pub run_stops : (stop : Stop) (n : Option (List ℕ)) (after : State) (p : Trace) → AnswersInput route before left rest o n (Err stop) after p → RunTurn route before left rest o n (Err stop) after p
   run_stops stop n after p turn = (turn.0, turn.1, turn.2, inl turn.3)
 
-  pub run_ends : (end : InputEnd) (m n : Option (List ℕ)) (after : State) (p : Trace) → AnswersInput route new_state left rest o m (Ok end) after p → Adds m n (closing_at end after)
-      → RunTurn route left rest o n (Ok end) after p
-  run_ends end m n after p turn adds = (turn.0, turn.1, turn.2, turn.3, adds_then o m n turn.1 (closing_at end after) turn.4 adds)
+  pub run_ends : (end : InputEnd) (m n : Option (List ℕ)) (after : State) (p : Trace) → AnswersInput route before left rest o m (Ok end) after p → Adds m n (closing_at end after)
+      → RunTurn route before left rest o n (Ok end) after p
+  run_ends end m n after p turn adds = (turn.0, turn.2.0, turn.1, turn.2.1, adds_then o m n turn.2.0 (closing_at end after) turn.2.2 adds)
 
-  pub run_closing : (end : InputEnd) (stop : Stop) (count : ℕ) (m n : Option (List ℕ)) (after : State) (p : Trace) → end ≡ Read → AnswersInput route new_state left rest o m (Ok end) after p
-      → Adds m n (take count (closing_line after)) → RunTurn route left rest o n (Err stop) after p
+  pub run_closing : (end : InputEnd) (stop : Stop) (count : ℕ) (m n : Option (List ℕ)) (after : State) (p : Trace) → end ≡ Read → AnswersInput route before left rest o m (Ok end) after p
+      → Adds m n (take count (closing_line after)) → RunTurn route before left rest o n (Err stop) after p
   run_closing end stop count m n after p is turn adds =
-      (turn.0, end, turn.2, inr (is, (turn.1, count, turn.3, adds_then o m n turn.1 (take count (closing_line after)) turn.4 adds)))
+      (turn.0, end, turn.1, inr (is, (turn.2.0, count, turn.2.1, adds_then o m n turn.2.0 (take count (closing_line after)) turn.2.2 adds)))
+
+-- nothing was taken
+nothing_taken : (left : Option (List ℕ)) → HasLines left left [] Failed
+nothing_taken left = record { input = []; taken = takes_nothing left; end = Failed; stands = omega arith; lines_are = refl; ended_is = refl }
 
 -- nothing was done
-pub run_nothing : (route : Route) (left o : Option (List ℕ)) → RunTurn route left left o o (Err Memory) new_state nothing
-run_nothing route left o =
-    ([], Failed, record { taken = takes_nothing left; stands = omega arith }, inl ([], [], [], 0, refl, inl (refl, refl, refl), adds_nothing o))
+pub run_nothing : (route : Route) (before : State) (left o : Option (List ℕ)) → RunTurn route before left left o o (Err Memory) before nothing
+run_nothing route before left o =
+    ([], Failed, nothing_taken left, inl ([], [], [], 0, refl, inl (refl, refl, refl), adds_nothing o))
 
 -- ---- statuses
 
@@ -57,51 +66,115 @@ status_four (Err Memory) is = absurd (omega arith)
 
 -- ---- how much was read
 
-most : (left rest : Option (List ℕ)) (input : List ℕ) (end : InputEnd) → HasTaken left rest input end → length input ≤ 8193
-most left rest input Read taken = omega (arith, taken.stands.1)
-most left rest input Failed taken = omega (arith, taken.stands)
-most left rest input TooLong taken = omega (arith, taken.stands)
+most : (rest : Option (List ℕ)) (count : ℕ) (end : InputEnd) → EndsAt rest count end → count ≤ MAX_INPUT + 1
+most rest count Read stands = omega (arith, stands.1)
+most rest count Failed stands = omega (arith, stands)
+most rest count TooLong stands = omega (arith, stands)
 
-read_told : (l r : List ℕ) (ended : Result InputEnd Stop) → TakesInput (Some l) (Some r) ended → IsRead (status_of ended) l r
-read_told l r (Ok Read) (input, takes) = record {
-  input = input;
-  taken = takes.taken;
-  most = most (Some l) (Some r) input Read takes;
-  past = λ sink memory. (λ is. absurd (omega arith), λ long. absurd (omega (arith, takes.stands.1)));
-  ended = λ is. takes.stands.0;
+-- a session that goes on to the end of its reading has no line that quits
+goes_on : (quit : Bool) (end ended : InputEnd) → ended ≡ end_of quit end → (ended ≡ Read → ⊥) → (quit ≡ false) × (ended ≡ end)
+goes_on true end ended is other = absurd (other is)
+goes_on false end ended is other = (refl, is)
+
+module _ (l r : List ℕ) (lines : List (List ℕ)) (ended : InputEnd) (has : HasLines (Some l) (Some r) lines ended) where
+  -- the whole lines within the limit, where the input has no more
+  whole_are : length has.input ≤ MAX_INPUT → whole_lines has.input ≡ whole_lines (within_limit has.input)
+  whole_are short = ap whole_lines (sym (take_all MAX_INPUT has.input short))
+
+  read_or_quit : ended ≡ Read → (r ≡ []) ⊎ (has_quit (whole_lines (within_limit has.input)) ≡ true)
+  read_or_quit is = by has.end has.stands (has_quit (lines_at has.end has.input)) refl (sym is ∙ has.ended_is)
+    where
+      by : (end : InputEnd) → EndsAt (Some r) (length has.input) end → (quit : Bool) → has_quit (lines_at end has.input) ≡ quit → Read ≡ end_of quit end
+          → (r ≡ []) ⊎ (has_quit (whole_lines (within_limit has.input)) ≡ true)
+      by Read stands quit has_it is = inl stands.0
+      by Failed stands true has_it is = inr (sym (ap has_quit (whole_are stands)) ∙ has_it)
+      by Failed stands false has_it is = absurd (cc)
+      by TooLong stands true has_it is = inr has_it
+      by TooLong stands false has_it is = absurd (cc)
+
+  long_ends : length has.input ≡ MAX_INPUT + 1 → has_quit (whole_lines (within_limit has.input)) ≡ false → ended ≡ TooLong
+  long_ends long none = by has.end has.stands has.ended_is
+    where
+      by : (end : InputEnd) → EndsAt (Some r) (length has.input) end → ended ≡ end_of (has_quit (lines_at end has.input)) end → ended ≡ TooLong
+      by Read stands is = absurd (omega (arith, stands.1))
+      by Failed stands is = absurd (omega (arith, stands))
+      by TooLong stands is = is ∙ ap (λ (quit : Bool). end_of quit TooLong) none
+
+  too_long : ended ≡ TooLong → (length has.input ≡ MAX_INPUT + 1) × (has_quit (whole_lines (within_limit has.input)) ≡ false)
+  too_long is = by has.end has.stands (has_quit (lines_at has.end has.input)) refl (sym is ∙ has.ended_is)
+    where
+      by : (end : InputEnd) → EndsAt (Some r) (length has.input) end → (quit : Bool) → has_quit (lines_at end has.input) ≡ quit → TooLong ≡ end_of quit end
+          → (length has.input ≡ MAX_INPUT + 1) × (has_quit (whole_lines (within_limit has.input)) ≡ false)
+      by Read stands true has_it is = absurd (cc)
+      by Read stands false has_it is = absurd (cc)
+      by Failed stands true has_it is = absurd (cc)
+      by Failed stands false has_it is = absurd (cc)
+      by TooLong stands true has_it is = absurd (cc)
+      by TooLong stands false has_it is = (stands, has_it)
+
+  has_failed : ended ≡ Failed → has_quit (whole_lines has.input) ≡ false
+  has_failed is = by has.end has.stands (has_quit (lines_at has.end has.input)) refl (sym is ∙ has.ended_is)
+    where
+      by : (end : InputEnd) → EndsAt (Some r) (length has.input) end → (quit : Bool) → has_quit (lines_at end has.input) ≡ quit → Failed ≡ end_of quit end
+          → has_quit (whole_lines has.input) ≡ false
+      by Read stands true has_it is = absurd (cc)
+      by Read stands false has_it is = absurd (cc)
+      by Failed stands true has_it is = absurd (cc)
+      by Failed stands false has_it is = has_it
+      by TooLong stands true has_it is = absurd (cc)
+      by TooLong stands false has_it is = absurd (cc)
+
+read_ended : (l r : List ℕ) (lines : List (List ℕ)) (ended : InputEnd) → HasLines (Some l) (Some r) lines ended → IsRead (status_of (Ok ended)) l r
+read_ended l r lines Read has = record {
+  input = has.input;
+  taken = has.taken;
+  most = most (Some r) (length has.input) has.end has.stands;
+  past = λ sink memory. (λ is. absurd (omega arith), λ long. absurd (cc (long_ends l r lines Read has long.0 long.1)));
+  ended = λ is. read_or_quit l r lines Read has refl;
+  failed = λ is. absurd (omega arith);
 }
-read_told l r (Ok Failed) (input, takes) = record {
-  input = input;
-  taken = takes.taken;
-  most = most (Some l) (Some r) input Failed takes;
-  past = λ sink memory. (λ is. absurd (omega arith), λ long. absurd (omega (arith, takes.stands)));
+read_ended l r lines Failed has = record {
+  input = has.input;
+  taken = has.taken;
+  most = most (Some r) (length has.input) has.end has.stands;
+  past = λ sink memory. (λ is. absurd (omega arith), λ long. absurd (cc (long_ends l r lines Failed has long.0 long.1)));
   ended = λ is. absurd (omega arith);
+  failed = λ is. has_failed l r lines Failed has refl;
 }
-read_told l r (Ok TooLong) (input, takes) = record {
-  input = input;
-  taken = takes.taken;
-  most = most (Some l) (Some r) input TooLong takes;
-  past = λ sink memory. (λ is. takes.stands, λ long. refl);
+read_ended l r lines TooLong has = record {
+  input = has.input;
+  taken = has.taken;
+  most = most (Some r) (length has.input) has.end has.stands;
+  past = λ sink memory. (λ is. too_long l r lines TooLong has refl, λ long. refl);
   ended = λ is. absurd (omega arith);
+  failed = λ is. absurd (omega arith);
 }
-read_told l r (Err Sink) (input, end, takes) = record {
-  input = input;
-  taken = takes.taken;
-  most = most (Some l) (Some r) input end takes;
+
+read_stopped : (l r : List ℕ) (lines : List (List ℕ)) (ended : InputEnd) (stop : Stop) → HasLines (Some l) (Some r) lines ended → IsRead (status_of (Err stop)) l r
+read_stopped l r lines ended Sink has = record {
+  input = has.input;
+  taken = has.taken;
+  most = most (Some r) (length has.input) has.end has.stands;
   past = λ sink memory. absurd (sink refl);
   ended = λ is. absurd (omega arith);
+  failed = λ is. absurd (omega arith);
 }
-read_told l r (Err Memory) (input, end, takes) = record {
-  input = input;
-  taken = takes.taken;
-  most = most (Some l) (Some r) input end takes;
+read_stopped l r lines ended Memory has = record {
+  input = has.input;
+  taken = has.taken;
+  most = most (Some r) (length has.input) has.end has.stands;
   past = λ sink memory. absurd (memory refl);
   ended = λ is. absurd (omega arith);
+  failed = λ is. absurd (omega arith);
 }
 
+read_told : (l r : List ℕ) (ended : Result InputEnd Stop) → TakesInput (Some l) (Some r) ended → IsRead (status_of ended) l r
+read_told l r (Ok ended) takes = read_ended l r takes.0 ended takes.1
+read_told l r (Err stop) takes = read_stopped l r takes.0 takes.1 stop takes.2
+
 input_taken : (left rest : Option (List ℕ)) (ended : Result InputEnd Stop) → TakesInput left rest ended → (input : List ℕ) × Takes left rest input
-input_taken left rest (Ok end) takes = (takes.0, takes.1.taken)
-input_taken left rest (Err stop) takes = (takes.0, takes.2.taken)
+input_taken left rest (Ok ended) takes = (takes.1.input, takes.1.taken)
+input_taken left rest (Err stop) takes = (takes.2.input, takes.2.taken)
 
 pub is_read : (left rest : Option (List ℕ)) (ended : Result InputEnd Stop) → TakesInput left rest ended → Told left rest (IsRead (status_of ended))
 is_read (Some l) (Some r) ended takes = read_told l r ended takes
@@ -115,28 +188,39 @@ none_read (Some l) status not_all not_past = record {
   input = [];
   taken = refl;
   most = omega arith;
-  past = λ sink memory. (λ is. absurd (not_past is), λ long. absurd (omega arith));
+  past = λ sink memory. (λ is. absurd (not_past is), λ long. absurd (omega (arith, long.0)));
   ended = λ is. absurd (not_all is);
+  failed = λ is. refl;
 }
 
 -- ---- without faults
 
-short_not_past : (l : List ℕ) (rest : Option (List ℕ)) → length l ≤ 8192 → TakesInput (Some l) rest (Ok TooLong) → ⊥
+short_not_past : (l : List ℕ) (rest : Option (List ℕ)) → length l ≤ MAX_INPUT → TakesInput (Some l) rest (Ok TooLong) → ⊥
 short_not_past l None short takes = takes.1.taken
-short_not_past l (Some r) short takes = omega (arith, takes.1.stands, ap length takes.1.taken, length-append {A = ℕ})
+short_not_past l (Some r) short takes =
+    omega (arith, (too_long l r takes.0 TooLong takes.1 refl).0, ap length takes.1.taken, length-append {A = ℕ})
 
 complete_told : (l : List ℕ) (rest : Option (List ℕ)) (a b c d : ℕ) (ended : Result InputEnd Stop) → TakesInput (Some l) rest ended → (ended ≡ Ok Failed → Rose a b) → (ended ≡ Err Sink → Rose c d)
-    → length l ≤ 8192 → (Rose a b → ⊥) → (Rose c d → ⊥) → (status_of ended ≡ 0) ⊎ (status_of ended ≡ 7)
+    → length l ≤ MAX_INPUT → (Rose a b → ⊥) → (Rose c d → ⊥) → (status_of ended ≡ 0) ⊎ (status_of ended ≡ 7)
 complete_told l rest a b c d (Ok Read) takes source sink short calm quiet = inl refl
 complete_told l rest a b c d (Ok Failed) takes source sink short calm quiet = absurd (calm (source refl))
 complete_told l rest a b c d (Ok TooLong) takes source sink short calm quiet = absurd (short_not_past l rest short takes)
 complete_told l rest a b c d (Err Sink) takes source sink short calm quiet = absurd (quiet (sink refl))
 complete_told l rest a b c d (Err Memory) takes source sink short calm quiet = inr refl
 
-pub complete : (left rest : Option (List ℕ)) (a b c d : ℕ) (ended : Result InputEnd Stop) → TakesInput left rest ended → (ended ≡ Ok Failed → Rose a b) → (ended ≡ Err Sink → Rose c d)
+complete : (left rest : Option (List ℕ)) (a b c d : ℕ) (ended : Result InputEnd Stop) → TakesInput left rest ended → (ended ≡ Ok Failed → Rose a b) → (ended ≡ Err Sink → Rose c d)
     → IfSome left (λ bytes. length bytes ≤ MAX_INPUT → (Rose a b → ⊥) → (Rose c d → ⊥) → (status_of ended ≡ 0) ⊎ (status_of ended ≡ 7))
 complete None rest a b c d ended takes source sink = tt
 complete (Some l) rest a b c d ended takes source sink = λ short calm quiet. complete_told l rest a b c d ended takes source sink short calm quiet
+
+-- without a fault all lines are answered, but for want of memory
+abbrev pub IsComplete : Option (List ℕ) → ℕ → ℕ → ℕ → ℕ → ℕ → Type 0
+IsComplete left a b c d status = IfSome left (λ bytes. length bytes ≤ MAX_INPUT → (Rose a b → ⊥) → (Rose c d → ⊥) → (status ≡ 0) ⊎ (status ≡ 7))
+
+pub complete_status : (form : Option Run) (left rest : Option (List ℕ)) (a b c d status : ℕ) (ended : Result InputEnd Stop) → status ≡ status_of ended → TakesInput left rest ended → (ended ≡ Ok Failed → Rose a b)
+    → (ended ≡ Err Sink → Rose c d) → IfSome form (λ run. IsComplete left a b c d status)
+complete_status None left rest a b c d status ended is takes source sink = tt
+complete_status (Some run) left rest a b c d status ended is takes source sink = subst (IsComplete left a b c d) (sym is) (complete left rest a b c d ended takes source sink)
 
 pub complete_memory : (left : Option (List ℕ)) (a b c d status : ℕ) → status ≡ 7 → IfSome left (λ bytes. length bytes ≤ MAX_INPUT → (Rose a b → ⊥) → (Rose c d → ⊥) → (status ≡ 0) ⊎ (status ≡ 7))
 complete_memory None a b c d status is = tt

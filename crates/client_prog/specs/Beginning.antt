@@ -2,8 +2,8 @@
 use Rattle.std.specs.Prelude.{ℕ, ◌≤◌}
 use Rattle.world_rules.specs.World.{World}
 use Rattle.world_rules.specs.InStep.{InStep}
-use Rattle.client_prog.specs.Session.{new_state}
-use Rattle.client_prog.specs.Goes.{IsNew}
+use Rattle.mod_log.specs.Log.{new_log}
+use Rattle.client_core.specs.Goes.{IsNew}
 use Rattle.client_prog.specs.Net.{new_world}
 
 -- The world of a network in memory begins as a new client's.
@@ -12,4 +12,4 @@ NewNetworksAreNew = (client : ℕ) → 1 ≤ client → client ≤ 64 → IsNew 
 
 -- A new client's log is in step with its world.
 abbrev pub NewSessionsAreInStep : Type 0
-NewSessionsAreInStep = (client : ℕ) (world : World) → IsNew client world → InStep client new_state.log world
+NewSessionsAreInStep = (client : ℕ) (world : World) → IsNew client world → InStep client new_log world

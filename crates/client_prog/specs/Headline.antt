@@ -4,7 +4,7 @@ use Rattle.vol_tree.specs.Path.{FilePath}
 use Rattle.vol_tree.specs.Tree.{version_at}
 use Rattle.vol_tree.specs.Behind.{IsIn}
 use Rattle.mod_log.specs.declared.log.Entry.{Entry}
-use Rattle.mod_log.specs.Log.{Log, tree_at}
+use Rattle.mod_log.specs.Log.{Log, new_log, tree_at}
 use Rattle.wire_frames.specs.declared.message.Message.{Message}
 use Rattle.wire_frames.specs.Frame.{client_of}
 use Rattle.world_rules.specs.World.{World}
@@ -12,9 +12,9 @@ use Rattle.world_rules.specs.InStep.{InStep}
 use Rattle.world_rules.specs.Run.{own, numbered, Spares, IsSameAt}
 use Rattle.client_prog.specs.declared.input.InputEnd.{InputEnd}
 use Rattle.client_prog.specs.declared.run.Stop.{Stop}
-use Rattle.client_prog.specs.declared.syncing.Route.{Route}
+use Rattle.client_core.specs.declared.route.Route.{Route}
+use Rattle.client_core.specs.Goes.{Goes, IsNew}
 use Rattle.client_prog.specs.Session.{State, new_state}
-use Rattle.client_prog.specs.Goes.{Goes, IsNew}
 use Rattle.client_prog.specs.Run.{RunTurn, status_of}
 
 -- the number of the client's last entry that the server took
@@ -45,11 +45,11 @@ pub record Leaves (client : ℕ) (log : Log) (entries : List Entry) (old new : W
 
 -- A run over objects that tell what they hold: one session over the lines that were handled, in which the client and the world
 -- went on together, and what it leaves where the client was new.
-pub record Ran (route : Route) (left rest written now : Option (List ℕ)) (status troubles later : ℕ) (old new : World) : Type 0 where
+pub record Ran (client : ℕ) (route : Route) (left rest written now : Option (List ℕ)) (status troubles later : ℕ) (old new : World) : Type 0 where
   pub ended : Result InputEnd Stop
   pub status_is : status ≡ status_of ended
   pub after : State
-  pub goes : Goes route.client (RunTurn route left rest written now ended after) new_state after troubles later old new
+  pub goes : Goes client (RunTurn route (new_state client) left rest written now ended after) new_log after.client.log troubles later old new
   -- the world notes just the asks of the session
   pub asked : new.asks ≡ old.asks ++ goes.trace.asks
-  pub leaves : IsNew route.client old → Leaves route.client after.log goes.trace.entries old new
+  pub leaves : IsNew client old → Leaves client after.client.log goes.trace.entries old new

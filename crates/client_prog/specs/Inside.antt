@@ -1,14 +1,8 @@
 -- Words that only the contracts of private functions cite.
-use Rattle.std.specs.Prelude.{ℕ, nat_lt, List, [], Option, None, Some, if◌then◌else◌}
+use Rattle.std.specs.Prelude.{ℕ, nat_lt, Option, None, Some, if◌then◌else◌}
 use Rattle.client_prog.specs.declared.input.InputEnd.{InputEnd}
 use Rattle.client_prog.specs.declared.input.InputEnd.TheVariants.{TooLong}
 use Rattle.client_prog.specs.declared.input.TheConstants.{MAX_INPUT}
-use Rattle.client_prog.specs.Commands.{words}
-
--- the words behind a space, and none where there is no space
-abbrev pub words_behind : Option (List ℕ) → List (List ℕ)
-words_behind None = []
-words_behind (Some rest) = words rest
 
 -- the end of an input of which so many bytes were read, where one is past the limit
 abbrev pub end_by_count : ℕ → Option InputEnd

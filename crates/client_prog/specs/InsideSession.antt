@@ -1,49 +1,52 @@
--- Words that only the contracts of private functions of the session cite.
-use Rattle.std.specs.Prelude.{◌≡◌, ◌⊎◌, ℕ, List, Option, Result, Ok, Err, Vec, IfSome}
-use Rattle.std.specs.declared.alloc.Global.{Global}
+-- Words that only contracts below the whole run cite, of lines and of what they do.
+use Rattle.std.specs.Prelude.{◌≡◌, ◌≢◌, ℕ, ⊤, Option, Some, None, Result, Ok, Err}
 use Rattle.std.specs.declared.alloc.AllocError.{AllocError}
-use Rattle.outside.specs.Outside.{RoseBy}
-use Rattle.vol_tree.specs.Behind.{IsIn}
+use Rattle.vol_tree.specs.declared.path.PathError.{PathError}
+use Rattle.vol_tree.specs.declared.path.PathError.TheVariants.{Memory}
 use Rattle.vol_tree.specs.declared.tree.Effect.{Effect}
-use Rattle.mod_log.specs.declared.log.Entry.{Entry}
-use Rattle.mod_log.specs.declared.log.LogError.{LogError}
-use Rattle.mod_log.specs.Log.{Log}
-use Rattle.mod_log.specs.Append.{next_entry, appended}
-use Rattle.wire_frames.specs.declared.message.Message.{Message}
-use Rattle.world_rules.specs.declared.asking.Ask.{Ask}
-use Rattle.world_rules.specs.declared.asking.Peer.TheVariants.{Server}
-use Rattle.world_rules.specs.World.{World, Moved}
-use Rattle.client_prog.specs.declared.syncing.Route.{Route}
-use Rattle.client_prog.specs.Texts.{logged_text, refused_text}
-use Rattle.client_prog.specs.Session.{BreaksSettling, IsSettling, store_of}
--- for a moment, until the run imports both from Session
-pub use Rattle.client_prog.specs.Session.{SyncEnds, LineEnds}
-use Rattle.client_prog.specs.Goes.{failed_asks}
+use Rattle.world_rules.specs.World.{World}
+use Rattle.client_core.specs.declared.route.Route.{Route}
+use Rattle.client_core.specs.Trace.{Trace, nothing}
+use Rattle.client_core.specs.Goes.{Goes}
+use Rattle.shell_lang.specs.declared.line.Line.{Line}
+use Rattle.shell_lang.specs.declared.line.LineError.{LineError}
+use Rattle.shell_lang.specs.declared.answer.Answer.{Answer}
+use Rattle.client_prog.specs.Session.{State, LogTurn, LineTurn, Broken}
 
--- the request was asked so, while the world moved, and the troubles rose by the asks that failed
-pub record Asked (request : Message) (made : List Ask → Type 0) (troubles now : ℕ) (old new : World) : Type 0 where
-  pub asks : List Ask
-  pub made_so : made asks
-  pub moved : Moved request asks old new
-  pub rose : RoseBy (failed_asks asks) troubles now
+-- Between two moments a session did what these turns say: it is the same client's, and this client and the world went on together.
+pub record Does (turns : Trace → Type 0) (before after : State) (troubles now : ℕ) (old new : World) : Type 0 where
+  pub number : after.client.number ≡ before.client.number
+  pub goes : Goes before.client.number turns before.client.log after.client.log troubles now old new
 
--- a reply, where there is one, was sent
-abbrev pub IsSent : Option Message → World → Type 0
-IsSent reply world = IfSome reply (λ message. IsIn message world.packets)
+-- an answer is given where there is one, and else memory was wanted
+abbrev pub IsGiven : Option Answer → Result (Option Answer) AllocError → Type 0
+IsGiven (Some answer) (Ok given) = given ≡ Some answer
+IsGiven None (Err error) = ⊤
+IsGiven answer result = ⊥
 
--- what became of the settling of an entry's store with the server
-abbrev pub Settled : Route → Entry → ℕ → ℕ → World → World → Result (Option Message) AllocError → Type 0
-Settled route entry troubles now old new (Ok reply) =
-    IsSent reply new × Asked (store_of route.client entry) (IsSettling Server route.server (store_of route.client entry) reply) troubles now old new
-Settled route entry troubles now old new (Err error) =
-    Asked (store_of route.client entry) (BreaksSettling Server route.server (store_of route.client entry)) troubles now old new
+-- the effect that was made is the one that is named, or the refusal is that of the naming, unless memory ran out
+abbrev pub GivesEffect : Result Effect PathError → Result Effect PathError → Type 0
+GivesEffect (Ok effect) named = named ≡ Ok effect
+GivesEffect (Err error) named = error ≢ Memory → named ≡ Err error
 
--- what effects came to in the log, and how it is answered
-abbrev pub LogAnswer : List Effect → Log → List ℕ → Log → Result Log LogError → Type 0
-LogAnswer effects before text after (Ok log) = (text ≡ logged_text (next_entry effects before).seq) × (after ≡ log)
-LogAnswer effects before text after (Err refusal) = (text ≡ refused_text refusal) × (after ≡ before)
+-- a named effect has its turn, or memory was wanted before it did anything
+abbrev pub LogEnds : Result Effect PathError → State → Result (Option Answer) AllocError → State → Trace → Type 0
+LogEnds named before (Ok answer) after trace = LogTurn named before answer after trace
+LogEnds named before (Err error) after trace = (after ≡ before) × (trace ≡ nothing)
 
--- the same, where want of memory may have broken it off before it was logged or before the answer
-abbrev pub LogEnds : List Effect → Log → Result (Vec ℕ Global) AllocError → Log → Type 0
-LogEnds effects before (Ok text) after = LogAnswer effects before text.items after (appended effects before)
-LogEnds effects before (Err error) after = (after ≡ before) ⊎ (appended effects before ≡ Ok after)
+-- what it does in any world
+abbrev pub Logs : Result Effect PathError → State → Result (Option Answer) AllocError → State → Type 0
+Logs named before result after = (troubles : ℕ) (world : World) → Does (LogEnds named before result after) before after troubles troubles world world
+
+-- the same of an effect that was made, whatever it was made of
+abbrev pub LogsMade : Result Effect PathError → State → Result (Option Answer) AllocError → State → Type 0
+LogsMade made before result after = (named : Result Effect PathError) → GivesEffect made named → Logs named before result after
+
+-- a line that was answered, or that want of memory broke off
+abbrev pub LineEnds : Route → State → Result Line LineError → Result (Option Answer) AllocError → State → Trace → Type 0
+LineEnds route before line (Ok answer) after trace = LineTurn route before line answer after trace
+LineEnds route before line (Err error) after trace = Broken route before line after trace
+
+-- what a line that asks nothing of the server does in any world
+abbrev pub Quietly : State → Result Line LineError → Result (Option Answer) AllocError → State → Type 0
+Quietly before line result after = (route : Route) (troubles : ℕ) (world : World) → Does (LineEnds route before line result after) before after troubles troubles world world

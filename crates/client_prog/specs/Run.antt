@@ -1,26 +1,31 @@
 -- A run of the client: how it ends, which lines of its input it handles, and what it writes.
-use Rattle.std.specs.Prelude.{◌≡◌, ◌≢◌, ◌⊎◌, ◌↔◌, ℕ, ◌+◌, ◌≤◌, List, [], ◌++◌, length, take, map, Option, Result, Ok, Err}
+use Rattle.std.specs.Prelude.{◌≡◌, ◌≢◌, ◌⊎◌, ◌↔◌, ℕ, ◌+◌, ◌≤◌, Bool, true, false, List, [], ◌∷◌, ◌++◌, length, take, map, Option, None, Result, Ok, Err, if◌then◌else◌}
+use Rattle.std.specs.List.{list_any}
 use Rattle.outside.specs.Outside.{Adds, Takes}
 use Rattle.outside.specs.declared.errors.SinkError.{SinkError}
 use Rattle.outside.specs.declared.errors.SinkError.TheVariants as sinks
-use Rattle.client_prog.specs.declared.line.Line.{Line}
+use Rattle.client_core.specs.declared.route.Route.{Route}
+use Rattle.client_core.specs.Trace.{Trace}
+use Rattle.shell_lang.specs.Lines.{whole_lines}
+use Rattle.shell_lang.specs.Commands.{read_line}
+use Rattle.shell_lang.specs.Texts.{text_of}
+use Rattle.shell_lang.specs.declared.line.Line.{Line}
+use Rattle.shell_lang.specs.declared.line.Line.TheVariants.{Quit}
+use Rattle.shell_lang.specs.declared.line.LineError.{LineError}
 use Rattle.client_prog.specs.declared.input.InputEnd.{InputEnd}
 use Rattle.client_prog.specs.declared.input.InputEnd.TheVariants.{Read, Failed, TooLong}
 use Rattle.client_prog.specs.declared.input.TheConstants.{MAX_INPUT}
 use Rattle.client_prog.specs.declared.run.Stop.{Stop}
 use Rattle.client_prog.specs.declared.run.Stop.TheVariants.{Sink, Memory}
-use Rattle.client_prog.specs.declared.syncing.Route.{Route}
-use Rattle.client_prog.specs.Commands.{read_line}
-use Rattle.client_prog.specs.Input.{EndsAt, lines_at}
+use Rattle.client_prog.specs.Input.{EndsAt, within_limit, lines_at}
 use Rattle.client_prog.specs.Words.{Run}
-use Rattle.client_prog.specs.Texts.{closing_text}
-use Rattle.client_prog.specs.Session.{State, Trace, Chain, BreaksChain, new_state}
+use Rattle.client_prog.specs.Session.{State, Chain, BreaksChain, status_answer}
 
--- who asks, and where, by the words of a run
+-- where the client's image, peers and commands are, by the words of a run
 abbrev pub route_of : Run → Route
-route_of run = record { client = run.client; server = run.server }
+route_of run = record { image = run.image; server = run.server; surrogate = None; work = run.work }
 
--- the status of a run that ended so: at the end of its reading, or stopped before
+-- the status of a run whose input ended so, or that was stopped before
 abbrev pub status_of : Result InputEnd Stop → ℕ
 status_of (Ok Read) = 0
 status_of (Ok Failed) = 3
@@ -34,24 +39,54 @@ stop_of sinks.Failed = Sink
 stop_of sinks.Memory = Memory
 
 -- what these lines ask for
-abbrev pub asked_for : List (List ℕ) → List Line
+abbrev pub asked_for : List (List ℕ) → List (Result Line LineError)
 asked_for lines = map read_line lines
 
--- the line that ends the output
-abbrev pub closing_line : State → List ℕ
-closing_line state = closing_text state.log.acked (length state.log.pending)
+-- ---- lines up to `quit`
 
--- the line that ends the output stands there only where the input was read to its end
+-- whether a line asks for the end of the session
+abbrev pub is_quit : Result Line LineError → Bool
+is_quit (Ok Quit) = true
+is_quit line = false
+
+abbrev pub quits : List ℕ → Bool
+quits line = is_quit (read_line line)
+
+-- whether one of the lines does
+abbrev pub has_quit : List (List ℕ) → Bool
+has_quit lines = list_any quits lines
+
+-- the lines up to the first that does, and all of them where none does
+abbrev pub up_to_quit : List (List ℕ) → List (List ℕ)
+up_to_quit [] = []
+up_to_quit (line ∷ lines) = line ∷ (if quits line then [] else up_to_quit lines)
+
+-- how the input of a session ends: where a line quits, it ends there, and what may come behind is not asked for
+abbrev pub end_of : Bool → InputEnd → InputEnd
+end_of true end = Read
+end_of false end = end
+
+-- Of the source's bytes some were taken, and reading them stands so. While the end is not known, it stands as it does where
+-- the source fails. These are the lines that count then, up to the first that quits, and the session's input ends so.
+pub record HasLines (left rest : Option (List ℕ)) (lines : List (List ℕ)) (ended : InputEnd) : Type 0 where
+  pub input : List ℕ
+  pub taken : Takes left rest input
+  pub end : InputEnd
+  pub stands : EndsAt rest (length input) end
+  pub lines_are : lines ≡ up_to_quit (lines_at end input)
+  pub ended_is : ended ≡ end_of (has_quit (lines_at end input)) end
+
+-- ---- what is written
+
+-- the line that ends the output is that of `status`
+abbrev pub closing_line : State → List ℕ
+closing_line state = text_of (status_answer state)
+
+-- it stands there only where the input was read to its end
 abbrev pub closing_at : InputEnd → State → List ℕ
 closing_at Read state = closing_line state
 closing_at Failed state = []
 closing_at TooLong state = []
-
--- Of the source's bytes these were taken, and reading stands so. While the end is not known, it stands as it does where the
--- source fails.
-pub record HasTaken (left rest : Option (List ℕ)) (input : List ℕ) (end : InputEnd) : Type 0 where
-  pub taken : Takes left rest input
-  pub stands : EndsAt rest (length input) end
 
 -- Each line was handled, one after the other; want of memory may have broken off the last one.
 abbrev pub Handles : Stop → Route → State → List (List ℕ) → List ℕ → State → Trace → Type 0
@@ -70,22 +105,23 @@ abbrev pub StopsAtClosing : Route → State → List (List ℕ) → Option (List
 StopsAtClosing route before lines old new after trace =
     (answers : List ℕ) × (count : ℕ) × Chain route before (asked_for lines) answers after trace × Adds old new (answers ++ take count (closing_line after))
 
--- What a run did by how it ended. Where its reading came to an end: all the lines of the input that count at such an end were
--- handled, and their answers were written, and the closing line where one is due. Where it was stopped: a front of them.
-abbrev pub RunTurn : Route → Option (List ℕ) → Option (List ℕ) → Option (List ℕ) → Option (List ℕ) → Result InputEnd Stop → State → Trace → Type 0
-RunTurn route left rest old new (Ok end) after trace =
-    (input answers : List ℕ) × HasTaken left rest input end
-    × Chain route new_state (asked_for (lines_at end input)) answers after trace × Adds old new (answers ++ closing_at end after)
-RunTurn route left rest old new (Err stop) after trace =
-    (input : List ℕ) × (end : InputEnd) × HasTaken left rest input end
-    × (StopsIn stop route new_state (lines_at end input) old new after trace
-    ⊎ ((end ≡ Read) × StopsAtClosing route new_state (lines_at end input) old new after trace))
+-- What a run did by how it ended. Where its input came to an end: all the lines that count were handled, and their answers were
+-- written, and the closing line where one is due. Where it was stopped: a front of them.
+abbrev pub RunTurn : Route → State → Option (List ℕ) → Option (List ℕ) → Option (List ℕ) → Option (List ℕ) → Result InputEnd Stop → State → Trace → Type 0
+RunTurn route before left rest old new (Ok ended) after trace =
+    (lines : List (List ℕ)) × (answers : List ℕ) × HasLines left rest lines ended
+    × Chain route before (asked_for lines) answers after trace × Adds old new (answers ++ closing_at ended after)
+RunTurn route before left rest old new (Err stop) after trace =
+    (lines : List (List ℕ)) × (ended : InputEnd) × HasLines left rest lines ended
+    × (StopsIn stop route before lines old new after trace ⊎ ((ended ≡ Read) × StopsAtClosing route before lines old new after trace))
 
--- How much of a source a run with this status takes: never more than the first byte past the limit; that byte exactly where it
--- answers 8, but that a sink or want of memory may stop it before; and all that is left where it answers 0.
+-- How much of a source a run with this status takes: never more than the first byte past the limit. It answers 8 exactly where it
+-- takes that byte and no whole line before it quits, but that a sink or want of memory may stop it before; 0 only where it takes
+-- all that is left or a whole line quits; and 3 only where no whole line does.
 pub record IsRead (status : ℕ) (left rest : List ℕ) : Type 0 where
   pub input : List ℕ
   pub taken : left ≡ input ++ rest
   pub most : length input ≤ MAX_INPUT + 1
-  pub past : status ≢ 4 → status ≢ 7 → (status ≡ 8 ↔ length input ≡ MAX_INPUT + 1)
-  pub ended : status ≡ 0 → rest ≡ []
+  pub past : status ≢ 4 → status ≢ 7 → (status ≡ 8 ↔ ((length input ≡ MAX_INPUT + 1) × (has_quit (whole_lines (within_limit input)) ≡ false)))
+  pub ended : status ≡ 0 → (rest ≡ []) ⊎ (has_quit (whole_lines (within_limit input)) ≡ true)
+  pub failed : status ≡ 3 → has_quit (whole_lines input) ≡ false

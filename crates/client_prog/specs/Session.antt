@@ -1,149 +1,144 @@
 -- A session: what each line logs, asks of the server and answers. It knows no memory, and nothing of how its input comes.
-use Rattle.std.specs.Prelude.{◌≡◌, ◌⊎◌, ℕ, zero, suc, ◌+◌, ◌<◌, List, [], ◌∷◌, ◌++◌, Option, None, Some, Result, Ok, Err, Vec}
-use Rattle.std.specs.declared.alloc.Global.{Global}
-use Rattle.std.specs.declared.alloc.AllocError.{AllocError}
-use Rattle.std.proofs.Math.ListN.{replicate}
-use Rattle.vol_tree.specs.Path.{FilePath}
+use Rattle.std.specs.Prelude.{◌≡◌, ◌⊎◌, ℕ, List, [], ◌∷◌, ◌++◌, length, Option, None, Some, Result, Ok, Err}
+use Rattle.vol_tree.specs.Path.{FilePath, resolved}
+use Rattle.vol_tree.specs.declared.path.PathError.{PathError}
+use Rattle.vol_tree.specs.declared.path.PathError.TheVariants as paths
 use Rattle.vol_tree.specs.declared.tree.Effect.{Effect}
-use Rattle.vol_tree.specs.declared.tree.Effect.TheVariants.{Put as PutEffect}
-use Rattle.mod_log.specs.declared.log.Entry.{Entry}
+use Rattle.vol_tree.specs.declared.tree.Effect.TheVariants as effects
 use Rattle.mod_log.specs.declared.log.LogError.{LogError}
-use Rattle.mod_log.specs.Log.{Log, new_log, acknowledged}
-use Rattle.mod_log.specs.Append.{next_entry, appended}
-use Rattle.wire_frames.specs.declared.message.Message.{Message}
-use Rattle.wire_frames.specs.declared.message.Message.TheVariants as messages
-use Rattle.wire_frames.specs.Frame.{IsValid, Echoes}
-use Rattle.world_rules.specs.declared.asking.Peer.{Peer}
-use Rattle.world_rules.specs.declared.asking.Peer.TheVariants.{Server}
-use Rattle.world_rules.specs.declared.asking.Ask.{Ask}
-use Rattle.world_rules.specs.declared.asking.Answer.{Answer}
-use Rattle.world_rules.specs.declared.asking.Answer.TheVariants.{Reply, Failed}
-use Rattle.world_rules.specs.Asking.{ask_of}
-use Rattle.client_prog.specs.declared.line.Line.{Line}
-use Rattle.client_prog.specs.declared.line.Line.TheVariants.{Empty, Put, Sync, Unknown}
-use Rattle.client_prog.specs.declared.syncing.Route.{Route}
-use Rattle.client_prog.specs.declared.syncing.SyncEnd.{SyncEnd}
-use Rattle.client_prog.specs.declared.syncing.SyncEnd.TheVariants.{Synced, Stale, Unfit, Full, Unanswered, Behind}
-use Rattle.client_prog.specs.Texts.{logged_text, unknown_text, refused_text}
-use Rattle.client_prog.specs.Commands.{put_content}
-use Rattle.client_prog.specs.SyncTexts.{sync_text}
+use Rattle.mod_log.specs.declared.log.LogError.TheVariants as logs
+use Rattle.mod_log.specs.Log.{Log, new_log, tree_of}
+use Rattle.client_core.specs.declared.route.Route.{Route}
+use Rattle.client_core.specs.declared.syncing.SyncEnd.{SyncEnd}
+use Rattle.client_core.specs.declared.syncing.SyncEnd.TheVariants as ends
+use Rattle.client_core.specs.Client.{Client}
+use Rattle.client_core.specs.Trace.{Trace, nothing, followed}
+use Rattle.client_core.specs.Logging.{LocalTurn}
+use Rattle.client_core.specs.Syncing.{SyncTurn, BreaksSync}
+use Rattle.shell_lang.specs.Commands.{put_content}
+use Rattle.shell_lang.specs.Texts.{text_of, HasNoMemory}
+use Rattle.shell_lang.specs.declared.line.Line.{Line}
+use Rattle.shell_lang.specs.declared.line.Line.TheVariants.{Empty, Put, Make, Remove, Move, Cat, List as Ls, Enter, Status, Sync, Quit}
+use Rattle.shell_lang.specs.declared.line.LineError.{LineError}
+use Rattle.shell_lang.specs.declared.answer.Answer.{Answer}
+use Rattle.shell_lang.specs.declared.answer.Answer.TheVariants as answers
+use Rattle.shell_lang.specs.declared.answer.Fault.TheVariants as faults
+use Rattle.client_prog.specs.Looking.{cat_answer, list_answer, enter_answer, folder_by}
 
--- what a line finds and leaves: the client's log
+-- what a line finds and leaves: the client, and the current folder
 pub record State : Type 0 where
-  pub log : Log
+  pub client : Client
+  pub folder : FilePath
 
-abbrev pub state : Log → State
-state log = record { log = log }
+-- a new client of this number, in the root folder
+abbrev pub new_state : ℕ → State
+new_state number = record { client = record { number = number; log = new_log }; folder = [] }
 
-abbrev pub new_state : State
-new_state = state new_log
+-- the state once the client has this log
+abbrev pub with_log : State → Log → State
+with_log state log = record { client = record { number = state.client.number; log = log }; folder = state.folder }
 
--- What a session did, each in order: the asks that it made, the entries that it logged, and the state after each change. A
--- change is one entry that is logged, or one that is acknowledged.
-pub record Trace : Type 0 where
-  pub asks : List Ask
-  pub entries : List Entry
-  pub changes : List State
+-- the state once the client is in this folder
+abbrev pub with_folder : State → FilePath → State
+with_folder state folder = record { client = state.client; folder = folder }
 
-abbrev pub nothing : Trace
-nothing = record { asks = []; entries = []; changes = [] }
+-- ---- what a line logs
 
--- one trace, and then another
-abbrev pub followed : Trace → Trace → Trace
-followed earlier later = record { asks = earlier.asks ++ later.asks; entries = earlier.entries ++ later.entries; changes = earlier.changes ++ later.changes }
+abbrev pub from_one : Result FilePath PathError → (FilePath → Effect) → Result Effect PathError
+from_one (Ok path) effect = Ok (effect path)
+from_one (Err refusal) effect = Err refusal
 
--- these asks, which change nothing
-abbrev pub asking : List Ask → Trace
-asking asks = record { asks = asks; entries = []; changes = [] }
+abbrev pub from_two : Result FilePath PathError → Result FilePath PathError → (FilePath → FilePath → Effect) → Result Effect PathError
+from_two (Ok from) to effect = from_one to (effect from)
+from_two (Err refusal) to effect = Err refusal
 
--- ---- settling a request
+-- The effect that a line names in the current folder, or the first refusal of its path words. A text that is put gets a line end.
+abbrev pub put_effect : FilePath → List ℕ → List ℕ → Result Effect PathError
+put_effect folder word text = from_one (resolved folder word) (λ path. effects.Put path (put_content text))
 
--- so many asks of a request that all failed
-abbrev pub failures : Peer → List ℕ → Message → ℕ → List Ask
-failures to address request count = replicate count (ask_of to address request Failed)
+abbrev pub make_effect : FilePath → List ℕ → Result Effect PathError
+make_effect folder word = from_one (resolved folder word) effects.Make
 
--- asks that failed, and one that was answered
-abbrev pub settled : Peer → List ℕ → Message → ℕ → Message → List Ask
-settled to address request failed reply = failures to address request failed ++ ask_of to address request (Reply reply) ∷ []
+abbrev pub remove_effect : FilePath → List ℕ → Result Effect PathError
+remove_effect folder word = from_one (resolved folder word) effects.Remove
 
--- A request is asked until an ask does not fail, and at most eight times: either a reply came, or eight asks failed.
-abbrev pub IsSettling : Peer → List ℕ → Message → Option Message → List Ask → Type 0
-IsSettling to address request (Some reply) asks = (failed : ℕ) × (failed < 8) × IsValid reply × Echoes request reply × (asks ≡ settled to address request failed reply)
-IsSettling to address request None asks = asks ≡ failures to address request 8
+abbrev pub move_effect : FilePath → List ℕ → List ℕ → Result Effect PathError
+move_effect folder from to = from_two (resolved folder from) (resolved folder to) effects.Move
 
--- ---- sync
+-- ---- turns
 
--- the store of an entry of this client
-abbrev pub store_of : ℕ → Entry → Message
-store_of client entry = messages.Store client entry.seq entry.effects entry.base
+-- how a sync is answered; want of memory has no answer
+abbrev pub sync_answer : SyncEnd → Option Answer
+sync_answer (ends.Synced seq) = Some (answers.Synced seq)
+sync_answer (ends.Stale seq path theirs ours) = Some (answers.Stale seq path theirs ours)
+sync_answer (ends.Unfit seq index fault) = Some (answers.Unfit seq index fault)
+sync_answer (ends.Full seq index fault) = Some (answers.Full seq index fault)
+sync_answer (ends.Unanswered seq) = Some (answers.Unanswered seq)
+sync_answer (ends.Behind seq last) = Some (answers.Behind seq last)
+sync_answer ends.Memory = None
 
--- the first pending entry
-abbrev pub IsFirst : Entry → List Entry → Type 0
-IsFirst entry [] = ⊥
-IsFirst entry (first ∷ entries) = first ≡ entry
+-- how one effect is answered: by the number of its entry, or by the refusal; want of memory has no answer
+abbrev pub local_answer : Result ℕ LogError → Option Answer
+local_answer (Ok seq) = Some (answers.Logged seq)
+local_answer (Err logs.Memory) = None
+local_answer (Err refusal) = Some (answers.Refused (faults.Log refusal))
 
--- the state once its first pending entry is acknowledged
-abbrev pub acknowledged_first : State → State
-acknowledged_first before = state (acknowledged (before.log.acked + 1) before.log)
+-- how the refusal of a path word is answered
+abbrev pub word_answer : PathError → Option Answer
+word_answer paths.Memory = None
+word_answer refusal = Some (answers.Refused (faults.Path refusal))
 
--- How a sync ends, by what settling the entry of this number came to. On an acceptance it goes on.
-abbrev pub end_by : ℕ → Option Message → Option SyncEnd
-end_by number None = Some (Unanswered number)
-end_by number (Some (messages.Accepted client seq)) = None
-end_by number (Some (messages.Stale client seq path theirs ours)) = Some (Stale number path theirs ours)
-end_by number (Some (messages.Unfit client seq index fault)) = Some (Unfit number index fault)
-end_by number (Some (messages.Full client seq index fault)) = Some (Full number index fault)
-end_by number (Some (messages.Gap client seq last)) = Some (Behind number last)
-end_by number (Some reply) = Some (Unanswered number)
+-- the acknowledged number, and how many entries are pending
+abbrev pub status_answer : State → Answer
+status_answer state = answers.Status state.client.log.acked (length state.client.log.pending)
 
--- the settling of the first pending entry's store with the server
-pub record SettlesFirst (route : Route) (before : State) (entry : Entry) (reply : Option Message) (asks : List Ask) : Type 0 where
-  pub first : IsFirst entry before.log.pending
-  pub settling : IsSettling Server route.server (store_of route.client entry) reply asks
+-- it is answered so, and nothing else is done
+abbrev pub Tells : Answer → State → Option Answer → State → Trace → Type 0
+Tells told before answer after trace = (answer ≡ Some told) × (after ≡ before) × (trace ≡ nothing)
 
--- so many entries are acknowledged, each on the reply that accepts the first pending one
-abbrev pub Acknowledges : Route → ℕ → State → State → Trace → Type 0
-Acknowledges route zero before after trace = (after ≡ before) × (trace ≡ nothing)
-Acknowledges route (suc count) before after trace =
-    (middle : State) × (earlier : Trace) × (entry : Entry) × (asks : List Ask) × Acknowledges route count before middle earlier
-    × SettlesFirst route middle entry (Some (messages.Accepted route.client entry.seq)) asks
-    × (after ≡ acknowledged_first middle)
-    × (trace ≡ followed earlier (record { asks = asks; entries = []; changes = after ∷ [] }))
+-- it has no answer, and nothing is done
+abbrev pub IsSilent : State → Option Answer → State → Trace → Type 0
+IsSilent before answer after trace = (answer ≡ None) × (after ≡ before) × (trace ≡ nothing)
 
--- the last settling of a sync: none where nothing is pending, and else one that accepts no entry
-abbrev pub EndsSync : Route → State → SyncEnd → List Ask → Type 0
-EndsSync route after end asks =
-    ((after.log.pending ≡ []) × (end ≡ Synced after.log.acked) × (asks ≡ []))
-    ⊎ ((entry : Entry) × (reply : Option Message) × SettlesFirst route after entry reply asks × (end_by entry.seq reply ≡ Some end))
+-- an effect is logged or refused, or a path word was
+abbrev pub LogTurn : Result Effect PathError → State → Option Answer → State → Trace → Type 0
+LogTurn (Ok effect) before answer after trace =
+    (result : Result ℕ LogError) × LocalTurn effect before.client.log result after.client.log trace
+    × (after ≡ with_log before after.client.log) × (answer ≡ local_answer result)
+LogTurn (Err refusal) before answer after trace = (answer ≡ word_answer refusal) × (after ≡ before) × (trace ≡ nothing)
 
--- some entries are acknowledged, and then the sync ends
-abbrev pub SyncTurn : Route → State → SyncEnd → State → Trace → Type 0
-SyncTurn route before end after trace =
-    (count : ℕ) × (earlier : Trace) × (last : List Ask) × Acknowledges route count before after earlier × EndsSync route after end last × (trace ≡ followed earlier (asking last))
+-- the current folder is another one, or the word is refused
+abbrev pub EnterTurn : Answer → State → Option Answer → State → Trace → Type 0
+EnterTurn told before answer after trace = (answer ≡ Some told) × (after ≡ with_folder before (folder_by told before.folder)) × (trace ≡ nothing)
 
--- ---- lines
+-- What a line comes to, by what it reads as: the state before it, its answer, the state after it, and what was done.
+abbrev pub LineTurn : Route → State → Result Line LineError → Option Answer → State → Trace → Type 0
+LineTurn route before (Err refusal) answer after trace = Tells (answers.Refused (faults.Line refusal)) before answer after trace
+LineTurn route before (Ok Empty) answer after trace = IsSilent before answer after trace
+LineTurn route before (Ok (Put word text)) answer after trace = LogTurn (put_effect before.folder word text) before answer after trace
+LineTurn route before (Ok (Make word)) answer after trace = LogTurn (make_effect before.folder word) before answer after trace
+LineTurn route before (Ok (Remove word)) answer after trace = LogTurn (remove_effect before.folder word) before answer after trace
+LineTurn route before (Ok (Move from to)) answer after trace = LogTurn (move_effect before.folder from to) before answer after trace
+LineTurn route before (Ok (Cat word)) answer after trace = Tells (cat_answer (tree_of before.client.log) before.folder word) before answer after trace
+LineTurn route before (Ok (Ls word)) answer after trace = Tells (list_answer (tree_of before.client.log) before.folder word) before answer after trace
+LineTurn route before (Ok (Enter word)) answer after trace = EnterTurn (enter_answer (tree_of before.client.log) before.folder word) before answer after trace
+LineTurn route before (Ok Status) answer after trace = Tells (status_answer before) before answer after trace
+LineTurn route before (Ok Sync) answer after trace =
+    (end : SyncEnd) × SyncTurn before.client.number route before.client.log end after.client.log trace
+    × (after ≡ with_log before after.client.log) × (answer ≡ sync_answer end)
+LineTurn route before (Ok Quit) answer after trace = IsSilent before answer after trace
 
--- an entry is logged, or refused
-abbrev pub LogTurn : List Effect → State → List ℕ → State → Trace → Result Log LogError → Type 0
-LogTurn effects before text after trace (Ok log) =
-    (text ≡ logged_text (next_entry effects before.log).seq) × (after ≡ state log)
-    × (trace ≡ record { asks = []; entries = next_entry effects before.log ∷ []; changes = after ∷ [] })
-LogTurn effects before text after trace (Err refusal) = (text ≡ refused_text refusal) × (after ≡ before) × (trace ≡ nothing)
+-- the text of an answer, which no want of memory is
+abbrev pub IsText : Option Answer → List ℕ → Type 0
+IsText None text = text ≡ []
+IsText (Some answer) text = HasNoMemory answer × (text ≡ text_of answer)
 
--- the effects of a put: the text and a line end are the file's content
-abbrev pub put_effects : FilePath → List ℕ → List Effect
-put_effects path text = PutEffect path (put_content text) ∷ []
-
--- The turn of one line: the state before it, its answer, the state after it, and what was done.
-abbrev pub Turn : Route → State → Line → List ℕ → State → Trace → Type 0
-Turn route before Empty text after trace = (text ≡ []) × (after ≡ before) × (trace ≡ nothing)
-Turn route before Unknown text after trace = (text ≡ unknown_text) × (after ≡ before) × (trace ≡ nothing)
-Turn route before (Put path words) text after trace =
-    let effects = put_effects path words in LogTurn effects before text after trace (appended effects before.log)
-Turn route before Sync text after trace = (end : SyncEnd) × SyncTurn route before end after trace × (text ≡ sync_text end)
+-- the turn of one line, and the text of its answer
+abbrev pub Turn : Route → State → Result Line LineError → List ℕ → State → Trace → Type 0
+Turn route before line text after trace = (answer : Option Answer) × LineTurn route before line answer after trace × IsText answer text
 
 -- the turns of lines, one after the other
-abbrev pub Chain : Route → State → List Line → List ℕ → State → Trace → Type 0
+abbrev pub Chain : Route → State → List (Result Line LineError) → List ℕ → State → Trace → Type 0
 Chain route before [] text after trace = (text ≡ []) × (after ≡ before) × (trace ≡ nothing)
 Chain route before (line ∷ lines) text after trace =
     (middle : State) × (first rest : Trace) × (answer answers : List ℕ) × Turn route before line answer middle first × Chain route middle lines answers after rest
@@ -151,39 +146,15 @@ Chain route before (line ∷ lines) text after trace =
 
 -- ---- lines that want of memory breaks off
 
--- the asks of a settling that is broken off: some failed, and at most one more was made
-abbrev pub BreaksSettling : Peer → List ℕ → Message → List Ask → Type 0
-BreaksSettling to address request asks =
-    (failed : ℕ) × (failed < 8) × ((asks ≡ failures to address request failed) ⊎ ((answer : Answer) × (asks ≡ failures to address request failed ++ ask_of to address request answer ∷ [])))
-
--- some entries are acknowledged, and then nothing more is done, or the settling of the next one is broken off
-abbrev pub BreaksSync : Route → State → State → Trace → Type 0
-BreaksSync route before after trace =
-    (count : ℕ) × (earlier : Trace) × (last : List Ask) × Acknowledges route count before after earlier
-    × ((last ≡ []) ⊎ ((entry : Entry) × IsFirst entry after.log.pending × BreaksSettling Server route.server (store_of route.client entry) last))
-    × (trace ≡ followed earlier (asking last))
-
 -- the line does nothing, or all but answer; a sync may be broken off in between
-abbrev pub Broken : Route → State → Line → State → Trace → Type 0
+abbrev pub Broken : Route → State → Result Line LineError → State → Trace → Type 0
 Broken route before line after trace =
     ((after ≡ before) × (trace ≡ nothing))
-    ⊎ (((answer : List ℕ) × Turn route before line answer after trace)
-    ⊎ ((line ≡ Sync) × BreaksSync route before after trace))
+    ⊎ (((answer : Option Answer) × LineTurn route before line answer after trace)
+    ⊎ ((line ≡ Ok Sync) × BreaksSync before.client.number route before.client.log after.client.log trace × (after ≡ with_log before after.client.log)))
 
 -- the turns of some lines, the last of which is broken off
-abbrev pub BreaksChain : Route → State → List Line → List ℕ → State → Trace → Type 0
+abbrev pub BreaksChain : Route → State → List (Result Line LineError) → List ℕ → State → Trace → Type 0
 BreaksChain route before lines text after trace =
-    (handled : List Line) × (last : Line) × (middle : State) × (earlier broken : Trace) × (lines ≡ handled ++ last ∷ [])
+    (handled : List (Result Line LineError)) × (last : Result Line LineError) × (middle : State) × (earlier broken : Trace) × (lines ≡ handled ++ last ∷ [])
     × Chain route before handled text middle earlier × Broken route middle last after broken × (trace ≡ followed earlier broken)
-
--- ---- what a call did
-
--- a sync that ended, or that want of memory broke off
-abbrev pub SyncEnds : Route → State → Result SyncEnd AllocError → State → Trace → Type 0
-SyncEnds route before (Ok end) after trace = SyncTurn route before end after trace
-SyncEnds route before (Err error) after trace = BreaksSync route before after trace
-
--- a line that was answered, or that want of memory broke off
-abbrev pub LineEnds : Route → State → Line → Result (Vec ℕ Global) AllocError → State → Trace → Type 0
-LineEnds route before line (Ok text) after trace = Turn route before line text.items after trace
-LineEnds route before line (Err error) after trace = Broken route before line after trace

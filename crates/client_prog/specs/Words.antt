@@ -2,10 +2,12 @@
 use Rattle.std.specs.Prelude.{◌≡◌, ◌↔◌, ◌≤◌, decimal, ℕ, ◌+◌, ◌-◌, ◌*◌, Bool, ◌&&◌, List, [], ◌∷◌, length, Option, None, Some, if◌then◌else◌, nat_le, nat_lt, codes}
 use Rattle.std.specs.Str.{bytes_eq}
 
--- what the words of a run say: the client's number and the server's address
+-- what the words of a run say: the client's number, its image, the server's address and the work folder
 pub record Run : Type 0 where
   pub client : ℕ
+  pub image : List ℕ
   pub server : List ℕ
+  pub work : List ℕ
 
 abbrev pub up_to_64 : ℕ → Option ℕ
 up_to_64 n = if nat_le n 64 then Some n else None
@@ -22,14 +24,14 @@ abbrev pub is_run : List ℕ → List ℕ → List ℕ → List ℕ → List ℕ
 is_run run image server surrogate work =
     bytes_eq run (codes "run") && nat_lt 0 (length image) && nat_lt 0 (length server) && bytes_eq surrogate (codes "-") && nat_lt 0 (length work)
 
-abbrev pub with_server : List ℕ → Option ℕ → Option Run
-with_server server None = None
-with_server server (Some client) = Some (record { client = client; server = server })
+abbrev pub run_by : List ℕ → List ℕ → List ℕ → Option ℕ → Option Run
+run_by image server work None = None
+run_by image server work (Some client) = Some (record { client = client; image = image; server = server; work = work })
 
 -- what `run NUMBER IMAGE SERVER - WORK` says; any other words are of no form
 abbrev pub run_of : List (List ℕ) → Option Run
 run_of (run ∷ number ∷ image ∷ server ∷ surrogate ∷ work ∷ []) =
-    if is_run run image server surrogate work then with_server server (client_number number) else None
+    if is_run run image server surrogate work then run_by image server work (client_number number) else None
 run_of words = None
 
 -- ---- law

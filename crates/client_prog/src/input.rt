@@ -1,25 +1,25 @@
 ghost use Rattle.std.specs.Prelude.{◌≡◌, ◌≤◌, ◌+◌, ◌-◌, ◌++◌, ℕ, List, [], Ok, Some, IfOk, OnOk, OnErr, length, take, drop};
 ghost use Rattle.std.specs.Option.{option_copied};
 ghost use Rattle.outside.specs.Outside.{Takes, Rose};
-ghost use Rattle.client_prog.specs.Lines.{FirstLine};
+ghost use Rattle.shell_lang.specs.Lines.{FirstLine};
 ghost use Rattle.client_prog.specs.Input.{Reading, ReadsPiece};
 ghost use Rattle.client_prog.specs.Inside.{end_by_count};
 
-use crate::lines::LineBuffer;
 use outside::Source;
+use shell_lang::LineBuffer;
 use std::alloc::{AllocError, Global};
 use std::marker::Model;
 
 /// The most bytes of an input that are cut into lines.
-pub const MAX_INPUT: usize = 8192;
+pub const MAX_INPUT: usize = 16_777_216;
 
 /// How many bytes are read at once.
-const PIECE: usize = 512;
+const PIECE: usize = 65_536;
 
 /// How reading an input ended.
 #[derive(Clone, Copy, Debug, PartialEq, Eq)]
 pub enum InputEnd {
-    /// It was read to its end.
+    /// It was read to its end, or to a line that quits.
     Read,
     /// The source failed.
     Failed,

@@ -1,25 +1,47 @@
-// The program: the client over the standard streams.
+// The program: the client over the standard streams and TCP.
 ghost use Rattle.std.specs.Prelude.{◌≡◌, ◌↔◌, ◌⊎◌, IsSome, codes};
 
-use crate::net::{Fate, OneNet};
 use crate::run::client_run;
-use crate::streams::{StdSink, StdSource};
-use crate::words::run_words;
 use outside::{SinkError, write_all};
-use std::alloc::{AllocError, Global};
+use real_edge::{StdSink, StdSource, TcpLink, program_words};
+use std::io;
+use std::net::Net;
 use std::process::ExitCode;
 use std::rt::Env;
-use std::{env, io};
+use std::time::Clock;
 
 const HELP: &str = "\
 Usage: client run NUMBER IMAGE SERVER - WORK
 
 Reads lines from standard input and answers each on standard output:
-  put NAME TEXT   writes TEXT and a line end to the file NAME
-  sync            sends what was written to the server
+  put PATH TEXT   writes TEXT and a line end to the file PATH
+  mkdir PATH      makes a folder
+  rm PATH         removes a file or an empty folder
+  mv FROM TO      moves a file
+  cat PATH        shows a file
+  ls [PATH]       lists a folder
+  cd PATH         makes a folder the current one
+  status          shows how far the changes are accepted
+  sync            sends what was changed to the server
+  quit            ends the session
 
-NUMBER is the client's number, from 1 to 64. IMAGE, SERVER and WORK are not empty.
-The word '-' says that there is no surrogate.
+Words are separated by single spaces; one that has spaces stands between quotes:
+'two words'. A path that does not begin with / lies below the current folder.
+
+NUMBER is the client's number, from 1 to 64. SERVER is the server's address, with
+a port. IMAGE and WORK are not empty, and not used yet. The word '-' says that
+there is no surrogate.
+
+Example:
+  client run 1 client.image 127.0.0.1:7001 - work
+
+The client ends with one of these statuses:
+  0  the input was read to its end or to 'quit', and every line was answered
+  2  the words have another form
+  3  standard input failed
+  4  standard output failed
+  7  memory ran out
+  8  the input has more than 16777216 bytes
 
 Options:
   --help      shows this text
@@ -33,7 +55,9 @@ const SINK_FAILED: u8 = 4;
 const NO_MEMORY: u8 = 7;
 
 /// Runs the client with the words behind the program's name. Words that are no text are of no form.
-pub fn client_program<R: Input + Print + Eprint + AllocGlobal + Env>(rt: &R) -> ExitCode {
+pub fn client_program<R: Input + Print + Eprint + AllocGlobal + Env + Net + Clock>(
+    rt: &R,
+) -> ExitCode {
     match program_words(rt) {
         Ok(words) => client_main(rt, &words),
         Err(error) if error.kind() == io::ErrorKind::OutOfMemory => end(rt, NO_MEMORY),
@@ -45,7 +69,10 @@ pub fn client_program<R: Input + Print + Eprint + AllocGlobal + Env>(rt: &R) -> 
 ///
 /// `--help` and `--version`, as the only word, are answered on standard output. Where the status is not 0, standard
 /// error says so.
-pub fn client_main<R: Input + Print + Eprint + AllocGlobal>(rt: &R, words: &[String]) -> ExitCode {
+pub fn client_main<R: Input + Print + Eprint + AllocGlobal + Net + Clock>(
+    rt: &R,
+    words: &[String],
+) -> ExitCode {
     let page = match words {
         [word] => page_of(word.as_str()),
         _ => None,
@@ -54,11 +81,6 @@ pub fn client_main<R: Input + Print + Eprint + AllocGlobal>(rt: &R, words: &[Str
         Some(page) => end(rt, show(rt, page)),
         None => end(rt, run(rt, words)),
     }
-}
-
-fn program_words<R: Env + AllocGlobal>(rt: &R) -> io::Result<Vec<String>> {
-    let words = env::args(rt)?.skip(1).collect(rt.alloc())?;
-    Ok(words)
 }
 
 /// What the word shows, where it asks for a text about the program.
@@ -82,26 +104,12 @@ fn show<R: Print>(rt: &R, page: &str) -> u8 {
     }
 }
 
-/// Runs the client over the standard streams and the network in memory, and answers the status.
-fn run<R: Input + Print + AllocGlobal>(rt: &R, words: &[String]) -> u8 {
+/// Runs the client over the standard streams and TCP, and answers the status.
+fn run<R: Input + Print + AllocGlobal + Net + Clock>(rt: &R, words: &[String]) -> u8 {
     let mut input = StdSource::new(rt.reader());
     let mut output = StdSink::new(io::writer(rt));
-    match net_of(rt.alloc(), words) {
-        Ok(mut link) => client_run(rt.alloc(), words, &mut input, &mut output, &mut link),
-        Err(_) => NO_MEMORY,
-    }
-}
-
-/// The network in memory for the client that the words name. It loses the server's first answer. Words of no form need
-/// none, and take no memory.
-fn net_of(alloc: Global, words: &[String]) -> Result<OneNet, AllocError> {
-    match run_words(words) {
-        Some(run) => {
-            let fates = vec![in alloc; Fate::LoseReply, Fate::Pass]?;
-            Ok(OneNet::new(alloc, run.client, fates))
-        }
-        None => Ok(OneNet::new(alloc, 1, Vec::new(alloc))),
-    }
+    let mut link = TcpLink::new(rt.alloc(), rt);
+    client_run(rt.alloc(), words, &mut input, &mut output, &mut link)
 }
 
 /// Says a status that is not 0 on standard error.

@@ -1,26 +1,25 @@
 // A run of the client over its input.
-ghost use Rattle.std.specs.Prelude.{◌≡◌, ◌≢◌, ◌⊎◌, ◌↔◌, ◌≤◌, ◌∷◌, ℕ, [], None, Some, Ok, OnOk, OnErr, IfSome, take, length, map};
+ghost use Rattle.std.specs.Prelude.{◌≡◌, ◌≢◌, ◌⊎◌, ◌↔◌, ◌≤◌, ◌∷◌, ℕ, [], false, None, Some, Ok, IfOk, OnOk, OnErr, IfSome, take, length, map};
 ghost use Rattle.std.specs.String.{string_bytes};
 ghost use Rattle.outside.specs.Outside.{Told, Adds, HasCause, Rose};
-ghost use Rattle.client_prog.specs.Lines.{whole_lines, last_line};
+ghost use Rattle.shell_lang.specs.Lines.{whole_lines, last_line};
+ghost use Rattle.shell_lang.specs.Commands.{read_line};
 ghost use Rattle.client_prog.specs.Input.{last_at};
 ghost use Rattle.client_prog.specs.Words.{run_of};
-ghost use Rattle.client_prog.specs.Session.{state};
-ghost use Rattle.client_prog.specs.Goes.{Goes};
-ghost use Rattle.client_prog.specs.Run.{status_of, route_of, closing_line, closing_at, IsRead};
+ghost use Rattle.client_prog.specs.Session.{IsText, new_state};
+ghost use Rattle.client_prog.specs.Run.{status_of, route_of, is_quit, quits, has_quit, up_to_quit, end_of, closing_line, closing_at, IsRead};
 ghost use Rattle.client_prog.specs.Headline.{Ran};
+ghost use Rattle.client_prog.specs.InsideSession.{Does};
 ghost use Rattle.client_prog.specs.InsideRun.{AnswersLines, HasUnfinished, TakesInput, AnswersInput, RunGoes};
 
-use crate::answer::closing;
 use crate::input::{InputEnd, LineReader, MAX_INPUT};
-use crate::line::read_line;
-use crate::session::answer_line;
-use crate::syncing::Route;
-use crate::words::run_words;
-use mod_log::Log;
+use crate::session::Session;
+use crate::words::{RunWords, run_words};
+use client_core::Route;
 use outside::{Sink, SinkError, Source, write_all};
+use shell_lang::{Answer, Line, LineError, has_no_memory, read_line, text_of};
 use std::alloc::{AllocError, Global};
-use vol_tree::{Content, Tree};
+use vol_tree::Content;
 use world_rules::Link;
 
 /// What stops a run before its last answer.
@@ -57,7 +56,7 @@ impl From<SinkError> for Stop {
     }
 }
 
-/// The status of a run that ended so.
+/// The status of a run whose input ended so, or that was stopped before.
 fn status_of(ended: Result<InputEnd, Stop>) -> u8
     ensures { result ≡ status_of ended }
 {
@@ -70,73 +69,103 @@ fn status_of(ended: Result<InputEnd, Stop>) -> u8
     }
 }
 
-/// Does what a line asks for, and writes its answer.
+/// What a line asks for, or why it is refused. Want of memory is the only error.
+fn asked(alloc: Global, line: &[u8]) -> Result<Result<Line, LineError>, AllocError>
+    ensures { IfOk result (λ asked. asked ≡ read_line line.now) }
+{
+    match read_line(alloc, line) {
+        Err(LineError::Memory) => Err(AllocError),
+        asked => Ok(asked),
+    }
+}
+
+/// Whether a line asks for the end of the session.
+fn is_quit(asked: &Result<Line, LineError>) -> bool
+    ensures { result ≡ is_quit asked.now }
+{
+    matches!(asked, Ok(Line::Quit))
+}
+
+/// The text of an answer, and none where there is no answer. An answer that is want of memory has no text.
+fn text(alloc: Global, answer: Option<Answer>) -> Result<Vec<u8>, AllocError>
+    ensures { IfOk result (λ text. IsText answer text.items) }
+{
+    match answer {
+        None => Ok(Vec::new(alloc)),
+        Some(answer) if has_no_memory(&answer) => text_of(alloc, &answer),
+        Some(_) => Err(AllocError),
+    }
+}
+
+/// Does what a line asks for, writes its answer, and says whether it quits.
 fn answer<O: Sink, L: Link>(
     alloc: Global,
     route: &Route,
-    log: &mut Log,
+    session: &mut Session,
     line: &[u8],
     output: &mut O,
     link: &mut L,
-) -> Result<(), Stop>
-    requires low { 1 ≤ route.now.client }
-    requires high { route.now.client ≤ 64 }
-    ensures world { Told (L.world link.old) (L.world link.new) (λ old new. Goes route.now.client (AnswersLines route.now (state log.old) (line.now ∷ []) (O.written output.old) (O.written output.new) result (state log.new)) (state log.old) (state log.new) (L.troubles link.old) (L.troubles link.new) old new) }
+) -> Result<bool, Stop>
+    ensures world { Told (L.world link.old) (L.world link.new) (λ old new. Does (AnswersLines route.now session.old (line.now ∷ []) (O.written output.old) (O.written output.new) result session.new) session.old session.new (L.troubles link.old) (L.troubles link.new) old new) }
+    ensures quit { IfOk result (λ quit. quit ≡ quits line.now) }
     ensures later { L.troubles link.old ≤ L.troubles link.new }
     ensures cause { HasCause Stop.Sink (O.faults output.old) (O.faults output.new) result }
 {
-    let asked = match read_line(alloc, line) {
+    let asked = match asked(alloc, line) {
         Ok(asked) => asked,
         Err(_refused) => return Err(Stop::Memory),
     };
-    let text = match answer_line(alloc, route, log, asked, link) {
+    let quit = is_quit(&asked);
+    let answer = match session.answer(alloc, route, asked, link) {
+        Ok(answer) => answer,
+        Err(_refused) => return Err(Stop::Memory),
+    };
+    let text = match text(alloc, answer) {
         Ok(text) => text,
         Err(_refused) => return Err(Stop::Memory),
     };
     match write_all(output, &text) {
-        Ok(()) => Ok(()),
+        Ok(()) => Ok(quit),
         Err(refused) => Err(Stop::from(refused)),
     }
 }
 
-/// Answers the lines that are there, up to the last line end.
+/// Answers the lines that are there, up to the last line end or the first that quits, and says whether one quits.
 fn answer_lines<O: Sink, L: Link>(
     alloc: Global,
     route: &Route,
-    log: &mut Log,
+    session: &mut Session,
     reader: &mut LineReader,
     output: &mut O,
     link: &mut L,
-) -> Result<(), Stop>
-    requires low { 1 ≤ route.now.client }
-    requires high { route.now.client ≤ 64 }
-    ensures world { Told (L.world link.old) (L.world link.new) (λ old new. Goes route.now.client (AnswersLines route.now (state log.old) (whole_lines reader.old.bytes) (O.written output.old) (O.written output.new) result (state log.new)) (state log.old) (state log.new) (L.troubles link.old) (L.troubles link.new) old new) }
-    ensures left { OnOk result (HasUnfinished reader.old reader.new) }
+) -> Result<bool, Stop>
+    ensures world { Told (L.world link.old) (L.world link.new) (λ old new. Does (AnswersLines route.now session.old (up_to_quit (whole_lines reader.old.bytes)) (O.written output.old) (O.written output.new) result session.new) session.old session.new (L.troubles link.old) (L.troubles link.new) old new) }
+    ensures quit { IfOk result (λ quit. quit ≡ has_quit (whole_lines reader.old.bytes)) }
+    ensures left { IfOk result (λ quit. quit ≡ false → HasUnfinished reader.old reader.new) }
     ensures later { L.troubles link.old ≤ L.troubles link.new }
     ensures cause { HasCause Stop.Sink (O.faults output.old) (O.faults output.new) result }
 {
     while let Some(line) = reader.first_line() {
         let end = line.len() + 1;
-        match answer(alloc, route, log, line, output, link) {
-            Ok(()) => reader.pass(end),
+        match answer(alloc, route, session, line, output, link) {
+            Ok(true) => return Ok(true),
+            Ok(false) => reader.pass(end),
             Err(stop) => return Err(stop),
         }
     }
-    Ok(())
+    Ok(false)
 }
 
-/// Reads the input piece by piece, and answers the lines of each piece before it reads on.
+/// Reads the input piece by piece up to a line that quits, and answers the lines of each piece before it reads on.
 fn answer_input<I: Source, O: Sink, L: Link>(
     alloc: Global,
     route: &Route,
-    log: &mut Log,
+    session: &mut Session,
     input: &mut I,
     output: &mut O,
     link: &mut L,
 ) -> Result<InputEnd, Stop>
-    requires low { 1 ≤ route.now.client }
-    requires high { route.now.client ≤ 64 }
-    ensures world { Told (L.world link.old) (L.world link.new) (λ old new. Goes route.now.client (AnswersInput route.now (state log.old) (I.left input.old) (I.left input.new) (O.written output.old) (O.written output.new) result (state log.new)) (state log.old) (state log.new) (L.troubles link.old) (L.troubles link.new) old new) }
+    ensures world { Told (L.world link.old) (L.world link.new) (λ old new. Does (AnswersInput route.now session.old (I.left input.old) (I.left input.new) (O.written output.old) (O.written output.new) result session.new) session.old session.new (L.troubles link.old) (L.troubles link.new) old new) }
     ensures input { TakesInput (I.left input.old) (I.left input.new) result }
     ensures later { L.troubles link.old ≤ L.troubles link.new }
     ensures source { I.faults input.old ≤ I.faults input.new }
@@ -149,11 +178,13 @@ fn answer_input<I: Source, O: Sink, L: Link>(
             Ok(end) => end,
             Err(_refused) => return Err(Stop::Memory),
         };
-        if let Err(stop) = answer_lines(alloc, route, log, &mut reader, output, link) {
-            return Err(stop);
+        match answer_lines(alloc, route, session, &mut reader, output, link) {
+            Ok(true) => return Ok(InputEnd::Read),
+            Ok(false) => {}
+            Err(stop) => return Err(stop),
         }
         if let Some(end) = end {
-            if let Err(stop) = answer_last(alloc, route, log, &reader, end, output, link) {
+            if let Err(stop) = answer_last(alloc, route, session, &reader, end, output, link) {
                 return Err(stop);
             }
             return Ok(end);
@@ -165,20 +196,18 @@ fn answer_input<I: Source, O: Sink, L: Link>(
 fn answer_last<O: Sink, L: Link>(
     alloc: Global,
     route: &Route,
-    log: &mut Log,
+    session: &mut Session,
     reader: &LineReader,
     end: InputEnd,
     output: &mut O,
     link: &mut L,
 ) -> Result<(), Stop>
-    requires low { 1 ≤ route.now.client }
-    requires high { route.now.client ≤ 64 }
-    ensures world { Told (L.world link.old) (L.world link.new) (λ old new. Goes route.now.client (AnswersLines route.now (state log.old) (last_at end reader.now.bytes) (O.written output.old) (O.written output.new) result (state log.new)) (state log.old) (state log.new) (L.troubles link.old) (L.troubles link.new) old new) }
+    ensures world { Told (L.world link.old) (L.world link.new) (λ old new. Does (AnswersLines route.now session.old (last_at end reader.now.bytes) (O.written output.old) (O.written output.new) result session.new) session.old session.new (L.troubles link.old) (L.troubles link.new) old new) }
     ensures later { L.troubles link.old ≤ L.troubles link.new }
     ensures cause { HasCause Stop.Sink (O.faults output.old) (O.faults output.new) result }
 {
     match end {
-        InputEnd::Read => answer_unfinished(alloc, route, log, reader.bytes(), output, link),
+        InputEnd::Read => answer_unfinished(alloc, route, session, reader.bytes(), output, link),
         InputEnd::Failed | InputEnd::TooLong => Ok(()),
     }
 }
@@ -187,42 +216,48 @@ fn answer_last<O: Sink, L: Link>(
 fn answer_unfinished<O: Sink, L: Link>(
     alloc: Global,
     route: &Route,
-    log: &mut Log,
+    session: &mut Session,
     line: &[u8],
     output: &mut O,
     link: &mut L,
 ) -> Result<(), Stop>
-    requires low { 1 ≤ route.now.client }
-    requires high { route.now.client ≤ 64 }
-    ensures world { Told (L.world link.old) (L.world link.new) (λ old new. Goes route.now.client (AnswersLines route.now (state log.old) (last_line line.now) (O.written output.old) (O.written output.new) result (state log.new)) (state log.old) (state log.new) (L.troubles link.old) (L.troubles link.new) old new) }
+    ensures world { Told (L.world link.old) (L.world link.new) (λ old new. Does (AnswersLines route.now session.old (last_line line.now) (O.written output.old) (O.written output.new) result session.new) session.old session.new (L.troubles link.old) (L.troubles link.new) old new) }
     ensures later { L.troubles link.old ≤ L.troubles link.new }
     ensures cause { HasCause Stop.Sink (O.faults output.old) (O.faults output.new) result }
 {
     if line.is_empty() {
         return Ok(());
     }
-    answer(alloc, route, log, line, output, link)
+    match answer(alloc, route, session, line, output, link) {
+        Ok(_quit) => Ok(()),
+        Err(stop) => Err(stop),
+    }
 }
 
 /// Writes the line that ends the output, where the input was read to its end.
-fn close<O: Sink>(alloc: Global, log: &Log, end: InputEnd, output: &mut O) -> Result<(), Stop>
-    ensures all { OnOk result (Adds (O.written output.old) (O.written output.new) (closing_at end (state log.now))) }
-    ensures front { OnErr result ((end ≡ InputEnd.Read) × ((count : ℕ) × Adds (O.written output.old) (O.written output.new) (take count (closing_line (state log.now))))) }
+fn close<O: Sink>(
+    alloc: Global,
+    session: &Session,
+    end: InputEnd,
+    output: &mut O,
+) -> Result<(), Stop>
+    ensures all { OnOk result (Adds (O.written output.old) (O.written output.new) (closing_at end session.now)) }
+    ensures front { OnErr result ((end ≡ InputEnd.Read) × ((count : ℕ) × Adds (O.written output.old) (O.written output.new) (take count (closing_line session.now)))) }
     ensures cause { HasCause Stop.Sink (O.faults output.old) (O.faults output.new) result }
 {
     match end {
-        InputEnd::Read => write_closing(alloc, log, output),
+        InputEnd::Read => write_closing(alloc, session, output),
         InputEnd::Failed | InputEnd::TooLong => Ok(()),
     }
 }
 
 /// Writes the line that ends the output.
-fn write_closing<O: Sink>(alloc: Global, log: &Log, output: &mut O) -> Result<(), Stop>
-    ensures all { OnOk result (Adds (O.written output.old) (O.written output.new) (closing_line (state log.now))) }
-    ensures front { OnErr result ((count : ℕ) × Adds (O.written output.old) (O.written output.new) (take count (closing_line (state log.now)))) }
+fn write_closing<O: Sink>(alloc: Global, session: &Session, output: &mut O) -> Result<(), Stop>
+    ensures all { OnOk result (Adds (O.written output.old) (O.written output.new) (closing_line session.now)) }
+    ensures front { OnErr result ((count : ℕ) × Adds (O.written output.old) (O.written output.new) (take count (closing_line session.now))) }
     ensures cause { HasCause Stop.Sink (O.faults output.old) (O.faults output.new) result }
 {
-    let text = match closing(alloc, log.acked(), log.pending()) {
+    let text = match closing(alloc, session) {
         Ok(text) => text,
         Err(_refused) => return Err(Stop::Memory),
     };
@@ -232,41 +267,62 @@ fn write_closing<O: Sink>(alloc: Global, log: &Log, output: &mut O) -> Result<()
     }
 }
 
+/// The line that ends the output.
+fn closing(alloc: Global, session: &Session) -> Result<Vec<u8>, AllocError>
+    ensures { IfOk result (λ text. text.items ≡ closing_line session.now) }
+{
+    text_of(alloc, &session.status())
+}
+
 /// Answers the input of a new client, and closes the output.
 fn run<I: Source, O: Sink, L: Link>(
     alloc: Global,
+    client: u8,
     route: &Route,
     input: &mut I,
     output: &mut O,
     link: &mut L,
 ) -> Result<InputEnd, Stop>
-    requires low { 1 ≤ route.now.client }
-    requires high { route.now.client ≤ 64 }
-    ensures world { Told (L.world link.old) (L.world link.new) (λ old new. RunGoes route.now (I.left input.old) (I.left input.new) (O.written output.old) (O.written output.new) result (L.troubles link.old) (L.troubles link.new) old new) }
+    requires low { 1 ≤ client }
+    requires high { client ≤ 64 }
+    ensures world { Told (L.world link.old) (L.world link.new) (λ old new. RunGoes client route.now (I.left input.old) (I.left input.new) (O.written output.old) (O.written output.new) result (L.troubles link.old) (L.troubles link.new) old new) }
     ensures input { TakesInput (I.left input.old) (I.left input.new) result }
     ensures source { result ≡ Ok InputEnd.Failed → Rose (I.faults input.old) (I.faults input.new) }
     ensures sink { result ≡ Err Stop.Sink → Rose (O.faults output.old) (O.faults output.new) }
 {
-    let mut log = Log::new(0, Tree::new(alloc));
-    let end = match answer_input(alloc, route, &mut log, input, output, link) {
+    let mut session = Session::new(alloc, client);
+    let end = match answer_input(alloc, route, &mut session, input, output, link) {
         Ok(end) => end,
         Err(stop) => return Err(stop),
     };
-    match close(alloc, &log, end, output) {
+    match close(alloc, &session, end, output) {
         Ok(()) => Ok(end),
         Err(stop) => Err(stop),
     }
 }
 
+/// Where the client's image, peers and commands are, by the words of a run.
+fn route_of(alloc: Global, words: &RunWords<'_>) -> Result<Route, AllocError>
+    ensures { IfOk result (λ route. route ≡ route_of (record { client = words.now.client; image = words.now.image.now; server = words.now.server.now; work = words.now.work.now })) }
+{
+    Ok(Route {
+        image: Content::of(alloc, words.image)?,
+        server: Content::of(alloc, words.server)?,
+        surrogate: None,
+        work: Content::of(alloc, words.work)?,
+    })
+}
+
 /// Runs the client on its words: reads lines, answers each before it reads on, and ships what they log to the server.
 /// The status that it gives:
 ///
-/// - 0: every line was answered, and the output ends with `acknowledged A pending P`;
+/// - 0: every line was answered, up to the first that quits where one does, and the output ends with
+///   `acknowledged A pending P`;
 /// - 2: the words are of no form, and nothing was touched;
-/// - 3: the source failed; the whole lines before were answered;
+/// - 3: the source failed; the whole lines before were answered, and none of them quits;
 /// - 4: the sink failed;
 /// - 7: memory ran out;
-/// - 8: the input has more than 8,192 bytes; the whole lines within them were answered.
+/// - 8: the input has more than 16,777,216 bytes; the whole lines within them were answered, and none of them quits.
 pub fn client_run<I: Source, O: Sink, L: Link>(
     alloc: Global,
     words: &[String],
@@ -280,18 +336,14 @@ pub fn client_run<I: Source, O: Sink, L: Link>(
     ensures sink { result ≡ 4 → Rose (O.faults output.old) (O.faults output.new) }
     ensures input { Told (I.left input.old) (I.left input.new) (IsRead result) }
     ensures complete { IfSome (run_of (map string_bytes words.now)) (λ run. IfSome (I.left input.old) (λ bytes. length bytes ≤ MAX_INPUT → (Rose (I.faults input.old) (I.faults input.new) → ⊥) → (Rose (O.faults output.old) (O.faults output.new) → ⊥) → (result ≡ 0) ⊎ (result ≡ 7))) }
-    ensures session { IfSome (run_of (map string_bytes words.now)) (λ run. Told (L.world link.old) (L.world link.new) (Ran (route_of run) (I.left input.old) (I.left input.new) (O.written output.old) (O.written output.new) result (L.troubles link.old) (L.troubles link.new))) }
+    ensures session { IfSome (run_of (map string_bytes words.now)) (λ run. Told (L.world link.old) (L.world link.new) (Ran run.client (route_of run) (I.left input.old) (I.left input.new) (O.written output.old) (O.written output.new) result (L.troubles link.old) (L.troubles link.new))) }
 {
     let Some(words) = run_words(words) else {
         return 2;
     };
-    let server = match Content::of(alloc, words.server) {
-        Ok(server) => server,
+    let route = match route_of(alloc, &words) {
+        Ok(route) => route,
         Err(_refused) => return 7,
     };
-    let route = Route {
-        client: words.client,
-        server,
-    };
-    status_of(run(alloc, &route, input, output, link))
+    status_of(run(alloc, words.client, &route, input, output, link))
 }

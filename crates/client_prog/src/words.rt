@@ -7,32 +7,33 @@ ghost use Rattle.client_prog.specs.Words.{client_number, run_of, is_run};
 pub struct RunWords<'a> {
     /// The number of the client, from 1 to 64.
     pub client: u8,
+    /// The name of the client's image, which is not empty.
+    pub image: &'a [u8],
     /// The address of the server, which is not empty.
     pub server: &'a [u8],
+    /// The work folder, which is not empty.
+    pub work: &'a [u8],
 }
 
 /// Takes apart the words `run NUMBER IMAGE SERVER - WORK`; `None` for any others.
 pub fn run_words(words: &[String]) -> Option<RunWords<'_>>
     ensures form { MatchOption result (run_of (map string_bytes words.now) ≡ None)
-        (λ run. run_of (map string_bytes words.now) ≡ Some (record { client = run.client; server = run.server.now })) }
+        (λ run. run_of (map string_bytes words.now) ≡ Some (record { client = run.client; image = run.image.now; server = run.server.now; work = run.work.now })) }
     ensures range { IfSome result (λ run. (1 ≤ run.client) × (run.client ≤ 64)) }
 {
     let [run, number, image, server, surrogate, work] = words else {
         return None;
     };
-    if !is_run(
-        run.as_bytes(),
-        image.as_bytes(),
-        server.as_bytes(),
-        surrogate.as_bytes(),
-        work.as_bytes(),
-    ) {
+    let (image, server, work) = (image.as_bytes(), server.as_bytes(), work.as_bytes());
+    if !is_run(run.as_bytes(), image, server, surrogate.as_bytes(), work) {
         return None;
     }
     match client_number(number.as_bytes()) {
         Some(client) => Some(RunWords {
             client,
-            server: server.as_bytes(),
+            image,
+            server,
+            work,
         }),
         None => None,
     }

@@ -1,20 +1,20 @@
-use Rattle.std.proofs.Common.{◌∷◌, [], Ok, Err, sym, ap, ◌∙◌, subst, arith}
+use Rattle.std.proofs.Common.{◌≡◌, Bool, true, false, ◌++◌, ◌∷◌, [], Ok, Err, sym, ap, ◌∙◌, subst, arith, refl}
 use Rattle.world_rules.proofs.Asks.{told_start, told_as, told_then}
+use Rattle.shell_lang.specs.Lines.{whole_lines, parts}
+use Rattle.client_prog.specs.declared.input.InputEnd.TheVariants.{Read}
 use Rattle.client_prog.specs.declared.run.Stop.TheVariants.{Memory}
-use Rattle.client_prog.specs.Lines.{whole_lines, parts}
 use Rattle.client_prog.specs.Input.{last_at, Reading, EndsAt, GoesOnOrEnds}
-use Rattle.client_prog.specs.Session.{state}
-use Rattle.client_prog.specs.Goes.{Goes}
-use Rattle.client_prog.specs.InsideRun.{AnswersLines, AnswersSoFar, AnswersInput}
-use Rattle.outside.proofs.Taking.{takes_nothing}
-use Rattle.client_prog.proofs.Going.{goes_none, goes_as, goes_then}
-use Rattle.client_prog.proofs.RunningPieces.{so_far_none, so_far_more, so_far_stops, so_far_lost, all_answered, all_stops, so_far_taken, taken_lost, stopped_at, ended_at, ends_at}
+use Rattle.client_prog.specs.Run.{has_quit, up_to_quit}
+use Rattle.client_prog.specs.InsideSession.{Does}
+use Rattle.client_prog.specs.InsideRun.{AnswersLines, AnswersSoFar, AnswersInput, ReadsSoFar, HasUnfinished}
+use Rattle.client_prog.proofs.Doing.{does_none, does_as, does_then}
+use Rattle.client_prog.proofs.RunningPieces.{reads_none, reads_more, quits_in, stops_in, lost_in, all_in, ends_at, so_far_none, so_far_more, so_far_quits, so_far_stops, so_far_lost, all_answered, all_stops}
 use Rattle.client_prog.proofs.run.answer_input.Goals as goal
 
 pub loop-end-init : goal.loop-end-init
 loop-end-init g c =
     let r = c.args.route.now in
-    let s = state c.args.log.now in
+    let s = c.args.session.now in
     let t = g.L.Link.troubles c.args.link.now in
     let o = g.O.Sink.written c.args.output.now in
     let left = g.I.Source.left c.args.input.now in
@@ -22,18 +22,18 @@ loop-end-init g c =
     record {
       few = omega (arith, ap (λ (x : Reading). x.count) c.new-reader.ensures);
       no_line = ap (λ (x : Reading). parts x.bytes) c.new-reader.ensures ∙ ap (λ (x : Reading). x.bytes ∷ []) (sym c.new-reader.ensures);
-      taken = ([], takes_nothing left, ap (λ (x : Reading). x.count) c.new-reader.ensures);
+      taken = ([], reads_none left reader c.new-reader.ensures);
       later = omega arith;
       source_later = omega arith;
       sink_later = omega arith;
-      world = told_start _ (λ x y. Goes r.client (AnswersSoFar r s left left reader o o s) s s t t x y) (λ x. goes_none r.client _ s t x (so_far_none r s left o reader c.new-reader.ensures));
+      world = told_start _ (λ x y. Does (AnswersSoFar r s left left reader o o s) s s t t x y) (λ x. does_none _ s t x (so_far_none r s left o reader c.new-reader.ensures));
     }
 
 pub returns-in-Err-clause-world : goal.returns-in-Err-clause-world
 returns-in-Err-clause-world g c =
     let r = c.args.route.now in
-    let a = state c.args.log.now in
-    let b = state c.loop-end.log in
+    let a = c.args.session.now in
+    let b = c.loop-end.session in
     let t = g.L.Link.troubles c.args.link.now in
     let u = g.L.Link.troubles c.loop-end.link in
     let o = g.O.Sink.written c.args.output.now in
@@ -42,21 +42,53 @@ returns-in-Err-clause-world g c =
     let mid = g.I.Source.left c.loop-end.input in
     let rest = g.I.Source.left c.read_piece.new.input in
     let old = c.loop-end.reader in
-    told_as _ _ (λ x y. Goes r.client (AnswersSoFar r a left mid old o m b) a b t u x y)
-    (λ x y. Goes r.client (AnswersInput r a left rest o m (Err Memory) b) a b t u x y) c.loop-end.invariant.world
-    (λ x y goes. goes_as r.client _ _ a b t u x y goes
+    told_as _ _ (λ x y. Does (AnswersSoFar r a left mid old o m b) a b t u x y)
+    (λ x y. Does (AnswersInput r a left rest o m (Err Memory) b) a b t u x y) c.loop-end.invariant.world
+    (λ x y goes. does_as _ _ a b t u x y goes
     (λ p so_far. so_far_lost r a left o mid rest old c.in-Err.ensures.err.0 b m p c.loop-end.invariant.few c.in-Err.ensures.err.1 c.in-Err.ensures.err.2 so_far))
 
 pub returns-in-Err-clause-input : goal.returns-in-Err-clause-input
 returns-in-Err-clause-input g c =
-    taken_lost _ _ _ c.loop-end.reader.count c.in-Err.ensures.err.0 c.loop-end.invariant.taken c.in-Err.ensures.err.1 c.in-Err.ensures.err.2
+    let taken = c.loop-end.invariant.taken in
+    let lines = lost_in _ _ _ c.loop-end.reader taken.0 c.in-Err.ensures.err.0 c.loop-end.invariant.few c.in-Err.ensures.err.1 c.in-Err.ensures.err.2 taken.1 in
+    (taken.0 ++ lines.0, lines.1, lines.2)
+
+pub returns-in-Ok-true-clause-world : goal.returns-in-Ok-true-clause-world
+returns-in-Ok-true-clause-world g c =
+    let r = c.args.route.now in
+    let a = c.args.session.now in
+    let b = c.loop-end.session in
+    let d = c.answer_lines.new.session in
+    let t = g.L.Link.troubles c.args.link.now in
+    let u = g.L.Link.troubles c.loop-end.link in
+    let v = g.L.Link.troubles c.answer_lines.new.link in
+    let o = g.O.Sink.written c.args.output.now in
+    let m = g.O.Sink.written c.loop-end.output in
+    let n = g.O.Sink.written c.answer_lines.new.output in
+    let left = g.I.Source.left c.args.input.now in
+    let mid = g.I.Source.left c.loop-end.input in
+    let rest = g.I.Source.left c.read_piece.new.input in
+    let old = c.loop-end.reader in
+    let new = c.read_piece.new.self in
+    told_then _ _ _ (λ x y. Does (AnswersSoFar r a left mid old o m b) a b t u x y)
+    (λ x y. Does (AnswersLines r b (up_to_quit (whole_lines new.bytes)) m n (Ok c.in-Ok-true.field-0) d) b d u v x y)
+    (λ x y. Does (AnswersInput r a left rest o n (Ok Read) d) a d t v x y)
+    c.loop-end.invariant.world c.in-Ok-true.ensures.world
+    (λ x y z so_far quits. does_then _ _ _ a b d t u v x y z so_far quits
+    (λ p q. so_far_quits r a left o mid rest old new c.in-Ok.end b d m n p q c.loop-end.invariant.few c.in-Ok.ensures.ok (sym c.in-Ok-true.ensures.quit ∙ c.in-Ok-true.field-0-test)))
+
+pub returns-in-Ok-true-clause-input : goal.returns-in-Ok-true-clause-input
+returns-in-Ok-true-clause-input g c =
+    let taken = c.loop-end.invariant.taken in
+    let new = c.read_piece.new.self in
+    (taken.0 ++ up_to_quit (whole_lines new.bytes), quits_in _ _ _ c.loop-end.reader new taken.0 c.in-Ok.end c.loop-end.invariant.few c.in-Ok.ensures.ok (sym c.in-Ok-true.ensures.quit ∙ c.in-Ok-true.field-0-test) taken.1)
 
 pub returns-in-Err-answer_lines-clause-world : goal.returns-in-Err-answer_lines-clause-world
 returns-in-Err-answer_lines-clause-world g c =
     let r = c.args.route.now in
-    let a = state c.args.log.now in
-    let b = state c.loop-end.log in
-    let d = state c.answer_lines.new.log in
+    let a = c.args.session.now in
+    let b = c.loop-end.session in
+    let d = c.answer_lines.new.session in
     let t = g.L.Link.troubles c.args.link.now in
     let u = g.L.Link.troubles c.loop-end.link in
     let v = g.L.Link.troubles c.answer_lines.new.link in
@@ -69,24 +101,27 @@ returns-in-Err-answer_lines-clause-world g c =
     let old = c.loop-end.reader in
     let new = c.read_piece.new.self in
     let stop = c.in-Err-answer_lines.stop in
-    told_then _ _ _ (λ x y. Goes r.client (AnswersSoFar r a left mid old o m b) a b t u x y)
-    (λ x y. Goes r.client (AnswersLines r b (whole_lines new.bytes) m n (Err stop) d) b d u v x y)
-    (λ x y. Goes r.client (AnswersInput r a left rest o n (Err stop) d) a d t v x y)
+    told_then _ _ _ (λ x y. Does (AnswersSoFar r a left mid old o m b) a b t u x y)
+    (λ x y. Does (AnswersLines {T = Bool} r b (up_to_quit (whole_lines new.bytes)) m n (Err stop) d) b d u v x y)
+    (λ x y. Does (AnswersInput r a left rest o n (Err stop) d) a d t v x y)
     c.loop-end.invariant.world c.in-Err-answer_lines.ensures.world
-    (λ x y z so_far stops. goes_then r.client _ _ _ a b d t u v x y z so_far stops
+    (λ x y z so_far stops. does_then _ _ _ a b d t u v x y z so_far stops
     (λ p q. so_far_stops r a left o mid rest old new c.in-Ok.end stop b d m n p q c.loop-end.invariant.few c.in-Ok.ensures.ok))
 
 pub returns-in-Err-answer_lines-clause-input : goal.returns-in-Err-answer_lines-clause-input
 returns-in-Err-answer_lines-clause-input g c =
-    stopped_at _ _ _ c.loop-end.reader c.read_piece.new.self c.in-Ok.end c.loop-end.invariant.taken c.in-Ok.ensures.ok
+    let taken = c.loop-end.invariant.taken in
+    let new = c.read_piece.new.self in
+    let lines = stops_in _ _ _ c.loop-end.reader new taken.0 c.in-Ok.end c.loop-end.invariant.few c.in-Ok.ensures.ok taken.1 in
+    ((taken.0 ++ up_to_quit (whole_lines new.bytes)) ++ lines.0, lines.1, lines.2)
 
 pub returns-in-Err-answer_last-clause-world : goal.returns-in-Err-answer_last-clause-world
 returns-in-Err-answer_last-clause-world g c =
     let r = c.args.route.now in
-    let a = state c.args.log.now in
-    let b = state c.loop-end.log in
-    let d = state c.answer_lines.new.log in
-    let e = state c.answer_last.new.log in
+    let a = c.args.session.now in
+    let b = c.loop-end.session in
+    let d = c.answer_lines.new.session in
+    let e = c.answer_last.new.session in
     let t = g.L.Link.troubles c.args.link.now in
     let u = g.L.Link.troubles c.loop-end.link in
     let v = g.L.Link.troubles c.answer_lines.new.link in
@@ -103,31 +138,36 @@ returns-in-Err-answer_last-clause-world g c =
     let final = c.answer_lines.new.reader in
     let end = c.in-Some.end in
     let stop = c.in-Err-answer_last.stop in
-    let ends : EndsAt rest final.count end = ends_at rest old.count new final c.in-Ok.end end c.in-Some.is c.in_default.ensures.left c.in-Ok.ensures.ok.ended in
-    told_then _ _ _ (λ x y. Goes r.client (AnswersSoFar r a left rest final o n d) a d t v x y)
-    (λ x y. Goes r.client (AnswersLines r d (last_at end final.bytes) n k (Err stop) e) d e v w x y)
-    (λ x y. Goes r.client (AnswersInput r a left rest o k (Err stop) e) a e t w x y)
-    (told_then _ _ _ (λ x y. Goes r.client (AnswersSoFar r a left mid old o m b) a b t u x y)
-    (λ x y. Goes r.client (AnswersLines r b (whole_lines new.bytes) m n (Ok c.in_default.field-0) d) b d u v x y)
-    (λ x y. Goes r.client (AnswersSoFar r a left rest final o n d) a d t v x y)
-    c.loop-end.invariant.world c.in_default.ensures.world
-    (λ x y z so_far more. goes_then r.client _ _ _ a b d t u v x y z so_far more
-    (λ p q. so_far_more r a left o mid rest old new final c.in-Ok.end b d m n c.in_default.field-0 p q c.loop-end.invariant.few c.in-Ok.ensures.ok c.in_default.ensures.left)))
+    let left_is : HasUnfinished new final = c.in-Ok-false.ensures.left c.in-Ok-false.field-0-test in
+    let none : has_quit (whole_lines new.bytes) ≡ false = sym c.in-Ok-false.ensures.quit ∙ c.in-Ok-false.field-0-test in
+    let ends : EndsAt rest final.count end = ends_at rest old.count new final c.in-Ok.end end c.in-Some.is left_is c.in-Ok.ensures.ok.ended in
+    told_then _ _ _ (λ x y. Does (AnswersSoFar r a left rest final o n d) a d t v x y)
+    (λ x y. Does (AnswersLines {T = Unit {0}} r d (last_at end final.bytes) n k (Err stop) e) d e v w x y)
+    (λ x y. Does (AnswersInput r a left rest o k (Err stop) e) a e t w x y)
+    (told_then _ _ _ (λ x y. Does (AnswersSoFar r a left mid old o m b) a b t u x y)
+    (λ x y. Does (AnswersLines r b (up_to_quit (whole_lines new.bytes)) m n (Ok c.in-Ok-false.field-0) d) b d u v x y)
+    (λ x y. Does (AnswersSoFar r a left rest final o n d) a d t v x y)
+    c.loop-end.invariant.world c.in-Ok-false.ensures.world
+    (λ x y z so_far more. does_then _ _ _ a b d t u v x y z so_far more
+    (λ p q. so_far_more r a left o mid rest old new final c.in-Ok.end b d m n p q c.loop-end.invariant.few c.in-Ok.ensures.ok left_is none)))
     c.in-Err-answer_last.ensures.world
-    (λ x y z so_far last. goes_then r.client _ _ _ a d e t v w x y z so_far last
-    (λ p q. all_stops r a left o rest final end stop d e n k p q c.in_default.ensures.left.no_line ends))
+    (λ x y z so_far last. does_then _ _ _ a d e t v w x y z so_far last
+    (λ p q. all_stops r a left o rest final end stop d e n k p q left_is.no_line ends))
 
 pub returns-in-Err-answer_last-clause-input : goal.returns-in-Err-answer_last-clause-input
 returns-in-Err-answer_last-clause-input g c =
-    stopped_at _ _ _ c.loop-end.reader c.read_piece.new.self c.in-Ok.end c.loop-end.invariant.taken c.in-Ok.ensures.ok
+    let taken = c.loop-end.invariant.taken in
+    let new = c.read_piece.new.self in
+    let lines = stops_in _ _ _ c.loop-end.reader new taken.0 c.in-Ok.end c.loop-end.invariant.few c.in-Ok.ensures.ok taken.1 in
+    ((taken.0 ++ up_to_quit (whole_lines new.bytes)) ++ lines.0, lines.1, lines.2)
 
 pub returns-in-Some-clause-world : goal.returns-in-Some-clause-world
 returns-in-Some-clause-world g c =
     let r = c.args.route.now in
-    let a = state c.args.log.now in
-    let b = state c.loop-end.log in
-    let d = state c.answer_lines.new.log in
-    let e = state c.answer_last.new.log in
+    let a = c.args.session.now in
+    let b = c.loop-end.session in
+    let d = c.answer_lines.new.session in
+    let e = c.answer_last.new.session in
     let t = g.L.Link.troubles c.args.link.now in
     let u = g.L.Link.troubles c.loop-end.link in
     let v = g.L.Link.troubles c.answer_lines.new.link in
@@ -144,30 +184,47 @@ returns-in-Some-clause-world g c =
     let final = c.answer_lines.new.reader in
     let end = c.in-Some.end in
     let done = c.in_default-answer_last.field-0 in
-    let ends : EndsAt rest final.count end = ends_at rest old.count new final c.in-Ok.end end c.in-Some.is c.in_default.ensures.left c.in-Ok.ensures.ok.ended in
-    told_then _ _ _ (λ x y. Goes r.client (AnswersSoFar r a left rest final o n d) a d t v x y)
-    (λ x y. Goes r.client (AnswersLines r d (last_at end final.bytes) n k (Ok done) e) d e v w x y)
-    (λ x y. Goes r.client (AnswersInput r a left rest o k (Ok end) e) a e t w x y)
-    (told_then _ _ _ (λ x y. Goes r.client (AnswersSoFar r a left mid old o m b) a b t u x y)
-    (λ x y. Goes r.client (AnswersLines r b (whole_lines new.bytes) m n (Ok c.in_default.field-0) d) b d u v x y)
-    (λ x y. Goes r.client (AnswersSoFar r a left rest final o n d) a d t v x y)
-    c.loop-end.invariant.world c.in_default.ensures.world
-    (λ x y z so_far more. goes_then r.client _ _ _ a b d t u v x y z so_far more
-    (λ p q. so_far_more r a left o mid rest old new final c.in-Ok.end b d m n c.in_default.field-0 p q c.loop-end.invariant.few c.in-Ok.ensures.ok c.in_default.ensures.left)))
+    let left_is : HasUnfinished new final = c.in-Ok-false.ensures.left c.in-Ok-false.field-0-test in
+    let none : has_quit (whole_lines new.bytes) ≡ false = sym c.in-Ok-false.ensures.quit ∙ c.in-Ok-false.field-0-test in
+    let ends : EndsAt rest final.count end = ends_at rest old.count new final c.in-Ok.end end c.in-Some.is left_is c.in-Ok.ensures.ok.ended in
+    told_then _ _ _ (λ x y. Does (AnswersSoFar r a left rest final o n d) a d t v x y)
+    (λ x y. Does (AnswersLines r d (last_at end final.bytes) n k (Ok done) e) d e v w x y)
+    (λ x y. Does (AnswersInput r a left rest o k (Ok end) e) a e t w x y)
+    (told_then _ _ _ (λ x y. Does (AnswersSoFar r a left mid old o m b) a b t u x y)
+    (λ x y. Does (AnswersLines r b (up_to_quit (whole_lines new.bytes)) m n (Ok c.in-Ok-false.field-0) d) b d u v x y)
+    (λ x y. Does (AnswersSoFar r a left rest final o n d) a d t v x y)
+    c.loop-end.invariant.world c.in-Ok-false.ensures.world
+    (λ x y z so_far more. does_then _ _ _ a b d t u v x y z so_far more
+    (λ p q. so_far_more r a left o mid rest old new final c.in-Ok.end b d m n p q c.loop-end.invariant.few c.in-Ok.ensures.ok left_is none)))
     c.in_default-answer_last.ensures.world
-    (λ x y z so_far last. goes_then r.client _ _ _ a d e t v w x y z so_far last
-    (λ p q. all_answered r a left o rest final end d e n k done p q c.in_default.ensures.left.no_line ends))
+    (λ x y z so_far last. does_then _ _ _ a d e t v w x y z so_far last
+    (λ p q. all_answered r a left o rest final end d e n k p q left_is.no_line ends))
 
 pub returns-in-Some-clause-input : goal.returns-in-Some-clause-input
 returns-in-Some-clause-input g c =
-    ended_at _ _ _ c.loop-end.reader c.read_piece.new.self c.in-Ok.end c.in-Some.end c.in-Some.is c.loop-end.invariant.taken c.in-Ok.ensures.ok
+    let left = g.I.Source.left c.args.input.now in
+    let mid = g.I.Source.left c.loop-end.input in
+    let rest = g.I.Source.left c.read_piece.new.input in
+    let old = c.loop-end.reader in
+    let new = c.read_piece.new.self in
+    let final = c.answer_lines.new.reader in
+    let end = c.in-Some.end in
+    let taken = c.loop-end.invariant.taken in
+    let left_is : HasUnfinished new final = c.in-Ok-false.ensures.left c.in-Ok-false.field-0-test in
+    let none : has_quit (whole_lines new.bytes) ≡ false = sym c.in-Ok-false.ensures.quit ∙ c.in-Ok-false.field-0-test in
+    let ends : EndsAt rest final.count end = ends_at rest old.count new final c.in-Ok.end end c.in-Some.is left_is c.in-Ok.ensures.ok.ended in
+    let behind = taken.0 ++ whole_lines new.bytes in (
+      behind ++ last_at end final.bytes,
+      all_in left rest final behind end left_is.no_line ends
+          (reads_more left mid rest old new final taken.0 c.in-Ok.end c.loop-end.invariant.few c.in-Ok.ensures.ok left_is none taken.1),
+    )
 
 pub loop-end-preserved : goal.loop-end-preserved
 loop-end-preserved g c =
     let r = c.args.route.now in
-    let a = state c.args.log.now in
-    let b = state c.loop-end.log in
-    let d = state c.answer_lines.new.log in
+    let a = c.args.session.now in
+    let b = c.loop-end.session in
+    let d = c.answer_lines.new.session in
     let t = g.L.Link.troubles c.args.link.now in
     let u = g.L.Link.troubles c.loop-end.link in
     let v = g.L.Link.troubles c.answer_lines.new.link in
@@ -180,19 +237,21 @@ loop-end-preserved g c =
     let old = c.loop-end.reader in
     let new = c.read_piece.new.self in
     let final = c.answer_lines.new.reader in
-    let left_is = c.in_default.ensures.left in
-    let taken = so_far_taken left mid rest old new c.in-Ok.end c.loop-end.invariant.taken c.in-Ok.ensures.ok in
+    let left_is : HasUnfinished new final = c.in-Ok-false.ensures.left c.in-Ok-false.field-0-test in
+    let none : has_quit (whole_lines new.bytes) ≡ false = sym c.in-Ok-false.ensures.quit ∙ c.in-Ok-false.field-0-test in
+    let taken = c.loop-end.invariant.taken in
     record {
-      few = omega (arith, left_is.count, (subst (GoesOnOrEnds rest old.count new.count) c.in_default-end.is c.in-Ok.ensures.ok.ended).1);
+      few = omega (arith, left_is.count, (subst (GoesOnOrEnds rest old.count new.count) c.in_default.is c.in-Ok.ensures.ok.ended).1);
       no_line = left_is.no_line;
-      taken = (taken.0, taken.1, left_is.count ∙ taken.2);
+      taken = (taken.0 ++ whole_lines new.bytes, reads_more left mid rest old new final taken.0 c.in-Ok.end c.loop-end.invariant.few c.in-Ok.ensures.ok left_is none taken.1);
       later = omega (arith, c.answer_lines.ensures.later);
       source_later = omega (arith, c.read_piece.ensures.later);
       sink_later = omega (arith, c.answer_lines.ensures.cause.later);
-      world = told_then _ _ _ (λ x y. Goes r.client (AnswersSoFar r a left mid old o m b) a b t u x y)
-          (λ x y. Goes r.client (AnswersLines r b (whole_lines new.bytes) m n (Ok c.in_default.field-0) d) b d u v x y)
-          (λ x y. Goes r.client (AnswersSoFar r a left rest final o n d) a d t v x y)
-          c.loop-end.invariant.world c.in_default.ensures.world
-          (λ x y z so_far more. goes_then r.client _ _ _ a b d t u v x y z so_far more
-          (λ p q. so_far_more r a left o mid rest old new final c.in-Ok.end b d m n c.in_default.field-0 p q c.loop-end.invariant.few c.in-Ok.ensures.ok left_is));
+      world =
+          told_then _ _ _ (λ x y. Does (AnswersSoFar r a left mid old o m b) a b t u x y)
+          (λ x y. Does (AnswersLines r b (up_to_quit (whole_lines new.bytes)) m n (Ok c.in-Ok-false.field-0) d) b d u v x y)
+          (λ x y. Does (AnswersSoFar r a left rest final o n d) a d t v x y)
+          c.loop-end.invariant.world c.in-Ok-false.ensures.world
+          (λ x y z so_far more. does_then _ _ _ a b d t u v x y z so_far more
+          (λ p q. so_far_more r a left o mid rest old new final c.in-Ok.end b d m n p q c.loop-end.invariant.few c.in-Ok.ensures.ok left_is none));
     }

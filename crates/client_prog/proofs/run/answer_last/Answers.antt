@@ -2,21 +2,21 @@ use Rattle.std.proofs.Common.{◌≡◌, ⊎_elim, ℕ, List, [], Ok, ap, sym, s
 use Rattle.world_rules.proofs.Asks.{told_start}
 use Rattle.client_prog.specs.declared.input.InputEnd.{InputEnd}
 use Rattle.client_prog.specs.Input.{last_at}
-use Rattle.client_prog.specs.Session.{state, nothing}
-use Rattle.client_prog.specs.Goes.{Goes}
-use Rattle.client_prog.specs.InsideRun.{AnswersLines}
-use Rattle.client_prog.proofs.Going.{goes_none}
+use Rattle.client_core.specs.Trace.{nothing}
+use Rattle.client_prog.specs.InsideSession.{Does}
+use Rattle.client_prog.specs.InsideRun.{AllAnswered}
+use Rattle.client_prog.proofs.Doing.{does_none}
 use Rattle.client_prog.proofs.RunningLines.{answers_nothing}
 use Rattle.client_prog.proofs.run.answer_last.Goals as goal
 
 pub returns-in-Failed-clause-world : goal.returns-in-Failed-clause-world
 returns-in-Failed-clause-world g c =
     let r = c.args.route.now in
-    let s = state c.args.log.now in
+    let s = c.args.session.now in
     let t = g.L.Link.troubles c.args.link.now in
     let o = g.O.Sink.written c.args.output.now in
     let bytes = c.args.reader.now.bytes in
     let none : last_at c.args.end bytes ≡ [] =
     ⊎_elim (λ is. ap (λ (e : InputEnd). last_at e bytes) is) (λ is. ap (λ (e : InputEnd). last_at e bytes) is) c.in-Failed.is in
-    told_start _ (λ x y. Goes r.client (AnswersLines r s (last_at c.args.end bytes) o o (Ok tt) s) s s t t x y)
-    (λ x. goes_none r.client _ s t x (subst (λ (ls : List (List ℕ)). AnswersLines r s ls o o (Ok tt) s nothing) (sym none) (answers_nothing r s o tt)))
+    told_start _ (λ x y. Does (AllAnswered r s (last_at c.args.end bytes) o o s) s s t t x y)
+    (λ x. does_none _ s t x (subst (λ (ls : List (List ℕ)). AllAnswered r s ls o o s nothing) (sym none) (answers_nothing r s o)))

@@ -1,21 +1,48 @@
-use Rattle.std.proofs.Common.{◌≡◌, ℕ, List, [], Ok, arith, sym, subst}
+use Rattle.std.proofs.Common.{◌≡◌, ℕ, List, [], ◌∷◌, Ok, Err, arith, sym, subst}
 use Rattle.std.proofs.lemmas.Bool.Decides.{nat_tests}
+use Rattle.outside.specs.Outside.{Told}
 use Rattle.world_rules.proofs.Asks.{told_start}
-use Rattle.client_prog.specs.Lines.{last_line}
-use Rattle.client_prog.specs.Session.{state, nothing}
-use Rattle.client_prog.specs.Goes.{Goes}
-use Rattle.client_prog.specs.InsideRun.{AnswersLines}
-use Rattle.client_prog.proofs.Going.{goes_none}
+use Rattle.shell_lang.specs.Lines.{last_line}
+use Rattle.client_core.specs.Trace.{nothing}
+use Rattle.client_prog.specs.InsideSession.{Does}
+use Rattle.client_prog.specs.InsideRun.{AllAnswered, AnswersLines}
+use Rattle.client_prog.proofs.Doing.{does_none}
 use Rattle.client_prog.proofs.RunningLines.{answers_nothing}
-use Rattle.client_prog.proofs.RunningInput.{last_line_none}
+use Rattle.client_prog.proofs.RunningInput.{last_line_none, last_line_some}
 use Rattle.client_prog.proofs.run.answer_unfinished.Goals as goal
 
 pub returns-then-is_empty-clause-world : goal.returns-then-is_empty-clause-world
 returns-then-is_empty-clause-world g c =
     let r = c.args.route.now in
-    let s = state c.args.log.now in
+    let s = c.args.session.now in
     let t = g.L.Link.troubles c.args.link.now in
     let o = g.O.Sink.written c.args.output.now in
     let none : last_line c.args.line.now ≡ [] = last_line_none c.args.line.now (grind (arith, nat_tests)) in
-    told_start _ (λ x y. Goes r.client (AnswersLines r s (last_line c.args.line.now) o o (Ok tt) s) s s t t x y)
-    (λ x. goes_none r.client _ s t x (subst (λ (ls : List (List ℕ)). AnswersLines r s ls o o (Ok tt) s nothing) (sym none) (answers_nothing r s o tt)))
+    told_start _ (λ x y. Does (AllAnswered r s (last_line c.args.line.now) o o s) s s t t x y)
+    (λ x. does_none _ s t x (subst (λ (ls : List (List ℕ)). AllAnswered r s ls o o s nothing) (sym none) (answers_nothing r s o)))
+
+pub returns-in-Ok-clause-world : goal.returns-in-Ok-clause-world
+returns-in-Ok-clause-world g c =
+    let r = c.args.route.now in
+    let a = c.args.session.now in
+    let b = c.answer.new.session in
+    let t = g.L.Link.troubles c.args.link.now in
+    let u = g.L.Link.troubles c.answer.new.link in
+    let o = g.O.Sink.written c.args.output.now in
+    let n = g.O.Sink.written c.answer.new.output in
+    let one : last_line c.args.line.now ≡ c.args.line.now ∷ [] = last_line_some c.args.line.now (grind (arith, nat_tests)) in
+    subst (λ (ls : List (List ℕ)). Told (g.L.Link.world c.args.link.now) (g.L.Link.world c.answer.new.link) (λ x y. Does (AllAnswered r a ls o n b) a b t u x y))
+    (sym one) c.in-Ok.ensures.world
+
+pub returns-in-Err-clause-world : goal.returns-in-Err-clause-world
+returns-in-Err-clause-world g c =
+    let r = c.args.route.now in
+    let a = c.args.session.now in
+    let b = c.answer.new.session in
+    let t = g.L.Link.troubles c.args.link.now in
+    let u = g.L.Link.troubles c.answer.new.link in
+    let o = g.O.Sink.written c.args.output.now in
+    let n = g.O.Sink.written c.answer.new.output in
+    let one : last_line c.args.line.now ≡ c.args.line.now ∷ [] = last_line_some c.args.line.now (grind (arith, nat_tests)) in
+    subst (λ (ls : List (List ℕ)). Told (g.L.Link.world c.args.link.now) (g.L.Link.world c.answer.new.link) (λ x y. Does (AnswersLines {T = Unit {0}} r a ls o n (Err c.in-Err.stop) b) a b t u x y))
+    (sym one) c.in-Err.ensures.world

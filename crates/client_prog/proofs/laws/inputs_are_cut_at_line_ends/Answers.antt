@@ -1,9 +1,0 @@
-use Rattle.client_prog.proofs.Cutting.{joined_parts_are_the_input, parts_are_one_line_each, joined_lines_are_found}
-use Rattle.client_prog.proofs.laws.inputs_are_cut_at_line_ends.Goals as goal
-
-pub returns : goal.returns
-returns c = record {
-  joined = joined_parts_are_the_input;
-  alone = parts_are_one_line_each;
-  only = joined_lines_are_found;
-}

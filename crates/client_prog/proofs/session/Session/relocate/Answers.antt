@@ -1,0 +1,10 @@
+use Rattle.std.proofs.Common.{ap, subst}
+use Rattle.vol_tree.specs.Path.{FilePath}
+use Rattle.client_prog.specs.Session.{State, move_effect}
+use Rattle.client_prog.specs.InsideSession.{Logs}
+use Rattle.client_prog.proofs.session.Session.relocate.Goals as goal
+
+pub returns : goal.returns
+returns c =
+    subst (λ (folder : FilePath). Logs (move_effect folder c.args.from.now c.args.to.now) c.args.self.now c.log.result c.log.new.self) (ap (λ (s : State). s.folder) c.self.view_is)
+    (c.log.ensures (move_effect c.self.inside.folder c.args.from.now c.args.to.now) c.move_effect-made.ensures)

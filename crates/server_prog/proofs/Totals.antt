@@ -1,0 +1,121 @@
+-- What the connections of a run amount to.
+use Rattle.std.proofs.Common.{◌≡◌, ◌≤◌, ◌<◌, ◌⊎◌, inl, inr, ⊎_elim, ℕ, ◌+◌, ◌-◌, List, [], ◌∷◌, ◌++◌, length, Option, Some, Result, Ok, Err, refl, sym, ◌∙◌, ap, subst, arith}
+use Rattle.std.proofs.lemmas.List.{append_cancel_left}
+use Rattle.outside.specs.declared.errors.SinkError.{SinkError}
+use Rattle.outside.specs.declared.errors.SinkError.TheVariants.{Failed, Memory}
+use Rattle.outside.specs.Outside.{RoseBy, Adds}
+use Rattle.outside.specs.Port.{AddsFrames}
+use Rattle.world_rules.specs.Served.{Served, new_served}
+use Rattle.server_core.specs.Framing.{frame_after}
+use Rattle.server_prog.specs.Serving.{Connection, Missed, Unanswered, Answered, Telling, Serves, frames_taken, frames_answered, failures}
+use Rattle.server_prog.specs.Run.{status_of, last_line, line_of, IsServed, IsBrokenOff, StopsInLine, StopsInServing, RunTurn, Ran}
+use Rattle.server_prog.specs.Laws.{fall, HasFallen, FallsAreBounded, HasFrames, IsTold, FramesAreCounted}
+use Rattle.server_prog.proofs.Connections.{adds_behind, failures-append}
+
+-- each connection is answered, or a call of the port failed
+pub answered_or_failed : (connections : List Connection) (served : Served) → failures connections + length (frames_answered connections served) ≡ length connections
+answered_or_failed [] served = refl
+answered_or_failed (Missed ∷ more) served =
+    let one : failures (Missed ∷ more) ≡ 1 + failures more = failures-append (Missed ∷ []) more in
+    omega (arith, one, answered_or_failed more served)
+answered_or_failed (Unanswered frame ∷ more) served =
+    let one : failures (Unanswered frame ∷ more) ≡ 1 + failures more = failures-append (Unanswered frame ∷ []) more in
+    omega (arith, one, answered_or_failed more (frame_after frame served))
+answered_or_failed (Answered frame ∷ more) served =
+    let none : failures (Answered frame ∷ more) ≡ 0 + failures more = failures-append (Answered frame ∷ []) more in
+    omega (arith, none, answered_or_failed more (frame_after frame served))
+
+-- a run that ended with 7 ended neither with 0 nor with 4
+is_other : (status : ℕ) → status ≡ 7 → (status ≡ 0) ⊎ (status ≡ 4) → ⊥
+is_other status is (inl zero) = omega arith
+is_other status is (inr four) = omega arith
+
+-- ---- the fall
+
+fallen : (count status : ℕ) (connections : List Connection) (after : Served) (old new : Telling) → IsServed count connections after old new → HasFallen count status old new
+fallen count status connections after old new is = record {
+  fewer = omega (arith, is.serves.left);
+  most = omega (arith, is.serves.left, is.most);
+  ended = λ _. ⊎_elim (λ (full : length connections ≡ count). inl (omega (arith, is.serves.left, full))) (λ (none : new.left ≡ 0). inr none) is.ended;
+}
+
+fallen_short : (count : ℕ) (connections : List Connection) (after : Served) (old middle new : Telling) → IsBrokenOff count connections after old middle new → HasFallen count 7 old new
+fallen_short count connections after old middle new is = record {
+  fewer = omega (arith, is.serves.left, is.broken.left);
+  most = omega (arith, is.serves.left, is.broken.left, is.most);
+  ended = λ other. absurd (is_other 7 refl other);
+}
+
+bounded : (count status : ℕ) (old new : Telling) (written now : Option (List ℕ)) (ended : Result (Unit {0}) SinkError) → status ≡ status_of ended → RunTurn count old new written now ended → HasFallen count status old new
+bounded count status old new written now (Ok done) is turn = fallen count status turn.0 turn.1 old new turn.2
+bounded count status old new written now (Err Failed) is turn = fallen count status turn.0 turn.1 old new turn.3
+bounded count status old new written now (Err Memory) is (inl line) = fallen count status line.0 line.1 old new line.3
+bounded count status old new written now (Err Memory) is (inr broken) = subst (λ (n : ℕ). HasFallen count n old new) (sym is) (fallen_short count broken.0 broken.1 old broken.2 new broken.3)
+
+pub falls_are_bounded : FallsAreBounded
+falls_are_bounded count status old new written now ran = bounded count status old new written now ran.0 ran.1 ran.2
+
+-- ---- the frames
+
+same_frames : (old new : Option (List (List ℕ))) (before xs ys : List (List ℕ)) → old ≡ Some before → new ≡ Some (before ++ ys) → AddsFrames old new xs → xs ≡ ys
+same_frames old new before xs ys o n adds =
+    let told : before ++ ys ≡ before ++ xs =
+    subst (λ (m : Option (List (List ℕ))). AddsFrames (Some before) m xs) n (subst (λ (p : Option (List (List ℕ))). AddsFrames p new xs) o adds) in
+    sym (append_cancel_left before ys xs told)
+
+rose_later : (n a b c : ℕ) → RoseBy n a b → b ≤ c → RoseBy n a c
+rose_later n a b c rose later = omega arith
+
+rose_less : (m n a b : ℕ) → m ≤ n → RoseBy n a b → RoseBy m a b
+rose_less m n a b less rose = omega arith
+
+-- connections that were all served, as told
+module _ (connections : List Connection) (after : Served) (count : ℕ) (old new : Telling) (is : IsServed count connections after old new) (taken answered : List (List ℕ)) (frames : HasFrames taken answered old new) where
+  same_taken : frames_taken connections ≡ taken
+  same_taken = same_frames old.taken new.taken frames.taken_before (frames_taken connections) taken frames.old_taken frames.new_taken is.serves.taken
+
+  same_answered : frames_answered connections new_served ≡ answered
+  same_answered = same_frames old.answered new.answered frames.answered_before (frames_answered connections new_served) answered frames.old_answered frames.new_answered is.serves.answered
+
+  unanswered : failures connections ≡ fall old new - length answered
+  unanswered = omega (arith, answered_or_failed connections new_served, ap length same_answered, is.serves.left)
+
+  same_line : line_of connections ≡ last_line (length taken) (fall old new - length answered)
+  same_line = ap (λ (l : List (List ℕ)). last_line (length l) (failures connections)) same_taken ∙ ap (λ (n : ℕ). last_line (length taken) n) unanswered
+
+  rose_all : RoseBy (fall old new - length answered) old.faults new.faults
+  rose_all = subst (λ (n : ℕ). RoseBy n old.faults new.faults) unanswered is.serves.failed
+
+  rose_but_one : RoseBy (fall old new - length answered - 1) old.faults new.faults
+  rose_but_one = rose_less (fall old new - length answered - 1) (fall old new - length answered) old.faults new.faults (omega arith) rose_all
+
+  told_all : (status : ℕ) (written now : Option (List ℕ)) → Adds written now (line_of connections) → IsTold status taken answered old new written now
+  told_all status written now adds = record { most = λ _. rose_all; at_hand = rose_but_one; line = λ _. subst (Adds written now) same_line adds }
+
+  told_front : (status : ℕ) (written now : Option (List ℕ)) → (status ≡ 0 → ⊥) → IsTold status taken answered old new written now
+  told_front status written now other = record { most = λ _. rose_all; at_hand = rose_but_one; line = λ zero. absurd (other zero) }
+
+told_broken : (connections : List Connection) (after : Served) (count : ℕ) (old middle new : Telling) (written now : Option (List ℕ)) (taken answered : List (List ℕ)) → IsBrokenOff count connections after old middle new → HasFrames taken answered old new
+    → IsTold 7 taken answered old new written now
+told_broken connections after count old middle new written now taken answered is frames =
+    let same : frames_answered connections new_served ≡ answered =
+    same_frames old.answered new.answered frames.answered_before (frames_answered connections new_served) answered frames.old_answered frames.new_answered
+    (adds_behind old.answered middle.answered new.answered (frames_answered connections new_served) is.serves.answered is.broken.answered) in
+    let missing : failures connections ≡ fall old new - length answered - 1 =
+    omega (arith, answered_or_failed connections new_served, ap length same, is.serves.left, is.broken.left) in
+    record {
+      most = λ other. absurd (is_other 7 refl other);
+      at_hand = subst (λ (n : ℕ). RoseBy n old.faults new.faults) missing (rose_later (failures connections) old.faults middle.faults new.faults is.serves.failed is.broken.later);
+      line = λ (zero : 7 ≡ 0). absurd (omega arith);
+    }
+
+counted : (count status : ℕ) (old new : Telling) (written now : Option (List ℕ)) (taken answered : List (List ℕ)) (ended : Result (Unit {0}) SinkError)
+    → status ≡ status_of ended → RunTurn count old new written now ended → HasFrames taken answered old new → IsTold status taken answered old new written now
+counted count status old new written now taken answered (Ok done) is turn frames = told_all turn.0 turn.1 count old new turn.2 taken answered frames status written now turn.3
+counted count status old new written now taken answered (Err Failed) is turn frames = told_front turn.0 turn.1 count old new turn.3 taken answered frames status written now (λ zero. absurd (omega arith))
+counted count status old new written now taken answered (Err Memory) is (inl line) frames = told_front line.0 line.1 count old new line.3 taken answered frames status written now (λ zero. absurd (omega arith))
+counted count status old new written now taken answered (Err Memory) is (inr broken) frames =
+    subst (λ (n : ℕ). IsTold n taken answered old new written now) (sym is) (told_broken broken.0 broken.1 count old broken.2 new written now taken answered broken.3 frames)
+
+pub frames_are_counted : FramesAreCounted
+frames_are_counted count status old new written now taken answered ran frames = counted count status old new written now taken answered ran.0 ran.1 ran.2 frames

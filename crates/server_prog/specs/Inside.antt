@@ -1,0 +1,56 @@
+-- Words that only contracts below the whole run cite.
+use Rattle.std.specs.Prelude.{◌≡◌, ◌≤◌, ◌<◌, ◌+◌, ◌⊎◌, ◌&&◌, nat_le, Bool, false, ℕ, List, [], ◌∷◌, length, Result, Ok, Err}
+use Rattle.std.specs.declared.alloc.AllocError.{AllocError}
+use Rattle.world_rules.specs.Served.{Served}
+use Rattle.server_prog.specs.declared.serving.Came.{Came}
+use Rattle.server_prog.specs.declared.serving.Came.TheVariants as came
+use Rattle.server_prog.specs.declared.serving.Tally.{Tally}
+use Rattle.server_prog.specs.Serving.{Connection, Missed, Unanswered, Answered, Telling, Serves, BreaksOff, frames_taken, failures}
+
+-- one connection was served, or none was left
+abbrev pub ServesNext : Came → Served → Served → Telling → Telling → Type 0
+ServesNext came.NoConnection before after old new = (new.left ≡ 0) × Serves [] before after old new
+ServesNext came.Missed before after old new = Serves (Missed ∷ []) before after old new
+ServesNext came.Unanswered before after old new = (frame : List ℕ) × Serves (Unanswered frame ∷ []) before after old new
+ServesNext came.Answered before after old new = (frame : List ℕ) × Serves (Answered frame ∷ []) before after old new
+
+-- the frames taken, and the calls that failed
+pub record Counts (connections : List Connection) (tally : Tally) : Type 0 where
+  pub frames : tally.frames ≡ length (frames_taken connections)
+  pub faults : tally.faults ≡ failures connections
+
+-- connections were served and counted, one for each take so far
+pub record ServesSoFar (made : ℕ) (tally : Tally) (before after : Served) (old new : Telling) : Type 0 where
+  pub connections : List Connection
+  pub serves : Serves connections before after old new
+  pub counts : Counts connections tally
+  pub takes : length connections ≡ made
+
+-- at the end of the takes, or of the connections
+pub record ServesAll (count : ℕ) (tally : Tally) (before after : Served) (old new : Telling) : Type 0 where
+  pub connections : List Connection
+  pub serves : Serves connections before after old new
+  pub counts : Counts connections tally
+  pub most : length connections ≤ count
+  pub ended : (length connections ≡ count) ⊎ (new.left ≡ 0)
+
+-- broken off for want of memory
+pub record ServesFront (count : ℕ) (before : Served) (old new : Telling) : Type 0 where
+  pub connections : List Connection
+  pub after : Served
+  pub middle : Telling
+  pub serves : Serves connections before after old middle
+  pub most : length connections < count
+  pub broken : BreaksOff middle new
+
+-- the tally with one more take
+abbrev pub tallied : Tally → Came → Tally
+tallied tally came.NoConnection = tally
+tallied tally came.Missed = record { frames = tally.frames; faults = tally.faults + 1 }
+tallied tally came.Unanswered = record { frames = tally.frames + 1; faults = tally.faults + 1 }
+tallied tally came.Answered = record { frames = tally.frames + 1; faults = tally.faults }
+
+-- whether a word begins with a digit from 1 to 9
+abbrev pub begins_as_count : List ℕ → Bool
+begins_as_count [] = false
+begins_as_count (byte ∷ bytes) = nat_le 49 byte && nat_le byte 57

@@ -1,0 +1,37 @@
+-- What the connections of a run amount to. Its fall is the number by which the connections left fell.
+use Rattle.std.specs.Prelude.{◌≡◌, ◌≤◌, ◌⊎◌, ℕ, ◌+◌, ◌-◌, List, ◌++◌, length, Option, Some}
+use Rattle.outside.specs.Outside.{RoseBy, Adds}
+use Rattle.server_prog.specs.Serving.{Telling}
+use Rattle.server_prog.specs.Run.{Ran, last_line}
+
+abbrev pub fall : Telling → Telling → ℕ
+fall old new = old.left - new.left
+
+-- never more connections are used up than the words say; where serving came to its end, as many, or all that were left
+pub record HasFallen (count status : ℕ) (old new : Telling) : Type 0 where
+  pub fewer : new.left ≤ old.left
+  pub most : fall old new ≤ count
+  pub ended : (status ≡ 0) ⊎ (status ≡ 4) → (fall old new ≡ count) ⊎ (new.left ≡ 0)
+
+abbrev pub FallsAreBounded : Type 0
+FallsAreBounded = (count status : ℕ) (old new : Telling) (written now : Option (List ℕ)) → Ran count status old new written now → HasFallen count status old new
+
+-- a port that tells its frames took and answered these in a run
+pub record HasFrames (taken answered : List (List ℕ)) (old new : Telling) : Type 0 where
+  pub taken_before : List (List ℕ)
+  pub answered_before : List (List ℕ)
+  pub old_taken : old.taken ≡ Some taken_before
+  pub new_taken : new.taken ≡ Some (taken_before ++ taken)
+  pub old_answered : old.answered ≡ Some answered_before
+  pub new_answered : new.answered ≡ Some (answered_before ++ answered)
+
+-- each connection without an answer is a call of the port that failed; at status 7 one may be none, that at hand. At status 0
+-- the output ends with the number of frames taken, and that of connections without an answer.
+pub record IsTold (status : ℕ) (taken answered : List (List ℕ)) (old new : Telling) (written now : Option (List ℕ)) : Type 0 where
+  pub most : (status ≡ 0) ⊎ (status ≡ 4) → RoseBy (fall old new - length answered) old.faults new.faults
+  pub at_hand : RoseBy (fall old new - length answered - 1) old.faults new.faults
+  pub line : status ≡ 0 → Adds written now (last_line (length taken) (fall old new - length answered))
+
+abbrev pub FramesAreCounted : Type 0
+FramesAreCounted = (count status : ℕ) (old new : Telling) (written now : Option (List ℕ)) (taken answered : List (List ℕ))
+    → Ran count status old new written now → HasFrames taken answered old new → IsTold status taken answered old new written now

@@ -1,0 +1,55 @@
+-- What a run of the server does by the status that it gives.
+use Rattle.std.specs.Prelude.{◌≡◌, ◌≤◌, ◌<◌, ◌⊎◌, ℕ, List, [], ◌∷◌, ◌++◌, length, take, Option, Result, Ok, Err, codes, decimal}
+use Rattle.outside.specs.declared.errors.SinkError.{SinkError}
+use Rattle.outside.specs.declared.errors.SinkError.TheVariants.{Failed, Memory}
+use Rattle.outside.specs.Outside.{Adds}
+use Rattle.world_rules.specs.Served.{Served, new_served}
+use Rattle.server_prog.specs.Serving.{Connection, Telling, Serves, BreaksOff, frames_taken, failures}
+
+-- the status of a run that ended so: with its last line, or stopped before
+abbrev pub status_of : Result (Unit {0}) SinkError → ℕ
+status_of (Ok done) = 0
+status_of (Err Failed) = 4
+status_of (Err Memory) = 7
+
+-- the line that ends the output: how many frames were taken, and how many calls of the port failed
+abbrev pub last_line : ℕ → ℕ → List ℕ
+last_line frames faults = codes "served " ++ (decimal frames ++ (codes " faults " ++ (decimal faults ++ 10 ∷ [])))
+
+abbrev pub line_of : List Connection → List ℕ
+line_of connections = last_line (length (frames_taken connections)) (failures connections)
+
+-- serving came to its end: as many takes were made as the words say, or no connection is left
+pub record IsServed (count : ℕ) (connections : List Connection) (after : Served) (old new : Telling) : Type 0 where
+  pub serves : Serves connections new_served after old new
+  pub most : length connections ≤ count
+  pub ended : (length connections ≡ count) ⊎ (new.left ≡ 0)
+
+-- serving was broken off for want of memory
+pub record IsBrokenOff (count : ℕ) (connections : List Connection) (after : Served) (old middle new : Telling) : Type 0 where
+  pub serves : Serves connections new_served after old middle
+  pub most : length connections < count
+  pub broken : BreaksOff middle new
+
+-- all connections were served, and a front of the last line was written
+abbrev pub StopsInLine : ℕ → Telling → Telling → Option (List ℕ) → Option (List ℕ) → Type 0
+StopsInLine count old new written now =
+    (connections : List Connection) × (after : Served) × (bytes : ℕ)
+    × IsServed count connections after old new × Adds written now (take bytes (line_of connections))
+
+-- a connection was broken off, and nothing was written
+abbrev pub StopsInServing : ℕ → Telling → Telling → Option (List ℕ) → Option (List ℕ) → Type 0
+StopsInServing count old new written now =
+    (connections : List Connection) × (after : Served) × (middle : Telling)
+    × IsBrokenOff count connections after old middle new × (now ≡ written)
+
+-- what a run did by how it ended
+abbrev pub RunTurn : ℕ → Telling → Telling → Option (List ℕ) → Option (List ℕ) → Result (Unit {0}) SinkError → Type 0
+RunTurn count old new written now (Ok done) =
+    (connections : List Connection) × (after : Served) × IsServed count connections after old new × Adds written now (line_of connections)
+RunTurn count old new written now (Err Failed) = StopsInLine count old new written now
+RunTurn count old new written now (Err Memory) = StopsInLine count old new written now ⊎ StopsInServing count old new written now
+
+-- a run that gave this status
+abbrev pub Ran : ℕ → ℕ → Telling → Telling → Option (List ℕ) → Option (List ℕ) → Type 0
+Ran count status old new written now = (ended : Result (Unit {0}) SinkError) × (status ≡ status_of ended) × RunTurn count old new written now ended

@@ -1,0 +1,16 @@
+//! The server program: connections of a port, each with one frame in and one frame out.
+#![tactic(auto)]
+
+mod laws;
+mod program;
+mod run;
+mod serving;
+mod words;
+
+pub use laws::{connections_are_counted, counts_are_as_printed};
+pub use program::{server_main, server_program};
+pub use run::server_run;
+pub use words::{RunWords, run_words};
+
+#[cfg(test)]
+mod tests;

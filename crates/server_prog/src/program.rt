@@ -1,0 +1,129 @@
+// The program: the server over TCP and standard output.
+ghost use Rattle.std.specs.Prelude.{◌≡◌, ◌↔◌, ◌⊎◌, IsSome, codes};
+
+use crate::run::server_run;
+use crate::words::run_words;
+use outside::{SinkError, write_all};
+use real_edge::{StdSink, TcpPort, program_words};
+use std::io;
+use std::io::ErrorKind;
+use std::net::Net;
+use std::process::ExitCode;
+use std::rt::Env;
+use std::time::Clock;
+
+const HELP: &str = "\
+Usage: server run LISTEN IMAGE COUNT
+
+Listens at LISTEN, takes one frame of each connection, and answers it before the
+next one. At its end it writes 'served K faults F': K frames were taken, and F
+calls of the network failed. A fault ends one connection alone.
+
+LISTEN is an address with a port. IMAGE is not empty, and not used yet. COUNT is
+how many connections are taken, from 1 to 65536.
+
+Example:
+  server run 127.0.0.1:7001 server.image 100
+
+The server ends with one of these statuses:
+  0  COUNT connections were taken, or none is left
+  1  it cannot listen at LISTEN
+  2  the words have another form
+  4  standard output failed
+  7  memory ran out
+
+Options:
+  --help      shows this text
+  --version   shows the version
+";
+
+const VERSION: &str = "server 0.1.0\n";
+
+const CANNOT_LISTEN: u8 = 1;
+
+const NO_FORM: u8 = 2;
+
+const SINK_FAILED: u8 = 4;
+
+const NO_MEMORY: u8 = 7;
+
+/// Runs the server with the words behind the program's name. Words that are no text are of no form.
+pub fn server_program<R: Print + Eprint + AllocGlobal + Env + Net + Clock>(rt: &R) -> ExitCode {
+    match program_words(rt) {
+        Ok(words) => server_main(rt, &words),
+        Err(error) if error.kind() == ErrorKind::OutOfMemory => end(rt, NO_MEMORY),
+        Err(_) => server_main(rt, &[]),
+    }
+}
+
+/// Runs the server with these words over TCP and standard output, and ends with its status.
+///
+/// `--help` and `--version`, as the only word, are answered on standard output. Where the status is not 0, standard error
+/// says so, or why the server cannot listen.
+pub fn server_main<R: Print + Eprint + AllocGlobal + Net + Clock>(
+    rt: &R,
+    words: &[String],
+) -> ExitCode {
+    let page = match words {
+        [word] => page_of(word.as_str()),
+        _ => None,
+    };
+    match page {
+        Some(page) => end(rt, show(rt, page)),
+        None => run_at(rt, words),
+    }
+}
+
+/// What the word shows, where it asks for a text about the program.
+fn page_of(word: &str) -> Option<&'static str>
+    ensures { IsSome result ↔ ((word.now ≡ codes "--help") ⊎ (word.now ≡ codes "--version")) }
+{
+    match word {
+        "--help" => Some(HELP),
+        "--version" => Some(VERSION),
+        _ => None,
+    }
+}
+
+/// Writes a text about the program, and answers the status.
+fn show<R: Print>(rt: &R, page: &str) -> u8 {
+    let mut output = StdSink::new(io::writer(rt));
+    match write_all(&mut output, page.as_bytes()) {
+        Ok(()) => 0,
+        Err(SinkError::Failed) => SINK_FAILED,
+        Err(SinkError::Memory) => NO_MEMORY,
+    }
+}
+
+/// Listens where the words say, and runs the server there. Words of no form listen nowhere.
+fn run_at<R: Print + Eprint + AllocGlobal + Net + Clock>(rt: &R, words: &[String]) -> ExitCode {
+    let Some(run) = run_words(words) else {
+        return end(rt, NO_FORM);
+    };
+    let address = run.address;
+    match TcpPort::bind(rt.alloc(), rt, address) {
+        Ok(mut port) => end(rt, serve_at(rt, words, &mut port)),
+        Err(error) => {
+            let _ = eprintln!(rt; "server: cannot listen at {address}: {error}");
+            ExitCode::from(CANNOT_LISTEN)
+        }
+    }
+}
+
+/// Runs the server over its port and standard output, and answers the status.
+fn serve_at<R: Print + AllocGlobal + Net + Clock>(
+    rt: &R,
+    words: &[String],
+    port: &mut TcpPort<'_, R>,
+) -> u8 {
+    let mut output = StdSink::new(io::writer(rt));
+    server_run(rt.alloc(), words, port, &mut output)
+}
+
+/// Says a status that is not 0 on standard error.
+fn end<R: Eprint>(rt: &R, status: u8) -> ExitCode {
+    if status != 0 {
+        let _ = eprintln!(rt; "server: status {status}");
+    }
+    ExitCode::from(status)
+}
