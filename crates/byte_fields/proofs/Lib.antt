@@ -1,3 +1,4 @@
 pub mod Loop
 pub mod Codec
 pub mod Cutting
+pub mod Breaking

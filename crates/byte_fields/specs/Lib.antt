@@ -2,3 +2,4 @@ pub mod Field
 pub mod Codec
 pub mod Numbers
 pub mod Cuts
+pub mod Broken

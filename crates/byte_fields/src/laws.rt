@@ -5,6 +5,7 @@ ghost use Rattle.std.specs.Int.{w8, w16, w32, w64};
 ghost use Rattle.byte_fields.specs.Field.{span_at, number_at, digits};
 ghost use Rattle.byte_fields.specs.Codec.{IsCodec};
 ghost use Rattle.byte_fields.specs.Cuts.{IsCut};
+ghost use Rattle.byte_fields.specs.Broken.{RulesAreOfTheirField, MeaningsAreOfTheirField, LaterFieldsAreRefusedLater, ItemsAreRefusedInTheirPlace};
 
 /// One spelling for each span and each number, and one value for each spelling.
 pub fn fields_are_spelled_once()
@@ -22,4 +23,12 @@ pub fn fields_end_with_their_bytes()
     ensures two_bytes { IsCut (number_at w16) (digits w16) (λ n. 2 ∷ []) (λ n. n < 2 ^ 16) }
     ensures four_bytes { IsCut (number_at w32) (digits w32) (λ n. 4 ∷ []) (λ n. n < 2 ^ 32) }
     ensures eight_bytes { IsCut (number_at w64) (digits w64) (λ n. 8 ∷ []) (λ n. n < 2 ^ 64) }
+{}
+
+/// A value that breaks a rule is refused at the field of the rule, whatever stands before and behind it.
+pub fn broken_rules_are_refused_at_their_field<S, A, B, E>()
+    ensures rules { RulesAreOfTheirField A }
+    ensures meanings { MeaningsAreOfTheirField A B E }
+    ensures later { LaterFieldsAreRefusedLater A B }
+    ensures items { ItemsAreRefusedInTheirPlace S A }
 {}

@@ -11,7 +11,9 @@ mod put;
 pub use each::{Item, Spelled, put_each, take_each};
 pub use error::TakeError;
 pub use field::{span_at, u8_at, u16_at, u32_at, u64_at};
-pub use laws::{fields_are_spelled_once, fields_end_with_their_bytes};
+pub use laws::{
+    broken_rules_are_refused_at_their_field, fields_are_spelled_once, fields_end_with_their_bytes,
+};
 pub use numbers::saturate_u32;
 pub use put::{put_u16, put_u32, put_u64};
 

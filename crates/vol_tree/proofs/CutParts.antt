@@ -17,9 +17,9 @@ use Rattle.vol_tree.specs.declared.tree.Node.{Node}
 use Rattle.vol_tree.specs.declared.tree.Node.TheVariants.{Folder, File}
 use Rattle.vol_tree.specs.Path.{FilePath, IsPath, path_text, path_of, is_same_path, folder_of}
 use Rattle.vol_tree.specs.Tree.{Volume, IsTree, is_folder}
-use Rattle.vol_tree.specs.Spelling.{path, content, effect, effects, base, bases, node, row, rows, EffectFits, EffectFitsIn, EffectsFit, BaseFits, AreBasesOf}
+use Rattle.vol_tree.specs.Spelling.{path, content, effect, effects, base, bases, node, row, rows, EffectFits, EffectFitsIn, EffectsFitWithin, EffectsFit, BaseFits, AreBasesOf}
 use Rattle.vol_tree.specs.Fields.{path_fields, content_fields, effect_fields, effects_fields, base_fields, bases_fields, node_fields, row_fields, rows_fields}
-use Rattle.vol_tree.specs.Reading.{path_at, content_at, make_at, put_at, remove_at, move_at, effect_kinds, effect_at, room_after, effects_at, base_at, first_base_at, others_after, bases_at, may_stand, file_at, node_kinds, standing_at, room_beside, next_row_at, with_next, rows_at}
+use Rattle.vol_tree.specs.Reading.{path_at, content_at, make_at, put_at, remove_at, move_at, effect_kinds, effect_at, room_after, effects_within, effects_at, base_at, first_base_at, others_after, bases_at, may_stand, file_at, node_kinds, standing_at, room_beside, next_row_at, with_next, rows_at}
 use Rattle.vol_tree.proofs.Parts.{path_codec, content_codec, put_content, effect_codec, rooms_again, base_codec, first_base_fits, first_base_codec, bases_again, path_tied, NodeFits, node_codec, NextFits, path_part, version_part, next_row_codec, rows_again}
 
 pub path_cut : IsCut path_at path path_fields IsPath
@@ -63,11 +63,15 @@ effect_ends room bytes at (Move p q) next end stands fits le lt =
 pub effect_cut : (room : ℕ) → IsCut (effect_at room) effect effect_fields (EffectFitsIn room)
 effect_cut room = record { whole = effect_whole room; cut = effect_ends room }
 
+pub effects_within_cut : (most room : ℕ) → most < 2 ^ 32 → IsCut (effects_within most room) effects effects_fields (EffectsFitWithin most room)
+unfolding effects_within
+effects_within_cut most room lt =
+    cut_for (counted_cut length (ruled_codec (λ n. leb 1 n && leb n most) u32_codec) (ruled_cut u32_cut (λ n. leb 1 n && leb n most)) (λ n _. each_cut effect_at room_after effect effect_fields EffectFitsIn effect_codec effect_cut n room))
+    (λ es fits. ((omega (arith, fits.few, lt), rw (le-leb 1 (length es) fits.some, le-leb (length es) most fits.few) refl), (refl, rooms_again room es fits.each fits.all_contents)))
+
 pub effects_cut : IsCut effects_at effects effects_fields EffectsFit
 unfolding effects_at
-effects_cut =
-    cut_for (counted_cut length (ruled_codec (λ n. leb 1 n && leb n 4096) u32_codec) (ruled_cut u32_cut (λ n. leb 1 n && leb n 4096)) (λ n _. each_cut effect_at room_after effect effect_fields EffectFitsIn effect_codec effect_cut n 33554432))
-    (λ es fits. ((omega (arith, fits.few), rw (le-leb 1 (length es) fits.some, le-leb (length es) 4096 fits.few) refl), (refl, rooms_again 33554432 es fits.each fits.all_contents)))
+effects_cut = effects_within_cut 4096 33554432 (lit< tt)
 
 -- ---- bases
 

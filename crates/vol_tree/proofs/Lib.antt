@@ -16,3 +16,5 @@ pub mod Parts
 pub mod Sizes
 pub mod RowsTaken
 pub mod CutParts
+pub mod Breaking
+pub mod Few

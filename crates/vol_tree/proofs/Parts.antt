@@ -24,8 +24,8 @@ use Rattle.vol_tree.specs.Inside.{may_follow}
 use Rattle.byte_fields.specs.Field.{Reader, EachFits, ruled, number_at, digits}
 use Rattle.std.specs.Int.{w64}
 use Rattle.byte_fields.specs.Codec.{Stands, IsCodec}
-use Rattle.vol_tree.specs.Spelling.{path, content, effect, effects, base, bases, node, row, rows, EffectFits, EffectFitsIn, EffectsFit, BaseFits, AreBasesOf}
-use Rattle.vol_tree.specs.Reading.{path_at, content_at, make_at, put_at, remove_at, move_at, effect_kinds, effect_at, room_after, effects_at, base_at, first_base_at, others_after, bases_at, may_stand, file_at, node_kinds, standing_at, room_beside, next_row_at, with_next, rows_at}
+use Rattle.vol_tree.specs.Spelling.{path, content, effect, effects, base, bases, node, row, rows, EffectFits, EffectFitsIn, EffectsFitWithin, EffectsFit, BaseFits, AreBasesOf}
+use Rattle.vol_tree.specs.Reading.{path_at, content_at, make_at, put_at, remove_at, move_at, effect_kinds, effect_at, room_after, effects_within, effects_at, base_at, first_base_at, others_after, bases_at, may_stand, file_at, node_kinds, standing_at, room_beside, next_row_at, with_next, rows_at}
 use Rattle.byte_fields.proofs.Codec.{IsBranch, span_codec, u16_codec, u32_codec, u64_codec, ruled_codec, mapped_codec, here_fault, place_is, found2, fault2, again2, found3, fault3, again3, each_codec, tagged_found, tagged_fault, tagged_again0, tagged_again1, tagged_again2, branch0, branch1, branch2, counted_codec, codec_for}
 use Rattle.vol_tree.proofs.Places.{same_path}
 use Rattle.vol_tree.proofs.Rows.{same_place}
@@ -102,19 +102,23 @@ rooms_again room [] fits le = tt
 rooms_again room (e ∷ es) fits le =
     ((fits.0, omega (arith, sum_more e es)), rooms_again (room - content_size e) es fits.1 (omega (arith, sum_more e es)))
 
+pub effects_within_codec : (most room : ℕ) → most < 2 ^ 32 → IsCodec (effects_within most room) effects (EffectsFitWithin most room)
+unfolding effects_within
+effects_within_codec most room lt =
+    codec_for (counted_codec length (ruled_codec (λ n. leb 1 n && leb n most) u32_codec) (λ n _. each_codec effect_at room_after effect EffectFitsIn effect_codec n room) (λ n es fits. fits.0))
+    (λ es fits.
+    let b = and_parts (leb 1 (length es)) (leb (length es) most) fits.0.1 in
+    let r = rooms_found room es fits.1.1 in
+    record { some = leb-true 1 (length es) b.0; few = leb-true (length es) most b.1; each = r.0; all_contents = r.1 })
+    (λ es fits. ((omega (arith, fits.few, lt), rw (le-leb 1 (length es) fits.some, le-leb (length es) most fits.few) refl), (refl, rooms_again room es fits.each fits.all_contents)))
+
 pub effects_codec : IsCodec effects_at effects EffectsFit
 unfolding effects_at
-effects_codec =
-    codec_for (counted_codec length (ruled_codec (λ n. leb 1 n && leb n 4096) u32_codec) (λ n _. each_codec effect_at room_after effect EffectFitsIn effect_codec n 33554432) (λ n es fits. fits.0))
-    (λ es fits.
-    let b = and_parts (leb 1 (length es)) (leb (length es) 4096) fits.0.1 in
-    let r = rooms_found 33554432 es fits.1.1 in
-    record { some = leb-true 1 (length es) b.0; few = leb-true (length es) 4096 b.1; each = r.0; all_contents = r.1 })
-    (λ es fits. ((omega (arith, fits.few), rw (le-leb 1 (length es) fits.some, le-leb (length es) 4096 fits.few) refl), (refl, rooms_again 33554432 es fits.each fits.all_contents)))
+effects_codec = effects_within_codec 4096 33554432 (lit< tt)
 
 -- ---- bases
 
-tied_path : (a b : FilePath) → is_same_path a b ≡ true → a ≡ b
+pub tied_path : (a b : FilePath) → is_same_path a b ≡ true → a ≡ b
 tied_path a b e = by (path_cmp a b) refl e
   where
     by : (o : Ordering) → path_cmp a b ≡ o → is_eq o ≡ true → a ≡ b

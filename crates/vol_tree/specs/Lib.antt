@@ -9,3 +9,4 @@ pub mod Inside
 pub mod Spelling
 pub mod Reading
 pub mod Fields
+pub mod Broken

@@ -1,11 +1,12 @@
 -- Names and paths. A name is a list of bytes, and a path the list of its names.
-use Rattle.std.specs.Prelude.{ℕ, ◌-◌, ◌≤◌, Bool, ◌&&◌, ◌||◌, not, ◌==◌, nat_lt, nat_le, min, List, [], ◌∷◌, ◌++◌, length, take, slice_index_or, Option, Some, None, option_map, Result, Ok, IsTrue, position, if◌then◌else◌}
+use Rattle.std.specs.Prelude.{ℕ, ◌-◌, ◌≤◌, Bool, ◌&&◌, ◌||◌, not, ◌==◌, nat_lt, nat_le, List, [], ◌∷◌, ◌++◌, length, take, slice_index_or, Option, Some, None, option_map, Result, Ok, IsTrue, position, if◌then◌else◌}
 use Rattle.std.specs.List.{list_all, join_with_byte, slice_split}
 use Rattle.std.specs.Str.{bytes_eq}
 use Rattle.std.specs.declared.cmp.Ordering.{Ordering}
 use Rattle.std.specs.Ordering.{nat_cmp, as_partial_cmp, is_eq}
 use Rattle.std.specs.Cmp.{IsPartialOrder, po}
 use Rattle.std.specs.Cmp.Lexicographic.{pointwise, slice_cmp, lists_total, lists_ties, nat_list_cmp_total, texts_ties}
+pub use Rattle.byte_fields.specs.Numbers.{as_u32}
 use Rattle.vol_tree.specs.Refusals.{when, unless_refused}
 use Rattle.vol_tree.specs.declared.path.PathError.{PathError}
 use Rattle.vol_tree.specs.declared.path.PathError.TheVariants.{BadName, TooDeep, TooLong}
@@ -41,10 +42,6 @@ pub record IsPath (names : FilePath) : Type 0 where
 abbrev pub pieces : List ℕ → List (List ℕ)
 pieces [] = []
 pieces (b ∷ bs) = slice_split (λ c. c == 47) (b ∷ bs)
-
--- a number, or the greatest of 32 bits where it is above that
-abbrev pub as_u32 : ℕ → ℕ
-as_u32 n = min n 4294967295
 
 -- the path that the text spells, or the first refusal
 abbrev pub path_of : List ℕ → Result FilePath PathError

@@ -66,11 +66,15 @@ effect_at room = tagged_at (effect_kinds room)
 abbrev pub room_after : ℕ → Effect → ℕ
 room_after room e = room - content_size e
 
+-- 1 to so many effects, with contents of at most so many bytes together
+unfoldable pub effects_within : ℕ → ℕ → Reader (List Effect)
+effects_within most room bytes at = do
+  count ← ruled (λ n. nat_le 1 n && nat_le n most) (number_at w32) bytes at
+  each_at effect_at room_after count.0 room bytes count.1
+
 -- 1 to 4,096 effects, with contents of at most 32 MiB together
 unfoldable pub effects_at : Reader (List Effect)
-effects_at bytes at = do
-  count ← ruled (λ n. nat_le 1 n && nat_le n 4096) (number_at w32) bytes at
-  each_at effect_at room_after count.0 33554432 bytes count.1
+effects_at = effects_within 4096 33554432
 
 -- ---- bases
 

@@ -62,12 +62,16 @@ EffectFits e = IsLegalEffect e × (content_size e ≤ 8388608)
 abbrev pub EffectFitsIn : ℕ → Effect → Type 0
 EffectFitsIn room e = EffectFits e × (content_size e ≤ room)
 
--- 1 to 4,096 effects with contents of at most 32 MiB together
-pub record EffectsFit (es : List Effect) : Type 0 where
+-- 1 to so many effects with contents of at most so many bytes together
+pub record EffectsFitWithin (most room : ℕ) (es : List Effect) : Type 0 where
   pub some : 1 ≤ length es
-  pub few : length es ≤ 4096
+  pub few : length es ≤ most
   pub each : AllByRecursion EffectFits es
-  pub all_contents : contents_size es ≤ 33554432
+  pub all_contents : contents_size es ≤ room
+
+-- 1 to 4,096 effects with contents of at most 32 MiB together
+abbrev pub EffectsFit : List Effect → Type 0
+EffectsFit = EffectsFitWithin 4096 33554432
 
 -- a path, and a version of 64 bits
 abbrev pub BaseFits : Base → Type 0

@@ -22,7 +22,8 @@ pub use laws::{
 pub use list::{List, TryCopy};
 pub use path::{Path, PathError, is_name};
 pub use spelling_laws::{
-    parts_are_spelled_once, parts_end_with_their_bytes, paths_are_read_from_their_texts,
+    broken_parts_are_refused_at_their_field, parts_are_spelled_once, parts_end_with_their_bytes,
+    paths_are_read_from_their_texts,
 };
 pub use tree::{Base, Effect, Node, Row, RowsError, Tree, TreeError, Undo};
 

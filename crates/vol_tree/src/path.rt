@@ -3,7 +3,7 @@ ghost use Rattle.std.specs.Prelude.{◌≤◌, ◌≡◌, ◌≢◌, ℕ, ◌+�
 ghost use Rattle.std.specs.List.{list_all, slice_split};
 ghost use Rattle.vol_tree.specs.Inside.{joined_size};
 ghost use Rattle.vol_tree.specs.declared.path.PathError.TheVariants.{Memory};
-ghost use Rattle.vol_tree.specs.Path.{IsPath, is_name as name_test, is_dots as dots_test, is_name_byte, as_u32, path_of, resolved, text_before, path_text, parent, folder_of, last_name, path_cmp, partial_order_of_paths};
+ghost use Rattle.vol_tree.specs.Path.{IsPath, is_name as name_test, is_dots as dots_test, is_name_byte, path_of, resolved, text_before, path_text, parent, folder_of, last_name, path_cmp, partial_order_of_paths};
 ghost use Rattle.std.specs.Option.{option_copied};
 ghost use Rattle.std.specs.Str.{bytes_eq};
 ghost use Rattle.std.specs.Ordering.{nat_cmp, as_partial_cmp};
@@ -14,6 +14,7 @@ ghost use Rattle.std.proofs.Common.{rules};
 use crate::Names;
 use crate::content::Content;
 use crate::list::TryCopy;
+use byte_fields::saturate_u32;
 use std::alloc::{AllocError, Global};
 use std::cmp::Ordering;
 use std::marker::Model;
@@ -80,13 +81,13 @@ impl Path {
         }
         let names = split_at_slashes(alloc, text)?;
         if let Some(i) = first_bad(names.as_slice()) {
-            return Err(PathError::BadName(saturate(i)));
+            return Err(PathError::BadName(saturate_u32(i)));
         }
         if names.len() > 32 {
-            return Err(PathError::TooDeep(saturate(names.len())));
+            return Err(PathError::TooDeep(saturate_u32(names.len())));
         }
         if text.len() > 1024 {
-            return Err(PathError::TooLong(saturate(text.len())));
+            return Err(PathError::TooLong(saturate_u32(text.len())));
         }
         Ok(Path { names })
     }
@@ -314,15 +315,4 @@ fn split_at_slashes(alloc: Global, text: &[u8]) -> Result<Names, AllocError>
     }
     pieces.push(Content::of(alloc, rest)?)?;
     Ok(pieces)
-}
-
-/// The number, or the greatest that fits.
-fn saturate(n: usize) -> u32
-    ensures { result ≡ as_u32 n }
-{
-    if n < 4_294_967_295 {
-        n as u32
-    } else {
-        4_294_967_295
-    }
 }

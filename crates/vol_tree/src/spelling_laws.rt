@@ -5,9 +5,10 @@ ghost use Rattle.byte_fields.specs.Codec.{IsCodec};
 ghost use Rattle.byte_fields.specs.Cuts.{IsCut};
 ghost use Rattle.vol_tree.specs.Path.{FilePath, IsPath, path_of, path_text};
 ghost use Rattle.vol_tree.specs.Tree.{IsTree};
-ghost use Rattle.vol_tree.specs.Spelling.{path, content, effect, effects, bases, rows, EffectFitsIn, EffectsFit, AreBasesOf};
+ghost use Rattle.vol_tree.specs.Spelling.{path, content, effect, effects, bases, rows, EffectFitsIn, EffectsFitWithin, EffectsFit, AreBasesOf};
 ghost use Rattle.vol_tree.specs.Fields.{path_fields, content_fields, effect_fields, effects_fields, bases_fields, rows_fields};
-ghost use Rattle.vol_tree.specs.Reading.{path_at, content_at, effect_at, effects_at, bases_at, rows_at};
+ghost use Rattle.vol_tree.specs.Broken.{BrokenTexts, BrokenLengths, BrokenEffects, BrokenEffectLists, BrokenBases, BrokenRows, BrokenRowLists};
+ghost use Rattle.vol_tree.specs.Reading.{path_at, content_at, effect_at, effects_within, effects_at, bases_at, rows_at};
 
 /// States that a text has at most one path, and that each path is that of its text.
 pub fn paths_are_read_from_their_texts()
@@ -20,6 +21,7 @@ pub fn parts_are_spelled_once()
     ensures paths { IsCodec path_at path IsPath }
     ensures contents { (limit : ℕ) → limit < 2 ^ 32 → IsCodec (content_at limit) content (λ c. length c ≤ limit) }
     ensures effect { (room : ℕ) → IsCodec (effect_at room) effect (EffectFitsIn room) }
+    ensures effects_within { (most room : ℕ) → most < 2 ^ 32 → IsCodec (effects_within most room) effects (EffectsFitWithin most room) }
     ensures effects { IsCodec effects_at effects EffectsFit }
     ensures bases { (touched : List FilePath) → length touched < 2 ^ 32 → IsCodec (bases_at touched) bases (AreBasesOf touched) }
     ensures rows { IsCodec rows_at rows IsTree }
@@ -30,7 +32,19 @@ pub fn parts_end_with_their_bytes()
     ensures paths { IsCut path_at path path_fields IsPath }
     ensures contents { (limit : ℕ) → limit < 2 ^ 32 → IsCut (content_at limit) content content_fields (λ c. length c ≤ limit) }
     ensures effect { (room : ℕ) → IsCut (effect_at room) effect effect_fields (EffectFitsIn room) }
+    ensures effects_within { (most room : ℕ) → most < 2 ^ 32 → IsCut (effects_within most room) effects effects_fields (EffectsFitWithin most room) }
     ensures effects { IsCut effects_at effects effects_fields EffectsFit }
     ensures bases { (touched : List FilePath) → length touched < 2 ^ 32 → IsCut (bases_at touched) bases bases_fields (AreBasesOf touched) }
     ensures rows { IsCut rows_at rows rows_fields IsTree }
+{}
+
+/// States at which field a part that breaks a rule is refused, whatever stands before and behind it.
+pub fn broken_parts_are_refused_at_their_field()
+    ensures texts { BrokenTexts }
+    ensures lengths { BrokenLengths }
+    ensures effects { BrokenEffects }
+    ensures effect_lists { BrokenEffectLists }
+    ensures bases { BrokenBases }
+    ensures rows { BrokenRows }
+    ensures row_lists { BrokenRowLists }
 {}

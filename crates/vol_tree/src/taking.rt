@@ -143,7 +143,7 @@ impl List<Effect> {
     ///
     /// Refuses `At` also at a count that is not from 1 to 4,096, and at the length with which the contents have more
     /// than 32 MiB together.
-    #[tactic(auto, unfolding(crate::specs::Reading::effects_at, byte_fields::specs::Field::ruled))]
+    #[tactic(auto, unfolding(crate::specs::Reading::effects_at, crate::specs::Reading::effects_within, byte_fields::specs::Field::ruled))]
     pub fn take(alloc: Global, bytes: &[u8], at: usize) -> Result<(Effects, usize), TakeError>
         ensures { Gives result (effects_at bytes.now at) }
     {

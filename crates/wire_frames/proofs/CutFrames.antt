@@ -19,6 +19,7 @@ use Rattle.vol_tree.proofs.Parts.{path_codec, effects_codec}
 use Rattle.vol_tree.proofs.CutParts.{path_cut, effects_cut, bases_cut, rows_cut}
 use Rattle.wire_frames.specs.declared.message.Message.{Message}
 use Rattle.wire_frames.specs.declared.message.Message.TheVariants as messages
+use Rattle.wire_frames.specs.declared.message.Kind.{Kind}
 use Rattle.wire_frames.specs.declared.message.FrameError.TheVariants.{BadField}
 use Rattle.wire_frames.specs.Fault.{tree_fault, UnfitFits, FullFits}
 use Rattle.wire_frames.specs.FaultReading.{unfit_kinds, full_kinds, unfit_fault_at, full_fault_at}
@@ -26,7 +27,8 @@ use Rattle.wire_frames.specs.Fields.{fault_fields, body_fields, message_fields}
 use Rattle.wire_frames.specs.Frame.{kind, client_of, number_of, code_of, client_rule, number_rule, offset_rule, body, payload, frame, BodyFits}
 use Rattle.wire_frames.specs.Reading.{store_at, stale_at, unfit_at, full_at, snapshot_at, gap_at, malformed_at, body_at, message_at, is_sized, frame_of}
 use Rattle.wire_frames.specs.Laws.{CutFramesNameTheField}
-use Rattle.wire_frames.proofs.Messages.{tail, number_codec, refusal, touched_few}
+use Rattle.vol_tree.proofs.Few.{touched_few}
+use Rattle.wire_frames.proofs.Messages.{tail, number_codec, refusal}
 use Rattle.wire_frames.proofs.Frames.{are_sized, kind_again, four_digits}
 use Rattle.wire_frames.proofs.Sizes.{frame_small}
 
@@ -123,10 +125,9 @@ message_ends m bytes at next end stands nr small fits le lt =
 
 -- ---- frames
 
-fails_again : (bytes : List ℕ) (m : Message) (place : ℕ) → is_sized bytes ≡ true → get_or bytes 4 0 ≡ 1 → get_or bytes 5 0 ≡ code_of (kind m) → get_or bytes 6 0 ≡ client_of m → client_rule (kind m) (client_of m) ≡ true
-    → message_at (kind m) (client_of m) bytes 7 ≡ Err place → frame_of bytes ≡ Err (BadField place)
+pub fails_again : (bytes : List ℕ) (k : Kind) (c : ℕ) (place : ℕ) → is_sized bytes ≡ true → get_or bytes 4 0 ≡ 1 → get_or bytes 5 0 ≡ code_of k → get_or bytes 6 0 ≡ c → client_rule k c ≡ true → message_at k c bytes 7 ≡ Err place → frame_of bytes ≡ Err (BadField place)
 unfolding frame_of
-fails_again bytes m place is version code c fits read = rw (is, version, code, kind_again (kind m), c, fits, read) refl
+fails_again bytes k c place is version code client fits read = rw (is, version, code, kind_again k, client, fits, read) refl
 
 pub cut_frames : CutFramesNameTheField
 unfolding digits
@@ -145,4 +146,4 @@ cut_frames m end valid low lt =
     let version : get_or (take end whole) 4 0 ≡ 1 = subst (λ (n : ℕ). get_or (take n whole) 4 0 ≡ 1) (sym seven) refl in
     let code : get_or (take end whole) 5 0 ≡ code_of (kind m) = subst (λ (n : ℕ). get_or (take n whole) 5 0 ≡ code_of (kind m)) (sym seven) refl in
     let client : get_or (take end whole) 6 0 ≡ client_of m = subst (λ (n : ℕ). get_or (take n whole) 6 0 ≡ client_of m) (sym seven) refl in
-    rw rest (fails_again (take end whole) m _ is version code client valid.client_fits read)
+    rw rest (fails_again (take end whole) (kind m) (client_of m) _ is version code client valid.client_fits read)

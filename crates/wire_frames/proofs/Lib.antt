@@ -4,3 +4,4 @@ pub mod Sizes
 pub mod Frames
 pub mod HeaderLaws
 pub mod CutFrames
+pub mod Breaking

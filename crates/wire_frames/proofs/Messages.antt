@@ -1,22 +1,12 @@
 -- The laws of messages: what is read is spelled so, and what is spelled so is read.
-use Rattle.std.proofs.Common.{◌≡◌, ℕ, ◌+◌, ◌*◌, ◌^◌, ◌<◌, ◌≤◌, Bool, true, false, cond, ◌&&◌, not, leb, eqb, List, [], ◌∷◌, ◌++◌, length, Ok, Err, refl, sym, ap, subst, arith, length-append, inl, inr}
+use Rattle.std.proofs.Common.{◌≡◌, ℕ, ◌+◌, ◌^◌, ◌<◌, ◌≤◌, true, ◌&&◌, not, leb, eqb, List, [], ◌∷◌, ◌++◌, length, Ok, Err, refl, sym, subst, arith, inl, inr}
 use Rattle.std.specs.Int.{w8, w32, w64}
-use Rattle.std.specs.List.{flat_map, filter}
 use Rattle.std.proofs.lemmas.Bool.{eqb-true}
-use Rattle.std.proofs.lemmas.List.Concat.{flat_map-cons}
-use Rattle.vol_tree.specs.declared.tree.Effect.{Effect}
-use Rattle.vol_tree.specs.declared.tree.Effect.TheVariants.{Make, Put, Remove, Move}
-use Rattle.std.proofs.lemmas.List.{length-map}
-use Rattle.vol_tree.specs.declared.tree.Base.{Base}
 use Rattle.byte_fields.specs.Field.{digits, ruled, number_at}
 use Rattle.byte_fields.specs.Codec.{Stands, IsBytes, IsFault, IsCodec}
-use Rattle.vol_tree.specs.Spelling.{bases, EffectsFit, AreBasesOf}
-use Rattle.vol_tree.specs.Path.{FilePath, is_same_path}
-use Rattle.vol_tree.specs.Tree.{touched_paths}
-use Rattle.vol_tree.specs.Effects.{touched_all, distinct}
-use Rattle.vol_tree.specs.Reading.{bases_at}
 use Rattle.byte_fields.proofs.Codec.{done, later_fault, ok_is, never_err, bind_ok, bind_err, u8_codec, u32_codec, u64_codec, ruled_codec, found1, found2, found3, again1, again2, again3, fault1, fault2, fault3, stands_none, stands_first, stands_second, stands_both}
-use Rattle.vol_tree.proofs.Parts.{path_codec, effects_codec, bases_codec, rows_codec}
+use Rattle.vol_tree.proofs.Parts.{path_codec, effects_codec, rows_codec}
+use Rattle.vol_tree.proofs.Few.{bases_of}
 use Rattle.wire_frames.specs.declared.message.Message.{Message}
 use Rattle.wire_frames.specs.declared.message.Message.TheVariants as messages
 use Rattle.wire_frames.specs.declared.message.Kind.{Kind}
@@ -25,43 +15,7 @@ use Rattle.wire_frames.proofs.FaultLaws.{unfit_codec, full_codec}
 use Rattle.wire_frames.specs.Frame.{kind, client_of, number_of, body, client_rule, number_rule, offset_rule, BodyFits}
 use Rattle.wire_frames.specs.Reading.{store_at, stale_at, unfit_at, full_at, snapshot_at, gap_at, malformed_at, body_at, message_at}
 
--- ---- the paths that effects touch are few
-
-kept_length : {A : Type 0} (f : A → Bool) (xs : List A) → length (filter f xs) ≤ length xs
-kept_length f [] = omega arith
-kept_length f (x ∷ xs) =
-    elim (f x) as (λ kept. length (cond kept (x ∷ filter f xs) (filter f xs)) ≤ length (x ∷ xs)) [
-      | true ↦ omega (arith, kept_length f xs)
-      | false ↦ omega (arith, kept_length f xs)
-    ]
-
-distinct_length : (ps : List FilePath) → length (distinct ps) ≤ length ps
-distinct_length [] = omega arith
-distinct_length (p ∷ ps) = omega (arith, kept_length (λ other. not (is_same_path other p)) (distinct ps), distinct_length ps)
-
-touches_length : (e : Effect) → length (touched_paths e) ≤ 2
-touches_length (Make p) = omega arith
-touches_length (Put p c) = omega arith
-touches_length (Remove p) = omega arith
-touches_length (Move p q) = omega arith
-
-all_touches_length : (es : List Effect) → length (touched_all es) ≤ 2 * length es
-all_touches_length [] = omega arith
-all_touches_length (e ∷ es) =
-    omega (arith, ap length (flat_map-cons touched_paths e es), length-append (touched_paths e) (flat_map touched_paths es), touches_length e, all_touches_length es)
-
-pub touched_few : (es : List Effect) → EffectsFit es → length (distinct (touched_all es)) < 2 ^ 32
-touched_few es fits = omega (arith, distinct_length (touched_all es), all_touches_length es, fits.few)
-
--- for each effect at most two
-pub few_bases : (es : List Effect) (bs : List Base) → AreBasesOf (distinct (touched_all es)) bs → EffectsFit es → length bs ≤ 8192
-few_bases es bs are fits =
-    omega (arith, length-map bs (λ (b : Base). b.path), ap length are.0, distinct_length (touched_all es), all_touches_length es, fits.few)
-
 -- ---- bodies
-
-bases_of : (es : List Effect) → EffectsFit es → IsCodec (bases_at (distinct (touched_all es))) bases (AreBasesOf (distinct (touched_all es)))
-bases_of es fits = bases_codec (distinct (touched_all es)) (touched_few es fits)
 
 other_than : (theirs : ℕ) → IsCodec (ruled (λ n. not (eqb n theirs)) (number_at w64)) (digits w64) (λ n. (n < 2 ^ 64) × (not (eqb n theirs) ≡ true))
 other_than theirs = ruled_codec (λ n. not (eqb n theirs)) u64_codec

@@ -10,7 +10,7 @@ use Rattle.wire_frames.specs.declared.message.Message.{Message}
 use Rattle.wire_frames.specs.declared.message.Message.TheVariants as messages
 use Rattle.wire_frames.specs.Fault.{tree_fault, UnfitFits, FullFits}
 use Rattle.wire_frames.specs.Frame.{body, payload, frame, BodyFits, IsValid}
-use Rattle.wire_frames.proofs.Messages.{few_bases}
+use Rattle.vol_tree.proofs.Few.{few_bases}
 
 unfit_size : (f : TreeError) → UnfitFits f → length (tree_fault f) ≤ 2053
 unfolding digits

@@ -123,15 +123,15 @@ Spells m bytes = IsValid m × (bytes ≡ frame m)
 
 -- ---- which replies answer a request
 
-abbrev pub Answers : Kind → Kind → Type 0
-Answers Store Accepted = Unit {0}
-Answers Store Stale = Unit {0}
-Answers Store Unfit = Unit {0}
-Answers Store Gap = Unit {0}
-Answers Store Full = Unit {0}
-Answers Pull Snapshot = Unit {0}
-Answers _ _ = ⊥
+abbrev pub MayAnswer : Kind → Kind → Type 0
+MayAnswer Store Accepted = Unit {0}
+MayAnswer Store Stale = Unit {0}
+MayAnswer Store Unfit = Unit {0}
+MayAnswer Store Gap = Unit {0}
+MayAnswer Store Full = Unit {0}
+MayAnswer Pull Snapshot = Unit {0}
+MayAnswer _ _ = ⊥
 
 -- the kinds fit, and client and number are equal
 abbrev pub Echoes : Message → Message → Type 0
-Echoes request reply = Answers (kind request) (kind reply) × (client_of request ≡ client_of reply) × (number_of request ≡ number_of reply)
+Echoes request reply = MayAnswer (kind request) (kind reply) × (client_of request ≡ client_of reply) × (number_of request ≡ number_of reply)

@@ -4,3 +4,4 @@ pub mod FaultReading
 pub mod Reading
 pub mod Fields
 pub mod Laws
+pub mod Broken

@@ -11,7 +11,10 @@ mod replies;
 mod writing;
 
 pub use faults::{full_fault_at, spell_fault, unfit_fault_at};
-pub use laws::{faults_are_spelled_once, frames_are_apart, refusals_name_the_first_fault};
+pub use laws::{
+    broken_rules_name_their_field, faults_are_spelled_once, frames_are_apart,
+    refusals_name_the_first_fault,
+};
 pub use message::{FrameError, Kind, Message};
 pub use reading::read;
 pub use replies::echoes;

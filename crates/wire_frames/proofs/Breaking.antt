@@ -1,0 +1,191 @@
+-- The laws of frames that break a rule.
+use Rattle.std.proofs.Common.{◌≡◌, ◌≢◌, ◌⊎◌, ℕ, ◌+◌, ◌^◌, ◌<◌, ◌≤◌, Bool, true, false, ◌&&◌, ◌||◌, not, leb, eqb, List, [], ◌∷◌, ◌++◌, length, take, drop, Err, inl, inr, refl, sym, ap, subst, ◌∙◌, arith, lit<, length-append, append_assoc}
+use Rattle.std.specs.Int.{w8, w32, w64}
+use Rattle.std.proofs.lemmas.Bool.{le-leb, eq-eqb, ne_eqb}
+use Rattle.std.proofs.lemmas.List.{append-nil}
+use Rattle.std.proofs.Math.Seq.{drop-length}
+use Rattle.std.proofs.lemmas.Nat.{from_be_bytes-to_be_bytes_4}
+use Rattle.byte_fields.specs.Field.{digits, ruled, none, one, two, number_at}
+use Rattle.byte_fields.specs.Codec.{Stands}
+use Rattle.byte_fields.specs.Broken.{IsRefused}
+use Rattle.byte_fields.proofs.Codec.{u8_codec, u32_codec, u64_codec, ruled_codec}
+use Rattle.byte_fields.proofs.Breaking.{read_again, refused_there, refused_text, refused_before, rule_refused, first_refused, later_refused, tagged_refused, kind_refused, above, second_fails, four_bytes}
+use Rattle.vol_tree.specs.declared.tree.Effect.{Effect}
+use Rattle.vol_tree.specs.declared.tree.TreeError.TheVariants.{NoParent, Exists, Missing, IsFolder, NotEmpty, VersionTop}
+use Rattle.vol_tree.specs.Path.{FilePath, IsPath}
+use Rattle.vol_tree.specs.Effects.{touched_all, distinct}
+use Rattle.vol_tree.specs.Spelling.{path, effects, EffectsFit}
+use Rattle.vol_tree.specs.Reading.{path_at, effects_at, bases_at, rows_at}
+use Rattle.vol_tree.proofs.Parts.{path_codec, effects_codec}
+use Rattle.vol_tree.proofs.Breaking.{eight_bytes}
+use Rattle.wire_frames.specs.declared.message.Message.TheVariants as messages
+use Rattle.wire_frames.specs.declared.message.Kind.{Kind}
+use Rattle.wire_frames.specs.declared.message.Kind.TheVariants.{Store, Stale, Unfit, Gap, Snapshot, Full, Malformed}
+use Rattle.wire_frames.specs.declared.message.FrameError.{FrameError}
+use Rattle.wire_frames.specs.declared.message.FrameError.TheVariants.{BadField}
+use Rattle.wire_frames.specs.FaultReading.{unfit_kinds, full_kinds, unfit_fault_at, full_fault_at}
+use Rattle.wire_frames.specs.Frame.{frame_version, code_of, client_rule, number_rule, offset_rule}
+use Rattle.wire_frames.specs.Reading.{store_at, stale_at, unfit_at, full_at, snapshot_at, gap_at, malformed_at, body_at, message_at, is_sized, frame_of}
+use Rattle.wire_frames.specs.Broken.{framed, IsRefusedAt, BrokenNumbers, BrokenBodies, BrokenFaults}
+use Rattle.wire_frames.proofs.Messages.{number_codec, refusal}
+use Rattle.wire_frames.proofs.Frames.{are_sized}
+use Rattle.wire_frames.proofs.CutFrames.{fails_again}
+
+-- ---- from what stands behind the client to the frame
+
+-- what is refused behind the client is refused in the frame
+frame_refused : (k : Kind) (c n : ℕ) (behind : List ℕ) (offset place : ℕ) → client_rule k c ≡ true → length behind ≤ 67108849 → IsRefused (message_at k c) (digits w64 n ++ behind) offset → 7 + offset ≡ place
+    → frame_of (framed k c n behind) ≡ Err (BadField place)
+unfolding digits
+frame_refused k c n behind offset place takes short refused e =
+    let bytes : List ℕ = framed k c n behind in
+    let tail : List ℕ = digits w64 n ++ behind in
+    let told : List ℕ = frame_version ∷ code_of k ∷ c ∷ tail in
+    let long : length bytes ≡ 15 + length behind = omega arith in
+    let is : is_sized bytes ≡ true = are_sized bytes (record { low = omega (arith, long); high = omega (arith, long); told = rw (from_be_bytes-to_be_bytes_4 (length told) (omega arith)) (omega (arith, long)) }) in
+    let stands : Stands bytes 7 tail (length bytes) = record { here = sym (ap (λ (x : List ℕ). tail ++ x) (drop-length bytes) ∙ append-nil tail); next_is = omega arith; within = omega arith } in
+    fails_again bytes k c place is refl refl refl takes (refused bytes 7 (length bytes) stands ∙ ap (λ (at : ℕ). Err at) e)
+
+number_refused : (k : Kind) (c n : ℕ) → n < 2 ^ 64 → number_rule k n ≡ false → IsRefused (message_at k c) (digits w64 n) 0
+unfolding message_at
+number_refused k c n small broken =
+    first_refused (ruled (number_rule k) (number_at w64)) (λ m. body_at k c m) (digits w64 n) 0 (rule_refused (number_at w64) (number_rule k) (digits w64 n) n (read_again u64_codec n small) broken)
+
+body_refused : (k : Kind) (c n : ℕ) (text : List ℕ) (offset : ℕ) → n < 2 ^ 64 → number_rule k n ≡ true → IsRefused (body_at k c n) text offset → IsRefused (message_at k c) (digits w64 n ++ text) (length (digits w64 n) + offset)
+unfolding message_at
+body_refused k c n text offset small kept refused =
+    later_refused (ruled (number_rule k) (number_at w64)) (λ m. body_at k c m) (digits w64 n) text n offset (read_again (number_codec k) n (small, kept)) refused
+
+-- what is refused as a body is refused in the frame
+inside : (k : Kind) (n : ℕ) (text : List ℕ) (offset place : ℕ) → 15 + offset ≡ place → ((c : ℕ) → IsRefused (body_at k c n) text offset) → IsRefusedAt k n text place
+inside k n text offset place e refused c behind takes kept small short =
+    frame_refused k c n (text ++ behind) (length (digits w64 n) + offset) place takes short
+    (body_refused k c n (text ++ behind) offset small kept (refused_before (body_at k c n) text behind offset (refused c))) (omega (arith, eight_bytes n))
+
+pub broken_numbers : BrokenNumbers
+broken_numbers k c n behind takes broken small short =
+    frame_refused k c n behind 0 7 takes short (refused_before (message_at k c) (digits w64 n) behind 0 (number_refused k c n small broken)) refl
+
+-- ---- bodies
+
+module _ (c n : ℕ) where
+  effects_refused : (text : List ℕ) (offset : ℕ) → IsRefused effects_at text offset → IsRefused (store_at c n) text offset
+  unfolding store_at
+  effects_refused text offset refused = first_refused effects_at (λ es. one (bases_at (distinct (touched_all es))) (messages.Store c n es)) text offset refused
+
+  base_refused : (es : List Effect) (text : List ℕ) (offset : ℕ) → EffectsFit es → IsRefused (bases_at (distinct (touched_all es))) text offset → IsRefused (store_at c n) (effects es ++ text) (length (effects es) + offset)
+  unfolding store_at
+  base_refused es text offset fits refused =
+      later_refused effects_at (λ xs. one (bases_at (distinct (touched_all xs))) (messages.Store c n xs)) (effects es) text es offset (read_again effects_codec es fits)
+      (first_refused (bases_at (distinct (touched_all es))) (λ bs. none (messages.Store c n es bs)) text offset refused)
+
+  path_refused : (text : List ℕ) (offset : ℕ) → IsRefused path_at text offset → IsRefused (stale_at c n) text offset
+  unfolding stale_at
+  path_refused text offset refused =
+      first_refused path_at (λ p. two (number_at w64) (λ t. ruled (λ v. not (eqb v t)) (number_at w64)) (messages.Stale c n p)) text offset refused
+
+  equal_refused : (p : FilePath) (v : ℕ) → IsPath p → v < 2 ^ 64 → IsRefused (stale_at c n) (path p ++ (digits w64 v ++ digits w64 v)) (length (path p) + (length (digits w64 v) + 0))
+  unfolding stale_at
+  equal_refused p v is small =
+      later_refused path_at (λ q. two (number_at w64) (λ t. ruled (λ x. not (eqb x t)) (number_at w64)) (messages.Stale c n q)) (path p) (digits w64 v ++ digits w64 v) p (length (digits w64 v) + 0) (read_again path_codec p is)
+      (later_refused (number_at w64) (λ t. one (ruled (λ x. not (eqb x t)) (number_at w64)) (messages.Stale c n p t)) (digits w64 v) (digits w64 v) v 0 (read_again u64_codec v small)
+      (first_refused (ruled (λ x. not (eqb x v)) (number_at w64)) (λ o. none (messages.Stale c n p v o)) (digits w64 v) 0
+      (rule_refused (number_at w64) (λ x. not (eqb x v)) (digits w64 v) v (read_again u64_codec v small) (ap not (eq-eqb v v refl)))))
+
+  unfit_refused : (index : ℕ) (text : List ℕ) (offset : ℕ) → index < 2 ^ 32 → IsRefused unfit_fault_at text offset → IsRefused (unfit_at c n) (digits w32 index ++ text) (length (digits w32 index) + offset)
+  unfolding unfit_at
+  unfit_refused index text offset small refused =
+      later_refused (number_at w32) (λ i. one unfit_fault_at (messages.Unfit c n i)) (digits w32 index) text index offset (read_again u32_codec index small)
+      (first_refused unfit_fault_at (λ f. none (messages.Unfit c n index f)) text offset refused)
+
+  full_refused : (index : ℕ) (text : List ℕ) (offset : ℕ) → index < 2 ^ 32 → IsRefused full_fault_at text offset → IsRefused (full_at c n) (digits w32 index ++ text) (length (digits w32 index) + offset)
+  unfolding full_at
+  full_refused index text offset small refused =
+      later_refused (number_at w32) (λ i. one full_fault_at (messages.Full c n i)) (digits w32 index) text index offset (read_again u32_codec index small)
+      (first_refused full_fault_at (λ f. none (messages.Full c n index f)) text offset refused)
+
+  last_refused : (last : ℕ) → last < 2 ^ 64 → n ≤ last + 1 → IsRefused (gap_at c n) (digits w64 last) 0
+  unfolding gap_at
+  last_refused last small near =
+      first_refused (ruled (λ x. leb (x + 2) n) (number_at w64)) (λ x. none (messages.Gap c n x)) (digits w64 last) 0
+      (rule_refused (number_at w64) (λ x. leb (x + 2) n) (digits w64 last) last (read_again u64_codec last small) (above (last + 2) n (omega arith)))
+
+  rows_refused : (last : ℕ) (text : List ℕ) (offset : ℕ) → last < 2 ^ 64 → IsRefused rows_at text offset → IsRefused (snapshot_at c n) (digits w64 last ++ text) (length (digits w64 last) + offset)
+  unfolding snapshot_at
+  rows_refused last text offset small refused =
+      later_refused (number_at w64) (λ l. one rows_at (messages.Snapshot c n l)) (digits w64 last) text last offset (read_again u64_codec last small)
+      (first_refused rows_at (λ rs. none (messages.Snapshot c n last rs)) text offset refused)
+
+wrong_code : (code : ℕ) → (code ≡ 0) ⊎ (7 < code) → (leb 1 code && leb code 7) ≡ false
+wrong_code code (inl e) = rw e refl
+wrong_code code (inr lt) = second_fails (leb 1 code) (leb code 7) (above code 7 lt)
+
+code_refused : (code : ℕ) → code < 2 ^ 8 → (code ≡ 0) ⊎ (7 < code) → IsRefused malformed_at (code ∷ []) 0
+unfolding malformed_at
+code_refused code byte wrong =
+    first_refused (ruled (λ x. leb 1 x && leb x 7) (number_at w8)) (λ x. one (ruled (offset_rule x) (number_at w32)) (messages.Malformed x)) (code ∷ []) 0
+    (rule_refused (number_at w8) (λ x. leb 1 x && leb x 7) (code ∷ []) code (read_again u8_codec code byte) (wrong_code code wrong))
+
+no_offset : (code offset : ℕ) → code ≢ 5 → code ≢ 6 → 1 ≤ offset → offset_rule code offset ≡ false
+no_offset code offset not5 not6 some = rw (ne_eqb offset 0 (λ e. omega arith), ne_eqb code 5 not5, ne_eqb code 6 not6) refl
+
+offset_refused : (code offset : ℕ) → 1 ≤ code → code ≤ 7 → code ≢ 5 → code ≢ 6 → 1 ≤ offset → offset < 2 ^ 32 → IsRefused malformed_at (code ∷ digits w32 offset) (1 + 0)
+unfolding malformed_at
+offset_refused code offset low high not5 not6 some small =
+    later_refused (ruled (λ x. leb 1 x && leb x 7) (number_at w8)) (λ x. one (ruled (offset_rule x) (number_at w32)) (messages.Malformed x)) (code ∷ []) (digits w32 offset) code 0
+    (read_again refusal code (omega arith, rw (le-leb 1 code low, le-leb code 7 high) refl))
+    (first_refused (ruled (offset_rule code) (number_at w32)) (λ o. none (messages.Malformed code o)) (digits w32 offset) 0
+    (rule_refused (number_at w32) (offset_rule code) (digits w32 offset) offset (read_again u32_codec offset small) (no_offset code offset not5 not6 some)))
+
+pub broken_bodies : BrokenBodies
+broken_bodies = record {
+  effects_are_refused = λ n text offset refused. inside Store n text offset (15 + offset) refl (λ c. effects_refused c n text offset refused);
+  base_is_refused = λ n es text offset fits refused.
+      inside Store n (effects es ++ text) (length (effects es) + offset) (15 + length (effects es) + offset) (omega arith) (λ c. base_refused c n es text offset fits refused);
+  path_is_refused = λ n text offset refused. inside Stale n text offset (15 + offset) refl (λ c. path_refused c n text offset refused);
+  versions_are_equal = λ n p v is small.
+      inside Stale n (path p ++ (digits w64 v ++ digits w64 v)) (length (path p) + (length (digits w64 v) + 0)) (15 + length (path p) + 8) (omega (arith, eight_bytes v)) (λ c. equal_refused c n p v is small);
+  unfit_is_refused = λ n index text offset small refused.
+      inside Unfit n (digits w32 index ++ text) (length (digits w32 index) + offset) (19 + offset) (omega (arith, four_bytes index)) (λ c. unfit_refused c n index text offset small refused);
+  full_is_refused = λ n index text offset small refused.
+      inside Full n (digits w32 index ++ text) (length (digits w32 index) + offset) (19 + offset) (omega (arith, four_bytes index)) (λ c. full_refused c n index text offset small refused);
+  last_is_near = λ n last small near. inside Gap n (digits w64 last) 0 15 refl (λ c. last_refused c n last small near);
+  rows_are_refused = λ n last text offset small refused.
+      inside Snapshot n (digits w64 last ++ text) (length (digits w64 last) + offset) (23 + offset) (omega (arith, eight_bytes last)) (λ c. rows_refused c n last text offset small refused);
+  code_is_none = λ n code byte wrong. inside Malformed n (code ∷ []) 0 15 refl (λ c. code_refused code byte wrong);
+  offset_is_told = λ n code offset low high not5 not6 some small. inside Malformed n (code ∷ digits w32 offset) (1 + 0) 16 refl (λ c. offset_refused code offset low high not5 not6 some small);
+}
+
+-- ---- refusals of the volume
+
+pub broken_faults : BrokenFaults
+unfolding unfit_fault_at full_fault_at
+broken_faults = record {
+  unfit_number = λ number byte other.
+      kind_refused unfit_kinds number byte
+      (λ tag at bytes.
+      rw (ne_eqb number 1 other.0, ne_eqb number 2 other.1.0, ne_eqb number 3 other.1.1.0, ne_eqb number 4 other.1.1.1.0, ne_eqb number 5 other.1.1.1.1.0, ne_eqb number 6 other.1.1.1.1.1.0, ne_eqb number 8 other.1.1.1.1.1.1.0, ne_eqb number 10 other.1.1.1.1.1.1.1.0) refl);
+  full_number = λ number byte other. kind_refused full_kinds number byte (λ tag at bytes. rw (ne_eqb number 7 other.0, ne_eqb number 9 other.1.0) refl);
+  path_is_refused = λ text offset refused. (
+    tagged_refused unfit_kinds 2 (one path_at NoParent) text offset (lit< tt) (λ tag at bytes. refl) (first_refused path_at (λ p. none (NoParent p)) text offset refused),
+    (
+      tagged_refused unfit_kinds 3 (one path_at Exists) text offset (lit< tt) (λ tag at bytes. refl) (first_refused path_at (λ p. none (Exists p)) text offset refused),
+      (
+        tagged_refused unfit_kinds 4 (one path_at Missing) text offset (lit< tt) (λ tag at bytes. refl) (first_refused path_at (λ p. none (Missing p)) text offset refused),
+        (
+          tagged_refused unfit_kinds 5 (one path_at IsFolder) text offset (lit< tt) (λ tag at bytes. refl) (first_refused path_at (λ p. none (IsFolder p)) text offset refused),
+          (
+            tagged_refused unfit_kinds 6 (two path_at (λ _. path_at) NotEmpty) text offset (lit< tt) (λ tag at bytes. refl) (first_refused path_at (λ p. one path_at (NotEmpty p)) text offset refused),
+            (
+              tagged_refused unfit_kinds 10 (one path_at VersionTop) text offset (lit< tt) (λ tag at bytes. refl) (first_refused path_at (λ p. none (VersionTop p)) text offset refused),
+              tt,
+            ),
+          ),
+        ),
+      ),
+    ),
+  );
+  child_is_refused = λ p text offset is refused.
+      tagged_refused unfit_kinds 6 (two path_at (λ _. path_at) NotEmpty) (path p ++ text) (length (path p) + offset) (lit< tt) (λ tag at bytes. refl)
+      (later_refused path_at (λ q. one path_at (NotEmpty q)) (path p) text p offset (read_again path_codec p is) (first_refused path_at (λ q. none (NotEmpty p q)) text offset refused));
+}

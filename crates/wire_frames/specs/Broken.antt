@@ -1,0 +1,64 @@
+-- Frames that break a rule: the field that is refused, whatever stands behind it.
+use Rattle.std.specs.Prelude.{◌≡◌, ◌≢◌, ◌⊎◌, ℕ, ◌+◌, ◌^◌, ◌<◌, ◌≤◌, true, false, List, [], ◌∷◌, ◌++◌, length, Err}
+use Rattle.std.specs.Int.{w32, w64}
+use Rattle.std.specs.List.{AllByRecursion}
+use Rattle.byte_fields.specs.Field.{digits}
+use Rattle.byte_fields.specs.Broken.{IsRefused}
+use Rattle.vol_tree.specs.declared.tree.Effect.{Effect}
+use Rattle.vol_tree.specs.Path.{FilePath, IsPath}
+use Rattle.vol_tree.specs.Effects.{touched_all, distinct}
+use Rattle.vol_tree.specs.Spelling.{path, effects, EffectsFit}
+use Rattle.vol_tree.specs.Reading.{path_at, effects_at, bases_at, rows_at}
+use Rattle.wire_frames.specs.FaultReading.{unfit_fault_at, full_fault_at}
+use Rattle.wire_frames.specs.declared.message.Kind.{Kind}
+use Rattle.wire_frames.specs.declared.message.Kind.TheVariants.{Store, Stale, Unfit, Gap, Snapshot, Full, Malformed}
+use Rattle.wire_frames.specs.declared.message.FrameError.TheVariants.{BadField}
+use Rattle.wire_frames.specs.Frame.{frame_version, code_of, client_rule, number_rule}
+use Rattle.wire_frames.specs.Reading.{frame_of}
+
+-- a frame's length and header, and these bytes behind them
+abbrev pub framed : Kind → ℕ → ℕ → List ℕ → List ℕ
+framed kind client number behind =
+    let told = frame_version ∷ code_of kind ∷ client ∷ digits w64 number ++ behind in digits w32 (length told) ++ told
+
+-- A message of this kind and number whose body begins so is refused at this place of its frame, whatever follows. The
+-- body begins at byte 15.
+abbrev pub IsRefusedAt : Kind → ℕ → List ℕ → ℕ → Type 0
+IsRefusedAt kind number text place = (client : ℕ) (behind : List ℕ) → client_rule kind client ≡ true → number_rule kind number ≡ true → number < 2 ^ 64 → length (text ++ behind) ≤ 67108849
+    → frame_of (framed kind client number (text ++ behind)) ≡ Err (BadField place)
+
+-- a number that the kind does not have: at the number
+abbrev pub BrokenNumbers : Type 0
+BrokenNumbers = (kind : Kind) (client number : ℕ) (behind : List ℕ) → client_rule kind client ≡ true → number_rule kind number ≡ false → number < 2 ^ 64 → length behind ≤ 67108849
+    → frame_of (framed kind client number behind) ≡ Err (BadField 7)
+
+pub record BrokenBodies : Type 0 where
+  -- effects that are refused: in them
+  pub effects_are_refused : (number : ℕ) (text : List ℕ) (offset : ℕ) → IsRefused effects_at text offset → IsRefusedAt Store number text (15 + offset)
+  -- a base of the touched paths that is refused: behind the effects
+  pub base_is_refused : (number : ℕ) (es : List Effect) (text : List ℕ) (offset : ℕ) → EffectsFit es → IsRefused (bases_at (distinct (touched_all es))) text offset → IsRefusedAt Store number (effects es ++ text) (15 + length (effects es) + offset)
+  -- a path that is refused: in it
+  pub path_is_refused : (number : ℕ) (text : List ℕ) (offset : ℕ) → IsRefused path_at text offset → IsRefusedAt Stale number text (15 + offset)
+  -- versions that do not differ: at the second
+  pub versions_are_equal : (number : ℕ) (p : FilePath) (version : ℕ) → IsPath p → version < 2 ^ 64 → IsRefusedAt Stale number (path p ++ (digits w64 version ++ digits w64 version)) (15 + length (path p) + 8)
+  -- a refusal of the volume that is refused: behind the index
+  pub unfit_is_refused : (number index : ℕ) (text : List ℕ) (offset : ℕ) → index < 2 ^ 32 → IsRefused unfit_fault_at text offset → IsRefusedAt Unfit number (digits w32 index ++ text) (19 + offset)
+  pub full_is_refused : (number index : ℕ) (text : List ℕ) (offset : ℕ) → index < 2 ^ 32 → IsRefused full_fault_at text offset → IsRefusedAt Full number (digits w32 index ++ text) (19 + offset)
+  -- a last number whose next is not below the message's: at it
+  pub last_is_near : (number last : ℕ) → last < 2 ^ 64 → number ≤ last + 1 → IsRefusedAt Gap number (digits w64 last) 15
+  -- rows that are refused: behind the last number
+  pub rows_are_refused : (number last : ℕ) (text : List ℕ) (offset : ℕ) → last < 2 ^ 64 → IsRefused rows_at text offset → IsRefusedAt Snapshot number (digits w64 last ++ text) (23 + offset)
+  -- a code that is none of 1 to 7: at the code
+  pub code_is_none : (number code : ℕ) → code < 2 ^ 8 → (code ≡ 0) ⊎ (7 < code) → IsRefusedAt Malformed number (code ∷ []) 15
+  -- an offset beside a code that has none: at the offset
+  pub offset_is_told : (number code offset : ℕ) → 1 ≤ code → code ≤ 7 → code ≢ 5 → code ≢ 6 → 1 ≤ offset → offset < 2 ^ 32 → IsRefusedAt Malformed number (code ∷ digits w32 offset) 16
+
+pub record BrokenFaults : Type 0 where
+  -- a number that tells no refusal, or one for want of room: at the number
+  pub unfit_number : (number : ℕ) → number < 2 ^ 8 → AllByRecursion (λ known. number ≢ known) (1 ∷ 2 ∷ 3 ∷ 4 ∷ 5 ∷ 6 ∷ 8 ∷ 10 ∷ []) → IsRefused unfit_fault_at (number ∷ []) 0
+  -- a number that tells no refusal for want of room: at the number
+  pub full_number : (number : ℕ) → number < 2 ^ 8 → AllByRecursion (λ known. number ≢ known) (7 ∷ 9 ∷ []) → IsRefused full_fault_at (number ∷ []) 0
+  -- a path that is refused: behind the number
+  pub path_is_refused : (text : List ℕ) (offset : ℕ) → IsRefused path_at text offset → AllByRecursion (λ number. IsRefused unfit_fault_at (number ∷ text) (1 + offset)) (2 ∷ 3 ∷ 4 ∷ 5 ∷ 6 ∷ 10 ∷ [])
+  -- a child whose path is refused: behind the path of its folder
+  pub child_is_refused : (p : FilePath) (text : List ℕ) (offset : ℕ) → IsPath p → IsRefused path_at text offset → IsRefused unfit_fault_at (6 ∷ (path p ++ text)) (1 + (length (path p) + offset))
