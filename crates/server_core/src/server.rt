@@ -203,6 +203,18 @@ impl Server {
     }
 }
 
+impl TryCopy for Server {
+    fn copy(&self) -> Result<Server, AllocError>
+        ensures copied { IfOk result (λ copied. copied ≡ self.now) }
+        ensures legal { IsServed (served self.now) }
+    {
+        Ok(Server {
+            tree: self.tree.copy()?,
+            last: self.last,
+        })
+    }
+}
+
 fn none_accepted() -> [u64; 64]
     ensures { result ≡ replicate 64 0 }
 {

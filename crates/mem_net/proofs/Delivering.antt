@@ -1,0 +1,150 @@
+-- What a delivery makes of the world, late or injected.
+use Rattle.std.proofs.Common.{◌≡◌, ℕ, Bool, true, false, [], ◌∷◌, ◌++◌, Option, Some, None, Result, Ok, Err, refl, sym, ◌∙◌, ap, subst, arith}
+use Rattle.std.specs.Prelude.{◌==◌, if◌then◌else◌}
+use Rattle.std.proofs.lemmas.Bool.Decides.{nat_tests}
+use Rattle.vol_tree.specs.Behind.{IsIn}
+use Rattle.wire_frames.specs.declared.message.Message.{Message}
+use Rattle.wire_frames.specs.declared.message.Message.TheVariants.{Store, Pull, Accepted, Stale, Unfit, Gap, Snapshot, Full, Malformed}
+use Rattle.wire_frames.specs.declared.message.FrameError.{FrameError}
+use Rattle.wire_frames.specs.Frame.{client_of, IsValid}
+use Rattle.world_rules.specs.Served.{answer}
+use Rattle.world_rules.specs.World.{World, IsForServer, sent, delivered}
+use Rattle.server_core.specs.Holding.{served}
+use Rattle.mem_net.specs.Net.{Net, world_of}
+use Rattle.mem_net.specs.Fates.{delivered_late, injected}
+use Rattle.mem_net.specs.Inside.{MovedFree, is_store}
+use Rattle.mem_net.proofs.Network.{in_push, free_none, free_as, free_then, free_handled, free_other}
+
+-- ---- a message joins the packets
+
+pub world-sent : (m : Message) (a d : Net) → d ≡ record a { packets = a.packets ++ m ∷ [] } → world_of d ≡ sent m (world_of a)
+world-sent m a d sending = ap world_of sending
+
+pub sent_among : (m : Message) (a d : Net) → d ≡ record a { packets = a.packets ++ m ∷ [] } → IsIn m d.packets
+sent_among m a d sending = subst (λ (n : Net). IsIn m n.packets) (sym sending) (in_push m a.packets)
+
+-- a request was handled, and its answer joined the packets
+pub world-answered : (m reply : Message) (a b d : Net) → world_of b ≡ delivered m false (world_of a) → reply ≡ answer m (served a.server) → d ≡ record b { packets = b.packets ++ reply ∷ [] }
+    → world_of d ≡ delivered m true (world_of a)
+world-answered m reply a b d first is joining =
+    ap world_of joining ∙ ap (sent reply) first ∙ ap (λ (r : Message). sent r (delivered m false (world_of a))) is
+
+pub moved-handled : (m : Message) (a b : Net) → IsForServer m → IsIn m a.packets → world_of b ≡ delivered m false (world_of a) → MovedFree (world_of a) (world_of b)
+moved-handled m a b for among is = free_as (world_of a) (delivered m false (world_of a)) (world_of b) (free_handled m (world_of a) for among) is
+
+pub moved-same : (a d : Net) → d ≡ a → MovedFree (world_of a) (world_of d)
+moved-same a d same = free_as (world_of a) (world_of a) (world_of d) (free_none (world_of a)) (ap world_of same)
+
+-- ---- a late packet
+
+late_some : (m : Message) (w : World) → IsForServer m → delivered m true w ≡ delivered_late (Some m) w
+late_some (Store client number effects base) w for = refl
+late_some (Pull client number) w for = refl
+late_some (Accepted client number) w for = absurd for
+late_some (Stale client number path theirs ours) w for = absurd for
+late_some (Unfit client number index fault) w for = absurd for
+late_some (Gap client number last) w for = absurd for
+late_some (Snapshot client number last rows) w for = absurd for
+late_some (Full client number index fault) w for = absurd for
+late_some (Malformed code offset) w for = absurd for
+
+late_not : (m : Message) (w : World) → (IsForServer m → ⊥) → w ≡ delivered_late (Some m) w
+late_not (Store client number effects base) w other = absurd (other tt)
+late_not (Pull client number) w other = absurd (other tt)
+late_not (Accepted client number) w other = refl
+late_not (Stale client number path theirs ours) w other = refl
+late_not (Unfit client number index fault) w other = refl
+late_not (Gap client number last) w other = refl
+late_not (Snapshot client number last rows) w other = refl
+late_not (Full client number index fault) w other = refl
+late_not (Malformed code offset) w other = refl
+
+-- a packet that is a request was delivered
+pub late-delivered : (m : Message) (found : Option Message) (w : World) → found ≡ Some m → IsForServer m → delivered m true w ≡ delivered_late found w
+late-delivered m found w is for = late_some m w for ∙ sym (ap (λ (o : Option Message). delivered_late o w) is)
+
+-- one that is none was not
+pub late-skipped : (m : Message) (found : Option Message) (w : World) → found ≡ Some m → (IsForServer m → ⊥) → w ≡ delivered_late found w
+late-skipped m found w is other = late_not m w other ∙ sym (ap (λ (o : Option Message). delivered_late o w) is)
+
+pub late-none : (found : Option Message) (w : World) → found ≡ None → w ≡ delivered_late found w
+late-none found w is = sym (ap (λ (o : Option Message). delivered_late o w) is)
+
+-- ---- an injected message
+
+differs : (m n : ℕ) → (m ≡ n → ⊥) → (m == n) ≡ false
+differs m n other = grind (arith, nat_tests, other)
+
+same : (m n : ℕ) → m ≡ n → (m == n) ≡ true
+same m n is = grind (arith, nat_tests, is)
+
+inject_store : (m : Message) (w : World) → is_store m ≡ true → (client_of m ≡ w.client → ⊥) → delivered m true (sent m w) ≡ injected (Ok m) w
+inject_store (Store client number effects base) w is other =
+    let m = Store client number effects base in
+    sym (ap (λ (b : Bool). if b then w else delivered m true (sent m w)) (differs client w.client other))
+inject_store (Pull client number) w is other = absurd (cc)
+inject_store (Accepted client number) w is other = absurd (cc)
+inject_store (Stale client number path theirs ours) w is other = absurd (cc)
+inject_store (Unfit client number index fault) w is other = absurd (cc)
+inject_store (Gap client number last) w is other = absurd (cc)
+inject_store (Snapshot client number last rows) w is other = absurd (cc)
+inject_store (Full client number index fault) w is other = absurd (cc)
+inject_store (Malformed code offset) w is other = absurd (cc)
+
+inject_own : (m : Message) (w : World) → client_of m ≡ w.client → w ≡ injected (Ok m) w
+inject_own (Store client number effects base) w is =
+    let m = Store client number effects base in
+    sym (ap (λ (b : Bool). if b then w else delivered m true (sent m w)) (same client w.client is))
+inject_own (Pull client number) w is = refl
+inject_own (Accepted client number) w is = refl
+inject_own (Stale client number path theirs ours) w is = refl
+inject_own (Unfit client number index fault) w is = refl
+inject_own (Gap client number last) w is = refl
+inject_own (Snapshot client number last rows) w is = refl
+inject_own (Full client number index fault) w is = refl
+inject_own (Malformed code offset) w is = refl
+
+inject_other : (m : Message) (w : World) → is_store m ≡ false → w ≡ injected (Ok m) w
+inject_other (Store client number effects base) w is = absurd (cc)
+inject_other (Pull client number) w is = refl
+inject_other (Accepted client number) w is = refl
+inject_other (Stale client number path theirs ours) w is = refl
+inject_other (Unfit client number index fault) w is = refl
+inject_other (Gap client number last) w is = refl
+inject_other (Snapshot client number last rows) w is = refl
+inject_other (Full client number index fault) w is = refl
+inject_other (Malformed code offset) w is = refl
+
+module _ (found : Result Message FrameError) (w : World) where
+  as_found : (r : Result Message FrameError) → found ≡ r → injected r w ≡ injected found w
+  as_found r is = sym (ap (λ (o : Result Message FrameError). injected o w) is)
+
+  -- another client's store was sent and delivered
+  pub injected-store : (m : Message) → found ≡ Ok m → is_store m ≡ true → (client_of m ≡ w.client → ⊥) → delivered m true (sent m w) ≡ injected found w
+  injected-store m is store other = inject_store m w store other ∙ as_found (Ok m) is
+
+  pub injected-own : (m : Message) → found ≡ Ok m → client_of m ≡ w.client → w ≡ injected found w
+  injected-own m is own = inject_own m w own ∙ as_found (Ok m) is
+
+  pub injected-other : (m : Message) → found ≡ Ok m → is_store m ≡ false → w ≡ injected found w
+  injected-other m is other = inject_other m w other ∙ as_found (Ok m) is
+
+  pub injected-refused : (e : FrameError) → found ≡ Err e → w ≡ injected found w
+  injected-refused e is = as_found (Err e) is
+
+-- a store is for a server
+pub store-for : (m : Message) → is_store m ≡ true → IsForServer m
+store-for (Store client number effects base) is = tt
+store-for (Pull client number) is = tt
+store-for (Accepted client number) is = absurd (cc)
+store-for (Stale client number path theirs ours) is = absurd (cc)
+store-for (Unfit client number index fault) is = absurd (cc)
+store-for (Gap client number last) is = absurd (cc)
+store-for (Snapshot client number last rows) is = absurd (cc)
+store-for (Full client number index fault) is = absurd (cc)
+store-for (Malformed code offset) is = absurd (cc)
+
+-- the moves of an injection, as far as it came
+pub moved-injected : (m : Message) (a b d : Net) → (client_of m ≡ a.client → ⊥) → IsValid m → b ≡ record a { packets = a.packets ++ m ∷ [] } → MovedFree (world_of b) (world_of d) → MovedFree (world_of a) (world_of d)
+moved-injected m a b d other valid sending later =
+    free_then (world_of a) (world_of b) (world_of d) (free_as (world_of a) (sent m (world_of a)) (world_of b) (free_other m (world_of a) other valid) (world-sent m a b sending)) later

@@ -1,0 +1,4 @@
+pub mod Taking
+pub mod Network
+pub mod Delivering
+pub mod Deciding

@@ -1,0 +1,115 @@
+-- What the server's numbers tell of the store that it was given, and how its answer fits the request.
+use Rattle.std.proofs.Common.{◌≡◌, ◌≢◌, ℕ, ◌<◌, Bool, true, false, List, [], ◌∷◌, ◌++◌, length, take, Option, Result, refl, ap, arith}
+use Rattle.std.specs.Prelude.{nat_le, ◌==◌, if◌then◌else◌}
+use Rattle.std.proofs.lemmas.Bool.Decides.{nat_tests}
+use Rattle.vol_tree.specs.Tree.{Volume}
+use Rattle.vol_tree.specs.Effects.{Conflict, apply_all, first_conflict}
+use Rattle.vol_tree.specs.declared.tree.Effect.{Effect}
+use Rattle.vol_tree.specs.declared.tree.Base.{Base}
+use Rattle.vol_tree.specs.declared.tree.TreeError.{TreeError}
+use Rattle.wire_frames.specs.declared.message.Message.{Message}
+use Rattle.wire_frames.specs.declared.message.Message.TheVariants.{Store, Pull, Accepted, Stale, Unfit, Gap, Snapshot, Full, Malformed}
+use Rattle.wire_frames.specs.Frame.{Echoes, client_of}
+use Rattle.world_rules.specs.declared.asking.Peer.{Peer}
+use Rattle.world_rules.specs.declared.asking.Peer.TheVariants.{Server, Surrogate}
+use Rattle.world_rules.specs.Served.{Served, Verdict, Repeated, Early, Outdated, Refused, Taken, judged, verdict, reply, is_want_of_room, answer, state_after, served_after, taken_of, taken_if, with_last}
+use Rattle.world_rules.specs.World.{IsForServer}
+use Rattle.world_rules.specs.Asking.{IsRequest}
+
+is_itself : (n : ℕ) → (n == n) ≡ true
+is_itself n = grind (arith, nat_tests)
+
+with_last-own : (last : ℕ → ℕ) (client number : ℕ) → with_last last client number client ≡ number
+with_last-own last client number = ap (λ (b : Bool). if b then number else last client) (is_itself client)
+
+judged-new : (repeated beyond : Bool) (conflict : Option Conflict) (applied : Result Volume (ℕ × TreeError)) (volume : Volume) → Taken volume ≡ judged repeated beyond conflict applied → repeated ≡ false
+judged-new true beyond conflict applied volume is = absurd (cc)
+judged-new false beyond conflict applied volume is = refl
+
+above : (number last : ℕ) → nat_le number last ≡ false → last < number
+above number last is = grind (arith, nat_tests)
+
+module _ (client number : ℕ) (effects : List Effect) (base : List Base) (s : Served) where
+  abbrev store : Message
+  store = Store client number effects base
+
+  new_number : (volume : Volume) → Taken volume ≡ verdict client number effects base s → s.last client < number
+  new_number volume is = above number (s.last client) (judged-new _ _ (first_conflict base s.volume) (apply_all 0 effects s.volume) volume is)
+
+  untaken : (v : Verdict) → v ≡ verdict client number effects base s → (served_after client number v s).last client ≡ s.last client → taken_if v store ≡ []
+  untaken Repeated is same = refl
+  untaken Early is same = refl
+  untaken (Outdated conflict) is same = refl
+  untaken (Refused cause) is same = refl
+  untaken (Taken volume) is same = absurd (omega (arith, new_number volume is, with_last-own s.last client number, same))
+
+  is_taken : (v : Verdict) → (served_after client number v s).last client ≢ s.last client → taken_if v store ≡ store ∷ []
+  is_taken Repeated other = absurd (other refl)
+  is_taken Early other = absurd (other refl)
+  is_taken (Outdated conflict) other = absurd (other refl)
+  is_taken (Refused cause) other = absurd (other refl)
+  is_taken (Taken volume) other = refl
+
+  refused-echoes : (room : Bool) (index : ℕ) (fault : TreeError) → Echoes store (if room then Full client number index fault else Unfit client number index fault)
+  refused-echoes true index fault = (tt, refl, refl)
+  refused-echoes false index fault = (tt, refl, refl)
+
+  reply-echoes : (v : Verdict) → Echoes store (reply client number (s.last client) v)
+  reply-echoes Repeated = (tt, refl, refl)
+  reply-echoes Early = (tt, refl, refl)
+  reply-echoes (Outdated conflict) = (tt, refl, refl)
+  reply-echoes (Refused cause) = refused-echoes (is_want_of_room cause.1) cause.0 cause.1
+  reply-echoes (Taken volume) = (tt, refl, refl)
+
+-- where the client's last number stays, nothing is taken
+pub taken-none : (m : Message) (s : Served) → IsForServer m → (state_after m s).last (client_of m) ≡ s.last (client_of m) → taken_of m s ≡ []
+taken-none (Store client number effects base) s for same = untaken client number effects base s (verdict client number effects base s) refl same
+taken-none (Pull client number) s for same = refl
+taken-none (Accepted client number) s for same = absurd for
+taken-none (Stale client number path theirs ours) s for same = absurd for
+taken-none (Unfit client number index fault) s for same = absurd for
+taken-none (Gap client number last) s for same = absurd for
+taken-none (Snapshot client number last rows) s for same = absurd for
+taken-none (Full client number index fault) s for same = absurd for
+taken-none (Malformed code offset) s for same = absurd for
+
+-- where it changes, the store is taken
+pub taken-one : (m : Message) (s : Served) → IsForServer m → (state_after m s).last (client_of m) ≢ s.last (client_of m) → taken_of m s ≡ m ∷ []
+taken-one (Store client number effects base) s for other = is_taken client number effects base s (verdict client number effects base s) other
+taken-one (Pull client number) s for other = absurd (other refl)
+taken-one (Accepted client number) s for other = absurd for
+taken-one (Stale client number path theirs ours) s for other = absurd for
+taken-one (Unfit client number index fault) s for other = absurd for
+taken-one (Gap client number last) s for other = absurd for
+taken-one (Snapshot client number last rows) s for other = absurd for
+taken-one (Full client number index fault) s for other = absurd for
+taken-one (Malformed code offset) s for other = absurd for
+
+-- the server's answer is a reply to the request
+pub answer-echoes : (m : Message) (s : Served) → IsForServer m → Echoes m (answer m s)
+answer-echoes (Store client number effects base) s for = reply-echoes client number effects base s (verdict client number effects base s)
+answer-echoes (Pull client number) s for = (tt, refl, refl)
+answer-echoes (Accepted client number) s for = absurd for
+answer-echoes (Stale client number path theirs ours) s for = absurd for
+answer-echoes (Unfit client number index fault) s for = absurd for
+answer-echoes (Gap client number last) s for = absurd for
+answer-echoes (Snapshot client number last rows) s for = absurd for
+answer-echoes (Full client number index fault) s for = absurd for
+answer-echoes (Malformed code offset) s for = absurd for
+
+-- what may be asked of a peer is for the server
+pub for_server : (to : Peer) (m : Message) → IsRequest to m → IsForServer m
+for_server Server (Store client number effects base) asked = tt
+for_server Server (Pull client number) asked = tt
+for_server Server (Accepted client number) asked = absurd asked
+for_server Server (Stale client number path theirs ours) asked = absurd asked
+for_server Server (Unfit client number index fault) asked = absurd asked
+for_server Server (Gap client number last) asked = absurd asked
+for_server Server (Snapshot client number last rows) asked = absurd asked
+for_server Server (Full client number index fault) asked = absurd asked
+for_server Server (Malformed code offset) asked = absurd asked
+for_server Surrogate m asked = absurd asked
+
+pub take_front : (xs ys : List Message) → take (length xs) (xs ++ ys) ≡ xs
+take_front [] ys = refl
+take_front (x ∷ xs) ys = ap (λ (l : List Message). x ∷ l) (take_front xs ys)

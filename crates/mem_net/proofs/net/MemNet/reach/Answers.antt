@@ -1,0 +1,26 @@
+use Rattle.std.proofs.Common.{[], sym, subst, Result, Ok, Err, OnOk}
+use Rattle.vol_tree.specs.Behind.{IsIn}
+use Rattle.world_rules.specs.World.{World, Moved}
+use Rattle.world_rules.proofs.Asks.{moved_then, moved_packets}
+use Rattle.mem_net.specs.Net.{world_of}
+use Rattle.mem_net.proofs.Network.{moved_sent}
+use Rattle.mem_net.proofs.Delivering.{world-sent, sent_among}
+use Rattle.mem_net.proofs.net.MemNet.reach.Goals as goal
+
+pub returns-clause-moved : goal.returns-clause-moved
+returns-clause-moved c =
+    let m = c.args.request.now in
+    let a : World = world_of c.args.self.now in
+    let b : World = world_of c.send.new.self in
+    let first : Moved m [] a b = subst (λ (w : World). Moved m [] a w) (sym (world-sent m c.args.self.now c.send.new.self c.in_ok-send.ensures.ok)) (moved_sent m a) in
+    moved_then m [] [] a b (world_of c.decide.new.self) first (c.decide.ensures.moved m)
+
+always : {T E : Type 0} (result : Result T E) (fact : Type 0) → fact → OnOk result fact
+always (Ok x) fact is = is
+always (Err e) fact is = tt
+
+pub returns-clause-sent : goal.returns-clause-sent
+returns-clause-sent c =
+    let m = c.args.request.now in
+    always c.decide.result (IsIn m c.decide.new.self.packets)
+    (moved_packets m [] (world_of c.send.new.self) (world_of c.decide.new.self) m (c.decide.ensures.moved m) (sent_among m c.args.self.now c.send.new.self c.in_ok-send.ensures.ok))

@@ -1,0 +1,43 @@
+-- Words that only contracts inside the network in memory cite.
+use Rattle.std.specs.Prelude.{◌≡◌, ℕ, Bool, true, false, List, [], Option, Some, None, Result, Err, Vec, if◌then◌else◌}
+use Rattle.std.specs.declared.alloc.Global.{Global}
+use Rattle.wire_frames.specs.declared.message.Message.{Message}
+use Rattle.wire_frames.specs.declared.message.Message.TheVariants.{Store}
+use Rattle.world_rules.specs.declared.asking.Peer.{Peer}
+use Rattle.world_rules.specs.declared.link.LinkError.{LinkError}
+use Rattle.world_rules.specs.declared.link.LinkError.TheVariants.{Memory}
+use Rattle.world_rules.specs.World.{World, Moved}
+use Rattle.world_rules.specs.Asking.{AsksOnce}
+use Rattle.mem_net.specs.declared.fate.Fate.{Fate}
+use Rattle.mem_net.specs.Net.{Net, world_of}
+use Rattle.mem_net.specs.Fates.{decides, deciding, left_after, at_decision, IsEndOf, MeetsFate}
+
+-- the world moved by steps that may come while any request is asked
+abbrev pub MovedFree : World → World → Type 0
+MovedFree old new = (request : Message) → Moved request [] old new
+
+-- the fates and the troubles are as before
+abbrev pub KeepsFates : Net → Net → Type 0
+KeepsFates old new = (new.fates ≡ old.fates) × (new.troubles ≡ old.troubles)
+
+-- the fate, where it decides
+abbrev pub decision : Fate → Option Fate
+decision fate = if decides fate then Some fate else None
+
+-- what becomes of an ask by its fate; where memory runs out, the ask may be noted or not
+abbrev pub Meets : Fate → Peer → List ℕ → Message → World → World → Result (Vec ℕ Global) LinkError → Type 0
+Meets fate to address request old new (Err Memory) = AsksOnce to address request old new (Err Memory)
+Meets fate to address request old new result = MeetsFate fate to address request old new result
+
+-- The ask is to be decided as before, after fates that decide nothing.
+pub record Awaits (old new : Net) : Type 0 where
+  pub fate : deciding new.fates ≡ deciding old.fates
+  pub left : left_after new.fates ≡ left_after old.fates
+  pub reached : at_decision new.fates (world_of new) ≡ at_decision old.fates (world_of old)
+  pub moved : MovedFree (world_of old) (world_of new)
+  pub rest : IsEndOf new.fates old.fates
+  pub troubles : new.troubles ≡ old.troubles
+
+abbrev pub is_store : Message → Bool
+is_store (Store client number effects base) = true
+is_store _ = false

@@ -1,0 +1,4 @@
+pub mod Net
+pub mod Fates
+pub mod Inside
+pub mod Laws

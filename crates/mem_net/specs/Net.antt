@@ -1,0 +1,29 @@
+-- The network in memory, as contracts see it.
+use Rattle.std.specs.Prelude.{ℕ, List, []}
+use Rattle.wire_frames.specs.declared.message.Message.{Message}
+use Rattle.world_rules.specs.declared.asking.Ask.{Ask}
+use Rattle.world_rules.specs.Served.{Served}
+use Rattle.world_rules.specs.World.{World}
+use Rattle.server_core.specs.Holding.{Holding, served}
+use Rattle.mem_net.specs.declared.fate.Fate.{Fate}
+
+-- The client, the server, and what stands between them. The world about the client is `world_of` it.
+pub record Net : Type 0 where
+  pub client : ℕ
+  -- what the server held when the network was made
+  pub opening : Holding
+  pub server : Holding
+  pub taken : List Message
+  pub packets : List Message
+  pub asks : List Ask
+  -- what becomes of the asks to come, in order
+  pub fates : List Fate
+  pub troubles : ℕ
+
+-- the world that the network tells
+abbrev pub world_of : Net → World
+world_of net = record { client = net.client; opening = served net.opening; taken = net.taken; served = served net.server; packets = net.packets; asks = net.asks }
+
+-- the world of a client in which a server begins with this, and nothing was sent
+abbrev pub new_world : ℕ → Served → World
+new_world client opening = record { client = client; opening = opening; taken = []; served = opening; packets = []; asks = [] }

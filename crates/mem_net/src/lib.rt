@@ -1,0 +1,15 @@
+//! A network in memory: one client, one server, and the messages between them, which it loses, repeats, delays and
+//! injects as a list of fates says.
+#![tactic(auto)]
+
+mod fate;
+mod laws;
+mod net;
+mod packet;
+
+pub use fate::Fate;
+pub use laws::new_networks_are_in_step;
+pub use net::MemNet;
+
+#[cfg(test)]
+mod tests;
