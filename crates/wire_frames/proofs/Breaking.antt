@@ -1,8 +1,8 @@
 -- The laws of frames that break a rule.
-use Rattle.std.proofs.Common.{◌≡◌, ◌≢◌, ◌⊎◌, ℕ, ◌+◌, ◌^◌, ◌<◌, ◌≤◌, Bool, true, false, ◌&&◌, ◌||◌, not, leb, eqb, List, [], ◌∷◌, ◌++◌, length, take, drop, Err, inl, inr, refl, sym, ap, subst, ◌∙◌, arith, lit<, length-append, append_assoc}
+use Rattle.std.proofs.Common.{◌≡◌, ◌≢◌, ◌⊎◌, ℕ, ◌+◌, ◌^◌, ◌<◌, ◌≤◌, Bool, true, false, ◌&&◌, ◌||◌, not, leb, eqb, List, [], ◌∷◌, ◌++◌, length, take, drop, get_or, Ok, Err, inl, inr, refl, sym, ap, subst, ◌∙◌, arith, lit<, length-append, append_assoc}
 use Rattle.std.specs.Int.{w8, w32, w64}
 use Rattle.std.proofs.lemmas.Bool.{le-leb, eq-eqb, ne_eqb}
-use Rattle.std.proofs.lemmas.List.{append-nil}
+use Rattle.std.proofs.lemmas.List.{append-nil, drop_at}
 use Rattle.std.proofs.Math.Seq.{drop-length}
 use Rattle.std.proofs.lemmas.Nat.{from_be_bytes-to_be_bytes_4}
 use Rattle.byte_fields.specs.Field.{digits, ruled, none, one, two, number_at}
@@ -18,17 +18,18 @@ use Rattle.vol_tree.specs.Spelling.{path, effects, EffectsFit}
 use Rattle.vol_tree.specs.Reading.{path_at, effects_at, bases_at, rows_at}
 use Rattle.vol_tree.proofs.Parts.{path_codec, effects_codec}
 use Rattle.vol_tree.proofs.Breaking.{eight_bytes}
+use Rattle.wire_frames.specs.declared.message.Message.{Message}
 use Rattle.wire_frames.specs.declared.message.Message.TheVariants as messages
 use Rattle.wire_frames.specs.declared.message.Kind.{Kind}
 use Rattle.wire_frames.specs.declared.message.Kind.TheVariants.{Store, Stale, Unfit, Gap, Snapshot, Full, Malformed}
 use Rattle.wire_frames.specs.declared.message.FrameError.{FrameError}
-use Rattle.wire_frames.specs.declared.message.FrameError.TheVariants.{BadField}
+use Rattle.wire_frames.specs.declared.message.FrameError.TheVariants.{BadField, Trailing}
 use Rattle.wire_frames.specs.FaultReading.{unfit_kinds, full_kinds, unfit_fault_at, full_fault_at}
-use Rattle.wire_frames.specs.Frame.{frame_version, code_of, client_rule, number_rule, offset_rule}
+use Rattle.wire_frames.specs.Frame.{frame_version, kind, client_of, number_of, code_of, client_rule, number_rule, offset_rule, body, frame, IsValid}
 use Rattle.wire_frames.specs.Reading.{store_at, stale_at, unfit_at, full_at, snapshot_at, gap_at, malformed_at, body_at, message_at, is_sized, frame_of}
-use Rattle.wire_frames.specs.Broken.{framed, IsRefusedAt, BrokenNumbers, BrokenBodies, BrokenFaults}
-use Rattle.wire_frames.proofs.Messages.{number_codec, refusal}
-use Rattle.wire_frames.proofs.Frames.{are_sized}
+use Rattle.wire_frames.specs.Broken.{framed, IsRefusedAt, BrokenNumbers, BrokenBodies, BrokenFaults, LeftBytes}
+use Rattle.wire_frames.proofs.Messages.{tail, number_codec, refusal, message_again}
+use Rattle.wire_frames.proofs.Frames.{are_sized, kind_again}
 use Rattle.wire_frames.proofs.CutFrames.{fails_again}
 
 -- ---- from what stands behind the client to the frame
@@ -189,3 +190,25 @@ broken_faults = record {
       tagged_refused unfit_kinds 6 (two path_at (λ _. path_at) NotEmpty) (path p ++ text) (length (path p) + offset) (lit< tt) (λ tag at bytes. refl)
       (later_refused path_at (λ q. one path_at (NotEmpty q)) (path p) text p offset (read_again path_codec p is) (first_refused path_at (λ q. none (NotEmpty p q)) text offset refused));
 }
+
+-- ---- what is left over
+
+left_again : (bytes : List ℕ) (m : Message) (place : ℕ) → is_sized bytes ≡ true → get_or bytes 4 0 ≡ 1 → get_or bytes 5 0 ≡ code_of (kind m) → get_or bytes 6 0 ≡ client_of m → client_rule (kind m) (client_of m) ≡ true
+    → message_at (kind m) (client_of m) bytes 7 ≡ Ok (m, place) → place ≢ length bytes → frame_of bytes ≡ Err (Trailing place)
+unfolding frame_of
+left_again bytes m place is version code client fits read past = rw (is, version, code, kind_again (kind m), client, fits, read, ne_eqb place (length bytes) past) refl
+
+pub left_bytes : LeftBytes
+unfolding digits
+left_bytes m left valid some short =
+    let told : List ℕ = frame_version ∷ code_of (kind m) ∷ client_of m ∷ digits w64 (number_of m) ++ (body m ++ left) in
+    let front : List ℕ = digits w32 (length told) ++ (frame_version ∷ code_of (kind m) ∷ client_of m ∷ tail m) in
+    let bytes : List ℕ = framed (kind m) (client_of m) (number_of m) (body m ++ left) in
+    let both : length (body m ++ left) ≡ length (body m) + length left = length-append (body m) left in
+    let size : length (frame m) ≡ 15 + length (body m) = omega arith in
+    let long : length bytes ≡ 15 + length (body m ++ left) = omega arith in
+    let end : length front ≡ length (frame m) = omega arith in
+    let is : is_sized bytes ≡ true = are_sized bytes (record { low = omega (arith, long); high = omega (arith, long, both, size, short); told = rw (from_be_bytes-to_be_bytes_4 (length told) (omega (arith, both, size, short))) (omega (arith, long)) }) in
+    let behind : drop (length (frame m)) bytes ≡ left = drop_at front left (length (frame m)) end in
+    let stands : Stands bytes 7 (tail m) (length (frame m)) = record { here = ap (λ (x : List ℕ). tail m ++ x) (sym behind); next_is = omega (arith, size); within = omega (arith, long, both, size) } in
+    left_again bytes m (length (frame m)) is refl refl refl valid.client_fits (message_again m bytes 7 (length (frame m)) stands valid.number_fits valid.number_small valid.body_fits) (λ e. omega (arith, e, long, both, size, some))

@@ -10,10 +10,11 @@ use Rattle.vol_tree.specs.Effects.{touched_all, distinct}
 use Rattle.vol_tree.specs.Spelling.{path, effects, EffectsFit}
 use Rattle.vol_tree.specs.Reading.{path_at, effects_at, bases_at, rows_at}
 use Rattle.wire_frames.specs.FaultReading.{unfit_fault_at, full_fault_at}
+use Rattle.wire_frames.specs.declared.message.Message.{Message}
 use Rattle.wire_frames.specs.declared.message.Kind.{Kind}
 use Rattle.wire_frames.specs.declared.message.Kind.TheVariants.{Store, Stale, Unfit, Gap, Snapshot, Full, Malformed}
-use Rattle.wire_frames.specs.declared.message.FrameError.TheVariants.{BadField}
-use Rattle.wire_frames.specs.Frame.{frame_version, code_of, client_rule, number_rule}
+use Rattle.wire_frames.specs.declared.message.FrameError.TheVariants.{BadField, Trailing}
+use Rattle.wire_frames.specs.Frame.{frame_version, kind, client_of, number_of, code_of, client_rule, number_rule, body, frame, IsValid}
 use Rattle.wire_frames.specs.Reading.{frame_of}
 
 -- a frame's length and header, and these bytes behind them
@@ -62,3 +63,8 @@ pub record BrokenFaults : Type 0 where
   pub path_is_refused : (text : List ℕ) (offset : ℕ) → IsRefused path_at text offset → AllByRecursion (λ number. IsRefused unfit_fault_at (number ∷ text) (1 + offset)) (2 ∷ 3 ∷ 4 ∷ 5 ∷ 6 ∷ 10 ∷ [])
   -- a child whose path is refused: behind the path of its folder
   pub child_is_refused : (p : FilePath) (text : List ℕ) (offset : ℕ) → IsPath p → IsRefused path_at text offset → IsRefused unfit_fault_at (6 ∷ (path p ++ text)) (1 + (length (path p) + offset))
+
+-- bytes behind the last field of a valid message: at the first of them
+abbrev pub LeftBytes : Type 0
+LeftBytes = (m : Message) (left : List ℕ) → IsValid m → 1 ≤ length left → length (frame m) + length left ≤ 67108864
+    → frame_of (framed (kind m) (client_of m) (number_of m) (body m ++ left)) ≡ Err (Trailing (length (frame m)))

@@ -6,7 +6,7 @@ ghost use Rattle.wire_frames.specs.declared.message.Message.{Message};
 ghost use Rattle.wire_frames.specs.Fault.{tree_fault, UnfitFits, FullFits};
 ghost use Rattle.wire_frames.specs.FaultReading.{unfit_fault_at, full_fault_at};
 ghost use Rattle.wire_frames.specs.Frame.{frame, IsValid};
-ghost use Rattle.wire_frames.specs.Broken.{BrokenNumbers, BrokenBodies, BrokenFaults};
+ghost use Rattle.wire_frames.specs.Broken.{BrokenNumbers, BrokenBodies, BrokenFaults, LeftBytes};
 ghost use Rattle.wire_frames.specs.Laws.{LengthIsFirst, VersionIsSecond, KindIsThird, ClientIsFourth, FieldsAreBehindTheClient, MessagesStandBeforeWhatIsLeft, CutFramesNameTheField};
 
 /// States that, whatever follows it, a frame is the frame of one message.
@@ -32,9 +32,11 @@ pub fn refusals_name_the_first_fault()
     ensures cut { CutFramesNameTheField }
 {}
 
-/// States at which field a frame is refused whose number, body or told refusal breaks a rule, whatever follows.
+/// States at which field a frame is refused whose number, body or told refusal breaks a rule, whatever follows, and at
+/// which byte a frame is that goes on behind its last field.
 pub fn broken_rules_name_their_field()
     ensures numbers { BrokenNumbers }
     ensures bodies { BrokenBodies }
     ensures faults { BrokenFaults }
+    ensures left { LeftBytes }
 {}
