@@ -1,6 +1,5 @@
 pub mod Doing
 pub mod InputReading
-pub mod Network
 pub mod Numbers
 pub mod Quitting
 pub mod RunningEnds
@@ -9,5 +8,4 @@ pub mod RunningLeaves
 pub mod RunningLines
 pub mod RunningPieces
 pub mod Found
-pub mod Taking
 pub mod Turning

@@ -9,6 +9,7 @@ use Rattle.mod_log.specs.declared.log.LogError.{LogError}
 use Rattle.mod_log.specs.declared.log.LogError.TheVariants as logs
 use Rattle.mod_log.specs.Log.{Log, IsLog, tree_of}
 use Rattle.mod_log.specs.Append.{appended}
+use Rattle.world_rules.specs.Served.{new_served}
 use Rattle.world_rules.specs.World.{World}
 use Rattle.world_rules.proofs.Asks.{told_start}
 use Rattle.client_core.specs.declared.route.Route.{Route}
@@ -32,7 +33,6 @@ use Rattle.client_prog.specs.Session.{State, with_log, with_folder, LogTurn, Lin
 use Rattle.client_prog.specs.Looking.{enter_answer, folder_by}
 use Rattle.client_prog.specs.InsideSession.{Does, IsGiven, GivesEffect, LogEnds, LineEnds, Quietly, Logs, LogsMade}
 use Rattle.client_prog.specs.Causes.{HasLineCause}
-use Rattle.client_prog.specs.Net.{new_world}
 use Rattle.client_prog.proofs.Doing.{does_none, does_as}
 
 -- a state of the same client in the same folder has another log at most
@@ -46,10 +46,14 @@ pub quietly_told : (before : State) (line : Result Line LineError) (r : Result (
     → Told w w (λ x y. Does (LineEnds route before line r after) before after t t x y)
 quietly_told before line r after quiet route t w = told_start w (Does (LineEnds route before line r after) before after t t) (quiet route t)
 
+-- some world
+a_world : World
+a_world = record { client = 1; opening = new_served; taken = []; served = new_served; packets = []; asks = [] }
+
 -- and so it has its turn over any link
 pub quietly_caused : (before : State) (line : Result Line LineError) (r : Result (Option Answer) AllocError) (after : State) → Quietly before line r after → (route : Route)
     → (trace : Trace) × LineEnds route before line r after trace
-quietly_caused before line r after quiet route = let here = (quiet route 0 (new_world 1)).goes in (here.trace, here.turn)
+quietly_caused before line r after quiet route = let here = (quiet route 0 a_world).goes in (here.trace, here.turn)
 
 -- as what the line reads as
 pub line_world : (route : Route) (before : State) (read line : Result Line LineError) (r : Result (Option Answer) AllocError) (after : State) (t : ℕ) (w : Option World) → read ≡ line → Quietly before line r after

@@ -3,11 +3,10 @@ pub mod Causes
 pub mod Headline
 pub mod Input
 pub mod Inside
-pub mod InsideNet
 pub mod InsideRun
 pub mod InsideSession
-pub mod Net
+pub mod Laws
+pub mod Looking
 pub mod Run
 pub mod Session
-pub mod Looking
 pub mod Words

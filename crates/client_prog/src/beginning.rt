@@ -1,10 +1,5 @@
-// How a session begins, as contracts of calls that do nothing.
-ghost use Rattle.client_prog.specs.Beginning.{NewNetworksAreNew, NewSessionsAreInStep};
-
-/// A network in memory is new to its client.
-pub fn new_networks_are_new()
-    ensures { NewNetworksAreNew }
-{}
+// How a session begins, as the contract of a call that does nothing.
+ghost use Rattle.client_prog.specs.Beginning.{NewSessionsAreInStep};
 
 /// A new client begins in step with its world.
 pub fn new_sessions_are_in_step()

@@ -6,16 +6,14 @@ mod effects;
 mod input;
 mod laws;
 mod looking;
-mod net;
 mod program;
 mod run;
 mod session;
 mod words;
 
-pub use beginning::{new_networks_are_new, new_sessions_are_in_step};
+pub use beginning::new_sessions_are_in_step;
 pub use input::{InputEnd, LineReader, MAX_INPUT};
-pub use laws::client_numbers_are_as_printed;
-pub use net::{Fate, OneNet};
+pub use laws::{client_numbers_are_as_printed, sessions_end_with_the_first_quit};
 pub use program::{client_main, client_program};
 pub use run::{Stop, client_run};
 pub use session::Session;
