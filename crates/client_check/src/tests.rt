@@ -69,13 +69,7 @@ fn status_by(alloc: Global, words: &[String]) -> Result<u8, AllocError> {
     let mut source = MemSource::new(alloc, Vec::new(alloc), Vec::new(alloc));
     let mut output = MemSink::new(alloc, Vec::new(alloc));
     let mut net = MemNet::new(alloc, 1, Server::new(alloc), Vec::new(alloc))?;
-    Ok(client_run(
-        alloc,
-        words,
-        &mut source,
-        &mut output,
-        &mut net,
-    ))
+    Ok(client_run(alloc, words, &mut source, &mut output, &mut net))
 }
 
 #[test]
@@ -240,11 +234,7 @@ fn a_folder_that_is_not_empty_stays(rt: HostRuntime) -> Result<(), Fail> {
 #[test]
 fn entries_on_one_path_are_synced_in_order(rt: HostRuntime) -> Result<(), Fail> {
     let alloc = rt.alloc();
-    let ended = run_over(
-        alloc,
-        b"put a x\nrm a\nput a y\nsync\n",
-        Vec::new(alloc),
-    )?;
+    let ended = run_over(alloc, b"put a x\nrm a\nput a y\nsync\n", Vec::new(alloc))?;
     let path = Path::read(alloc, b"a")?;
     assert_eq!(rt;
         ended.output.bytes(),
@@ -309,9 +299,15 @@ fn a_removed_current_folder_is_missing(rt: HostRuntime) -> Result<(), Fail> {
 #[test]
 fn lines_behind_quit_are_not_handled(rt: HostRuntime) -> Result<(), Fail> {
     let output = output_of(rt.alloc(), b"put a x\nquit\nput b y\nsync\n")?;
-    assert_eq!(rt; output.bytes(), b"logged 1\nacknowledged 0 pending 1\n".as_slice());
+    assert_eq!(rt;
+        output.bytes(),
+        b"logged 1\nacknowledged 0 pending 1\n".as_slice()
+    );
     let output = output_of(rt.alloc(), b"put a x\nquit")?;
-    assert_eq!(rt; output.bytes(), b"logged 1\nacknowledged 0 pending 1\n".as_slice());
+    assert_eq!(rt;
+        output.bytes(),
+        b"logged 1\nacknowledged 0 pending 1\n".as_slice()
+    );
     Ok(())
 }
 
@@ -370,10 +366,7 @@ fn line_ends(alloc: Global, count: usize, more: &[u8]) -> Result<Vec<u8>, AllocE
 fn an_input_of_the_limit_is_answered(rt: HostRuntime) -> Result<(), Fail> {
     let alloc = rt.alloc();
     let output = output_of(alloc, &line_ends(alloc, 16_777_216, b"")?)?;
-    assert_eq!(rt;
-        output.bytes(),
-        b"acknowledged 0 pending 0\n".as_slice()
-    );
+    assert_eq!(rt; output.bytes(), b"acknowledged 0 pending 0\n".as_slice());
     Ok(())
 }
 
@@ -402,9 +395,6 @@ fn a_line_that_quits_ends_the_input_before_the_limit(rt: HostRuntime) -> Result<
     let alloc = rt.alloc();
     let input = line_ends(alloc, 16_777_211, b"quit\n\n")?;
     let output = output_of(alloc, &input)?;
-    assert_eq!(rt;
-        output.bytes(),
-        b"acknowledged 0 pending 0\n".as_slice()
-    );
+    assert_eq!(rt; output.bytes(), b"acknowledged 0 pending 0\n".as_slice());
     Ok(())
 }
