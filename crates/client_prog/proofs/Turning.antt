@@ -15,21 +15,23 @@ use Rattle.world_rules.proofs.Asks.{told_start}
 use Rattle.client_core.specs.declared.route.Route.{Route}
 use Rattle.client_core.specs.declared.syncing.SyncEnd.{SyncEnd}
 use Rattle.client_core.specs.declared.syncing.SyncEnd.TheVariants as ends
+use Rattle.client_core.specs.declared.pulling.PullEnd.{PullEnd}
 use Rattle.client_core.specs.Client.{Client}
-use Rattle.client_core.specs.Causes.{HasSyncCause}
+use Rattle.client_core.specs.Causes.{HasSyncCause, HasPullCause}
 use Rattle.client_core.specs.Trace.{Trace, nothing}
 use Rattle.client_core.specs.Logging.{local_entry, LocalTurn, LocalEnds}
 use Rattle.client_core.specs.Syncing.{SyncTurn, BreaksSync, SyncEnds}
+use Rattle.client_core.specs.Pulling.{PullEnds}
 use Rattle.client_core.specs.Goes.{Goes}
 use Rattle.client_core.proofs.Going.{goes_none, goes_as}
 use Rattle.client_core.proofs.Locals.{local_goes}
 use Rattle.shell_lang.specs.declared.line.Line.{Line}
-use Rattle.shell_lang.specs.declared.line.Line.TheVariants.{Enter, Status, Sync}
+use Rattle.shell_lang.specs.declared.line.Line.TheVariants.{Enter, Status, Sync, Pull}
 use Rattle.shell_lang.specs.declared.line.LineError.{LineError}
 use Rattle.shell_lang.specs.declared.answer.Answer.{Answer}
 use Rattle.shell_lang.specs.declared.answer.Answer.TheVariants as answers
 use Rattle.shell_lang.specs.declared.answer.Fault.TheVariants as faults
-use Rattle.client_prog.specs.Session.{State, with_log, with_folder, LogTurn, LineTurn, local_answer, word_answer, status_answer, sync_answer}
+use Rattle.client_prog.specs.Session.{State, with_log, with_folder, LogTurn, LineTurn, local_answer, word_answer, status_answer, sync_answer, pull_answer}
 use Rattle.client_prog.specs.Looking.{enter_answer, folder_by}
 use Rattle.client_prog.specs.InsideSession.{Does, IsGiven, GivesEffect, LogEnds, LineEnds, Quietly, Logs, LogsMade}
 use Rattle.client_prog.specs.Causes.{HasLineCause}
@@ -191,7 +193,7 @@ module _ (route : Route) (before after : State) (t u : ℕ) (x y : World) (numbe
 
   broken_turn : (e : AllocError) → sync_answer end ≡ None → (trace : Trace) → SyncEnds before.client.number route before.client.log end after.client.log trace → LineEnds route before (Ok Sync) (Err e) after trace
   broken_turn e is trace (inl turn) = inr (inl (None, (end, turn, same_but_log before after number folder, sym is)))
-  broken_turn e is trace (inr broken) = inr (inr (refl, broken.1, same_but_log before after number folder))
+  broken_turn e is trace (inr broken) = inr (inr (broken.1, same_but_log before after number folder))
 
   pub sync_given : (told : Option Answer) (r : Result (Option Answer) AllocError) → told ≡ sync_answer end → IsGiven told r → Does (LineEnds route before (Ok Sync) r after) before after t u x y
   sync_given (Some answer) (Ok given) shown gave =
@@ -206,3 +208,33 @@ sync_cause route before after t u end (Some answer) (Ok given) shown gave cause 
 sync_cause route before after t u end None (Err e) shown gave cause = tt
 sync_cause route before after t u end (Some answer) (Err e) shown gave cause = absurd gave
 sync_cause route before after t u end None (Ok given) shown gave cause = absurd gave
+
+-- ---- a pull
+
+module _ (route : Route) (before after : State) (t u : ℕ) (x y : World) (number : after.client.number ≡ before.client.number) (folder : after.folder ≡ before.folder) (end : PullEnd)
+    (goes : Goes before.client.number (PullEnds before.client.number route before.client.log end after.client.log) before.client.log after.client.log t u x y) where
+  pull_as : (r : Result (Option Answer) AllocError) → ((trace : Trace) → PullEnds before.client.number route before.client.log end after.client.log trace → LineEnds route before (Ok Pull) r after trace)
+      → Does (LineEnds route before (Ok Pull) r after) before after t u x y
+  pull_as r to = record {
+    number = number;
+    goes = goes_as before.client.number (PullEnds before.client.number route before.client.log end after.client.log) (LineEnds route before (Ok Pull) r after) before.client.log after.client.log t u x y goes to;
+  }
+
+  pull_told : (answer : Answer) → pull_answer end ≡ Some answer → (trace : Trace) → PullEnds before.client.number route before.client.log end after.client.log trace → LineEnds route before (Ok Pull) (Ok (Some answer)) after trace
+  pull_told answer is trace (inl turn) = (end, turn, same_but_log before after number folder, sym is)
+  pull_told answer is trace (inr broken) = absurd (cc (ap pull_answer broken.0, is))
+
+  pull_broken : (e : AllocError) → pull_answer end ≡ None → (trace : Trace) → PullEnds before.client.number route before.client.log end after.client.log trace → LineEnds route before (Ok Pull) (Err e) after trace
+  pull_broken e is trace (inl turn) = inr (inl (None, (end, turn, same_but_log before after number folder, sym is)))
+  pull_broken e is trace (inr broken) = inr (inr (broken.1, same_but_log before after number folder))
+
+  pub pull_given : (told : Option Answer) (r : Result (Option Answer) AllocError) → told ≡ pull_answer end → IsGiven told r → Does (LineEnds route before (Ok Pull) r after) before after t u x y
+  pull_given (Some answer) (Ok given) shown gave =
+      subst (λ (a : Option Answer). Does (LineEnds route before (Ok Pull) (Ok a) after) before after t u x y) (sym gave) (pull_as (Ok (Some answer)) (pull_told answer (sym shown)))
+  pull_given None (Err e) shown gave = pull_as (Err e) (pull_broken e (sym shown))
+  pull_given (Some answer) (Err e) shown gave = absurd gave
+  pull_given None (Ok given) shown gave = absurd gave
+
+pub pull_cause : (route : Route) (before after : State) (t u : ℕ) (end : PullEnd) (told : Option Answer) (r : Result (Option Answer) AllocError) → told ≡ pull_answer end → IsGiven told r
+    → HasPullCause end before.client.log after.client.log t u → HasLineCause route before (Ok Pull) r after t u
+pull_cause route before after t u end told r shown gave cause = (end, subst (λ (a : Option Answer). IsGiven a r) shown gave, cause)

@@ -11,14 +11,17 @@ use Rattle.mod_log.specs.Log.{Log, new_log, tree_of}
 use Rattle.client_core.specs.declared.route.Route.{Route}
 use Rattle.client_core.specs.declared.syncing.SyncEnd.{SyncEnd}
 use Rattle.client_core.specs.declared.syncing.SyncEnd.TheVariants as ends
+use Rattle.client_core.specs.declared.pulling.PullEnd.{PullEnd}
+use Rattle.client_core.specs.declared.pulling.PullEnd.TheVariants as pulls
 use Rattle.client_core.specs.Client.{Client}
 use Rattle.client_core.specs.Trace.{Trace, nothing, followed}
 use Rattle.client_core.specs.Logging.{LocalTurn}
 use Rattle.client_core.specs.Syncing.{SyncTurn, BreaksSync}
+use Rattle.client_core.specs.Pulling.{PullTurn, BreaksPull}
 use Rattle.shell_lang.specs.Commands.{put_content}
 use Rattle.shell_lang.specs.Texts.{text_of, HasNoMemory}
 use Rattle.shell_lang.specs.declared.line.Line.{Line}
-use Rattle.shell_lang.specs.declared.line.Line.TheVariants.{Empty, Put, Make, Remove, Move, Cat, List as Ls, Enter, Status, Sync, Quit}
+use Rattle.shell_lang.specs.declared.line.Line.TheVariants.{Empty, Put, Make, Remove, Move, Cat, List as Ls, Enter, Status, Sync, Pull, Quit}
 use Rattle.shell_lang.specs.declared.line.LineError.{LineError}
 use Rattle.shell_lang.specs.declared.answer.Answer.{Answer}
 use Rattle.shell_lang.specs.declared.answer.Answer.TheVariants as answers
@@ -77,6 +80,15 @@ sync_answer (ends.Unanswered seq) = Some (answers.Unanswered seq)
 sync_answer (ends.Behind seq last) = Some (answers.Behind seq last)
 sync_answer ends.Memory = None
 
+-- how a pull is answered: one that waits for pending entries is refused; want of memory has no answer
+abbrev pub pull_answer : PullEnd → Option Answer
+pull_answer (pulls.Pulled count) = Some (answers.Pulled count)
+pull_answer (pulls.Pending count) = Some (answers.Refused (faults.Pending count))
+pull_answer (pulls.OtherLast last acked) = Some (answers.OtherLast last)
+pull_answer (pulls.Older path theirs ours) = Some (answers.Older path theirs ours)
+pull_answer pulls.Unanswered = Some answers.PullUnanswered
+pull_answer pulls.Memory = None
+
 -- how one effect is answered: by the number of its entry, or by the refusal; want of memory has no answer
 abbrev pub local_answer : Result ℕ LogError → Option Answer
 local_answer (Ok seq) = Some (answers.Logged seq)
@@ -126,6 +138,9 @@ LineTurn route before (Ok Status) answer after trace = Tells (status_answer befo
 LineTurn route before (Ok Sync) answer after trace =
     (end : SyncEnd) × SyncTurn before.client.number route before.client.log end after.client.log trace
     × (after ≡ with_log before after.client.log) × (answer ≡ sync_answer end)
+LineTurn route before (Ok Pull) answer after trace =
+    (end : PullEnd) × PullTurn before.client.number route before.client.log end after.client.log trace
+    × (after ≡ with_log before after.client.log) × (answer ≡ pull_answer end)
 LineTurn route before (Ok Quit) answer after trace = IsSilent before answer after trace
 
 -- the text of an answer, which no want of memory is
@@ -146,12 +161,18 @@ Chain route before (line ∷ lines) text after trace =
 
 -- ---- lines that want of memory breaks off
 
--- the line does nothing, or all but answer; a sync may be broken off in between
+-- a sync or a pull is broken off in between
+abbrev pub BreaksOff : Route → State → Result Line LineError → Log → Trace → Type 0
+BreaksOff route before (Ok Sync) after trace = BreaksSync before.client.number route before.client.log after trace
+BreaksOff route before (Ok Pull) after trace = BreaksPull before.client.number route before.client.log after trace
+BreaksOff route before line after trace = ⊥
+
+-- the line does nothing, or all but answer, or is broken off in between
 abbrev pub Broken : Route → State → Result Line LineError → State → Trace → Type 0
 Broken route before line after trace =
     ((after ≡ before) × (trace ≡ nothing))
     ⊎ (((answer : Option Answer) × LineTurn route before line answer after trace)
-    ⊎ ((line ≡ Ok Sync) × BreaksSync before.client.number route before.client.log after.client.log trace × (after ≡ with_log before after.client.log)))
+    ⊎ (BreaksOff route before line after.client.log trace × (after ≡ with_log before after.client.log)))
 
 -- the turns of some lines, the last of which is broken off
 abbrev pub BreaksChain : Route → State → List (Result Line LineError) → List ℕ → State → Trace → Type 0

@@ -23,6 +23,7 @@ Reads lines from standard input and answers each on standard output:
   cd PATH         makes a folder the current one
   status          shows how far the changes are accepted
   sync            sends what was changed to the server
+  pull            takes what the server has, where nothing is to be sent
   quit            ends the session
 
 Words are separated by single spaces; one that has spaces stands between quotes:

@@ -3,14 +3,14 @@ ghost use Rattle.std.specs.Prelude.{◌≡◌, ◌≤◌, Some, Ok, IfOk, OnErr}
 ghost use Rattle.std.specs.Option.{option_copied};
 ghost use Rattle.outside.specs.Outside.{Told};
 ghost use Rattle.mod_log.specs.Log.{tree_of};
-ghost use Rattle.client_prog.specs.Session.{new_state, put_effect, make_effect, remove_effect, move_effect, with_folder, local_answer, word_answer, sync_answer, status_answer};
+ghost use Rattle.client_prog.specs.Session.{new_state, put_effect, make_effect, remove_effect, move_effect, with_folder, local_answer, word_answer, sync_answer, pull_answer, status_answer};
 ghost use Rattle.client_prog.specs.Looking.{cat_answer, list_answer, enter_answer, folder_by};
 ghost use Rattle.client_prog.specs.InsideSession.{Does, IsGiven, Logs, LogsMade, LineEnds};
 ghost use Rattle.client_prog.specs.Causes.{HasLineCause};
 
 use crate::effects::{make_effect, move_effect, put_effect, remove_effect};
 use crate::looking::{cat, enter, list};
-use client_core::{Client, Route, SyncEnd};
+use client_core::{Client, PullEnd, Route, SyncEnd};
 use mod_log::LogError;
 use shell_lang::{Answer, Fault, Line, LineError};
 use std::alloc::{AllocError, Global};
@@ -50,7 +50,7 @@ impl Session {
     ///
     /// # Errors
     ///
-    /// Want of memory. The line may then have done nothing, all but answer, or a part of its sync.
+    /// Want of memory. The line may then have done nothing, all but answer, or a part of its sync or pull.
     pub fn answer<L: Link>(
         &mut self,
         alloc: Global,
@@ -75,6 +75,7 @@ impl Session {
             Ok(Line::Enter(path)) => self.enter(alloc, &path),
             Ok(Line::Status) => Ok(Some(self.status())),
             Ok(Line::Sync) => self.sync(route, link),
+            Ok(Line::Pull) => self.pull(route, link),
         }
     }
 
@@ -174,6 +175,15 @@ impl Session {
     {
         given(sync_answer(self.client.sync(route, link)))
     }
+
+    /// Pulls, and answers how it ended.
+    fn pull<L: Link>(&mut self, route: &Route, link: &mut L) -> Result<Option<Answer>, AllocError>
+        ensures world { Told (L.world link.old) (L.world link.new) (λ old new. Does (LineEnds route.now self.old (Ok Line.Pull) result self.new) self.old self.new (L.troubles link.old) (L.troubles link.new) old new) }
+        ensures cause { HasLineCause route.now self.old (Ok Line.Pull) result self.new (L.troubles link.old) (L.troubles link.new) }
+        ensures later { L.troubles link.old ≤ L.troubles link.new }
+    {
+        given(pull_answer(self.client.pull(route, link)))
+    }
 }
 
 /// An answer that is there; where there is none, memory was wanted.
@@ -229,5 +239,19 @@ fn sync_answer(end: SyncEnd) -> Option<Answer>
         SyncEnd::Unanswered { seq } => Some(Answer::Unanswered { seq }),
         SyncEnd::Behind { seq, last } => Some(Answer::Behind { seq, last }),
         SyncEnd::Memory => None,
+    }
+}
+
+/// How the end of a pull is answered; want of memory has no answer.
+fn pull_answer(end: PullEnd) -> Option<Answer>
+    ensures { result ≡ pull_answer end }
+{
+    match end {
+        PullEnd::Pulled(count) => Some(Answer::Pulled(count)),
+        PullEnd::Pending(count) => Some(Answer::Refused(Fault::Pending(count))),
+        PullEnd::OtherLast { last, .. } => Some(Answer::OtherLast(last)),
+        PullEnd::Older { path, theirs, ours } => Some(Answer::Older { path, theirs, ours }),
+        PullEnd::Unanswered => Some(Answer::PullUnanswered),
+        PullEnd::Memory => None,
     }
 }

@@ -14,7 +14,7 @@ use Rattle.shell_lang.specs.declared.command.Command.TheVariants as commands
 abbrev pub all_commands : List Command
 all_commands =
     commands.Put ∷ commands.Make ∷ commands.Remove ∷ commands.Move ∷ commands.Cat ∷ commands.List
-    ∷ commands.Enter ∷ commands.Status ∷ commands.Sync ∷ commands.Quit ∷ []
+    ∷ commands.Enter ∷ commands.Status ∷ commands.Sync ∷ commands.Pull ∷ commands.Quit ∷ []
 
 -- the word that names a command
 abbrev pub command_word : Command → List ℕ
@@ -27,6 +27,7 @@ command_word commands.List = codes "ls"
 command_word commands.Enter = codes "cd"
 command_word commands.Status = codes "status"
 command_word commands.Sync = codes "sync"
+command_word commands.Pull = codes "pull"
 command_word commands.Quit = codes "quit"
 
 -- the command that a word names
@@ -61,6 +62,7 @@ line_of commands.List (w ∷ ws) = with_one (λ path. lines.List (Some path)) (w
 line_of commands.Enter words = with_one lines.Enter words
 line_of commands.Status words = with_none lines.Status words
 line_of commands.Sync words = with_none lines.Sync words
+line_of commands.Pull words = with_none lines.Pull words
 line_of commands.Quit words = with_none lines.Quit words
 
 -- the same of all words of a line, the first of which names the command

@@ -102,6 +102,7 @@ fault_name (faults.Line refusal) = line_fault_name refusal
 fault_name (faults.Tree refusal) = tree_fault_name refusal
 fault_name (faults.Log refusal) = log_fault_name refusal
 fault_name (faults.NotFolder p) = codes "NotFolder"
+fault_name (faults.Pending n) = codes "Pending"
 
 abbrev pub fault_values : Fault → List ℕ
 fault_values (faults.Path refusal) = path_fault_values refusal
@@ -109,6 +110,7 @@ fault_values (faults.Line refusal) = line_fault_values refusal
 fault_values (faults.Tree refusal) = tree_fault_values refusal
 fault_values (faults.Log refusal) = log_fault_values refusal
 fault_values (faults.NotFolder p) = path p
+fault_values (faults.Pending n) = number n
 
 -- the words of a refusal by the tree, of one by the log, and of any
 abbrev pub tree_fault_text : TreeError → List ℕ
@@ -127,3 +129,4 @@ IsShown (faults.Line refusal) = refusal ≢ lines.Memory
 IsShown (faults.Tree refusal) = refusal ≢ trees.Memory
 IsShown (faults.Log refusal) = (refusal ≢ logs.Memory) × ((i : ℕ) → refusal ≢ logs.Tree i trees.Memory)
 IsShown (faults.NotFolder p) = ⊤
+IsShown (faults.Pending n) = ⊤

@@ -20,6 +20,10 @@ answer_name (answers.Unfit seq index fault) = codes "unfit"
 answer_name (answers.Full seq index fault) = codes "full"
 answer_name (answers.Unanswered seq) = codes "unanswered"
 answer_name (answers.Behind seq last) = codes "behind"
+answer_name (answers.Pulled n) = codes "pulled"
+answer_name (answers.OtherLast last) = codes "other last"
+answer_name (answers.Older p theirs ours) = codes "older"
+answer_name answers.PullUnanswered = codes "unanswered"
 answer_name (answers.Refused fault) = codes "refused"
 
 -- what follows in the same line
@@ -35,6 +39,10 @@ answer_values (answers.Unfit seq index fault) = number seq ++ (number index ++ 3
 answer_values (answers.Full seq index fault) = number seq ++ (number index ++ 32 ∷ tree_fault_text fault)
 answer_values (answers.Unanswered seq) = number seq
 answer_values (answers.Behind seq last) = number seq ++ number last
+answer_values (answers.Pulled n) = number n
+answer_values (answers.OtherLast last) = number last
+answer_values (answers.Older p theirs ours) = path p ++ (number theirs ++ number ours)
+answer_values answers.PullUnanswered = []
 answer_values (answers.Refused fault) = 32 ∷ fault_text fault
 
 -- `d NAME` or `f NAME`, and a line end

@@ -38,6 +38,8 @@ pub enum Fault {
     Log(LogError),
     /// A file stands at this path, where a folder is wanted.
     NotFolder(Path),
+    /// So many entries are pending, and the line wants none.
+    Pending(u32),
 }
 
 /// What a line is answered.
@@ -88,6 +90,18 @@ pub enum Answer {
         seq: u64,
         last: u64,
     },
+    /// The server's rows are the client's base now; how many rows.
+    Pulled(u32),
+    /// The server's last accepted entry of the client, which is not the last acknowledged one.
+    OtherLast(u64),
+    /// The first path at which the server told a lower version than the client's.
+    Older {
+        path: Path,
+        theirs: u64,
+        ours: u64,
+    },
+    /// The server did not answer the pull.
+    PullUnanswered,
     /// The line is refused.
     Refused(Fault),
 }

@@ -22,11 +22,12 @@ pub(crate) enum Command {
     Enter,
     Status,
     Sync,
+    Pull,
     Quit,
 }
 
 /// All commands that a line may name.
-const COMMANDS: [Command; 10] = [
+const COMMANDS: [Command; 11] = [
     Command::Put,
     Command::Make,
     Command::Remove,
@@ -36,6 +37,7 @@ const COMMANDS: [Command; 10] = [
     Command::Enter,
     Command::Status,
     Command::Sync,
+    Command::Pull,
     Command::Quit,
 ];
 
@@ -54,6 +56,7 @@ impl Command {
             Command::Enter => b"cd",
             Command::Status => b"status",
             Command::Sync => b"sync",
+            Command::Pull => b"pull",
             Command::Quit => b"quit",
         }
     }
@@ -126,6 +129,7 @@ fn line_of(alloc: Global, command: Command, words: &[Content]) -> Result<Line, L
         (Command::Enter, [path]) => Ok(Line::Enter(path.copy()?)),
         (Command::Status, []) => Ok(Line::Status),
         (Command::Sync, []) => Ok(Line::Sync),
+        (Command::Pull, []) => Ok(Line::Pull),
         (Command::Quit, []) => Ok(Line::Quit),
         _ => Err(LineError::WrongCount(saturate_u32(words.len()))),
     }

@@ -158,6 +158,7 @@ fn fault_name(fault: &Fault) -> &'static [u8]
         Fault::Tree(fault) => tree_name(fault),
         Fault::Log(fault) => log_name(fault),
         Fault::NotFolder(_) => b"NotFolder",
+        Fault::Pending(_) => b"Pending",
     }
 }
 
@@ -170,6 +171,7 @@ fn put_fault_values(out: &mut Vec<u8>, fault: &Fault) -> Result<(), AllocError>
         Fault::Tree(fault) => put_tree_values(out, fault)?,
         Fault::Log(fault) => put_log_values(out, fault)?,
         Fault::NotFolder(path) => put_path(out, path)?,
+        Fault::Pending(n) => put_number(out, u64::from(*n))?,
     }
     Ok(())
 }

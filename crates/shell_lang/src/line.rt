@@ -57,6 +57,8 @@ pub enum Line {
     Status,
     /// What is logged is to be sent to the server.
     Sync,
+    /// What the server has is to be the client's base, where nothing is pending.
+    Pull,
     /// The end of the session.
     Quit,
 }

@@ -17,6 +17,7 @@ fn lines_are_read(rt: HostRuntime) -> Result<(), Fail> {
     assert!(rt; matches!(read_line(alloc, b"ls")?, Line::List(None)));
     let list = read_line(alloc, b"ls d")?;
     assert!(rt; matches!(&list, Line::List(Some(path)) if path.bytes() == b"d".as_slice()));
+    assert!(rt; matches!(read_line(alloc, b"pull")?, Line::Pull));
     assert!(rt; matches!(read_line(alloc, b"quit")?, Line::Quit));
     Ok(())
 }
@@ -39,7 +40,7 @@ fn lines_are_refused(rt: HostRuntime) -> Result<(), Fail> {
         (b"copy a b", b"refused UnknownWord\n"),
         (b"'' a", b"refused UnknownWord\n"),
         (b"run x", b"refused UnknownWord\n"),
-        (b"pull", b"refused UnknownWord\n"),
+        (b"pull x", b"refused WrongCount 1\n"),
     ];
     for (line, text) in &rows {
         assert_eq!(rt; refusal_of(alloc, *line)?.as_slice(), *text);
@@ -73,7 +74,7 @@ fn answers_are_printed(rt: HostRuntime) -> Result<(), Fail> {
         bytes: 5,
     };
     let nested = LogError::Tree(3, TreeError::Missing(path.copy()?));
-    let rows: [(Answer, &[u8]); 17] = [
+    let rows: [(Answer, &[u8]); 22] = [
         (Answer::Logged { seq: 1 }, b"logged 1\n"),
         (Answer::Text(content), b"2\nhi"),
         (Answer::Listing(children), b"2\nd hi\nf hi\n"),
@@ -117,6 +118,17 @@ fn answers_are_printed(rt: HostRuntime) -> Result<(), Fail> {
         ),
         (Answer::Unanswered { seq: 6 }, b"unanswered 6\n"),
         (Answer::Behind { seq: 6, last: 3 }, b"behind 6 3\n"),
+        (Answer::Pulled(12), b"pulled 12\n"),
+        (Answer::OtherLast(8), b"other last 8\n"),
+        (
+            Answer::Older {
+                path: path.copy()?,
+                theirs: 1,
+                ours: 2,
+            },
+            b"older d/x 1 2\n",
+        ),
+        (Answer::PullUnanswered, b"unanswered\n"),
         (
             Answer::Refused(Fault::Path(PathError::TooDeep(33))),
             b"refused TooDeep 33\n",
@@ -133,6 +145,7 @@ fn answers_are_printed(rt: HostRuntime) -> Result<(), Fail> {
             Answer::Refused(Fault::Log(nested)),
             b"refused Missing d/x\n",
         ),
+        (Answer::Refused(Fault::Pending(3)), b"refused Pending 3\n"),
         (
             Answer::Refused(Fault::NotFolder(path)),
             b"refused NotFolder d/x\n",

@@ -40,8 +40,11 @@ fn answer_name(answer: &Answer) -> &'static [u8]
         Answer::Stale { .. } => b"stale",
         Answer::Unfit { .. } => b"unfit",
         Answer::Full { .. } => b"full",
-        Answer::Unanswered { .. } => b"unanswered",
+        Answer::Unanswered { .. } | Answer::PullUnanswered => b"unanswered",
         Answer::Behind { .. } => b"behind",
+        Answer::Pulled(_) => b"pulled",
+        Answer::OtherLast(_) => b"other last",
+        Answer::Older { .. } => b"older",
         Answer::Refused(_) => b"refused",
     }
 }
@@ -55,9 +58,12 @@ fn put_values(out: &mut Vec<u8>, answer: &Answer) -> Result<(), AllocError>
         Answer::Text(content) => put_decimal(out, content.bytes().len() as u64)?,
         Answer::Listing(children) => put_decimal(out, children.len() as u64)?,
         Answer::At(path) => out.extend_from_slice(path.text()?.bytes())?,
-        Answer::Logged { seq: n } | Answer::Unanswered { seq: n } | Answer::Synced(n) => {
-            put_number(out, *n)?
-        }
+        Answer::Logged { seq: n }
+        | Answer::Unanswered { seq: n }
+        | Answer::Synced(n)
+        | Answer::OtherLast(n) => put_number(out, *n)?,
+        Answer::Pulled(count) => put_number(out, u64::from(*count))?,
+        Answer::PullUnanswered => {}
         Answer::Status { acked, pending } => put_status(out, *acked, *pending)?,
         Answer::Behind { seq, last } => {
             put_number(out, *seq)?;
@@ -72,6 +78,7 @@ fn put_values(out: &mut Vec<u8>, answer: &Answer) -> Result<(), AllocError>
             put_number(out, *seq)?;
             put_versions(out, path, *theirs, *ours)?;
         }
+        Answer::Older { path, theirs, ours } => put_versions(out, path, *theirs, *ours)?,
         Answer::Unfit { seq, index, fault } | Answer::Full { seq, index, fault } => {
             put_refused_effect(out, *seq, *index, fault)?
         }
