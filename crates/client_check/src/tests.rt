@@ -328,7 +328,7 @@ fn the_log_takes_1024_entries(rt: HostRuntime) -> Result<(), Fail> {
 /// The line that puts a text of this many bytes.
 fn put_of(alloc: Global, count: usize) -> Result<Vec<u8>, AllocError> {
     let mut input = b"put a ".to_vec(alloc)?;
-    input.resize(count + 6, b'x')?;
+    input.extend_from_slice(&vec![in alloc; b'x'; count]?)?;
     input.push(b'\n')?;
     Ok(input)
 }
