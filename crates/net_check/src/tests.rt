@@ -132,6 +132,34 @@ fn five_of_1(alloc: Global) -> Result<Server, AllocError> {
     Ok(server)
 }
 
+/// The frame by which client 2 makes 4,096 folders as the entry of this number, named by the numbers from the first one on,
+/// which have five digits.
+fn many_folders(alloc: Global, number: u8, first: u32) -> Result<Vec<u8>, AllocError> {
+    let mut frame = Vec::new(alloc);
+    frame.extend_from_slice(&[0, 1, 0x70, 0x13, 1, 1, 2, 0, 0, 0, 0, 0, 0, 0, number])?;
+    frame.extend_from_slice(&[0, 0, 0x10, 0])?;
+    for name in first..first.saturating_add(4_096) {
+        frame.extend_from_slice(&[1, 0, 5])?;
+        frame.extend_from_slice(name.to_string(alloc)?.as_bytes())?;
+    }
+    frame.extend_from_slice(&[0, 0, 0x10, 0])?;
+    for name in first..first.saturating_add(4_096) {
+        frame.extend_from_slice(&[0, 5])?;
+        frame.extend_from_slice(name.to_string(alloc)?.as_bytes())?;
+        frame.extend_from_slice(&[0, 0, 0, 0, 0, 0, 0, 0])?;
+    }
+    Ok(frame)
+}
+
+/// A server with 16,384 rows, all of client 2.
+fn full_server(alloc: Global) -> Result<Server, AllocError> {
+    let mut server = Server::new(alloc);
+    for (number, first) in [(1, 10_000), (2, 14_096), (3, 18_192), (4, 22_288)] {
+        let _accepted = server.serve_frame(many_folders(alloc, number, first)?.as_slice())?;
+    }
+    Ok(server)
+}
+
 #[test]
 fn an_entry_on_what_another_client_changed_is_stale(rt: HostRuntime) -> Result<(), Fail> {
     let alloc = rt.alloc();
@@ -287,5 +315,17 @@ fn an_unanswered_entry_may_have_been_taken(rt: HostRuntime) -> Result<(), Fail> 
         b"logged 1\nunanswered 1\nacknowledged 0 pending 1\n".as_slice()
     );
     assert_eq!(rt; version_of(alloc, &ended.net, b"a")?, 1);
+    Ok(())
+}
+
+#[test]
+fn a_full_server_takes_no_new_path(rt: HostRuntime) -> Result<(), Fail> {
+    let alloc = rt.alloc();
+    let server = full_server(alloc)?;
+    let output = output_on(alloc, server, b"put new x\nsync\n")?;
+    assert_eq!(rt;
+        output.bytes(),
+        b"logged 1\nfull 1 0 RowsFull 16384\nacknowledged 0 pending 1\n".as_slice()
+    );
     Ok(())
 }
