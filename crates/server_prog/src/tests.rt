@@ -39,6 +39,11 @@ fn run(alloc: Global, texts: &[&str], port: &mut MemPort) -> Result<(u8, MemSink
     Ok((status, output))
 }
 
+/// Whether the answer of this number is that entry 1 of client 1 is accepted.
+fn accepts(port: &MemPort, number: u32) -> bool {
+    port.answered(number) == Some(ACCEPTED.as_slice())
+}
+
 #[test]
 fn a_repeated_store_is_answered_twice(rt: HostRuntime) -> Result<(), Fail> {
     let alloc = rt.alloc();
@@ -46,8 +51,8 @@ fn a_repeated_store_is_answered_twice(rt: HostRuntime) -> Result<(), Fail> {
     let (status, output) = run(alloc, &["run", "l", "img", "2"], &mut port)?;
     assert_eq!(rt; status, 0);
     assert_eq!(rt; output.bytes(), b"served 2 faults 0\n".as_slice());
-    assert_eq!(rt; port.answered(0), Some(ACCEPTED.as_slice()));
-    assert_eq!(rt; port.answered(1), Some(ACCEPTED.as_slice()));
+    assert!(rt; accepts(&port, 0));
+    assert!(rt; accepts(&port, 1));
     assert_eq!(rt; port.answered(2), None);
     Ok(())
 }
@@ -72,7 +77,7 @@ fn a_fault_ends_one_connection(rt: HostRuntime) -> Result<(), Fail> {
     let (status, output) = run(alloc, &["run", "l", "img", "65536"], &mut port)?;
     assert_eq!(rt; status, 0);
     assert_eq!(rt; output.bytes(), b"served 3 faults 2\n".as_slice());
-    assert_eq!(rt; port.answered(1), Some(ACCEPTED.as_slice()));
+    assert!(rt; accepts(&port, 1));
     assert_eq!(rt; port.answered(2), None);
     Ok(())
 }
@@ -96,7 +101,7 @@ fn a_failing_sink_is_told(rt: HostRuntime) -> Result<(), Fail> {
     let words = words(alloc, &["run", "l", "img", "1"])?;
     assert_eq!(rt; server_run(alloc, &words, &mut port, &mut output), 4);
     assert_eq!(rt; output.bytes(), b"".as_slice());
-    assert_eq!(rt; port.answered(0), Some(ACCEPTED.as_slice()));
+    assert!(rt; accepts(&port, 0));
     Ok(())
 }
 
