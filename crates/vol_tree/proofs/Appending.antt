@@ -148,3 +148,7 @@ next_is_tree rows k row within read tree own h = subst IsTree (sym (up_to rows k
 
 pub next_is_no_tree : (rows : List Row) (k : ℕ) (row : Row) → k < length rows → row ≡ get_or rows k row → may_follow (take k rows) row ≡ false → IsTree (take (k + 1) rows) → ⊥
 next_is_no_tree rows k row within read h whole = true≢false (sym (follows_in_tree (take k rows) row (subst IsTree (up_to rows k row within read) whole)) ∙ h)
+
+-- the bytes of the files of one row more
+pub size_of_next : (rows : List Row) (k : ℕ) (row : Row) → k < length rows → row ≡ get_or rows k row → total_size (take (k + 1) rows) ≡ total_size (take k rows) + node_size row.node
+size_of_next rows k row within read = omega (arith, ap total_size (up_to rows k row within read), size_append (take k rows) (row ∷ []))

@@ -1,29 +1,27 @@
 -- The laws of parts that break a rule.
-use Rattle.std.proofs.Common.{◌≡◌, ◌≢◌, ◌⊎◌, ℕ, ◌+◌, ◌-◌, ◌^◌, ◌<◌, ◌≤◌, min, Bool, true, false, ◌&&◌, not, leb, eqb, List, [], ◌∷◌, ◌++◌, length, map, Option, Some, None, Result, Ok, Err, inl, inr, refl, sym, ap, subst, ◌∙◌, arith, lit<, true≢false, append_assoc}
+use Rattle.std.proofs.Common.{◌≡◌, ◌≢◌, ◌⊎◌, ℕ, ◌+◌, ◌-◌, ◌^◌, ◌<◌, ◌≤◌, min, Bool, true, false, ◌&&◌, not, leb, eqb, List, [], ◌∷◌, ◌++◌, length, map, Some, inl, inr, refl, sym, subst, ◌∙◌, arith, lit<, true≢false, append_assoc}
 use Rattle.std.specs.Int.{w16, w32, w64}
-use Rattle.std.specs.List.{flat_map, sum_by, list_all, AllByRecursion}
+use Rattle.std.specs.List.{flat_map, list_all, AllByRecursion}
 use Rattle.std.specs.Ordering.{is_lt}
 use Rattle.std.specs.declared.cmp.Ordering.{Ordering}
 use Rattle.std.specs.declared.cmp.Ordering.TheVariants.{Less}
 use Rattle.std.proofs.lemmas.Bool.{le-leb, eq-eqb, ne_eqb}
 use Rattle.std.proofs.lemmas.List.{append-nil}
 use Rattle.std.proofs.lemmas.List.Sums.{sum_by-cons}
-use Rattle.byte_fields.specs.Field.{Reader, ◌>>=◌, digits, ruled, mapped, none, one, two, number_at, span_at, each_at}
-use Rattle.byte_fields.specs.Broken.{IsRead, IsRefused, passed, EachIsRead}
-use Rattle.byte_fields.proofs.Codec.{u16_codec, u32_codec, u64_codec, span_codec, ruled_codec}
+use Rattle.byte_fields.specs.Field.{digits, ruled, mapped, none, one, two, number_at, span_at, each_at}
+use Rattle.byte_fields.specs.Broken.{IsRefused, passed, EachIsRead}
+use Rattle.byte_fields.proofs.Codec.{u16_codec, u32_codec, u64_codec, span_codec}
 use Rattle.byte_fields.proofs.Breaking.{read_again, refused_there, rule_refused, meaning_refused, ruled_refused, first_refused, later_refused, tagged_refused, kind_refused, above, second_fails, count_refused, counted_refused, items_refused, each_read}
-use Rattle.vol_tree.specs.declared.path.PathError.{PathError}
 use Rattle.vol_tree.specs.declared.tree.Effect.{Effect}
 use Rattle.vol_tree.specs.declared.tree.Effect.TheVariants.{Make, Put, Remove, Move}
 use Rattle.vol_tree.specs.declared.tree.Base.{Base}
 use Rattle.vol_tree.specs.declared.tree.Row.{Row}
-use Rattle.vol_tree.specs.declared.tree.Node.{Node}
-use Rattle.vol_tree.specs.declared.tree.Node.TheVariants.{Folder, File}
+use Rattle.vol_tree.specs.declared.tree.Node.TheVariants.{File}
 use Rattle.vol_tree.specs.Path.{FilePath, IsPath, path_of, path_cmp, is_same_path, folder_of}
 use Rattle.vol_tree.specs.Tree.{Volume, IsTree, is_root, is_folder, total_size}
 use Rattle.vol_tree.specs.Effects.{content_size, contents_size}
 use Rattle.vol_tree.specs.Behind.{IsIn}
-use Rattle.vol_tree.specs.Spelling.{path, content, effect, base, row, EffectFits, EffectFitsIn, AreBasesOf}
+use Rattle.vol_tree.specs.Spelling.{path, effect, base, row, EffectFits, EffectFitsIn, AreBasesOf}
 use Rattle.vol_tree.specs.Reading.{path_at, content_at, make_at, put_at, remove_at, move_at, effect_kinds, effect_at, room_after, effects_within, base_at, first_base_at, others_after, bases_at, may_stand, file_at, node_kinds, standing_at, room_beside, next_row_at, with_next, rows_at}
 use Rattle.vol_tree.specs.Broken.{BrokenTexts, BrokenLengths, BrokenEffects, BrokenEffectLists, BrokenBases, IsNext, BrokenRows, BrokenRowLists}
 use Rattle.vol_tree.proofs.Parts.{path_codec, effect_codec, rooms_again, first_base_fits, first_base_codec, path_part, version_part, tied_path, NextFits, next_row_codec, rows_again}

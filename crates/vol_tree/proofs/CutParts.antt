@@ -1,26 +1,25 @@
 -- Bytes that end inside a part: the field in which they end is the faulty one.
-use Rattle.std.proofs.Common.{◌≡◌, ℕ, ◌+◌, ◌-◌, ◌^◌, ◌<◌, ◌≤◌, min, Bool, true, false, ◌&&◌, leb, eqb, List, [], ◌∷◌, ◌++◌, length, map, take, Option, Some, None, Ok, Err, refl, sym, ap, subst, ◌∙◌, arith, lit<, length-append}
+use Rattle.std.proofs.Common.{◌≡◌, ℕ, ◌+◌, ◌-◌, ◌^◌, ◌<◌, ◌≤◌, min, Bool, true, false, ◌&&◌, leb, eqb, List, [], ◌∷◌, ◌++◌, length, take, Option, Some, None, Err, refl, sym, ap, ◌∙◌, arith, lit<, length-append}
 use Rattle.std.specs.Prelude.{sum}
-use Rattle.std.specs.Int.{w32, w64}
+use Rattle.std.specs.Int.{w64}
 use Rattle.std.proofs.lemmas.Bool.{le-leb, eq-eqb}
 use Rattle.std.proofs.lemmas.List.{length-map}
-use Rattle.byte_fields.specs.Field.{Reader, ruled, number_at, span_at, mapped, digits}
-use Rattle.byte_fields.specs.Codec.{Stands, IsCodec}
+use Rattle.byte_fields.specs.Field.{ruled, number_at, digits}
+use Rattle.byte_fields.specs.Codec.{Stands}
 use Rattle.byte_fields.specs.Cuts.{start_of, IsCut}
-use Rattle.byte_fields.proofs.Codec.{u16_codec, u32_codec, u64_codec, ruled_codec, stands_second}
+use Rattle.byte_fields.proofs.Codec.{u16_codec, u32_codec, ruled_codec, stands_second}
 use Rattle.byte_fields.proofs.Cutting.{sum_more, sum_both, span_cut, u16_cut, u32_cut, u64_cut, ruled_cut, mapped_cut, cut_for, one_cut, two_cut, three_cut, tagged_cut, each_cut, counted_cut}
 use Rattle.vol_tree.specs.declared.tree.Effect.{Effect}
 use Rattle.vol_tree.specs.declared.tree.Effect.TheVariants.{Make, Put, Remove, Move}
 use Rattle.vol_tree.specs.declared.tree.Base.{Base}
-use Rattle.vol_tree.specs.declared.tree.Row.{Row}
 use Rattle.vol_tree.specs.declared.tree.Node.{Node}
 use Rattle.vol_tree.specs.declared.tree.Node.TheVariants.{Folder, File}
 use Rattle.vol_tree.specs.Path.{FilePath, IsPath, path_text, path_of, is_same_path, folder_of}
 use Rattle.vol_tree.specs.Tree.{Volume, IsTree, is_folder}
-use Rattle.vol_tree.specs.Spelling.{path, content, effect, effects, base, bases, node, row, rows, EffectFits, EffectFitsIn, EffectsFitWithin, EffectsFit, BaseFits, AreBasesOf}
+use Rattle.vol_tree.specs.Spelling.{path, content, effect, effects, base, bases, node, row, rows, EffectFitsIn, EffectsFitWithin, EffectsFit, BaseFits, AreBasesOf}
 use Rattle.vol_tree.specs.Fields.{path_fields, content_fields, effect_fields, effects_fields, base_fields, bases_fields, node_fields, row_fields, rows_fields}
 use Rattle.vol_tree.specs.Reading.{path_at, content_at, make_at, put_at, remove_at, move_at, effect_kinds, effect_at, room_after, effects_within, effects_at, base_at, first_base_at, others_after, bases_at, may_stand, file_at, node_kinds, standing_at, room_beside, next_row_at, with_next, rows_at}
-use Rattle.vol_tree.proofs.Parts.{path_codec, content_codec, put_content, effect_codec, rooms_again, base_codec, first_base_fits, first_base_codec, bases_again, path_tied, NodeFits, node_codec, NextFits, path_part, version_part, next_row_codec, rows_again}
+use Rattle.vol_tree.proofs.Parts.{path_codec, effect_codec, rooms_again, first_base_fits, first_base_codec, bases_again, path_tied, NodeFits, NextFits, path_part, version_part, next_row_codec, rows_again}
 
 pub path_cut : IsCut path_at path path_fields IsPath
 unfolding path_at

@@ -17,13 +17,6 @@ use Rattle.vol_tree.proofs.Behind.{is_same_path-eq, same_names}
 pub is_same_path-refl : (p : FilePath) → is_same_path p p ≡ true
 is_same_path-refl p = ap is_eq (same_place p)
 
-apart_is_false : (p q : FilePath) → (p ≡ q → ⊥) → is_same_path p q ≡ false
-apart_is_false p q apart = by (is_same_path p q) refl
-  where
-    by : (b : Bool) → is_same_path p q ≡ b → b ≡ false
-    by true e = absurd (apart (is_same_path-eq p q e))
-    by false e = refl
-
 false_is_apart : (p q : FilePath) → is_same_path p q ≡ false → p ≡ q → ⊥
 false_is_apart p q differ same = true≢false (sym (is_same_path-refl p) ∙ ap (is_same_path p) same ∙ differ)
 

@@ -1,16 +1,15 @@
 -- The rows at the front of a tree are a tree.
-use Rattle.std.proofs.Common.{◌≡◌, ℕ, ◌+◌, ◌-◌, ◌<◌, ◌≤◌, Bool, true, false, ◌||◌, List, [], ◌∷◌, ◌++◌, length, take, find, Option, Some, None, IsTrue, is_some, arith, refl, sym, ap, ◌∙◌, subst, true≢false, length-append, suc, zero}
+use Rattle.std.proofs.Common.{◌≡◌, ℕ, ◌-◌, Bool, true, false, ◌||◌, List, [], ◌∷◌, ◌++◌, length, Option, Some, None, IsTrue, is_some, arith, refl, sym, ap, ◌∙◌, subst, true≢false, length-append, suc}
 use Rattle.std.specs.List.{AllByRecursion}
 use Rattle.std.specs.Option.{option_or, option_and_then}
 use Rattle.std.proofs.lemmas.List.Folds.{find-append}
 use Rattle.std.proofs.lemmas.Cmp.{tied_itself}
-use Rattle.std.specs.declared.cmp.Ordering.{Ordering}
 use Rattle.std.specs.declared.cmp.Ordering.TheVariants.{Less, Equal, Greater}
-use Rattle.std.specs.Ordering.{is_lt, is_eq, ordering_reverse, nat_cmp}
+use Rattle.std.specs.Ordering.{ordering_reverse, nat_cmp}
 use Rattle.std.specs.Cmp.Lexicographic.{slice_cmp, nat_list_cmp_total}
 use Rattle.vol_tree.specs.Path.{FilePath, path_cmp, folder_of}
 use Rattle.vol_tree.specs.declared.tree.Row.{Row}
-use Rattle.vol_tree.specs.Tree.{Volume, AreInOrder, IsRow, IsTree, row_at, node_at, is_root, is_folder, is_folder_node, node_size, total_size}
+use Rattle.vol_tree.specs.Tree.{Volume, AreInOrder, IsRow, IsTree, row_at, node_at, is_root, is_folder, is_folder_node}
 use Rattle.vol_tree.specs.Inside.{is_at}
 use Rattle.vol_tree.proofs.Places.{paths_total}
 use Rattle.vol_tree.proofs.Rows.{all_map, find_none, is_at_equal, size_append}

@@ -20,7 +20,6 @@ use Rattle.vol_tree.specs.declared.tree.Node.TheVariants.{Folder, File}
 use Rattle.vol_tree.specs.Path.{FilePath, IsPath, path_text, path_cmp, is_same_path, folder_of}
 use Rattle.vol_tree.specs.Tree.{Volume, IsRow, IsTree, is_root, is_folder, node_size, total_size}
 use Rattle.vol_tree.specs.Effects.{content_size}
-use Rattle.vol_tree.specs.Inside.{may_follow}
 use Rattle.byte_fields.specs.Field.{Reader, EachFits, ruled, number_at, digits}
 use Rattle.std.specs.Int.{w64}
 use Rattle.byte_fields.specs.Codec.{Stands, IsCodec}
@@ -30,7 +29,7 @@ use Rattle.byte_fields.proofs.Codec.{IsBranch, span_codec, u16_codec, u32_codec,
 use Rattle.vol_tree.proofs.Places.{same_path}
 use Rattle.vol_tree.proofs.Rows.{same_place}
 use Rattle.vol_tree.proofs.PathTexts.{path_of_text, text_of_path_read}
-use Rattle.vol_tree.proofs.Appending.{tree_with_row, follows_in_tree, IsOwnRow}
+use Rattle.vol_tree.proofs.Appending.{tree_with_row, follows_in_tree}
 use Rattle.vol_tree.proofs.Fronts.{back_all, front_is_tree}
 
 -- ---- paths and contents

@@ -1,12 +1,12 @@
 -- A path has one text, and a text at most one path.
-use Rattle.std.proofs.Common.{◌≡◌, ℕ, ◌+◌, ◌<◌, ◌≤◌, Bool, true, false, not, ◌&&◌, List, [], ◌∷◌, ◌++◌, length, get_or, Option, Some, None, Result, Ok, Err, arith, refl, sym, ap, ◌∙◌, subst, true≢false, cond}
+use Rattle.std.proofs.Common.{◌≡◌, ℕ, ◌<◌, ◌≤◌, Bool, true, false, not, ◌&&◌, List, [], ◌∷◌, length, get_or, Option, Some, None, Ok, arith, refl, sym, ap, ◌∙◌, subst, true≢false}
 use Rattle.std.specs.Prelude.{nat_lt, nat_le, ◌==◌, option_map}
 use Rattle.std.specs.List.{list_all, slice_split, position, prefix_len}
 use Rattle.std.specs.Cmp.{first_so, second_so}
 use Rattle.std.proofs.lemmas.Bool.Decides.{nat_tests}
 use Rattle.std.proofs.lemmas.List.Sums.{AllPass-from_list_all}
 use Rattle.std.proofs.lemmas.List.Splits.{slice_split_at, slice_split_none, join_with_byte-slice_split}
-use Rattle.vol_tree.specs.Path.{FilePath, IsPath, is_name, is_name_byte, path_text, pieces, path_of, as_u32}
+use Rattle.vol_tree.specs.Path.{FilePath, IsPath, is_name, is_name_byte, path_text, pieces, path_of}
 use Rattle.vol_tree.specs.Refusals.{when, unless_refused}
 use Rattle.vol_tree.specs.declared.path.PathError.{PathError}
 use Rattle.vol_tree.proofs.PathLemmas.{pieces_are_path}

@@ -159,9 +159,6 @@ is_at_equal row p h = same_path row.path p (is_equal (path_cmp row.path p) h)
 not_at_below : (rows : List Row) (p : List (List ℕ)) → AllByRecursion (λ row. is_at p row ≡ false) (rows_below rows p)
 not_at_below rows p = all_map (λ row e. ap is_eq e) (rows_below rows p) (all_below rows p)
 
-not_at_above : (rows : List Row) (p : List (List ℕ)) → AllByRecursion (λ row. is_at p row ≡ false) (rows_above rows p)
-not_at_above rows p = all_map (λ row e. ap is_eq e) (rows_above rows p) (all_above rows p)
-
 pub row_at-with_row : (rows : List Row) (new : Row) → row_at (with_row rows new) new.path ≡ Some new
 row_at-with_row rows new =
     find-append (is_at new.path) (rows_below rows new.path) (new ∷ rows_above rows new.path)

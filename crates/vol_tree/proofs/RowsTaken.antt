@@ -1,21 +1,18 @@
 -- The rows that were read are in order, and what room they leave.
-use Rattle.std.proofs.Common.{◌≡◌, ℕ, ◌+◌, ◌-◌, ◌<◌, ◌≤◌, Bool, true, false, ◌&&◌, not, leb, List, [], ◌∷◌, ◌++◌, length, Option, Some, None, Ok, Err, refl, sym, ap, subst, ◌∙◌, arith, true≢false, cond, length-append, take, get_or}
+use Rattle.std.proofs.Common.{◌≡◌, ℕ, ◌+◌, ◌-◌, ◌<◌, Bool, true, false, ◌&&◌, not, leb, List, [], ◌∷◌, ◌++◌, length, Ok, refl, sym, ap, subst, ◌∙◌, arith, take, get_or}
 use Rattle.std.specs.Int.{w64}
 use Rattle.std.specs.List.{AllByRecursion, list_all}
-use Rattle.std.specs.Prelude.{◌==◌}
 use Rattle.std.proofs.lemmas.List.{take_more, take_all}
-use Rattle.std.proofs.lemmas.Bool.Decides.{nat_tests}
 use Rattle.std.specs.Cmp.{first_so, second_so}
 use Rattle.std.specs.Ordering.{is_lt}
 use Rattle.std.specs.declared.cmp.Ordering.{Ordering}
-use Rattle.std.specs.declared.cmp.Ordering.TheVariants.{Less, Equal, Greater}
-use Rattle.byte_fields.specs.Field.{ruled, number_at, ◌>>=◌}
+use Rattle.std.specs.declared.cmp.Ordering.TheVariants.{Less}
+use Rattle.byte_fields.specs.Field.{ruled, number_at}
 use Rattle.byte_fields.proofs.Codec.{bind_ok, kept_ok, ok_is}
 use Rattle.vol_tree.specs.Path.{FilePath, path_cmp, folder_of}
 use Rattle.vol_tree.specs.declared.tree.Row.{Row}
-use Rattle.vol_tree.specs.declared.tree.Node.{Node}
-use Rattle.vol_tree.specs.Tree.{Volume, AreInOrder, is_root, is_folder, node_size, total_size}
-use Rattle.vol_tree.specs.Reading.{path_at, may_stand, standing_at, room_beside, next_row_at, with_next}
+use Rattle.vol_tree.specs.Tree.{Volume, AreInOrder, is_root, is_folder, node_size}
+use Rattle.vol_tree.specs.Reading.{path_at, may_stand, standing_at, room_beside, next_row_at}
 use Rattle.vol_tree.proofs.Places.{paths_total}
 use Rattle.vol_tree.proofs.Rows.{order_join, same_place, is_less, size_append}
 
@@ -70,14 +67,13 @@ is_last (x ∷ front) last p order =
     below [] all = all.0
     below (y ∷ rows) all = below rows all.1
 
--- the last row tells whether a path that is not the root may stand behind them all
-pub last_tells : (rows : Volume) (last : Row) (p : FilePath) → AreInOrder rows → 0 < length rows → last ≡ get_or rows (length rows - 1) last → (length p == 0) ≡ false → is_lt (path_cmp last.path p) ≡ may_stand rows p
-last_tells rows last [] order some is root = absurd (true≢false root)
-last_tells rows last (name ∷ names) order some is root =
+-- the last row tells whether a path is above those of all rows
+pub last_tells : (rows : Volume) (last : Row) (p : FilePath) → AreInOrder rows → 0 < length rows → last ≡ get_or rows (length rows - 1) last → is_lt (path_cmp last.path p) ≡ list_all (λ other. is_lt (path_cmp other.path p)) rows
+last_tells rows last p order some is =
     let k : length rows - 1 < length rows = omega (arith, some) in
     let all : length rows - 1 + 1 ≡ length rows = omega (arith, some) in
     let whole : rows ≡ take (length rows - 1) rows ++ last ∷ [] =
     sym (take_all (length rows) rows (omega arith)) ∙ ap (λ (n : ℕ). take n rows) (sym all) ∙ take_more rows (length rows - 1) last k
     ∙ ap (λ (r : Row). take (length rows - 1) rows ++ r ∷ []) (sym is) in
     let order' : AreInOrder (take (length rows - 1) rows ++ last ∷ []) = subst AreInOrder whole order in
-    sym (ap (list_all (λ other. is_lt (path_cmp other.path (name ∷ names)))) whole ∙ is_last (take (length rows - 1) rows) last (name ∷ names) order')
+    sym (ap (list_all (λ other. is_lt (path_cmp other.path p))) whole ∙ is_last (take (length rows - 1) rows) last p order')

@@ -9,7 +9,7 @@ use crate::Rows;
 use crate::content::Content;
 use crate::list::List;
 use crate::path::Path;
-use crate::tree::{Node, Row, is_folder_at, size_of};
+use crate::tree::{Node, Row, is_behind, is_folder_at, size_of};
 use byte_fields::{TakeError, u8_at, u32_at, u64_at};
 use std::alloc::Global;
 
@@ -85,18 +85,12 @@ fn next_row_at(
     ))
 }
 
-/// Whether a row of this path may stand behind these rows; the last of them is above the others.
+/// Whether a row of this path may stand behind these rows.
 fn may_stand(rows: &[Row], path: &Path) -> bool
     requires { AreInOrder rows.now }
     ensures { result ≡ may_stand rows.now path.now }
 {
-    if path.names().is_empty() {
-        return false;
-    }
-    match rows.last() {
-        Some(last) => last.path.cmp(path).is_lt(),
-        None => true,
-    }
+    !path.names().is_empty() && is_behind(rows, path)
 }
 
 /// What stands at a path whose parent is a folder, or is none.

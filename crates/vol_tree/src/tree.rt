@@ -345,24 +345,28 @@ fn first_bad(rows: &[Row], count: usize) -> Option<u32>
     ensures none { IfNone result (IsTree rows.now) }
     ensures some { IfSome result (λ i. IsRowsRefusal rows.now (RowsError.BadRow i)) }
 {
+    let mut size = 0;
     for i in 0..count {
-        if !follows(rows.split_at(i).0, &rows[i]) {
+        let row = &rows[i];
+        if !follows(rows.split_at(i).0, size, row) {
             return Some(i as u32);
         }
+        size += size_of(&row.node);
     }
     None
 }
 
-/// Whether a tree's rows are a tree with this row behind them.
-fn follows(rows: &[Row], row: &Row) -> bool
-    requires { IsTree rows.now }
+/// Whether a tree's rows, whose files have so many bytes, are a tree with this row behind them.
+fn follows(rows: &[Row], size: u64, row: &Row) -> bool
+    requires tree { IsTree rows.now }
+    requires size { size ≡ total_size rows.now }
     ensures follows { result ≡ may_follow rows.now row.now }
     ensures path { IsPath row.now.path }
     ensures version { row.now.version < 2 ^ 64 }
 {
     let _version = row.version;
     let names = row.path.names();
-    if !is_behind_all(rows, &row.path) {
+    if !is_behind(rows, &row.path) {
         return false;
     }
     if names.is_empty() || row.version < 1 || size_of(&row.node) > 8_388_608 {
@@ -371,13 +375,18 @@ fn follows(rows: &[Row], row: &Row) -> bool
     if row.node.is_some() && !is_folder_at(rows, row.path.folder_names()) {
         return false;
     }
-    rows.len() < 16384 && size_of_all(rows) + size_of(&row.node) <= 33_554_432
+    rows.len() < 16384 && size + size_of(&row.node) <= 33_554_432
 }
 
-fn is_behind_all(rows: &[Row], path: &Path) -> bool
+/// Whether the path is above those of all rows, the last of which is above the others.
+pub(crate) fn is_behind(rows: &[Row], path: &Path) -> bool
+    requires { AreInOrder rows.now }
     ensures { result ≡ list_all (λ row. is_lt (path_cmp row.path path.now)) rows.now }
 {
-    rows.iter().all(|row| row.path.cmp(path).is_lt())
+    match rows.last() {
+        Some(last) => last.path.cmp(path).is_lt(),
+        None => true,
+    }
 }
 
 /// Whether the effect may be applied, and else why not.
@@ -722,12 +731,12 @@ fn locate(rows: &[Row], path: &[Content]) -> Result<usize, usize>
     ensures ok { IfOk result (StandsAt rows.now path.now) }
     ensures err { IfErr result (BelongsAt rows.now path.now) }
 {
-    for (i, row) in rows.iter().enumerate() {
-        match row.path.names().cmp(&path) {
-            Ordering::Less => {}
-            Ordering::Equal => return Ok(i),
-            Ordering::Greater => return Err(i),
-        }
-    }
-    Err(rows.len())
+    rows.binary_search_by(|row| order_of(row, path))
+}
+
+/// How the path of a row compares with another.
+fn order_of(row: &Row, path: &[Content]) -> Ordering
+    ensures { result ≡ path_cmp row.now.path path.now }
+{
+    row.path.names().cmp(&path)
 }

@@ -1,8 +1,7 @@
-use Rattle.std.proofs.Common.{◌≡◌, ◌-◌, Ok, ap, sym, ◌∙◌, arith}
+use Rattle.std.proofs.Common.{◌≡◌, Ok, arith}
 use Rattle.std.proofs.lemmas.Result.{err_from_is_err_and}
 use Rattle.byte_fields.proofs.Loop.{goes_on, breaks_off, is_done}
-use Rattle.vol_tree.specs.Reading.{next_row_at, with_next, room_beside}
-use Rattle.vol_tree.specs.Tree.{AreInOrder, node_size}
+use Rattle.vol_tree.specs.Reading.{next_row_at, with_next}
 use Rattle.vol_tree.proofs.RowsTaken.{order_with_next, room_with_next}
 use Rattle.vol_tree.proofs.taking_rows.rows_from.Goals as goal
 

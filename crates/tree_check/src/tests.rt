@@ -1,0 +1,262 @@
+use std::alloc::Global;
+use std::rt::HostRuntime;
+use std::test::Fail;
+use vol_tree::{
+    Content, Effect, Node, Path, Row, Rows, RowsError, TakeError, Tree, TreeError, TryCopy,
+};
+
+/// The most bytes of a file. Four such files are the most bytes of all files.
+const FILE: usize = 8_388_608;
+
+/// Four letters, which stand for the digits of the number in base 16: the names rise with the numbers.
+fn name_of(number: u16) -> [u8; 4] {
+    let mut name = [b'a'; 4];
+    name[0] += (number / 4096) as u8;
+    name[1] += (number / 256 % 16) as u8;
+    name[2] += (number / 16 % 16) as u8;
+    name[3] += (number % 16) as u8;
+    name
+}
+
+fn path(alloc: Global, text: &[u8]) -> Result<Path, Fail> {
+    Ok(Path::read(alloc, text)?)
+}
+
+/// A content of so many bytes.
+fn content(alloc: Global, size: usize) -> Result<Content, Fail> {
+    let bytes = vec![in alloc; b'x'; size]?;
+    Ok(Content::of(alloc, &bytes)?)
+}
+
+/// What an effect comes to: the name of its refusal, and the refusal's number where it has one.
+fn apply(tree: &mut Tree, effect: &Effect) -> (&'static str, u64) {
+    match tree.apply(effect) {
+        Ok(_) => ("applied", 0),
+        Err(TreeError::NotEmpty(_, _)) => ("NotEmpty", 0),
+        Err(TreeError::RowsFull(rows)) => ("RowsFull", u64::from(rows)),
+        Err(TreeError::FileTooLarge(bytes)) => ("FileTooLarge", bytes),
+        Err(TreeError::TreeFull(bytes)) => ("TreeFull", bytes),
+        Err(TreeError::VersionTop(_)) => ("VersionTop", 0),
+        Err(_) => ("another", 0),
+    }
+}
+
+fn put(
+    tree: &mut Tree,
+    alloc: Global,
+    text: &[u8],
+    size: usize,
+) -> Result<(&'static str, u64), Fail> {
+    Ok(apply(
+        tree,
+        &Effect::Put(path(alloc, text)?, content(alloc, size)?),
+    ))
+}
+
+fn make(tree: &mut Tree, alloc: Global, text: &[u8]) -> Result<(&'static str, u64), Fail> {
+    Ok(apply(tree, &Effect::Make(path(alloc, text)?)))
+}
+
+fn remove(tree: &mut Tree, alloc: Global, text: &[u8]) -> Result<(&'static str, u64), Fail> {
+    Ok(apply(tree, &Effect::Remove(path(alloc, text)?)))
+}
+
+fn version(tree: &Tree, alloc: Global, text: &[u8]) -> Result<u64, Fail> {
+    Ok(tree.version(&path(alloc, text)?))
+}
+
+fn folder(alloc: Global, text: &[u8], version: u64) -> Result<Row, Fail> {
+    let path = path(alloc, text)?;
+    Ok(Row {
+        path,
+        version,
+        node: Some(Node::Folder),
+    })
+}
+
+fn file(alloc: Global, text: &[u8], size: usize) -> Result<Row, Fail> {
+    let node = Some(Node::File(content(alloc, size)?));
+    let path = path(alloc, text)?;
+    Ok(Row {
+        path,
+        version: 1,
+        node,
+    })
+}
+
+/// The rows of so many folders in the root.
+fn folders(alloc: Global, count: u16) -> Result<Rows, Fail> {
+    let mut rows = Rows::new(alloc);
+    for number in 0..count {
+        rows.push(folder(alloc, &name_of(number), 1)?)?;
+    }
+    Ok(rows)
+}
+
+/// The rows of so many files of the most bytes, and behind them that of one of so many bytes.
+fn files(alloc: Global, count: u16, last: usize) -> Result<Rows, Fail> {
+    let mut rows = Rows::new(alloc);
+    for number in 0..count {
+        rows.push(file(alloc, &name_of(number), FILE)?)?;
+    }
+    rows.push(file(alloc, b"z", last)?)?;
+    Ok(rows)
+}
+
+/// The row with which rows are no tree; none where they are one.
+fn bad_row(alloc: Global, rows: Rows) -> Option<u32> {
+    match Tree::from_rows(alloc, rows) {
+        Err(RowsError::BadRow(row)) => Some(row),
+        _ => None,
+    }
+}
+
+/// The tree of the folder `d` with the files `x` and `y` of one byte.
+fn small(alloc: Global) -> Result<Tree, Fail> {
+    let mut rows = Rows::new(alloc);
+    rows.push(folder(alloc, b"d", 1)?)?;
+    rows.push(file(alloc, b"d/x", 1)?)?;
+    rows.push(file(alloc, b"d/y", 1)?)?;
+    Ok(Tree::from_rows(alloc, rows)?)
+}
+
+/// Whether a file of one byte stands at the path.
+fn has_file(tree: &Tree, path: &Path) -> bool {
+    matches!(tree.get(path), Some(Node::File(content)) if content.bytes() == b"x".as_slice())
+}
+
+/// How many bytes the rows' spelling has, where it is taken again whole, with as many rows.
+fn spelled_and_taken(alloc: Global, tree: &Tree) -> Result<usize, Fail> {
+    let mut out = Vec::new(alloc);
+    Rows::spell(&tree.rows()?, &mut out)?;
+    let (rows, next) = Rows::take(alloc, &out, 0).ok().ok_or("refused")?;
+    let is_whole = next == out.len() && rows.len() == tree.count() as usize;
+    Ok(if is_whole { next } else { 0 })
+}
+
+#[test]
+fn a_put_is_undone(rt: HostRuntime) -> Result<(), Fail> {
+    let alloc = rt.alloc();
+    let mut tree = small(alloc)?;
+    let undo = tree.apply(&Effect::Put(path(alloc, b"d/x")?, content(alloc, 2)?))?;
+    assert_eq!(rt; version(&tree, alloc, b"d/x")?, 2);
+    tree.undo(undo);
+    assert_eq!(rt; version(&tree, alloc, b"d/x")?, 1);
+    Ok(())
+}
+
+#[test]
+fn a_folder_is_removed_behind_what_it_holds(rt: HostRuntime) -> Result<(), Fail> {
+    let alloc = rt.alloc();
+    let mut tree = small(alloc)?;
+    assert_eq!(rt; remove(&mut tree, alloc, b"d")?, ("NotEmpty", 0));
+    assert_eq!(rt; remove(&mut tree, alloc, b"d/x")?, ("applied", 0));
+    assert_eq!(rt; remove(&mut tree, alloc, b"d/y")?, ("applied", 0));
+    assert_eq!(rt; remove(&mut tree, alloc, b"d")?, ("applied", 0));
+    assert_eq!(rt; tree.count(), 3);
+    Ok(())
+}
+
+#[test]
+fn removed_names_are_not_listed(rt: HostRuntime) -> Result<(), Fail> {
+    let alloc = rt.alloc();
+    let mut tree = small(alloc)?;
+    assert_eq!(rt; remove(&mut tree, alloc, b"d/x")?, ("applied", 0));
+    let d = path(alloc, b"d")?;
+    assert_eq!(rt; tree.children(&d)?.len(), 1);
+    assert!(rt; matches!(tree.child(&d, 0), Some(name) if name.bytes() == b"y".as_slice()));
+    assert!(rt; tree.child(&d, 1).is_none());
+    Ok(())
+}
+
+#[test]
+fn a_move_carries_the_file(rt: HostRuntime) -> Result<(), Fail> {
+    let alloc = rt.alloc();
+    let mut tree = small(alloc)?;
+    let (x, z) = (path(alloc, b"d/x")?, path(alloc, b"z")?);
+    assert_eq!(rt;
+        apply(&mut tree, &Effect::Move(x.copy()?, z.copy()?)),
+        ("applied", 0)
+    );
+    assert!(rt; has_file(&tree, &z) && tree.get(&x).is_none());
+    assert!(rt; tree.version(&x) == 2 && tree.version(&z) == 1);
+    Ok(())
+}
+
+#[test]
+fn the_last_version_is_not_passed(rt: HostRuntime) -> Result<(), Fail> {
+    let alloc = rt.alloc();
+    let mut rows = Rows::new(alloc);
+    rows.push(folder(alloc, b"d", u64::MAX)?)?;
+    let mut tree = Tree::from_rows(alloc, rows)?;
+    assert_eq!(rt; remove(&mut tree, alloc, b"d")?, ("VersionTop", 0));
+    Ok(())
+}
+
+#[test]
+fn holds_16384_rows(rt: HostRuntime) -> Result<(), Fail> {
+    let alloc = rt.alloc();
+    let mut tree = Tree::from_rows(alloc, folders(alloc, 16_384)?)?;
+    assert_eq!(rt; make(&mut tree, alloc, b"z")?, ("RowsFull", 16_384));
+    assert_eq!(rt; remove(&mut tree, alloc, b"aaaa")?, ("applied", 0));
+    assert_eq!(rt; put(&mut tree, alloc, b"aaaa", 1)?, ("applied", 0));
+    assert_eq!(rt; tree.count(), 16_384);
+    Ok(())
+}
+
+#[test]
+fn refuses_the_row_past_16384(rt: HostRuntime) -> Result<(), Fail> {
+    let alloc = rt.alloc();
+    assert_eq!(rt; bad_row(alloc, folders(alloc, 16_385)?), Some(16_384));
+    assert!(rt;
+        matches!(
+            Rows::take(alloc, &[0, 0, 0x40, 1], 0),
+            Err(TakeError::At(0))
+        )
+    );
+    Ok(())
+}
+
+#[test]
+fn spells_and_takes_16384_rows(rt: HostRuntime) -> Result<(), Fail> {
+    let alloc = rt.alloc();
+    let tree = Tree::from_rows(alloc, folders(alloc, 16_384)?)?;
+    assert_eq!(rt; spelled_and_taken(alloc, &tree)?, 4 + 16_384 * 15);
+    Ok(())
+}
+
+#[test]
+fn holds_a_file_of_8388608_bytes(rt: HostRuntime) -> Result<(), Fail> {
+    let alloc = rt.alloc();
+    let mut tree = Tree::new(alloc);
+    assert_eq!(rt;
+        put(&mut tree, alloc, b"a", FILE + 1)?,
+        ("FileTooLarge", 8_388_609)
+    );
+    assert_eq!(rt; put(&mut tree, alloc, b"a", FILE)?, ("applied", 0));
+    Ok(())
+}
+
+#[test]
+fn refuses_the_row_of_a_larger_file(rt: HostRuntime) -> Result<(), Fail> {
+    let alloc = rt.alloc();
+    assert_eq!(rt; bad_row(alloc, files(alloc, 0, FILE + 1)?), Some(0));
+    Ok(())
+}
+
+#[test]
+fn holds_files_of_33554432_bytes(rt: HostRuntime) -> Result<(), Fail> {
+    let alloc = rt.alloc();
+    let mut tree = Tree::from_rows(alloc, files(alloc, 3, FILE)?)?;
+    assert_eq!(rt; put(&mut tree, alloc, b"y", 1)?, ("TreeFull", 33_554_433));
+    assert_eq!(rt; put(&mut tree, alloc, b"z", FILE - 1)?, ("applied", 0));
+    assert_eq!(rt; put(&mut tree, alloc, b"y", 1)?, ("applied", 0));
+    Ok(())
+}
+
+#[test]
+fn refuses_the_row_past_33554432_bytes(rt: HostRuntime) -> Result<(), Fail> {
+    let alloc = rt.alloc();
+    assert_eq!(rt; bad_row(alloc, files(alloc, 4, 1)?), Some(4));
+    Ok(())
+}
