@@ -6,7 +6,7 @@ use Rattle.vol_tree.specs.Tree.{Volume, version_at, IsTree, AreInOrder}
 use Rattle.vol_tree.specs.Behind.{IsIn}
 use Rattle.vol_tree.specs.declared.tree.Row.{Row}
 use Rattle.mod_log.specs.declared.log.Entry.{Entry}
-use Rattle.mod_log.specs.Log.{Log, IsLog, pulled, tree_of}
+use Rattle.mod_log.specs.Log.{Log, IsLog, pulled}
 use Rattle.wire_frames.specs.declared.message.Message.{Message}
 use Rattle.wire_frames.specs.declared.message.Message.TheVariants.{Store, Pull, Accepted, Stale, Unfit, Gap, Snapshot, Full, Malformed}
 use Rattle.wire_frames.specs.Frame.{IsValid, Echoes}
@@ -40,13 +40,6 @@ pub some_pending : (entries : List Entry) → 1 ≤ length entries → entries �
 some_pending [] some = absurd (omega arith)
 some_pending (entry ∷ entries) some = λ none. absurd (cc)
 
-pub base_is_tree : (log : Log) → log.pending ≡ [] → tree_of log ≡ log.base
-base_is_tree log none = by log.pending none
-  where
-    by : (entries : List Entry) → entries ≡ [] → tree_of (record { acked = log.acked; base = log.base; pending = entries }) ≡ log.base
-    by [] is = refl
-    by (entry ∷ entries) is = absurd (cc)
-
 pub pull_sends : (client : ℕ) (log : Log) → log.pending ≡ [] → MaySend client log (pull_of client log)
 pull_sends client log none = (refl, refl, none)
 
@@ -54,12 +47,6 @@ pub pull_valid : (client : ℕ) (log : Log) → 1 ≤ client → client ≤ 64 �
 pull_valid client log low high is none = sent_valid client log.acked log.base log.pending (pull_of client log) low high is (pull_sends client log none)
 
 -- ---- what a log makes of a snapshot
-
-pub meets_other : (log : Log) (last : ℕ) (seen : Volume) → last ≢ log.acked → MeetsEnds log last seen (ends.OtherLast last log.acked) log
-meets_other log last seen other = inl (other, refl, refl, refl)
-
-pub meets_nothing : (log : Log) (last : ℕ) (seen : Volume) → MeetsEnds log last seen ends.Memory log
-meets_nothing log last seen = inr (refl, refl)
 
 pub meets_older : (log : Log) (seen : Volume) (row : Row) (end : PullEnd) → AreInOrder log.base → first_lower log.base seen ≡ Some row
     → (end ≡ ends.Older row.path (version_at seen row.path) row.version) ⊎ (end ≡ ends.Memory) → MeetsEnds log log.acked seen end log

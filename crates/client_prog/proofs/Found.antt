@@ -1,34 +1,15 @@
 -- What is found at a path, by the two tests that the tree has for it, and the paths of what is in a folder.
-use Rattle.std.proofs.Common.{◌≡◌, ℕ, zero, suc, ◌+◌, ◌-◌, ◌<◌, Bool, true, false, ◌&&◌, ◌||◌, not, ◌==◌, List, [], ◌∷◌, ◌++◌, length, get_or, take, filter, map, Option, None, Some, Result, Ok, refl, sym, ◌∙◌, ap, subst, arith, cond, true≢false, append_assoc, if◌then◌else◌}
+use Rattle.std.proofs.Common.{◌≡◌, ℕ, zero, suc, ◌+◌, ◌-◌, ◌<◌, Bool, true, false, ◌&&◌, not, ◌==◌, List, [], ◌∷◌, ◌++◌, length, get_or, take, filter, map, Ok, refl, sym, ◌∙◌, ap, subst, arith, cond, true≢false, append_assoc, if◌then◌else◌}
 use Rattle.std.specs.Prelude.{nat_le, is_some}
 use Rattle.std.specs.Cmp.{first_so, second_so}
 use Rattle.std.specs.List.{AllByRecursion, list_all}
 use Rattle.std.proofs.lemmas.List.{take_more, take_all}
 use Rattle.std.proofs.lemmas.List.Folds.{list_all-append}
 use Rattle.vol_tree.specs.Path.{FilePath, IsPath, is_name, is_name_byte, is_dots, path_text, text_before, resolved, path_of, folder_of, last_name, is_same_path}
-use Rattle.vol_tree.specs.Tree.{Volume, IsRow, node_at, is_folder, is_folder_node, is_child, is_root, children}
-use Rattle.vol_tree.specs.declared.tree.Node.{Node}
-use Rattle.vol_tree.specs.declared.tree.Node.TheVariants.{Folder, File}
+use Rattle.vol_tree.specs.Tree.{Volume, IsRow, is_child, is_root, children}
 use Rattle.vol_tree.specs.declared.tree.Row.{Row}
 use Rattle.vol_tree.proofs.PathTexts.{text_of_path_read}
 use Rattle.vol_tree.proofs.Behind.{is_same_path-eq}
-use Rattle.client_prog.specs.Looking.{found_at}
-
--- ---- what is found
-
-a_folder : (node : Option Node) → is_folder_node node ≡ true → node ≡ Some Folder
-a_folder None is = absurd (true≢false (sym is))
-a_folder (Some Folder) is = refl
-a_folder (Some (File content)) is = absurd (true≢false (sym is))
-
-pub folder_found : (tree : Volume) (path : FilePath) → is_folder tree path ≡ true → found_at tree path ≡ Some Folder
-folder_found tree [] is = refl
-folder_found tree (name ∷ names) is = a_folder (node_at tree (name ∷ names)) is
-
--- where no folder is, the tree tells what is found, and it is none
-pub other_found : (tree : Volume) (path : FilePath) → is_folder tree path ≡ false → (found_at tree path ≡ node_at tree path) × (is_folder_node (node_at tree path) ≡ false)
-other_found tree [] is = absurd (true≢false is)
-other_found tree (name ∷ names) is = (refl, is)
 
 -- ---- a name in a folder
 

@@ -1,16 +1,14 @@
 -- Reading an input piece by piece.
-use Rattle.std.proofs.Common.{◌≡◌, ℕ, zero, suc, ◌+◌, ◌-◌, ◌≤◌, ◌<◌, List, [], ◌∷◌, ◌++◌, length, take, drop, Option, None, Some, Ok, refl, sym, ◌∙◌, ap, arith, Bool, true, false, nat_lt, if◌then◌else◌}
-use Rattle.std.proofs.lemmas.List.{append-nil, length-take-le, take_all, length-append}
-use Rattle.std.proofs.lemmas.Bool.Decides.{nat_tests}
-use Rattle.client_prog.specs.Inside.{end_by_count}
+use Rattle.std.proofs.Common.{◌≡◌, ℕ, zero, suc, ◌+◌, ◌-◌, ◌≤◌, List, [], ◌∷◌, ◌++◌, length, take, Option, None, Some, Ok, refl, sym, ◌∙◌, ap, arith}
+use Rattle.std.proofs.lemmas.List.{append-nil, take_all, length-append}
 use Rattle.outside.specs.Outside.{Told, Reads, Takes}
 use Rattle.outside.proofs.Taking.{takes_nothing, takes_then, takes_read}
 use Rattle.client_prog.specs.declared.input.InputEnd.{InputEnd}
 use Rattle.client_prog.specs.declared.input.InputEnd.TheVariants.{Read, Failed, TooLong}
 use Rattle.client_prog.specs.declared.input.TheConstants.{MAX_INPUT}
-use Rattle.client_prog.specs.Input.{last_at, Reading, IsAtEnd, EndsAt, GoesOnOrEnds, ReadsPiece, within_limit, lines_at, HasRead}
-use Rattle.shell_lang.specs.Lines.{parts, whole_lines, unfinished, lines_of, last_line, BeginsWithLine}
-use Rattle.shell_lang.proofs.Cutting.{piece_added, line_taken, all_lines_taken}
+use Rattle.client_prog.specs.Input.{last_at, Reading, IsAtEnd, EndsAt, ReadsPiece, within_limit, lines_at, HasRead}
+use Rattle.shell_lang.specs.Lines.{parts, whole_lines, unfinished, lines_of, last_line}
+use Rattle.shell_lang.proofs.Cutting.{piece_added, all_lines_taken}
 
 take_nothing : (n : ℕ) → take {A = ℕ} n [] ≡ []
 take_nothing zero = refl
@@ -32,27 +30,6 @@ at_end E None None buf reads = tt
 at_end E None (Some y) buf reads = absurd (cc reads)
 at_end E (Some x) None buf reads = tt
 at_end E (Some x) (Some y) buf reads = reads.2 ∙ reads.3 refl
-
-end_after : (rest : Option (List ℕ)) (before n count : ℕ) (late : Bool) → nat_lt MAX_INPUT count ≡ late → count ≡ before + n → 0 < n → count ≤ MAX_INPUT + 1
-    → GoesOnOrEnds rest before count (if late then Some TooLong else None)
-end_after rest before n count true late is some few = grind (arith, nat_tests)
-end_after rest before n count false late is some few = (omega arith, grind (arith, nat_tests))
-
--- a piece was read
-pub one_piece : (E : Type 0) (left rest : Option (List ℕ)) (old new : Reading) (buf : List ℕ) (n : ℕ)
-    → Told left rest (λ before after. Reads {E = E} before after buf (Ok n)) → n ≤ length buf → 0 < n → old.count + n ≤ MAX_INPUT + 1
-    → new ≡ record { bytes = old.bytes ++ take (MAX_INPUT - old.count) (take n buf); count = old.count + length (take n buf) }
-    → ReadsPiece left rest old new (end_by_count new.count)
-one_piece E left rest old new buf n reads fits some few is =
-    let long : length (take n buf) ≡ n = length-take-le n buf fits in
-    let count : new.count ≡ old.count + length (take n buf) = ap (λ (r : Reading). r.count) is in
-    record {
-      piece = take n buf;
-      taken = takes_read E left rest buf n reads;
-      count = count;
-      bytes = ap (λ (r : Reading). r.bytes) is;
-      ended = end_after rest old.count n new.count (nat_lt MAX_INPUT new.count) refl (omega arith) some (omega arith);
-    }
 
 -- the end of the input
 pub end_piece : (E : Type 0) (left rest : Option (List ℕ)) (reading : Reading) (buf : List ℕ) (n : ℕ)
@@ -96,18 +73,6 @@ has_read_piece left mid rest old new behind end before few reads =
           ∙ piece_added behind before.input old.bytes (take (MAX_INPUT - old.count) reads.piece) (ap parts (sym whole) ∙ before.cut)
           ∙ ap (λ (l : List ℕ). behind ++ parts l) (sym reads.bytes);
     }
-
--- one more line was cut
-pub has_read_line : (left rest : Option (List ℕ)) (old new : Reading) (behind : List (List ℕ)) (line : List ℕ)
-    → HasRead left rest old behind → BeginsWithLine old.bytes line → new ≡ record old { bytes = drop (length line + 1) old.bytes } → HasRead left rest new (behind ++ line ∷ [])
-has_read_line left rest old new behind line before begins is = record {
-  input = before.input;
-  taken = before.taken;
-  count = ap (λ (r : Reading). r.count) is ∙ before.count;
-  cut =
-      line_taken behind (within_limit before.input) old.bytes line before.cut begins
-      ∙ ap (λ (r : Reading). (behind ++ line ∷ []) ++ parts r.bytes) (sym is);
-}
 
 -- no line is left: those behind, and the last one where it is a line, are the lines of the input
 pub has_read_all : (left rest : Option (List ℕ)) (reading : Reading) (behind : List (List ℕ)) (end : InputEnd) (now : HasRead left rest reading behind)

@@ -1,5 +1,5 @@
 -- How a run ends, and what its status says.
-use Rattle.std.proofs.Common.{◌≡◌, ◌≢◌, ◌⊎◌, inl, inr, ℕ, ◌+◌, ◌≤◌, Bool, true, false, List, [], ◌∷◌, length, take, Option, None, Some, Result, Ok, Err, refl, sym, ◌∙◌, ap, subst, arith, length-append, true≢false}
+use Rattle.std.proofs.Common.{◌≡◌, ◌⊎◌, inl, inr, ℕ, ◌+◌, ◌≤◌, Bool, true, false, List, [], length, take, Option, None, Some, Result, Ok, Err, refl, sym, ◌∙◌, ap, subst, arith, length-append}
 use Rattle.std.specs.Prelude.{IfSome}
 use Rattle.std.proofs.lemmas.List.{take_all}
 use Rattle.outside.specs.Outside.{Told, Adds, Takes, Rose}
@@ -40,29 +40,6 @@ nothing_taken left = record { input = []; taken = takes_nothing left; end = Fail
 pub run_nothing : (route : Route) (before : State) (left o : Option (List ℕ)) → RunTurn route before left left o o (Err Memory) before nothing
 run_nothing route before left o =
     ([], Failed, nothing_taken left, inl ([], [], [], 0, refl, inl (refl, refl, refl), adds_nothing o))
-
--- ---- statuses
-
-pub status_not_two : (ended : Result InputEnd Stop) → status_of ended ≡ 2 → ⊥
-status_not_two (Ok Read) is = omega arith
-status_not_two (Ok Failed) is = omega arith
-status_not_two (Ok TooLong) is = omega arith
-status_not_two (Err Sink) is = omega arith
-status_not_two (Err Memory) is = omega arith
-
-pub status_three : (ended : Result InputEnd Stop) → status_of ended ≡ 3 → ended ≡ Ok Failed
-status_three (Ok Read) is = absurd (omega arith)
-status_three (Ok Failed) is = refl
-status_three (Ok TooLong) is = absurd (omega arith)
-status_three (Err Sink) is = absurd (omega arith)
-status_three (Err Memory) is = absurd (omega arith)
-
-pub status_four : (ended : Result InputEnd Stop) → status_of ended ≡ 4 → ended ≡ Err Sink
-status_four (Ok Read) is = absurd (omega arith)
-status_four (Ok Failed) is = absurd (omega arith)
-status_four (Ok TooLong) is = absurd (omega arith)
-status_four (Err Sink) is = refl
-status_four (Err Memory) is = absurd (omega arith)
 
 -- ---- how much was read
 
@@ -181,18 +158,6 @@ is_read (Some l) (Some r) ended takes = read_told l r ended takes
 is_read (Some l) None ended takes = (input_taken (Some l) None ended takes).1
 is_read None rest ended takes = (input_taken None rest ended takes).1
 
--- nothing was read
-pub none_read : (left : Option (List ℕ)) (status : ℕ) → status ≢ 0 → status ≢ 8 → Told left left (IsRead status)
-none_read None status not_all not_past = refl
-none_read (Some l) status not_all not_past = record {
-  input = [];
-  taken = refl;
-  most = omega arith;
-  past = λ sink memory. (λ is. absurd (not_past is), λ long. absurd (omega (arith, long.0)));
-  ended = λ is. absurd (not_all is);
-  failed = λ is. refl;
-}
-
 -- ---- without faults
 
 short_not_past : (l : List ℕ) (rest : Option (List ℕ)) → length l ≤ MAX_INPUT → TakesInput (Some l) rest (Ok TooLong) → ⊥
@@ -221,7 +186,3 @@ pub complete_status : (form : Option Run) (left rest : Option (List ℕ)) (a b c
     → (ended ≡ Err Sink → Rose c d) → IfSome form (λ run. IsComplete left a b c d status)
 complete_status None left rest a b c d status ended is takes source sink = tt
 complete_status (Some run) left rest a b c d status ended is takes source sink = subst (IsComplete left a b c d) (sym is) (complete left rest a b c d ended takes source sink)
-
-pub complete_memory : (left : Option (List ℕ)) (a b c d status : ℕ) → status ≡ 7 → IfSome left (λ bytes. length bytes ≤ MAX_INPUT → (Rose a b → ⊥) → (Rose c d → ⊥) → (status ≡ 0) ⊎ (status ≡ 7))
-complete_memory None a b c d status is = tt
-complete_memory (Some l) a b c d status is = λ short calm quiet. inr is

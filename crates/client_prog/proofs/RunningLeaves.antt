@@ -15,7 +15,7 @@ use Rattle.client_prog.specs.declared.run.Stop.{Stop}
 use Rattle.client_prog.specs.declared.run.Stop.TheVariants.{Memory}
 use Rattle.client_core.specs.declared.route.Route.{Route}
 use Rattle.client_core.specs.Goes.{IsNew, stand}
-use Rattle.client_prog.specs.Session.{State, new_state}
+use Rattle.client_prog.specs.Session.{new_state}
 use Rattle.client_prog.specs.Run.{status_of, RunTurn}
 use Rattle.client_prog.specs.InsideRun.{RunGoes}
 use Rattle.client_prog.specs.Headline.{Leaves, Ran, last_taken}

@@ -1,8 +1,7 @@
 -- Lines that are answered one after the other, and where a run stops in them.
-use Rattle.std.proofs.Common.{inl, inr, ℕ, ◌+◌, List, [], ◌∷◌, ◌++◌, length, take, Option, Result, Ok, Err, Vec, refl, sym, ◌∙◌, ap, subst, arith, append_assoc}
+use Rattle.std.proofs.Common.{inl, inr, ℕ, ◌+◌, List, [], ◌∷◌, ◌++◌, length, take, Option, Result, Ok, Err, refl, sym, ◌∙◌, ap, subst, arith, append_assoc}
 use Rattle.std.proofs.lemmas.List.{append-nil, map-append, take_all}
 use Rattle.std.proofs.Math.Seq.{take-append-add}
-use Rattle.std.specs.declared.alloc.Global.{Global}
 use Rattle.std.specs.declared.alloc.AllocError.{AllocError}
 use Rattle.outside.specs.Outside.{Adds}
 use Rattle.outside.proofs.Writing.{adds_nothing, adds_then}
@@ -18,7 +17,7 @@ use Rattle.client_prog.specs.declared.run.Stop.TheVariants.{Sink, Memory}
 use Rattle.client_prog.specs.Session.{State, Turn, Chain, BreaksChain, IsText}
 use Rattle.client_prog.specs.InsideSession.{LineEnds}
 use Rattle.client_prog.specs.Run.{asked_for, Handles, StopsIn}
-use Rattle.client_prog.specs.InsideRun.{AllAnswered, AnswersLines}
+use Rattle.client_prog.specs.InsideRun.{AllAnswered}
 
 module _ (route : Route) where
   pub chain_then : (a b c : State) (ls ms : List (Result Line LineError)) (s t : List ℕ) (p q : Trace) → Chain route a ls s b p → Chain route b ms t c q → Chain route a (ls ++ ms) (s ++ t) c (followed p q)

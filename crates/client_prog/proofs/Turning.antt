@@ -1,5 +1,5 @@
 -- What the answer of a line makes of the client and the world.
-use Rattle.std.proofs.Common.{◌≡◌, ◌≢◌, ◌⊎◌, inl, inr, ℕ, List, [], ◌∷◌, Option, Some, None, Result, Ok, Err, IfOk, IfErr, OnOk, OnErr, refl, sym, ◌∙◌, ap, subst}
+use Rattle.std.proofs.Common.{◌≡◌, ◌≢◌, inl, inr, ℕ, List, [], ◌∷◌, Option, Some, None, Result, Ok, Err, IfOk, IfErr, OnOk, OnErr, refl, sym, ◌∙◌, ap, subst}
 use Rattle.std.specs.declared.alloc.AllocError.{AllocError}
 use Rattle.outside.specs.Outside.{Told}
 use Rattle.vol_tree.specs.declared.path.PathError.{PathError}
@@ -7,20 +7,19 @@ use Rattle.vol_tree.specs.declared.path.PathError.TheVariants as paths
 use Rattle.vol_tree.specs.declared.tree.Effect.{Effect}
 use Rattle.mod_log.specs.declared.log.LogError.{LogError}
 use Rattle.mod_log.specs.declared.log.LogError.TheVariants as logs
-use Rattle.mod_log.specs.Log.{Log, IsLog, tree_of}
+use Rattle.mod_log.specs.Log.{IsLog, tree_of}
 use Rattle.mod_log.specs.Append.{appended}
 use Rattle.world_rules.specs.Served.{new_served}
 use Rattle.world_rules.specs.World.{World}
 use Rattle.world_rules.proofs.Asks.{told_start}
 use Rattle.client_core.specs.declared.route.Route.{Route}
 use Rattle.client_core.specs.declared.syncing.SyncEnd.{SyncEnd}
-use Rattle.client_core.specs.declared.syncing.SyncEnd.TheVariants as ends
 use Rattle.client_core.specs.declared.pulling.PullEnd.{PullEnd}
 use Rattle.client_core.specs.Client.{Client}
 use Rattle.client_core.specs.Causes.{HasSyncCause, HasPullCause}
 use Rattle.client_core.specs.Trace.{Trace, nothing}
-use Rattle.client_core.specs.Logging.{local_entry, LocalTurn, LocalEnds}
-use Rattle.client_core.specs.Syncing.{SyncTurn, BreaksSync, SyncEnds}
+use Rattle.client_core.specs.Logging.{local_entry, LocalEnds}
+use Rattle.client_core.specs.Syncing.{SyncEnds}
 use Rattle.client_core.specs.Pulling.{PullEnds}
 use Rattle.client_core.specs.Goes.{Goes}
 use Rattle.client_core.proofs.Going.{goes_none, goes_as}
@@ -29,8 +28,6 @@ use Rattle.shell_lang.specs.declared.line.Line.{Line}
 use Rattle.shell_lang.specs.declared.line.Line.TheVariants.{Enter, Status, Sync, Pull}
 use Rattle.shell_lang.specs.declared.line.LineError.{LineError}
 use Rattle.shell_lang.specs.declared.answer.Answer.{Answer}
-use Rattle.shell_lang.specs.declared.answer.Answer.TheVariants as answers
-use Rattle.shell_lang.specs.declared.answer.Fault.TheVariants as faults
 use Rattle.client_prog.specs.Session.{State, with_log, with_folder, LogTurn, LineTurn, local_answer, word_answer, status_answer, sync_answer, pull_answer}
 use Rattle.client_prog.specs.Looking.{enter_answer, folder_by}
 use Rattle.client_prog.specs.InsideSession.{Does, IsGiven, GivesEffect, LogEnds, LineEnds, Quietly, Logs, LogsMade}

@@ -1,5 +1,5 @@
 -- Words that only contracts below the whole run cite, of its input and of its lines.
-use Rattle.std.specs.Prelude.{◌≡◌, ℕ, Bool, false, List, [], ◌∷◌, Option, Result, Ok, Err}
+use Rattle.std.specs.Prelude.{◌≡◌, ℕ, false, List, [], ◌∷◌, Option, Result, Ok, Err}
 use Rattle.outside.specs.Outside.{Adds}
 use Rattle.world_rules.specs.World.{World}
 use Rattle.client_core.specs.declared.route.Route.{Route}

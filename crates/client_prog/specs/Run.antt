@@ -1,5 +1,5 @@
 -- A run of the client: how it ends, which lines of its input it handles, and what it writes.
-use Rattle.std.specs.Prelude.{◌≡◌, ◌≢◌, ◌⊎◌, ◌↔◌, ℕ, ◌+◌, ◌≤◌, Bool, true, false, List, [], ◌∷◌, ◌++◌, length, take, map, Option, None, Result, Ok, Err, if◌then◌else◌}
+use Rattle.std.specs.Prelude.{◌≡◌, ◌==◌, ◌≢◌, ◌⊎◌, ◌↔◌, ℕ, ◌+◌, ◌≤◌, Bool, true, false, List, [], ◌∷◌, ◌++◌, length, take, map, Option, None, Result, Ok, Err, if◌then◌else◌}
 use Rattle.std.specs.List.{list_any}
 use Rattle.outside.specs.Outside.{Adds, Takes}
 use Rattle.outside.specs.declared.errors.SinkError.{SinkError}
@@ -32,6 +32,10 @@ status_of (Ok Failed) = 3
 status_of (Ok TooLong) = 8
 status_of (Err Sink) = 4
 status_of (Err Memory) = 7
+
+-- the statuses that a run may give
+abbrev pub is_status : ℕ → Bool
+is_status status = list_any (λ known. known == status) (0 ∷ 2 ∷ 3 ∷ 4 ∷ 7 ∷ 8 ∷ [])
 
 -- what stops a run where the sink refuses to write
 abbrev pub stop_of : SinkError → Stop

@@ -1,9 +1,13 @@
 // The program: the client over the standard streams and TCP.
-ghost use Rattle.std.specs.Prelude.{◌≡◌, ◌↔◌, ◌⊎◌, IsSome, codes};
+ghost use Rattle.std.specs.Prelude.{◌≡◌, ◌↔◌, None, IsTrue, map};
+ghost use Rattle.std.specs.String.{string_bytes};
+ghost use Rattle.std.specs.Process.{exit_status};
+ghost use Rattle.real_edge.specs.Program.{page_asked};
+ghost use Rattle.client_prog.specs.Run.{is_status};
+ghost use Rattle.client_prog.specs.Words.{run_of};
 
 use crate::run::client_run;
-use outside::{SinkError, write_all};
-use real_edge::{StdSink, StdSource, TcpLink, program_words};
+use real_edge::{Page, StdSink, StdSource, TcpLink, end, page_asked, program_words, show};
 use std::io;
 use std::net::Net;
 use std::process::ExitCode;
@@ -51,17 +55,20 @@ Options:
 
 const VERSION: &str = "client 0.1.0\n";
 
-const SINK_FAILED: u8 = 4;
-
 const NO_MEMORY: u8 = 7;
+
+/// The program's name, as standard error tells it.
+const NAME: &str = "client";
 
 /// Runs the client with the words behind the program's name. Words that are no text are of no form.
 pub fn client_program<R: Input + Print + Eprint + AllocGlobal + Env + Net + Clock>(
     rt: &R,
-) -> ExitCode {
+) -> ExitCode
+    ensures { IsTrue (is_status (exit_status result)) }
+{
     match program_words(rt) {
         Ok(words) => client_main(rt, &words),
-        Err(error) if error.kind() == io::ErrorKind::OutOfMemory => end(rt, NO_MEMORY),
+        Err(error) if error.kind() == io::ErrorKind::OutOfMemory => end(rt, NAME, NO_MEMORY),
         Err(_) => client_main(rt, &[]),
     }
 }
@@ -73,50 +80,24 @@ pub fn client_program<R: Input + Print + Eprint + AllocGlobal + Env + Net + Cloc
 pub fn client_main<R: Input + Print + Eprint + AllocGlobal + Net + Clock>(
     rt: &R,
     words: &[String],
-) -> ExitCode {
-    let page = match words {
-        [word] => page_of(word.as_str()),
-        _ => None,
-    };
-    match page {
-        Some(page) => end(rt, show(rt, page)),
-        None => end(rt, run(rt, words)),
-    }
-}
-
-/// What the word shows, where it asks for a text about the program.
-fn page_of(word: &str) -> Option<&'static str>
-    ensures { IsSome result ↔ ((word.now ≡ codes "--help") ⊎ (word.now ≡ codes "--version")) }
+) -> ExitCode
+    ensures form { exit_status result ≡ 2 ↔ (page_asked (map string_bytes words.now) ≡ None) × (run_of (map string_bytes words.now) ≡ None) }
+    ensures known { IsTrue (is_status (exit_status result)) }
 {
-    match word {
-        "--help" => Some(HELP),
-        "--version" => Some(VERSION),
-        _ => None,
-    }
-}
-
-/// Writes a text about the program, and answers the status.
-fn show<R: Print>(rt: &R, page: &str) -> u8 {
-    let mut output = StdSink::new(io::writer(rt));
-    match write_all(&mut output, page.as_bytes()) {
-        Ok(()) => 0,
-        Err(SinkError::Failed) => SINK_FAILED,
-        Err(SinkError::Memory) => NO_MEMORY,
+    match page_asked(words) {
+        Some(Page::Help) => end(rt, NAME, show(rt, HELP)),
+        Some(Page::Version) => end(rt, NAME, show(rt, VERSION)),
+        None => end(rt, NAME, run(rt, words)),
     }
 }
 
 /// Runs the client over the standard streams and TCP, and answers the status.
-fn run<R: Input + Print + AllocGlobal + Net + Clock>(rt: &R, words: &[String]) -> u8 {
+fn run<R: Input + Print + AllocGlobal + Net + Clock>(rt: &R, words: &[String]) -> u8
+    ensures form { result ≡ 2 ↔ run_of (map string_bytes words.now) ≡ None }
+    ensures known { IsTrue (is_status result) }
+{
     let mut input = StdSource::new(rt.reader());
     let mut output = StdSink::new(io::writer(rt));
     let mut link = TcpLink::new(rt.alloc(), rt);
     client_run(rt.alloc(), words, &mut input, &mut output, &mut link)
-}
-
-/// Says a status that is not 0 on standard error.
-fn end<R: Eprint>(rt: &R, status: u8) -> ExitCode {
-    if status != 0 {
-        let _ = eprintln!(rt; "client: status {status}");
-    }
-    ExitCode::from(status)
 }

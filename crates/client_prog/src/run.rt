@@ -1,5 +1,5 @@
 // A run of the client over its input.
-ghost use Rattle.std.specs.Prelude.{◌≡◌, ◌≢◌, ◌⊎◌, ◌↔◌, ◌≤◌, ◌∷◌, ℕ, [], false, None, Some, Ok, IfOk, OnOk, OnErr, IfSome, take, length, map};
+ghost use Rattle.std.specs.Prelude.{◌≡◌, ◌≢◌, ◌⊎◌, ◌↔◌, ◌≤◌, ◌∷◌, ℕ, [], false, None, Some, Ok, IfOk, OnOk, OnErr, IfSome, IsTrue, take, length, map};
 ghost use Rattle.std.specs.String.{string_bytes};
 ghost use Rattle.outside.specs.Outside.{Told, Adds, HasCause, Rose};
 ghost use Rattle.shell_lang.specs.Lines.{whole_lines, last_line};
@@ -7,7 +7,7 @@ ghost use Rattle.shell_lang.specs.Commands.{read_line};
 ghost use Rattle.client_prog.specs.Input.{last_at};
 ghost use Rattle.client_prog.specs.Words.{run_of};
 ghost use Rattle.client_prog.specs.Session.{IsText, new_state};
-ghost use Rattle.client_prog.specs.Run.{status_of, route_of, is_quit, quits, has_quit, up_to_quit, end_of, closing_line, closing_at, IsRead};
+ghost use Rattle.client_prog.specs.Run.{status_of, is_status, route_of, is_quit, quits, has_quit, up_to_quit, end_of, closing_line, closing_at, IsRead};
 ghost use Rattle.client_prog.specs.Headline.{Ran};
 ghost use Rattle.client_prog.specs.InsideSession.{Does};
 ghost use Rattle.client_prog.specs.InsideRun.{AnswersLines, HasUnfinished, TakesInput, AnswersInput, RunGoes};
@@ -58,7 +58,8 @@ impl From<SinkError> for Stop {
 
 /// The status of a run whose input ended so, or that was stopped before.
 fn status_of(ended: Result<InputEnd, Stop>) -> u8
-    ensures { result ≡ status_of ended }
+    ensures status { result ≡ status_of ended }
+    ensures known { IsTrue (is_status result) }
 {
     match ended {
         Ok(InputEnd::Read) => 0,
@@ -331,6 +332,7 @@ pub fn client_run<I: Source, O: Sink, L: Link>(
     link: &mut L,
 ) -> u8
     ensures form { result ≡ 2 ↔ run_of (map string_bytes words.now) ≡ None }
+    ensures known { IsTrue (is_status result) }
     ensures untouched { run_of (map string_bytes words.now) ≡ None → (I.left input.new ≡ I.left input.old) × (I.faults input.new ≡ I.faults input.old) × (O.written output.new ≡ O.written output.old) × (O.faults output.new ≡ O.faults output.old) × (L.world link.new ≡ L.world link.old) × (L.troubles link.new ≡ L.troubles link.old) }
     ensures source { result ≡ 3 → Rose (I.faults input.old) (I.faults input.new) }
     ensures sink { result ≡ 4 → Rose (O.faults output.old) (O.faults output.new) }

@@ -8,7 +8,7 @@ use Rattle.world_rules.specs.World.{World}
 use Rattle.mem_net.specs.Net.{Net, world_of}
 use Rattle.mem_net.specs.Fates.{decides, deciding, left_after, at_decision, befallen, IsEndOf}
 use Rattle.mem_net.specs.Inside.{MovedFree, KeepsFates, decision, Awaits}
-use Rattle.mem_net.proofs.Network.{free_none, free_then, free_as}
+use Rattle.mem_net.proofs.Network.{free_then, free_as}
 
 -- ---- one fate
 
@@ -36,9 +36,6 @@ stays (Late k) w is = absurd (cc)
 stays (Inject frame) w is = absurd (cc)
 
 -- ---- the fates in a row
-
-pub awaits_none : (n : Net) → Awaits n n
-awaits_none n = record { fate = refl; left = refl; reached = refl; moved = free_none (world_of n); rest = (0, refl); troubles = refl }
 
 -- a fate was taken, and the world went on
 module _ (old mid taken new : Net) (fate : Fate) (so_far : Awaits old mid) (first : mid.fates ≡ fate ∷ taken.fates) (taking : taken ≡ record mid { fates = taken.fates })

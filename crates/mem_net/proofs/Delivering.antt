@@ -1,5 +1,5 @@
 -- What a delivery makes of the world, late or injected.
-use Rattle.std.proofs.Common.{◌≡◌, ℕ, Bool, true, false, [], ◌∷◌, ◌++◌, Option, Some, None, Result, Ok, Err, refl, sym, ◌∙◌, ap, subst, arith}
+use Rattle.std.proofs.Common.{◌≡◌, ℕ, Bool, true, false, [], ◌∷◌, ◌++◌, Option, Some, Result, Ok, Err, refl, sym, ◌∙◌, ap, subst, arith}
 use Rattle.std.specs.Prelude.{◌==◌, if◌then◌else◌}
 use Rattle.std.proofs.lemmas.Bool.Decides.{nat_tests}
 use Rattle.vol_tree.specs.Behind.{IsIn}
@@ -48,27 +48,9 @@ late_some (Snapshot client number last rows) w for = absurd for
 late_some (Full client number index fault) w for = absurd for
 late_some (Malformed code offset) w for = absurd for
 
-late_not : (m : Message) (w : World) → (IsForServer m → ⊥) → w ≡ delivered_late (Some m) w
-late_not (Store client number effects base) w other = absurd (other tt)
-late_not (Pull client number) w other = absurd (other tt)
-late_not (Accepted client number) w other = refl
-late_not (Stale client number path theirs ours) w other = refl
-late_not (Unfit client number index fault) w other = refl
-late_not (Gap client number last) w other = refl
-late_not (Snapshot client number last rows) w other = refl
-late_not (Full client number index fault) w other = refl
-late_not (Malformed code offset) w other = refl
-
 -- a packet that is a request was delivered
 pub late-delivered : (m : Message) (found : Option Message) (w : World) → found ≡ Some m → IsForServer m → delivered m true w ≡ delivered_late found w
 late-delivered m found w is for = late_some m w for ∙ sym (ap (λ (o : Option Message). delivered_late o w) is)
-
--- one that is none was not
-pub late-skipped : (m : Message) (found : Option Message) (w : World) → found ≡ Some m → (IsForServer m → ⊥) → w ≡ delivered_late found w
-late-skipped m found w is other = late_not m w other ∙ sym (ap (λ (o : Option Message). delivered_late o w) is)
-
-pub late-none : (found : Option Message) (w : World) → found ≡ None → w ≡ delivered_late found w
-late-none found w is = sym (ap (λ (o : Option Message). delivered_late o w) is)
 
 -- ---- an injected message
 
@@ -131,18 +113,6 @@ module _ (found : Result Message FrameError) (w : World) where
 
   pub injected-refused : (e : FrameError) → found ≡ Err e → w ≡ injected found w
   injected-refused e is = as_found (Err e) is
-
--- a store is for a server
-pub store-for : (m : Message) → is_store m ≡ true → IsForServer m
-store-for (Store client number effects base) is = tt
-store-for (Pull client number) is = tt
-store-for (Accepted client number) is = absurd (cc)
-store-for (Stale client number path theirs ours) is = absurd (cc)
-store-for (Unfit client number index fault) is = absurd (cc)
-store-for (Gap client number last) is = absurd (cc)
-store-for (Snapshot client number last rows) is = absurd (cc)
-store-for (Full client number index fault) is = absurd (cc)
-store-for (Malformed code offset) is = absurd (cc)
 
 -- the moves of an injection, as far as it came
 pub moved-injected : (m : Message) (a b d : Net) → (client_of m ≡ a.client → ⊥) → IsValid m → b ≡ record a { packets = a.packets ++ m ∷ [] } → MovedFree (world_of b) (world_of d) → MovedFree (world_of a) (world_of d)

@@ -1,8 +1,8 @@
 -- The steps that the network in memory makes, and what they make of an ask.
-use Rattle.std.proofs.Common.{◌≡◌, inl, inr, ⊎_elim, ℕ, zero, suc, ◌≤◌, true, false, List, [], ◌∷◌, ◌++◌, Some, Result, Ok, Err, Vec, IfOk, refl, sym, ◌∙◌, ap, subst, arith}
+use Rattle.std.proofs.Common.{◌≡◌, inl, inr, ⊎_elim, ℕ, zero, suc, true, false, List, [], ◌∷◌, ◌++◌, Some, Result, Ok, Err, Vec, IfOk, refl, sym, ◌∙◌, ap, subst, arith}
 use Rattle.std.specs.Prelude.{slice_get}
 use Rattle.std.specs.declared.alloc.Global.{Global}
-use Rattle.outside.specs.Outside.{Rose, HasCause}
+use Rattle.outside.specs.Outside.{Rose}
 use Rattle.vol_tree.specs.Behind.{IsIn}
 use Rattle.vol_tree.proofs.Behind.{IsIn-left}
 use Rattle.wire_frames.specs.declared.message.Message.{Message}
@@ -19,7 +19,7 @@ use Rattle.world_rules.specs.Asking.{ask_of, AsksOnce, IsDirect, IsReplyTo}
 use Rattle.world_rules.proofs.Asks.{moved_then, moved_none, moved_step, moved_noted}
 use Rattle.mem_net.specs.declared.fate.Fate.{Fate}
 use Rattle.mem_net.specs.declared.fate.Fate.TheVariants.{Pass, LoseRequest, LoseReply, Twice, Old, Late, Inject}
-use Rattle.mem_net.specs.Fates.{answered, MeetsFate, IsAnswered, IsAnsweredByOld, troubles_after}
+use Rattle.mem_net.specs.Fates.{answered, IsAnswered, IsAnsweredByOld, troubles_after}
 use Rattle.mem_net.specs.Inside.{MovedFree, Meets}
 use Rattle.mem_net.proofs.Taking.{answer-echoes}
 
@@ -162,33 +162,10 @@ module _ (to : Peer) (address : List ℕ) (m : Message) (a b d : World) (for : I
   met-twice (Err LinkFailed) met = absurd met
   met-twice (Err LinkMemory) met = asks_on to address m for a b d (Err LinkMemory) first_delivery met
 
--- a failed ask raised the troubles
-failed_rose : (fate : Fate) (to : Peer) (address : List ℕ) (m : Message) (a d : World) (before : ℕ) → Meets fate to address m a d (Err LinkFailed) → Rose before (troubles_after fate (Err LinkFailed) before)
-failed_rose Pass to address m a d before met = absurd met
-failed_rose Twice to address m a d before met = absurd met
-failed_rose LoseRequest to address m a d before met = omega arith
-failed_rose LoseReply to address m a d before met = omega arith
-failed_rose (Old k) to address m a d before met = omega arith
-failed_rose (Late k) to address m a d before met = absurd met
-failed_rose (Inject frame) to address m a d before met = absurd met
-
-pub caused : (fate : Fate) (to : Peer) (address : List ℕ) (m : Message) (a d : World) (before now : ℕ) (result : Result (Vec ℕ Global) LinkError) → before ≤ now
-    → Meets fate to address m a d result → now ≡ troubles_after fate result before → HasCause LinkFailed before now result
-caused fate to address m a d before now (Ok bytes) later met is = record { later = later; failed = λ f. absurd (cc) }
-caused fate to address m a d before now (Err LinkMemory) later met is = record { later = later; failed = λ f. absurd (cc) }
-caused fate to address m a d before now (Err LinkFailed) later met is =
-    record { later = later; failed = λ f. subst (λ (n : ℕ). Rose before n) (sym is) (failed_rose fate to address m a d before met) }
-
 -- an answer is a reply to its request
 pub replied : (to : Peer) (address : List ℕ) (m : Message) (a d : World) (result : Result (Vec ℕ Global) LinkError) → AsksOnce to address m a d result → IfOk result (λ bytes. IsReplyTo m bytes.items)
 replied to address m a d (Ok bytes) once = (once.0, once.1, once.2)
 replied to address m a d (Err e) once = tt
-
--- what an ask meets, without what is said for want of memory
-pub meets_fate : (fate : Fate) (to : Peer) (address : List ℕ) (m : Message) (a d : World) (result : Result (Vec ℕ Global) LinkError) → Meets fate to address m a d result → MeetsFate fate to address m a d result
-meets_fate fate to address m a d (Err LinkMemory) met = tt
-meets_fate fate to address m a d (Err LinkFailed) met = met
-meets_fate fate to address m a d (Ok bytes) met = met
 
 -- what was read is the request that the frame spells
 pub same_request : (read request : Message) → ◌≡◌ {A = Result Message FrameError} (Ok request) (Ok read) → request ≡ read

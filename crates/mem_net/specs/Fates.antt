@@ -1,5 +1,5 @@
 -- What becomes of an ask by the fates that it meets.
-use Rattle.std.specs.Prelude.{◌≡◌, ℕ, ◌+◌, ◌-◌, ◌^◌, min, Bool, true, false, ◌==◌, List, [], ◌∷◌, Option, Some, None, Result, Ok, Err, Vec, drop, slice_get, if◌then◌else◌}
+use Rattle.std.specs.Prelude.{◌≡◌, ℕ, Bool, true, false, ◌==◌, List, [], ◌∷◌, Option, Some, None, Result, Ok, Err, Vec, drop, slice_get, if◌then◌else◌}
 use Rattle.std.specs.declared.alloc.Global.{Global}
 use Rattle.wire_frames.specs.declared.message.Message.{Message}
 use Rattle.wire_frames.specs.declared.message.Message.TheVariants.{Store, Pull}
@@ -17,6 +17,7 @@ use Rattle.world_rules.specs.World.{World, sent, delivered, noted}
 use Rattle.world_rules.specs.Asking.{ask_of}
 use Rattle.mem_net.specs.declared.fate.Fate.{Fate}
 use Rattle.mem_net.specs.declared.fate.Fate.TheVariants.{Pass, LoseRequest, LoseReply, Twice, Old, Late, Inject}
+pub use Rattle.outside.specs.Memory.{one_more}
 
 -- whether a fate decides the ask that meets it
 abbrev pub decides : Fate → Bool
@@ -113,10 +114,6 @@ MeetsFate LoseReply to address request old new (Err LinkFailed) = new ≡ answer
 MeetsFate (Old k) to address request old new (Ok frame) = IsAnsweredByOld k to address request old new frame.items
 MeetsFate (Old k) to address request old new (Err LinkFailed) = IsNoReply (slice_get old.packets k) request × (new ≡ answered to address request Failed old)
 MeetsFate fate to address request old new result = ⊥
-
--- a count after one more, which stands still at the end of its type
-abbrev pub one_more : ℕ → ℕ
-one_more count = min (count + 1) (2 ^ 64 - 1)
 
 -- the troubles after an ask: one more where the fate is one, and none where memory ran out
 abbrev pub troubles_after : Fate → Result (Vec ℕ Global) LinkError → ℕ → ℕ

@@ -1,28 +1,26 @@
 -- Pending entries and the tree that they lead to.
-use Rattle.std.proofs.Common.{◌≡◌, ◌≢◌, ℕ, zero, suc, ◌+◌, ◌-◌, ◌<◌, ◌≤◌, get_or, ◌||◌, Bool, true, false, List, [], ◌∷◌, ◌++◌, length, take, drop, Option, Some, None, Result, Ok, Err, refl, sym, ap, ◌∙◌, subst, arith}
-use Rattle.std.specs.Prelude.{nat_lt, nat_le, slice_index_or}
+use Rattle.std.proofs.Common.{◌≡◌, ◌≢◌, ℕ, zero, suc, ◌+◌, ◌-◌, ◌<◌, ◌≤◌, get_or, Bool, true, false, List, [], ◌∷◌, ◌++◌, length, take, drop, Option, Some, Result, Ok, Err, refl, sym, ap, ◌∙◌, subst, arith}
+use Rattle.std.specs.Prelude.{slice_index_or}
 use Rattle.std.specs.List.{remove, flat_map}
 use Rattle.std.proofs.lemmas.List.{length-map, map-append}
-use Rattle.std.proofs.lemmas.Bool.Decides.{nat_tests}
 use Rattle.byte_fields.specs.Numbers.{as_u64}
 use Rattle.vol_tree.specs.declared.tree.Effect.{Effect}
 use Rattle.vol_tree.specs.Refusals.{when, unless_refused}
-use Rattle.vol_tree.specs.Tree.{Volume, IsTree}
+use Rattle.vol_tree.specs.Tree.{Volume}
 use Rattle.vol_tree.specs.declared.effects.ApplyAllError.{ApplyAllError}
 use Rattle.vol_tree.specs.declared.effects.ApplyAllError.TheVariants.{At, Memory as NoMemory}
 use Rattle.vol_tree.specs.Effects.{changed_all, apply_all, base_of, contents_size, IsAllRefusal}
 use Rattle.vol_tree.specs.Undos.{undone_all, CanUndoAll}
 use Rattle.vol_tree.specs.Spelling.{EffectsFit}
 use Rattle.vol_tree.proofs.Behind.{applied-changes}
-use Rattle.mod_log.specs.declared.log.Entry.{Entry}
 use Rattle.mod_log.specs.declared.log.Pending.{Pending}
 use Rattle.mod_log.specs.declared.log.LogError.{LogError}
 use Rattle.mod_log.specs.declared.log.LogError.TheVariants.{EntryTooLarge, LogFull, LastNumber, Tree, Memory}
-use Rattle.mod_log.specs.Log.{Log, entry, after, tree_of, IsLog, logged, acknowledged, pulled}
+use Rattle.mod_log.specs.Log.{Log, entry, after, tree_of, IsLog, logged, acknowledged}
 use Rattle.mod_log.specs.Append.{next_entry, is_too_large, size_with, has_no_room, is_at_last, refused_effect, appended}
 use Rattle.mod_log.specs.Inside.{rolled_back, entries_of, IsKept, AreKept, log_of, AreFields, room_refusals, log_error}
 use Rattle.mod_log.proofs.Sums.{size_behind, size_front}
-use Rattle.mod_log.proofs.Entries.{acknowledged_is_log, new_is_log, pulled_is_log}
+use Rattle.mod_log.proofs.Entries.{acknowledged_is_log}
 use Rattle.mod_log.proofs.Appending.{logged_is_log}
 
 -- the entries lead from the base to the tree
@@ -57,60 +55,6 @@ shorter acked tree (head ∷ later) rest size removed fields some is first =
       view = ap (log_of (acked + 1) tree) is ∙ view;
       small = omega (arith, sizes, first_size, fields.sum);
     }
-
--- ---- nothing pending
-
-pub empty_fields : (acked : ℕ) (tree : Volume) → acked ≤ 18446744073709551615 → IsTree tree → AreFields acked tree [] 0
-empty_fields acked tree le is = record { kept = tt; log = new_is_log acked tree le is; sum = refl }
-
-pub replaced_fields : (acked : ℕ) (old new : Volume) (pending : List Pending) (size : ℕ) → AreFields acked old pending size → entries_of pending ≡ [] → IsTree new
-    → AreFields acked new pending size × (log_of acked new pending ≡ pulled new (log_of acked old pending))
-replaced_fields acked old new [] size fields none tree =
-    (record { kept = tt; log = pulled_is_log (log_of acked old []) new fields.log refl tree; sum = fields.sum }, refl)
-replaced_fields acked old new (first ∷ later) size fields none tree = absurd (cc)
-
--- ---- room
-
-pub same_room : (log : Log) (next : Entry) (count all : ℕ) → count ≡ length log.pending → all ≡ as_u64 (size_with next log) → (nat_le 1024 count || nat_lt 67108864 all) ≡ has_no_room next log
-same_room log next count all is_count is_all = rw is_count (ap (λ b. nat_le 1024 (length log.pending) || b) (same_test (size_with next log) all is_all))
-  where
-    same_test : (total all : ℕ) → all ≡ as_u64 total → nat_lt 67108864 all ≡ nat_lt 67108864 total
-    same_test total all is = grind (arith, nat_tests)
-
-pub all_sizes : (log : Log) (next : Entry) (size one all : ℕ) → size ≡ length (flat_map entry log.pending) → one ≡ as_u64 (length (entry next)) → all ≡ as_u64 (size + one) → all ≡ as_u64 (size_with next log)
-all_sizes log next size one all is_size is_one is_all = omega (arith, size_behind log.pending next, is_size, is_one, is_all)
-
--- where there is room, the size is exact
-pub exact_size : (log : Log) (next : Entry) (one : ℕ) → one ≡ as_u64 (length (entry next)) → has_no_room next log ≡ false → one ≡ length (entry next)
-exact_size log next one is room = by (nat_le 1024 (length log.pending)) (nat_lt 67108864 (size_with next log)) room refl
-  where
-    small : (total : ℕ) → nat_lt 67108864 total ≡ false → total ≤ 67108864
-    small total e = grind (arith, nat_tests)
-
-    by : (a b : Bool) → (a || b) ≡ false → nat_lt 67108864 (size_with next log) ≡ b → one ≡ length (entry next)
-    by true b e h = absurd (cc)
-    by false b e h = omega (arith, small (size_with next log) (h ∙ e), size_behind log.pending next, is)
-
-pub refused_full : (next : Entry) (count all : ℕ) (log : Log) → has_no_room next log ≡ true → count ≡ length log.pending → all ≡ as_u64 (size_with next log) → unless_refused (room_refusals next log) log ≡ Err (LogFull count all)
-refused_full next count all log full is_count is_all = by (has_no_room next log) full
-  where
-    by : (b : Bool) → b ≡ true → unless_refused (when b (LogFull (length log.pending) (as_u64 (size_with next log))) ∷ when (is_at_last log) LastNumber ∷ []) log ≡ Err (LogFull count all)
-    by true e = λ i. Err (LogFull (sym is_count i) (sym is_all i))
-    by false e = absurd (cc)
-
-pub refused_last : (next : Entry) (log : Log) → has_no_room next log ≡ false → is_at_last log ≡ true → unless_refused (room_refusals next log) log ≡ Err LastNumber
-refused_last next log room last = by (has_no_room next log) (is_at_last log) room last
-  where
-    by : (b c : Bool) → b ≡ false → c ≡ true → unless_refused (when b (LogFull (length log.pending) (as_u64 (size_with next log))) ∷ when c LastNumber ∷ []) log ≡ Err LastNumber
-    by false true e h = refl
-    by false false e h = absurd (cc)
-    by true c e h = absurd (cc)
-
-pub at_last : (log : Log) (n : ℕ) → n ≡ log.acked + length log.pending → n ≡ 18446744073709551615 → is_at_last log ≡ true
-at_last log n is last = grind (arith, nat_tests)
-
-pub not_at_last : (log : Log) (n : ℕ) → n ≡ log.acked + length log.pending → n ≢ 18446744073709551615 → is_at_last log ≡ false
-not_at_last log n is last = grind (arith, nat_tests)
 
 -- ---- what is answered
 
@@ -175,10 +119,6 @@ longer acked tree next pending size kept effects fields entry_is kept_size back 
     }
 
 -- ---- the first refusal
-
-no_value : (r : Option LogError) (log new : Log) (e : LogError) → unless_refused (r ∷ []) log ≡ Err e → unless_refused (r ∷ []) new ≡ Err e
-no_value None log new e is = absurd (cc)
-no_value (Some refusal) log new e is = cc
 
 pub refused_in_room : (effects : List Effect) (log : Log) (e : LogError) → is_too_large effects ≡ false → unless_refused (room_refusals (next_entry effects log) log) log ≡ Err e → appended effects log ≡ Err e
 refused_in_room effects log e small refused = by (is_too_large effects) (has_no_room (next_entry effects log) log) (is_at_last log) small refused

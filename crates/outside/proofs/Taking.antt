@@ -1,5 +1,5 @@
 -- A text that is read piece by piece.
-use Rattle.std.proofs.Common.{◌≡◌, ℕ, List, [], ◌++◌, take, drop, Option, None, Some, Ok, Err, refl, sym, ◌∙◌, ap, append_assoc}
+use Rattle.std.proofs.Common.{ℕ, List, [], ◌++◌, take, drop, Option, None, Some, Ok, refl, sym, ◌∙◌, ap, append_assoc}
 use Rattle.std.proofs.lemmas.List.{take-append-drop}
 use Rattle.outside.specs.Outside.{Told, Reads, Takes}
 
@@ -24,14 +24,3 @@ takes_read E None rest buf n reads = reads
 takes_read E (Some x) None buf n reads = absurd reads
 takes_read E (Some x) (Some y) buf n reads =
     sym (take-append-drop n x) ∙ ap (λ (l : List ℕ). l ++ drop n x) (sym reads.1) ∙ ap (λ (l : List ℕ). take n buf ++ l) (sym reads.2)
-
--- a refused read takes nothing
-pub takes_refused : (E : Type 0) (left rest : Option (List ℕ)) (buf : List ℕ) (e : E)
-    → Told left rest (λ old new. Reads {E = E} old new buf (Err e)) → Takes left rest []
-takes_refused E None rest buf e reads = reads
-takes_refused E (Some x) None buf e reads = absurd reads
-takes_refused E (Some x) (Some y) buf e reads = sym reads
-
--- nothing is left at the end of the input
-pub nothing_left : (E : Type 0) (x y buf : List ℕ) → Reads {E = E} x y buf (Ok 0) → y ≡ []
-nothing_left E x y buf reads = reads.2 ∙ reads.3 refl

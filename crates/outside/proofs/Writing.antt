@@ -42,12 +42,6 @@ piece_written E a b c text rest n before writes = record {
   adds = adds_then a b c before.front (take n rest) before.adds (adds_written E b c rest n writes);
 }
 
--- nothing is still to come
-pub all_written : (a b : Option (List ℕ)) (text rest : List ℕ) → HasWritten a b text rest → rest ≡ [] → Adds a b text
-all_written a b text rest before none =
-    let whole : before.front ≡ text = sym (append-nil before.front) ∙ ap (λ (l : List ℕ). before.front ++ l) (sym none) ∙ before.whole in
-    subst (Adds a b) whole before.adds
-
 -- a refused write adds nothing more
 adds_refused : (E : Type 0) (a b c : Option (List ℕ)) (piece front : List ℕ) (e : E)
     → Adds a b front → Told b c (λ old new. Writes {E = E} old new piece (Err e)) → Adds a c front

@@ -7,10 +7,10 @@ mod frames;
 mod link;
 mod pace;
 mod port;
+mod program;
 mod streams;
-mod words;
 
 pub use link::TcpLink;
 pub use port::TcpPort;
+pub use program::{Page, end, page_asked, program_words, show};
 pub use streams::{StdSink, StdSource};
-pub use words::program_words;

@@ -1,12 +1,11 @@
 -- Replies in frames.
-use Rattle.std.proofs.Common.{◌≡◌, ◌∙◌, ℕ, false, [], ◌∷◌, Result, Ok, Err, ap, refl, arith}
+use Rattle.std.proofs.Common.{◌≡◌, ◌∙◌, [], ◌∷◌, Result, Ok, Err, ap, refl, arith}
 use Rattle.wire_frames.specs.Frame.{IsValid, frame}
 use Rattle.wire_frames.proofs.Frames.{frame_found, frame_again}
 use Rattle.wire_frames.specs.declared.message.Message.{Message}
-use Rattle.wire_frames.specs.declared.message.Message.TheVariants.{Store, Pull, Accepted, Malformed}
+use Rattle.wire_frames.specs.declared.message.Message.TheVariants.{Store, Pull, Malformed}
 use Rattle.world_rules.specs.Served.{Served, IsServed, refusal, answer, state_after, replay}
 use Rattle.world_rules.proofs.Replies.{answer-valid}
-use Rattle.server_core.specs.Holding.{is_acceptance}
 use Rattle.wire_frames.specs.declared.message.FrameError.{FrameError}
 use Rattle.wire_frames.specs.Reading.{frame_of}
 use Rattle.std.specs.List.{cons_option}
@@ -22,11 +21,6 @@ pub answer-is-valid : (m : Message) (s : Served) → IsValid m → IsServed s �
 answer-is-valid (Store client number effects base) s valid served = answer-valid (Store client number effects base) s valid served tt
 answer-is-valid (Pull client number) s valid served = answer-valid (Pull client number) s valid served tt
 answer-is-valid _ s valid served = not_for_server s
-
--- what is no Accepted is no acceptance
-pub no_acceptance : (m : Message) → ((client number : ℕ) → m ≡ Accepted client number → ⊥) → is_acceptance m ≡ false
-no_acceptance (Accepted client number) apart = absurd (apart client number refl)
-no_acceptance _ apart = refl
 
 -- ---- frames
 

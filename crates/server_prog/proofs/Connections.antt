@@ -1,10 +1,10 @@
 -- Connections that are served one after the other.
-use Rattle.std.proofs.Common.{◌≡◌, ◌≤◌, ◌<◌, inl, inr, ℕ, ◌+◌, ◌-◌, List, [], ◌∷◌, ◌++◌, length, Option, None, Some, refl, sym, ◌∙◌, ap, subst, arith, append_assoc, length-append}
+use Rattle.std.proofs.Common.{◌≡◌, ◌≤◌, ◌<◌, inl, inr, ℕ, ◌+◌, List, [], ◌∷◌, ◌++◌, length, Option, None, Some, refl, sym, ◌∙◌, ap, subst, arith, append_assoc, length-append}
 use Rattle.std.proofs.lemmas.List.{append-nil}
 use Rattle.std.proofs.lemmas.List.Sums.{sum_by-append, count_by-le-length}
 use Rattle.std.proofs.lemmas.Grind.{flat_map-append}
 use Rattle.std.specs.Prelude.{cond}
-use Rattle.outside.specs.Outside.{RoseBy, Rose}
+use Rattle.outside.specs.Outside.{RoseBy}
 use Rattle.outside.specs.Port.{AddsFrames}
 use Rattle.world_rules.specs.Served.{Served}
 use Rattle.server_core.specs.Framing.{frame_answer, frame_after, frames_after}
@@ -53,9 +53,6 @@ adds_behind a b c xs first second = subst (AddsFrames a c) (append-nil xs) (adds
 pub rose_more : (m n a b c : ℕ) → RoseBy m a b → RoseBy n b c → RoseBy (m + n) a c
 rose_more m n a b c first second = omega arith
 
-pub rose_none : (a b : ℕ) → a ≤ b → RoseBy 0 a b
-rose_none a b later = omega arith
-
 -- ---- serving
 
 pub serves_none : (served : Served) (port : Telling) → Serves [] served served port port
@@ -79,68 +76,6 @@ serves_more xs ys s t u a b c first second = record {
   holds =
       second.holds ∙ ap (frames_after (frames_taken ys)) first.holds ∙ sym (frames_after-append (frames_taken xs) (frames_taken ys) s)
       ∙ ap (λ (l : List (List ℕ)). frames_after l s) (sym (frames_taken-append xs ys));
-}
-
--- no connection was left
-pub none_came : (served : Served) (old new : Telling) → old.left ≡ 0 → new.left ≡ old.left - 1 → AddsFrames old.taken new.taken [] → AddsFrames old.answered new.answered [] → old.faults ≤ new.faults
-    → (new.left ≡ 0) × Serves [] served served old new
-none_came served old new none left taken answered later =
-    (omega arith, record { left = omega arith; taken = taken; answered = answered; failed = omega arith; holds = refl })
-
--- a take failed
-pub missed : (served : Served) (old new : Telling) → 0 < old.left → new.left ≡ old.left - 1 → AddsFrames old.taken new.taken [] → AddsFrames old.answered new.answered [] → Rose old.faults new.faults
-    → Serves (Missed ∷ []) served served old new
-missed served old new some left taken answered rose =
-    record { left = omega arith; taken = taken; answered = answered; failed = rose; holds = refl }
-
--- a frame was taken
-pub record Took (frame : List ℕ) (old new : Telling) : Type 0 where
-  pub left : old.left ≡ new.left + 1
-  pub taken : AddsFrames old.taken new.taken (frame ∷ [])
-  pub answered : AddsFrames old.answered new.answered []
-  pub later : old.faults ≤ new.faults
-
--- an answer was tried
-pub record Tried (frames : List (List ℕ)) (old new : Telling) : Type 0 where
-  pub left : new.left ≡ old.left
-  pub taken : AddsFrames old.taken new.taken []
-  pub answered : AddsFrames old.answered new.answered frames
-  pub later : old.faults ≤ new.faults
-
-pub answered_one : (frame : List ℕ) (s t : Served) (a b c : Telling) → Took frame a b → Tried (frame_answer frame s ∷ []) b c → t ≡ frame_after frame s → Serves (Answered frame ∷ []) s t a c
-answered_one frame s t a b c took tried holds = record {
-  left = omega (arith, took.left, tried.left);
-  taken = adds_behind a.taken b.taken c.taken (frame ∷ []) took.taken tried.taken;
-  answered = adds_more a.answered b.answered c.answered [] (frame_answer frame s ∷ []) took.answered tried.answered;
-  failed = omega (arith, took.later, tried.later);
-  holds = holds;
-}
-
-pub unanswered_one : (frame : List ℕ) (s t : Served) (a b c : Telling) → Took frame a b → Tried [] b c → Rose b.faults c.faults → t ≡ frame_after frame s → Serves (Unanswered frame ∷ []) s t a c
-unanswered_one frame s t a b c took tried rose holds = record {
-  left = omega (arith, took.left, tried.left);
-  taken = adds_behind a.taken b.taken c.taken (frame ∷ []) took.taken tried.taken;
-  answered = adds_more a.answered b.answered c.answered [] [] took.answered tried.answered;
-  failed = omega (arith, took.later, rose);
-  holds = holds;
-}
-
--- memory ran out in a take
-pub broken_take : (old new : Telling) → 0 < old.left → new.left ≡ old.left - 1 → AddsFrames old.taken new.taken [] → AddsFrames old.answered new.answered [] → old.faults ≤ new.faults → BreaksOff old new
-broken_take old new some left taken answered later = record { frames = []; few = omega arith; left = omega arith; taken = taken; answered = answered; later = later }
-
--- memory ran out once a frame was taken
-pub broken_frame : (frame : List ℕ) (old new : Telling) → Took frame old new → BreaksOff old new
-broken_frame frame old new took = record { frames = frame ∷ []; few = omega arith; left = took.left; taken = took.taken; answered = took.answered; later = took.later }
-
-pub broken_answer : (frame : List ℕ) (a b c : Telling) → Took frame a b → Tried [] b c → BreaksOff a c
-broken_answer frame a b c took tried = record {
-  frames = frame ∷ [];
-  few = omega arith;
-  left = omega (arith, took.left, tried.left);
-  taken = adds_behind a.taken b.taken c.taken (frame ∷ []) took.taken tried.taken;
-  answered = adds_more a.answered b.answered c.answered [] [] took.answered tried.answered;
-  later = omega (arith, took.later, tried.later);
 }
 
 -- ---- counting

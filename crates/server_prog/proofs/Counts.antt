@@ -1,5 +1,5 @@
 -- A count of connections, and the digits that are printed of it.
-use Rattle.std.proofs.Common.{◌≡◌, ◌≢◌, ◌<◌, ◌≤◌, ◌^◌, ℕ, List, [], ◌∷◌, length, get_or, Option, None, Some, Result, Ok, Bool, true, false, ◌&&◌, nat_le, decimal, if◌then◌else◌, refl, sym, ◌∙◌, ap, subst, arith, rules}
+use Rattle.std.proofs.Common.{◌≡◌, ◌<◌, ◌≤◌, ◌^◌, ℕ, List, [], ◌∷◌, length, get_or, None, Some, Result, Ok, Bool, true, false, ◌&&◌, nat_le, decimal, if◌then◌else◌, refl, sym, ◌∙◌, ap, subst, arith, rules}
 use Rattle.std.specs.Result.{OkIff}
 use Rattle.std.specs.Str.{bytes_eq}
 use Rattle.std.specs.Str.Parse.{digits_value, ParsesUnsigned, AllDigits}

@@ -1,13 +1,13 @@
 -- How a run ends.
-use Rattle.std.proofs.Common.{◌≡◌, inl, inr, ℕ, List, length, take, Option, Result, Ok, Err, OnOk, OnErr, refl, sym, subst, ap, ◌∙◌}
+use Rattle.std.proofs.Common.{◌≡◌, inl, ℕ, List, length, take, Option, Result, Ok, Err, OnOk, OnErr, subst, ap, ◌∙◌}
 use Rattle.outside.specs.declared.errors.SinkError.{SinkError}
 use Rattle.outside.specs.declared.errors.SinkError.TheVariants.{Failed, Memory}
 use Rattle.outside.specs.Outside.{Adds}
 use Rattle.world_rules.specs.Served.{Served, new_served}
 use Rattle.server_prog.specs.declared.serving.Tally.{Tally}
-use Rattle.server_prog.specs.Serving.{Connection, Telling, frames_taken, failures}
-use Rattle.server_prog.specs.Run.{last_line, line_of, IsServed, IsBrokenOff, StopsInLine, StopsInServing, RunTurn}
-use Rattle.server_prog.specs.Inside.{ServesAll, ServesFront}
+use Rattle.server_prog.specs.Serving.{Telling, frames_taken}
+use Rattle.server_prog.specs.Run.{last_line, line_of, IsServed, StopsInLine, RunTurn}
+use Rattle.server_prog.specs.Inside.{ServesAll}
 
 -- the last line tells what was counted
 line_is : (count : ℕ) (tally : Tally) (s t : Served) (old new : Telling) (all : ServesAll count tally s t old new) → last_line tally.frames tally.faults ≡ line_of all.connections
@@ -31,8 +31,3 @@ run_ends count tally after old new written now (Ok done) all line front =
     (all.connections, after, is_served count tally after old new all, subst (Adds written now) (line_is count tally new_served after old new all) line)
 run_ends count tally after old new written now (Err Failed) all line front = stops_in_line count tally after old new written now all front
 run_ends count tally after old new written now (Err Memory) all line front = inl (stops_in_line count tally after old new written now all front)
-
--- want of memory broke off the serving
-pub run_breaks : (count : ℕ) (old new : Telling) (written : Option (List ℕ)) → ServesFront count new_served old new → RunTurn count old new written written (Err Memory)
-run_breaks count old new written front =
-    inr (front.connections, front.after, front.middle, record { serves = front.serves; most = front.most; broken = front.broken }, refl)

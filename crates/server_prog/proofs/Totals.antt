@@ -1,5 +1,5 @@
 -- What the connections of a run amount to.
-use Rattle.std.proofs.Common.{◌≡◌, ◌≤◌, ◌<◌, ◌⊎◌, inl, inr, ⊎_elim, ℕ, ◌+◌, ◌-◌, List, [], ◌∷◌, ◌++◌, length, Option, Some, Result, Ok, Err, refl, sym, ◌∙◌, ap, subst, arith}
+use Rattle.std.proofs.Common.{◌≡◌, ◌≤◌, ◌⊎◌, inl, inr, ⊎_elim, ℕ, ◌+◌, ◌-◌, List, [], ◌∷◌, ◌++◌, length, Option, Some, Result, Ok, Err, refl, sym, ◌∙◌, ap, subst, arith}
 use Rattle.std.proofs.lemmas.List.{append_cancel_left}
 use Rattle.outside.specs.declared.errors.SinkError.{SinkError}
 use Rattle.outside.specs.declared.errors.SinkError.TheVariants.{Failed, Memory}
@@ -7,8 +7,8 @@ use Rattle.outside.specs.Outside.{RoseBy, Adds}
 use Rattle.outside.specs.Port.{AddsFrames}
 use Rattle.world_rules.specs.Served.{Served, new_served}
 use Rattle.server_core.specs.Framing.{frame_after}
-use Rattle.server_prog.specs.Serving.{Connection, Missed, Unanswered, Answered, Telling, Serves, frames_taken, frames_answered, failures}
-use Rattle.server_prog.specs.Run.{status_of, last_line, line_of, IsServed, IsBrokenOff, StopsInLine, StopsInServing, RunTurn, Ran}
+use Rattle.server_prog.specs.Serving.{Connection, Missed, Unanswered, Answered, Telling, frames_taken, frames_answered, failures}
+use Rattle.server_prog.specs.Run.{status_of, last_line, line_of, IsServed, IsBrokenOff, RunTurn}
 use Rattle.server_prog.specs.Laws.{fall, HasFallen, FallsAreBounded, HasFrames, IsTold, FramesAreCounted}
 use Rattle.server_prog.proofs.Connections.{adds_behind, failures-append}
 

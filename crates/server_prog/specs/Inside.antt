@@ -1,6 +1,5 @@
 -- Words that only contracts below the whole run cite.
-use Rattle.std.specs.Prelude.{◌≡◌, ◌≤◌, ◌<◌, ◌+◌, ◌⊎◌, ◌&&◌, nat_le, Bool, false, ℕ, List, [], ◌∷◌, length, Result, Ok, Err}
-use Rattle.std.specs.declared.alloc.AllocError.{AllocError}
+use Rattle.std.specs.Prelude.{◌≡◌, ◌≤◌, ◌<◌, ◌+◌, ◌⊎◌, ◌&&◌, nat_le, Bool, false, ℕ, List, [], ◌∷◌, length}
 use Rattle.world_rules.specs.Served.{Served}
 use Rattle.server_prog.specs.declared.serving.Came.{Came}
 use Rattle.server_prog.specs.declared.serving.Came.TheVariants as came

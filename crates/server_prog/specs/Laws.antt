@@ -1,5 +1,5 @@
 -- What the connections of a run amount to. Its fall is the number by which the connections left fell.
-use Rattle.std.specs.Prelude.{◌≡◌, ◌≤◌, ◌⊎◌, ℕ, ◌+◌, ◌-◌, List, ◌++◌, length, Option, Some}
+use Rattle.std.specs.Prelude.{◌≡◌, ◌≤◌, ◌⊎◌, ℕ, ◌-◌, List, ◌++◌, length, Option, Some}
 use Rattle.outside.specs.Outside.{RoseBy, Adds}
 use Rattle.server_prog.specs.Serving.{Telling}
 use Rattle.server_prog.specs.Run.{Ran, last_line}

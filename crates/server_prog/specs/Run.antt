@@ -1,5 +1,6 @@
 -- What a run of the server does by the status that it gives.
-use Rattle.std.specs.Prelude.{◌≡◌, ◌≤◌, ◌<◌, ◌⊎◌, ℕ, List, [], ◌∷◌, ◌++◌, length, take, Option, Result, Ok, Err, codes, decimal}
+use Rattle.std.specs.Prelude.{◌≡◌, ◌==◌, ◌≤◌, ◌<◌, ◌⊎◌, ℕ, Bool, List, [], ◌∷◌, ◌++◌, length, take, Option, Result, Ok, Err, codes, decimal}
+use Rattle.std.specs.List.{list_any}
 use Rattle.outside.specs.declared.errors.SinkError.{SinkError}
 use Rattle.outside.specs.declared.errors.SinkError.TheVariants.{Failed, Memory}
 use Rattle.outside.specs.Outside.{Adds}
@@ -11,6 +12,10 @@ abbrev pub status_of : Result (Unit {0}) SinkError → ℕ
 status_of (Ok done) = 0
 status_of (Err Failed) = 4
 status_of (Err Memory) = 7
+
+-- the statuses that the program may end with: 1 where it cannot listen
+abbrev pub is_status : ℕ → Bool
+is_status status = list_any (λ known. known == status) (0 ∷ 1 ∷ 2 ∷ 4 ∷ 7 ∷ [])
 
 -- the line that ends the output: how many frames were taken, and how many calls of the port failed
 abbrev pub last_line : ℕ → ℕ → List ℕ

@@ -1,10 +1,14 @@
 // The program: the server over TCP and standard output.
-ghost use Rattle.std.specs.Prelude.{◌≡◌, ◌↔◌, ◌⊎◌, IsSome, codes};
+ghost use Rattle.std.specs.Prelude.{◌≡◌, ◌↔◌, None, IsTrue, map};
+ghost use Rattle.std.specs.String.{string_bytes};
+ghost use Rattle.std.specs.Process.{exit_status};
+ghost use Rattle.real_edge.specs.Program.{page_asked};
+ghost use Rattle.server_prog.specs.Run.{is_status};
+ghost use Rattle.server_prog.specs.Words.{run_of};
 
 use crate::run::server_run;
 use crate::words::run_words;
-use outside::{SinkError, write_all};
-use real_edge::{StdSink, TcpPort, program_words};
+use real_edge::{Page, StdSink, TcpPort, end, page_asked, program_words, show};
 use std::io;
 use std::io::ErrorKind;
 use std::net::Net;
@@ -43,15 +47,18 @@ const CANNOT_LISTEN: u8 = 1;
 
 const NO_FORM: u8 = 2;
 
-const SINK_FAILED: u8 = 4;
-
 const NO_MEMORY: u8 = 7;
 
+/// The program's name, as standard error tells it.
+const NAME: &str = "server";
+
 /// Runs the server with the words behind the program's name. Words that are no text are of no form.
-pub fn server_program<R: Print + Eprint + AllocGlobal + Env + Net + Clock>(rt: &R) -> ExitCode {
+pub fn server_program<R: Print + Eprint + AllocGlobal + Env + Net + Clock>(rt: &R) -> ExitCode
+    ensures { IsTrue (is_status (exit_status result)) }
+{
     match program_words(rt) {
         Ok(words) => server_main(rt, &words),
-        Err(error) if error.kind() == ErrorKind::OutOfMemory => end(rt, NO_MEMORY),
+        Err(error) if error.kind() == ErrorKind::OutOfMemory => end(rt, NAME, NO_MEMORY),
         Err(_) => server_main(rt, &[]),
     }
 }
@@ -63,46 +70,28 @@ pub fn server_program<R: Print + Eprint + AllocGlobal + Env + Net + Clock>(rt: &
 pub fn server_main<R: Print + Eprint + AllocGlobal + Net + Clock>(
     rt: &R,
     words: &[String],
-) -> ExitCode {
-    let page = match words {
-        [word] => page_of(word.as_str()),
-        _ => None,
-    };
-    match page {
-        Some(page) => end(rt, show(rt, page)),
+) -> ExitCode
+    ensures form { exit_status result ≡ 2 ↔ (page_asked (map string_bytes words.now) ≡ None) × (run_of (map string_bytes words.now) ≡ None) }
+    ensures known { IsTrue (is_status (exit_status result)) }
+{
+    match page_asked(words) {
+        Some(Page::Help) => end(rt, NAME, show(rt, HELP)),
+        Some(Page::Version) => end(rt, NAME, show(rt, VERSION)),
         None => run_at(rt, words),
     }
 }
 
-/// What the word shows, where it asks for a text about the program.
-fn page_of(word: &str) -> Option<&'static str>
-    ensures { IsSome result ↔ ((word.now ≡ codes "--help") ⊎ (word.now ≡ codes "--version")) }
-{
-    match word {
-        "--help" => Some(HELP),
-        "--version" => Some(VERSION),
-        _ => None,
-    }
-}
-
-/// Writes a text about the program, and answers the status.
-fn show<R: Print>(rt: &R, page: &str) -> u8 {
-    let mut output = StdSink::new(io::writer(rt));
-    match write_all(&mut output, page.as_bytes()) {
-        Ok(()) => 0,
-        Err(SinkError::Failed) => SINK_FAILED,
-        Err(SinkError::Memory) => NO_MEMORY,
-    }
-}
-
 /// Listens where the words say, and runs the server there. Words of no form listen nowhere.
-fn run_at<R: Print + Eprint + AllocGlobal + Net + Clock>(rt: &R, words: &[String]) -> ExitCode {
+fn run_at<R: Print + Eprint + AllocGlobal + Net + Clock>(rt: &R, words: &[String]) -> ExitCode
+    ensures form { exit_status result ≡ 2 ↔ run_of (map string_bytes words.now) ≡ None }
+    ensures known { IsTrue (is_status (exit_status result)) }
+{
     let Some(run) = run_words(words) else {
-        return end(rt, NO_FORM);
+        return end(rt, NAME, NO_FORM);
     };
     let address = run.address;
     match TcpPort::bind(rt.alloc(), rt, address) {
-        Ok(mut port) => end(rt, serve_at(rt, words, &mut port)),
+        Ok(mut port) => end(rt, NAME, serve_at(rt, words, &mut port)),
         Err(error) => {
             let _ = eprintln!(rt; "server: cannot listen at {address}: {error}");
             ExitCode::from(CANNOT_LISTEN)
@@ -115,15 +104,10 @@ fn serve_at<R: Print + AllocGlobal + Net + Clock>(
     rt: &R,
     words: &[String],
     port: &mut TcpPort<'_, R>,
-) -> u8 {
+) -> u8
+    ensures form { result ≡ 2 ↔ run_of (map string_bytes words.now) ≡ None }
+    ensures known { IsTrue (is_status result) }
+{
     let mut output = StdSink::new(io::writer(rt));
     server_run(rt.alloc(), words, port, &mut output)
-}
-
-/// Says a status that is not 0 on standard error.
-fn end<R: Eprint>(rt: &R, status: u8) -> ExitCode {
-    if status != 0 {
-        let _ = eprintln!(rt; "server: status {status}");
-    }
-    ExitCode::from(status)
 }

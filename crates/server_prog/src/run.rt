@@ -1,10 +1,10 @@
 // A run of the server over its connections.
-ghost use Rattle.std.specs.Prelude.{◌≡◌, ◌≤◌, ◌⊎◌, ◌↔◌, ℕ, None, IfOk, OnOk, OnErr, IfSome, take, map};
+ghost use Rattle.std.specs.Prelude.{◌≡◌, ◌≤◌, ◌⊎◌, ◌↔◌, ℕ, None, IfOk, OnOk, OnErr, IfSome, IsTrue, take, map};
 ghost use Rattle.std.specs.String.{string_bytes};
 ghost use Rattle.outside.specs.Outside.{Adds, HasCause, Rose};
 ghost use Rattle.server_prog.specs.Words.{run_of};
 ghost use Rattle.server_prog.specs.Serving.{telling};
-ghost use Rattle.server_prog.specs.Run.{status_of, last_line, RunTurn, Ran};
+ghost use Rattle.server_prog.specs.Run.{status_of, is_status, last_line, RunTurn, Ran};
 
 use crate::serving::{Tally, serve};
 use crate::words::run_words;
@@ -14,7 +14,8 @@ use std::alloc::{AllocError, Global};
 
 /// The status of a run that ended so.
 fn status_of(ended: Result<(), SinkError>) -> u8
-    ensures { result ≡ status_of ended }
+    ensures status { result ≡ status_of ended }
+    ensures known { IsTrue (is_status result) }
 {
     match ended {
         Ok(()) => 0,
@@ -78,6 +79,7 @@ pub fn server_run<P: Port, O: Sink>(
     output: &mut O,
 ) -> u8
     ensures form { result ≡ 2 ↔ run_of (map string_bytes words.now) ≡ None }
+    ensures known { IsTrue (is_status result) }
     ensures untouched { run_of (map string_bytes words.now) ≡ None → (P.left port.new ≡ P.left port.old) × (P.taken port.new ≡ P.taken port.old) × (P.answered port.new ≡ P.answered port.old) × (P.faults port.new ≡ P.faults port.old) × (O.written output.new ≡ O.written output.old) × (O.faults output.new ≡ O.faults output.old) }
     ensures sink { result ≡ 4 → Rose (O.faults output.old) (O.faults output.new) }
     ensures complete { IfSome (run_of (map string_bytes words.now)) (λ run. (Rose (O.faults output.old) (O.faults output.new) → ⊥) → (result ≡ 0) ⊎ (result ≡ 7)) }

@@ -9,7 +9,7 @@ use Rattle.shell_lang.specs.declared.line.LineError.{LineError}
 use Rattle.shell_lang.specs.declared.line.LineError.TheVariants.{BadWord, OpenQuote, UnknownWord, WrongCount, Memory}
 use Rattle.shell_lang.specs.Words.{pieces_from, pieces, inside_after, is_quote, is_empty, bare_word, closed_word, word_of, words_from, words_of, ◌>>=◌}
 use Rattle.shell_lang.specs.Spelling.{Spelling, has_no_quote, has_no_space, can_spell, spelled, spelled_line, words_spelled}
-use Rattle.shell_lang.specs.Refusing.{counted_on, FrontIsRead, OpenIsRefused, FollowedIsRefused, EndsWord, IsBadBare, BareIsRefused}
+use Rattle.shell_lang.specs.Refusing.{counted_on, FrontIsRead, OpenIsRefused, FollowedIsRefused, EndsWord, BareIsRefused}
 use Rattle.shell_lang.proofs.Pieces.{onto_front, onto_front-none, before}
 use Rattle.shell_lang.proofs.Spelled.{false_of, quoted_front, none_has, quoted_has, cut_spelled, read_spelled}
 

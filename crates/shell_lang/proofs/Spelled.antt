@@ -1,5 +1,5 @@
 -- A line that spells words reads as these words.
-use Rattle.std.proofs.Common.{◌≡◌, ℕ, ◌+◌, List, [], ◌∷◌, ◌++◌, length, take, map, Bool, true, false, not, ◌==◌, Option, Some, None, Result, Ok, Err, arith, refl, sym, ap, ◌∙◌, append_assoc, append-nil, length-append, eq-eqb}
+use Rattle.std.proofs.Common.{◌≡◌, ℕ, ◌+◌, List, [], ◌∷◌, ◌++◌, length, take, Bool, true, false, not, ◌==◌, Option, Some, None, Result, Ok, Err, arith, refl, sym, ap, ◌∙◌, append_assoc, append-nil, length-append, eq-eqb}
 use Rattle.std.specs.Prelude.{◌&&◌, ◌||◌, if◌then◌else◌, position, is_some}
 use Rattle.std.specs.List.{onto_first, list_all, position_or_len}
 use Rattle.std.specs.Cmp.{first_so, second_so}

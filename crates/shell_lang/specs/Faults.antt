@@ -116,9 +116,6 @@ fault_values (faults.Pending n) = number n
 abbrev pub tree_fault_text : TreeError → List ℕ
 tree_fault_text refusal = tree_fault_name refusal ++ tree_fault_values refusal
 
-abbrev pub log_fault_text : LogError → List ℕ
-log_fault_text refusal = log_fault_name refusal ++ log_fault_values refusal
-
 abbrev pub fault_text : Fault → List ℕ
 fault_text refusal = fault_name refusal ++ fault_values refusal
 

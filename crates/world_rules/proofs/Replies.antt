@@ -267,10 +267,6 @@ client_high client e = grind (arith, nat_tests)
 pub store-client : (client number : ℕ) (effects : List Effect) (base : List Base) → IsValid (Store client number effects base) → (1 ≤ client) × (client ≤ 64)
 store-client client number effects base valid = (client_low client valid.client_fits, client_high client valid.client_fits)
 
--- and so is a valid pull
-pub pull-client : (client number : ℕ) → IsValid (Pull client number) → (1 ≤ client) × (client ≤ 64)
-pull-client client number valid = (client_low client valid.client_fits, client_high client valid.client_fits)
-
 -- each effect of a valid store has legal paths
 pub store-effects : (client number : ℕ) (effects : List Effect) (base : List Base) → IsValid (Store client number effects base) → AllByRecursion IsLegalEffect effects
 store-effects client number effects base valid = legal_effects effects valid.body_fits.0.each

@@ -127,9 +127,6 @@ gt_if m n e = grind (arith, nat_tests)
 pub lt_if : (m n : ℕ) → nat_lt m n ≡ true → m < n
 lt_if m n e = grind (arith, nat_tests)
 
-pub ge_if : (m n : ℕ) → nat_lt m n ≡ false → n ≤ m
-ge_if m n e = grind (arith, nat_tests)
-
 -- ---- a delivery
 
 abbrev pub last_after : ℕ → ℕ → Verdict → ℕ

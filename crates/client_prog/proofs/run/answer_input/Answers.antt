@@ -1,4 +1,4 @@
-use Rattle.std.proofs.Common.{◌≡◌, Bool, true, false, ◌++◌, ◌∷◌, [], Ok, Err, sym, ap, ◌∙◌, subst, arith, refl}
+use Rattle.std.proofs.Common.{◌≡◌, Bool, false, ◌++◌, ◌∷◌, [], Ok, Err, sym, ap, ◌∙◌, subst, arith}
 use Rattle.world_rules.proofs.Asks.{told_start, told_as, told_then}
 use Rattle.shell_lang.specs.Lines.{whole_lines, parts}
 use Rattle.client_prog.specs.declared.input.InputEnd.TheVariants.{Read}
@@ -6,7 +6,7 @@ use Rattle.client_prog.specs.declared.run.Stop.TheVariants.{Memory}
 use Rattle.client_prog.specs.Input.{last_at, Reading, EndsAt, GoesOnOrEnds}
 use Rattle.client_prog.specs.Run.{has_quit, up_to_quit}
 use Rattle.client_prog.specs.InsideSession.{Does}
-use Rattle.client_prog.specs.InsideRun.{AnswersLines, AnswersSoFar, AnswersInput, ReadsSoFar, HasUnfinished}
+use Rattle.client_prog.specs.InsideRun.{AnswersLines, AnswersSoFar, AnswersInput, HasUnfinished}
 use Rattle.client_prog.proofs.Doing.{does_none, does_as, does_then}
 use Rattle.client_prog.proofs.RunningPieces.{reads_none, reads_more, quits_in, stops_in, lost_in, all_in, ends_at, so_far_none, so_far_more, so_far_quits, so_far_stops, so_far_lost, all_answered, all_stops}
 use Rattle.client_prog.proofs.run.answer_input.Goals as goal

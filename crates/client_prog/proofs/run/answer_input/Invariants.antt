@@ -1,4 +1,4 @@
-use Rattle.std.proofs.Common.{◌≡◌, ◌≤◌, ◌+◌, ◌-◌, ℕ, List, [], ◌∷◌}
+use Rattle.std.proofs.Common.{◌≡◌, ◌≤◌, ◌-◌, ℕ, List, [], ◌∷◌}
 use Rattle.outside.specs.Outside.{Told}
 use Rattle.shell_lang.specs.Lines.{parts}
 use Rattle.client_prog.specs.declared.input.TheConstants.{MAX_INPUT}

@@ -1,4 +1,4 @@
-use Rattle.std.proofs.Common.{ℕ, List, Option, refl, sym, subst}
+use Rattle.std.proofs.Common.{ℕ, Option, refl, sym, subst}
 use Rattle.std.specs.Prelude.{IfSome}
 use Rattle.outside.specs.Outside.{Told}
 use Rattle.world_rules.proofs.Asks.{told_start, told_as}
@@ -39,15 +39,15 @@ returns-clause-session g c =
     subst (λ (route : Route). Told v w (RunGoes run.client route left rest o n ended t u)) c.in-Ok.ensures c.run.ensures.world in
     subst (λ (f : Option Run). IfSome f (λ r. Told v w (Ran r.client (route_of r) left rest o n c.status_of.result t u))) (sym c.in-Some.ensures.form)
     (told_as v w (RunGoes run.client (route_of run) left rest o n ended t u) (Ran run.client (route_of run) left rest o n c.status_of.result t u) goes
-    (λ x y went. ran run.client (route_of run) left rest o n ended c.status_of.result t u x y c.status_of.ensures went))
+    (λ x y went. ran run.client (route_of run) left rest o n ended c.status_of.result t u x y c.status_of.ensures.status went))
 
 pub returns-clause-input : goal.returns-clause-input
 returns-clause-input g c =
     let left = g.I.Source.left c.args.input.now in
     let rest = g.I.Source.left c.run.new.input in
-    subst (λ (status : ℕ). Told left rest (IsRead status)) (sym c.status_of.ensures) (is_read left rest c.run.result c.run.ensures.input)
+    subst (λ (status : ℕ). Told left rest (IsRead status)) (sym c.status_of.ensures.status) (is_read left rest c.run.result c.run.ensures.input)
 
 pub returns-clause-complete : goal.returns-clause-complete
 returns-clause-complete g c =
     complete_status _ (g.I.Source.left c.args.input.now) (g.I.Source.left c.run.new.input) (g.I.Source.faults c.args.input.now) (g.I.Source.faults c.run.new.input)
-    (g.O.Sink.faults c.args.output.now) (g.O.Sink.faults c.run.new.output) c.status_of.result c.run.result c.status_of.ensures c.run.ensures.input c.run.ensures.source c.run.ensures.sink
+    (g.O.Sink.faults c.args.output.now) (g.O.Sink.faults c.run.new.output) c.status_of.result c.run.result c.status_of.ensures.status c.run.ensures.input c.run.ensures.source c.run.ensures.sink

@@ -1,4 +1,4 @@
-use Rattle.std.proofs.Common.{◌≡◌, Ok, Err, subst}
+use Rattle.std.proofs.Common.{Ok, Err, subst}
 use Rattle.outside.specs.Outside.{Told}
 use Rattle.world_rules.proofs.Asks.{told_as}
 use Rattle.client_prog.specs.Session.{State, new_state}

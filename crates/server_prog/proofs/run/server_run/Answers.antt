@@ -12,4 +12,4 @@ returns-clause-served g c =
     let o = g.O.Sink.written c.args.output.now in
     let n = g.O.Sink.written c.run.new.output in
     subst (λ (f : Option Run). IfSome f (λ r. Ran r.count c.status_of.result old new o n)) (sym c.in-Some.ensures.form)
-    (c.run.result, c.status_of.ensures, c.run.ensures.turn)
+    (c.run.result, c.status_of.ensures.status, c.run.ensures.turn)

@@ -1,5 +1,4 @@
 use Rattle.std.proofs.Common.{◌≡◌, ℕ, List, Option, None, Some, Result, Ok, Err, IfOk, refl, sym, ◌∙◌, ap, subst}
-use Rattle.outside.specs.Outside.{Told}
 use Rattle.shell_lang.specs.declared.line.Line.{Line}
 use Rattle.shell_lang.specs.declared.line.Line.TheVariants.{Empty, Put, Make, Remove, Move, Cat, List as Ls, Enter, Status, Quit}
 use Rattle.shell_lang.specs.declared.line.LineError.{LineError}
@@ -7,7 +6,6 @@ use Rattle.shell_lang.specs.declared.answer.Answer.TheVariants.{Refused}
 use Rattle.shell_lang.specs.declared.answer.Fault.TheVariants as faults
 use Rattle.mod_log.specs.Log.{tree_of}
 use Rattle.client_prog.specs.Looking.{list_answer}
-use Rattle.client_prog.specs.InsideSession.{Does, LineEnds, Quietly}
 use Rattle.client_prog.specs.Causes.{HasLineCause}
 use Rattle.client_prog.proofs.Turning.{line_world, quietly_caused, tells_quietly, silent_quietly, told_quietly, logs_quietly, enter_quietly, status_quietly}
 use Rattle.client_prog.proofs.session.Session.answer.Goals as goal
