@@ -35,13 +35,26 @@ status
 quit
 LINES
 
-# A session with a new server, in which allocation $1 of the client fails; the status goes to the file status.
+# Starts a server at the next port that is free.
+start_server() {
+    while true; do
+        port=$((20001 + (port + 7) % 20000))
+        "$top/crates/server/out/server" run "127.0.0.1:$port" image 32 > "$work/served" 2>&1 &
+        server=$!
+        tries=0
+        while kill -0 "$server" 2> /dev/null && [ "$tries" -lt 100 ]; do
+            if (exec 3<> "/dev/tcp/127.0.0.1/$port") 2> /dev/null; then return; fi
+            tries=$((tries + 1))
+            sleep 0.01
+        done
+        kill "$server" 2> /dev/null || true
+        wait "$server" 2> /dev/null || true
+    done
+}
+
+# A session with a new server, in which allocation $1 of the client fails; what it ended with goes to status.
 session() {
-    port=$((20000 + ($$ + $1 * 7) % 20000))
-    "$top/crates/server/out/server" run "127.0.0.1:$port" image 32 > "$work/served" &
-    server=$!
-    tries=0
-    until (exec 3<> "/dev/tcp/127.0.0.1/$port") 2> /dev/null || [ "$tries" -ge 50 ]; do tries=$((tries + 1)); sleep 0.01; done
+    start_server
     status=0
     FAIL_NTH=$1 COUNT_TO="$work/count" LD_PRELOAD="$work/fail_nth.so" "$top/crates/client/out/client" run 1 image "127.0.0.1:$port" - work < "$work/lines" > "$work/answers" 2> "$work/said" || status=$?
     kill "$server" 2> /dev/null || true
@@ -49,6 +62,7 @@ session() {
     server=
 }
 
+port=$$
 session 0
 cp "$work/answers" "$work/all"
 total=$(cat "$work/count")
@@ -59,6 +73,7 @@ while [ "$number" -le "$total" ]; do
     size=$(wc -c < "$work/answers")
     if [ "$status" = 0 ] && cmp -s "$work/answers" "$work/all"; then
         zero=$((zero + 1))
+        echo "allocation $number: the program did without it"
     elif [ "$status" = 7 ] && head -c "$size" "$work/all" | cmp -s - "$work/answers"; then
         seven=$((seven + 1))
     else
