@@ -1,6 +1,6 @@
 use client_prog::client_run;
 use mem_net::{Fate, MemNet};
-use outside::{MemSink, MemSource};
+use outside::{MemKeeper, MemSink, MemSource};
 use server_core::Server;
 use std::alloc::{AllocError, Global};
 use std::test::Fail;
@@ -32,7 +32,15 @@ fn run_over(alloc: Global, input: &[u8], fates: Vec<Fate>) -> Result<Ended, Allo
     let mut source = MemSource::new(alloc, input.to_vec(alloc)?, Vec::new(alloc));
     let mut output = MemSink::new(alloc, Vec::new(alloc));
     let mut net = MemNet::new(alloc, 1, Server::new(alloc), fates)?;
-    let status = client_run(alloc, &words, &mut source, &mut output, &mut net);
+    let mut keeper = MemKeeper::new(alloc, Vec::new(alloc));
+    let status = client_run(
+        alloc,
+        &words,
+        &mut source,
+        &mut output,
+        &mut keeper,
+        &mut net,
+    );
     Ok(Ended {
         status,
         output,
@@ -60,7 +68,15 @@ fn run_failing(
     let mut source = MemSource::new(alloc, input.to_vec(alloc)?, source_fails);
     let mut output = MemSink::new(alloc, sink_fails);
     let mut net = MemNet::new(alloc, 1, Server::new(alloc), Vec::new(alloc))?;
-    let status = client_run(alloc, &words, &mut source, &mut output, &mut net);
+    let mut keeper = MemKeeper::new(alloc, Vec::new(alloc));
+    let status = client_run(
+        alloc,
+        &words,
+        &mut source,
+        &mut output,
+        &mut keeper,
+        &mut net,
+    );
     Ok((status, output))
 }
 
@@ -69,7 +85,15 @@ fn status_by(alloc: Global, words: &[String]) -> Result<u8, AllocError> {
     let mut source = MemSource::new(alloc, Vec::new(alloc), Vec::new(alloc));
     let mut output = MemSink::new(alloc, Vec::new(alloc));
     let mut net = MemNet::new(alloc, 1, Server::new(alloc), Vec::new(alloc))?;
-    Ok(client_run(alloc, words, &mut source, &mut output, &mut net))
+    let mut keeper = MemKeeper::new(alloc, Vec::new(alloc));
+    Ok(client_run(
+        alloc,
+        words,
+        &mut source,
+        &mut output,
+        &mut keeper,
+        &mut net,
+    ))
 }
 
 #[test]

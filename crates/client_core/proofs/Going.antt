@@ -1,7 +1,8 @@
 -- How what a client did goes on from call to call.
-use Rattle.std.proofs.Common.{◌≡◌, ◌≢◌, ℕ, zero, suc, ◌+◌, List, [], ◌∷◌, ◌++◌, refl, sym, subst, arith, append_assoc}
+use Rattle.std.proofs.Common.{◌≡◌, ◌≢◌, ◌⊎◌, inl, inr, ⊎_elim, ℕ, zero, suc, ◌+◌, List, [], ◌∷◌, ◌++◌, Option, None, Some, Result, Ok, Err, IfOk, refl, sym, ◌∙◌, ap, subst, arith, append_assoc}
 use Rattle.std.proofs.lemmas.List.{append-nil}
-use Rattle.outside.specs.Outside.{RoseBy}
+use Rattle.outside.specs.Outside.{Told, RoseBy}
+use Rattle.outside.specs.Keeper.{Images}
 use Rattle.vol_tree.specs.Behind.{IsIn}
 use Rattle.mod_log.specs.declared.log.Entry.{Entry}
 use Rattle.mod_log.specs.Log.{Log, IsLog, logged}
@@ -13,11 +14,14 @@ use Rattle.world_rules.specs.declared.asking.Answer.TheVariants.{Reply}
 use Rattle.world_rules.specs.World.{World, Moved}
 use Rattle.world_rules.specs.Asking.{ask_of}
 use Rattle.world_rules.specs.InStep.{MaySend}
-use Rattle.world_rules.specs.Run.{Runs, Acknowledges, Logs}
+use Rattle.world_rules.specs.Run.{Runs, kept_at, Acknowledges, Logs, Saves}
+use Rattle.world_rules.proofs.Asks.{told_then}
 use Rattle.world_rules.proofs.Runs.{runs_none, runs_then, runs_once, moved_runs}
-use Rattle.client_core.specs.Trace.{Trace, nothing, followed, asking}
+use Rattle.store_image.specs.Image.{Keeps}
+use Rattle.client_core.specs.Trace.{Trace, nothing, followed, asking, last_log, log_before_last, IsLastOrBefore}
 use Rattle.client_core.specs.Settling.{failures, settled, failed_asks}
 use Rattle.client_core.specs.Syncing.{acknowledged_first}
+use Rattle.client_core.specs.Keeping.{OthersStay, IsKept, Kept, Keeping, KeepsLog}
 use Rattle.client_core.specs.Goes.{Goes, stand}
 
 -- ---- traces
@@ -27,6 +31,9 @@ followed-nothing trace = λ i. record { asks = sym (append-nil trace.asks) i; en
 
 pub followed-assoc : (a b c : Trace) → followed (followed a b) c ≡ followed a (followed b c)
 followed-assoc a b c = λ i. record { asks = append_assoc a.asks b.asks c.asks i; entries = append_assoc a.entries b.entries c.entries i; changes = append_assoc a.changes b.changes c.changes i }
+
+pub changed_so : (changes : List Log) (change : Log) (more : List Log) → changes ≡ change ∷ more → changes ≢ []
+changed_so changes change more is = λ none. absurd (cc (sym none ∙ is))
 
 -- ---- the asks that failed
 
@@ -42,55 +49,178 @@ module _ (to : Peer) (address : List ℕ) (request : Message) where
   pub failed-settled : (n : ℕ) (reply : Message) → failed_asks (settled to address request n reply) ≡ n
   failed-settled n reply = omega (arith, failed-append (failures to address request n) (ask_of to address request (Reply reply) ∷ []), failed-failures n)
 
+-- ---- what is kept
+
+last_log-append : (log : Log) (xs ys : List Log) → last_log log (xs ++ ys) ≡ last_log (last_log log xs) ys
+last_log-append log [] ys = refl
+last_log-append log (x ∷ xs) ys = last_log-append x xs ys
+
+before_last-append : (log : Log) (xs : List Log) (y : Log) (ys : List Log) → log_before_last log (xs ++ y ∷ ys) ≡ log_before_last (last_log log xs) (y ∷ ys)
+before_last-append log [] y ys = refl
+before_last-append log (x ∷ []) y ys = refl
+before_last-append log (x ∷ z ∷ xs) y ys = before_last-append x (z ∷ xs) y ys
+
+-- behind further changes the last two of those stand
+behind_then : (log : Log) (xs ys : List Log) (kept : Log) → IsLastOrBefore (last_log log xs) ys kept → IsLastOrBefore log (xs ++ ys) kept
+behind_then log xs ys kept (inl is) = inl (is ∙ sym (last_log-append log xs ys))
+behind_then log xs [] kept (inr is) = inl (is ∙ sym (last_log-append log xs []))
+behind_then log xs (y ∷ ys) kept (inr is) = inr (is ∙ sym (before_last-append log xs y ys))
+
+both_none : (xs ys : List Log) → xs ++ ys ≡ [] → (xs ≡ []) × (ys ≡ [])
+both_none [] ys none = (refl, none)
+both_none (x ∷ xs) ys none = absurd (cc)
+
+module _ (name : List ℕ) (client : ℕ) where
+  kept_then : (b k : Log) (xs ys : List Log) (i j l : Images) → Kept name client b xs i j → Kept name client k ys j l → Kept name client k (xs ++ ys) i l
+  kept_then b k xs ys i j l first second = record {
+    keeps = second.keeps;
+    unchanged = λ none. let each = both_none xs ys none in second.unchanged each.1 ∙ first.unchanged each.0;
+    others = λ other differs. second.others other differs ∙ first.others other differs;
+  }
+
+  kept_still : (log : Log) (i : Images) → Keeps (i name) client log → Kept name client log [] i i
+  kept_still log i keeps = record { keeps = keeps; unchanged = λ none. refl; others = λ other differs. refl }
+
+  told_still : (log : Log) (i : Option Images) → IsKept i name client log → Told i i (Kept name client log [])
+  told_still log None keeps = refl
+  told_still log (Some i) keeps = kept_still log i keeps
+
+  -- what stands there at the end
+  is_kept : (log : Log) (xs : List Log) (i j : Option Images) → Told i j (Kept name client log xs) → IsKept j name client log
+  is_kept log xs (Some i) (Some j) told = told.keeps
+  is_kept log xs (Some i) None told = absurd told
+  is_kept log xs None None told = tt
+  is_kept log xs None (Some j) told = absurd (cc)
+
+  pub kept_now : (a b k : Log) (xs : List Log) (i j : Option Images) → Keeping name client a b k xs i j → IsKept j name client k
+  kept_now a b k xs i j keeping = is_kept k xs i j keeping.told
+
+  pub keeping_none : (log : Log) (i : Option Images) → IsKept i name client log → Keeping name client log log log [] i i
+  keeping_none log i keeps = record { last = refl; behind = inl refl; told = told_still log i keeps }
+
+  -- one change, which is not kept
+  pub keeping_unkept : (log next : Log) (i : Option Images) → IsKept i name client log → Keeping name client log next log (next ∷ []) i i
+  keeping_unkept log next i keeps = record { last = refl; behind = inr refl; told = told_changed i keeps }
+    where
+      told_changed : (i : Option Images) → IsKept i name client log → Told i i (Kept name client log (next ∷ []))
+      told_changed None keeps = refl
+      told_changed (Some i) keeps = record { keeps = keeps; unchanged = λ none. absurd (cc); others = λ other differs. refl }
+
+  pub keeping_then : (a b c k : Log) (xs ys : List Log) (i j l : Option Images) → Keeping name client a b b xs i j → Keeping name client b c k ys j l → Keeping name client a c k (xs ++ ys) i l
+  keeping_then a b c k xs ys i j l first second = record {
+    last = second.last ∙ ap (λ log. last_log log ys) first.last ∙ sym (last_log-append a xs ys);
+    behind = behind_then a xs ys k (subst (λ log. IsLastOrBefore log ys k) first.last second.behind);
+    told = told_then i j l (Kept name client b xs) (Kept name client k ys) (Kept name client k (xs ++ ys)) first.told second.told (λ x y z p q. kept_then b k xs ys x y z p q);
+  }
+
+  -- a log that was changed is kept, or, where that was refused, what was kept before perhaps still is
+  module _ (a b k : Log) (xs : List Log) (some : xs ≢ []) where
+    now_kept : (x y z : Images) → Kept name client k xs x y → Keeps (z name) client b → OthersStay name y z → Kept name client b xs x z
+    now_kept x y z first keeps others = record { keeps = keeps; unchanged = λ none. absurd (some none); others = λ other differs. others other differs ∙ first.others other differs }
+
+    still_kept : (x y z : Images) → Kept name client k xs x y → Keeps (z name) client k → OthersStay name y z → Kept name client k xs x z
+    still_kept x y z first keeps others = record { keeps = keeps; unchanged = λ none. absurd (some none); others = λ other differs. others other differs ∙ first.others other differs }
+
+    told_saved : {E : Type 0} (i j l : Option Images) (r : Result (Unit {0}) E) → Told i j (Kept name client k xs) → Told j l (KeepsLog name client b r)
+        → Told i l (Kept name client b xs) ⊎ (IfOk r (λ done. ⊥) × Told i l (Kept name client k xs))
+    told_saved {E} i j l (Ok done) first save = inl (told_then i j l (Kept name client k xs) (KeepsLog {E = E} name client b (Ok done)) (Kept name client b xs) first save (λ x y z p q. now_kept x y z p q.0 q.1))
+    told_saved None None l (Err e) first save = inr (tt, save)
+    told_saved None (Some y) l (Err e) first save = absurd (cc)
+    told_saved (Some x) None l (Err e) first save = absurd first
+    told_saved (Some x) (Some y) None (Err e) first save = absurd save
+    told_saved (Some x) (Some y) (Some z) (Err e) first save =
+        ⊎_elim (λ still. inr (tt, still_kept x y z first (still client k first.keeps) save.1)) (λ keeps. inl (now_kept x y z first keeps save.1)) save.0
+
+    pub keeping_saved : {E : Type 0} (i j l : Option Images) (r : Result (Unit {0}) E) → Keeping name client a b k xs i j → Told j l (KeepsLog name client b r)
+        → Keeping name client a b b xs i l ⊎ (IfOk r (λ done. ⊥) × Keeping name client a b k xs i l)
+    keeping_saved i j l r keeping save =
+        ⊎_elim (λ now. inl (record { last = keeping.last; behind = inl keeping.last; told = now })) (λ still. inr (still.0, record { last = keeping.last; behind = keeping.behind; told = still.1 }))
+        (told_saved i j l r keeping.told save)
+
 -- ---- stretches of a client's life
 
-module _ (client : ℕ) where
-  pub goes_none : (T : Trace → Type 0) (s : Log) (t : ℕ) (w : World) → T nothing → Goes client T s s t t w w
-  goes_none T s t w turn = record { trace = nothing; turn = turn; runs = runs_none client (stand s w); rose = omega arith }
+module _ (name : List ℕ) (client : ℕ) where
+  pub goes_none : (T : Trace → Type 0) (s : Log) (i : Option Images) (t : ℕ) (w : World) → IsKept i name client s → T nothing → Goes client name T s s s i i t t w w
+  goes_none T s i t w keeps turn = record { trace = nothing; turn = turn; runs = runs_none client (kept_at s w); keeping = keeping_none name client s i keeps; rose = omega arith }
 
   -- another relation of the same turns
-  pub goes_as : (T S : Trace → Type 0) (a b : Log) (t u : ℕ) (v w : World) → Goes client T a b t u v w → ((trace : Trace) → T trace → S trace) → Goes client S a b t u v w
-  goes_as T S a b t u v w goes to = record { trace = goes.trace; turn = to goes.trace goes.turn; runs = goes.runs; rose = goes.rose }
+  pub goes_as : (T S : Trace → Type 0) (a b k : Log) (i j : Option Images) (t u : ℕ) (v w : World) → Goes client name T a b k i j t u v w → ((trace : Trace) → T trace → S trace)
+      → Goes client name S a b k i j t u v w
+  goes_as T S a b k i j t u v w goes to = record { trace = goes.trace; turn = to goes.trace goes.turn; runs = goes.runs; keeping = goes.keeping; rose = goes.rose }
 
-  -- one stretch after another
-  pub goes_then : (T S R : Trace → Type 0) (a b c : Log) (t u v : ℕ) (x y z : World) → Goes client T a b t u x y → Goes client S b c u v y z
-      → ((m n : Trace) → T m → S n → R (followed m n)) → Goes client R a c t v x z
-  goes_then T S R a b c t u v x y z first second join = record {
+  -- one stretch, at whose end the log is kept, after another
+  pub goes_then : (T S R : Trace → Type 0) (a b c k : Log) (i j l : Option Images) (t u v : ℕ) (x y z : World) → Goes client name T a b b i j t u x y → Goes client name S b c k j l u v y z
+      → ((m n : Trace) → T m → S n → R (followed m n)) → Goes client name R a c k i l t v x z
+  goes_then T S R a b c k i j l t u v x y z first second join = record {
     trace = followed first.trace second.trace;
     turn = join first.trace second.trace first.turn second.turn;
-    runs = runs_then client first.trace.entries second.trace.entries first.trace.asks second.trace.asks (stand a x) (stand b y) (stand c z) first.runs second.runs;
+    runs = runs_then client first.trace.entries second.trace.entries first.trace.asks second.trace.asks (kept_at a x) (kept_at b y) (stand c k z) first.runs second.runs;
+    keeping = keeping_then name client a b c k first.trace.changes second.trace.changes i j l first.keeping second.keeping;
     rose = omega (arith, failed-append first.trace.asks second.trace.asks, first.rose, second.rose);
   }
 
-  -- the asks of a request that the log may send
-  pub goes_moved : (T : Trace → Type 0) (request : Message) (asks : List Ask) (s : Log) (t u : ℕ) (x y : World) → MaySend client s request → Moved request asks x y
-      → RoseBy (failed_asks asks) t u → T (asking asks) → Goes client T s s t u x y
-  goes_moved T request asks s t u x y may moved rose turn = record {
+  -- the asks of a request that the kept log may send
+  pub goes_moved : (T : Trace → Type 0) (request : Message) (asks : List Ask) (s : Log) (i : Option Images) (t u : ℕ) (x y : World) → IsKept i name client s → MaySend client s request
+      → Moved request asks x y → RoseBy (failed_asks asks) t u → T (asking asks) → Goes client name T s s s i i t u x y
+  goes_moved T request asks s i t u x y keeps may moved rose turn = record {
     trace = asking asks;
     turn = turn;
     runs = moved_runs client s request asks x y may moved;
+    keeping = keeping_none name client s i keeps;
     rose = rose;
   }
 
   -- and the acknowledgement of the first pending entry on a reply that was sent
-  pub goes_acked : (T : Trace → Type 0) (request reply : Message) (asks : List Ask) (s : Log) (t u : ℕ) (x y : World) → MaySend client s request → Moved request asks x y
-      → RoseBy (failed_asks asks) t u → s.pending ≢ [] → reply ≡ Accepted client (s.acked + 1) → IsIn reply y.packets
-      → T (record { asks = asks; entries = []; changes = acknowledged_first s ∷ [] }) → Goes client T s (acknowledged_first s) t u x y
-  goes_acked T request reply asks s t u x y may moved rose some is among turn = record {
+  pub goes_acked : (T : Trace → Type 0) (request reply : Message) (asks : List Ask) (s : Log) (i : Option Images) (t u : ℕ) (x y : World) → IsKept i name client s → MaySend client s request
+      → Moved request asks x y → RoseBy (failed_asks asks) t u → s.pending ≢ [] → reply ≡ Accepted client (s.acked + 1) → IsIn reply y.packets
+      → T (record { asks = asks; entries = []; changes = acknowledged_first s ∷ [] }) → Goes client name T s (acknowledged_first s) s i i t u x y
+  goes_acked T request reply asks s i t u x y keeps may moved rose some is among turn = record {
     trace = record { asks = asks; entries = []; changes = acknowledged_first s ∷ [] };
     turn = turn;
-    runs = subst (λ (l : List Ask). Runs client [] l (stand s x) (stand (acknowledged_first s) y)) (append-nil asks)
-        (runs_then client [] [] asks [] (stand s x) (stand s y) (stand (acknowledged_first s) y) (moved_runs client s request asks x y may moved)
-        (runs_once client (stand s y) (Acknowledges reply) (some, is, among)));
+    runs = subst (λ (l : List Ask). Runs client [] l (kept_at s x) (stand (acknowledged_first s) s y)) (append-nil asks)
+        (runs_then client [] [] asks [] (kept_at s x) (kept_at s y) (stand (acknowledged_first s) s y) (moved_runs client s request asks x y may moved)
+        (runs_once client (kept_at s y) (Acknowledges reply) (some, is, among)));
+    keeping = keeping_unkept name client s (acknowledged_first s) i keeps;
     rose = rose;
   }
 
-  -- an entry that is logged
-  pub goes_logged : (T : Trace → Type 0) (entry : Entry) (s : Log) (t : ℕ) (w : World) → IsLog (logged entry s)
-      → T (record { asks = []; entries = entry ∷ []; changes = logged entry s ∷ [] }) → Goes client T s (logged entry s) t t w w
-  goes_logged T entry s t w log_is turn = record {
+  -- an entry that is logged, and not kept yet
+  pub goes_logged : (T : Trace → Type 0) (entry : Entry) (s : Log) (i : Option Images) (t : ℕ) (w : World) → IsKept i name client s → IsLog (logged entry s)
+      → T (record { asks = []; entries = entry ∷ []; changes = logged entry s ∷ [] }) → Goes client name T s (logged entry s) s i i t t w w
+  goes_logged T entry s i t w keeps log_is turn = record {
     trace = record { asks = []; entries = entry ∷ []; changes = logged entry s ∷ [] };
     turn = turn;
-    runs = runs_once client (stand s w) (Logs entry) log_is;
+    runs = runs_once client (kept_at s w) (Logs entry) log_is;
+    keeping = keeping_unkept name client s (logged entry s) i keeps;
     rose = omega arith;
   }
+
+  -- What a keeping makes of a stretch that changed the log: the log is kept now, or, where it was refused, perhaps what was kept before.
+  pub goes_saved : {E : Type 0} (T : Trace → Type 0) (a b k : Log) (i j l : Option Images) (t u : ℕ) (x y : World) (r : Result (Unit {0}) E) (goes : Goes client name T a b k i j t u x y)
+      → goes.trace.changes ≢ [] → Told j l (KeepsLog name client b r) → (now : Log) × Goes client name T a b now i l t u x y × IfOk r (λ done. now ≡ b)
+  goes_saved {E} T a b k i j l t u x y r goes some save = by (keeping_saved name client a b k goes.trace.changes some i j l r goes.keeping save)
+    where
+      sure : (r : Result (Unit {0}) E) → IfOk r (λ done. b ≡ b)
+      sure (Ok done) = refl
+      sure (Err e) = tt
+
+      unsure : (r : Result (Unit {0}) E) → IfOk r (λ done. ⊥) → IfOk r (λ done. k ≡ b)
+      unsure (Ok done) none = absurd none
+      unsure (Err e) none = tt
+
+      by : Keeping name client a b b goes.trace.changes i l ⊎ (IfOk r (λ done. ⊥) × Keeping name client a b k goes.trace.changes i l)
+          → (now : Log) × Goes client name T a b now i l t u x y × IfOk r (λ done. now ≡ b)
+      by (inl now) = (
+        b,
+        record {
+          trace = goes.trace;
+          turn = goes.turn;
+          runs = subst (λ (m : List Ask). Runs client goes.trace.entries m (kept_at a x) (kept_at b y)) (append-nil goes.trace.asks)
+              (subst (λ (es : List Entry). Runs client es (goes.trace.asks ++ []) (kept_at a x) (kept_at b y)) (append-nil goes.trace.entries)
+              (runs_then client goes.trace.entries [] goes.trace.asks [] (kept_at a x) (stand b k y) (kept_at b y) goes.runs (runs_once client (stand b k y) Saves tt)));
+          keeping = now;
+          rose = goes.rose;
+        },
+        sure r,
+      )
+      by (inr still) = (k, record { trace = goes.trace; turn = goes.turn; runs = goes.runs; keeping = still.1; rose = goes.rose }, unsure r still.0)

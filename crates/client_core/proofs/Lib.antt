@@ -3,6 +3,7 @@ pub mod Firsts
 pub mod Going
 pub mod Locals
 pub mod Olders
+pub mod Putting
 pub mod Pulls
 pub mod Settled
 pub mod Syncs

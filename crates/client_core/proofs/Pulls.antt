@@ -1,7 +1,11 @@
 -- What a pull makes of its settling.
-use Rattle.std.proofs.Common.{◌≡◌, ◌≢◌, ◌⊎◌, inl, inr, ℕ, ◌≤◌, List, [], ◌∷◌, length, Option, Some, None, IfSome, Ok, Err, refl, sym, ap, subst, arith, append-nil}
+use Rattle.std.proofs.Common.{◌≡◌, ◌≢◌, ◌⊎◌, inl, inr, ℕ, ◌≤◌, List, [], ◌∷◌, length, Option, Some, None, IfSome, Result, Ok, Err, IfOk, refl, sym, ap, subst, arith, append-nil}
 use Rattle.std.specs.Prelude.{unwrap_or}
 use Rattle.std.specs.declared.alloc.AllocError.{AllocError}
+use Rattle.outside.specs.Outside.{Told, Rose}
+use Rattle.outside.specs.Keeper.{Images}
+use Rattle.outside.specs.declared.errors.KeepError.{KeepError}
+use Rattle.outside.specs.declared.errors.KeepError.TheVariants as keepers
 use Rattle.vol_tree.specs.Tree.{Volume, version_at, IsTree, AreInOrder}
 use Rattle.vol_tree.specs.Behind.{IsIn}
 use Rattle.vol_tree.specs.declared.tree.Row.{Row}
@@ -14,20 +18,22 @@ use Rattle.world_rules.specs.declared.asking.Ask.{Ask}
 use Rattle.world_rules.specs.declared.asking.Answer.TheVariants.{Reply}
 use Rattle.world_rules.specs.World.{World}
 use Rattle.world_rules.specs.InStep.{InStep, MaySend}
-use Rattle.world_rules.specs.Run.{Runs, Pulls}
+use Rattle.world_rules.specs.Run.{Runs, kept_at, Pulls}
 use Rattle.world_rules.proofs.Runs.{runs_then, runs_once, moved_runs, pulled_last, runs_in_step}
+use Rattle.world_rules.proofs.Asks.{told_as}
 use Rattle.world_rules.proofs.Replying.{fresh_newer}
 use Rattle.world_rules.proofs.Sending.{sent_valid}
 use Rattle.client_core.specs.declared.route.Route.{Route}
 use Rattle.client_core.specs.declared.pulling.PullEnd.{PullEnd}
 use Rattle.client_core.specs.declared.pulling.PullEnd.TheVariants as ends
 use Rattle.client_core.specs.Trace.{Trace, asking}
-use Rattle.client_core.specs.Pulling.{pull_of, Meets, pull_changes, PullsSnapshot, PullEnds}
+use Rattle.client_core.specs.Pulling.{pull_of, Meets, pull_changes, pulled_end, is_broken_pull, PullsSnapshot, PullAsks, PullEnds}
+use Rattle.client_core.specs.Keeping.{IsKept, Keeping, KeepsLog}
 use Rattle.client_core.specs.Goes.{Goes, stand}
-use Rattle.client_core.specs.Causes.{HasPullCause}
+use Rattle.client_core.specs.Causes.{TakesRows, HasPullCause, PullKeeps}
 use Rattle.client_core.specs.Honest.{IsNotOtherLast, IsNotOlder}
-use Rattle.client_core.specs.Inside.{Settled, IsFreshReply, MeetsEnds, first_lower, snapshot_of}
-use Rattle.client_core.proofs.Going.{goes_none, goes_moved}
+use Rattle.client_core.specs.Inside.{Settled, IsFreshReply, MeetsEnds, PullLeaves, first_lower, snapshot_of}
+use Rattle.client_core.proofs.Going.{changed_so, keeping_none, keeping_unkept, keeping_saved, goes_none, goes_as, goes_moved, goes_saved}
 use Rattle.client_core.proofs.Olders.{nowhere_older, first_older}
 
 -- ---- nothing is pending
@@ -60,28 +66,31 @@ meets_newer log after seen count none is pulls = inl (refl, nowhere_older log.ba
 
 -- ---- the turn of a pull
 
-module _ (client : ℕ) (route : Route) (before : Log) where
+module _ (client : ℕ) (route : Route) (before : Log) (i : Option Images) (keeps : IsKept i route.image client before) where
+  abbrev name : List ℕ
+  name = route.image
+
   -- entries are pending
-  pub pull_waits : (count : ℕ) → before.pending ≢ [] → count ≡ length before.pending → (t : ℕ) (w : World) → Goes client (PullEnds client route before (ends.Pending count) before) before before t t w w
-  pull_waits count some is t w = goes_none client (PullEnds client route before (ends.Pending count) before) before t w (inl (some, is, refl, refl))
+  pub pull_waits : (count : ℕ) → before.pending ≢ [] → count ≡ length before.pending → (t : ℕ) (w : World) → Goes client name (PullAsks client route before (ends.Pending count) before) before before before i i t t w w
+  pull_waits count some is t w = goes_none name client (PullAsks client route before (ends.Pending count) before) before i t w keeps (inl (some, is, refl, refl))
 
   module _ (none : before.pending ≡ []) (t u : ℕ) (x y : World) where
     abbrev request : Message
     request = pull_of client before
 
     abbrev Pulls_so : PullEnd → Log → Type 0
-    Pulls_so end after = Goes client (PullEnds client route before end after) before after t u x y
+    Pulls_so end after = Goes client name (PullAsks client route before end after) before after before i i t u x y
 
     -- eight asks failed
     pub pull_unanswered : Settled route.server request t u x y (Ok None) → Pulls_so ends.Unanswered before
     pull_unanswered done =
-        goes_moved client (PullEnds client route before ends.Unanswered before) request done.1.asks before t u x y (pull_sends client before none) done.1.moved done.1.rose
+        goes_moved name client (PullAsks client route before ends.Unanswered before) request done.1.asks before i t u x y keeps (pull_sends client before none) done.1.moved done.1.rose
         (inl (none, (done.1.asks, done.1.made_so, refl, refl)))
 
     -- memory was wanted in the settling
     pub pull_breaks : (e : AllocError) → Settled route.server request t u x y (Err e) → Pulls_so ends.Memory before
     pull_breaks e done =
-        goes_moved client (PullEnds client route before ends.Memory before) request done.asks before t u x y (pull_sends client before none) done.moved done.rose
+        goes_moved name client (PullAsks client route before ends.Memory before) request done.asks before i t u x y keeps (pull_sends client before none) done.moved done.rose
         (inr (refl, (done.asks, none, refl, done.made_so, refl)))
 
     module _ (last : ℕ) (seen : Volume) (done : Settled route.server request t u x y (Ok (Some (Snapshot client before.acked last seen)))) where
@@ -99,9 +108,10 @@ module _ (client : ℕ) (route : Route) (before : Log) where
           record {
             trace = record { asks = asks; entries = []; changes = after ∷ [] };
             turn = inl (snapshot (ends.Pulled count) after (record { asks = asks; entries = []; changes = after ∷ [] }) met refl);
-            runs = subst (λ (l : List Ask). Runs client [] l (stand before x) (stand after y)) (append-nil asks)
-                (runs_then client [] [] asks [] (stand before x) (stand before y) (stand after y) (moved_runs client before request asks x y (pull_sends client before none) done.1.moved)
-                (runs_once client (stand before y) (Pulls last seen) (none, is_last, done.0, met.1)));
+            runs = subst (λ (l : List Ask). Runs client [] l (kept_at before x) (stand after before y)) (append-nil asks)
+                (runs_then client [] [] asks [] (kept_at before x) (kept_at before y) (stand after before y) (moved_runs client before request asks x y (pull_sends client before none) done.1.moved)
+                (runs_once client (kept_at before y) (Pulls last seen) (none, is_last, done.0, met.1)));
+            keeping = keeping_unkept name client before after i keeps;
             rose = done.1.rose;
           }
 
@@ -110,21 +120,22 @@ module _ (client : ℕ) (route : Route) (before : Log) where
           subst (Pulls_so (ends.Pulled count)) (sym met.3) (replaces count (subst (Meets before last seen (ends.Pulled count)) met.3 met))
       by_end (ends.OtherLast other acked) after met =
           subst (Pulls_so (ends.OtherLast other acked)) (sym met.3)
-          (goes_moved client (PullEnds client route before (ends.OtherLast other acked) before) request asks before t u x y (pull_sends client before none) done.1.moved done.1.rose
+          (goes_moved name client (PullAsks client route before (ends.OtherLast other acked) before) request asks before i t u x y keeps (pull_sends client before none) done.1.moved done.1.rose
           (inl (snapshot (ends.OtherLast other acked) before (asking asks) (subst (Meets before last seen (ends.OtherLast other acked)) met.3 met) refl)))
       by_end (ends.Older path theirs ours) after met =
           subst (Pulls_so (ends.Older path theirs ours)) (sym met.4)
-          (goes_moved client (PullEnds client route before (ends.Older path theirs ours) before) request asks before t u x y (pull_sends client before none) done.1.moved done.1.rose
+          (goes_moved name client (PullAsks client route before (ends.Older path theirs ours) before) request asks before i t u x y keeps (pull_sends client before none) done.1.moved done.1.rose
           (inl (snapshot (ends.Older path theirs ours) before (asking asks) (subst (Meets before last seen (ends.Older path theirs ours)) met.4 met) refl)))
       by_end (ends.Pending count) after met = absurd met
       by_end ends.Unanswered after met = absurd met
+      by_end ends.KeepFault after met = absurd met
       by_end ends.Memory after met = absurd met
 
       -- memory was wanted once the snapshot had come
       unread : Pulls_so ends.Memory before
       unread =
           let made = done.1.made_so in
-          goes_moved client (PullEnds client route before ends.Memory before) request asks before t u x y (pull_sends client before none) done.1.moved done.1.rose
+          goes_moved name client (PullAsks client route before ends.Memory before) request asks before i t u x y keeps (pull_sends client before none) done.1.moved done.1.rose
           (inr (refl, (asks, none, refl, (made.0, made.1, inr (Reply (Snapshot client before.acked last seen), made.4)), refl)))
 
       pub pull_met : (end : PullEnd) (after : Log) → MeetsEnds before last seen end after → Pulls_so end after
@@ -134,18 +145,124 @@ module _ (client : ℕ) (route : Route) (before : Log) where
 
 -- ---- causes
 
-module _ (before : Log) (t u : ℕ) (none : before.pending ≡ []) where
-  met_cause : (last : ℕ) (seen : Volume) → IsTree seen → (end : PullEnd) (after : Log) → Meets before last seen end after → HasPullCause end before after t u
+module _ (before : Log) (t u p q : ℕ) (none : before.pending ≡ []) where
+  met_cause : (last : ℕ) (seen : Volume) → IsTree seen → (end : PullEnd) (after : Log) → Meets before last seen end after → HasPullCause end before after t u p q
   met_cause last seen tree (ends.Pulled count) after met = (none, (last, seen, tree, met))
   met_cause last seen tree (ends.OtherLast other acked) after met = (none, (last, seen, tree, met))
   met_cause last seen tree (ends.Older path theirs ours) after met = (none, (last, seen, tree, met))
   met_cause last seen tree (ends.Pending count) after met = absurd met
   met_cause last seen tree ends.Unanswered after met = absurd met
+  met_cause last seen tree ends.KeepFault after met = absurd met
   met_cause last seen tree ends.Memory after met = absurd met
 
-  pub pull_cause : (last : ℕ) (seen : Volume) → IsTree seen → (end : PullEnd) (after : Log) → MeetsEnds before last seen end after → HasPullCause end before after t u
+  pub pull_cause : (last : ℕ) (seen : Volume) → IsTree seen → (end : PullEnd) (after : Log) → MeetsEnds before last seen end after → HasPullCause end before after t u p q
   pull_cause last seen tree end after (inl met) = met_cause last seen tree end after met
-  pull_cause last seen tree end after (inr broken) = subst (λ (e : PullEnd). HasPullCause e before after t u) (sym broken.0) (none, broken.1)
+  pull_cause last seen tree end after (inr broken) = subst (λ (e : PullEnd). HasPullCause e before after t u p q) (sym broken.0) (none, inl broken.1)
+
+-- ---- what a pull leaves before it keeps anything
+
+module _ (before : Log) (none : before.pending ≡ []) (last : ℕ) (seen : Volume) (tree : IsTree seen) where
+  met_leaves : (end : PullEnd) (after : Log) → Meets before last seen end after → PullLeaves end before after
+  met_leaves (ends.Pulled count) after met = (none, (last, seen, count, tree, met))
+  met_leaves (ends.OtherLast other acked) after met = met.3
+  met_leaves (ends.Older path theirs ours) after met = met.4
+  met_leaves (ends.Pending count) after met = absurd met
+  met_leaves ends.Unanswered after met = absurd met
+  met_leaves ends.KeepFault after met = absurd met
+  met_leaves ends.Memory after met = absurd met
+
+  pub pull_leaves : (end : PullEnd) (after : Log) → MeetsEnds before last seen end after → PullLeaves end before after
+  pull_leaves end after (inl met) = met_leaves end after met
+  pull_leaves end after (inr broken) = subst (λ (e : PullEnd). PullLeaves e before after) (sym broken.0) broken.1
+
+-- ---- the keeping behind a pull
+
+module _ (client : ℕ) (route : Route) (before after : Log) (i l : Option Images) (t u : ℕ) where
+  -- rows were taken, and the log was to be kept
+  pub pulled_kept : (x y : World) (count : ℕ) (r : Result (Unit {0}) KeepError) → Goes client route.image (PullAsks client route before (ends.Pulled count) after) before after before i i t u x y
+      → Told i l (KeepsLog route.image client after r) → (kept : Log) × Goes client route.image (PullEnds client route before (pulled_end count r) after kept) before after kept i l t u x y
+  pulled_kept x y count r goes save = by r (goes_saved route.image client (PullAsks client route before (ends.Pulled count) after) before after before i i l t u x y r goes (changed goes.trace goes.turn) save)
+    where
+      changed : (trace : Trace) → PullAsks client route before (ends.Pulled count) after trace → trace.changes ≢ []
+      changed trace (inl turn) = changed_so trace.changes after [] (ap (λ (n : Trace). n.changes) turn.trace_is)
+      changed trace (inr broken) = absurd (cc (broken.0))
+
+      snapshot : (trace : Trace) → PullAsks client route before (ends.Pulled count) after trace → PullsSnapshot client route before (ends.Pulled count) after trace
+      snapshot trace (inl turn) = turn
+      snapshot trace (inr broken) = absurd (cc (broken.0))
+
+      by : (r : Result (Unit {0}) KeepError) → (now : Log) × Goes client route.image (PullAsks client route before (ends.Pulled count) after) before after now i l t u x y × IfOk r (λ done. now ≡ after)
+          → (kept : Log) × Goes client route.image (PullEnds client route before (pulled_end count r) after kept) before after kept i l t u x y
+      by (Ok done) saved = (
+        saved.0,
+        goes_as route.image client (PullAsks client route before (ends.Pulled count) after) (PullEnds client route before (ends.Pulled count) after saved.0) before after saved.0 i l t u x y saved.1
+            (λ trace turn. inl (snapshot trace turn, saved.2)),
+      )
+      by (Err keepers.Failed) saved = (
+        saved.0,
+        goes_as route.image client (PullAsks client route before (ends.Pulled count) after) (PullEnds client route before ends.KeepFault after saved.0) before after saved.0 i l t u x y saved.1
+            (λ trace turn. inr (refl, inr (count, snapshot trace turn))),
+      )
+      by (Err keepers.Memory) saved = (
+        saved.0,
+        goes_as route.image client (PullAsks client route before (ends.Pulled count) after) (PullEnds client route before ends.Memory after saved.0) before after saved.0 i l t u x y saved.1
+            (λ trace turn. inr (refl, inr (count, snapshot trace turn))),
+      )
+
+-- ends that are no Pulled
+abbrev pub IsUnpulled : PullEnd → Type 0
+IsUnpulled (ends.Pulled count) = ⊥
+IsUnpulled end = Unit {0}
+
+module _ (before after : Log) where
+  leaves_same : (end : PullEnd) → IsUnpulled end → PullLeaves end before after → after ≡ before
+  leaves_same (ends.Pulled count) other leaves = absurd other
+  leaves_same (ends.OtherLast last acked) other leaves = leaves
+  leaves_same (ends.Older path theirs ours) other leaves = leaves
+  leaves_same (ends.Pending count) other leaves = leaves
+  leaves_same ends.Unanswered other leaves = leaves
+  leaves_same ends.KeepFault other leaves = absurd leaves
+  leaves_same ends.Memory other leaves = leaves
+
+-- a pull that changed nothing
+pub unpulled_kept : (client : ℕ) (route : Route) (before after : Log) (i : Option Images) (t u : ℕ) (x y : World) (end : PullEnd) → IsUnpulled end → PullLeaves end before after
+    → Goes client route.image (PullAsks client route before end after) before after before i i t u x y → (kept : Log) × Goes client route.image (PullEnds client route before end after kept) before after kept i i t u x y
+unpulled_kept client route before after i t u x y end other leaves goes =
+    (before, goes_as route.image client (PullAsks client route before end after) (PullEnds client route before end after before) before after before i i t u x y goes (λ trace turn. kept_so trace turn))
+  where
+    kept_so : (trace : Trace) → PullAsks client route before end after trace → PullEnds client route before end after before trace
+    kept_so trace (inl turn) = inl (turn, sym (leaves_same before after end other leaves))
+    kept_so trace (inr broken) = inr (ap is_broken_pull broken.0, inl broken.1)
+
+-- what is kept behind a pull
+module _ (name : List ℕ) (client : ℕ) (before after : Log) (i l : Option Images) (keeps : IsKept i name client before) where
+  pub pull_keeps_same : (end : PullEnd) → IsUnpulled end → PullLeaves end before after → PullKeeps name client before end after i i
+  pull_keeps_same end other leaves =
+      subst (λ (log : Log). PullKeeps name client before end log i i) (sym (leaves_same before after end other leaves))
+      (record { kept = before; changes = []; replaced_so = inl refl; keeping = keeping_none name client before i keeps; whole = λ is. refl })
+
+  pub pull_keeps : (count : ℕ) (r : Result (Unit {0}) KeepError) → TakesRows before after → Told i l (KeepsLog name client after r) → PullKeeps name client before (pulled_end count r) after i l
+  pull_keeps count r takes save =
+      by r (keeping_saved name client before after before (after ∷ []) (λ none. absurd (cc)) i i l r (keeping_unkept name client before after i keeps) save)
+    where
+      so : (after ∷ [] ≡ []) ⊎ ((seen : Volume) × (after ∷ [] ≡ pulled seen before ∷ []))
+      so = inr (takes.1, ap (λ (log : Log). log ∷ []) takes.4.3)
+
+      by : (r : Result (Unit {0}) KeepError) → Keeping name client before after after (after ∷ []) i l ⊎ (IfOk r (λ done. ⊥) × Keeping name client before after before (after ∷ []) i l)
+          → PullKeeps name client before (pulled_end count r) after i l
+      by (Ok done) (inl now) = record { kept = after; changes = after ∷ []; replaced_so = so; keeping = now; whole = λ is. refl }
+      by (Ok done) (inr still) = absurd still.0
+      by (Err keepers.Failed) (inl now) = record { kept = after; changes = after ∷ []; replaced_so = so; keeping = now; whole = λ is. refl }
+      by (Err keepers.Failed) (inr still) = record { kept = before; changes = after ∷ []; replaced_so = so; keeping = still.1; whole = λ is. absurd (cc) }
+      by (Err keepers.Memory) (inl now) = record { kept = after; changes = after ∷ []; replaced_so = so; keeping = now; whole = λ is. refl }
+      by (Err keepers.Memory) (inr still) = record { kept = before; changes = after ∷ []; replaced_so = so; keeping = still.1; whole = λ is. absurd (cc) }
+
+-- why a pull that changed nothing, or took rows, ends so
+pub pulled_cause : (before after : Log) (t u p q count : ℕ) (r : Result (Unit {0}) KeepError) → HasPullCause (ends.Pulled count) before after t u p q → TakesRows before after → (r ≡ Err keepers.Failed → Rose p q)
+    → HasPullCause (pulled_end count r) before after t u p q
+pulled_cause before after t u p q count (Ok done) cause takes rose = cause
+pulled_cause before after t u p q count (Err keepers.Failed) cause takes rose = (cause.0, takes, rose refl)
+pulled_cause before after t u p q count (Err keepers.Memory) cause takes rose = (cause.0, inr takes)
 
 -- ---- what a pull meets from in step
 
@@ -160,7 +277,7 @@ module _ (client : ℕ) (before : Log) (none : before.pending ≡ []) (last : �
   pub never_other : (address : List ℕ) (t u : ℕ) (x y : World) → Settled address (pull_of client before) t u x y (Ok (Some (Snapshot client before.acked last seen)))
       → InStep client before x → (end : PullEnd) (after : Log) → MeetsEnds before last seen end after → IsNotOtherLast end
   never_other address t u x y done now end after met =
-      not_other y (runs_in_step client [] done.1.asks (stand before x) (stand before y) now (moved_runs client before (pull_of client before) done.1.asks x y (pull_sends client before none) done.1.moved))
+      not_other y (runs_in_step client [] done.1.asks (kept_at before x) (kept_at before y) now (moved_runs client before (pull_of client before) done.1.asks x y (pull_sends client before none) done.1.moved))
       done.0 end after met
 
   pub never_older : (x y : World) → IsFreshReply (pull_of client before) x y (Snapshot client before.acked last seen) → InStep client before x → (end : PullEnd) (after : Log) → MeetsEnds before last seen end after → IsNotOlder end
@@ -198,3 +315,32 @@ found_none client acked (Some (Unfit of number index fault)) told is = absurd to
 found_none client acked (Some (Gap of number beyond)) told is = absurd told.1.0
 found_none client acked (Some (Full of number index fault)) told is = absurd told.1.0
 found_none client acked (Some (Malformed code offset)) told is = absurd told.1.0
+
+pulled_not_other : (count : ℕ) (r : Result (Unit {0}) KeepError) → IsNotOtherLast (pulled_end count r)
+pulled_not_other count (Ok done) = λ last acked is. absurd (cc)
+pulled_not_other count (Err keepers.Failed) = λ last acked is. absurd (cc)
+pulled_not_other count (Err keepers.Memory) = λ last acked is. absurd (cc)
+
+pulled_not_older : (count : ℕ) (r : Result (Unit {0}) KeepError) → IsNotOlder (pulled_end count r)
+pulled_not_older count (Ok done) = λ path theirs ours is. absurd (cc)
+pulled_not_older count (Err keepers.Failed) = λ path theirs ours is. absurd (cc)
+pulled_not_older count (Err keepers.Memory) = λ path theirs ours is. absurd (cc)
+
+-- over any link
+pub other_never : (client : ℕ) (before : Log) (w v : Option World) (P : World → World → Type 0) (count : ℕ) (r : Result (Unit {0}) KeepError) (end : PullEnd) → end ≡ pulled_end count r → Told w v P
+    → Told w v (λ x y. InStep client before x → IsNotOtherLast end)
+other_never client before w v P count r end is told = told_as w v P (λ x y. InStep client before x → IsNotOtherLast end) told (λ x y p now. subst IsNotOtherLast (sym is) (pulled_not_other count r))
+
+pub older_never : (client : ℕ) (before : Log) (w v : Option World) (P : World → World → Type 0) (count : ℕ) (r : Result (Unit {0}) KeepError) (end : PullEnd) → end ≡ pulled_end count r → Told w v P
+    → Told w v (λ x y. InStep client before x → IsNotOlder end)
+older_never client before w v P count r end is told = told_as w v P (λ x y. InStep client before x → IsNotOlder end) told (λ x y p now. subst IsNotOlder (sym is) (pulled_not_older count r))
+
+-- an end that is no Pulled
+pub unpulled : (end : PullEnd) → ((count : ℕ) → end ≡ ends.Pulled count → ⊥) → IsUnpulled end
+unpulled (ends.Pulled count) other = absurd (other count refl)
+unpulled (ends.OtherLast last acked) other = tt
+unpulled (ends.Older path theirs ours) other = tt
+unpulled (ends.Pending count) other = tt
+unpulled ends.Unanswered other = tt
+unpulled ends.KeepFault other = tt
+unpulled ends.Memory other = tt

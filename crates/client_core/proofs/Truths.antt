@@ -1,6 +1,9 @@
 -- What the end of a sync tells a client that was in step.
-use Rattle.std.proofs.Common.{◌≡◌, ℕ, ◌+◌, Option, Some, None, IfSome, refl, sym, subst, arith}
+use Rattle.std.proofs.Common.{◌≡◌, ℕ, ◌+◌, ◌≤◌, List, Option, Some, None, IfSome, refl, sym, subst, arith}
 use Rattle.outside.specs.Outside.{RoseBy, Rose}
+use Rattle.outside.specs.Keeper.{Images}
+use Rattle.outside.specs.declared.errors.KeepError.{KeepError}
+use Rattle.outside.specs.declared.errors.KeepError.TheVariants as keepers
 use Rattle.vol_tree.specs.Behind.{IsIn}
 use Rattle.mod_log.specs.declared.log.Entry.{Entry}
 use Rattle.mod_log.specs.Log.{Log}
@@ -9,19 +12,21 @@ use Rattle.wire_frames.specs.declared.message.Message.TheVariants.{Store, Pull, 
 use Rattle.wire_frames.specs.Frame.{IsValid, Echoes}
 use Rattle.world_rules.specs.World.{World}
 use Rattle.world_rules.specs.InStep.{InStep}
+use Rattle.world_rules.specs.Run.{kept_at}
 use Rattle.world_rules.proofs.Runs.{runs_in_step}
 use Rattle.world_rules.proofs.Replying.{no_gap, stale_ahead, refused_ahead}
 use Rattle.client_core.specs.declared.syncing.SyncEnd.{SyncEnd}
 use Rattle.client_core.specs.declared.syncing.SyncEnd.TheVariants as ends
 use Rattle.client_core.specs.Trace.{Trace}
-use Rattle.client_core.specs.Syncing.{store_of, end_by}
+use Rattle.client_core.specs.Syncing.{store_of, end_by, unkept_end}
 use Rattle.client_core.specs.Goes.{Goes, stand}
 use Rattle.client_core.specs.Honest.{IsOvertaken, IsTrueSync, IsComplete}
 use Rattle.client_core.specs.Inside.{IsSent}
 
 -- what a client did keeps it in step
-pub goes_in_step : (client : ℕ) (T : Trace → Type 0) (before after : Log) (t u : ℕ) (x y : World) → Goes client T before after t u x y → InStep client before x → InStep client after y
-goes_in_step client T before after t u x y goes now = runs_in_step client goes.trace.entries goes.trace.asks (stand before x) (stand after y) now goes.runs
+pub goes_in_step : (client : ℕ) (name : List ℕ) (T : Trace → Type 0) (before after kept : Log) (i j : Option Images) (t u : ℕ) (x y : World) → Goes client name T before after kept i j t u x y
+    → InStep client before x → InStep client after y
+goes_in_step client name T before after kept i j t u x y goes now = runs_in_step client goes.trace.entries goes.trace.asks (kept_at before x) (stand after kept y) now goes.runs
 
 module _ (client : ℕ) (entry : Entry) (log : Log) (world : World) (next : entry.seq ≡ log.acked + 1) (now : InStep client log world) where
   abbrev store : Message
@@ -72,3 +77,14 @@ module _ (client : ℕ) (entry : Entry) (log : Log) (world : World) (next : entr
       → (reply ≡ None → RoseBy 8 t u) → IsComplete end client log world
   end_is_complete t u calm None end is sent told rose = absurd (calm (omega (arith, rose refl)))
   end_is_complete t u calm (Some reply) end is sent told rose = λ none_ahead. absurd (none_ahead (overtaken reply end is sent told.1))
+
+-- ---- a sync whose log could not be kept
+
+pub unkept_true : (client : ℕ) (log : Log) (world : World) (e : KeepError) (end : SyncEnd) → end ≡ unkept_end e → IsTrueSync end client log world
+unkept_true client log world keepers.Failed end is = subst (λ (e : SyncEnd). IsTrueSync e client log world) (sym is) tt
+unkept_true client log world keepers.Memory end is = subst (λ (e : SyncEnd). IsTrueSync e client log world) (sym is) tt
+
+-- without a fault of the keeper memory was wanted
+pub unkept_memory : (e : KeepError) (end : SyncEnd) → end ≡ unkept_end e → (p m q : ℕ) → p ≤ m → (e ≡ keepers.Failed → Rose m q) → (Rose p q → ⊥) → end ≡ ends.Memory
+unkept_memory keepers.Failed end is p m q later rose sound = absurd (sound (omega (arith, later, rose refl)))
+unkept_memory keepers.Memory end is p m q later rose sound = is

@@ -1,16 +1,18 @@
 -- What a sync and a pull promise over any link, also over one that tells no world.
-use Rattle.std.specs.Prelude.{◌≡◌, ◌≢◌, ℕ, ◌+◌, ◌≤◌, [], Some, length}
-use Rattle.outside.specs.Outside.{RoseBy}
+use Rattle.std.specs.Prelude.{◌≡◌, ◌≢◌, ◌⊎◌, ℕ, ◌+◌, ◌≤◌, false, List, [], ◌∷◌, Option, Some, length}
+use Rattle.outside.specs.Outside.{RoseBy, Rose}
+use Rattle.outside.specs.Keeper.{Images}
 use Rattle.vol_tree.specs.Tree.{Volume, IsTree}
-use Rattle.mod_log.specs.Log.{Log, acknowledged}
+use Rattle.mod_log.specs.Log.{Log, acknowledged, pulled}
 use Rattle.wire_frames.specs.declared.message.Message.{Message}
 use Rattle.wire_frames.specs.Frame.{IsValid}
 use Rattle.client_core.specs.declared.syncing.SyncEnd.{SyncEnd}
-use Rattle.client_core.specs.declared.syncing.SyncEnd.TheVariants.{Synced, Unanswered, Memory}
+use Rattle.client_core.specs.declared.syncing.SyncEnd.TheVariants.{Synced, Unanswered, KeepFault, Memory}
 use Rattle.client_core.specs.declared.pulling.PullEnd.{PullEnd}
 use Rattle.client_core.specs.declared.pulling.PullEnd.TheVariants as pulls
-use Rattle.client_core.specs.Syncing.{end_by}
-use Rattle.client_core.specs.Pulling.{Meets}
+use Rattle.client_core.specs.Syncing.{end_by, acknowledged_first, is_broken_sync}
+use Rattle.client_core.specs.Pulling.{Meets, is_broken_pull}
+use Rattle.client_core.specs.Keeping.{Keeping}
 
 -- ---- sync
 
@@ -23,20 +25,54 @@ AcknowledgesSome before after =
 abbrev pub IsRefusal : Log → SyncEnd → Type 0
 IsRefusal after end = (after.pending ≢ []) × ((reply : Message) × IsValid reply × (end_by (after.acked + 1) (Some reply) ≡ Some end))
 
--- Synced only where nothing is pending at the end, and Unanswered only where the troubles rose by eight. Every end but Synced
--- and Memory names the first pending entry.
-abbrev pub HasSyncCause : SyncEnd → Log → ℕ → ℕ → Type 0
-HasSyncCause (Synced number) after troubles now = (after.pending ≡ []) × (number ≡ after.acked)
-HasSyncCause (Unanswered number) after troubles now = (after.pending ≢ []) × (number ≡ after.acked + 1) × RoseBy 8 troubles now
-HasSyncCause Memory after troubles now = Unit {0}
-HasSyncCause end after troubles now = IsRefusal after end
+-- Synced only where nothing is pending at the end, Unanswered only where the troubles rose by eight, and KeepFault only where the
+-- keeper's faults rose. Every end but Synced, KeepFault and Memory names the first pending entry.
+abbrev pub HasSyncCause : SyncEnd → Log → ℕ → ℕ → ℕ → ℕ → Type 0
+HasSyncCause (Synced number) after troubles now faults faults_now = (after.pending ≡ []) × (number ≡ after.acked)
+HasSyncCause (Unanswered number) after troubles now faults faults_now = (after.pending ≢ []) × (number ≡ after.acked + 1) × RoseBy 8 troubles now
+HasSyncCause KeepFault after troubles now faults faults_now = Rose faults faults_now
+HasSyncCause Memory after troubles now faults faults_now = Unit {0}
+HasSyncCause end after troubles now faults faults_now = IsRefusal after end
+
+-- each change acknowledges the first pending entry
+abbrev pub AcknowledgeFirsts : Log → List Log → Type 0
+AcknowledgeFirsts before [] = Unit {0}
+AcknowledgeFirsts before (change ∷ changes) = (before.pending ≢ []) × (change ≡ acknowledged_first before) × AcknowledgeFirsts change changes
+
+-- What is kept after a sync: its log, but after one that was broken off perhaps the log before the last acknowledgement. Where
+-- nothing was acknowledged, the kept bytes are as before.
+pub record SyncKeeps (name : List ℕ) (client : ℕ) (before : Log) (end : SyncEnd) (after : Log) (images now : Option Images) : Type 0 where
+  pub kept : Log
+  pub changes : List Log
+  pub acknowledged_so : AcknowledgeFirsts before changes
+  pub keeping : Keeping name client before after kept changes images now
+  pub whole : is_broken_sync end ≡ false → kept ≡ after
 
 -- ---- pull
 
--- Pending just where entries are pending, and Unanswered only where the troubles rose by eight. With every end but Pulled the
--- log is as before. The three others met rows that are a tree.
-abbrev pub HasPullCause : PullEnd → Log → Log → ℕ → ℕ → Type 0
-HasPullCause (pulls.Pending count) before after troubles now = (before.pending ≢ []) × (count ≡ length before.pending) × (after ≡ before)
-HasPullCause pulls.Unanswered before after troubles now = (before.pending ≡ []) × (after ≡ before) × RoseBy 8 troubles now
-HasPullCause pulls.Memory before after troubles now = (before.pending ≡ []) × (after ≡ before)
-HasPullCause end before after troubles now = (before.pending ≡ []) × ((last : ℕ) × (seen : Volume) × IsTree seen × Meets before last seen end after)
+-- rows that are a tree were taken as base
+abbrev pub TakesRows : Log → Log → Type 0
+TakesRows before after = (last : ℕ) × (seen : Volume) × (count : ℕ) × IsTree seen × Meets before last seen (pulls.Pulled count) after
+
+-- Pending just where entries are pending, Unanswered only where the troubles rose by eight, and KeepFault only where the keeper's
+-- faults rose once the rows were taken. With Memory they may have been taken, too. With every other end but Pulled the log is as
+-- before. The three others met rows that are a tree.
+abbrev pub HasPullCause : PullEnd → Log → Log → ℕ → ℕ → ℕ → ℕ → Type 0
+HasPullCause (pulls.Pending count) before after troubles now faults faults_now = (before.pending ≢ []) × (count ≡ length before.pending) × (after ≡ before)
+HasPullCause pulls.Unanswered before after troubles now faults faults_now = (before.pending ≡ []) × (after ≡ before) × RoseBy 8 troubles now
+HasPullCause pulls.KeepFault before after troubles now faults faults_now = (before.pending ≡ []) × TakesRows before after × Rose faults faults_now
+HasPullCause pulls.Memory before after troubles now faults faults_now = (before.pending ≡ []) × ((after ≡ before) ⊎ TakesRows before after)
+HasPullCause end before after troubles now faults faults_now = (before.pending ≡ []) × ((last : ℕ) × (seen : Volume) × IsTree seen × Meets before last seen end after)
+
+-- nothing was changed, or the base was replaced
+abbrev pub ReplacesOnce : Log → List Log → Type 0
+ReplacesOnce before changes = (changes ≡ []) ⊎ ((seen : Volume) × (changes ≡ pulled seen before ∷ []))
+
+-- What is kept after a pull: its log, but after one that was broken off perhaps the log before it. Where nothing was changed, the
+-- kept bytes are as before.
+pub record PullKeeps (name : List ℕ) (client : ℕ) (before : Log) (end : PullEnd) (after : Log) (images now : Option Images) : Type 0 where
+  pub kept : Log
+  pub changes : List Log
+  pub replaced_so : ReplacesOnce before changes
+  pub keeping : Keeping name client before after kept changes images now
+  pub whole : is_broken_pull end ≡ false → kept ≡ after

@@ -1,26 +1,30 @@
--- What a client's calls do to its log and to the world about it, by one relation that goes on from call to call.
-use Rattle.std.specs.Prelude.{◌≡◌, ◌≢◌, ℕ, ◌≤◌}
+-- What a client's calls do to its log, to what is kept of it and to the world about it, by one relation that goes on from call to call.
+use Rattle.std.specs.Prelude.{◌≡◌, ◌≢◌, ℕ, ◌≤◌, List, Option}
 use Rattle.outside.specs.Outside.{RoseBy}
+use Rattle.outside.specs.Keeper.{Images}
 use Rattle.vol_tree.specs.Behind.{IsIn}
 use Rattle.mod_log.specs.Log.{Log}
 use Rattle.wire_frames.specs.declared.message.Message.{Message}
 use Rattle.wire_frames.specs.Frame.{client_of, IsValid}
 use Rattle.world_rules.specs.Served.{IsServed}
 use Rattle.world_rules.specs.World.{World}
-use Rattle.world_rules.specs.Run.{Runs, State}
+use Rattle.world_rules.specs.Run.{Runs, State, kept_at}
 use Rattle.client_core.specs.Trace.{Trace}
 use Rattle.client_core.specs.Settling.{failed_asks}
+use Rattle.client_core.specs.Keeping.{Keeping}
 
--- the client's log and the world at one moment
-abbrev pub stand : Log → World → State
-stand log world = record { log = log; world = world }
+-- the client's log, what is kept of it, and the world at one moment
+abbrev pub stand : Log → Log → World → State
+stand log kept world = record { log = log; kept = kept; world = world }
 
--- Between two moments a client did what these turns say. In all of it the client's log and the world went on by moves that
--- were possible, among them these asks and these logged entries; and the troubles rose by at least the asks that failed.
-pub record Goes (client : ℕ) (turns : Trace → Type 0) (before after : Log) (troubles now : ℕ) (old new : World) : Type 0 where
+-- Between two moments, at the first of which its log was kept under this name, a client did what these turns say. In all of it its
+-- log, what is kept of it and the world went on by moves that were possible, among them these asks and these logged entries; what
+-- the keeper tells is kept for the log so kept; and the troubles rose by at least the asks that failed.
+pub record Goes (client : ℕ) (name : List ℕ) (turns : Trace → Type 0) (before after kept : Log) (images images_now : Option Images) (troubles now : ℕ) (old new : World) : Type 0 where
   pub trace : Trace
   pub turn : turns trace
-  pub runs : Runs client trace.entries trace.asks (stand before old) (stand after new)
+  pub runs : Runs client trace.entries trace.asks (kept_at before old) (stand after kept new)
+  pub keeping : Keeping name client before after kept trace.changes images images_now
   pub rose : RoseBy (failed_asks trace.asks) troubles now
 
 -- A new client's world: its server has taken nothing of the client, and no message of the client was sent.

@@ -1,5 +1,5 @@
 -- Words that only the contracts of private functions cite.
-use Rattle.std.specs.Prelude.{◌≡◌, ◌⊎◌, ℕ, nat_lt, Bool, List, Option, None, Some, Result, Ok, Err, IfSome, find}
+use Rattle.std.specs.Prelude.{◌≡◌, ◌⊎◌, ℕ, nat_lt, Bool, List, [], Option, None, Some, Result, Ok, Err, IfSome, find}
 use Rattle.std.specs.declared.alloc.AllocError.{AllocError}
 use Rattle.outside.specs.Outside.{RoseBy}
 use Rattle.vol_tree.specs.Tree.{Volume, version_at}
@@ -12,8 +12,9 @@ use Rattle.world_rules.specs.declared.asking.Peer.TheVariants.{Server}
 use Rattle.world_rules.specs.World.{World, Moved, IsFresh}
 use Rattle.mod_log.specs.Log.{Log}
 use Rattle.client_core.specs.declared.pulling.PullEnd.{PullEnd}
-use Rattle.client_core.specs.declared.pulling.PullEnd.TheVariants.{Memory}
+use Rattle.client_core.specs.declared.pulling.PullEnd.TheVariants.{Pulled, KeepFault, Memory}
 use Rattle.client_core.specs.Pulling.{Meets}
+use Rattle.client_core.specs.Causes.{TakesRows}
 use Rattle.client_core.specs.Settling.{IsSettling, BreaksSettling, failed_asks}
 
 -- the request was asked so, while the world moved, and the troubles rose by the asks that failed
@@ -47,6 +48,12 @@ first_lower base seen = find (is_lower seen) base
 -- what a log makes of a snapshot, where memory may have been wanted before it changed
 abbrev pub MeetsEnds : Log → ℕ → Volume → PullEnd → Log → Type 0
 MeetsEnds before last seen end after = Meets before last seen end after ⊎ ((end ≡ Memory) × (after ≡ before))
+
+-- what a pull leaves before it keeps anything: rows of the server as base, or the log as before
+abbrev pub PullLeaves : PullEnd → Log → Log → Type 0
+PullLeaves (Pulled count) before after = (before.pending ≡ []) × TakesRows before after
+PullLeaves KeepFault before after = ⊥
+PullLeaves end before after = after ≡ before
 
 -- what a snapshot tells: the client's last number at the server, and the rows
 abbrev pub snapshot_of : Option Message → Option (ℕ × Volume)

@@ -3,6 +3,7 @@ pub mod Client
 pub mod Goes
 pub mod Honest
 pub mod Inside
+pub mod Keeping
 pub mod Logging
 pub mod Pulling
 pub mod Settling

@@ -1,6 +1,8 @@
 -- A pull: where nothing is pending, the server's rows become the client's base.
-use Rattle.std.specs.Prelude.{◌≡◌, ◌≢◌, ◌⊎◌, ℕ, ◌<◌, ◌≤◌, List, [], ◌∷◌, length, None, Some}
+use Rattle.std.specs.Prelude.{◌≡◌, ◌≢◌, ◌⊎◌, ℕ, ◌<◌, ◌≤◌, Bool, true, false, List, [], ◌∷◌, length, None, Some, Result, Ok, Err}
 use Rattle.std.specs.declared.cmp.Ordering.TheVariants.{Less}
+use Rattle.outside.specs.declared.errors.KeepError.{KeepError}
+use Rattle.outside.specs.declared.errors.KeepError.TheVariants as keepers
 use Rattle.vol_tree.specs.Path.{FilePath, path_cmp}
 use Rattle.vol_tree.specs.Tree.{Volume, version_at}
 use Rattle.mod_log.specs.Log.{Log, pulled}
@@ -10,7 +12,7 @@ use Rattle.world_rules.specs.declared.asking.Peer.TheVariants.{Server}
 use Rattle.world_rules.specs.declared.asking.Ask.{Ask}
 use Rattle.client_core.specs.declared.route.Route.{Route}
 use Rattle.client_core.specs.declared.pulling.PullEnd.{PullEnd}
-use Rattle.client_core.specs.declared.pulling.PullEnd.TheVariants.{Pulled, Pending, OtherLast, Older, Unanswered, Memory}
+use Rattle.client_core.specs.declared.pulling.PullEnd.TheVariants.{Pulled, Pending, OtherLast, Older, Unanswered, KeepFault, Memory}
 use Rattle.client_core.specs.Trace.{Trace, nothing, asking}
 use Rattle.client_core.specs.Settling.{IsSettling, BreaksSettling}
 
@@ -35,6 +37,12 @@ Meets before last seen (Older path theirs ours) after =
 Meets before last seen (Pulled count) after = (last ≡ before.acked) × IsNowhereOlder before.base seen × (count ≡ length seen) × (after ≡ pulled seen before)
 Meets before last seen end after = ⊥
 
+-- how a pull ends that took so many rows, by whether its log was kept
+abbrev pub pulled_end : ℕ → Result (Unit {0}) KeepError → PullEnd
+pulled_end count (Ok done) = Pulled count
+pulled_end count (Err keepers.Failed) = KeepFault
+pulled_end count (Err keepers.Memory) = Memory
+
 -- the changes of the log by a pull
 abbrev pub pull_changes : PullEnd → Log → List Log
 pull_changes (Pulled count) after = after ∷ []
@@ -58,10 +66,26 @@ PullTurn client route before Unanswered after trace =
 PullTurn client route before end after trace = PullsSnapshot client route before end after trace
 
 -- nothing is done, or the settling is broken off
-abbrev pub BreaksPull : ℕ → Route → Log → Log → Trace → Type 0
-BreaksPull client route before after trace =
+abbrev pub BreaksAsking : ℕ → Route → Log → Log → Trace → Type 0
+BreaksAsking client route before after trace =
     (asks : List Ask) × (before.pending ≡ []) × (after ≡ before) × BreaksSettling Server route.server (pull_of client before) asks × (trace ≡ asking asks)
 
--- a pull that ended, or that want of memory broke off
-abbrev pub PullEnds : ℕ → Route → Log → PullEnd → Log → Trace → Type 0
-PullEnds client route before end after trace = PullTurn client route before end after trace ⊎ ((end ≡ Memory) × BreaksPull client route before after trace)
+-- it is broken off before it changed anything, or when the base was replaced and was to be kept
+abbrev pub BreaksPull : ℕ → Route → Log → Log → Trace → Type 0
+BreaksPull client route before after trace =
+    BreaksAsking client route before after trace ⊎ ((count : ℕ) × PullsSnapshot client route before (Pulled count) after trace)
+
+-- whether a pull that ends so was broken off, since the keeping was refused or memory was wanted
+abbrev pub is_broken_pull : PullEnd → Bool
+is_broken_pull KeepFault = true
+is_broken_pull Memory = true
+is_broken_pull end = false
+
+-- what a pull does before it keeps anything
+abbrev pub PullAsks : ℕ → Route → Log → PullEnd → Log → Trace → Type 0
+PullAsks client route before end after trace = PullTurn client route before end after trace ⊎ ((end ≡ Memory) × BreaksAsking client route before after trace)
+
+-- a pull that ended and whose log is kept, or one that was broken off
+abbrev pub PullEnds : ℕ → Route → Log → PullEnd → Log → Log → Trace → Type 0
+PullEnds client route before end after kept trace =
+    (PullTurn client route before end after trace × (kept ≡ after)) ⊎ ((is_broken_pull end ≡ true) × BreaksPull client route before after trace)

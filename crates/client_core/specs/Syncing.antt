@@ -1,5 +1,7 @@
 -- A sync: the pending entries are settled with the server, the first one first, until none is left or one is not accepted.
-use Rattle.std.specs.Prelude.{◌≡◌, ◌⊎◌, ℕ, zero, suc, ◌+◌, List, [], ◌∷◌, Option, None, Some}
+use Rattle.std.specs.Prelude.{◌≡◌, ◌⊎◌, ℕ, zero, suc, ◌+◌, Bool, true, false, List, [], ◌∷◌, Option, None, Some}
+use Rattle.outside.specs.declared.errors.KeepError.{KeepError}
+use Rattle.outside.specs.declared.errors.KeepError.TheVariants as keepers
 use Rattle.mod_log.specs.declared.log.Entry.{Entry}
 use Rattle.mod_log.specs.Log.{Log, acknowledged}
 use Rattle.wire_frames.specs.declared.message.Message.{Message}
@@ -8,7 +10,7 @@ use Rattle.world_rules.specs.declared.asking.Peer.TheVariants.{Server}
 use Rattle.world_rules.specs.declared.asking.Ask.{Ask}
 use Rattle.client_core.specs.declared.route.Route.{Route}
 use Rattle.client_core.specs.declared.syncing.SyncEnd.{SyncEnd}
-use Rattle.client_core.specs.declared.syncing.SyncEnd.TheVariants.{Synced, Stale, Unfit, Full, Unanswered, Behind, Memory}
+use Rattle.client_core.specs.declared.syncing.SyncEnd.TheVariants.{Synced, Stale, Unfit, Full, Unanswered, Behind, KeepFault, Memory}
 use Rattle.client_core.specs.Trace.{Trace, nothing, followed, asking}
 use Rattle.client_core.specs.Settling.{IsSettling, BreaksSettling}
 
@@ -34,6 +36,11 @@ end_by number (Some (messages.Unfit client seq index fault)) = Some (Unfit numbe
 end_by number (Some (messages.Full client seq index fault)) = Some (Full number index fault)
 end_by number (Some (messages.Gap client seq last)) = Some (Behind number last)
 end_by number (Some reply) = Some (Unanswered number)
+
+-- how a sync ends whose log could not be kept
+abbrev pub unkept_end : KeepError → SyncEnd
+unkept_end keepers.Failed = KeepFault
+unkept_end keepers.Memory = Memory
 
 -- the settling of the first pending entry's store with the server
 pub record SettlesFirst (client : ℕ) (route : Route) (log : Log) (entry : Entry) (reply : Option Message) (asks : List Ask) : Type 0 where
@@ -68,6 +75,13 @@ BreaksSync client route before after trace =
     × ((last ≡ []) ⊎ ((entry : Entry) × IsFirst entry after.pending × BreaksSettling Server route.server (store_of client entry) last))
     × (trace ≡ followed earlier (asking last))
 
--- a sync that ended, or that want of memory broke off
-abbrev pub SyncEnds : ℕ → Route → Log → SyncEnd → Log → Trace → Type 0
-SyncEnds client route before end after trace = SyncTurn client route before end after trace ⊎ ((end ≡ Memory) × BreaksSync client route before after trace)
+-- whether a sync that ends so was broken off, since a keeping was refused or memory was wanted
+abbrev pub is_broken_sync : SyncEnd → Bool
+is_broken_sync KeepFault = true
+is_broken_sync Memory = true
+is_broken_sync end = false
+
+-- a sync that ended and whose log is kept, or one that was broken off
+abbrev pub SyncEnds : ℕ → Route → Log → SyncEnd → Log → Log → Trace → Type 0
+SyncEnds client route before end after kept trace =
+    (SyncTurn client route before end after trace × (kept ≡ after)) ⊎ ((is_broken_sync end ≡ true) × BreaksSync client route before after trace)

@@ -1,5 +1,5 @@
 -- What a call or a stretch of a session did.
-use Rattle.std.specs.Prelude.{List, [], ◌++◌}
+use Rattle.std.specs.Prelude.{◌≡◌, ◌⊎◌, List, [], ◌∷◌, ◌++◌}
 use Rattle.mod_log.specs.declared.log.Entry.{Entry}
 use Rattle.mod_log.specs.Log.{Log}
 use Rattle.world_rules.specs.declared.asking.Ask.{Ask}
@@ -21,3 +21,20 @@ followed earlier later = record { asks = earlier.asks ++ later.asks; entries = e
 -- these asks, which change nothing
 abbrev pub asking : List Ask → Trace
 asking asks = record { asks = asks; entries = []; changes = [] }
+
+-- ---- the logs that changes lead to
+
+-- the log after the last of these changes, and the one before them where there is none
+abbrev pub last_log : Log → List Log → Log
+last_log log [] = log
+last_log log (change ∷ changes) = last_log change changes
+
+-- the log before the last of these changes
+abbrev pub log_before_last : Log → List Log → Log
+log_before_last log [] = log
+log_before_last log (change ∷ []) = log
+log_before_last log (change ∷ next ∷ changes) = log_before_last change (next ∷ changes)
+
+-- this is the log after the last change, or the one before that change
+abbrev pub IsLastOrBefore : Log → List Log → Log → Type 0
+IsLastOrBefore before changes log = (log ≡ last_log before changes) ⊎ (log ≡ log_before_last before changes)

@@ -2,6 +2,7 @@
 #![tactic(auto)]
 
 mod client;
+mod keeping;
 mod pulling;
 mod route;
 mod settling;

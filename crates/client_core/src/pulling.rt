@@ -1,25 +1,30 @@
 // Pulling the server's rows.
-ghost use Rattle.std.specs.Prelude.{◌≡◌, ◌≢◌, ◌⊎◌, ◌≤◌, [], None, Ok, IfOk, IfSome};
+ghost use Rattle.std.specs.Prelude.{◌≡◌, ◌≢◌, ◌⊎◌, ℕ, ◌≤◌, [], Option, None, Ok, IfOk, IfSome};
 ghost use Rattle.std.specs.Option.{option_copied};
 ghost use Rattle.outside.specs.Outside.{Told, RoseBy, Rose};
+ghost use Rattle.outside.specs.Keeper.{Images};
+ghost use Rattle.mod_log.specs.Log.{Log};
 ghost use Rattle.vol_tree.specs.Tree.{version_at, IsTree};
 ghost use Rattle.wire_frames.specs.Frame.{IsValid, Echoes};
 ghost use Rattle.world_rules.specs.InStep.{InStep};
-ghost use Rattle.client_core.specs.Pulling.{PullEnds};
+ghost use Rattle.client_core.specs.Pulling.{PullAsks, PullEnds, pulled_end};
 ghost use Rattle.client_core.specs.Goes.{Goes};
-ghost use Rattle.client_core.specs.Causes.{HasPullCause};
+ghost use Rattle.client_core.specs.Causes.{HasPullCause, PullKeeps};
+ghost use Rattle.client_core.specs.Keeping.{IsKept};
 ghost use Rattle.client_core.specs.Honest.{IsNotOtherLast, IsNotOlder};
-ghost use Rattle.client_core.specs.Inside.{Settled, IsFreshReply, first_lower, MeetsEnds, snapshot_of};
+ghost use Rattle.client_core.specs.Inside.{Settled, IsFreshReply, first_lower, MeetsEnds, PullLeaves, snapshot_of};
 
 use crate::Route;
+use crate::keeping::keep_log;
 use crate::settling::settle;
 use mod_log::Log;
+use outside::{KeepError, Keeper};
 use std::alloc::{AllocError, Global};
 use vol_tree::{Path, Row, Rows, Tree, TryCopy};
 use wire_frames::Message;
 use world_rules::Link;
 
-/// How a pull ends. Each end but `Pulled` leaves the log as before.
+/// How a pull ends. Each end but `Pulled`, `KeepFault` and `Memory` leaves the log as before.
 #[derive(Debug, Drop)]
 pub enum PullEnd {
     /// The server's rows are the client's base now; how many rows.
@@ -41,16 +46,59 @@ pub enum PullEnd {
     },
     /// Eight asks failed.
     Unanswered,
-    /// Memory ran out.
+    /// The keeper failed. The server's rows are the client's base now, and what is kept is this log or the one before it.
+    KeepFault,
+    /// Memory ran out. The log is as before, and so is what is kept; or it is as after a `KeepFault`.
     Memory,
 }
 
-/// Settles a pull with the server, where nothing is pending, and takes the rows of its snapshot as base and tree.
-pub(crate) fn pull_log<L: Link>(client: u8, route: &Route, log: &mut Log, link: &mut L) -> PullEnd
+/// Pulls, and keeps the log where it was changed.
+pub(crate) fn pull_and_keep<L: Link, K: Keeper>(
+    client: u8,
+    route: &Route,
+    log: &mut Log,
+    link: &mut L,
+    keeper: &mut K,
+) -> PullEnd
     requires low { 1 ≤ client }
     requires high { client ≤ 64 }
-    ensures world { Told (L.world link.old) (L.world link.new) (λ old new. Goes client (PullEnds client route.now log.old result log.new) log.old log.new (L.troubles link.old) (L.troubles link.new) old new) }
-    ensures cause { HasPullCause result log.old log.new (L.troubles link.old) (L.troubles link.new) }
+    requires kept { IsKept (K.images keeper.old) route.now.image client log.old }
+    ensures world { Told (L.world link.old) (L.world link.new) (λ old new. (kept : Log) × Goes client route.now.image (PullEnds client route.now log.old result log.new kept) log.old log.new kept (K.images keeper.old) (K.images keeper.new) (L.troubles link.old) (L.troubles link.new) old new) }
+    ensures cause { HasPullCause result log.old log.new (L.troubles link.old) (L.troubles link.new) (K.faults keeper.old) (K.faults keeper.new) }
+    ensures keeps { PullKeeps route.now.image client log.old result log.new (K.images keeper.old) (K.images keeper.new) }
+    ensures waits { log.old.pending ≢ [] → link.new ≡ link.old }
+    ensures honest { Told (L.world link.old) (L.world link.new) (λ old new. InStep client log.old old → IsNotOtherLast result) }
+    ensures fresh { (Rose (L.troubles link.old) (L.troubles link.new) → ⊥) → Told (L.world link.old) (L.world link.new) (λ old new. InStep client log.old old → IsNotOlder result) }
+    ensures later { L.troubles link.old ≤ L.troubles link.new }
+    ensures faults { K.faults keeper.old ≤ K.faults keeper.new }
+{
+    match pull_log(client, route, log, link) {
+        PullEnd::Pulled(count) => {
+            let kept = keep_log(client, log, route.image.bytes(), keeper);
+            pulled_end(count, kept)
+        }
+        end => end,
+    }
+}
+
+/// How a pull ends that took so many rows, by whether its log was kept.
+fn pulled_end(count: u32, kept: Result<(), KeepError>) -> PullEnd
+    ensures { result ≡ pulled_end count kept }
+{
+    match kept {
+        Ok(()) => PullEnd::Pulled(count),
+        Err(KeepError::Failed) => PullEnd::KeepFault,
+        Err(KeepError::Memory) => PullEnd::Memory,
+    }
+}
+
+/// Settles a pull with the server, where nothing is pending, and takes the rows of its snapshot as base and tree.
+fn pull_log<L: Link>(client: u8, route: &Route, log: &mut Log, link: &mut L) -> PullEnd
+    requires low { 1 ≤ client }
+    requires high { client ≤ 64 }
+    ensures world { (images : Option Images) → IsKept images route.now.image client log.old → Told (L.world link.old) (L.world link.new) (λ old new. Goes client route.now.image (PullAsks client route.now log.old result log.new) log.old log.new log.old images images (L.troubles link.old) (L.troubles link.new) old new) }
+    ensures cause { (faults now : ℕ) → HasPullCause result log.old log.new (L.troubles link.old) (L.troubles link.new) faults now }
+    ensures leaves { PullLeaves result log.old log.new }
     ensures waits { log.old.pending ≢ [] → link.new ≡ link.old }
     ensures honest { Told (L.world link.old) (L.world link.new) (λ old new. InStep client log.old old → IsNotOtherLast result) }
     ensures fresh { (Rose (L.troubles link.old) (L.troubles link.new) → ⊥) → Told (L.world link.old) (L.world link.new) (λ old new. InStep client log.old old → IsNotOlder result) }

@@ -2,22 +2,26 @@
 ghost use Rattle.std.specs.Prelude.{◌≡◌, ◌≤◌, None, Some, Ok, IfOk, IfSome};
 ghost use Rattle.outside.specs.Outside.{Told, RoseBy, Rose};
 ghost use Rattle.wire_frames.specs.Frame.{IsValid, Echoes};
+ghost use Rattle.mod_log.specs.Log.{Log};
 ghost use Rattle.world_rules.specs.InStep.{InStep};
-ghost use Rattle.client_core.specs.Syncing.{store_of, end_by, SyncEnds};
+ghost use Rattle.client_core.specs.Syncing.{store_of, end_by, SyncEnds, unkept_end};
 ghost use Rattle.client_core.specs.Goes.{Goes};
-ghost use Rattle.client_core.specs.Causes.{HasSyncCause, AcknowledgesSome};
+ghost use Rattle.client_core.specs.Causes.{HasSyncCause, AcknowledgesSome, SyncKeeps};
+ghost use Rattle.client_core.specs.Keeping.{IsKept};
 ghost use Rattle.client_core.specs.Honest.{IsTrueSync, IsComplete};
 ghost use Rattle.client_core.specs.Inside.{Settled};
 
 use crate::Route;
+use crate::keeping::keep_log;
 use crate::settling::settle;
 use mod_log::{Entry, Log};
+use outside::{KeepError, Keeper};
 use std::alloc::{AllocError, Global};
 use vol_tree::{Path, TreeError, TryCopy};
 use wire_frames::Message;
 use world_rules::Link;
 
-/// How a sync ends. Each end but `Synced` and `Memory` leaves entry `seq` as the first pending one.
+/// How a sync ends. Each end but `Synced`, `KeepFault` and `Memory` leaves entry `seq` as the first pending one.
 #[derive(Debug, Drop)]
 pub enum SyncEnd {
     /// Nothing is pending; the number of the last acknowledged entry.
@@ -52,20 +56,32 @@ pub enum SyncEnd {
         seq: u64,
         last: u64,
     },
-    /// Memory ran out. The log is that after the last acknowledgement.
+    /// The keeper failed. The log is that after the last acknowledgement, and what is kept is this log or the one before it.
+    KeepFault,
+    /// Memory ran out. The log is that after the last acknowledgement, and what is kept is this log or the one before it.
     Memory,
 }
 
-/// Settles the pending entries, the first one first, until none is left or one is not accepted.
-pub(crate) fn sync_log<L: Link>(client: u8, route: &Route, log: &mut Log, link: &mut L) -> SyncEnd
+/// Settles the pending entries, the first one first, until none is left or one is not accepted. The log is kept after each
+/// acknowledgement, before the next request.
+pub(crate) fn sync_log<L: Link, K: Keeper>(
+    client: u8,
+    route: &Route,
+    log: &mut Log,
+    link: &mut L,
+    keeper: &mut K,
+) -> SyncEnd
     requires low { 1 ≤ client }
     requires high { client ≤ 64 }
-    ensures world { Told (L.world link.old) (L.world link.new) (λ old new. Goes client (SyncEnds client route.now log.old result log.new) log.old log.new (L.troubles link.old) (L.troubles link.new) old new) }
-    ensures cause { HasSyncCause result log.new (L.troubles link.old) (L.troubles link.new) }
+    requires kept { IsKept (K.images keeper.old) route.now.image client log.old }
+    ensures world { Told (L.world link.old) (L.world link.new) (λ old new. (kept : Log) × Goes client route.now.image (SyncEnds client route.now log.old result log.new kept) log.old log.new kept (K.images keeper.old) (K.images keeper.new) (L.troubles link.old) (L.troubles link.new) old new) }
+    ensures cause { HasSyncCause result log.new (L.troubles link.old) (L.troubles link.new) (K.faults keeper.old) (K.faults keeper.new) }
     ensures log { AcknowledgesSome log.old log.new }
+    ensures keeps { SyncKeeps route.now.image client log.old result log.new (K.images keeper.old) (K.images keeper.new) }
     ensures honest { Told (L.world link.old) (L.world link.new) (λ old new. InStep client log.old old → IsTrueSync result client log.new new) }
-    ensures complete { (Rose (L.troubles link.old) (L.troubles link.new) → ⊥) → Told (L.world link.old) (L.world link.new) (λ old new. InStep client log.old old → IsComplete result client log.new new) }
+    ensures complete { (Rose (L.troubles link.old) (L.troubles link.new) → ⊥) → (Rose (K.faults keeper.old) (K.faults keeper.new) → ⊥) → Told (L.world link.old) (L.world link.new) (λ old new. InStep client log.old old → IsComplete result client log.new new) }
     ensures later { L.troubles link.old ≤ L.troubles link.new }
+    ensures faults { K.faults keeper.old ≤ K.faults keeper.new }
 {
     let alloc = log.tree().allocator();
     while let Some(entry) = log.entry(0) {
@@ -78,8 +94,21 @@ pub(crate) fn sync_log<L: Link>(client: u8, route: &Route, log: &mut Log, link: 
             Some(end) => return end,
             None => log.acknowledge(number),
         }
+        if let Err(refused) = keep_log(client, log, route.image.bytes(), keeper) {
+            return unkept_end(refused);
+        }
     }
     SyncEnd::Synced(log.acked())
+}
+
+/// How a sync ends whose log could not be kept.
+fn unkept_end(refused: KeepError) -> SyncEnd
+    ensures { result ≡ unkept_end refused }
+{
+    match refused {
+        KeepError::Failed => SyncEnd::KeepFault,
+        KeepError::Memory => SyncEnd::Memory,
+    }
 }
 
 /// Settles an entry's store with the server. `None`: eight asks failed.

@@ -2,6 +2,7 @@ ghost use Rattle.std.specs.Prelude.{None, IfSome};
 ghost use Rattle.wire_frames.specs.Frame.{IsValid, Echoes};
 
 use crate::*;
+use outside::MemKeeper;
 use std::alloc::Global;
 use std::test::Fail;
 use vol_tree::{Content, Effect, Path, Rows};
@@ -90,20 +91,27 @@ fn logs_and_syncs(rt: HostRuntime) -> Result<(), Fail> {
     let alloc = rt.alloc();
     let route = route(alloc)?;
     let mut client = Client::new(alloc, 7);
+    let mut keeper = MemKeeper::new(alloc, Vec::new(alloc));
     assert_eq!(rt; client.number(), 7);
     assert_eq!(rt; client.local(put(alloc, b"a", b"x\n")?)?, 1);
     assert_eq!(rt; client.local(put(alloc, b"b", b"y\n")?)?, 2);
+    assert!(rt; client.keep(b"image", &mut keeper).is_ok());
     let mut dead = Dead { troubles: 0 };
     assert!(rt;
         matches!(
-            client.sync(&route, &mut dead),
+            client.sync(&route, &mut dead, &mut keeper),
             SyncEnd::Unanswered { seq: 1 }
         )
     );
     assert_eq!(rt; dead.troubles, 8);
     assert_eq!(rt; client.log().pending(), 2);
     let mut willing = Willing { alloc, ahead: 0 };
-    assert!(rt; matches!(client.sync(&route, &mut willing), SyncEnd::Synced(2)));
+    assert!(rt;
+        matches!(
+            client.sync(&route, &mut willing, &mut keeper),
+            SyncEnd::Synced(2)
+        )
+    );
     assert_eq!(rt; client.log().pending(), 0);
     Ok(())
 }
@@ -113,17 +121,39 @@ fn pulls(rt: HostRuntime) -> Result<(), Fail> {
     let alloc = rt.alloc();
     let route = route(alloc)?;
     let mut client = Client::new(alloc, 64);
+    let mut keeper = MemKeeper::new(alloc, Vec::new(alloc));
     let mut willing = Willing { alloc, ahead: 0 };
-    assert!(rt; matches!(client.pull(&route, &mut willing), PullEnd::Pulled(0)));
-    let mut dead = Dead { troubles: 0 };
-    assert!(rt; matches!(client.pull(&route, &mut dead), PullEnd::Unanswered));
-    let _ = client.local(put(alloc, b"a", b"x\n")?)?;
-    assert!(rt; matches!(client.pull(&route, &mut dead), PullEnd::Pending(1)));
-    assert_eq!(rt; dead.troubles, 8);
-    assert!(rt; matches!(client.sync(&route, &mut willing), SyncEnd::Synced(1)));
     assert!(rt;
         matches!(
-            client.pull(&route, &mut willing),
+            client.pull(&route, &mut willing, &mut keeper),
+            PullEnd::Pulled(0)
+        )
+    );
+    let mut dead = Dead { troubles: 0 };
+    assert!(rt;
+        matches!(
+            client.pull(&route, &mut dead, &mut keeper),
+            PullEnd::Unanswered
+        )
+    );
+    let _ = client.local(put(alloc, b"a", b"x\n")?)?;
+    assert!(rt; client.keep(b"image", &mut keeper).is_ok());
+    assert!(rt;
+        matches!(
+            client.pull(&route, &mut dead, &mut keeper),
+            PullEnd::Pending(1)
+        )
+    );
+    assert_eq!(rt; dead.troubles, 8);
+    assert!(rt;
+        matches!(
+            client.sync(&route, &mut willing, &mut keeper),
+            SyncEnd::Synced(1)
+        )
+    );
+    assert!(rt;
+        matches!(
+            client.pull(&route, &mut willing, &mut keeper),
             PullEnd::Older {
                 theirs: 0,
                 ours: 1,
@@ -134,7 +164,7 @@ fn pulls(rt: HostRuntime) -> Result<(), Fail> {
     willing.ahead = 2;
     assert!(rt;
         matches!(
-            client.pull(&route, &mut willing),
+            client.pull(&route, &mut willing, &mut keeper),
             PullEnd::OtherLast { last: 3, acked: 1 }
         )
     );

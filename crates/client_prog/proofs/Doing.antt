@@ -1,24 +1,48 @@
 -- How what a session does goes on from line to line.
-use Rattle.std.proofs.Common.{ℕ, refl, ◌∙◌, subst}
+use Rattle.std.proofs.Common.{◌≡◌, ℕ, List, Option, refl, ◌∙◌, subst}
+use Rattle.outside.specs.Keeper.{Images}
+use Rattle.mod_log.specs.Log.{Log}
 use Rattle.world_rules.specs.World.{World}
-use Rattle.client_core.specs.Trace.{Trace, nothing, followed}
+use Rattle.client_core.specs.Trace.{Trace, nothing, followed, IsLastOrBefore}
+use Rattle.client_core.specs.Keeping.{IsKept}
 use Rattle.client_core.specs.Goes.{Goes}
-use Rattle.client_core.proofs.Going.{goes_none, goes_as, goes_then}
+use Rattle.client_core.proofs.Going.{goes_none, goes_then}
 use Rattle.client_prog.specs.Session.{State}
 use Rattle.client_prog.specs.InsideSession.{Does}
 
-pub does_none : (T : Trace → Type 0) (s : State) (t : ℕ) (w : World) → T nothing → Does T s s t t w w
-does_none T s t w turn = record { number = refl; goes = goes_none s.client.number T s.client.log t w turn }
+module _ (name : List ℕ) where
+  pub does_none : (T : Trace → Type 0) (s : State) (i : Option Images) (t : ℕ) (w : World) → IsKept i name s.client.number s.client.log → T nothing → Does name T s s s.client.log i i t t w w
+  does_none T s i t w keeps turn = record { number = refl; goes = goes_none name s.client.number T s.client.log i t w keeps turn }
 
--- another relation of the same turns
-pub does_as : (T S : Trace → Type 0) (a b : State) (t u : ℕ) (v w : World) → Does T a b t u v w → ((trace : Trace) → T trace → S trace) → Does S a b t u v w
-does_as T S a b t u v w does to = record { number = does.number; goes = goes_as a.client.number T S a.client.log b.client.log t u v w does.goes to }
+  -- another relation of the same turns
+  pub does_as : (T S : Trace → Type 0) (a b : State) (k : Log) (i j : Option Images) (t u : ℕ) (v w : World) → Does name T a b k i j t u v w
+      → ((trace : Trace) → T trace → IsLastOrBefore a.client.log trace.changes k → S trace) → Does name S a b k i j t u v w
+  does_as T S a b k i j t u v w does to = record {
+    number = does.number;
+    goes = record { trace = does.goes.trace; turn = to does.goes.trace does.goes.turn does.goes.keeping.behind; runs = does.goes.runs; keeping = does.goes.keeping; rose = does.goes.rose };
+  }
 
--- one stretch after another
-pub does_then : (T S R : Trace → Type 0) (a b c : State) (t u v : ℕ) (x y z : World) → Does T a b t u x y → Does S b c u v y z
-    → ((m n : Trace) → T m → S n → R (followed m n)) → Does R a c t v x z
-does_then T S R a b c t u v x y z first second join = record {
-  number = second.number ∙ first.number;
-  goes = goes_then a.client.number T S R a.client.log b.client.log c.client.log t u v x y z first.goes
-      (subst (λ (n : ℕ). Goes n S b.client.log c.client.log u v y z) first.number second.goes) join;
-}
+  -- one stretch, at whose end the client is kept, after another
+  pub does_then : (T S R : Trace → Type 0) (a b c : State) (k : Log) (i j l : Option Images) (t u v : ℕ) (x y z : World) → Does name T a b b.client.log i j t u x y → Does name S b c k j l u v y z
+      → ((m n : Trace) → T m → S n → IsLastOrBefore b.client.log n.changes k → R (followed m n)) → Does name R a c k i l t v x z
+  does_then T S R a b c k i j l t u v x y z first second join =
+      let kept_so = λ (trace : Trace). S trace × IsLastOrBefore b.client.log trace.changes k in
+      let after : Does name kept_so b c k j l u v y z = does_as S kept_so b c k j l u v y z second (λ trace turn behind. (turn, behind)) in
+      record {
+        number = second.number ∙ first.number;
+        goes = goes_then name a.client.number T kept_so R a.client.log b.client.log c.client.log k i j l t u v x y z first.goes
+            (subst (λ (n : ℕ). Goes n name kept_so b.client.log c.client.log k j l u v y z) first.number after.goes) (λ m n p q. join m n p q.0 q.1);
+      }
+
+  -- a stretch whose turns say that the client is kept at its end
+  pub does_kept : (T : Log → Trace → Type 0) (a b : State) (i j : Option Images) (t u : ℕ) (v w : World) → (k : Log) × Does name (T k) a b k i j t u v w
+      → ((k : Log) (trace : Trace) → T k trace → k ≡ b.client.log) → Does name (T b.client.log) a b b.client.log i j t u v w
+  does_kept T a b i j t u v w does is =
+      let same : does.0 ≡ b.client.log = is does.0 does.1.goes.trace does.1.goes.turn in
+      subst (λ (k : Log). Does name (T k) a b k i j t u v w) same does.1
+
+  -- one stretch, at whose end the client is kept, after another that says what is kept at its end
+  pub does_next : (T : Trace → Type 0) (S R : Log → Trace → Type 0) (a b c : State) (i j l : Option Images) (t u v : ℕ) (x y z : World) → Does name T a b b.client.log i j t u x y
+      → (k : Log) × Does name (S k) b c k j l u v y z → ((k : Log) (m n : Trace) → T m → S k n → R k (followed m n)) → (k : Log) × Does name (R k) a c k i l t v x z
+  does_next T S R a b c i j l t u v x y z first second join =
+      (second.0, does_then T (S second.0) (R second.0) a b c second.0 i j l t u v x y z first second.1 (λ m n p q behind. join second.0 m n p q))

@@ -6,6 +6,7 @@ pub mod RunningEnds
 pub mod RunningInput
 pub mod RunningLeaves
 pub mod RunningLines
+pub mod RunningOpened
 pub mod RunningPieces
 pub mod Found
 pub mod Turning

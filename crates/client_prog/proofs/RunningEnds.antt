@@ -1,45 +1,48 @@
 -- How a run ends, and what its status says.
-use Rattle.std.proofs.Common.{◌≡◌, ◌⊎◌, inl, inr, ℕ, ◌+◌, ◌≤◌, Bool, true, false, List, [], length, take, Option, None, Some, Result, Ok, Err, refl, sym, ◌∙◌, ap, subst, arith, length-append}
-use Rattle.std.specs.Prelude.{IfSome}
+use Rattle.std.proofs.Common.{◌≡◌, ◌≢◌, ◌⊎◌, inl, inr, ℕ, ◌+◌, ◌≤◌, Bool, true, false, List, [], length, take, Option, None, Some, Result, Ok, Err, refl, sym, ◌∙◌, ap, subst, arith, length-append}
 use Rattle.std.proofs.lemmas.List.{take_all}
 use Rattle.outside.specs.Outside.{Told, Adds, Takes, Rose}
 use Rattle.outside.proofs.Writing.{adds_nothing, adds_then}
 use Rattle.outside.proofs.Taking.{takes_nothing}
 use Rattle.client_core.specs.declared.route.Route.{Route}
+use Rattle.mod_log.specs.Log.{Log}
 use Rattle.client_core.specs.Trace.{Trace, nothing}
 use Rattle.shell_lang.specs.Lines.{whole_lines}
 use Rattle.client_prog.specs.declared.input.InputEnd.{InputEnd}
 use Rattle.client_prog.specs.declared.input.InputEnd.TheVariants.{Read, Failed, TooLong}
 use Rattle.client_prog.specs.declared.input.TheConstants.{MAX_INPUT}
 use Rattle.client_prog.specs.declared.run.Stop.{Stop}
-use Rattle.client_prog.specs.declared.run.Stop.TheVariants.{Sink, Memory}
+use Rattle.client_prog.specs.declared.run.Stop.TheVariants.{Sink, Keeper, Memory}
 use Rattle.client_prog.specs.Input.{EndsAt, within_limit, lines_at}
-use Rattle.client_prog.specs.Words.{Run}
 use Rattle.client_prog.specs.Session.{State}
-use Rattle.client_prog.specs.Run.{status_of, closing_at, closing_line, has_quit, end_of, HasLines, RunTurn, IsRead}
+use Rattle.client_prog.specs.Run.{status_of, closing_at, closing_line, has_quit, end_of, HasLines, StopsIn, RunTurn, IsRead}
 use Rattle.client_prog.specs.InsideRun.{AnswersInput, TakesInput}
 
 module _ (route : Route) (before : State) (left rest o : Option (List ℕ)) where
-  pub run_stops : (stop : Stop) (n : Option (List ℕ)) (after : State) (p : Trace) → AnswersInput route before left rest o n (Err stop) after p → RunTurn route before left rest o n (Err stop) after p
-  run_stops stop n after p turn = (turn.0, turn.1, turn.2, inl turn.3)
+  pub run_stops : (stop : Stop) (n : Option (List ℕ)) (after : State) (k : Log) (p : Trace) → AnswersInput route before left rest o n (Err stop) after k p → RunTurn route before left rest o n (Err stop) after k p
+  run_stops stop n after k p turn = (turn.0, turn.1, turn.2, inl turn.3)
 
-  pub run_ends : (end : InputEnd) (m n : Option (List ℕ)) (after : State) (p : Trace) → AnswersInput route before left rest o m (Ok end) after p → Adds m n (closing_at end after)
-      → RunTurn route before left rest o n (Ok end) after p
-  run_ends end m n after p turn adds = (turn.0, turn.2.0, turn.1, turn.2.1, adds_then o m n turn.2.0 (closing_at end after) turn.2.2 adds)
+  pub run_ends : (end : InputEnd) (m n : Option (List ℕ)) (after : State) (k : Log) (p : Trace) → AnswersInput route before left rest o m (Ok end) after k p → Adds m n (closing_at end after)
+      → RunTurn route before left rest o n (Ok end) after k p
+  run_ends end m n after k p turn adds = (turn.0, turn.2.0, turn.1, (turn.2.1, turn.3), adds_then o m n turn.2.0 (closing_at end after) turn.2.2 adds)
 
-  pub run_closing : (end : InputEnd) (stop : Stop) (count : ℕ) (m n : Option (List ℕ)) (after : State) (p : Trace) → end ≡ Read → AnswersInput route before left rest o m (Ok end) after p
-      → Adds m n (take count (closing_line after)) → RunTurn route before left rest o n (Err stop) after p
-  run_closing end stop count m n after p is turn adds =
-      (turn.0, end, turn.1, inr (is, (turn.2.0, count, turn.2.1, adds_then o m n turn.2.0 (take count (closing_line after)) turn.2.2 adds)))
+  pub run_closing : (end : InputEnd) (stop : Stop) (count : ℕ) (m n : Option (List ℕ)) (after : State) (k : Log) (p : Trace) → end ≡ Read → stop ≢ Keeper → AnswersInput route before left rest o m (Ok end) after k p
+      → Adds m n (take count (closing_line after)) → RunTurn route before left rest o n (Err stop) after k p
+  run_closing end stop count m n after k p is other turn adds =
+      (turn.0, end, turn.1, inr (is, (turn.2.0, count, other, (turn.2.1, turn.3), adds_then o m n turn.2.0 (take count (closing_line after)) turn.2.2 adds)))
 
 -- nothing was taken
 nothing_taken : (left : Option (List ℕ)) → HasLines left left [] Failed
 nothing_taken left = record { input = []; taken = takes_nothing left; end = Failed; stands = omega arith; lines_are = refl; ended_is = refl }
 
+stops_at_once : (stop : Stop) (route : Route) (before : State) (o : Option (List ℕ)) → StopsIn stop route before [] o o before before.client.log nothing
+stops_at_once Sink route before o = ([], [], [], refl, ((refl, refl, refl), refl), (0, adds_nothing o))
+stops_at_once Keeper route before o = ([], [], [], refl, inl ((refl, refl, refl), refl), adds_nothing o)
+stops_at_once Memory route before o = ([], [], [], refl, inl ((refl, refl, refl), refl), (0, adds_nothing o))
+
 -- nothing was done
-pub run_nothing : (route : Route) (before : State) (left o : Option (List ℕ)) → RunTurn route before left left o o (Err Memory) before nothing
-run_nothing route before left o =
-    ([], Failed, nothing_taken left, inl ([], [], [], 0, refl, inl (refl, refl, refl), adds_nothing o))
+pub run_nothing : (stop : Stop) (route : Route) (before : State) (left o : Option (List ℕ)) → RunTurn route before left left o o (Err stop) before before.client.log nothing
+run_nothing stop route before left o = ([], Failed, nothing_taken left, inl (stops_at_once stop route before o))
 
 -- ---- how much was read
 
@@ -106,7 +109,7 @@ read_ended l r lines Read has = record {
   input = has.input;
   taken = has.taken;
   most = most (Some r) (length has.input) has.end has.stands;
-  past = λ sink memory. (λ is. absurd (omega arith), λ long. absurd (cc (long_ends l r lines Read has long.0 long.1)));
+  past = λ sink keeper memory. (λ is. absurd (omega arith), λ long. absurd (cc (long_ends l r lines Read has long.0 long.1)));
   ended = λ is. read_or_quit l r lines Read has refl;
   failed = λ is. absurd (omega arith);
 }
@@ -114,7 +117,7 @@ read_ended l r lines Failed has = record {
   input = has.input;
   taken = has.taken;
   most = most (Some r) (length has.input) has.end has.stands;
-  past = λ sink memory. (λ is. absurd (omega arith), λ long. absurd (cc (long_ends l r lines Failed has long.0 long.1)));
+  past = λ sink keeper memory. (λ is. absurd (omega arith), λ long. absurd (cc (long_ends l r lines Failed has long.0 long.1)));
   ended = λ is. absurd (omega arith);
   failed = λ is. has_failed l r lines Failed has refl;
 }
@@ -122,7 +125,7 @@ read_ended l r lines TooLong has = record {
   input = has.input;
   taken = has.taken;
   most = most (Some r) (length has.input) has.end has.stands;
-  past = λ sink memory. (λ is. too_long l r lines TooLong has refl, λ long. refl);
+  past = λ sink keeper memory. (λ is. too_long l r lines TooLong has refl, λ long. refl);
   ended = λ is. absurd (omega arith);
   failed = λ is. absurd (omega arith);
 }
@@ -132,7 +135,15 @@ read_stopped l r lines ended Sink has = record {
   input = has.input;
   taken = has.taken;
   most = most (Some r) (length has.input) has.end has.stands;
-  past = λ sink memory. absurd (sink refl);
+  past = λ sink keeper memory. absurd (sink refl);
+  ended = λ is. absurd (omega arith);
+  failed = λ is. absurd (omega arith);
+}
+read_stopped l r lines ended Keeper has = record {
+  input = has.input;
+  taken = has.taken;
+  most = most (Some r) (length has.input) has.end has.stands;
+  past = λ sink keeper memory. absurd (keeper refl);
   ended = λ is. absurd (omega arith);
   failed = λ is. absurd (omega arith);
 }
@@ -140,7 +151,7 @@ read_stopped l r lines ended Memory has = record {
   input = has.input;
   taken = has.taken;
   most = most (Some r) (length has.input) has.end has.stands;
-  past = λ sink memory. absurd (memory refl);
+  past = λ sink keeper memory. absurd (memory refl);
   ended = λ is. absurd (omega arith);
   failed = λ is. absurd (omega arith);
 }
@@ -165,24 +176,22 @@ short_not_past l None short takes = takes.1.taken
 short_not_past l (Some r) short takes =
     omega (arith, (too_long l r takes.0 TooLong takes.1 refl).0, ap length takes.1.taken, length-append {A = ℕ})
 
-complete_told : (l : List ℕ) (rest : Option (List ℕ)) (a b c d : ℕ) (ended : Result InputEnd Stop) → TakesInput (Some l) rest ended → (ended ≡ Ok Failed → Rose a b) → (ended ≡ Err Sink → Rose c d)
-    → length l ≤ MAX_INPUT → (Rose a b → ⊥) → (Rose c d → ⊥) → (status_of ended ≡ 0) ⊎ (status_of ended ≡ 7)
-complete_told l rest a b c d (Ok Read) takes source sink short calm quiet = inl refl
-complete_told l rest a b c d (Ok Failed) takes source sink short calm quiet = absurd (calm (source refl))
-complete_told l rest a b c d (Ok TooLong) takes source sink short calm quiet = absurd (short_not_past l rest short takes)
-complete_told l rest a b c d (Err Sink) takes source sink short calm quiet = absurd (quiet (sink refl))
-complete_told l rest a b c d (Err Memory) takes source sink short calm quiet = inr refl
-
-complete : (left rest : Option (List ℕ)) (a b c d : ℕ) (ended : Result InputEnd Stop) → TakesInput left rest ended → (ended ≡ Ok Failed → Rose a b) → (ended ≡ Err Sink → Rose c d)
-    → IfSome left (λ bytes. length bytes ≤ MAX_INPUT → (Rose a b → ⊥) → (Rose c d → ⊥) → (status_of ended ≡ 0) ⊎ (status_of ended ≡ 7))
-complete None rest a b c d ended takes source sink = tt
-complete (Some l) rest a b c d ended takes source sink = λ short calm quiet. complete_told l rest a b c d ended takes source sink short calm quiet
+complete_told : (l : List ℕ) (rest : Option (List ℕ)) (a b c d e f : ℕ) (ended : Result InputEnd Stop) → TakesInput (Some l) rest ended → (ended ≡ Ok Failed → Rose a b) → (ended ≡ Err Sink → Rose c d)
+    → (ended ≡ Err Keeper → Rose e f) → length l ≤ MAX_INPUT → (Rose a b → ⊥) → (Rose c d → ⊥) → (Rose e f → ⊥) → (status_of ended ≡ 0) ⊎ (status_of ended ≡ 7)
+complete_told l rest a b c d e f (Ok Read) takes source sink keeper short calm quiet sound = inl refl
+complete_told l rest a b c d e f (Ok Failed) takes source sink keeper short calm quiet sound = absurd (calm (source refl))
+complete_told l rest a b c d e f (Ok TooLong) takes source sink keeper short calm quiet sound = absurd (short_not_past l rest short takes)
+complete_told l rest a b c d e f (Err Sink) takes source sink keeper short calm quiet sound = absurd (quiet (sink refl))
+complete_told l rest a b c d e f (Err Keeper) takes source sink keeper short calm quiet sound = absurd (sound (keeper refl))
+complete_told l rest a b c d e f (Err Memory) takes source sink keeper short calm quiet sound = inr refl
 
 -- without a fault all lines are answered, but for want of memory
-abbrev pub IsComplete : Option (List ℕ) → ℕ → ℕ → ℕ → ℕ → ℕ → Type 0
-IsComplete left a b c d status = IfSome left (λ bytes. length bytes ≤ MAX_INPUT → (Rose a b → ⊥) → (Rose c d → ⊥) → (status ≡ 0) ⊎ (status ≡ 7))
+abbrev pub EndsWell : Option (List ℕ) → ℕ → ℕ → ℕ → ℕ → ℕ → ℕ → ℕ → Type 0
+EndsWell None a b c d e f status = Unit {0}
+EndsWell (Some bytes) a b c d e f status = length bytes ≤ MAX_INPUT → (Rose a b → ⊥) → (Rose c d → ⊥) → (Rose e f → ⊥) → (status ≡ 0) ⊎ (status ≡ 7)
 
-pub complete_status : (form : Option Run) (left rest : Option (List ℕ)) (a b c d status : ℕ) (ended : Result InputEnd Stop) → status ≡ status_of ended → TakesInput left rest ended → (ended ≡ Ok Failed → Rose a b)
-    → (ended ≡ Err Sink → Rose c d) → IfSome form (λ run. IsComplete left a b c d status)
-complete_status None left rest a b c d status ended is takes source sink = tt
-complete_status (Some run) left rest a b c d status ended is takes source sink = subst (IsComplete left a b c d) (sym is) (complete left rest a b c d ended takes source sink)
+pub ends_well : (left rest : Option (List ℕ)) (a b c d e f status : ℕ) (ended : Result InputEnd Stop) → status ≡ status_of ended → TakesInput left rest ended → (ended ≡ Ok Failed → Rose a b)
+    → (ended ≡ Err Sink → Rose c d) → (ended ≡ Err Keeper → Rose e f) → EndsWell left a b c d e f status
+ends_well None rest a b c d e f status ended is takes source sink keeper = tt
+ends_well (Some l) rest a b c d e f status ended is takes source sink keeper =
+    λ short calm quiet sound. subst (λ (n : ℕ). (n ≡ 0) ⊎ (n ≡ 7)) (sym is) (complete_told l rest a b c d e f ended takes source sink keeper short calm quiet sound)

@@ -1,6 +1,7 @@
 -- Answering the lines that are there, up to one that quits.
 use Rattle.std.proofs.Common.{◌≡◌, ℕ, ◌+◌, ◌<◌, true, false, List, [], ◌∷◌, ◌++◌, length, drop, Option, refl, sym, ◌∙◌, ap, subst, arith, append_assoc, if◌then◌else◌}
 use Rattle.client_core.specs.declared.route.Route.{Route}
+use Rattle.mod_log.specs.Log.{Log}
 use Rattle.client_core.specs.Trace.{Trace, nothing, followed}
 use Rattle.shell_lang.specs.Lines.{parts, but_last, whole_lines, unfinished, last_line, BeginsWithLine, IsCutUpTo}
 use Rattle.shell_lang.proofs.Cutting.{parts_are, line_taken, all_lines_taken}
@@ -76,12 +77,12 @@ module _ (route : Route) (a : State) (bytes : List ℕ) (o : Option (List ℕ)) 
       subst (λ (ls : List (List ℕ)). AllAnswered route a ls o n c (followed p q)) (sym (quit_ends bytes left line front.0 front.1 begins quit))
       (answers_then route a b c front.0 (line ∷ []) o m n p q front.2 answered)
 
-  pub front_stops : (stop : Stop) (left line : List ℕ) (b c : State) (m n : Option (List ℕ)) (p q : Trace) → BeginsWithLine left line
-      → AnswersFront route a bytes left o m b p → StopsIn stop route b (line ∷ []) m n c q → StopsIn stop route a (up_to_quit (whole_lines bytes)) o n c (followed p q)
-  front_stops stop left line b c m n p q begins front stops =
-      subst (λ (ls : List (List ℕ)). StopsIn stop route a ls o n c (followed p q)) (sym (line_then bytes left line front.0 front.1 begins))
-      (stops_sooner route stop a c (front.0 ++ line ∷ []) (if quits line then [] else up_to_quit (whole_lines (drop (length line + 1) left))) o n (followed p q)
-      (then_stops route stop a b c front.0 (line ∷ []) o m n p q front.2 stops))
+  pub front_stops : (stop : Stop) (left line : List ℕ) (b c : State) (k : Log) (m n : Option (List ℕ)) (p q : Trace) → BeginsWithLine left line
+      → AnswersFront route a bytes left o m b p → StopsIn stop route b (line ∷ []) m n c k q → StopsIn stop route a (up_to_quit (whole_lines bytes)) o n c k (followed p q)
+  front_stops stop left line b c k m n p q begins front stops =
+      subst (λ (ls : List (List ℕ)). StopsIn stop route a ls o n c k (followed p q)) (sym (line_then bytes left line front.0 front.1 begins))
+      (stops_sooner route stop a c k (front.0 ++ line ∷ []) (if quits line then [] else up_to_quit (whole_lines (drop (length line + 1) left))) o n (followed p q)
+      (then_stops route stop a b c k front.0 (line ∷ []) o m n p q front.2 stops))
 
   pub front_done : (left : List ℕ) (b : State) (m : Option (List ℕ)) (p : Trace) → parts left ≡ left ∷ [] → AnswersFront route a bytes left o m b p
       → AllAnswered route a (up_to_quit (whole_lines bytes)) o m b p

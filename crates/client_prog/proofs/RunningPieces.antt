@@ -5,6 +5,7 @@ use Rattle.std.proofs.lemmas.Bool.Decides.{nat_tests}
 use Rattle.std.proofs.lemmas.List.{append-nil, take_all}
 use Rattle.outside.specs.Outside.{Takes}
 use Rattle.client_core.specs.declared.route.Route.{Route}
+use Rattle.mod_log.specs.Log.{Log}
 use Rattle.client_core.specs.Trace.{Trace, nothing, followed}
 use Rattle.shell_lang.specs.Lines.{parts, whole_lines, unfinished, last_line}
 use Rattle.shell_lang.proofs.Cutting.{parts_are}
@@ -180,55 +181,57 @@ module _ (route : Route) (a : State) (left o : Option (List ℕ)) where
   )
 
   -- a line of a piece quits
-  pub so_far_quits : (mid rest : Option (List ℕ)) (old new : Reading) (end : Option InputEnd) (b c : State) (m n : Option (List ℕ)) (p q : Trace) → old.count ≤ MAX_INPUT
+  pub so_far_quits : (mid rest : Option (List ℕ)) (old new : Reading) (end : Option InputEnd) (b c : State) (k : Log) (m n : Option (List ℕ)) (p q : Trace) → old.count ≤ MAX_INPUT
       → ReadsPiece mid rest old new end → has_quit (whole_lines new.bytes) ≡ true → AnswersSoFar route a left mid old o m b p
-      → AllAnswered route b (up_to_quit (whole_lines new.bytes)) m n c q → AnswersInput route a left rest o n (Ok Read) c (followed p q)
-  so_far_quits mid rest old new end b c m n p q few reads some so_far answered = (
+      → AllAnswered route b (up_to_quit (whole_lines new.bytes)) m n c q → k ≡ c.client.log → AnswersInput route a left rest o n (Ok Read) c k (followed p q)
+  so_far_quits mid rest old new end b c k m n p q few reads some so_far answered is = (
     so_far.0 ++ up_to_quit (whole_lines new.bytes),
     quits_in left mid rest old new so_far.0 end few reads some so_far.1,
     answers_then route a b c so_far.0 (up_to_quit (whole_lines new.bytes)) o m n p q so_far.2 answered,
+    is,
   )
 
   -- a stop in the lines of a piece
-  pub so_far_stops : (mid rest : Option (List ℕ)) (old new : Reading) (end : Option InputEnd) (stop : Stop) (b c : State) (m n : Option (List ℕ)) (p q : Trace) → old.count ≤ MAX_INPUT
-      → ReadsPiece mid rest old new end → AnswersSoFar route a left mid old o m b p → StopsIn stop route b (up_to_quit (whole_lines new.bytes)) m n c q
-      → AnswersInput route a left rest o n (Err stop) c (followed p q)
-  so_far_stops mid rest old new end stop b c m n p q few reads so_far stops =
+  pub so_far_stops : (mid rest : Option (List ℕ)) (old new : Reading) (end : Option InputEnd) (stop : Stop) (b c : State) (k : Log) (m n : Option (List ℕ)) (p q : Trace) → old.count ≤ MAX_INPUT
+      → ReadsPiece mid rest old new end → AnswersSoFar route a left mid old o m b p → StopsIn stop route b (up_to_quit (whole_lines new.bytes)) m n c k q
+      → AnswersInput route a left rest o n (Err stop) c k (followed p q)
+  so_far_stops mid rest old new end stop b c k m n p q few reads so_far stops =
       let lines = stops_in left mid rest old new so_far.0 end few reads so_far.1 in
       let front = so_far.0 ++ up_to_quit (whole_lines new.bytes) in (
         front ++ lines.0,
         lines.1,
         lines.2,
-        stops_sooner route stop a c front lines.0 o n (followed p q) (then_stops route stop a b c so_far.0 (up_to_quit (whole_lines new.bytes)) o m n p q so_far.2 stops),
+        stops_sooner route stop a c k front lines.0 o n (followed p q) (then_stops route stop a b c k so_far.0 (up_to_quit (whole_lines new.bytes)) o m n p q so_far.2 stops),
       )
 
   -- a piece was lost
   pub so_far_lost : (mid rest : Option (List ℕ)) (old : Reading) (piece : List ℕ) (b : State) (m : Option (List ℕ)) (p : Trace) → old.count ≤ MAX_INPUT → Takes mid rest piece → old.count + length piece ≤ 16777217
-      → AnswersSoFar route a left mid old o m b p → AnswersInput route a left rest o m (Err Memory) b p
+      → AnswersSoFar route a left mid old o m b p → AnswersInput route a left rest o m (Err Memory) b b.client.log p
   so_far_lost mid rest old piece b m p few taken short so_far =
       let lines = lost_in left mid rest old so_far.0 piece few taken short so_far.1 in (
         so_far.0 ++ lines.0,
         lines.1,
         lines.2,
-        stops_sooner route Memory a b so_far.0 lines.0 o m p (stops_behind route Memory a b so_far.0 o m so_far.2.0 p so_far.2.1 so_far.2.2),
+        stops_sooner route Memory a b b.client.log so_far.0 lines.0 o m p (stops_behind route Memory a b b.client.log so_far.0 o m so_far.2.0 p so_far.2.1 refl so_far.2.2),
       )
 
   -- the end of the input
-  pub all_answered : (rest : Option (List ℕ)) (reading : Reading) (end : InputEnd) (b c : State) (m n : Option (List ℕ)) (p q : Trace) → parts reading.bytes ≡ reading.bytes ∷ []
-      → EndsAt rest reading.count end → AnswersSoFar route a left rest reading o m b p → AllAnswered route b (last_at end reading.bytes) m n c q
-      → AnswersInput route a left rest o n (Ok end) c (followed p q)
-  all_answered rest reading end b c m n p q none ends so_far answered = (
+  pub all_answered : (rest : Option (List ℕ)) (reading : Reading) (end : InputEnd) (b c : State) (k : Log) (m n : Option (List ℕ)) (p q : Trace) → parts reading.bytes ≡ reading.bytes ∷ []
+      → EndsAt rest reading.count end → AnswersSoFar route a left rest reading o m b p → AllAnswered route b (last_at end reading.bytes) m n c q → k ≡ c.client.log
+      → AnswersInput route a left rest o n (Ok end) c k (followed p q)
+  all_answered rest reading end b c k m n p q none ends so_far answered is = (
     so_far.0 ++ last_at end reading.bytes,
     all_in left rest reading so_far.0 end none ends so_far.1,
     answers_then route a b c so_far.0 (last_at end reading.bytes) o m n p q so_far.2 answered,
+    is,
   )
 
-  pub all_stops : (rest : Option (List ℕ)) (reading : Reading) (end : InputEnd) (stop : Stop) (b c : State) (m n : Option (List ℕ)) (p q : Trace) → parts reading.bytes ≡ reading.bytes ∷ []
-      → EndsAt rest reading.count end → AnswersSoFar route a left rest reading o m b p → StopsIn stop route b (last_at end reading.bytes) m n c q
-      → AnswersInput route a left rest o n (Err stop) c (followed p q)
-  all_stops rest reading end stop b c m n p q none ends so_far stops = (
+  pub all_stops : (rest : Option (List ℕ)) (reading : Reading) (end : InputEnd) (stop : Stop) (b c : State) (k : Log) (m n : Option (List ℕ)) (p q : Trace) → parts reading.bytes ≡ reading.bytes ∷ []
+      → EndsAt rest reading.count end → AnswersSoFar route a left rest reading o m b p → StopsIn stop route b (last_at end reading.bytes) m n c k q
+      → AnswersInput route a left rest o n (Err stop) c k (followed p q)
+  all_stops rest reading end stop b c k m n p q none ends so_far stops = (
     so_far.0 ++ last_at end reading.bytes,
     end,
     all_in left rest reading so_far.0 end none ends so_far.1,
-    then_stops route stop a b c so_far.0 (last_at end reading.bytes) o m n p q so_far.2 stops,
+    then_stops route stop a b c k so_far.0 (last_at end reading.bytes) o m n p q so_far.2 stops,
   )

@@ -1,6 +1,8 @@
 -- Words that only contracts below the whole run cite, of its input and of its lines.
 use Rattle.std.specs.Prelude.{◌≡◌, ℕ, false, List, [], ◌∷◌, Option, Result, Ok, Err}
 use Rattle.outside.specs.Outside.{Adds}
+use Rattle.outside.specs.Keeper.{Images}
+use Rattle.mod_log.specs.Log.{Log}
 use Rattle.world_rules.specs.World.{World}
 use Rattle.client_core.specs.declared.route.Route.{Route}
 use Rattle.client_core.specs.Trace.{Trace}
@@ -8,7 +10,7 @@ use Rattle.shell_lang.specs.Lines.{parts, unfinished, IsCutUpTo}
 use Rattle.client_prog.specs.declared.input.InputEnd.{InputEnd}
 use Rattle.client_prog.specs.declared.run.Stop.{Stop}
 use Rattle.client_prog.specs.Input.{Reading, HasRead}
-use Rattle.client_prog.specs.Session.{State, Chain, new_state}
+use Rattle.client_prog.specs.Session.{State, Chain}
 use Rattle.client_prog.specs.Run.{HasLines, StopsIn, RunTurn, asked_for, has_quit}
 use Rattle.client_prog.specs.InsideSession.{Does}
 
@@ -16,10 +18,10 @@ use Rattle.client_prog.specs.InsideSession.{Does}
 abbrev pub AllAnswered : Route → State → List (List ℕ) → Option (List ℕ) → Option (List ℕ) → State → Trace → Type 0
 AllAnswered route before lines old new after trace = (answers : List ℕ) × Chain route before (asked_for lines) answers after trace × Adds old new answers
 
--- all lines were answered, or a front of them
-abbrev pub AnswersLines : {T : Type 0} → Route → State → List (List ℕ) → Option (List ℕ) → Option (List ℕ) → Result T Stop → State → Trace → Type 0
-AnswersLines route before lines old new (Ok done) after trace = AllAnswered route before lines old new after trace
-AnswersLines route before lines old new (Err stop) after trace = StopsIn stop route before lines old new after trace
+-- all lines were answered, and the client is kept; or a front of them was
+abbrev pub AnswersLines : {T : Type 0} → Route → State → List (List ℕ) → Option (List ℕ) → Option (List ℕ) → Result T Stop → State → Log → Trace → Type 0
+AnswersLines route before lines old new (Ok done) after kept trace = AllAnswered route before lines old new after trace × (kept ≡ after.client.log)
+AnswersLines route before lines old new (Err stop) after kept trace = StopsIn stop route before lines old new after kept trace
 
 -- the lines in front of the bytes that are left, of which none quits
 abbrev pub CutsFront : List ℕ → List ℕ → List (List ℕ) → Type 0
@@ -51,14 +53,14 @@ abbrev pub TakesInput : Option (List ℕ) → Option (List ℕ) → Result Input
 TakesInput left rest (Ok ended) = (lines : List (List ℕ)) × HasLines left rest lines ended
 TakesInput left rest (Err stop) = (lines : List (List ℕ)) × (ended : InputEnd) × HasLines left rest lines ended
 
--- all lines that count of an input were answered, or a front of them
-abbrev pub AnswersInput : Route → State → Option (List ℕ) → Option (List ℕ) → Option (List ℕ) → Option (List ℕ) → Result InputEnd Stop → State → Trace → Type 0
-AnswersInput route before left rest old new (Ok ended) after trace =
-    (lines : List (List ℕ)) × HasLines left rest lines ended × AllAnswered route before lines old new after trace
-AnswersInput route before left rest old new (Err stop) after trace =
-    (lines : List (List ℕ)) × (ended : InputEnd) × HasLines left rest lines ended × StopsIn stop route before lines old new after trace
+-- all lines that count of an input were answered, and the client is kept; or a front of them was
+abbrev pub AnswersInput : Route → State → Option (List ℕ) → Option (List ℕ) → Option (List ℕ) → Option (List ℕ) → Result InputEnd Stop → State → Log → Trace → Type 0
+AnswersInput route before left rest old new (Ok ended) after kept trace =
+    (lines : List (List ℕ)) × HasLines left rest lines ended × AllAnswered route before lines old new after trace × (kept ≡ after.client.log)
+AnswersInput route before left rest old new (Err stop) after kept trace =
+    (lines : List (List ℕ)) × (ended : InputEnd) × HasLines left rest lines ended × StopsIn stop route before lines old new after kept trace
 
--- a run over what is told, and the client's state at its end
-abbrev pub RunGoes : ℕ → Route → Option (List ℕ) → Option (List ℕ) → Option (List ℕ) → Option (List ℕ) → Result InputEnd Stop → ℕ → ℕ → World → World → Type 0
-RunGoes client route left rest written now ended troubles later old new =
-    (after : State) × Does (RunTurn route (new_state client) left rest written now ended after) (new_state client) after troubles later old new
+-- a run from this state on over what is told, the client's state at its end, and what is kept of it
+abbrev pub RunGoes : Route → State → Option (List ℕ) → Option (List ℕ) → Option (List ℕ) → Option (List ℕ) → Result InputEnd Stop → Option Images → Option Images → ℕ → ℕ → World → World → Type 0
+RunGoes route before left rest written now ended images images_now troubles later old new =
+    (after : State) × (kept : Log) × Does route.image (RunTurn route before left rest written now ended after kept) before after kept images images_now troubles later old new

@@ -7,6 +7,7 @@ pub mod InsideRun
 pub mod InsideSession
 pub mod Laws
 pub mod Looking
+pub mod Opening
 pub mod Run
 pub mod Session
 pub mod Words

@@ -4,6 +4,9 @@ use Rattle.std.specs.List.{list_any}
 use Rattle.outside.specs.Outside.{Adds, Takes}
 use Rattle.outside.specs.declared.errors.SinkError.{SinkError}
 use Rattle.outside.specs.declared.errors.SinkError.TheVariants as sinks
+use Rattle.outside.specs.declared.errors.KeepError.{KeepError}
+use Rattle.outside.specs.declared.errors.KeepError.TheVariants as keepers
+use Rattle.mod_log.specs.Log.{Log}
 use Rattle.client_core.specs.declared.route.Route.{Route}
 use Rattle.client_core.specs.Trace.{Trace}
 use Rattle.shell_lang.specs.Lines.{whole_lines}
@@ -16,7 +19,7 @@ use Rattle.client_prog.specs.declared.input.InputEnd.{InputEnd}
 use Rattle.client_prog.specs.declared.input.InputEnd.TheVariants.{Read, Failed, TooLong}
 use Rattle.client_prog.specs.declared.input.TheConstants.{MAX_INPUT}
 use Rattle.client_prog.specs.declared.run.Stop.{Stop}
-use Rattle.client_prog.specs.declared.run.Stop.TheVariants.{Sink, Memory}
+use Rattle.client_prog.specs.declared.run.Stop.TheVariants.{Sink, Keeper, Memory}
 use Rattle.client_prog.specs.Input.{EndsAt, within_limit, lines_at}
 use Rattle.client_prog.specs.Words.{Run}
 use Rattle.client_prog.specs.Session.{State, Chain, BreaksChain, status_answer}
@@ -31,16 +34,22 @@ status_of (Ok Read) = 0
 status_of (Ok Failed) = 3
 status_of (Ok TooLong) = 8
 status_of (Err Sink) = 4
+status_of (Err Keeper) = 5
 status_of (Err Memory) = 7
 
 -- the statuses that a run may give
 abbrev pub is_status : ℕ → Bool
-is_status status = list_any (λ known. known == status) (0 ∷ 2 ∷ 3 ∷ 4 ∷ 7 ∷ 8 ∷ [])
+is_status status = list_any (λ known. known == status) (0 ∷ 2 ∷ 3 ∷ 4 ∷ 5 ∷ 6 ∷ 7 ∷ 8 ∷ [])
 
 -- what stops a run where the sink refuses to write
 abbrev pub stop_of : SinkError → Stop
 stop_of sinks.Failed = Sink
 stop_of sinks.Memory = Memory
+
+-- what stops a run where a client could not be kept
+abbrev pub stop_by : KeepError → Stop
+stop_by keepers.Failed = Keeper
+stop_by keepers.Memory = Memory
 
 -- what these lines ask for
 abbrev pub asked_for : List (List ℕ) → List (Result Line LineError)
@@ -92,40 +101,49 @@ closing_at Read state = closing_line state
 closing_at Failed state = []
 closing_at TooLong state = []
 
--- Each line was handled, one after the other; want of memory may have broken off the last one.
-abbrev pub Handles : Stop → Route → State → List (List ℕ) → List ℕ → State → Trace → Type 0
-Handles Sink route before lines answers after trace = Chain route before (asked_for lines) answers after trace
-Handles Memory route before lines answers after trace =
-    Chain route before (asked_for lines) answers after trace ⊎ BreaksChain route before (asked_for lines) answers after trace
+-- Each line was handled, one after the other, and the client is kept.
+abbrev pub HandlesAll : Route → State → List (List ℕ) → List ℕ → State → Log → Trace → Type 0
+HandlesAll route before lines answers after kept trace = Chain route before (asked_for lines) answers after trace × (kept ≡ after.client.log)
+
+-- The lines were handled; want of memory or a refused keeping may have broken off the last one.
+abbrev pub Handles : Stop → Route → State → List (List ℕ) → List ℕ → State → Log → Trace → Type 0
+Handles Sink route before lines answers after kept trace = HandlesAll route before lines answers after kept trace
+Handles stop route before lines answers after kept trace =
+    HandlesAll route before lines answers after kept trace ⊎ BreaksChain route before (asked_for lines) answers after kept trace
+
+-- What was written of the answers: all, where a keeping was refused, and else a front.
+abbrev pub WritesFront : Stop → List ℕ → Option (List ℕ) → Option (List ℕ) → Type 0
+WritesFront Keeper answers old new = Adds old new answers
+WritesFront stop answers old new = (count : ℕ) × Adds old new (take count answers)
 
 -- A front of the lines was handled, and a front of their answers was written.
-abbrev pub StopsIn : Stop → Route → State → List (List ℕ) → Option (List ℕ) → Option (List ℕ) → State → Trace → Type 0
-StopsIn stop route before lines old new after trace =
-    (handled behind : List (List ℕ)) × (answers : List ℕ) × (count : ℕ)
-    × (lines ≡ handled ++ behind) × Handles stop route before handled answers after trace × Adds old new (take count answers)
+abbrev pub StopsIn : Stop → Route → State → List (List ℕ) → Option (List ℕ) → Option (List ℕ) → State → Log → Trace → Type 0
+StopsIn stop route before lines old new after kept trace =
+    (handled behind : List (List ℕ)) × (answers : List ℕ)
+    × (lines ≡ handled ++ behind) × Handles stop route before handled answers after kept trace × WritesFront stop answers old new
 
 -- All lines were handled, their answers were written, and a front of the closing line.
-abbrev pub StopsAtClosing : Route → State → List (List ℕ) → Option (List ℕ) → Option (List ℕ) → State → Trace → Type 0
-StopsAtClosing route before lines old new after trace =
-    (answers : List ℕ) × (count : ℕ) × Chain route before (asked_for lines) answers after trace × Adds old new (answers ++ take count (closing_line after))
+abbrev pub StopsAtClosing : Stop → Route → State → List (List ℕ) → Option (List ℕ) → Option (List ℕ) → State → Log → Trace → Type 0
+StopsAtClosing stop route before lines old new after kept trace =
+    (answers : List ℕ) × (count : ℕ) × (stop ≢ Keeper) × HandlesAll route before lines answers after kept trace × Adds old new (answers ++ take count (closing_line after))
 
--- What a run did by how it ended. Where its input came to an end: all the lines that count were handled, and their answers were
--- written, and the closing line where one is due. Where it was stopped: a front of them.
-abbrev pub RunTurn : Route → State → Option (List ℕ) → Option (List ℕ) → Option (List ℕ) → Option (List ℕ) → Result InputEnd Stop → State → Trace → Type 0
-RunTurn route before left rest old new (Ok ended) after trace =
+-- What a run did by how it ended. Where its input came to an end: all the lines that count were handled, the client is kept, and
+-- their answers were written, and the closing line where one is due. Where it was stopped: a front of them.
+abbrev pub RunTurn : Route → State → Option (List ℕ) → Option (List ℕ) → Option (List ℕ) → Option (List ℕ) → Result InputEnd Stop → State → Log → Trace → Type 0
+RunTurn route before left rest old new (Ok ended) after kept trace =
     (lines : List (List ℕ)) × (answers : List ℕ) × HasLines left rest lines ended
-    × Chain route before (asked_for lines) answers after trace × Adds old new (answers ++ closing_at ended after)
-RunTurn route before left rest old new (Err stop) after trace =
+    × HandlesAll route before lines answers after kept trace × Adds old new (answers ++ closing_at ended after)
+RunTurn route before left rest old new (Err stop) after kept trace =
     (lines : List (List ℕ)) × (ended : InputEnd) × HasLines left rest lines ended
-    × (StopsIn stop route before lines old new after trace ⊎ ((ended ≡ Read) × StopsAtClosing route before lines old new after trace))
+    × (StopsIn stop route before lines old new after kept trace ⊎ ((ended ≡ Read) × StopsAtClosing stop route before lines old new after kept trace))
 
 -- How much of a source a run with this status takes: never more than the first byte past the limit. It answers 8 exactly where it
--- takes that byte and no whole line before it quits, but that a sink or want of memory may stop it before; 0 only where it takes
--- all that is left or a whole line quits; and 3 only where no whole line does.
+-- takes that byte and no whole line before it quits, but that a sink, a keeper or want of memory may stop it before; 0 only where it
+-- takes all that is left or a whole line quits; and 3 only where no whole line does.
 pub record IsRead (status : ℕ) (left rest : List ℕ) : Type 0 where
   pub input : List ℕ
   pub taken : left ≡ input ++ rest
   pub most : length input ≤ MAX_INPUT + 1
-  pub past : status ≢ 4 → status ≢ 7 → (status ≡ 8 ↔ ((length input ≡ MAX_INPUT + 1) × (has_quit (whole_lines (within_limit input)) ≡ false)))
+  pub past : status ≢ 4 → status ≢ 5 → status ≢ 7 → (status ≡ 8 ↔ ((length input ≡ MAX_INPUT + 1) × (has_quit (whole_lines (within_limit input)) ≡ false)))
   pub ended : status ≡ 0 → (rest ≡ []) ⊎ (has_quit (whole_lines (within_limit input)) ≡ true)
   pub failed : status ≡ 3 → has_quit (whole_lines input) ≡ false

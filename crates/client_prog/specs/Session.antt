@@ -1,4 +1,4 @@
--- A session: what each line logs, asks of the server and answers. It knows no memory, and nothing of how its input comes.
+-- A session: what each line logs, asks of the server and answers. It knows no memory and no keeper, and nothing of how its input comes.
 use Rattle.std.specs.Prelude.{◌≡◌, ◌⊎◌, ℕ, List, [], ◌∷◌, ◌++◌, length, Option, None, Some, Result, Ok, Err}
 use Rattle.vol_tree.specs.Path.{FilePath, resolved}
 use Rattle.vol_tree.specs.declared.path.PathError.{PathError}
@@ -7,14 +7,14 @@ use Rattle.vol_tree.specs.declared.tree.Effect.{Effect}
 use Rattle.vol_tree.specs.declared.tree.Effect.TheVariants as effects
 use Rattle.mod_log.specs.declared.log.LogError.{LogError}
 use Rattle.mod_log.specs.declared.log.LogError.TheVariants as logs
-use Rattle.mod_log.specs.Log.{Log, new_log, tree_of}
+use Rattle.mod_log.specs.Log.{Log, tree_of}
 use Rattle.client_core.specs.declared.route.Route.{Route}
 use Rattle.client_core.specs.declared.syncing.SyncEnd.{SyncEnd}
 use Rattle.client_core.specs.declared.syncing.SyncEnd.TheVariants as ends
 use Rattle.client_core.specs.declared.pulling.PullEnd.{PullEnd}
 use Rattle.client_core.specs.declared.pulling.PullEnd.TheVariants as pulls
 use Rattle.client_core.specs.Client.{Client}
-use Rattle.client_core.specs.Trace.{Trace, nothing, followed}
+use Rattle.client_core.specs.Trace.{Trace, nothing, followed, IsLastOrBefore}
 use Rattle.client_core.specs.Logging.{LocalTurn}
 use Rattle.client_core.specs.Syncing.{SyncTurn, BreaksSync}
 use Rattle.client_core.specs.Pulling.{PullTurn, BreaksPull}
@@ -33,9 +33,9 @@ pub record State : Type 0 where
   pub client : Client
   pub folder : FilePath
 
--- a new client of this number, in the root folder
-abbrev pub new_state : ℕ → State
-new_state number = record { client = record { number = number; log = new_log }; folder = [] }
+-- the client of this number with this log, in the root folder
+abbrev pub opened : ℕ → Log → State
+opened number log = record { client = record { number = number; log = log }; folder = [] }
 
 -- the state once the client has this log
 abbrev pub with_log : State → Log → State
@@ -70,7 +70,7 @@ move_effect folder from to = from_two (resolved folder from) (resolved folder to
 
 -- ---- turns
 
--- how a sync is answered; want of memory has no answer
+-- how a sync is answered; one that was broken off has no answer
 abbrev pub sync_answer : SyncEnd → Option Answer
 sync_answer (ends.Synced seq) = Some (answers.Synced seq)
 sync_answer (ends.Stale seq path theirs ours) = Some (answers.Stale seq path theirs ours)
@@ -78,15 +78,17 @@ sync_answer (ends.Unfit seq index fault) = Some (answers.Unfit seq index fault)
 sync_answer (ends.Full seq index fault) = Some (answers.Full seq index fault)
 sync_answer (ends.Unanswered seq) = Some (answers.Unanswered seq)
 sync_answer (ends.Behind seq last) = Some (answers.Behind seq last)
+sync_answer ends.KeepFault = None
 sync_answer ends.Memory = None
 
--- how a pull is answered: one that waits for pending entries is refused; want of memory has no answer
+-- how a pull is answered: one that waits for pending entries is refused; one that was broken off has no answer
 abbrev pub pull_answer : PullEnd → Option Answer
 pull_answer (pulls.Pulled count) = Some (answers.Pulled count)
 pull_answer (pulls.Pending count) = Some (answers.Refused (faults.Pending count))
 pull_answer (pulls.OtherLast last acked) = Some (answers.OtherLast last)
 pull_answer (pulls.Older path theirs ours) = Some (answers.Older path theirs ours)
 pull_answer pulls.Unanswered = Some answers.PullUnanswered
+pull_answer pulls.KeepFault = None
 pull_answer pulls.Memory = None
 
 -- how one effect is answered: by the number of its entry, or by the refusal; want of memory has no answer
@@ -159,7 +161,7 @@ Chain route before (line ∷ lines) text after trace =
     (middle : State) × (first rest : Trace) × (answer answers : List ℕ) × Turn route before line answer middle first × Chain route middle lines answers after rest
     × (text ≡ answer ++ answers) × (trace ≡ followed first rest)
 
--- ---- lines that want of memory breaks off
+-- ---- lines that are broken off, since memory was wanted or a keeping was refused
 
 -- a sync or a pull is broken off in between
 abbrev pub BreaksOff : Route → State → Result Line LineError → Log → Trace → Type 0
@@ -174,8 +176,10 @@ Broken route before line after trace =
     ⊎ (((answer : Option Answer) × LineTurn route before line answer after trace)
     ⊎ (BreaksOff route before line after.client.log trace × (after ≡ with_log before after.client.log)))
 
--- the turns of some lines, the last of which is broken off
-abbrev pub BreaksChain : Route → State → List (Result Line LineError) → List ℕ → State → Trace → Type 0
-BreaksChain route before lines text after trace =
+-- The turns of some lines, the last of which is broken off. What is kept is the log after the last change of this line, or the one
+-- before that change: all that was answered is kept.
+abbrev pub BreaksChain : Route → State → List (Result Line LineError) → List ℕ → State → Log → Trace → Type 0
+BreaksChain route before lines text after kept trace =
     (handled : List (Result Line LineError)) × (last : Result Line LineError) × (middle : State) × (earlier broken : Trace) × (lines ≡ handled ++ last ∷ [])
-    × Chain route before handled text middle earlier × Broken route middle last after broken × (trace ≡ followed earlier broken)
+    × Chain route before handled text middle earlier × Broken route middle last after broken × IsLastOrBefore middle.client.log broken.changes kept
+    × (trace ≡ followed earlier broken)

@@ -7,11 +7,13 @@ ghost use Rattle.client_prog.specs.Run.{is_status};
 ghost use Rattle.client_prog.specs.Words.{run_of};
 
 use crate::run::client_run;
-use real_edge::{Page, StdSink, StdSource, TcpLink, end, page_asked, program_words, show};
+use real_edge::{
+    FileKeeper, Page, StdSink, StdSource, TcpLink, end, page_asked, program_words, show,
+};
 use std::io;
 use std::net::Net;
 use std::process::ExitCode;
-use std::rt::Env;
+use std::rt::{Env, Files};
 use std::time::Clock;
 
 const HELP: &str = "\
@@ -34,8 +36,9 @@ Words are separated by single spaces; one that has spaces stands between quotes:
 'two words'. A path that does not begin with / lies below the current folder.
 
 NUMBER is the client's number, from 1 to 64. SERVER is the server's address, with
-a port. IMAGE and WORK are not empty, and not used yet. The word '-' says that
-there is no surrogate.
+a port. IMAGE is the file in which the client is kept from run to run; where there
+is none the client is new. WORK is not empty, and not used yet. The word '-' says
+that there is no surrogate.
 
 Example:
   client run 1 client.image 127.0.0.1:7001 - work
@@ -45,6 +48,8 @@ The client ends with one of these statuses:
   2  the words have another form
   3  standard input failed
   4  standard output failed
+  5  the image could not be read or written
+  6  the image is no client's, or another client's
   7  memory ran out
   8  the input has more than 16777216 bytes
 
@@ -61,7 +66,7 @@ const NO_MEMORY: u8 = 7;
 const NAME: &str = "client";
 
 /// Runs the client with the words behind the program's name. Words that are no text are of no form.
-pub fn client_program<R: Input + Print + Eprint + AllocGlobal + Env + Net + Clock>(
+pub fn client_program<R: Input + Print + Eprint + AllocGlobal + Env + Files + Net + Clock>(
     rt: &R,
 ) -> ExitCode
     ensures { IsTrue (is_status (exit_status result)) }
@@ -77,7 +82,7 @@ pub fn client_program<R: Input + Print + Eprint + AllocGlobal + Env + Net + Cloc
 ///
 /// `--help` and `--version`, as the only word, are answered on standard output. Where the status is not 0, standard
 /// error says so.
-pub fn client_main<R: Input + Print + Eprint + AllocGlobal + Net + Clock>(
+pub fn client_main<R: Input + Print + Eprint + AllocGlobal + Files + Net + Clock>(
     rt: &R,
     words: &[String],
 ) -> ExitCode
@@ -92,12 +97,20 @@ pub fn client_main<R: Input + Print + Eprint + AllocGlobal + Net + Clock>(
 }
 
 /// Runs the client over the standard streams and TCP, and answers the status.
-fn run<R: Input + Print + AllocGlobal + Net + Clock>(rt: &R, words: &[String]) -> u8
+fn run<R: Input + Print + AllocGlobal + Files + Net + Clock>(rt: &R, words: &[String]) -> u8
     ensures form { result ≡ 2 ↔ run_of (map string_bytes words.now) ≡ None }
     ensures known { IsTrue (is_status result) }
 {
     let mut input = StdSource::new(rt.reader());
     let mut output = StdSink::new(io::writer(rt));
+    let mut keeper = FileKeeper::new(rt.alloc(), rt);
     let mut link = TcpLink::new(rt.alloc(), rt);
-    client_run(rt.alloc(), words, &mut input, &mut output, &mut link)
+    client_run(
+        rt.alloc(),
+        words,
+        &mut input,
+        &mut output,
+        &mut keeper,
+        &mut link,
+    )
 }

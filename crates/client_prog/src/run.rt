@@ -1,22 +1,26 @@
 // A run of the client over its input.
-ghost use Rattle.std.specs.Prelude.{◌≡◌, ◌≢◌, ◌⊎◌, ◌↔◌, ◌≤◌, ◌∷◌, ℕ, [], false, None, Some, Ok, IfOk, OnOk, OnErr, IfSome, IsTrue, take, length, map};
+ghost use Rattle.std.specs.Prelude.{◌≡◌, ◌≢◌, ◌⊎◌, ◌↔◌, ◌≤◌, ◌∷◌, ℕ, [], false, None, Some, Ok, Err, IfOk, OnOk, OnErr, IfSome, IsTrue, take, length, map};
 ghost use Rattle.std.specs.String.{string_bytes};
 ghost use Rattle.outside.specs.Outside.{Told, Adds, HasCause, Rose};
+ghost use Rattle.mod_log.specs.Log.{Log};
+ghost use Rattle.client_core.specs.Keeping.{IsKept, TellsKept, IsKeptOfNone};
 ghost use Rattle.shell_lang.specs.Lines.{whole_lines, last_line};
 ghost use Rattle.shell_lang.specs.Commands.{read_line};
 ghost use Rattle.client_prog.specs.Input.{last_at};
 ghost use Rattle.client_prog.specs.Words.{run_of};
-ghost use Rattle.client_prog.specs.Session.{IsText, new_state};
+ghost use Rattle.client_prog.specs.Session.{IsText};
+ghost use Rattle.client_prog.specs.Opening.{status_unopened};
 ghost use Rattle.client_prog.specs.Run.{status_of, is_status, route_of, is_quit, quits, has_quit, up_to_quit, end_of, closing_line, closing_at, IsRead};
 ghost use Rattle.client_prog.specs.Headline.{Ran};
 ghost use Rattle.client_prog.specs.InsideSession.{Does};
 ghost use Rattle.client_prog.specs.InsideRun.{AnswersLines, HasUnfinished, TakesInput, AnswersInput, RunGoes};
 
 use crate::input::{InputEnd, LineReader, MAX_INPUT};
+use crate::opening::{Unopened, open};
 use crate::session::Session;
 use crate::words::{RunWords, run_words};
 use client_core::Route;
-use outside::{Sink, SinkError, Source, write_all};
+use outside::{KeepError, Keeper, Sink, SinkError, Source, write_all};
 use shell_lang::{Answer, Line, LineError, has_no_memory, read_line, text_of};
 use std::alloc::{AllocError, Global};
 use vol_tree::Content;
@@ -27,6 +31,8 @@ use world_rules::Link;
 pub enum Stop {
     /// The sink failed.
     Sink,
+    /// The keeper failed.
+    Keeper,
     /// Memory ran out.
     Memory,
 }
@@ -56,6 +62,20 @@ impl From<SinkError> for Stop {
     }
 }
 
+impl From<KeepError> for Stop {
+    ghost use Rattle.std.specs.Prelude.{◌≡◌};
+    ghost use Rattle.client_prog.specs.Run.{stop_by};
+
+    ghost from_gives = { λ refused stop. stop ≡ stop_by refused };
+
+    fn from(refused: KeepError) -> Stop {
+        match refused {
+            KeepError::Failed => Stop::Keeper,
+            KeepError::Memory => Stop::Memory,
+        }
+    }
+}
+
 /// The status of a run whose input ended so, or that was stopped before.
 fn status_of(ended: Result<InputEnd, Stop>) -> u8
     ensures status { result ≡ status_of ended }
@@ -66,6 +86,7 @@ fn status_of(ended: Result<InputEnd, Stop>) -> u8
         Ok(InputEnd::Failed) => 3,
         Ok(InputEnd::TooLong) => 8,
         Err(Stop::Sink) => 4,
+        Err(Stop::Keeper) => 5,
         Err(Stop::Memory) => 7,
     }
 }
@@ -99,27 +120,31 @@ fn text(alloc: Global, answer: Option<Answer>) -> Result<Vec<u8>, AllocError>
 }
 
 /// Does what a line asks for, writes its answer, and says whether it quits.
-fn answer<O: Sink, L: Link>(
+fn answer<O: Sink, K: Keeper, L: Link>(
     alloc: Global,
     route: &Route,
     session: &mut Session,
     line: &[u8],
     output: &mut O,
+    keeper: &mut K,
     link: &mut L,
 ) -> Result<bool, Stop>
-    ensures world { Told (L.world link.old) (L.world link.new) (λ old new. Does (AnswersLines route.now session.old (line.now ∷ []) (O.written output.old) (O.written output.new) result session.new) session.old session.new (L.troubles link.old) (L.troubles link.new) old new) }
+    requires { IsKept (K.images keeper.old) route.now.image session.old.client.number session.old.client.log }
+    ensures world { Told (L.world link.old) (L.world link.new) (λ old new. (kept : Log) × Does route.now.image (AnswersLines route.now session.old (line.now ∷ []) (O.written output.old) (O.written output.new) result session.new kept) session.old session.new kept (K.images keeper.old) (K.images keeper.new) (L.troubles link.old) (L.troubles link.new) old new) }
     ensures quit { IfOk result (λ quit. quit ≡ quits line.now) }
+    ensures kept { IfOk result (λ done. IsKept (K.images keeper.new) route.now.image session.new.client.number session.new.client.log) }
     ensures later { L.troubles link.old ≤ L.troubles link.new }
     ensures cause { HasCause Stop.Sink (O.faults output.old) (O.faults output.new) result }
+    ensures keeper { HasCause Stop.Keeper (K.faults keeper.old) (K.faults keeper.new) result }
 {
     let asked = match asked(alloc, line) {
         Ok(asked) => asked,
         Err(_refused) => return Err(Stop::Memory),
     };
     let quit = is_quit(&asked);
-    let answer = match session.answer(alloc, route, asked, link) {
+    let answer = match session.answer(alloc, route, asked, link, keeper) {
         Ok(answer) => answer,
-        Err(_refused) => return Err(Stop::Memory),
+        Err(refused) => return Err(Stop::from(refused)),
     };
     let text = match text(alloc, answer) {
         Ok(text) => text,
@@ -132,23 +157,27 @@ fn answer<O: Sink, L: Link>(
 }
 
 /// Answers the lines that are there, up to the last line end or the first that quits, and says whether one quits.
-fn answer_lines<O: Sink, L: Link>(
+fn answer_lines<O: Sink, K: Keeper, L: Link>(
     alloc: Global,
     route: &Route,
     session: &mut Session,
     reader: &mut LineReader,
     output: &mut O,
+    keeper: &mut K,
     link: &mut L,
 ) -> Result<bool, Stop>
-    ensures world { Told (L.world link.old) (L.world link.new) (λ old new. Does (AnswersLines route.now session.old (up_to_quit (whole_lines reader.old.bytes)) (O.written output.old) (O.written output.new) result session.new) session.old session.new (L.troubles link.old) (L.troubles link.new) old new) }
+    requires { IsKept (K.images keeper.old) route.now.image session.old.client.number session.old.client.log }
+    ensures world { Told (L.world link.old) (L.world link.new) (λ old new. (kept : Log) × Does route.now.image (AnswersLines route.now session.old (up_to_quit (whole_lines reader.old.bytes)) (O.written output.old) (O.written output.new) result session.new kept) session.old session.new kept (K.images keeper.old) (K.images keeper.new) (L.troubles link.old) (L.troubles link.new) old new) }
     ensures quit { IfOk result (λ quit. quit ≡ has_quit (whole_lines reader.old.bytes)) }
     ensures left { IfOk result (λ quit. quit ≡ false → HasUnfinished reader.old reader.new) }
+    ensures kept { IfOk result (λ done. IsKept (K.images keeper.new) route.now.image session.new.client.number session.new.client.log) }
     ensures later { L.troubles link.old ≤ L.troubles link.new }
     ensures cause { HasCause Stop.Sink (O.faults output.old) (O.faults output.new) result }
+    ensures keeper { HasCause Stop.Keeper (K.faults keeper.old) (K.faults keeper.new) result }
 {
     while let Some(line) = reader.first_line() {
         let end = line.len() + 1;
-        match answer(alloc, route, session, line, output, link) {
+        match answer(alloc, route, session, line, output, keeper, link) {
             Ok(true) => return Ok(true),
             Ok(false) => reader.pass(end),
             Err(stop) => return Err(stop),
@@ -158,20 +187,24 @@ fn answer_lines<O: Sink, L: Link>(
 }
 
 /// Reads the input piece by piece up to a line that quits, and answers the lines of each piece before it reads on.
-fn answer_input<I: Source, O: Sink, L: Link>(
+fn answer_input<I: Source, O: Sink, K: Keeper, L: Link>(
     alloc: Global,
     route: &Route,
     session: &mut Session,
     input: &mut I,
     output: &mut O,
+    keeper: &mut K,
     link: &mut L,
 ) -> Result<InputEnd, Stop>
-    ensures world { Told (L.world link.old) (L.world link.new) (λ old new. Does (AnswersInput route.now session.old (I.left input.old) (I.left input.new) (O.written output.old) (O.written output.new) result session.new) session.old session.new (L.troubles link.old) (L.troubles link.new) old new) }
+    requires { IsKept (K.images keeper.old) route.now.image session.old.client.number session.old.client.log }
+    ensures world { Told (L.world link.old) (L.world link.new) (λ old new. (kept : Log) × Does route.now.image (AnswersInput route.now session.old (I.left input.old) (I.left input.new) (O.written output.old) (O.written output.new) result session.new kept) session.old session.new kept (K.images keeper.old) (K.images keeper.new) (L.troubles link.old) (L.troubles link.new) old new) }
     ensures input { TakesInput (I.left input.old) (I.left input.new) result }
+    ensures kept { IfOk result (λ done. IsKept (K.images keeper.new) route.now.image session.new.client.number session.new.client.log) }
     ensures later { L.troubles link.old ≤ L.troubles link.new }
     ensures source { I.faults input.old ≤ I.faults input.new }
     ensures source_cause { result ≡ Ok InputEnd.Failed → Rose (I.faults input.old) (I.faults input.new) }
     ensures cause { HasCause Stop.Sink (O.faults output.old) (O.faults output.new) result }
+    ensures keeper { HasCause Stop.Keeper (K.faults keeper.old) (K.faults keeper.new) result }
 {
     let mut reader = LineReader::new(alloc);
     loop {
@@ -179,13 +212,15 @@ fn answer_input<I: Source, O: Sink, L: Link>(
             Ok(end) => end,
             Err(_refused) => return Err(Stop::Memory),
         };
-        match answer_lines(alloc, route, session, &mut reader, output, link) {
+        match answer_lines(alloc, route, session, &mut reader, output, keeper, link) {
             Ok(true) => return Ok(InputEnd::Read),
             Ok(false) => {}
             Err(stop) => return Err(stop),
         }
         if let Some(end) = end {
-            if let Err(stop) = answer_last(alloc, route, session, &reader, end, output, link) {
+            if let Err(stop) = answer_last(
+                alloc, route, session, &reader, end, output, keeper, link,
+            ) {
                 return Err(stop);
             }
             return Ok(end);
@@ -194,42 +229,58 @@ fn answer_input<I: Source, O: Sink, L: Link>(
 }
 
 /// At the end of the input answers the bytes behind its last line end, where there are any.
-fn answer_last<O: Sink, L: Link>(
+fn answer_last<O: Sink, K: Keeper, L: Link>(
     alloc: Global,
     route: &Route,
     session: &mut Session,
     reader: &LineReader,
     end: InputEnd,
     output: &mut O,
+    keeper: &mut K,
     link: &mut L,
 ) -> Result<(), Stop>
-    ensures world { Told (L.world link.old) (L.world link.new) (λ old new. Does (AnswersLines route.now session.old (last_at end reader.now.bytes) (O.written output.old) (O.written output.new) result session.new) session.old session.new (L.troubles link.old) (L.troubles link.new) old new) }
+    requires { IsKept (K.images keeper.old) route.now.image session.old.client.number session.old.client.log }
+    ensures world { Told (L.world link.old) (L.world link.new) (λ old new. (kept : Log) × Does route.now.image (AnswersLines route.now session.old (last_at end reader.now.bytes) (O.written output.old) (O.written output.new) result session.new kept) session.old session.new kept (K.images keeper.old) (K.images keeper.new) (L.troubles link.old) (L.troubles link.new) old new) }
+    ensures kept { IfOk result (λ done. IsKept (K.images keeper.new) route.now.image session.new.client.number session.new.client.log) }
     ensures later { L.troubles link.old ≤ L.troubles link.new }
     ensures cause { HasCause Stop.Sink (O.faults output.old) (O.faults output.new) result }
+    ensures keeper { HasCause Stop.Keeper (K.faults keeper.old) (K.faults keeper.new) result }
 {
     match end {
-        InputEnd::Read => answer_unfinished(alloc, route, session, reader.bytes(), output, link),
+        InputEnd::Read => answer_unfinished(
+            alloc,
+            route,
+            session,
+            reader.bytes(),
+            output,
+            keeper,
+            link,
+        ),
         InputEnd::Failed | InputEnd::TooLong => Ok(()),
     }
 }
 
 /// Answers a line without an end, which is none where it has no bytes.
-fn answer_unfinished<O: Sink, L: Link>(
+fn answer_unfinished<O: Sink, K: Keeper, L: Link>(
     alloc: Global,
     route: &Route,
     session: &mut Session,
     line: &[u8],
     output: &mut O,
+    keeper: &mut K,
     link: &mut L,
 ) -> Result<(), Stop>
-    ensures world { Told (L.world link.old) (L.world link.new) (λ old new. Does (AnswersLines route.now session.old (last_line line.now) (O.written output.old) (O.written output.new) result session.new) session.old session.new (L.troubles link.old) (L.troubles link.new) old new) }
+    requires { IsKept (K.images keeper.old) route.now.image session.old.client.number session.old.client.log }
+    ensures world { Told (L.world link.old) (L.world link.new) (λ old new. (kept : Log) × Does route.now.image (AnswersLines route.now session.old (last_line line.now) (O.written output.old) (O.written output.new) result session.new kept) session.old session.new kept (K.images keeper.old) (K.images keeper.new) (L.troubles link.old) (L.troubles link.new) old new) }
+    ensures kept { IfOk result (λ done. IsKept (K.images keeper.new) route.now.image session.new.client.number session.new.client.log) }
     ensures later { L.troubles link.old ≤ L.troubles link.new }
     ensures cause { HasCause Stop.Sink (O.faults output.old) (O.faults output.new) result }
+    ensures keeper { HasCause Stop.Keeper (K.faults keeper.old) (K.faults keeper.new) result }
 {
     if line.is_empty() {
         return Ok(());
     }
-    match answer(alloc, route, session, line, output, link) {
+    match answer(alloc, route, session, line, output, keeper, link) {
         Ok(_quit) => Ok(()),
         Err(stop) => Err(stop),
     }
@@ -245,6 +296,7 @@ fn close<O: Sink>(
     ensures all { OnOk result (Adds (O.written output.old) (O.written output.new) (closing_at end session.now)) }
     ensures front { OnErr result ((end ≡ InputEnd.Read) × ((count : ℕ) × Adds (O.written output.old) (O.written output.new) (take count (closing_line session.now)))) }
     ensures cause { HasCause Stop.Sink (O.faults output.old) (O.faults output.new) result }
+    ensures keeper { result ≢ Err Stop.Keeper }
 {
     match end {
         InputEnd::Read => write_closing(alloc, session, output),
@@ -257,6 +309,7 @@ fn write_closing<O: Sink>(alloc: Global, session: &Session, output: &mut O) -> R
     ensures all { OnOk result (Adds (O.written output.old) (O.written output.new) (closing_line session.now)) }
     ensures front { OnErr result ((count : ℕ) × Adds (O.written output.old) (O.written output.new) (take count (closing_line session.now))) }
     ensures cause { HasCause Stop.Sink (O.faults output.old) (O.faults output.new) result }
+    ensures keeper { result ≢ Err Stop.Keeper }
 {
     let text = match closing(alloc, session) {
         Ok(text) => text,
@@ -275,30 +328,43 @@ fn closing(alloc: Global, session: &Session) -> Result<Vec<u8>, AllocError>
     text_of(alloc, &session.status())
 }
 
-/// Answers the input of a new client, and closes the output.
-fn run<I: Source, O: Sink, L: Link>(
+/// Answers the input of a client, and closes the output.
+fn run<I: Source, O: Sink, K: Keeper, L: Link>(
     alloc: Global,
-    client: u8,
+    session: Session,
     route: &Route,
     input: &mut I,
     output: &mut O,
+    keeper: &mut K,
     link: &mut L,
 ) -> Result<InputEnd, Stop>
-    requires low { 1 ≤ client }
-    requires high { client ≤ 64 }
-    ensures world { Told (L.world link.old) (L.world link.new) (λ old new. RunGoes client route.now (I.left input.old) (I.left input.new) (O.written output.old) (O.written output.new) result (L.troubles link.old) (L.troubles link.new) old new) }
+    requires { IsKept (K.images keeper.old) route.now.image session.client.number session.client.log }
+    ensures world { Told (L.world link.old) (L.world link.new) (λ old new. RunGoes route.now session (I.left input.old) (I.left input.new) (O.written output.old) (O.written output.new) result (K.images keeper.old) (K.images keeper.new) (L.troubles link.old) (L.troubles link.new) old new) }
     ensures input { TakesInput (I.left input.old) (I.left input.new) result }
     ensures source { result ≡ Ok InputEnd.Failed → Rose (I.faults input.old) (I.faults input.new) }
     ensures sink { result ≡ Err Stop.Sink → Rose (O.faults output.old) (O.faults output.new) }
+    ensures keeper { HasCause Stop.Keeper (K.faults keeper.old) (K.faults keeper.new) result }
 {
-    let mut session = Session::new(alloc, client);
-    let end = match answer_input(alloc, route, &mut session, input, output, link) {
+    let mut session = session;
+    let end = match answer_input(alloc, route, &mut session, input, output, keeper, link) {
         Ok(end) => end,
         Err(stop) => return Err(stop),
     };
     match close(alloc, &session, end, output) {
         Ok(()) => Ok(end),
         Err(stop) => Err(stop),
+    }
+}
+
+/// The status of a run that has no client to begin with.
+fn status_unopened(unopened: Unopened) -> u8
+    ensures status { result ≡ status_unopened unopened }
+    ensures known { IsTrue (is_status result) }
+{
+    match unopened {
+        Unopened::Keeper => 5,
+        Unopened::Image => 6,
+        Unopened::Memory => 7,
     }
 }
 
@@ -314,7 +380,8 @@ fn route_of(alloc: Global, words: &RunWords<'_>) -> Result<Route, AllocError>
     })
 }
 
-/// Runs the client on its words: reads lines, answers each before it reads on, and ships what they log to the server.
+/// Runs the client on its words: opens what is kept of it, reads lines, answers each before it reads on, and ships what they
+/// log to the server. The client is kept after each change, before the line is answered and before more is asked.
 /// The status that it gives:
 ///
 /// - 0: every line was answered, up to the first that quits where one does, and the output ends with
@@ -322,23 +389,31 @@ fn route_of(alloc: Global, words: &RunWords<'_>) -> Result<Route, AllocError>
 /// - 2: the words are of no form, and nothing was touched;
 /// - 3: the source failed; the whole lines before were answered, and none of them quits;
 /// - 4: the sink failed;
+/// - 5: the keeper failed; the last line that was handled is not answered;
+/// - 6: what is kept is no client's image, or another client's, and nothing was touched;
 /// - 7: memory ran out;
 /// - 8: the input has more than 16,777,216 bytes; the whole lines within them were answered, and none of them quits.
-pub fn client_run<I: Source, O: Sink, L: Link>(
+pub fn client_run<I: Source, O: Sink, K: Keeper, L: Link>(
     alloc: Global,
     words: &[String],
     input: &mut I,
     output: &mut O,
+    keeper: &mut K,
     link: &mut L,
 ) -> u8
     ensures form { result ≡ 2 ↔ run_of (map string_bytes words.now) ≡ None }
     ensures known { IsTrue (is_status result) }
-    ensures untouched { run_of (map string_bytes words.now) ≡ None → (I.left input.new ≡ I.left input.old) × (I.faults input.new ≡ I.faults input.old) × (O.written output.new ≡ O.written output.old) × (O.faults output.new ≡ O.faults output.old) × (L.world link.new ≡ L.world link.old) × (L.troubles link.new ≡ L.troubles link.old) }
+    ensures untouched { run_of (map string_bytes words.now) ≡ None → (I.left input.new ≡ I.left input.old) × (I.faults input.new ≡ I.faults input.old) × (O.written output.new ≡ O.written output.old) × (O.faults output.new ≡ O.faults output.old) × (K.images keeper.new ≡ K.images keeper.old) × (K.faults keeper.new ≡ K.faults keeper.old) × (L.world link.new ≡ L.world link.old) × (L.troubles link.new ≡ L.troubles link.old) }
+    // what is kept of no such client is left as it is, and nothing else is touched
+    ensures unopened { result ≡ 6 → (I.left input.new ≡ I.left input.old) × (I.faults input.new ≡ I.faults input.old) × (O.written output.new ≡ O.written output.old) × (O.faults output.new ≡ O.faults output.old) × (K.images keeper.new ≡ K.images keeper.old) × (L.world link.new ≡ L.world link.old) × (L.troubles link.new ≡ L.troubles link.old) }
+    ensures image { IfSome (run_of (map string_bytes words.now)) (λ run. result ≡ 6 → (start : Log) → TellsKept (K.images keeper.old) run.image run.client start → ⊥) }
+    ensures no_image { IfSome (run_of (map string_bytes words.now)) (λ run. IsKeptOfNone (K.images keeper.old) run.image run.client → (result ≡ 5) ⊎ (result ≡ 6) ⊎ (result ≡ 7)) }
     ensures source { result ≡ 3 → Rose (I.faults input.old) (I.faults input.new) }
     ensures sink { result ≡ 4 → Rose (O.faults output.old) (O.faults output.new) }
+    ensures keeper { result ≡ 5 → Rose (K.faults keeper.old) (K.faults keeper.new) }
     ensures input { Told (I.left input.old) (I.left input.new) (IsRead result) }
-    ensures complete { IfSome (run_of (map string_bytes words.now)) (λ run. IfSome (I.left input.old) (λ bytes. length bytes ≤ MAX_INPUT → (Rose (I.faults input.old) (I.faults input.new) → ⊥) → (Rose (O.faults output.old) (O.faults output.new) → ⊥) → (result ≡ 0) ⊎ (result ≡ 7))) }
-    ensures session { IfSome (run_of (map string_bytes words.now)) (λ run. Told (L.world link.old) (L.world link.new) (Ran run.client (route_of run) (I.left input.old) (I.left input.new) (O.written output.old) (O.written output.new) result (L.troubles link.old) (L.troubles link.new))) }
+    ensures complete { IfSome (run_of (map string_bytes words.now)) (λ run. IfSome (I.left input.old) (λ bytes. (start : Log) → TellsKept (K.images keeper.old) run.image run.client start → length bytes ≤ MAX_INPUT → (Rose (I.faults input.old) (I.faults input.new) → ⊥) → (Rose (O.faults output.old) (O.faults output.new) → ⊥) → (Rose (K.faults keeper.old) (K.faults keeper.new) → ⊥) → (result ≡ 0) ⊎ (result ≡ 7))) }
+    ensures session { IfSome (run_of (map string_bytes words.now)) (λ run. (start : Log) → TellsKept (K.images keeper.old) run.image run.client start → Told (L.world link.old) (L.world link.new) (Ran run.client (route_of run) start (I.left input.old) (I.left input.new) (O.written output.old) (O.written output.new) (K.images keeper.old) (K.images keeper.new) result (L.troubles link.old) (L.troubles link.new))) }
 {
     let Some(words) = run_words(words) else {
         return 2;
@@ -347,5 +422,11 @@ pub fn client_run<I: Source, O: Sink, L: Link>(
         Ok(route) => route,
         Err(_refused) => return 7,
     };
-    status_of(run(alloc, words.client, &route, input, output, link))
+    match open(alloc, words.client, route.image.bytes(), keeper) {
+        Ok(client) => {
+            let session = Session::new(alloc, client);
+            status_of(run(alloc, session, &route, input, output, keeper, link))
+        }
+        Err(unopened) => status_unopened(unopened),
+    }
 }

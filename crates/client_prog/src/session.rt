@@ -1,19 +1,21 @@
 // The turns of a session's lines.
-ghost use Rattle.std.specs.Prelude.{◌≡◌, ◌≤◌, Some, Ok, IfOk, OnErr};
+ghost use Rattle.std.specs.Prelude.{◌≡◌, ◌≢◌, ◌≤◌, Some, Ok, Err, IfOk, OnErr};
 ghost use Rattle.std.specs.Option.{option_copied};
-ghost use Rattle.outside.specs.Outside.{Told};
-ghost use Rattle.mod_log.specs.Log.{tree_of};
-ghost use Rattle.client_prog.specs.Session.{new_state, put_effect, make_effect, remove_effect, move_effect, with_folder, local_answer, word_answer, sync_answer, pull_answer, status_answer};
+ghost use Rattle.outside.specs.Outside.{Told, HasCause};
+ghost use Rattle.mod_log.specs.Log.{Log, tree_of};
+ghost use Rattle.client_core.specs.Keeping.{IsKept};
+ghost use Rattle.client_prog.specs.Session.{opened, put_effect, make_effect, remove_effect, move_effect, with_folder, local_answer, word_answer, sync_answer, pull_answer, status_answer};
 ghost use Rattle.client_prog.specs.Looking.{cat_answer, list_answer, enter_answer, folder_by};
-ghost use Rattle.client_prog.specs.InsideSession.{Does, IsGiven, Logs, LogsMade, LineEnds};
+ghost use Rattle.client_prog.specs.InsideSession.{Does, IsGiven, Logs, LogsMade, LineEnds, is_sync_fault, is_pull_fault, answered};
 ghost use Rattle.client_prog.specs.Causes.{HasLineCause};
 
 use crate::effects::{make_effect, move_effect, put_effect, remove_effect};
 use crate::looking::{cat, enter, list};
 use client_core::{Client, PullEnd, Route, SyncEnd};
 use mod_log::LogError;
+use outside::{KeepError, Keeper};
 use shell_lang::{Answer, Fault, Line, LineError};
-use std::alloc::{AllocError, Global};
+use std::alloc::Global;
 use std::marker::Model;
 use vol_tree::{Content, Effect, Path, PathError, TryCopy};
 use world_rules::Link;
@@ -34,48 +36,53 @@ impl Model for Session {
 }
 
 impl Session {
-    /// A new client's session, in the root folder. It takes no memory.
-    pub fn new(alloc: Global, number: u8) -> Session
-        requires low { 1 ≤ number }
-        requires high { number ≤ 64 }
-        ensures { result ≡ new_state number }
+    /// A client's session, in the root folder. It takes no memory.
+    pub fn new(alloc: Global, client: Client) -> Session
+        ensures { result ≡ opened client.number client.log }
     {
         Session {
-            client: Client::new(alloc, number),
+            client,
             folder: Path::root(alloc),
         }
     }
 
-    /// Does what a line asks for, and gives its answer; the empty line and `quit` have none.
+    /// Does what a line asks for, keeps the client where it logs, syncs or pulls, and gives its answer; the empty line and
+    /// `quit` have none.
     ///
     /// # Errors
     ///
-    /// Want of memory. The line may then have done nothing, all but answer, or a part of its sync or pull.
-    pub fn answer<L: Link>(
+    /// Want of memory, or a keeping that failed. The line may then have done nothing, all but answer, or a part of its sync or
+    /// pull; what is kept is the client after the last change or before it.
+    pub fn answer<L: Link, K: Keeper>(
         &mut self,
         alloc: Global,
         route: &Route,
         line: Result<Line, LineError>,
         link: &mut L,
-    ) -> Result<Option<Answer>, AllocError>
-        ensures world { Told (L.world link.old) (L.world link.new) (λ old new. Does (LineEnds route.now self.old line result self.new) self.old self.new (L.troubles link.old) (L.troubles link.new) old new) }
-        ensures cause { HasLineCause route.now self.old line result self.new (L.troubles link.old) (L.troubles link.new) }
+        keeper: &mut K,
+    ) -> Result<Option<Answer>, KeepError>
+        requires { IsKept (K.images keeper.old) route.now.image self.old.client.number self.old.client.log }
+        ensures world { Told (L.world link.old) (L.world link.new) (λ old new. (kept : Log) × Does route.now.image (LineEnds route.now self.old line result self.new kept) self.old self.new kept (K.images keeper.old) (K.images keeper.new) (L.troubles link.old) (L.troubles link.new) old new) }
+        ensures cause { HasLineCause route.now self.old line result self.new (L.troubles link.old) (L.troubles link.new) (K.faults keeper.old) (K.faults keeper.new) }
+        ensures kept { IfOk result (λ answer. IsKept (K.images keeper.new) route.now.image self.new.client.number self.new.client.log) }
         ensures later { L.troubles link.old ≤ L.troubles link.new }
+        ensures keeper { HasCause KeepError.Failed (K.faults keeper.old) (K.faults keeper.new) result }
     {
+        let image = route.image.bytes();
         match line {
             Err(refusal) => Ok(Some(Answer::Refused(Fault::Line(refusal)))),
             Ok(Line::Empty) => Ok(None),
             Ok(Line::Quit) => Ok(None),
-            Ok(Line::Put(path, text)) => self.put(alloc, &path, &text),
-            Ok(Line::Make(path)) => self.make(alloc, &path),
-            Ok(Line::Remove(path)) => self.remove(alloc, &path),
-            Ok(Line::Move(from, to)) => self.relocate(alloc, &from, &to),
+            Ok(Line::Put(path, text)) => self.put(alloc, &path, &text, image, keeper),
+            Ok(Line::Make(path)) => self.make(alloc, &path, image, keeper),
+            Ok(Line::Remove(path)) => self.remove(alloc, &path, image, keeper),
+            Ok(Line::Move(from, to)) => self.relocate(alloc, &from, &to, image, keeper),
             Ok(Line::Cat(path)) => self.cat(alloc, &path),
             Ok(Line::List(path)) => self.list(alloc, path.as_ref()),
             Ok(Line::Enter(path)) => self.enter(alloc, &path),
             Ok(Line::Status) => Ok(Some(self.status())),
-            Ok(Line::Sync) => self.sync(route, link),
-            Ok(Line::Pull) => self.pull(route, link),
+            Ok(Line::Sync) => self.sync(route, link, keeper),
+            Ok(Line::Pull) => self.pull(route, link, keeper),
         }
     }
 
@@ -90,74 +97,120 @@ impl Session {
         }
     }
 
-    fn put(
+    fn put<K: Keeper>(
         &mut self,
         alloc: Global,
         path: &Content,
         text: &Content,
-    ) -> Result<Option<Answer>, AllocError>
-        ensures { Logs (put_effect self.old.folder path.now text.now) self.old result self.new }
+        image: &[u8],
+        keeper: &mut K,
+    ) -> Result<Option<Answer>, KeepError>
+        requires { IsKept (K.images keeper.old) image.now self.old.client.number self.old.client.log }
+        ensures logs { Logs image.now (put_effect self.old.folder path.now text.now) self.old result self.new (K.images keeper.old) (K.images keeper.new) }
+        ensures kept { IfOk result (λ answer. IsKept (K.images keeper.new) image.now self.new.client.number self.new.client.log) }
+        ensures keeper { HasCause KeepError.Failed (K.faults keeper.old) (K.faults keeper.new) result }
     {
         let made = put_effect(alloc, &self.folder, path, text);
-        self.log(made)
+        self.log(made, image, keeper)
     }
 
-    fn make(&mut self, alloc: Global, path: &Content) -> Result<Option<Answer>, AllocError>
-        ensures { Logs (make_effect self.old.folder path.now) self.old result self.new }
+    fn make<K: Keeper>(
+        &mut self,
+        alloc: Global,
+        path: &Content,
+        image: &[u8],
+        keeper: &mut K,
+    ) -> Result<Option<Answer>, KeepError>
+        requires { IsKept (K.images keeper.old) image.now self.old.client.number self.old.client.log }
+        ensures logs { Logs image.now (make_effect self.old.folder path.now) self.old result self.new (K.images keeper.old) (K.images keeper.new) }
+        ensures kept { IfOk result (λ answer. IsKept (K.images keeper.new) image.now self.new.client.number self.new.client.log) }
+        ensures keeper { HasCause KeepError.Failed (K.faults keeper.old) (K.faults keeper.new) result }
     {
         let made = make_effect(alloc, &self.folder, path);
-        self.log(made)
+        self.log(made, image, keeper)
     }
 
-    fn remove(&mut self, alloc: Global, path: &Content) -> Result<Option<Answer>, AllocError>
-        ensures { Logs (remove_effect self.old.folder path.now) self.old result self.new }
+    fn remove<K: Keeper>(
+        &mut self,
+        alloc: Global,
+        path: &Content,
+        image: &[u8],
+        keeper: &mut K,
+    ) -> Result<Option<Answer>, KeepError>
+        requires { IsKept (K.images keeper.old) image.now self.old.client.number self.old.client.log }
+        ensures logs { Logs image.now (remove_effect self.old.folder path.now) self.old result self.new (K.images keeper.old) (K.images keeper.new) }
+        ensures kept { IfOk result (λ answer. IsKept (K.images keeper.new) image.now self.new.client.number self.new.client.log) }
+        ensures keeper { HasCause KeepError.Failed (K.faults keeper.old) (K.faults keeper.new) result }
     {
         let made = remove_effect(alloc, &self.folder, path);
-        self.log(made)
+        self.log(made, image, keeper)
     }
 
-    fn relocate(
+    fn relocate<K: Keeper>(
         &mut self,
         alloc: Global,
         from: &Content,
         to: &Content,
-    ) -> Result<Option<Answer>, AllocError>
-        ensures { Logs (move_effect self.old.folder from.now to.now) self.old result self.new }
+        image: &[u8],
+        keeper: &mut K,
+    ) -> Result<Option<Answer>, KeepError>
+        requires { IsKept (K.images keeper.old) image.now self.old.client.number self.old.client.log }
+        ensures logs { Logs image.now (move_effect self.old.folder from.now to.now) self.old result self.new (K.images keeper.old) (K.images keeper.new) }
+        ensures kept { IfOk result (λ answer. IsKept (K.images keeper.new) image.now self.new.client.number self.new.client.log) }
+        ensures keeper { HasCause KeepError.Failed (K.faults keeper.old) (K.faults keeper.new) result }
     {
         let made = move_effect(alloc, &self.folder, from, to);
-        self.log(made)
+        self.log(made, image, keeper)
     }
 
-    /// Logs an effect that was made of a line's words, or answers why it is refused.
-    fn log(&mut self, made: Result<Effect, PathError>) -> Result<Option<Answer>, AllocError>
-        ensures { LogsMade made self.old result self.new }
+    /// Logs an effect that was made of a line's words and keeps the client, or answers why the effect is refused.
+    fn log<K: Keeper>(
+        &mut self,
+        made: Result<Effect, PathError>,
+        image: &[u8],
+        keeper: &mut K,
+    ) -> Result<Option<Answer>, KeepError>
+        requires { IsKept (K.images keeper.old) image.now self.old.client.number self.old.client.log }
+        ensures logs { LogsMade image.now made self.old result self.new (K.images keeper.old) (K.images keeper.new) }
+        ensures kept { IfOk result (λ answer. IsKept (K.images keeper.new) image.now self.new.client.number self.new.client.log) }
+        ensures keeper { HasCause KeepError.Failed (K.faults keeper.old) (K.faults keeper.new) result }
     {
         let effect = match made {
             Ok(effect) => effect,
             Err(refusal) => return given(word_answer(refusal)),
         };
-        given(local_answer(self.client.local(effect)))
+        let seq = match self.client.local(effect) {
+            Ok(seq) => seq,
+            Err(refusal) => return given(local_refusal(refusal)),
+        };
+        if let Err(refused) = self.client.keep(image, keeper) {
+            return Err(refused);
+        }
+        Ok(Some(Answer::Logged { seq }))
     }
 
-    fn cat(&self, alloc: Global, path: &Content) -> Result<Option<Answer>, AllocError>
-        ensures { IfOk result (λ answer. answer ≡ Some (cat_answer (tree_of self.now.client.log) self.now.folder path.now)) }
+    fn cat(&self, alloc: Global, path: &Content) -> Result<Option<Answer>, KeepError>
+        ensures answer { IfOk result (λ answer. answer ≡ Some (cat_answer (tree_of self.now.client.log) self.now.folder path.now)) }
+        ensures memory { result ≢ Err KeepError.Failed }
     {
         let tree = self.client.log().tree();
         Ok(Some(cat(alloc, tree, &self.folder, path)?))
     }
 
-    fn list(&self, alloc: Global, path: Option<&Content>) -> Result<Option<Answer>, AllocError>
-        ensures { IfOk result (λ answer. answer ≡ Some (list_answer (tree_of self.now.client.log) self.now.folder (option_copied path.entry))) }
+    fn list(&self, alloc: Global, path: Option<&Content>) -> Result<Option<Answer>, KeepError>
+        ensures answer { IfOk result (λ answer. answer ≡ Some (list_answer (tree_of self.now.client.log) self.now.folder (option_copied path.entry))) }
+        ensures memory { result ≢ Err KeepError.Failed }
     {
         let tree = self.client.log().tree();
         Ok(Some(list(alloc, tree, &self.folder, path)?))
     }
 
     /// Answers `cd`, and makes the folder at which the answer says to be the current one.
-    fn enter(&mut self, alloc: Global, path: &Content) -> Result<Option<Answer>, AllocError>
+    fn enter(&mut self, alloc: Global, path: &Content) -> Result<Option<Answer>, KeepError>
         ensures ok { IfOk result (λ answer. answer ≡ Some (enter_answer (tree_of self.old.client.log) self.old.folder path.now)) }
         ensures folder { IfOk result (λ answer. self.new ≡ with_folder self.old (folder_by (enter_answer (tree_of self.old.client.log) self.old.folder path.now) self.old.folder)) }
         ensures err { OnErr result (self.new ≡ self.old) }
+        ensures memory { result ≢ Err KeepError.Failed }
     {
         let tree = self.client.log().tree();
         let answer = enter(alloc, tree, &self.folder, path)?;
@@ -168,42 +221,88 @@ impl Session {
     }
 
     /// Syncs, and answers how it ended.
-    fn sync<L: Link>(&mut self, route: &Route, link: &mut L) -> Result<Option<Answer>, AllocError>
-        ensures world { Told (L.world link.old) (L.world link.new) (λ old new. Does (LineEnds route.now self.old (Ok Line.Sync) result self.new) self.old self.new (L.troubles link.old) (L.troubles link.new) old new) }
-        ensures cause { HasLineCause route.now self.old (Ok Line.Sync) result self.new (L.troubles link.old) (L.troubles link.new) }
+    fn sync<L: Link, K: Keeper>(
+        &mut self,
+        route: &Route,
+        link: &mut L,
+        keeper: &mut K,
+    ) -> Result<Option<Answer>, KeepError>
+        requires { IsKept (K.images keeper.old) route.now.image self.old.client.number self.old.client.log }
+        ensures world { Told (L.world link.old) (L.world link.new) (λ old new. (kept : Log) × Does route.now.image (LineEnds route.now self.old (Ok Line.Sync) result self.new kept) self.old self.new kept (K.images keeper.old) (K.images keeper.new) (L.troubles link.old) (L.troubles link.new) old new) }
+        ensures cause { HasLineCause route.now self.old (Ok Line.Sync) result self.new (L.troubles link.old) (L.troubles link.new) (K.faults keeper.old) (K.faults keeper.new) }
+        ensures kept { IfOk result (λ answer. IsKept (K.images keeper.new) route.now.image self.new.client.number self.new.client.log) }
         ensures later { L.troubles link.old ≤ L.troubles link.new }
+        ensures keeper { HasCause KeepError.Failed (K.faults keeper.old) (K.faults keeper.new) result }
     {
-        given(sync_answer(self.client.sync(route, link)))
+        let end = self.client.sync(route, link, keeper);
+        let fault = is_sync_fault(&end);
+        answered(fault, sync_answer(end))
     }
 
     /// Pulls, and answers how it ended.
-    fn pull<L: Link>(&mut self, route: &Route, link: &mut L) -> Result<Option<Answer>, AllocError>
-        ensures world { Told (L.world link.old) (L.world link.new) (λ old new. Does (LineEnds route.now self.old (Ok Line.Pull) result self.new) self.old self.new (L.troubles link.old) (L.troubles link.new) old new) }
-        ensures cause { HasLineCause route.now self.old (Ok Line.Pull) result self.new (L.troubles link.old) (L.troubles link.new) }
+    fn pull<L: Link, K: Keeper>(
+        &mut self,
+        route: &Route,
+        link: &mut L,
+        keeper: &mut K,
+    ) -> Result<Option<Answer>, KeepError>
+        requires { IsKept (K.images keeper.old) route.now.image self.old.client.number self.old.client.log }
+        ensures world { Told (L.world link.old) (L.world link.new) (λ old new. (kept : Log) × Does route.now.image (LineEnds route.now self.old (Ok Line.Pull) result self.new kept) self.old self.new kept (K.images keeper.old) (K.images keeper.new) (L.troubles link.old) (L.troubles link.new) old new) }
+        ensures cause { HasLineCause route.now self.old (Ok Line.Pull) result self.new (L.troubles link.old) (L.troubles link.new) (K.faults keeper.old) (K.faults keeper.new) }
+        ensures kept { IfOk result (λ answer. IsKept (K.images keeper.new) route.now.image self.new.client.number self.new.client.log) }
         ensures later { L.troubles link.old ≤ L.troubles link.new }
+        ensures keeper { HasCause KeepError.Failed (K.faults keeper.old) (K.faults keeper.new) result }
     {
-        given(pull_answer(self.client.pull(route, link)))
+        let end = self.client.pull(route, link, keeper);
+        let fault = is_pull_fault(&end);
+        answered(fault, pull_answer(end))
     }
 }
 
 /// An answer that is there; where there is none, memory was wanted.
-fn given(answer: Option<Answer>) -> Result<Option<Answer>, AllocError>
+fn given(answer: Option<Answer>) -> Result<Option<Answer>, KeepError>
     ensures { IsGiven answer result }
 {
     match answer {
         Some(answer) => Ok(Some(answer)),
-        None => Err(AllocError),
+        None => Err(KeepError::Memory),
     }
 }
 
-/// How one effect is answered, which was logged or refused; want of memory has no answer.
-fn local_answer(logged: Result<u64, LogError>) -> Option<Answer>
-    ensures { result ≡ local_answer logged }
+/// Whether a keeping failed in a sync.
+fn is_sync_fault(end: &SyncEnd) -> bool
+    ensures { result ≡ is_sync_fault end.now }
 {
-    match logged {
-        Ok(seq) => Some(Answer::Logged { seq }),
-        Err(LogError::Memory) => None,
-        Err(refusal) => Some(Answer::Refused(Fault::Log(refusal))),
+    matches!(end, SyncEnd::KeepFault)
+}
+
+/// Whether the keeping of a pull failed.
+fn is_pull_fault(end: &PullEnd) -> bool
+    ensures { result ≡ is_pull_fault end.now }
+{
+    matches!(end, PullEnd::KeepFault)
+}
+
+/// An answer that is there, unless a keeping failed; where there is none, memory was wanted.
+fn answered(fault: bool, answer: Option<Answer>) -> Result<Option<Answer>, KeepError>
+    ensures { result ≡ answered fault answer }
+{
+    if fault {
+        return Err(KeepError::Failed);
+    }
+    match answer {
+        Some(answer) => Ok(Some(answer)),
+        None => Err(KeepError::Memory),
+    }
+}
+
+/// How an effect is answered that the log refused; want of memory has no answer.
+fn local_refusal(refusal: LogError) -> Option<Answer>
+    ensures { result ≡ local_answer (Err refusal) }
+{
+    match refusal {
+        LogError::Memory => None,
+        refusal => Some(Answer::Refused(Fault::Log(refusal))),
     }
 }
 
@@ -217,7 +316,7 @@ fn word_answer(refusal: PathError) -> Option<Answer>
     }
 }
 
-/// How the end of a sync is answered; want of memory has no answer.
+/// How the end of a sync is answered; one that was broken off has no answer.
 fn sync_answer(end: SyncEnd) -> Option<Answer>
     ensures { result ≡ sync_answer end }
 {
@@ -238,11 +337,11 @@ fn sync_answer(end: SyncEnd) -> Option<Answer>
         SyncEnd::Full { seq, index, fault } => Some(Answer::Full { seq, index, fault }),
         SyncEnd::Unanswered { seq } => Some(Answer::Unanswered { seq }),
         SyncEnd::Behind { seq, last } => Some(Answer::Behind { seq, last }),
-        SyncEnd::Memory => None,
+        SyncEnd::KeepFault | SyncEnd::Memory => None,
     }
 }
 
-/// How the end of a pull is answered; want of memory has no answer.
+/// How the end of a pull is answered; one that was broken off has no answer.
 fn pull_answer(end: PullEnd) -> Option<Answer>
     ensures { result ≡ pull_answer end }
 {
@@ -252,6 +351,6 @@ fn pull_answer(end: PullEnd) -> Option<Answer>
         PullEnd::OtherLast { last, .. } => Some(Answer::OtherLast(last)),
         PullEnd::Older { path, theirs, ours } => Some(Answer::Older { path, theirs, ours }),
         PullEnd::Unanswered => Some(Answer::PullUnanswered),
-        PullEnd::Memory => None,
+        PullEnd::KeepFault | PullEnd::Memory => None,
     }
 }

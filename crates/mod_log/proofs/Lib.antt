@@ -3,3 +3,5 @@ pub mod Appending
 pub mod Kept
 pub mod Sums
 pub mod Codec
+pub mod Fitting
+pub mod BasesFit

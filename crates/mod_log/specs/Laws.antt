@@ -6,11 +6,16 @@ use Rattle.vol_tree.specs.Tree.{Volume, IsTree, IsLegalEffect}
 use Rattle.vol_tree.specs.Effects.{changed_all}
 use Rattle.mod_log.specs.Log.{Log, tree_of, tree_after, IsLog, new_log_of, logged, acknowledged, pulled}
 use Rattle.mod_log.specs.Append.{next_entry, appended}
+use Rattle.mod_log.specs.declared.log.Entry.{Entry}
 
 -- an appended entry is the last of a log that has all else as before, and its effects lead to the new tree
 abbrev pub AppendingAddsAnEntry : Type 0
 AppendingAddsAnEntry = (effects : List Effect) (log new : Log) → IsLog log → AllByRecursion IsLegalEffect effects → 1 ≤ length effects → appended effects log ≡ Ok new
     → (new ≡ logged (next_entry effects log) log) × IsLog new × (tree_of new ≡ changed_all effects (tree_of log))
+
+-- where a log with an entry behind it is one, appending the entry's effects gives it
+abbrev pub EntriesThatFitAreAppended : Type 0
+EntriesThatFitAreAppended = (log : Log) (entry : Entry) → IsLog (logged entry log) → appended entry.effects log ≡ Ok (logged entry log)
 
 -- acknowledged entries go into the base, and the tree stays
 abbrev pub AcknowledgingKeepsTheTree : Type 0

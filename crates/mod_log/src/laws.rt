@@ -3,11 +3,12 @@ ghost use Rattle.std.specs.Prelude.{ℕ};
 ghost use Rattle.byte_fields.specs.Codec.{IsCodec};
 ghost use Rattle.mod_log.specs.Log.{entry};
 ghost use Rattle.mod_log.specs.Reading.{entry_at, EntryFits};
-ghost use Rattle.mod_log.specs.Laws.{AppendingAddsAnEntry, AcknowledgingKeepsTheTree, PullingReplacesTheTree, TreesAreLogs, LogsHoldTrees};
+ghost use Rattle.mod_log.specs.Laws.{AppendingAddsAnEntry, EntriesThatFitAreAppended, AcknowledgingKeepsTheTree, PullingReplacesTheTree, TreesAreLogs, LogsHoldTrees};
 
 /// States what logging, acknowledging and pulling leave of a log and its tree.
 pub fn logs_keep_their_trees()
     ensures appending { AppendingAddsAnEntry }
+    ensures fitting { EntriesThatFitAreAppended }
     ensures acknowledging { AcknowledgingKeepsTheTree }
     ensures pulling { PullingReplacesTheTree }
     ensures new { TreesAreLogs }

@@ -7,7 +7,7 @@ mod sizes;
 mod taking;
 
 pub use laws::{entries_are_spelled_once, logs_keep_their_trees};
-pub use log::{Entry, Log, LogError};
+pub use log::{Entry, Log, LogError, base_of};
 
 #[cfg(test)]
 mod tests;

@@ -273,8 +273,8 @@ fn check_size(effects: &Effects) -> Result<(), LogError>
     Ok(())
 }
 
-/// The touched paths with their versions in the tree.
-fn base_of(tree: &Tree, effects: &Effects) -> Result<Bases, AllocError>
+/// The paths that the effects touch, with their versions in the tree.
+pub fn base_of(tree: &Tree, effects: &Effects) -> Result<Bases, AllocError>
     ensures { IfOk result (λ bases. bases ≡ bases_of effects.now tree.now) }
 {
     let touched = effects.touched()?;

@@ -1,6 +1,6 @@
 use client_prog::client_run;
 use mem_net::{Fate, MemNet};
-use outside::{MemSink, MemSource};
+use outside::{MemKeeper, MemSink, MemSource};
 use server_core::Server;
 use std::alloc::{AllocError, Global};
 use std::test::Fail;
@@ -49,7 +49,15 @@ fn run_on(
     let mut source = MemSource::new(alloc, input.to_vec(alloc)?, Vec::new(alloc));
     let mut output = MemSink::new(alloc, Vec::new(alloc));
     let mut net = MemNet::new(alloc, 1, server, fates)?;
-    let status = client_run(alloc, &words, &mut source, &mut output, &mut net);
+    let mut keeper = MemKeeper::new(alloc, Vec::new(alloc));
+    let status = client_run(
+        alloc,
+        &words,
+        &mut source,
+        &mut output,
+        &mut keeper,
+        &mut net,
+    );
     Ok(Ended {
         status,
         output,

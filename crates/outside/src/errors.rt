@@ -1,6 +1,7 @@
 ghost use Rattle.std.specs.Prelude.{◌≡◌};
 ghost use Rattle.outside.specs.declared.errors.SinkError.TheVariants.{Memory};
 ghost use Rattle.outside.specs.declared.errors.PortError.TheVariants as ports;
+ghost use Rattle.outside.specs.declared.errors.KeepError.TheVariants as keeps;
 
 use std::alloc::AllocError;
 use thiserror::Error;
@@ -45,5 +46,24 @@ impl From<AllocError> for PortError {
 
     fn from(_: AllocError) -> Self {
         PortError::Memory
+    }
+}
+
+/// Why a call of a keeper gave or kept nothing.
+#[derive(Clone, Copy, Debug, PartialEq, Eq, Error)]
+pub enum KeepError {
+    /// The keeper failed, and counted it.
+    #[error("the keeper failed")]
+    Failed,
+    /// Memory ran out.
+    #[error("out of memory")]
+    Memory,
+}
+
+impl From<AllocError> for KeepError {
+    ghost from_gives = { λ _ e. e ≡ keeps.Memory };
+
+    fn from(_: AllocError) -> Self {
+        KeepError::Memory
     }
 }

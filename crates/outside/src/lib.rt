@@ -5,14 +5,18 @@
 #![tactic(auto)]
 
 mod errors;
+mod keeper;
 mod memory;
+mod memory_keeper;
 mod memory_port;
 mod port;
 mod sink;
 mod source;
 
-pub use errors::{Failed, PortError, SinkError};
+pub use errors::{Failed, KeepError, PortError, SinkError};
+pub use keeper::Keeper;
 pub use memory::{MemSink, MemSource};
+pub use memory_keeper::{KeepFail, MemKeeper};
 pub use memory_port::MemPort;
 pub use port::Port;
 pub use sink::{Sink, write_all};

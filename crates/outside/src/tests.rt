@@ -49,3 +49,29 @@ fn a_named_take_uses_up_its_frame(rt: HostRuntime) -> Result<(), Fail> {
     assert_eq!(rt; port.answered(1), None);
     Ok(())
 }
+
+#[test]
+fn a_named_save_leaves_the_old_image_or_the_new(rt: HostRuntime) -> Result<(), Fail> {
+    let alloc = rt.alloc();
+    let fails = [
+        KeepFail {
+            call: 2,
+            leaves_new: false,
+        },
+        KeepFail {
+            call: 3,
+            leaves_new: true,
+        },
+    ]
+    .to_vec(alloc)?;
+    let mut keeper = MemKeeper::new(alloc, fails);
+    assert_eq!(rt; keeper.load(b"img"), Ok(None));
+    assert_eq!(rt; keeper.save(b"img", b"one"), Ok(()));
+    assert_eq!(rt; keeper.save(b"img", b"two"), Err(KeepError::Failed));
+    assert_eq!(rt; keeper.image(b"img"), Some(b"one".as_slice()));
+    assert_eq!(rt; keeper.save(b"img", b"three"), Err(KeepError::Failed));
+    assert_eq!(rt; keeper.save(b"other", b"four"), Ok(()));
+    assert_eq!(rt; keeper.load(b"img"), Ok(Some(b"three".to_vec(alloc)?)));
+    assert_eq!(rt; keeper.image(b"none"), None);
+    Ok(())
+}

@@ -4,12 +4,14 @@
 
 mod faults;
 mod frames;
+mod keeper;
 mod link;
 mod pace;
 mod port;
 mod program;
 mod streams;
 
+pub use keeper::FileKeeper;
 pub use link::TcpLink;
 pub use port::TcpPort;
 pub use program::{Page, end, page_asked, program_words, show};

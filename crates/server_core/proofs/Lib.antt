@@ -2,3 +2,4 @@ pub mod Numbers
 pub mod Cases
 pub mod Many
 pub mod Frames
+pub mod Noting

@@ -24,27 +24,27 @@ use Rattle.server_core.specs.Laws.{taken_among, effects_of, numbers_of, touches}
 -- ---- what becomes of one message
 
 -- it changes nothing
-record IsIdle (message : Message) (s : Served) : Type 0 where
-  nothing : taken_of message s ≡ []
-  same : state_after message s ≡ s
+pub record IsIdle (message : Message) (s : Served) : Type 0 where
+  pub nothing : taken_of message s ≡ []
+  pub same : state_after message s ≡ s
 
 -- it is the client's next store, and its effects are applied
-record IsTaken (message : Message) (s : Served) : Type 0 where
-  client : ℕ
-  number : ℕ
-  effects : List Effect
-  base : List Base
-  new : Volume
-  is : message ≡ Store client number effects base
-  next : number ≡ s.last client + 1
-  applies : apply_all 0 effects s.volume ≡ Ok new
-  taken : taken_of message s ≡ message ∷ []
-  holds : state_after message s ≡ record { volume = new; last = with_last s.last client number }
+pub record IsTaken (message : Message) (s : Served) : Type 0 where
+  pub client : ℕ
+  pub number : ℕ
+  pub effects : List Effect
+  pub base : List Base
+  pub new : Volume
+  pub is : message ≡ Store client number effects base
+  pub next : number ≡ s.last client + 1
+  pub applies : apply_all 0 effects s.volume ≡ Ok new
+  pub taken : taken_of message s ≡ message ∷ []
+  pub holds : state_after message s ≡ record { volume = new; last = with_last s.last client number }
 
 next_number : (n last : ℕ) → nat_le n last ≡ false → nat_lt (last + 1) n ≡ false → n ≡ last + 1
 next_number n last above within = grind (arith, nat_tests)
 
-idle_or_taken : (message : Message) (s : Served) → IsIdle message s ⊎ IsTaken message s
+pub idle_or_taken : (message : Message) (s : Served) → IsIdle message s ⊎ IsTaken message s
 idle_or_taken (Store client number effects base) s =
     by (nat_le number (s.last client)) refl (nat_lt (s.last client + 1) number) refl (first_conflict base s.volume) refl (apply_all 0 effects s.volume) refl
   where
@@ -82,7 +82,7 @@ idle_or_taken _ s = inl (record { nothing = refl; same = refl })
 
 -- ---- numbers
 
-raised : (last : ℕ → ℕ) (client number : ℕ) → with_last last client number client ≡ number
+pub raised : (last : ℕ → ℕ) (client number : ℕ) → with_last last client number client ≡ number
 raised last client number = ap (λ b. if b then number else last client) (same client)
   where
     same : (n : ℕ) → (n == n) ≡ true

@@ -1,10 +1,10 @@
 -- The numbers that a server counts: their view, and what raising one of them does to it.
-use Rattle.std.proofs.Common.{◌≡◌, ℕ, zero, suc, ◌-◌, ◌≤◌, Bool, true, false, List, [], length, get_or, set, replicate, refl, sym, subst, arith, eqb-true}
+use Rattle.std.proofs.Common.{◌≡◌, ℕ, zero, suc, ◌-◌, ◌^◌, ◌<◌, ◌≤◌, Bool, true, false, List, [], length, get_or, set, replicate, refl, sym, subst, arith, eqb-true}
 use Rattle.std.specs.Prelude.{◌==◌, nat_lt, if◌then◌else◌}
 use Rattle.std.proofs.lemmas.Bool.{eqb-false, ltb-true}
 use Rattle.std.proofs.lemmas.Bool.Decides.{nat_tests}
 use Rattle.std.proofs.lemmas.List.{get_or-set_same, get_or-set_other, get_or-replicate, get_or_past, length-replicate}
-use Rattle.vol_tree.specs.Tree.{Volume}
+use Rattle.vol_tree.specs.Tree.{Volume, IsTree}
 use Rattle.vol_tree.proofs.Behind.{IsTree-empty}
 use Rattle.world_rules.specs.Served.{IsServed, new_served, with_last}
 use Rattle.server_core.specs.Holding.{number_of, served}
@@ -59,3 +59,16 @@ new_served-legal = record { tree = IsTree-empty; small = λ client. omega arith;
 
 pub new-legal : IsServed (served (record { rows = []; last = replicate 64 0 }))
 new-legal = subst IsServed (sym served-new) new_served-legal
+
+-- ---- a server of an image
+
+number_of-small : (last : List ℕ) (client : ℕ) → ((i : ℕ) → get_or last i 0 < 2 ^ 64) → number_of last client < 2 ^ 64
+number_of-small last zero small = omega arith
+number_of-small last (suc k) small = small k
+
+number_of-past : (last : List ℕ) (client : ℕ) → length last ≡ 64 → 64 < client → number_of last client ≡ 0
+number_of-past last zero count past = refl
+number_of-past last (suc k) count past = get_or_past last k 0 (omega (arith, count, past))
+
+pub image-legal : (rows : Volume) (last : List ℕ) → IsTree rows → length last ≡ 64 → ((i : ℕ) → get_or last i 0 < 2 ^ 64) → IsServed (served (record { rows = rows; last = last }))
+image-legal rows last tree count small = record { tree = tree; small = λ client. number_of-small last client small; of_none = refl; of_no_others = λ client past. number_of-past last client count past }

@@ -1,5 +1,5 @@
 -- How a server answers frames.
-use Rattle.std.specs.Prelude.{ℕ, List, [], ◌∷◌, Result, Ok, Err}
+use Rattle.std.specs.Prelude.{ℕ, Bool, true, false, ◌||◌, List, [], ◌∷◌, Result, Ok, Err}
 use Rattle.std.specs.List.{filter_map}
 use Rattle.std.specs.Result.{result_ok}
 use Rattle.wire_frames.specs.declared.message.Message.{Message}
@@ -8,7 +8,7 @@ use Rattle.wire_frames.specs.declared.message.FrameError.{FrameError}
 use Rattle.wire_frames.specs.declared.message.FrameError.TheVariants.{BadLength, BadVersion, BadKind, BadClient, BadField, Trailing, Memory}
 use Rattle.wire_frames.specs.Frame.{frame}
 use Rattle.wire_frames.specs.Reading.{frame_of}
-use Rattle.world_rules.specs.Served.{Served, answer, state_after}
+use Rattle.world_rules.specs.Served.{Served, answer, state_after, taken_of}
 
 -- the number that tells a refusal; want of memory is never told
 abbrev pub code_of : FrameError → ℕ
@@ -43,6 +43,25 @@ frame_answer bytes served = frame (answer_to (frame_of bytes) served)
 -- the served state after a frame
 abbrev pub frame_after : List ℕ → Served → Served
 frame_after bytes served = state_with (frame_of bytes) served
+
+-- whether any store is among those that were taken
+abbrev pub is_any : List Message → Bool
+is_any [] = false
+is_any (message ∷ messages) = true
+
+-- whether what was read is a store that is taken
+abbrev pub takes_read : Result Message FrameError → Served → Bool
+takes_read (Ok message) served = is_any (taken_of message served)
+takes_read (Err refusal) served = false
+
+-- whether the frame has a store that is taken, which alone changes what is served
+abbrev pub takes : List ℕ → Served → Bool
+takes bytes served = takes_read (frame_of bytes) served
+
+-- whether any of these frames changes what is served
+abbrev pub change : List (List ℕ) → Served → Bool
+change [] served = false
+change (bytes ∷ frames) served = takes bytes served || change frames (frame_after bytes served)
 
 -- the served state after these frames, one after the other
 abbrev pub frames_after : List (List ℕ) → Served → Served

@@ -26,6 +26,11 @@ EndsAs client number old new reply (Err cause) = (reply ≡ refusal client numbe
 abbrev pub Ends : ℕ → ℕ → List Effect → Served → Served → Message → Type 0
 Ends client number effects old new reply = EndsAs client number old new reply (apply_all 0 effects old.volume)
 
+-- the last number of the client of a store; 0 for any other message
+abbrev pub last_of : Message → Served → ℕ
+last_of (Store client number effects base) served = served.last client
+last_of _ served = 0
+
 -- the bytes are the frame that accepts this store; of another message nothing is said
 abbrev pub IsAcceptanceOf : Message → List ℕ → Type 0
 IsAcceptanceOf (Store client number effects base) bytes = bytes ≡ frame (Accepted client number)

@@ -15,7 +15,7 @@ use Rattle.wire_frames.specs.Frame.{frame, Spells}
 use Rattle.wire_frames.specs.Reading.{frame_of}
 use Rattle.byte_fields.specs.Codec.{IsBytes}
 use Rattle.world_rules.specs.World.{IsForServer}
-use Rattle.server_core.specs.Framing.{code_of, offset_of, frame_answer, frame_after, frames_after, messages_of}
+use Rattle.server_core.specs.Framing.{code_of, offset_of, frame_answer, frame_after, frames_after, takes, messages_of}
 use Rattle.world_rules.specs.Served.{Served, answer, state_after, taken_of, replay, with_last, is_want_of_room}
 
 -- ---- one store
@@ -117,6 +117,12 @@ FramesAreAnswered = (message : Message) (bytes : List ℕ) (served : Served) →
 abbrev pub OtherBytesAreMalformed : Type 0
 OtherBytesAreMalformed = (bytes : List ℕ) (served : Served) → IsBytes bytes → ((message : Message) → Spells message bytes → ⊥)
     → (refusal : FrameError) × (frame_of bytes ≡ Err refusal) × (frame_answer bytes served ≡ frame (Malformed (code_of refusal) (offset_of refusal))) × (frame_after bytes served ≡ served)
+
+-- a frame whose store is taken raises the last number of some client by one; any other frame changes nothing
+abbrev pub TakenFramesChangeTheState : Type 0
+TakenFramesChangeTheState = (bytes : List ℕ) (served : Served)
+    → (takes bytes served ≡ true → (client : ℕ) × ((frame_after bytes served).last client ≡ served.last client + 1))
+    × (takes bytes served ≡ false → frame_after bytes served ≡ served)
 
 -- frames do what their messages do; bytes that are refused change nothing
 abbrev pub FramesActAsTheirMessages : Type 0

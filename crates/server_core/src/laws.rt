@@ -1,5 +1,6 @@
 // What a server makes of stores: functions that do nothing, whose contracts are laws.
-ghost use Rattle.server_core.specs.Laws.{RepeatsChangeNothing, GapsChangeNothing, StaleStoresChangeNothing, FullStoresChangeNothing, UnfitStoresChangeNothing, OtherStoresAreTaken, PullsTellTheRows, OthersAreMalformed, StoresAreTakenInOrder, VersionsCountTouches, FramesActAsTheirMessages, FramesAreAnswered, OtherBytesAreMalformed};
+ghost use Rattle.server_core.specs.Laws.{RepeatsChangeNothing, GapsChangeNothing, StaleStoresChangeNothing, FullStoresChangeNothing, UnfitStoresChangeNothing, OtherStoresAreTaken, PullsTellTheRows, OthersAreMalformed, StoresAreTakenInOrder, VersionsCountTouches, FramesActAsTheirMessages, FramesAreAnswered, OtherBytesAreMalformed, TakenFramesChangeTheState};
+ghost use Rattle.server_core.specs.Keeping.{OneStateIsKept};
 
 /// States the answer to a message and what is held then, case by case.
 pub fn messages_are_answered()
@@ -26,4 +27,10 @@ pub fn stores_are_taken_once()
 pub fn frames_are_answered()
     ensures spelled { FramesAreAnswered }
     ensures others { OtherBytesAreMalformed }
+    ensures taken { TakenFramesChangeTheState }
+{}
+
+/// States that what is kept is kept for one served state.
+pub fn one_state_is_kept()
+    ensures { OneStateIsKept }
 {}

@@ -4,7 +4,9 @@
 mod laws;
 mod server;
 
-pub use laws::{frames_are_answered, messages_are_answered, stores_are_taken_once};
+pub use laws::{
+    frames_are_answered, messages_are_answered, one_state_is_kept, stores_are_taken_once,
+};
 pub use server::Server;
 
 #[cfg(test)]

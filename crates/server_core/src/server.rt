@@ -5,13 +5,15 @@ ghost use Rattle.vol_tree.specs.Effects.{first_conflict as conflict_in, apply_al
 ghost use Rattle.std.specs.List.{AllByRecursion};
 ghost use Rattle.vol_tree.specs.Tree.{IsLegalEffect};
 ghost use Rattle.wire_frames.specs.Frame.{IsValid, frame};
-ghost use Rattle.world_rules.specs.Served.{IsServed, new_served, answer, state_after, refusal as refusal_of, with_last};
+ghost use Rattle.world_rules.specs.Served.{IsServed, new_served, answer, state_after, taken_of, refusal as refusal_of, with_last};
 ghost use Rattle.server_core.specs.Holding.{Holding, served, is_acceptance};
-ghost use Rattle.server_core.specs.Framing.{code_of, offset_of, frame_answer, frame_after};
-ghost use Rattle.server_core.specs.Inside.{is_outdated, Ends, IsAcceptanceOf};
+ghost use Rattle.server_core.specs.Keeping.{holding_of, IsKeptForServed};
+ghost use Rattle.server_core.specs.Framing.{code_of, offset_of, frame_answer, frame_after, is_any, takes};
+ghost use Rattle.server_core.specs.Inside.{is_outdated, Ends, IsAcceptanceOf, last_of};
 
 use std::alloc::{AllocError, Global};
 use std::marker::Model;
+use store_image::{ServerImage, write_server};
 use vol_tree::{ApplyAllError, Base, Bases, Effects, Tree, TreeError, TryCopy, apply_all};
 use wire_frames::{FrameError, Message, read, write};
 
@@ -44,6 +46,23 @@ impl Server {
             tree: Tree::new(alloc),
             last: none_accepted(),
         }
+    }
+
+    /// The server that an image keeps. It takes no memory.
+    pub fn from_image(image: ServerImage) -> Server
+        ensures held { result ≡ holding_of image }
+        ensures legal { IsServed (served result) }
+    {
+        let ServerImage { last, tree } = image;
+        let _rows = tree.count();
+        Server { tree, last }
+    }
+
+    /// The bytes of the image that keeps the server.
+    pub fn image(&self) -> Result<Vec<u8>, AllocError>
+        ensures { IfOk result (λ bytes. IsKeptForServed (served self.now) bytes.items) }
+    {
+        write_server(&self.last, &self.tree)
     }
 
     /// The volume.
@@ -107,6 +126,51 @@ impl Server {
             Ok(message) => self.serve_in_frame(&message),
             Err(FrameError::Memory) => Err(AllocError),
             Err(refusal) => in_frame(alloc, malformed(&refusal)),
+        }
+    }
+
+    /// The same, and whether the frame's store was taken, which alone changes what the server holds.
+    pub fn serve_noted(&mut self, bytes: &[u8]) -> Result<(Vec<u8>, bool), AllocError>
+        ensures ok { IfOk result (λ noted. noted.0.items ≡ frame_answer bytes.now (served self.old)) }
+        ensures taken { IfOk result (λ noted. noted.1 ≡ takes bytes.now (served self.old)) }
+        ensures state { OnOk result (served self.new ≡ frame_after bytes.now (served self.old)) }
+        ensures err { OnErr result (self.new ≡ self.old) }
+        ensures legal { IsServed (served self.new) }
+    {
+        let alloc = self.tree.allocator();
+        match read(alloc, bytes) {
+            Ok(message) => self.noted(&message),
+            Err(FrameError::Memory) => Err(AllocError),
+            Err(refusal) => Ok((in_frame(alloc, malformed(&refusal))?, false)),
+        }
+    }
+
+    /// Serves a message, writes the reply, and says whether the message is a store that was taken.
+    fn noted(&mut self, message: &Message) -> Result<(Vec<u8>, bool), AllocError>
+        requires valid { IsValid message.now }
+        ensures ok { IfOk result (λ noted. noted.0.items ≡ frame (answer message.now (served self.old))) }
+        ensures taken { IfOk result (λ noted. noted.1 ≡ is_any (taken_of message.now (served self.old))) }
+        ensures state { OnOk result (served self.new ≡ state_after message.now (served self.old)) }
+        ensures err { OnErr result (self.new ≡ self.old) }
+        ensures legal { IsServed (served self.new) }
+    {
+        let before = self.last_of(message);
+        let reply = self.serve_in_frame(message)?;
+        Ok((reply, self.last_of(message) != before))
+    }
+
+    /// The last number of the client of a store; 0 for any other message.
+    fn last_of(&self, message: &Message) -> u64
+        requires valid { IsValid message.now }
+        ensures number { result ≡ last_of message.now (served self.now) }
+        ensures legal { IsServed (served self.now) }
+    {
+        match message {
+            Message::Store { client, .. } => self.last(*client),
+            _ => {
+                let _rows = &self.tree;
+                0
+            }
         }
     }
 

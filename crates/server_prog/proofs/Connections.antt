@@ -4,15 +4,16 @@ use Rattle.std.proofs.lemmas.List.{append-nil}
 use Rattle.std.proofs.lemmas.List.Sums.{sum_by-append, count_by-le-length}
 use Rattle.std.proofs.lemmas.Grind.{flat_map-append}
 use Rattle.std.specs.Prelude.{cond}
-use Rattle.outside.specs.Outside.{RoseBy}
+use Rattle.outside.specs.Outside.{Told, RoseBy}
 use Rattle.outside.specs.Port.{AddsFrames}
 use Rattle.world_rules.specs.Served.{Served}
-use Rattle.server_core.specs.Framing.{frame_answer, frame_after, frames_after}
-use Rattle.server_prog.specs.Serving.{Connection, Missed, Unanswered, Answered, Telling, Serves, BreaksOff, frame_taken, frames_taken, frames_answered, failures, is_failure}
+use Rattle.server_core.specs.Framing.{frame_answer, frame_after, frames_after, change}
+use Rattle.server_prog.specs.Serving.{Connection, Missed, Unanswered, Answered, KeptAs, Telling, Serves, BreaksOff, frame_taken, frames_taken, frames_answered, failures, is_failure}
 use Rattle.server_prog.specs.declared.serving.Came.{Came}
 use Rattle.server_prog.specs.declared.serving.Came.TheVariants as cames
 use Rattle.server_prog.specs.declared.serving.Tally.{Tally}
 use Rattle.server_prog.specs.Inside.{ServesNext, Counts, ServesSoFar, ServesAll, ServesFront, tallied}
+use Rattle.server_prog.proofs.Kept.{kept_same, kept_more}
 
 -- ---- frames in a row
 
@@ -62,6 +63,7 @@ serves_none served port = record {
   answered = adds_none port.answered;
   failed = omega arith;
   holds = refl;
+  kept = kept_same port.kept served;
 }
 
 pub serves_more : (xs ys : List Connection) (s t u : Served) (a b c : Telling) → Serves xs s t a b → Serves ys t u b c → Serves (xs ++ ys) s u a c
@@ -76,6 +78,9 @@ serves_more xs ys s t u a b c first second = record {
   holds =
       second.holds ∙ ap (frames_after (frames_taken ys)) first.holds ∙ sym (frames_after-append (frames_taken xs) (frames_taken ys) s)
       ∙ ap (λ (l : List (List ℕ)). frames_after l s) (sym (frames_taken-append xs ys));
+  kept =
+      subst (λ (l : List (List ℕ)). Told a.kept c.kept (KeptAs (change l s) u)) (sym (frames_taken-append xs ys))
+      (kept_more (frames_taken xs) (frames_taken ys) s t u a.kept b.kept c.kept first.holds second.holds first.kept second.kept);
 }
 
 -- ---- counting
@@ -141,8 +146,8 @@ all_taken count tally s t a b before = record {
   ended = inl before.takes;
 }
 
--- memory ran out in the next take
-pub front : (count takes : ℕ) (tally : Tally) (s t : Served) (a b c : Telling) → takes < count → ServesSoFar takes tally s t a b → BreaksOff b c → ServesFront count s a c
+-- the next take was broken off
+pub front : (count takes : ℕ) (tally : Tally) (s t : Served) (a b c : Telling) → takes < count → ServesSoFar takes tally s t a b → BreaksOff t b c → ServesFront count s a c
 front count takes tally s t a b c more before broken = record {
   connections = before.connections;
   after = t;

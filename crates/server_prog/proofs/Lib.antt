@@ -1,4 +1,6 @@
+pub mod Kept
 pub mod Connections
 pub mod Counts
 pub mod Running
 pub mod Totals
+pub mod KeptAtEnd

@@ -1,33 +1,59 @@
 -- How a run ends.
-use Rattle.std.proofs.Common.{◌≡◌, inl, ℕ, List, length, take, Option, Result, Ok, Err, OnOk, OnErr, subst, ap, ◌∙◌}
+use Rattle.std.proofs.Common.{◌≡◌, inl, inr, ℕ, List, length, take, Option, Ok, Err, refl, subst, ap, arith, ◌∙◌}
 use Rattle.outside.specs.declared.errors.SinkError.{SinkError}
 use Rattle.outside.specs.declared.errors.SinkError.TheVariants.{Failed, Memory}
-use Rattle.outside.specs.Outside.{Adds}
-use Rattle.world_rules.specs.Served.{Served, new_served}
+use Rattle.outside.specs.declared.errors.KeepError.{KeepError}
+use Rattle.outside.specs.declared.errors.KeepError.TheVariants as keeps
+use Rattle.std.specs.Prelude.{IsErrOf}
+use Rattle.outside.specs.Outside.{Adds, HasCause}
+use Rattle.world_rules.specs.Served.{Served}
 use Rattle.server_prog.specs.declared.serving.Tally.{Tally}
+use Rattle.server_prog.specs.declared.run.Stopped.{Stopped}
+use Rattle.server_prog.specs.declared.run.Stopped.TheVariants as stops
 use Rattle.server_prog.specs.Serving.{Telling, frames_taken}
-use Rattle.server_prog.specs.Run.{last_line, line_of, IsServed, StopsInLine, RunTurn}
-use Rattle.server_prog.specs.Inside.{ServesAll}
+use Rattle.server_prog.specs.Run.{last_line, line_of, Opens, OpensNone, IsServed, StopsInLine, StopsInServing, RunTurn}
+use Rattle.server_prog.specs.Inside.{ServesAll, ServesFront, stopped_by_sink, stopped_by_keeper}
 
--- the last line tells what was counted
-line_is : (count : ℕ) (tally : Tally) (s t : Served) (old new : Telling) (all : ServesAll count tally s t old new) → last_line tally.frames tally.faults ≡ line_of all.connections
-line_is count tally s t old new all =
-    ap (λ (n : ℕ). last_line n tally.faults) all.counts.frames ∙ ap (λ (n : ℕ). last_line (length (frames_taken all.connections)) n) all.counts.faults
+module _ (count : ℕ) (first : Served) (old new : Telling) (written now : Option (List ℕ)) (opens : Opens old.kept first) where
+  module _ (tally : Tally) (after : Served) (all : ServesAll count tally first after old new) where
+    -- the last line tells what was counted
+    line_is : last_line tally.frames tally.faults ≡ line_of all.connections
+    line_is =
+        ap (λ (n : ℕ). last_line n tally.faults) all.counts.frames ∙ ap (λ (n : ℕ). last_line (length (frames_taken all.connections)) n) all.counts.faults
 
-is_served : (count : ℕ) (tally : Tally) (after : Served) (old new : Telling) (all : ServesAll count tally new_served after old new) → IsServed count all.connections after old new
-is_served count tally after old new all = record { serves = all.serves; most = all.most; ended = all.ended }
+    is_served : IsServed count first all.connections after old new
+    is_served = record { opens = opens; serves = all.serves; most = all.most; ended = all.ended }
 
-stops_in_line : (count : ℕ) (tally : Tally) (after : Served) (old new : Telling) (written now : Option (List ℕ)) → ServesAll count tally new_served after old new
-    → ((bytes : ℕ) × Adds written now (take bytes (last_line tally.frames tally.faults))) → StopsInLine count old new written now
-stops_in_line count tally after old new written now all front =
-    (all.connections, after, front.0, is_served count tally after old new all, subst (λ (l : List ℕ). Adds written now (take front.0 l)) (line_is count tally new_served after old new all) front.1)
+    stops_in_line : ((bytes : ℕ) × Adds written now (take bytes (last_line tally.frames tally.faults))) → StopsInLine count old new written now
+    stops_in_line front = (first, all.connections, after, front.0, is_served, subst (λ (l : List ℕ). Adds written now (take front.0 l)) line_is front.1)
 
--- all connections were served, and the last line was to be written
-pub run_ends : (count : ℕ) (tally : Tally) (after : Served) (old new : Telling) (written now : Option (List ℕ)) (result : Result (Unit {0}) SinkError) → ServesAll count tally new_served after old new
-    → OnOk result (Adds written now (last_line tally.frames tally.faults))
-    → OnErr result ((bytes : ℕ) × Adds written now (take bytes (last_line tally.frames tally.faults)))
-    → RunTurn count old new written now result
-run_ends count tally after old new written now (Ok done) all line front =
-    (all.connections, after, is_served count tally after old new all, subst (Adds written now) (line_is count tally new_served after old new all) line)
-run_ends count tally after old new written now (Err Failed) all line front = stops_in_line count tally after old new written now all front
-run_ends count tally after old new written now (Err Memory) all line front = inl (stops_in_line count tally after old new written now all front)
+    -- all connections were served, and the last line was written
+    pub run_ends : Adds written now (last_line tally.frames tally.faults) → RunTurn count old new written now (Ok tt)
+    run_ends line = (first, all.connections, after, is_served, subst (Adds written now) line_is line)
+
+    -- the last line was to be written
+    pub run_stops_in_line : (e : SinkError) → ((bytes : ℕ) × Adds written now (take bytes (last_line tally.frames tally.faults))) → RunTurn count old new written now (Err (stopped_by_sink e))
+    run_stops_in_line Failed front = stops_in_line front
+    run_stops_in_line Memory front = inr (inl (stops_in_line front))
+
+  -- serving was broken off
+  pub run_stops_in_serving : (e : KeepError) → ServesFront count first old new → now ≡ written → RunTurn count old new written now (Err (stopped_by_keeper e))
+  run_stops_in_serving e front nothing = by e (first, front.connections, front.after, front.middle, record { opens = opens; serves = front.serves; most = front.most; broken = front.broken }, nothing)
+    where
+      by : (e : KeepError) → StopsInServing count old new written now → RunTurn count old new written now (Err (stopped_by_keeper e))
+      by keeps.Failed stops = inr stops
+      by keeps.Memory stops = inr (inr stops)
+
+-- no server was opened
+pub run_stops_before : {T : Type 0} (count : ℕ) (old new : Telling) (written : Option (List ℕ)) (e : Stopped) → (IsErrOf {T = T} (Err e) stops.Sink → ⊥) → (IsErrOf {T = T} (Err e) stops.Image → OpensNone old.kept) → new ≡ old
+    → RunTurn count old new written written (Err e)
+run_stops_before count old new written stops.Sink no_sink none same = absurd (no_sink refl)
+run_stops_before count old new written stops.Keeper no_sink none same = inl (same, refl)
+run_stops_before count old new written stops.Image no_sink none same = ((same, refl), none refl)
+run_stops_before count old new written stops.Memory no_sink none same = inl (same, refl)
+
+pub sink_stays : {T U : Type 0} (faults : ℕ) (e : Stopped) → (IsErrOf {T = T} (Err e) stops.Sink → ⊥) → HasCause {T = U} stops.Sink faults faults (Err e)
+sink_stays faults stops.Sink no_sink = absurd (no_sink refl)
+sink_stays faults stops.Keeper no_sink = record { later = omega arith; failed = λ is. absurd (cc is) }
+sink_stays faults stops.Image no_sink = record { later = omega arith; failed = λ is. absurd (cc is) }
+sink_stays faults stops.Memory no_sink = record { later = omega arith; failed = λ is. absurd (cc is) }

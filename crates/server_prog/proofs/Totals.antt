@@ -1,11 +1,11 @@
 -- What the connections of a run amount to.
 use Rattle.std.proofs.Common.{◌≡◌, ◌≤◌, ◌⊎◌, inl, inr, ⊎_elim, ℕ, ◌+◌, ◌-◌, List, [], ◌∷◌, ◌++◌, length, Option, Some, Result, Ok, Err, refl, sym, ◌∙◌, ap, subst, arith}
 use Rattle.std.proofs.lemmas.List.{append_cancel_left}
-use Rattle.outside.specs.declared.errors.SinkError.{SinkError}
-use Rattle.outside.specs.declared.errors.SinkError.TheVariants.{Failed, Memory}
+use Rattle.server_prog.specs.declared.run.Stopped.{Stopped}
+use Rattle.server_prog.specs.declared.run.Stopped.TheVariants.{Sink, Keeper, Image, Memory}
 use Rattle.outside.specs.Outside.{RoseBy, Adds}
 use Rattle.outside.specs.Port.{AddsFrames}
-use Rattle.world_rules.specs.Served.{Served, new_served}
+use Rattle.world_rules.specs.Served.{Served}
 use Rattle.server_core.specs.Framing.{frame_after}
 use Rattle.server_prog.specs.Serving.{Connection, Missed, Unanswered, Answered, Telling, frames_taken, frames_answered, failures}
 use Rattle.server_prog.specs.Run.{status_of, last_line, line_of, IsServed, IsBrokenOff, RunTurn}
@@ -32,32 +32,49 @@ is_other status is (inr four) = omega arith
 
 -- ---- the fall
 
-fallen : (count status : ℕ) (connections : List Connection) (after : Served) (old new : Telling) → IsServed count connections after old new → HasFallen count status old new
-fallen count status connections after old new is = record {
+fallen : (count status : ℕ) (first : Served) (connections : List Connection) (after : Served) (old new : Telling) → IsServed count first connections after old new → HasFallen count status old new
+fallen count status first connections after old new is = record {
   fewer = omega (arith, is.serves.left);
   most = omega (arith, is.serves.left, is.most);
   ended = λ _. ⊎_elim (λ (full : length connections ≡ count). inl (omega (arith, is.serves.left, full))) (λ (none : new.left ≡ 0). inr none) is.ended;
 }
 
-fallen_short : (count : ℕ) (connections : List Connection) (after : Served) (old middle new : Telling) → IsBrokenOff count connections after old middle new → HasFallen count 7 old new
-fallen_short count connections after old middle new is = record {
+fallen_short : (count status : ℕ) (first : Served) (connections : List Connection) (after : Served) (old middle new : Telling) → ((status ≡ 0) ⊎ (status ≡ 4) → ⊥) → IsBrokenOff count first connections after old middle new → HasFallen count status old new
+fallen_short count status first connections after old middle new other is = record {
   fewer = omega (arith, is.serves.left, is.broken.left);
   most = omega (arith, is.serves.left, is.broken.left, is.most);
-  ended = λ other. absurd (is_other 7 refl other);
+  ended = λ ended. absurd (other ended);
 }
 
-bounded : (count status : ℕ) (old new : Telling) (written now : Option (List ℕ)) (ended : Result (Unit {0}) SinkError) → status ≡ status_of ended → RunTurn count old new written now ended → HasFallen count status old new
-bounded count status old new written now (Ok done) is turn = fallen count status turn.0 turn.1 old new turn.2
-bounded count status old new written now (Err Failed) is turn = fallen count status turn.0 turn.1 old new turn.3
-bounded count status old new written now (Err Memory) is (inl line) = fallen count status line.0 line.1 old new line.3
-bounded count status old new written now (Err Memory) is (inr broken) = subst (λ (n : ℕ). HasFallen count n old new) (sym is) (fallen_short count broken.0 broken.1 old broken.2 new broken.3)
+not_fallen : (count status : ℕ) (old new : Telling) → ((status ≡ 0) ⊎ (status ≡ 4) → ⊥) → new ≡ old → HasFallen count status old new
+not_fallen count status old new other same =
+    let left : new.left ≡ old.left = ap (λ (t : Telling). t.left) same in
+    record { fewer = omega (arith, left); most = omega (arith, left); ended = λ ended. absurd (other ended) }
+
+five : (status : ℕ) → status ≡ 5 → (status ≡ 0) ⊎ (status ≡ 4) → ⊥
+five status is (inl zero) = omega arith
+five status is (inr four) = omega arith
+
+six : (status : ℕ) → status ≡ 6 → (status ≡ 0) ⊎ (status ≡ 4) → ⊥
+six status is (inl zero) = omega arith
+six status is (inr four) = omega arith
+
+bounded : (count status : ℕ) (old new : Telling) (written now : Option (List ℕ)) (ended : Result (Unit {0}) Stopped) → status ≡ status_of ended → RunTurn count old new written now ended → HasFallen count status old new
+bounded count status old new written now (Ok done) is turn = fallen count status turn.0 turn.1 turn.2 old new turn.3
+bounded count status old new written now (Err Sink) is turn = fallen count status turn.0 turn.1 turn.2 old new turn.4
+bounded count status old new written now (Err Keeper) is (inl before) = not_fallen count status old new (five status is) before.0
+bounded count status old new written now (Err Keeper) is (inr broken) = fallen_short count status broken.0 broken.1 broken.2 old broken.3 new (five status is) broken.4
+bounded count status old new written now (Err Image) is before = not_fallen count status old new (six status is) before.0.0
+bounded count status old new written now (Err Memory) is (inl before) = not_fallen count status old new (is_other status is) before.0
+bounded count status old new written now (Err Memory) is (inr (inl line)) = fallen count status line.0 line.1 line.2 old new line.4
+bounded count status old new written now (Err Memory) is (inr (inr broken)) = fallen_short count status broken.0 broken.1 broken.2 old broken.3 new (is_other status is) broken.4
 
 pub falls_are_bounded : FallsAreBounded
 falls_are_bounded count status old new written now ran = bounded count status old new written now ran.0 ran.1 ran.2
 
 -- ---- the frames
 
-same_frames : (old new : Option (List (List ℕ))) (before xs ys : List (List ℕ)) → old ≡ Some before → new ≡ Some (before ++ ys) → AddsFrames old new xs → xs ≡ ys
+pub same_frames : (old new : Option (List (List ℕ))) (before xs ys : List (List ℕ)) → old ≡ Some before → new ≡ Some (before ++ ys) → AddsFrames old new xs → xs ≡ ys
 same_frames old new before xs ys o n adds =
     let told : before ++ ys ≡ before ++ xs =
     subst (λ (m : Option (List (List ℕ))). AddsFrames (Some before) m xs) n (subst (λ (p : Option (List (List ℕ))). AddsFrames p new xs) o adds) in
@@ -70,15 +87,15 @@ rose_less : (m n a b : ℕ) → m ≤ n → RoseBy n a b → RoseBy m a b
 rose_less m n a b less rose = omega arith
 
 -- connections that were all served, as told
-module _ (connections : List Connection) (after : Served) (count : ℕ) (old new : Telling) (is : IsServed count connections after old new) (taken answered : List (List ℕ)) (frames : HasFrames taken answered old new) where
+module _ (first : Served) (connections : List Connection) (after : Served) (count : ℕ) (old new : Telling) (is : IsServed count first connections after old new) (taken answered : List (List ℕ)) (frames : HasFrames taken answered old new) where
   same_taken : frames_taken connections ≡ taken
   same_taken = same_frames old.taken new.taken frames.taken_before (frames_taken connections) taken frames.old_taken frames.new_taken is.serves.taken
 
-  same_answered : frames_answered connections new_served ≡ answered
-  same_answered = same_frames old.answered new.answered frames.answered_before (frames_answered connections new_served) answered frames.old_answered frames.new_answered is.serves.answered
+  same_answered : frames_answered connections first ≡ answered
+  same_answered = same_frames old.answered new.answered frames.answered_before (frames_answered connections first) answered frames.old_answered frames.new_answered is.serves.answered
 
   unanswered : failures connections ≡ fall old new - length answered
-  unanswered = omega (arith, answered_or_failed connections new_served, ap length same_answered, is.serves.left)
+  unanswered = omega (arith, answered_or_failed connections first, ap length same_answered, is.serves.left)
 
   same_line : line_of connections ≡ last_line (length taken) (fall old new - length answered)
   same_line = ap (λ (l : List (List ℕ)). last_line (length l) (failures connections)) same_taken ∙ ap (λ (n : ℕ). last_line (length taken) n) unanswered
@@ -95,27 +112,37 @@ module _ (connections : List Connection) (after : Served) (count : ℕ) (old new
   told_front : (status : ℕ) (written now : Option (List ℕ)) → (status ≡ 0 → ⊥) → IsTold status taken answered old new written now
   told_front status written now other = record { most = λ _. rose_all; at_hand = rose_but_one; line = λ zero. absurd (other zero) }
 
-told_broken : (connections : List Connection) (after : Served) (count : ℕ) (old middle new : Telling) (written now : Option (List ℕ)) (taken answered : List (List ℕ)) → IsBrokenOff count connections after old middle new → HasFrames taken answered old new
-    → IsTold 7 taken answered old new written now
-told_broken connections after count old middle new written now taken answered is frames =
-    let same : frames_answered connections new_served ≡ answered =
-    same_frames old.answered new.answered frames.answered_before (frames_answered connections new_served) answered frames.old_answered frames.new_answered
-    (adds_behind old.answered middle.answered new.answered (frames_answered connections new_served) is.serves.answered is.broken.answered) in
+told_broken : (status : ℕ) (first : Served) (connections : List Connection) (after : Served) (count : ℕ) (old middle new : Telling) (written now : Option (List ℕ)) (taken answered : List (List ℕ)) → ((status ≡ 0) ⊎ (status ≡ 4) → ⊥)
+    → IsBrokenOff count first connections after old middle new → HasFrames taken answered old new → IsTold status taken answered old new written now
+told_broken status first connections after count old middle new written now taken answered none is frames =
+    let same : frames_answered connections first ≡ answered =
+    same_frames old.answered new.answered frames.answered_before (frames_answered connections first) answered frames.old_answered frames.new_answered
+    (adds_behind old.answered middle.answered new.answered (frames_answered connections first) is.serves.answered is.broken.answered) in
     let missing : failures connections ≡ fall old new - length answered - 1 =
-    omega (arith, answered_or_failed connections new_served, ap length same, is.serves.left, is.broken.left) in
+    omega (arith, answered_or_failed connections first, ap length same, is.serves.left, is.broken.left) in
     record {
-      most = λ other. absurd (is_other 7 refl other);
+      most = λ other. absurd (none other);
       at_hand = subst (λ (n : ℕ). RoseBy n old.faults new.faults) missing (rose_later (failures connections) old.faults middle.faults new.faults is.serves.failed is.broken.later);
-      line = λ (zero : 7 ≡ 0). absurd (omega arith);
+      line = λ zero. absurd (none (inl zero));
     }
 
-counted : (count status : ℕ) (old new : Telling) (written now : Option (List ℕ)) (taken answered : List (List ℕ)) (ended : Result (Unit {0}) SinkError)
+-- nothing was taken
+told_before : (status : ℕ) (old new : Telling) (written now : Option (List ℕ)) (taken answered : List (List ℕ)) → ((status ≡ 0) ⊎ (status ≡ 4) → ⊥) → new ≡ old → IsTold status taken answered old new written now
+told_before status old new written now taken answered none same =
+    let left : new.left ≡ old.left = ap (λ (t : Telling). t.left) same in
+    let faults : new.faults ≡ old.faults = ap (λ (t : Telling). t.faults) same in
+    record { most = λ other. absurd (none other); at_hand = omega (arith, left, faults); line = λ zero. absurd (none (inl zero)) }
+
+counted : (count status : ℕ) (old new : Telling) (written now : Option (List ℕ)) (taken answered : List (List ℕ)) (ended : Result (Unit {0}) Stopped)
     → status ≡ status_of ended → RunTurn count old new written now ended → HasFrames taken answered old new → IsTold status taken answered old new written now
-counted count status old new written now taken answered (Ok done) is turn frames = told_all turn.0 turn.1 count old new turn.2 taken answered frames status written now turn.3
-counted count status old new written now taken answered (Err Failed) is turn frames = told_front turn.0 turn.1 count old new turn.3 taken answered frames status written now (λ zero. absurd (omega arith))
-counted count status old new written now taken answered (Err Memory) is (inl line) frames = told_front line.0 line.1 count old new line.3 taken answered frames status written now (λ zero. absurd (omega arith))
-counted count status old new written now taken answered (Err Memory) is (inr broken) frames =
-    subst (λ (n : ℕ). IsTold n taken answered old new written now) (sym is) (told_broken broken.0 broken.1 count old broken.2 new written now taken answered broken.3 frames)
+counted count status old new written now taken answered (Ok done) is turn frames = told_all turn.0 turn.1 turn.2 count old new turn.3 taken answered frames status written now turn.4
+counted count status old new written now taken answered (Err Sink) is turn frames = told_front turn.0 turn.1 turn.2 count old new turn.4 taken answered frames status written now (λ zero. absurd (omega arith))
+counted count status old new written now taken answered (Err Keeper) is (inl before) frames = told_before status old new written now taken answered (five status is) before.0
+counted count status old new written now taken answered (Err Keeper) is (inr broken) frames = told_broken status broken.0 broken.1 broken.2 count old broken.3 new written now taken answered (five status is) broken.4 frames
+counted count status old new written now taken answered (Err Image) is before frames = told_before status old new written now taken answered (six status is) before.0.0
+counted count status old new written now taken answered (Err Memory) is (inl before) frames = told_before status old new written now taken answered (is_other status is) before.0
+counted count status old new written now taken answered (Err Memory) is (inr (inl line)) frames = told_front line.0 line.1 line.2 count old new line.4 taken answered frames status written now (λ zero. absurd (omega arith))
+counted count status old new written now taken answered (Err Memory) is (inr (inr broken)) frames = told_broken status broken.0 broken.1 broken.2 count old broken.3 new written now taken answered (is_other status is) broken.4 frames
 
 pub frames_are_counted : FramesAreCounted
 frames_are_counted count status old new written now taken answered ran frames = counted count status old new written now taken answered ran.0 ran.1 ran.2 frames

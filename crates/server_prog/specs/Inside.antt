@@ -1,6 +1,12 @@
 -- Words that only contracts below the whole run cite.
 use Rattle.std.specs.Prelude.{◌≡◌, ◌≤◌, ◌<◌, ◌+◌, ◌⊎◌, ◌&&◌, nat_le, Bool, false, ℕ, List, [], ◌∷◌, length}
 use Rattle.world_rules.specs.Served.{Served}
+use Rattle.outside.specs.declared.errors.SinkError.{SinkError}
+use Rattle.outside.specs.declared.errors.SinkError.TheVariants as sinks
+use Rattle.outside.specs.declared.errors.KeepError.{KeepError}
+use Rattle.outside.specs.declared.errors.KeepError.TheVariants as keeps
+use Rattle.server_prog.specs.declared.run.Stopped.{Stopped}
+use Rattle.server_prog.specs.declared.run.Stopped.TheVariants as stops
 use Rattle.server_prog.specs.declared.serving.Came.{Came}
 use Rattle.server_prog.specs.declared.serving.Came.TheVariants as came
 use Rattle.server_prog.specs.declared.serving.Tally.{Tally}
@@ -33,14 +39,14 @@ pub record ServesAll (count : ℕ) (tally : Tally) (before after : Served) (old 
   pub most : length connections ≤ count
   pub ended : (length connections ≡ count) ⊎ (new.left ≡ 0)
 
--- broken off for want of memory
+-- broken off for want of memory, or by a fault of the keeper
 pub record ServesFront (count : ℕ) (before : Served) (old new : Telling) : Type 0 where
   pub connections : List Connection
   pub after : Served
   pub middle : Telling
   pub serves : Serves connections before after old middle
   pub most : length connections < count
-  pub broken : BreaksOff middle new
+  pub broken : BreaksOff after middle new
 
 -- the tally with one more take
 abbrev pub tallied : Tally → Came → Tally
@@ -53,3 +59,12 @@ tallied tally came.Answered = record { frames = tally.frames + 1; faults = tally
 abbrev pub begins_as_count : List ℕ → Bool
 begins_as_count [] = false
 begins_as_count (byte ∷ bytes) = nat_le 49 byte && nat_le byte 57
+
+-- a fault of the sink, and of the keeper, as the run's end
+abbrev pub stopped_by_sink : SinkError → Stopped
+stopped_by_sink sinks.Failed = stops.Sink
+stopped_by_sink sinks.Memory = stops.Memory
+
+abbrev pub stopped_by_keeper : KeepError → Stopped
+stopped_by_keeper keeps.Failed = stops.Keeper
+stopped_by_keeper keeps.Memory = stops.Memory

@@ -1,7 +1,10 @@
 -- What the connections of a run amount to. Its fall is the number by which the connections left fell.
-use Rattle.std.specs.Prelude.{◌≡◌, ◌≤◌, ◌⊎◌, ℕ, ◌-◌, List, ◌++◌, length, Option, Some}
+use Rattle.std.specs.Prelude.{◌≡◌, ◌≤◌, ◌⊎◌, ℕ, ◌-◌, List, [], ◌∷◌, ◌++◌, length, Option, Some}
 use Rattle.outside.specs.Outside.{RoseBy, Adds}
-use Rattle.server_prog.specs.Serving.{Telling}
+use Rattle.world_rules.specs.Served.{Served}
+use Rattle.server_core.specs.Framing.{frames_after, change}
+use Rattle.server_core.specs.Keeping.{KeepsServed}
+use Rattle.server_prog.specs.Serving.{KeptAs, Telling}
 use Rattle.server_prog.specs.Run.{Ran, last_line}
 
 abbrev pub fall : Telling → Telling → ℕ
@@ -25,7 +28,7 @@ pub record HasFrames (taken answered : List (List ℕ)) (old new : Telling) : Ty
   pub old_answered : old.answered ≡ Some answered_before
   pub new_answered : new.answered ≡ Some (answered_before ++ answered)
 
--- each connection without an answer is a call of the port that failed; at status 7 one may be none, that at hand. At status 0
+-- each connection without an answer is a call of the port that failed; at status 5 or 7 one may be none, that at hand. At status 0
 -- the output ends with the number of frames taken, and that of connections without an answer.
 pub record IsTold (status : ℕ) (taken answered : List (List ℕ)) (old new : Telling) (written now : Option (List ℕ)) : Type 0 where
   pub most : (status ≡ 0) ⊎ (status ≡ 4) → RoseBy (fall old new - length answered) old.faults new.faults
@@ -35,3 +38,29 @@ pub record IsTold (status : ℕ) (taken answered : List (List ℕ)) (old new : T
 abbrev pub FramesAreCounted : Type 0
 FramesAreCounted = (count status : ℕ) (old new : Telling) (written now : Option (List ℕ)) (taken answered : List (List ℕ))
     → Ran count status old new written now → HasFrames taken answered old new → IsTold status taken answered old new written now
+
+-- the bytes under the name at the end: where a frame of these changed the state, an image of the state after them, and else
+-- those from the start
+abbrev pub IsKeptAfter : List (List ℕ) → Served → Option (List ℕ) → Option (List ℕ) → Type 0
+IsKeptAfter frames first old new = KeptAs (change frames first) (frames_after frames first) old new
+
+-- nothing was taken, and what is kept is as before
+pub record IsNothingTaken (status : ℕ) (taken : List (List ℕ)) (old new : Option (List ℕ)) : Type 0 where
+  pub stopped : (status ≡ 5) ⊎ ((status ≡ 6) ⊎ (status ≡ 7))
+  pub nothing : taken ≡ []
+  pub same : new ≡ old
+
+-- the frames before the one at hand, which is taken last
+pub record IsKeptBefore (status : ℕ) (taken : List (List ℕ)) (first : Served) (old new : Option (List ℕ)) : Type 0 where
+  pub stopped : (status ≡ 5) ⊎ (status ≡ 7)
+  pub before : List (List ℕ)
+  pub at_hand : List ℕ
+  pub all : taken ≡ before ++ at_hand ∷ []
+  pub kept : IsKeptAfter before first old new
+
+-- What is kept at the end of a run is the state after the taken frames. At status 5 or 7 the change of the frame at hand may
+-- be missing.
+abbrev pub KeptImagesAreServed : Type 0
+KeptImagesAreServed = (count status : ℕ) (old new : Telling) (written now : Option (List ℕ)) (taken answered : List (List ℕ)) (o n : Option (List ℕ))
+    → Ran count status old new written now → HasFrames taken answered old new → old.kept ≡ Some o → new.kept ≡ Some n
+    → IsNothingTaken status taken o n ⊎ ((first : Served) × KeepsServed o first × (IsKeptAfter taken first o n ⊎ IsKeptBefore status taken first o n))

@@ -1,10 +1,11 @@
--- What a server does with the connections of a port.
-use Rattle.std.specs.Prelude.{◌≡◌, ◌≤◌, ℕ, ◌+◌, Bool, true, false, List, [], ◌∷◌, length, count_by, Option}
+-- What a server does with the connections of a port, and what is kept of it.
+use Rattle.std.specs.Prelude.{◌≡◌, ◌≤◌, ◌⊎◌, ℕ, ◌+◌, Bool, true, false, List, [], ◌∷◌, length, count_by, Option, Some}
 use Rattle.std.specs.List.{flat_map}
-use Rattle.outside.specs.Outside.{RoseBy}
+use Rattle.outside.specs.Outside.{Told, RoseBy}
 use Rattle.outside.specs.Port.{AddsFrames}
 use Rattle.world_rules.specs.Served.{Served}
-use Rattle.server_core.specs.Framing.{frame_answer, frame_after, frames_after}
+use Rattle.server_core.specs.Framing.{frame_answer, frame_after, frames_after, change}
+use Rattle.server_core.specs.Keeping.{IsKeptForServed}
 
 -- what became of a connection that was used up: the port failed to take its frame; or the frame was taken and served, and
 -- the port failed to answer it; or it was answered
@@ -38,15 +39,23 @@ is_failure _ = true
 abbrev pub failures : List Connection → ℕ
 failures connections = count_by is_failure connections
 
--- what a port tells: the connections left, the frames taken and answered, and how often it failed
+-- what is kept under the server's name once frames were served: where any of them changed the state, an image of the state
+-- after them, and else what was kept before
+abbrev pub KeptAs : Bool → Served → Option (List ℕ) → Option (List ℕ) → Type 0
+KeptAs true after old new = (bytes : List ℕ) × (new ≡ Some bytes) × IsKeptForServed after bytes
+KeptAs false after old new = new ≡ old
+
+-- what a port and a keeper tell: the connections left, the frames taken and answered, how often the port failed, and what is
+-- kept under the server's name
 pub record Telling : Type 0 where
   pub left : ℕ
   pub taken : Option (List (List ℕ))
   pub answered : Option (List (List ℕ))
   pub faults : ℕ
+  pub kept : Option (Option (List ℕ))
 
-abbrev pub telling : ℕ → Option (List (List ℕ)) → Option (List (List ℕ)) → ℕ → Telling
-telling left taken answered faults = record { left = left; taken = taken; answered = answered; faults = faults }
+abbrev pub telling : ℕ → Option (List (List ℕ)) → Option (List (List ℕ)) → ℕ → Option (Option (List ℕ)) → Telling
+telling left taken answered faults kept = record { left = left; taken = taken; answered = answered; faults = faults; kept = kept }
 
 -- a server that held one state served these connections of a port, one after the other, and holds the other state now
 pub record Serves (connections : List Connection) (before after : Served) (old new : Telling) : Type 0 where
@@ -55,12 +64,15 @@ pub record Serves (connections : List Connection) (before after : Served) (old n
   pub answered : AddsFrames old.answered new.answered (frames_answered connections before)
   pub failed : RoseBy (failures connections) old.faults new.faults
   pub holds : after ≡ frames_after (frames_taken connections) before
+  pub kept : Told old.kept new.kept (KeptAs (change (frames_taken connections) before) after)
 
--- want of memory broke off the connection at hand: its frame may have been taken, and is not answered
-pub record BreaksOff (old new : Telling) : Type 0 where
+-- want of memory, or a fault of the keeper, broke off the connection at hand: its frame may have been taken, and is not
+-- answered; what is kept is as before, or with the change of this frame
+pub record BreaksOff (before : Served) (old new : Telling) : Type 0 where
   pub frames : List (List ℕ)
   pub few : length frames ≤ 1
   pub left : old.left ≡ new.left + 1
   pub taken : AddsFrames old.taken new.taken frames
   pub answered : AddsFrames old.answered new.answered []
   pub later : old.faults ≤ new.faults
+  pub kept : Told old.kept new.kept (λ o n. (n ≡ o) ⊎ KeptAs (change frames before) (frames_after frames before) o n)

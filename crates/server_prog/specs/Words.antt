@@ -3,9 +3,11 @@ use Rattle.std.specs.Prelude.{◌≡◌, ◌↔◌, ◌≤◌, decimal, ℕ, Boo
 use Rattle.std.specs.Str.{bytes_eq}
 use Rattle.std.specs.Str.Parse.{digits_value}
 
--- what the words of a run say: the address at which the server listens, and how many connections it takes at most
+-- what the words of a run say: the address at which the server listens, the name under which it is kept, and how many
+-- connections it takes at most
 pub record Run : Type 0 where
   pub address : List ℕ
+  pub image : List ℕ
   pub count : ℕ
 
 -- a number from 1 to 65,536, where the word is this number as it is printed
@@ -20,13 +22,13 @@ count_of word = count_printed (digits_value 10 word) word
 abbrev pub is_run : List ℕ → List ℕ → List ℕ → Bool
 is_run run address image = bytes_eq run (codes "run") && nat_lt 0 (length address) && nat_lt 0 (length image)
 
-abbrev pub with_address : List ℕ → Option ℕ → Option Run
-with_address address None = None
-with_address address (Some count) = Some (record { address = address; count = count })
+abbrev pub with_count : List ℕ → List ℕ → Option ℕ → Option Run
+with_count address image None = None
+with_count address image (Some count) = Some (record { address = address; image = image; count = count })
 
 -- what `run LISTEN IMAGE COUNT` says; any other words are of no form
 abbrev pub run_of : List (List ℕ) → Option Run
-run_of (run ∷ address ∷ image ∷ count ∷ []) = if is_run run address image then with_address address (count_of count) else None
+run_of (run ∷ address ∷ image ∷ count ∷ []) = if is_run run address image then with_count address image (count_of count) else None
 run_of words = None
 
 -- ---- law

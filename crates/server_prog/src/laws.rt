@@ -1,6 +1,6 @@
 // What holds of every run: functions that do nothing, whose contracts are laws.
 ghost use Rattle.server_prog.specs.Words.{CountsArePrinted};
-ghost use Rattle.server_prog.specs.Laws.{FallsAreBounded, FramesAreCounted};
+ghost use Rattle.server_prog.specs.Laws.{FallsAreBounded, FramesAreCounted, KeptImagesAreServed};
 
 /// Law: a word gives a count of connections exactly where it is a number from 1 to 65,536 as it is printed.
 pub fn counts_are_as_printed()
@@ -12,4 +12,10 @@ pub fn counts_are_as_printed()
 pub fn connections_are_counted()
     ensures falls { FallsAreBounded }
     ensures frames { FramesAreCounted }
+{}
+
+/// Law: what is kept at the end of a run is the state after the frames that were taken; where the keeper failed or memory ran
+/// out, perhaps without the change of the frame at hand.
+pub fn kept_images_are_served()
+    ensures { KeptImagesAreServed }
 {}

@@ -8,12 +8,12 @@ ghost use Rattle.server_prog.specs.Words.{run_of};
 
 use crate::run::server_run;
 use crate::words::run_words;
-use real_edge::{Page, StdSink, TcpPort, end, page_asked, program_words, show};
+use real_edge::{FileKeeper, Page, StdSink, TcpPort, end, page_asked, program_words, show};
 use std::io;
 use std::io::ErrorKind;
 use std::net::Net;
 use std::process::ExitCode;
-use std::rt::Env;
+use std::rt::{Env, Files};
 use std::time::Clock;
 
 const HELP: &str = "\
@@ -23,8 +23,9 @@ Listens at LISTEN, takes one frame of each connection, and answers it before the
 next one. At its end it writes 'served K faults F': K frames were taken, and F
 calls of the network failed. A fault ends one connection alone.
 
-LISTEN is an address with a port. IMAGE is not empty, and not used yet. COUNT is
-how many connections are taken, from 1 to 65536.
+LISTEN is an address with a port. IMAGE names the file in which the server is
+kept; IMAGE.new belongs to it. COUNT is how many connections are taken, from 1
+to 65536.
 
 Example:
   server run 127.0.0.1:7001 server.image 100
@@ -34,6 +35,8 @@ The server ends with one of these statuses:
   1  it cannot listen at LISTEN
   2  the words have another form
   4  standard output failed
+  5  the image could not be kept
+  6  what is kept under IMAGE is no server's image
   7  memory ran out
 
 Options:
@@ -53,7 +56,9 @@ const NO_MEMORY: u8 = 7;
 const NAME: &str = "server";
 
 /// Runs the server with the words behind the program's name. Words that are no text are of no form.
-pub fn server_program<R: Print + Eprint + AllocGlobal + Env + Net + Clock>(rt: &R) -> ExitCode
+pub fn server_program<R: Print + Eprint + AllocGlobal + Env + Files + Net + Clock>(
+    rt: &R,
+) -> ExitCode
     ensures { IsTrue (is_status (exit_status result)) }
 {
     match program_words(rt) {
@@ -67,7 +72,7 @@ pub fn server_program<R: Print + Eprint + AllocGlobal + Env + Net + Clock>(rt: &
 ///
 /// `--help` and `--version`, as the only word, are answered on standard output. Where the status is not 0, standard error
 /// says so, or why the server cannot listen.
-pub fn server_main<R: Print + Eprint + AllocGlobal + Net + Clock>(
+pub fn server_main<R: Print + Eprint + AllocGlobal + Files + Net + Clock>(
     rt: &R,
     words: &[String],
 ) -> ExitCode
@@ -82,7 +87,10 @@ pub fn server_main<R: Print + Eprint + AllocGlobal + Net + Clock>(
 }
 
 /// Listens where the words say, and runs the server there. Words of no form listen nowhere.
-fn run_at<R: Print + Eprint + AllocGlobal + Net + Clock>(rt: &R, words: &[String]) -> ExitCode
+fn run_at<R: Print + Eprint + AllocGlobal + Files + Net + Clock>(
+    rt: &R,
+    words: &[String],
+) -> ExitCode
     ensures form { exit_status result ≡ 2 ↔ run_of (map string_bytes words.now) ≡ None }
     ensures known { IsTrue (is_status (exit_status result)) }
 {
@@ -100,7 +108,7 @@ fn run_at<R: Print + Eprint + AllocGlobal + Net + Clock>(rt: &R, words: &[String
 }
 
 /// Runs the server over its port and standard output, and answers the status.
-fn serve_at<R: Print + AllocGlobal + Net + Clock>(
+fn serve_at<R: Print + AllocGlobal + Files + Net + Clock>(
     rt: &R,
     words: &[String],
     port: &mut TcpPort<'_, R>,
@@ -108,6 +116,8 @@ fn serve_at<R: Print + AllocGlobal + Net + Clock>(
     ensures form { result ≡ 2 ↔ run_of (map string_bytes words.now) ≡ None }
     ensures known { IsTrue (is_status result) }
 {
+    let alloc = rt.alloc();
+    let mut keeper = FileKeeper::new(alloc, rt);
     let mut output = StdSink::new(io::writer(rt));
-    server_run(rt.alloc(), words, port, &mut output)
+    server_run(alloc, words, port, &mut keeper, &mut output)
 }

@@ -1,26 +1,69 @@
 // A run of the server over its connections.
-ghost use Rattle.std.specs.Prelude.{◌≡◌, ◌≤◌, ◌⊎◌, ◌↔◌, ℕ, None, IfOk, OnOk, OnErr, IfSome, IsTrue, take, map};
+ghost use Rattle.std.specs.Prelude.{◌≡◌, ◌≤◌, ◌⊎◌, ◌↔◌, ℕ, None, IfOk, OnOk, OnErr, IfSome, IsErrOf, IsTrue, take, map};
 ghost use Rattle.std.specs.String.{string_bytes};
 ghost use Rattle.outside.specs.Outside.{Adds, HasCause, Rose};
+ghost use Rattle.outside.specs.Keeper.{kept_under};
+ghost use Rattle.world_rules.specs.Served.{Served};
+ghost use Rattle.server_core.specs.Holding.{served};
+ghost use Rattle.server_core.specs.Keeping.{IsKeptForServed};
 ghost use Rattle.server_prog.specs.Words.{run_of};
 ghost use Rattle.server_prog.specs.Serving.{telling};
-ghost use Rattle.server_prog.specs.Run.{status_of, is_status, last_line, RunTurn, Ran};
+ghost use Rattle.server_prog.specs.Run.{status_of, is_status, last_line, Opens, OpensNone, RunTurn, Ran};
+ghost use Rattle.server_prog.specs.Inside.{stopped_by_keeper, stopped_by_sink};
 
 use crate::serving::{Tally, serve};
 use crate::words::run_words;
-use outside::{Port, Sink, SinkError, write_all};
+use outside::{KeepError, Keeper, Port, Sink, SinkError, write_all};
 use server_core::Server;
 use std::alloc::{AllocError, Global};
+use store_image::{ImageError, read_server};
+
+/// Why a run ended without its last line.
+#[derive(Clone, Copy, Debug)]
+pub(crate) enum Stopped {
+    /// The sink failed.
+    Sink,
+    /// The keeper failed.
+    Keeper,
+    /// What is kept is no server's image.
+    Image,
+    /// Memory ran out.
+    Memory,
+}
+
+impl From<SinkError> for Stopped {
+    ghost from_gives = { λ error stopped. stopped ≡ stopped_by_sink error };
+
+    fn from(error: SinkError) -> Stopped {
+        match error {
+            SinkError::Failed => Stopped::Sink,
+            SinkError::Memory => Stopped::Memory,
+        }
+    }
+}
+
+impl From<KeepError> for Stopped {
+    ghost from_gives = { λ error stopped. stopped ≡ stopped_by_keeper error };
+
+    fn from(error: KeepError) -> Stopped {
+        match error {
+            KeepError::Failed => Stopped::Keeper,
+            KeepError::Memory => Stopped::Memory,
+        }
+    }
+}
 
 /// The status of a run that ended so.
-fn status_of(ended: Result<(), SinkError>) -> u8
+fn status_of(ended: Result<(), Stopped>) -> u8
     ensures status { result ≡ status_of ended }
     ensures known { IsTrue (is_status result) }
 {
     match ended {
         Ok(()) => 0,
-        Err(SinkError::Failed) => 4,
-        Err(SinkError::Memory) => 7,
+        Err(Stopped::Sink) => 4,
+        Err(Stopped::Keeper) => 5,
+        Err(Stopped::Image) => 6,
+        Err(Stopped::Memory) => 7,
     }
 }
 
@@ -46,47 +89,84 @@ fn write_last<O: Sink>(alloc: Global, tally: Tally, output: &mut O) -> Result<()
     write_all(output, line.as_bytes())
 }
 
-/// Serves as a new server, and writes the last line.
-fn run<P: Port, O: Sink>(
-    alloc: Global,
-    count: u32,
-    port: &mut P,
-    output: &mut O,
-) -> Result<(), SinkError>
-    requires { count ≤ 65536 }
-    ensures turn { RunTurn count (telling (P.left port.old) (P.taken port.old) (P.answered port.old) (P.faults port.old)) (telling (P.left port.new) (P.taken port.new) (P.answered port.new) (P.faults port.new)) (O.written output.old) (O.written output.new) result }
-    ensures cause { HasCause SinkError.Failed (O.faults output.old) (O.faults output.new) result }
+/// The server that is kept under the name, or a new one where nothing is.
+fn opened<K: Keeper>(alloc: Global, name: &[u8], keeper: &mut K) -> Result<Server, Stopped>
+    ensures opens { IfOk result (λ server. Opens (kept_under name.now (K.images keeper.old)) (served server)) }
+    ensures none { IsErrOf result Stopped.Image → OpensNone (kept_under name.now (K.images keeper.old)) }
+    ensures same { (kept_under name.now (K.images keeper.new)) ≡ (kept_under name.now (K.images keeper.old)) }
+    ensures no_sink { IsErrOf result Stopped.Sink → ⊥ }
+    ensures cause { HasCause Stopped.Keeper (K.faults keeper.old) (K.faults keeper.new) result }
 {
-    let mut server = Server::new(alloc);
-    let tally = match serve(&mut server, port, count) {
-        Ok(tally) => tally,
-        Err(_refused) => return Err(SinkError::Memory),
-    };
-    write_last(alloc, tally, output)
+    match keeper.load(name)? {
+        Some(image) => server_of(alloc, &image),
+        None => Ok(Server::new(alloc)),
+    }
 }
 
-/// Runs the server on its words: takes frames from a port, and answers each by a new server before it takes the next one.
-/// A fault of the port ends one connection alone. The status that it gives:
+/// The server that the bytes keep.
+fn server_of(alloc: Global, bytes: &[u8]) -> Result<Server, Stopped>
+    ensures opens { IfOk result (λ server. IsKeptForServed (served server) bytes.now) }
+    ensures none { IsErrOf result Stopped.Image → (state : Served) → IsKeptForServed state bytes.now → ⊥ }
+    ensures no_sink { IsErrOf result Stopped.Sink → ⊥ }
+    ensures no_keeper { IsErrOf result Stopped.Keeper → ⊥ }
+{
+    match read_server(alloc, bytes) {
+        Ok(image) => Ok(Server::from_image(image)),
+        Err(error) => match error {
+            ImageError::Memory => Err(Stopped::Memory),
+            _ => Err(Stopped::Image),
+        },
+    }
+}
+
+/// Serves as the server that is kept under the name, and writes the last line.
+fn run<P: Port, K: Keeper, O: Sink>(
+    alloc: Global,
+    name: &[u8],
+    count: u32,
+    port: &mut P,
+    keeper: &mut K,
+    output: &mut O,
+) -> Result<(), Stopped>
+    requires { count ≤ 65536 }
+    ensures turn { RunTurn count (telling (P.left port.old) (P.taken port.old) (P.answered port.old) (P.faults port.old) (kept_under name.now (K.images keeper.old))) (telling (P.left port.new) (P.taken port.new) (P.answered port.new) (P.faults port.new) (kept_under name.now (K.images keeper.new))) (O.written output.old) (O.written output.new) result }
+    ensures sink { HasCause Stopped.Sink (O.faults output.old) (O.faults output.new) result }
+    ensures keeper { HasCause Stopped.Keeper (K.faults keeper.old) (K.faults keeper.new) result }
+{
+    let mut server = opened(alloc, name, keeper)?;
+    let tally = serve(&mut server, port, name, keeper, count)?;
+    write_last(alloc, tally, output)?;
+    Ok(())
+}
+
+/// Runs the server on its words: takes frames from a port, and answers each by the server that is kept under the image's name,
+/// or a new one, before it takes the next one. Where a frame changes what the server holds, its image is kept before the frame
+/// is answered. A fault of the port ends one connection alone. The status that it gives:
 ///
 /// - 0: as many takes were made as the words say, or no connection is left, and the output is `served K faults F`;
 /// - 2: the words are of no form, and nothing was touched;
 /// - 4: the sink failed;
+/// - 5: the keeper failed, and the frame at hand is not answered;
+/// - 6: what is kept is no server's image, and no connection was taken;
 /// - 7: memory ran out.
-pub fn server_run<P: Port, O: Sink>(
+pub fn server_run<P: Port, O: Sink, K: Keeper>(
     alloc: Global,
     words: &[String],
     port: &mut P,
+    keeper: &mut K,
     output: &mut O,
 ) -> u8
     ensures form { result ≡ 2 ↔ run_of (map string_bytes words.now) ≡ None }
     ensures known { IsTrue (is_status result) }
-    ensures untouched { run_of (map string_bytes words.now) ≡ None → (P.left port.new ≡ P.left port.old) × (P.taken port.new ≡ P.taken port.old) × (P.answered port.new ≡ P.answered port.old) × (P.faults port.new ≡ P.faults port.old) × (O.written output.new ≡ O.written output.old) × (O.faults output.new ≡ O.faults output.old) }
+    ensures untouched { run_of (map string_bytes words.now) ≡ None → (P.left port.new ≡ P.left port.old) × (P.taken port.new ≡ P.taken port.old) × (P.answered port.new ≡ P.answered port.old) × (P.faults port.new ≡ P.faults port.old) × (K.images keeper.new ≡ K.images keeper.old) × (K.faults keeper.new ≡ K.faults keeper.old) × (O.written output.new ≡ O.written output.old) × (O.faults output.new ≡ O.faults output.old) }
     ensures sink { result ≡ 4 → Rose (O.faults output.old) (O.faults output.new) }
-    ensures complete { IfSome (run_of (map string_bytes words.now)) (λ run. (Rose (O.faults output.old) (O.faults output.new) → ⊥) → (result ≡ 0) ⊎ (result ≡ 7)) }
-    ensures served { IfSome (run_of (map string_bytes words.now)) (λ run. Ran run.count result (telling (P.left port.old) (P.taken port.old) (P.answered port.old) (P.faults port.old)) (telling (P.left port.new) (P.taken port.new) (P.answered port.new) (P.faults port.new)) (O.written output.old) (O.written output.new)) }
+    ensures keeper { result ≡ 5 → Rose (K.faults keeper.old) (K.faults keeper.new) }
+    ensures complete { IfSome (run_of (map string_bytes words.now)) (λ run. (Rose (O.faults output.old) (O.faults output.new) → ⊥) → (Rose (K.faults keeper.old) (K.faults keeper.new) → ⊥) → (result ≡ 0) ⊎ ((result ≡ 6) ⊎ (result ≡ 7))) }
+    ensures served { IfSome (run_of (map string_bytes words.now)) (λ run. Ran run.count result (telling (P.left port.old) (P.taken port.old) (P.answered port.old) (P.faults port.old) (kept_under run.image (K.images keeper.old))) (telling (P.left port.new) (P.taken port.new) (P.answered port.new) (P.faults port.new) (kept_under run.image (K.images keeper.new))) (O.written output.old) (O.written output.new)) }
 {
     let Some(words) = run_words(words) else {
         return 2;
     };
-    status_of(run(alloc, words.count, port, output))
+    let name = words.image.as_bytes();
+    status_of(run(alloc, name, words.count, port, keeper, output))
 }

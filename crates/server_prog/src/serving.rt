@@ -1,12 +1,13 @@
-// Serving the connections of a port.
-ghost use Rattle.std.specs.Prelude.{◌≡◌, ◌≤◌, ◌<◌, ◌+◌, IfOk, OnErr};
+// Serving the connections of a port, and keeping the server.
+ghost use Rattle.std.specs.Prelude.{◌≡◌, ◌≤◌, ◌<◌, ◌⊎◌, ◌+◌, IfOk, OnOk, OnErr};
+ghost use Rattle.outside.specs.Outside.{Told, HasCause};
+ghost use Rattle.outside.specs.Keeper.{kept_under};
 ghost use Rattle.server_core.specs.Holding.{served};
-ghost use Rattle.server_prog.specs.Serving.{telling, BreaksOff};
+ghost use Rattle.server_prog.specs.Serving.{telling, KeptAs, BreaksOff};
 ghost use Rattle.server_prog.specs.Inside.{ServesNext, ServesAll, ServesFront, tallied};
 
-use outside::{Port, PortError};
+use outside::{KeepError, Keeper, Port, PortError};
 use server_core::Server;
-use std::alloc::AllocError;
 
 /// What a take came to.
 #[derive(Clone, Copy, Debug)]
@@ -28,22 +29,47 @@ pub(crate) struct Tally {
     pub(crate) faults: u32,
 }
 
-/// Serves the next connection: takes its frame, and answers it by the server.
-fn serve_next<P: Port>(server: &mut Server, port: &mut P) -> Result<Came, AllocError>
-    ensures ok { IfOk result (λ came. ServesNext came (served server.old) (served server.new) (telling (P.left port.old) (P.taken port.old) (P.answered port.old) (P.faults port.old)) (telling (P.left port.new) (P.taken port.new) (P.answered port.new) (P.faults port.new))) }
-    ensures err { OnErr result (BreaksOff (telling (P.left port.old) (P.taken port.old) (P.answered port.old) (P.faults port.old)) (telling (P.left port.new) (P.taken port.new) (P.answered port.new) (P.faults port.new))) }
+/// Keeps the server's image under the name, where the server has changed.
+fn keep_if<K: Keeper>(
+    changed: bool,
+    server: &Server,
+    name: &[u8],
+    keeper: &mut K,
+) -> Result<(), KeepError>
+    ensures ok { OnOk result (Told (kept_under name.now (K.images keeper.old)) (kept_under name.now (K.images keeper.new)) (KeptAs changed (served server.now))) }
+    ensures err { OnErr result (Told (kept_under name.now (K.images keeper.old)) (kept_under name.now (K.images keeper.new)) (λ old new. (new ≡ old) ⊎ KeptAs changed (served server.now) old new)) }
+    ensures cause { HasCause KeepError.Failed (K.faults keeper.old) (K.faults keeper.new) result }
+{
+    if !changed {
+        return Ok(());
+    }
+    let image = server.image()?;
+    keeper.save(name, &image)
+}
+
+/// Serves the next connection: takes its frame, keeps the server where the frame changed it, and answers the frame.
+fn serve_next<P: Port, K: Keeper>(
+    server: &mut Server,
+    port: &mut P,
+    name: &[u8],
+    keeper: &mut K,
+) -> Result<Came, KeepError>
+    ensures ok { IfOk result (λ came. ServesNext came (served server.old) (served server.new) (telling (P.left port.old) (P.taken port.old) (P.answered port.old) (P.faults port.old) (kept_under name.now (K.images keeper.old))) (telling (P.left port.new) (P.taken port.new) (P.answered port.new) (P.faults port.new) (kept_under name.now (K.images keeper.new)))) }
+    ensures err { OnErr result (BreaksOff (served server.old) (telling (P.left port.old) (P.taken port.old) (P.answered port.old) (P.faults port.old) (kept_under name.now (K.images keeper.old))) (telling (P.left port.new) (P.taken port.new) (P.answered port.new) (P.faults port.new) (kept_under name.now (K.images keeper.new)))) }
+    ensures cause { HasCause KeepError.Failed (K.faults keeper.old) (K.faults keeper.new) result }
 {
     let frame = match port.take() {
         Ok(Some(frame)) => frame,
         Ok(None) => return Ok(Came::NoConnection),
         Err(PortError::Failed) => return Ok(Came::Missed),
-        Err(PortError::Memory) => return Err(AllocError),
+        Err(PortError::Memory) => return Err(KeepError::Memory),
     };
-    let reply = server.serve_frame(&frame)?;
+    let (reply, taken) = server.serve_noted(&frame)?;
+    keep_if(taken, server, name, keeper)?;
     match port.answer(&reply) {
         Ok(()) => Ok(Came::Answered),
         Err(PortError::Failed) => Ok(Came::Unanswered),
-        Err(PortError::Memory) => Err(AllocError),
+        Err(PortError::Memory) => Err(KeepError::Memory),
     }
 }
 
@@ -65,22 +91,26 @@ fn tallied(tally: Tally, came: Came) -> Tally
     }
 }
 
-/// Serves so many connections, or all that are left. A fault of the port ends one connection alone.
-pub(crate) fn serve<P: Port>(
+/// Serves so many connections, or all that are left. A fault of the port ends one connection alone, a fault of the keeper
+/// ends the serving.
+pub(crate) fn serve<P: Port, K: Keeper>(
     server: &mut Server,
     port: &mut P,
+    name: &[u8],
+    keeper: &mut K,
     count: u32,
-) -> Result<Tally, AllocError>
+) -> Result<Tally, KeepError>
     requires { count ≤ 65536 }
-    ensures ok { IfOk result (λ tally. ServesAll count tally (served server.old) (served server.new) (telling (P.left port.old) (P.taken port.old) (P.answered port.old) (P.faults port.old)) (telling (P.left port.new) (P.taken port.new) (P.answered port.new) (P.faults port.new))) }
-    ensures err { OnErr result (ServesFront count (served server.old) (telling (P.left port.old) (P.taken port.old) (P.answered port.old) (P.faults port.old)) (telling (P.left port.new) (P.taken port.new) (P.answered port.new) (P.faults port.new))) }
+    ensures ok { IfOk result (λ tally. ServesAll count tally (served server.old) (served server.new) (telling (P.left port.old) (P.taken port.old) (P.answered port.old) (P.faults port.old) (kept_under name.now (K.images keeper.old))) (telling (P.left port.new) (P.taken port.new) (P.answered port.new) (P.faults port.new) (kept_under name.now (K.images keeper.new)))) }
+    ensures err { OnErr result (ServesFront count (served server.old) (telling (P.left port.old) (P.taken port.old) (P.answered port.old) (P.faults port.old) (kept_under name.now (K.images keeper.old))) (telling (P.left port.new) (P.taken port.new) (P.answered port.new) (P.faults port.new) (kept_under name.now (K.images keeper.new)))) }
+    ensures cause { HasCause KeepError.Failed (K.faults keeper.old) (K.faults keeper.new) result }
 {
     let mut tally = Tally {
         frames: 0,
         faults: 0,
     };
     for _take in 0..count {
-        match serve_next(server, port)? {
+        match serve_next(server, port, name, keeper)? {
             Came::NoConnection => break,
             came => tally = tallied(tally, came),
         }

@@ -1,5 +1,5 @@
 use crate::server_run;
-use outside::{MemPort, MemSink};
+use outside::{KeepFail, Keeper, MemKeeper, MemPort, MemSink};
 use std::alloc::{AllocError, Global};
 use std::test::Fail;
 
@@ -32,10 +32,21 @@ fn port_of_stores(alloc: Global, stores: usize, fails: &[u32]) -> Result<MemPort
     Ok(MemPort::new(alloc, frames, fails.to_vec(alloc)?))
 }
 
-/// Runs a server on these words over this port, and gives its status and its output.
+/// Runs a server on these words over this port, of which nothing is kept, and gives its status and its output.
 fn run(alloc: Global, texts: &[&str], port: &mut MemPort) -> Result<(u8, MemSink), AllocError> {
+    let mut keeper = MemKeeper::new(alloc, Vec::new(alloc));
+    run_kept(alloc, texts, port, &mut keeper)
+}
+
+/// The same with what is kept.
+fn run_kept(
+    alloc: Global,
+    texts: &[&str],
+    port: &mut MemPort,
+    keeper: &mut MemKeeper,
+) -> Result<(u8, MemSink), AllocError> {
     let mut output = MemSink::new(alloc, Vec::new(alloc));
-    let status = server_run(alloc, &words(alloc, texts)?, port, &mut output);
+    let status = server_run(alloc, &words(alloc, texts)?, port, keeper, &mut output);
     Ok((status, output))
 }
 
@@ -99,7 +110,9 @@ fn a_failing_sink_is_told(rt: HostRuntime) -> Result<(), Fail> {
     let mut port = port_of_stores(alloc, 1, &[])?;
     let mut output = MemSink::new(alloc, [0].to_vec(alloc)?);
     let words = words(alloc, &["run", "l", "img", "1"])?;
-    assert_eq!(rt; server_run(alloc, &words, &mut port, &mut output), 4);
+    let mut keeper = MemKeeper::new(alloc, Vec::new(alloc));
+    let status = server_run(alloc, &words, &mut port, &mut keeper, &mut output);
+    assert_eq!(rt; status, 4);
     assert_eq!(rt; output.bytes(), b"".as_slice());
     assert!(rt; accepts(&port, 0));
     Ok(())
@@ -125,5 +138,67 @@ fn other_words_touch_nothing(rt: HostRuntime) -> Result<(), Fail> {
         assert_eq!(rt; output.bytes(), b"".as_slice());
         assert_eq!(rt; port.answered(0), None);
     }
+    Ok(())
+}
+
+#[test]
+fn a_taken_store_is_kept_once(rt: HostRuntime) -> Result<(), Fail> {
+    let alloc = rt.alloc();
+    // Call 0 loads and call 1 saves; a second save would fail.
+    let fails = [KeepFail {
+        call: 2,
+        leaves_new: true,
+    }]
+    .to_vec(alloc)?;
+    let mut keeper = MemKeeper::new(alloc, fails);
+    let mut port = port_of_stores(alloc, 2, &[])?;
+    let (status, output) = run_kept(alloc, &["run", "l", "img", "2"], &mut port, &mut keeper)?;
+    assert_eq!(rt; status, 0);
+    assert_eq!(rt; output.bytes(), b"served 2 faults 0\n".as_slice());
+    assert!(rt; accepts(&port, 1));
+    // The next server has taken the store already.
+    let image = keeper.image(b"img").ok_or("not kept")?.to_vec(alloc)?;
+    assert_eq!(rt; image.len(), 543);
+    let mut next = MemKeeper::new(alloc, Vec::new(alloc));
+    let _ = next.save(b"img", &image);
+    let mut port = port_of_stores(alloc, 1, &[])?;
+    let (status, _output) = run_kept(alloc, &["run", "l", "img", "1"], &mut port, &mut next)?;
+    assert_eq!(rt; status, 0);
+    assert!(rt; accepts(&port, 0));
+    assert_eq!(rt; next.image(b"img"), Some(image.as_slice()));
+    Ok(())
+}
+
+#[test]
+fn a_failing_keeper_answers_nothing(rt: HostRuntime) -> Result<(), Fail> {
+    let alloc = rt.alloc();
+    for call in [0, 1] {
+        let fails = [KeepFail {
+            call,
+            leaves_new: false,
+        }]
+        .to_vec(alloc)?;
+        let mut keeper = MemKeeper::new(alloc, fails);
+        let mut port = port_of_stores(alloc, 1, &[])?;
+        let (status, output) = run_kept(alloc, &["run", "l", "img", "1"], &mut port, &mut keeper)?;
+        assert_eq!(rt; status, 5);
+        assert_eq!(rt; output.bytes(), b"".as_slice());
+        assert_eq!(rt; port.answered(0), None);
+        assert_eq!(rt; keeper.image(b"img"), None);
+    }
+    Ok(())
+}
+
+#[test]
+fn what_is_no_image_is_not_served(rt: HostRuntime) -> Result<(), Fail> {
+    let alloc = rt.alloc();
+    let mut keeper = MemKeeper::new(alloc, Vec::new(alloc));
+    let _ = keeper.save(b"img", b"OSSI");
+    let mut port = port_of_stores(alloc, 1, &[])?;
+    let (status, output) = run_kept(alloc, &["run", "l", "img", "1"], &mut port, &mut keeper)?;
+    assert_eq!(rt; status, 6);
+    assert_eq!(rt; output.bytes(), b"".as_slice());
+    assert_eq!(rt; port.answered(0), None);
+    assert_eq!(rt; keeper.image(b"img"), Some(b"OSSI".as_slice()));
     Ok(())
 }

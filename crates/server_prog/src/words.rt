@@ -8,6 +8,8 @@ ghost use Rattle.server_prog.specs.Inside.{begins_as_count};
 pub struct RunWords<'a> {
     /// The address at which the server listens, which is not empty.
     pub address: &'a str,
+    /// The name under which it is kept, which is not empty.
+    pub image: &'a str,
     /// How many connections it takes at most, from 1 to 65,536.
     pub count: u32,
 }
@@ -15,7 +17,7 @@ pub struct RunWords<'a> {
 /// Takes apart the words `run LISTEN IMAGE COUNT`; `None` for any others.
 pub fn run_words(words: &[String]) -> Option<RunWords<'_>>
     ensures form { MatchOption result (run_of (map string_bytes words.now) ≡ None)
-        (λ run. run_of (map string_bytes words.now) ≡ Some (record { address = run.address.now; count = run.count })) }
+        (λ run. run_of (map string_bytes words.now) ≡ Some (record { address = run.address.now; image = run.image.now; count = run.count })) }
     ensures range { IfSome result (λ run. (1 ≤ run.count) × (run.count ≤ 65536)) }
 {
     let [run, address, image, count] = words else {
@@ -27,6 +29,7 @@ pub fn run_words(words: &[String]) -> Option<RunWords<'_>>
     match count_of(count.as_str()) {
         Some(count) => Some(RunWords {
             address: address.as_str(),
+            image: image.as_str(),
             count,
         }),
         None => None,

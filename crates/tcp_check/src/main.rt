@@ -6,7 +6,7 @@ mod strangers;
 
 use client::{print_ended, start_client};
 use client_prog::client_main;
-use outside::Port;
+use outside::{MemKeeper, Port};
 use real_edge::{StdSink, TcpPort, program_words};
 use server_prog::server_run;
 use std::alloc::{AllocError, Global};
@@ -111,7 +111,9 @@ fn serve<R: AllocGlobal + Net + Clock + Print>(
 ) -> io::Result<()> {
     let words = server_words(rt.alloc(), count)?;
     let mut output = StdSink::new(io::writer(rt));
-    let status = server_run(rt.alloc(), &words, port, &mut output);
+    let alloc = rt.alloc();
+    let mut keeper = MemKeeper::new(alloc, Vec::new(alloc));
+    let status = server_run(alloc, &words, port, &mut keeper, &mut output);
     println!(rt; "server: status {status}")
 }
 

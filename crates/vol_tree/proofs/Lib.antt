@@ -18,3 +18,14 @@ pub mod RowsTaken
 pub mod CutParts
 pub mod Breaking
 pub mod Few
+pub mod Loops
+pub mod Slots
+pub mod Walk
+pub mod Links
+pub mod Grown
+pub mod Written
+pub mod Arenas
+pub mod Folders
+pub mod Counts
+pub mod Listing
+pub mod Shrunk

@@ -120,7 +120,7 @@ next_version rows p each below = by (row_at rows p) refl below
 
 -- ---- counts
 
-length-with_row : (rows : List Row) (new : Row) → AreInOrder rows → length (with_row rows new) + length (option_to_list (row_at rows new.path)) ≡ length rows + 1
+pub length-with_row : (rows : List Row) (new : Row) → AreInOrder rows → length (with_row rows new) + length (option_to_list (row_at rows new.path)) ≡ length rows + 1
 length-with_row rows new order =
     let whole = ap length (split_at_path rows new.path order) in
     let parts = length-append (rows_below rows new.path ++ option_to_list (row_at rows new.path)) (rows_above rows new.path) in
@@ -147,7 +147,7 @@ each_touched rows p node each rise root small =
     (all_filter IsRow _ rows each)
     (record { is_path = rise.is_path; below_root = root; touched = omega arith; version_fits = next_version rows p each rise.below_top; small = small }, all_filter IsRow _ rows each)
 
-size_touched : (rows : List Row) (p : List (List ℕ)) (node : Option Node) → AreInOrder rows → total_size (touched rows p node) + node_size (node_at rows p) ≡ total_size rows + node_size node
+pub size_touched : (rows : List Row) (p : List (List ℕ)) (node : Option Node) → AreInOrder rows → total_size (touched rows p node) + node_size (node_at rows p) ≡ total_size rows + node_size node
 size_touched rows p node order = size-with_row rows (record { path = p; version = version_at rows p + 1; node = node }) order
 
 -- ---- trees
@@ -189,7 +189,7 @@ put_is_tree rows p content tree legal h =
     at_most n limit e = grind (arith, nat_tests)
 
 -- what has a node has a row
-has_row : (rows : List Row) (p : List (List ℕ)) → is_some (node_at rows p) ≡ true → is_some (row_at rows p) ≡ true
+pub has_row : (rows : List Row) (p : List (List ℕ)) → is_some (node_at rows p) ≡ true → is_some (row_at rows p) ≡ true
 has_row rows p h = by (row_at rows p) h
   where
     by : (o : Option Row) → is_some (option_and_then (λ row. row.node) o) ≡ true → is_some o ≡ true
@@ -240,7 +240,7 @@ size_of_none : (node : Option Node) → is_some node ≡ false → node_size nod
 size_of_none None h = refl
 size_of_none (Some node) h = absurd (true≢false h)
 
-small_node : (rows : List Row) (p : List (List ℕ)) → AllByRecursion IsRow rows → node_size (node_at rows p) ≤ 8388608
+pub small_node : (rows : List Row) (p : List (List ℕ)) → AllByRecursion IsRow rows → node_size (node_at rows p) ≤ 8388608
 small_node rows p each = by (row_at rows p) refl
   where
     by : (o : Option Row) → row_at rows p ≡ o → node_size (option_and_then (λ row. row.node) o) ≤ 8388608
@@ -324,10 +324,10 @@ changed_is_tree (Move p q) rows tree legal h = moved_is_tree rows p q tree legal
 -- ---- undoing
 
 -- each row counts at least one effect
-each_counted : (rows : List Row) → IsTree rows → AllByRecursion (λ row. 1 ≤ row.version) rows
+pub each_counted : (rows : List Row) → IsTree rows → AllByRecursion (λ row. 1 ≤ row.version) rows
 each_counted rows tree = all_map (λ row sound. sound.touched) rows tree.each
 
-counted_touched : (rows : List Row) (p : List (List ℕ)) (node : Option Node) → AllByRecursion (λ row. 1 ≤ row.version) rows → AllByRecursion (λ row. 1 ≤ row.version) (touched rows p node)
+pub counted_touched : (rows : List Row) (p : List (List ℕ)) (node : Option Node) → AllByRecursion (λ row. 1 ≤ row.version) rows → AllByRecursion (λ row. 1 ≤ row.version) (touched rows p node)
 counted_touched rows p node each =
     all_append (λ row. 1 ≤ row.version) (rows_below rows p) (record { path = p; version = version_at rows p + 1; node = node } ∷ rows_above rows p)
     (all_filter (λ row. 1 ≤ row.version) _ rows each)

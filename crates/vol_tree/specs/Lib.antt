@@ -10,3 +10,4 @@ pub mod Spelling
 pub mod Reading
 pub mod Fields
 pub mod Broken
+pub mod Arena

@@ -1,7 +1,9 @@
 //! Contents, paths and the volume tree.
 #![tactic(auto)]
 
+mod arena;
 mod content;
+mod counted;
 mod effects;
 mod laws;
 mod list;

@@ -1,6 +1,6 @@
 // A list of items, which contracts see as the list of them.
 ghost use Rattle.std.specs.Prelude.{◌≡◌, ℕ, ◌+◌, ◌<◌, ◌≤◌, ◌^◌, List, [], ◌∷◌, ◌++◌, length, take, IfOk, OnOk, OnErr, slice_get};
-ghost use Rattle.std.specs.Option.{option_copied};
+ghost use Rattle.std.specs.Option.{option_copied, option_to_list};
 
 use std::alloc::{AllocError, Global};
 use std::marker::Model;
@@ -70,11 +70,22 @@ impl<T: Drop> List<T> {
         self.items.push(item)?;
         Ok(())
     }
+
+    /// Adds the item last, where there is one.
+    pub fn push_found(&mut self, found: Option<T>) -> Result<(), AllocError>
+        ensures ok { OnOk result (self.new ≡ self.old ++ option_to_list found) }
+        ensures err { OnErr result (self.new ≡ self.old) }
+    {
+        match found {
+            Some(item) => self.push(item),
+            None => Ok(()),
+        }
+    }
 }
 
 impl<T: Drop> List<T> {
     /// The list of these items. It takes no memory.
-    pub(crate) fn from_vec(items: Vec<T>) -> List<T>
+    pub fn from_vec(items: Vec<T>) -> List<T>
         requires { length items.items < 2 ^ 32 }
         ensures { result ≡ items.items }
     {

@@ -149,6 +149,16 @@ impl Path {
         Ok(Path { names })
     }
 
+    /// The path with one more name.
+    pub(crate) fn child(&self, name: &Content) -> Result<Path, AllocError>
+        requires { IsPath (self.now ++ name.now ∷ []) }
+        ensures { IfOk result (λ child. child ≡ self.now ++ name.now ∷ []) }
+    {
+        let mut names = self.names.copy()?;
+        names.push(name.copy()?)?;
+        Ok(Path { names })
+    }
+
     /// Lends the last name; `None` for the root.
     pub(crate) fn last(&self) -> Option<&Content>
         ensures { option_copied result ≡ slice_get self.now (length self.now - 1) }
@@ -167,7 +177,7 @@ impl Path {
     }
 
     /// Lends the names but the last.
-    pub(crate) fn folder_names(&self) -> &[Content]
+    pub fn folder_names(&self) -> &[Content]
         ensures { result.now ≡ folder_of self.now }
     {
         let names = self.names.as_slice();

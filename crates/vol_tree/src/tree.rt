@@ -1,5 +1,5 @@
 // The volume tree, which contracts see as the list of its rows in the order of their paths.
-ghost use Rattle.std.specs.Prelude.{◌≡◌, ◌≢◌, ℕ, ◌+◌, ◌^◌, ◌<◌, ◌≤◌, List, [], ◌∷◌, ◌++◌, length, Some, None, IfOk, IfErr, OnOk, OnErr, IsTrue, IsSome, is_some, option_map, slice_get, IfSome, IfNone, false, find, ◌-◌, Ok, Err};
+ghost use Rattle.std.specs.Prelude.{◌≡◌, ◌≢◌, ℕ, ◌+◌, ◌*◌, ◌^◌, ◌<◌, ◌≤◌, List, [], ◌∷◌, ◌++◌, length, Some, None, IfOk, IfErr, OnOk, OnErr, IsTrue, IsSome, is_some, option_map, slice_get, IfSome, IfNone, false, find, ◌-◌, Ok, Err};
 ghost use Rattle.std.specs.List.{list_all};
 ghost use Rattle.std.specs.Ordering.{is_lt};
 ghost use Rattle.std.specs.Option.{option_copied, option_to_list};
@@ -10,13 +10,13 @@ ghost use Rattle.vol_tree.specs.Tree.{IsTree, AreInOrder, row_at, version_at, no
 ghost use Rattle.vol_tree.specs.Path.{IsPath, folder_of, path_cmp, is_same_path};
 
 use crate::content::Content;
+use crate::counted::{Counted, size_at};
 use crate::list::TryCopy;
 use crate::path::Path;
 use crate::{Names, Rows};
 use std::alloc::{AllocError, Global};
 use std::cmp::Ordering;
 use std::marker::Model;
-use std::mem;
 use thiserror::Error;
 
 /// What stands at a path.
@@ -117,11 +117,9 @@ impl TryCopy for Node {
 
 impl TryCopy for Tree {
     fn copy(&self) -> Result<Tree, AllocError> {
-        let mut rows = Vec::with_capacity(*self.rows.allocator(), self.rows.len())?;
-        for row in &self.rows {
-            rows.push(row.copy()?)?;
-        }
-        Ok(Tree { rows })
+        Ok(Tree {
+            rows: self.rows.copy()?,
+        })
     }
 }
 
@@ -201,15 +199,15 @@ impl Model for Undo {
 /// A tree of files and folders: at most 16,384 rows, and 33,554,432 bytes in all files.
 #[derive(Drop)]
 pub struct Tree {
-    rows: Vec<Row>,
+    rows: Counted,
 }
 
 impl Model for Tree {
     ghost Value = { List Row };
 
-    ghost view = { λ tree. tree.rows.items };
+    ghost view = { λ tree. tree.rows };
 
-    ghost invariant = { λ tree. IsTree tree.rows.items };
+    ghost invariant = { λ tree. IsTree tree.rows };
 }
 
 impl Tree {
@@ -218,26 +216,27 @@ impl Tree {
         ensures { result ≡ [] }
     {
         Tree {
-            rows: Vec::new(alloc),
+            rows: Counted::new(alloc),
         }
     }
 
     /// The tree with these rows; refused at the first row that breaks a rule, given those before it.
-    pub fn from_rows(_alloc: Global, rows: Rows) -> Result<Tree, RowsError>
+    pub fn from_rows(alloc: Global, rows: Rows) -> Result<Tree, RowsError>
         ensures ok { IfOk result (λ tree. tree ≡ rows) }
         ensures err { IfErr result (IsRowsRefusal rows) }
     {
         if let Some(i) = first_bad(rows.as_slice(), rows.len()) {
             return Err(RowsError::BadRow(i));
         }
-        Ok(Tree {
-            rows: rows.into_vec(),
-        })
+        match Counted::from_rows(alloc, rows.as_slice()) {
+            Ok(rows) => Ok(Tree { rows }),
+            Err(_) => Err(RowsError::Memory),
+        }
     }
 
     /// The allocator of the tree.
     pub fn allocator(&self) -> Global {
-        *self.rows.allocator()
+        self.rows.arena().allocator()
     }
 
     /// The number of rows.
@@ -246,28 +245,36 @@ impl Tree {
         ensures tree { IsTree self.now }
     {
         let rows = &self.rows;
-        rows.len() as u32
+        rows.count() as u32
     }
 
     /// The node at the path; `None` for the root.
     pub fn get(&self, path: &Path) -> Option<&Node>
         ensures { option_copied result ≡ node_at self.now path.now }
     {
-        node_of(&self.rows, path.names())
+        self.find(path).0
+    }
+
+    /// The node at the path, `None` for the root; and how many names were compared with names of the path.
+    pub fn find(&self, path: &Path) -> (Option<&Node>, u32)
+        ensures node { option_copied result.0 ≡ node_at self.now path.now }
+        ensures few { result.1 ≤ 16 * length path.now }
+    {
+        self.rows.arena().find(path.names())
     }
 
     /// Whether the path is a folder, as the root always is.
     pub fn is_folder(&self, path: &Path) -> bool
         ensures { result ≡ is_folder self.now path.now }
     {
-        is_folder_at(&self.rows, path.names())
+        is_folder_in(&self.rows, path.names())
     }
 
     /// How many applied effects touched the path.
     pub fn version(&self, path: &Path) -> u64
         ensures { result ≡ version_at self.now path.now }
     {
-        version_of(&self.rows, path.names())
+        self.rows.arena().version(path.names())
     }
 
     /// A copy of the rows.
@@ -275,40 +282,22 @@ impl Tree {
         ensures rows { IfOk result (λ rows. rows ≡ self.now) }
         ensures tree { IsTree self.now }
     {
-        let mut rows = Rows::new(*self.rows.allocator());
-        for row in &self.rows {
-            rows.push(row.copy()?)?;
-        }
-        Ok(rows)
+        let rows = &self.rows;
+        rows.arena().rows()
     }
 
     /// The names in a folder, in order; none where the path is no folder.
     pub fn children(&self, path: &Path) -> Result<Names, AllocError>
         ensures { IfOk result (λ names. names ≡ children self.now path.now) }
     {
-        let mut names = Names::new(*self.rows.allocator());
-        for row in &self.rows {
-            if is_child_of(row, path.names()) {
-                names.push(row.path.last_name()?)?;
-            }
-        }
-        Ok(names)
+        self.rows.arena().children(path.names())
     }
 
     /// Name `i` in a folder, counted from 0. It takes no memory.
     pub fn child(&self, path: &Path, i: u32) -> Option<&Content>
         ensures { option_copied result ≡ slice_get (children self.now path.now) i }
     {
-        let mut left = i;
-        for row in &self.rows {
-            if is_child_of(row, path.names()) {
-                if left == 0 {
-                    return row.path.last();
-                }
-                left -= 1;
-            }
-        }
-        None
+        self.rows.arena().child(path.names(), i)
     }
 
     /// Applies an effect, or refuses it; after a refusal the tree is as before.
@@ -331,11 +320,21 @@ impl Tree {
         ensures { self.new ≡ undone undo self.old }
     {
         let Undo { first, second } = undo;
-        restore(&mut self.rows, first);
-        if let Some(second) = second {
-            restore(&mut self.rows, second);
+        match second {
+            Some(second) => restore_both(&mut self.rows, first, second),
+            None => self.rows.restore(first),
         }
     }
+}
+
+/// Puts two kept rows back, the last of which leaves a tree.
+fn restore_both(rows: &mut Counted, first: Row, second: Row)
+    requires tree { IsTree rows.old }
+    requires can_undo { CanUndo (first ∷ second ∷ []) rows.old }
+    ensures { rows.new ≡ undone (first ∷ second ∷ []) rows.old }
+{
+    rows.restore(first);
+    rows.restore(second);
 }
 
 /// The first row with which the rows up to it are no tree.
@@ -390,7 +389,7 @@ pub(crate) fn is_behind(rows: &[Row], path: &Path) -> bool
 }
 
 /// Whether the effect may be applied, and else why not.
-fn check(rows: &[Row], effect: &Effect) -> Result<(), TreeError>
+fn check(rows: &Counted, effect: &Effect) -> Result<(), TreeError>
     requires { IsTree rows.now }
     ensures ok { OnOk result (apply effect.now rows.now ≡ Ok (changed effect.now rows.now)) }
     ensures err { IfErr result (λ e. e ≢ TreeError.Memory → apply effect.now rows.now ≡ Err e) }
@@ -404,7 +403,7 @@ fn check(rows: &[Row], effect: &Effect) -> Result<(), TreeError>
     }
 }
 
-fn check_make(rows: &[Row], path: &Path) -> Result<(), TreeError>
+fn check_make(rows: &Counted, path: &Path) -> Result<(), TreeError>
     requires { IsTree rows.now }
     ensures ok { OnOk result (apply (Effect.Make path.now) rows.now ≡ Ok (changed (Effect.Make path.now) rows.now)) }
     ensures err { IfErr result (λ e. e ≢ TreeError.Memory → apply (Effect.Make path.now) rows.now ≡ Err e) }
@@ -414,22 +413,22 @@ fn check_make(rows: &[Row], path: &Path) -> Result<(), TreeError>
     if names.is_empty() {
         return Err(TreeError::RootFixed);
     }
-    if !is_folder_at(rows, path.folder_names()) {
+    if !is_folder_in(rows, path.folder_names()) {
         return Err(TreeError::NoParent(path.folder()?));
     }
-    if node_of(rows, names).is_some() {
+    if node_in(rows, names).is_some() {
         return Err(TreeError::Exists(path.copy()?));
     }
     if lacks_room(rows, names) {
         return Err(TreeError::RowsFull(16384));
     }
-    if version_of(rows, names) == u64::MAX {
+    if version_in(rows, names) == u64::MAX {
         return Err(TreeError::VersionTop(path.copy()?));
     }
     Ok(())
 }
 
-fn check_put(rows: &[Row], path: &Path, content: &Content) -> Result<(), TreeError>
+fn check_put(rows: &Counted, path: &Path, content: &Content) -> Result<(), TreeError>
     requires { IsTree rows.now }
     ensures ok { OnOk result (apply (Effect.Put path.now content.now) rows.now ≡ Ok (changed (Effect.Put path.now content.now) rows.now)) }
     ensures err { IfErr result (λ e. e ≢ TreeError.Memory → apply (Effect.Put path.now content.now) rows.now ≡ Err e) }
@@ -439,10 +438,10 @@ fn check_put(rows: &[Row], path: &Path, content: &Content) -> Result<(), TreeErr
     if names.is_empty() {
         return Err(TreeError::RootFixed);
     }
-    if !is_folder_at(rows, path.folder_names()) {
+    if !is_folder_in(rows, path.folder_names()) {
         return Err(TreeError::NoParent(path.folder()?));
     }
-    if is_folder_at(rows, names) {
+    if is_folder_in(rows, names) {
         return Err(TreeError::IsFolder(path.copy()?));
     }
     if lacks_room(rows, names) {
@@ -456,13 +455,13 @@ fn check_put(rows: &[Row], path: &Path, content: &Content) -> Result<(), TreeErr
     if total > 33_554_432 {
         return Err(TreeError::TreeFull(total));
     }
-    if version_of(rows, names) == u64::MAX {
+    if version_in(rows, names) == u64::MAX {
         return Err(TreeError::VersionTop(path.copy()?));
     }
     Ok(())
 }
 
-fn check_remove(rows: &[Row], path: &Path) -> Result<(), TreeError>
+fn check_remove(rows: &Counted, path: &Path) -> Result<(), TreeError>
     requires { IsTree rows.now }
     ensures ok { OnOk result (apply (Effect.Remove path.now) rows.now ≡ Ok (changed (Effect.Remove path.now) rows.now)) }
     ensures err { IfErr result (λ e. e ≢ TreeError.Memory → apply (Effect.Remove path.now) rows.now ≡ Err e) }
@@ -472,19 +471,19 @@ fn check_remove(rows: &[Row], path: &Path) -> Result<(), TreeError>
     if names.is_empty() {
         return Err(TreeError::RootFixed);
     }
-    if node_of(rows, names).is_none() {
+    if node_in(rows, names).is_none() {
         return Err(TreeError::Missing(path.copy()?));
     }
-    if let Some(child) = first_child(rows, names) {
-        return Err(TreeError::NotEmpty(path.copy()?, child.path.copy()?));
+    if let Some(name) = first_child(rows, names) {
+        return Err(TreeError::NotEmpty(path.copy()?, path.child(name)?));
     }
-    if version_of(rows, names) == u64::MAX {
+    if version_in(rows, names) == u64::MAX {
         return Err(TreeError::VersionTop(path.copy()?));
     }
     Ok(())
 }
 
-fn check_move(rows: &[Row], from: &Path, to: &Path) -> Result<(), TreeError>
+fn check_move(rows: &Counted, from: &Path, to: &Path) -> Result<(), TreeError>
     requires { IsTree rows.now }
     ensures ok { OnOk result (apply (Effect.Move from.now to.now) rows.now ≡ Ok (changed (Effect.Move from.now to.now) rows.now)) }
     ensures err { IfErr result (λ e. e ≢ TreeError.Memory → apply (Effect.Move from.now to.now) rows.now ≡ Err e) }
@@ -495,45 +494,45 @@ fn check_move(rows: &[Row], from: &Path, to: &Path) -> Result<(), TreeError>
     if old.is_empty() || new.is_empty() {
         return Err(TreeError::RootFixed);
     }
-    if !is_folder_at(rows, to.folder_names()) {
+    if !is_folder_in(rows, to.folder_names()) {
         return Err(TreeError::NoParent(to.folder()?));
     }
-    if node_of(rows, new).is_some() {
+    if node_in(rows, new).is_some() {
         return Err(TreeError::Exists(to.copy()?));
     }
-    if node_of(rows, old).is_none() {
+    if node_in(rows, old).is_none() {
         return Err(TreeError::Missing(from.copy()?));
     }
-    if is_folder_at(rows, old) {
+    if is_folder_in(rows, old) {
         return Err(TreeError::IsFolder(from.copy()?));
     }
     if lacks_room(rows, new) {
         return Err(TreeError::RowsFull(16384));
     }
-    if version_of(rows, old) == u64::MAX {
+    if version_in(rows, old) == u64::MAX {
         return Err(TreeError::VersionTop(from.copy()?));
     }
-    if version_of(rows, new) == u64::MAX {
+    if version_in(rows, new) == u64::MAX {
         return Err(TreeError::VersionTop(to.copy()?));
     }
     Ok(())
 }
 
 /// Makes the change of an effect that may be applied.
-fn change(rows: &mut Vec<Row>, effect: &Effect) -> Result<Undo, AllocError>
-    requires tree { IsTree rows.old.items }
-    requires allowed { apply effect.now rows.old.items ≡ Ok (changed effect.now rows.old.items) }
-    ensures ok { OnOk result (rows.new.items ≡ changed effect.now rows.old.items) }
-    ensures kept { IfOk result (λ undo. undo ≡ kept_rows effect.now rows.old.items) }
-    ensures err { OnErr result (rows.new.items ≡ rows.old.items) }
+fn change(rows: &mut Counted, effect: &Effect) -> Result<Undo, AllocError>
+    requires tree { IsTree rows.old }
+    requires allowed { apply effect.now rows.old ≡ Ok (changed effect.now rows.old) }
+    ensures ok { OnOk result (rows.new ≡ changed effect.now rows.old) }
+    ensures kept { IfOk result (λ undo. undo ≡ kept_rows effect.now rows.old) }
+    ensures err { OnErr result (rows.new ≡ rows.old) }
 {
     let first = match effect {
-        Effect::Make(path) => touch(rows, path.copy()?, Some(Node::Folder))?,
+        Effect::Make(path) => rows.touch(path.copy()?, Some(Node::Folder))?,
         Effect::Put(path, content) => {
             let node = Node::File(content.copy()?);
-            touch(rows, path.copy()?, Some(node))?
+            rows.touch(path.copy()?, Some(node))?
         }
-        Effect::Remove(path) => touch(rows, path.copy()?, None)?,
+        Effect::Remove(path) => rows.touch(path.copy()?, None)?,
         Effect::Move(from, to) => return move_node(rows, from, to),
     };
     Ok(Undo {
@@ -543,24 +542,24 @@ fn change(rows: &mut Vec<Row>, effect: &Effect) -> Result<Undo, AllocError>
 }
 
 /// Gives the node of a path to another.
-fn move_node(rows: &mut Vec<Row>, from: &Path, to: &Path) -> Result<Undo, AllocError>
-    requires tree { IsTree rows.old.items }
-    requires allowed { apply (Effect.Move from.now to.now) rows.old.items ≡ Ok (changed (Effect.Move from.now to.now) rows.old.items) }
-    ensures ok { OnOk result (rows.new.items ≡ changed (Effect.Move from.now to.now) rows.old.items) }
-    ensures kept { IfOk result (λ undo. undo ≡ kept_rows (Effect.Move from.now to.now) rows.old.items) }
-    ensures err { OnErr result (rows.new.items ≡ rows.old.items) }
+fn move_node(rows: &mut Counted, from: &Path, to: &Path) -> Result<Undo, AllocError>
+    requires tree { IsTree rows.old }
+    requires allowed { apply (Effect.Move from.now to.now) rows.old ≡ Ok (changed (Effect.Move from.now to.now) rows.old) }
+    ensures ok { OnOk result (rows.new ≡ changed (Effect.Move from.now to.now) rows.old) }
+    ensures kept { IfOk result (λ undo. undo ≡ kept_rows (Effect.Move from.now to.now) rows.old) }
+    ensures err { OnErr result (rows.new ≡ rows.old) }
 {
-    let node = copy_node(node_of(rows, from.names()))?;
+    let node = copy_node(node_in(rows, from.names()))?;
     let from = from.copy()?;
-    let second = touch(rows, to.copy()?, node)?;
-    let first = touch_again(rows, from, None);
+    let second = rows.touch(to.copy()?, node)?;
+    let first = rows.clear(from);
     Ok(Undo {
         first,
         second: Some(second),
     })
 }
 
-fn copy_node(node: Option<&Node>) -> Result<Option<Node>, AllocError>
+pub(crate) fn copy_node(node: Option<&Node>) -> Result<Option<Node>, AllocError>
     ensures { IfOk result (λ copied. copied ≡ option_copied node.entry) }
 {
     match node {
@@ -569,77 +568,48 @@ fn copy_node(node: Option<&Node>) -> Result<Option<Node>, AllocError>
     }
 }
 
-/// Sets the node of a path, counts this in its version, and gives the row from before.
-fn touch(rows: &mut Vec<Row>, path: Path, node: Option<Node>) -> Result<Row, AllocError>
-    requires in_order { AreInOrder rows.old.items }
-    requires below_top { is_at_top rows.old.items path ≡ false }
-    ensures ok { OnOk result (rows.new.items ≡ touched rows.old.items path node) }
-    ensures kept { IfOk result (λ kept. kept ≡ kept_row rows.old.items path) }
-    ensures err { OnErr result (rows.new.items ≡ rows.old.items) }
+fn node_in<'a>(rows: &'a Counted, path: &[Content]) -> Option<&'a Node>
+    ensures { option_copied result ≡ node_at rows.now path.now }
 {
-    match locate(rows, path.names()) {
-        Ok(i) => Ok(touch_row(&mut rows[i], path, node)),
-        Err(i) => {
-            let kept = Row {
-                path: path.copy()?,
-                version: 0,
-                node: None,
-            };
-            let row = Row {
-                path,
-                version: 1,
-                node,
-            };
-            rows.insert(i, row)?;
-            Ok(kept)
-        }
-    }
+    rows.arena().find(path).0
 }
 
-/// The same where the path has a row. It takes no memory.
-fn touch_again(rows: &mut Vec<Row>, path: Path, node: Option<Node>) -> Row
-    requires in_order { AreInOrder rows.old.items }
-    requires there { IsTrue (is_some (row_at rows.old.items path)) }
-    requires below_top { is_at_top rows.old.items path ≡ false }
-    ensures touched { rows.new.items ≡ touched rows.old.items path node }
-    ensures kept { result ≡ kept_row rows.old.items path }
+fn version_in(rows: &Counted, path: &[Content]) -> u64
+    ensures { result ≡ version_at rows.now path.now }
 {
-    match locate(rows, path.names()) {
-        Ok(i) => touch_row(&mut rows[i], path, node),
-        Err(_) => unreachable!(),
-    }
+    rows.arena().version(path)
 }
 
-fn touch_row(row: &mut Row, path: Path, node: Option<Node>) -> Row
-    requires { row.old.version ≢ 18446744073709551615 }
-    ensures kept { result ≡ row.old }
-    ensures new { row.new ≡ record { path = path; version = row.old.version + 1; node = node } }
+fn is_folder_in(rows: &Counted, path: &[Content]) -> bool
+    ensures { result ≡ is_folder rows.now path.now }
 {
-    let version = row.version + 1;
-    mem::replace(
-        row,
-        Row {
-            path,
-            version,
-            node,
-        },
-    )
+    path.is_empty() || matches!(node_in(rows, path), Some(Node::Folder))
 }
 
-/// Puts a kept row back.
-fn restore(rows: &mut Vec<Row>, kept: Row)
-    requires in_order { AreInOrder rows.old.items }
-    requires there { IsTrue (is_some (row_at rows.old.items kept.path)) }
-    ensures restored { rows.new.items ≡ restored rows.old.items kept }
-    ensures in_order { AreInOrder rows.new.items }
+/// Whether the path has no row and the rows are full.
+fn lacks_room(rows: &Counted, path: &[Content]) -> bool
+    requires { IsTree rows.now }
+    ensures { result ≡ has_no_room rows.now path.now }
 {
-    if let Ok(i) = locate(rows, kept.path.names()) {
-        if kept.version == 0 {
-            let _ = rows.remove(i);
-        } else {
-            rows[i] = kept;
-        }
-    }
+    version_in(rows, path) == 0 && rows.count() >= 16384
+}
+
+/// The bytes of all files but the one at the path.
+fn size_of_others(rows: &Counted, path: &[Content]) -> u64
+    requires { IsTree rows.now }
+    ensures value { result ≡ total_size rows.now - node_size (node_at rows.now path.now) }
+    ensures small { result ≤ 33554432 }
+{
+    rows.size() - size_at(node_in(rows, path))
+}
+
+/// The name of the first that stands in this folder.
+fn first_child<'a>(rows: &'a Counted, folder: &[Content]) -> Option<&'a Content>
+    requires { IsTree rows.now }
+    ensures refusal { option_map (λ child. TreeError.NotEmpty folder.now child.path) (find (is_child folder.now) rows.now) ≡ option_map (λ name. TreeError.NotEmpty folder.now (folder.now ++ name ∷ [])) (option_copied result) }
+    ensures path { IfSome (option_copied result) (λ name. IsPath (folder.now ++ name ∷ [])) }
+{
+    rows.arena().child(folder, 0)
 }
 
 fn node_of<'a>(rows: &'a [Row], path: &[Content]) -> Option<&'a Node>
@@ -650,29 +620,11 @@ fn node_of<'a>(rows: &'a [Row], path: &[Content]) -> Option<&'a Node>
     rows[i].node.as_ref()
 }
 
-fn version_of(rows: &[Row], path: &[Content]) -> u64
-    requires { AreInOrder rows.now }
-    ensures { result ≡ version_at rows.now path.now }
-{
-    match locate(rows, path) {
-        Ok(i) => rows[i].version,
-        Err(_) => 0,
-    }
-}
-
 pub(crate) fn is_folder_at(rows: &[Row], path: &[Content]) -> bool
     requires { AreInOrder rows.now }
     ensures { result ≡ is_folder rows.now path.now }
 {
     path.is_empty() || matches!(node_of(rows, path), Some(Node::Folder))
-}
-
-/// Whether the path has no row and the rows are full.
-fn lacks_room(rows: &[Row], path: &[Content]) -> bool
-    requires { AreInOrder rows.now }
-    ensures { result ≡ has_no_room rows.now path.now }
-{
-    locate(rows, path).is_err() && rows.len() >= 16384
 }
 
 pub(crate) fn size_of(node: &Option<Node>) -> u64
@@ -682,47 +634,6 @@ pub(crate) fn size_of(node: &Option<Node>) -> u64
         Some(Node::File(content)) => content.bytes().len() as u64,
         _ => 0,
     }
-}
-
-fn size_of_all(rows: &[Row]) -> u64
-    requires { total_size rows.now ≤ 33554432 }
-    ensures { result ≡ total_size rows.now }
-{
-    rows.iter().map(|row| size_of(&row.node)).sum()
-}
-
-/// The bytes of all files but the one at the path.
-fn size_of_others(rows: &[Row], path: &[Content]) -> u64
-    requires in_order { AreInOrder rows.now }
-    requires small { total_size rows.now ≤ 33554432 }
-    ensures value { result ≡ total_size rows.now - node_size (node_at rows.now path.now) }
-    ensures small { result ≤ 33554432 }
-{
-    let size = match locate(rows, path) {
-        Ok(i) => size_of(&rows[i].node),
-        Err(_) => 0,
-    };
-    size_of_all(rows) - size
-}
-
-/// Whether the row has a node and stands in this folder.
-fn is_child_of(row: &Row, folder: &[Content]) -> bool
-    ensures { result ≡ is_child folder.now row.now }
-{
-    row.node.is_some() && is_same(row.path.folder_names(), folder)
-}
-
-fn is_same(path: &[Content], other: &[Content]) -> bool
-    ensures { result ≡ is_same_path path.now other.now }
-{
-    path == other
-}
-
-/// The first row that has a node and stands in this folder.
-fn first_child<'a>(rows: &'a [Row], folder: &[Content]) -> Option<&'a Row>
-    ensures { option_copied result ≡ find (is_child folder.now) rows.now }
-{
-    rows.iter().find(|row| is_child_of(row, folder))
 }
 
 /// Where the row of a path stands, or else where it belongs.

@@ -9,6 +9,7 @@ use Rattle.wire_frames.specs.declared.message.Message.TheVariants.{Store, Pull, 
 use Rattle.world_rules.specs.declared.asking.Ask.{Ask}
 use Rattle.world_rules.specs.World.{World, IsFresh}
 use Rattle.world_rules.specs.InStep.{InStep, IsRefusal}
+use Rattle.world_rules.specs.Run.{kept_at}
 use Rattle.world_rules.proofs.Steps.{tree_at-acked}
 use Rattle.world_rules.proofs.Runs.{moved_runs, runs_in_step}
 
@@ -22,7 +23,7 @@ pub fresh_newer : (client : ℕ) (log : Log) (made : List Ask) (old new : World)
     → IsFresh (Pull client log.acked) (Snapshot client log.acked last seen) made old new → version_at log.base path ≤ version_at seen path
 fresh_newer client log made old new last seen path now none fresh =
     let then : InStep client log fresh.moment =
-    runs_in_step client [] [] (record { log = log; world = old }) (record { log = log; world = fresh.moment }) now (moved_runs client log (Pull client log.acked) [] old fresh.moment (refl, refl, none) fresh.before) in
+    runs_in_step client [] [] (kept_at log old) (kept_at log fresh.moment) now (moved_runs client log (Pull client log.acked) [] old fresh.moment (refl, refl, none) fresh.before) in
     let same : fresh.moment.served.volume ≡ seen = cc (fresh.is) in
     subst (λ v. version_at log.base path ≤ version_at v path) same (answered_newer client log fresh.moment path then none)
 

@@ -18,7 +18,7 @@ use Rattle.world_rules.specs.declared.asking.Ask.{Ask}
 use Rattle.world_rules.specs.Served.{IsServed}
 use Rattle.world_rules.specs.World.{World, Step, Send, Deliver, Other, happens, happen, noted, Is, IsAllowed, AreAllowed, Moved}
 use Rattle.world_rules.specs.InStep.{InStep, MaySend}
-use Rattle.world_rules.specs.Run.{State, Move, Network, Notes, Logs, Acknowledges, Pulls, moved, IsPossible, AllPossible, moved_by, entry_in, entries_in, ask_in, asks_in, taken_by, taken_in_move, taken_in, own, numbered, stores_between, Spares, IsSameAt, Runs}
+use Rattle.world_rules.specs.Run.{State, kept_at, restarted, AreInStep, MaySendKept, Move, Network, Notes, Logs, Acknowledges, Pulls, Saves, moved, IsPossible, AllPossible, moved_by, entry_in, entries_in, ask_in, asks_in, taken_by, taken_in_move, taken_in, own, numbered, stores_between, Spares, IsSameAt, Runs}
 use Rattle.world_rules.proofs.Asks.{kept_packet, noted-none, noted-noted}
 use Rattle.world_rules.proofs.Replies.{legal_effects}
 use Rattle.world_rules.proofs.Steps.{Agree, tree_at-acked, TakesFirst}
@@ -48,8 +48,19 @@ pulled_idle client acked tree (entry ∷ entries) seen last volume packets upto 
 same_world : (client : ℕ) (log next : Log) (world : World) → InStep client log world → Agree client next (world.served.last client) world.served.volume world.packets → InStep client next world
 same_world client log next world now agrees = in_step client next world now.about now.own_number now.valid now.served_is agrees
 
+-- what the kept log may send, the log in memory may send, and so may the kept one
+allowed_log : (client : ℕ) (state : State) (step : Step) → IsAllowed (MaySendKept client state) state.world step → IsAllowed (MaySend client state.log) state.world step
+allowed_log client state (Send message) may = may.0
+allowed_log client state (Deliver message joins) may = may
+allowed_log client state (Other message) may = may
+
+allowed_kept : (client : ℕ) (state : State) (step : Step) → IsAllowed (MaySendKept client state) state.world step → IsAllowed (MaySend client state.kept) state.world step
+allowed_kept client state (Send message) may = subst (λ log. MaySend client log message) (sym may.1) may.0
+allowed_kept client state (Deliver message joins) may = may
+allowed_kept client state (Other message) may = may
+
 pub move_keeps : (client : ℕ) (state : State) (move : Move) → InStep client state.log state.world → IsPossible client state move → InStep client (moved move state).log (moved move state).world
-move_keeps client state (Network step) now may = (steps_on client state.log state.world step now may).in_step
+move_keeps client state (Network step) now may = (steps_on client state.log state.world step now (allowed_log client state step may)).in_step
 move_keeps client state (Notes ask) now may = noted_in_step client state.log state.world (ask ∷ []) now
 move_keeps client state (Logs entry) now may = same_world client state.log _ state.world now (logged_agree client state.log _ _ _ (agree client state.log state.world now) entry may)
 move_keeps client state (Acknowledges reply) now may = same_world client state.log _ state.world now
@@ -58,10 +69,28 @@ move_keeps client state (Acknowledges reply) now may = same_world client state.l
     (agree client state.log state.world now))
 move_keeps client state (Pulls last seen) now may = same_world client state.log _ state.world now
     (pulled_idle client state.log.acked state.log.base state.log.pending seen _ _ _ last may.0 may.2 (agree client state.log state.world now))
+move_keeps client state Saves now may = now
 
 pub moves_keep : (client : ℕ) (moves : List Move) (state : State) → InStep client state.log state.world → AllPossible client state moves → InStep client (moved_by moves state).log (moved_by moves state).world
 moves_keep client [] state now may = now
 moves_keep client (move ∷ moves) state now may = moves_keep client moves (moved move state) (move_keeps client state move now may.0) may.1
+
+-- ---- and so does what is kept
+
+kept_moves : (client : ℕ) (state : State) (move : Move) → AreInStep client state → IsPossible client state move → InStep client (moved move state).kept (moved move state).world
+kept_moves client state (Network step) now may = (steps_on client state.kept state.world step now.kept (allowed_kept client state step may)).in_step
+kept_moves client state (Notes ask) now may = noted_in_step client state.kept state.world (ask ∷ []) now.kept
+kept_moves client state (Logs entry) now may = now.kept
+kept_moves client state (Acknowledges reply) now may = now.kept
+kept_moves client state (Pulls last seen) now may = now.kept
+kept_moves client state Saves now may = now.in_memory
+
+both_keep : (client : ℕ) (state : State) (move : Move) → AreInStep client state → IsPossible client state move → AreInStep client (moved move state)
+both_keep client state move now may = record { in_memory = move_keeps client state move now.in_memory may; kept = kept_moves client state move now may }
+
+moves_keep_both : (client : ℕ) (moves : List Move) (state : State) → AreInStep client state → AllPossible client state moves → AreInStep client (moved_by moves state)
+moves_keep_both client [] state now may = now
+moves_keep_both client (move ∷ moves) state now may = moves_keep_both client moves (moved move state) (both_keep client state move now may.0) may.1
 
 -- ---- the taken stores of the client are its entries, in order
 
@@ -166,14 +195,14 @@ module _ (client acked first : ℕ) (low : acked ≤ first) where
       }
 
   -- the acknowledged number goes up by one where an entry is pending
-  acknowledged_in_order : (world : World) (number : ℕ) (tree : Volume) (pending : List Entry) (entered : List Entry) (taken : List Message) → pending ≢ []
-      → InOrder (record { log = record { acked = number; base = tree; pending = pending }; world = world }) entered taken
-      → InOrder (record { log = acknowledged (number + 1) (record { acked = number; base = tree; pending = pending }); world = world }) entered taken
-  acknowledged_in_order world number tree [] entered taken some told = absurd (some refl)
-  acknowledged_in_order world number tree (entry ∷ entries) entered taken some told =
+  acknowledged_in_order : (world : World) (kept : Log) (number : ℕ) (tree : Volume) (pending : List Entry) (entered : List Entry) (taken : List Message) → pending ≢ []
+      → InOrder (record { log = record { acked = number; base = tree; pending = pending }; kept = kept; world = world }) entered taken
+      → InOrder (record { log = acknowledged (number + 1) (record { acked = number; base = tree; pending = pending }); kept = kept; world = world }) entered taken
+  acknowledged_in_order world kept number tree [] entered taken some told = absurd (some refl)
+  acknowledged_in_order world kept number tree (entry ∷ entries) entered taken some told =
       let within = drop_within (number - acked) entered entry entries (sym told.pending) in
       let more : number + 1 - acked ≡ suc (number - acked) = omega (arith, told.above) in
-      subst (λ log. InOrder (record { log = log; world = world }) entered taken) (sym (acknowledged-next number tree entry entries))
+      subst (λ log. InOrder (record { log = log; kept = kept; world = world }) entered taken) (sym (acknowledged-next number tree entry entries))
       (record {
         above = omega (arith, told.above);
         within = omega (arith, told.above, within);
@@ -188,14 +217,16 @@ module _ (client acked first : ℕ) (low : acked ≤ first) where
   move_in_order : (state : State) (move : Move) (entered : List Entry) (taken : List Message)
       → InStep client state.log state.world → IsPossible client state move → InOrder state entered taken → InOrder (moved move state) (entered ++ entry_in move) (taken ++ taken_in_move move state)
   move_in_order state (Network step) entered taken now may told =
-      let on = steps_on client state.log state.world step now may in
+      let on = steps_on client state.log state.world step now (allowed_log client state step may) in
       subst (λ es. InOrder (moved (Network step) state) es (taken ++ taken_by step state.world.served)) (sym (append-nil entered))
       (step_in_order state step entered taken (taken_by step state.world.served) on.takes told)
   move_in_order state (Notes ask) entered taken now may told =
       InOrder-nil _ entered taken (record { above = told.above; within = told.within; last_above = told.last_above; pending = told.pending; own_taken = told.own_taken })
   move_in_order state (Logs entry) entered taken now may told = logs_in_order state entry entered taken now told
-  move_in_order state (Acknowledges reply) entered taken now may told = InOrder-nil _ entered taken (acknowledged_in_order state.world state.log.acked state.log.base state.log.pending entered taken may.0 told)
+  move_in_order state (Acknowledges reply) entered taken now may told = InOrder-nil _ entered taken (acknowledged_in_order state.world state.kept state.log.acked state.log.base state.log.pending entered taken may.0 told)
   move_in_order state (Pulls last seen) entered taken now may told =
+      InOrder-nil _ entered taken (record { above = told.above; within = told.within; last_above = told.last_above; pending = told.pending; own_taken = told.own_taken })
+  move_in_order state Saves entered taken now may told =
       InOrder-nil _ entered taken (record { above = told.above; within = told.within; last_above = told.last_above; pending = told.pending; own_taken = told.own_taken })
 
   moves_in_order : (moves : List Move) (state : State) (entered : List Entry) (taken : List Message)
@@ -237,13 +268,14 @@ AllSpare client path taken = (message : Message) → IsIn message taken → clie
 
 move_spares : (client : ℕ) (path : FilePath) (state : State) (move : Move) → AllSpare client path (taken_in_move move state)
     → InStep client state.log state.world → IsPossible client state move → IsSameVersion client state.log state.world path → IsSameVersion client (moved move state).log (moved move state).world path
-move_spares client path state (Network step) spare now may same = (steps_on client state.log state.world step now may).same path spare same
+move_spares client path state (Network step) spare now may same = (steps_on client state.log state.world step now (allowed_log client state step may)).same path spare same
 move_spares client path state (Notes ask) spare now may same = same
 move_spares client path state (Logs entry) spare now may same = ap (λ t. version_at t path) (tree_at-logged client state.log _ _ _ (agree client state.log state.world now) entry) ∙ same
 move_spares client path state (Acknowledges reply) spare now may same =
     acknowledged_same client state.log.acked state.log.base state.log.pending _ _ _ path may.0
     (accepted_at_most client state.log state.world (state.log.acked + 1) reply now may.1 may.2) (agree client state.log state.world now) same
 move_spares client path state (Pulls last seen) spare now may same = pulled_same client state.log seen _ _ _ last path may.0 may.2 (may.3 path) (agree client state.log state.world now) same
+move_spares client path state Saves spare now may same = same
 
 moves_spare : (client : ℕ) (path : FilePath) (moves : List Move) (state : State) → AllSpare client path (taken_in moves state)
     → InStep client state.log state.world → AllPossible client state moves → IsSameVersion client state.log state.world path → IsSameVersion client (moved_by moves state).log (moved_by moves state).world path
@@ -253,7 +285,31 @@ moves_spare client path (move ∷ moves) state spare now may same =
     let same_next = move_spares client path state move (λ message among. spare message (IsIn-left message _ _ among)) now may.0 same in
     moves_spare client path moves (moved move state) (λ message among. spare message (IsIn-right message _ _ among)) next may.1 same_next
 
+-- what is kept has the path's version, too
+kept_spares : (client : ℕ) (path : FilePath) (state : State) (move : Move) → AllSpare client path (taken_in_move move state) → AreInStep client state → IsPossible client state move
+    → IsSameVersion client state.log state.world path → IsSameVersion client state.kept state.world path → IsSameVersion client (moved move state).kept (moved move state).world path
+kept_spares client path state (Network step) spare now may same kept = (steps_on client state.kept state.world step now.kept (allowed_kept client state step may)).same path spare kept
+kept_spares client path state (Notes ask) spare now may same kept = kept
+kept_spares client path state (Logs entry) spare now may same kept = kept
+kept_spares client path state (Acknowledges reply) spare now may same kept = kept
+kept_spares client path state (Pulls last seen) spare now may same kept = kept
+kept_spares client path state Saves spare now may same kept = same
+
+kept_moves_spare : (client : ℕ) (path : FilePath) (moves : List Move) (state : State) → AllSpare client path (taken_in moves state) → AreInStep client state → AllPossible client state moves
+    → IsSameVersion client state.log state.world path → IsSameVersion client state.kept state.world path → IsSameVersion client (moved_by moves state).kept (moved_by moves state).world path
+kept_moves_spare client path [] state spare now may same kept = kept
+kept_moves_spare client path (move ∷ moves) state spare now may same kept =
+    let first = λ (message : Message) (among : IsIn message (taken_in_move move state)). spare message (IsIn-left message _ _ among) in
+    kept_moves_spare client path moves (moved move state) (λ message among. spare message (IsIn-right message _ _ among)) (both_keep client state move now may.0) may.1
+    (move_spares client path state move first now.in_memory may.0 same) (kept_spares client path state move first now may.0 same kept)
+
 -- ---- whole runs
+
+pub both_in_step : (client : ℕ) (entries : List Entry) (made : List Ask) (old new : State) → AreInStep client old → Runs client entries made old new → AreInStep client new
+both_in_step client entries made old new now runs = subst (AreInStep client) (sym runs.result) (moves_keep_both client runs.moves old now runs.possible)
+
+pub restarts : (client : ℕ) (state : State) → AreInStep client state → AreInStep client (restarted state)
+restarts client state now = record { in_memory = now.kept; kept = now.kept }
 
 pub runs_in_step : (client : ℕ) (entries : List Entry) (made : List Ask) (old new : State) → InStep client old.log old.world → Runs client entries made old new → InStep client new.log new.world
 runs_in_step client entries made old new now runs = subst (λ s. InStep client s.log s.world) (sym runs.result) (moves_keep client runs.moves old now runs.possible)
@@ -293,6 +349,15 @@ path_is_same client entries made old new path now runs e spare =
     let end = runs_in_step client entries made old new now runs in
     record { version = sym same_new; node = sym (end.behind.nodes path same_new) }
 
+pub path_is_kept : (client : ℕ) (entries : List Entry) (made : List Ask) (old new : State) (path : FilePath) → AreInStep client old → old.kept ≡ old.log → (runs : Runs client entries made old new)
+    → version_at old.world.served.volume path ≡ version_at (tree_at (old.world.served.last client) old.log) path → AllSpare client path (taken_in runs.moves old) → IsSameAt client new.kept new.world path
+path_is_kept client entries made old new path now begins runs e spare =
+    let same_kept = subst (λ log. IsSameVersion client log old.world path) (sym begins) (sym e) in
+    let same = kept_moves_spare client path runs.moves old spare now runs.possible (sym e) same_kept in
+    let same_new = subst (λ s. IsSameVersion client s.kept s.world path) (sym runs.result) same in
+    let end = (both_in_step client entries made old new now runs).kept in
+    record { version = sym same_new; node = sym (end.behind.nodes path same_new) }
+
 -- ---- a client that writes alone
 
 -- the client's tree after some of its entries is a tree
@@ -305,14 +370,25 @@ after-tree (suc k) number (entry ∷ entries) volume tree are =
 pub tree_at-tree : (number : ℕ) (log : Log) → IsLog log → IsTree (tree_at number log)
 tree_at-tree number log is = after-tree (number - log.acked) (log.acked + 1) log.pending log.base is.base_is is.entries
 
+-- a log in step that has at each path the served version has the served tree
+served_tree : (client : ℕ) (log : Log) (world : World) → InStep client log world → ((path : FilePath) → IsSameAt client log world path) → world.served.volume ≡ tree_at (world.served.last client) log
+served_tree client log world now at =
+    sym (same_volume (tree_at (world.served.last client) log) world.served.volume now.behind (tree_at-tree (world.served.last client) log now.log_is) now.served_is.tree
+    (λ path. omega (arith, (at path).version)))
+
 pub lone_tree : (client : ℕ) (entries : List Entry) (made : List Ask) (old new : State) → InStep client old.log old.world → (runs : Runs client entries made old new)
     → ((message : Message) → IsIn message (taken_in runs.moves old) → client_of message ≡ client)
     → old.world.served.volume ≡ tree_at (old.world.served.last client) old.log → new.world.served.volume ≡ tree_at (new.world.served.last client) new.log
 lone_tree client entries made old new now runs alone same =
-    let end = runs_in_step client entries made old new now runs in
-    let at = λ (path : FilePath). path_is_same client entries made old new path now runs (ap (λ v. version_at v path) same) (λ message among differ. absurd (differ (alone message among))) in
-    sym (same_volume (tree_at (new.world.served.last client) new.log) new.world.served.volume end.behind (tree_at-tree (new.world.served.last client) new.log end.log_is) end.served_is.tree
-    (λ path. omega (arith, (at path).version)))
+    served_tree client new.log new.world (runs_in_step client entries made old new now runs)
+    (λ path. path_is_same client entries made old new path now runs (ap (λ v. version_at v path) same) (λ message among differ. absurd (differ (alone message among))))
+
+pub lone_kept : (client : ℕ) (entries : List Entry) (made : List Ask) (old new : State) → AreInStep client old → old.kept ≡ old.log → (runs : Runs client entries made old new)
+    → ((message : Message) → IsIn message (taken_in runs.moves old) → client_of message ≡ client)
+    → old.world.served.volume ≡ tree_at (old.world.served.last client) old.log → new.world.served.volume ≡ tree_at (new.world.served.last client) new.kept
+lone_kept client entries made old new now begins runs alone same =
+    served_tree client new.kept new.world (both_in_step client entries made old new now runs).kept
+    (λ path. path_is_kept client entries made old new path now begins runs (ap (λ v. version_at v path) same) (λ message among differ. absurd (differ (alone message among))))
 
 test_is : (client : ℕ) (message : Message) → client_of message ≡ client → (client_of message == client) ≡ true
 test_is client message is = grind (arith, nat_tests)
@@ -386,36 +462,36 @@ runs_then client es fs m n old mid new first second = record {
 pub runs_once : (client : ℕ) (state : State) (move : Move) → IsPossible client state move → Runs client (entry_in move) (ask_in move) state (moved move state)
 runs_once client state move may = record { moves = move ∷ []; entries = append-nil (entry_in move); asks = append-nil (ask_in move); possible = (may, tt); result = refl }
 
--- ---- what a link tells of one request that the log may send
+-- ---- what a link tells of one request that the kept log may send
 
-request_allowed : (client : ℕ) (log : Log) (request : Message) (world : World) (step : Step) → MaySend client log request → IsAllowed (Is request) world step → IsAllowed (MaySend client log) world step
-request_allowed client log request world (Send message) may is = subst (MaySend client log) (sym is) may
+request_allowed : (client : ℕ) (log : Log) (request : Message) (world : World) (step : Step) → MaySend client log request → IsAllowed (Is request) world step → IsAllowed (MaySendKept client (kept_at log world)) world step
+request_allowed client log request world (Send message) may is = (subst (MaySend client log) (sym is) may, refl)
 request_allowed client log request world (Deliver message joins) may is = is
 request_allowed client log request world (Other message) may is = is
 
 steps_run : (client : ℕ) (log : Log) (request : Message) (steps : List Step) (world : World) → MaySend client log request → AreAllowed (Is request) world steps
-    → Runs client [] [] (record { log = log; world = world }) (record { log = log; world = happen steps world })
-steps_run client log request [] world may are = runs_none client (record { log = log; world = world })
+    → Runs client [] [] (kept_at log world) (kept_at log (happen steps world))
+steps_run client log request [] world may are = runs_none client (kept_at log world)
 steps_run client log request (step ∷ steps) world may are =
-    runs_then client [] [] [] [] (record { log = log; world = world }) (record { log = log; world = happens step world }) (record { log = log; world = happen steps (happens step world) })
-    (runs_once client (record { log = log; world = world }) (Network step) (request_allowed client log request world step may are.0))
+    runs_then client [] [] [] [] (kept_at log world) (kept_at log (happens step world)) (kept_at log (happen steps (happens step world)))
+    (runs_once client (kept_at log world) (Network step) (request_allowed client log request world step may are.0))
     (steps_run client log request steps (happens step world) may are.1)
 
-notes_run : (client : ℕ) (log : Log) (made : List Ask) (world : World) → Runs client [] made (record { log = log; world = world }) (record { log = log; world = noted made world })
+notes_run : (client : ℕ) (log : Log) (made : List Ask) (world : World) → Runs client [] made (kept_at log world) (kept_at log (noted made world))
 notes_run client log [] world =
-    subst (λ w. Runs client [] [] (record { log = log; world = world }) (record { log = log; world = w })) (sym (noted-none world)) (runs_none client (record { log = log; world = world }))
+    subst (λ w. Runs client [] [] (kept_at log world) (kept_at log w)) (sym (noted-none world)) (runs_none client (kept_at log world))
 notes_run client log (ask ∷ made) world =
     let rest = notes_run client log made (noted (ask ∷ []) world) in
-    subst (λ w. Runs client [] (ask ∷ made) (record { log = log; world = world }) (record { log = log; world = w })) (noted-noted (ask ∷ []) made world)
-    (runs_then client [] [] (ask ∷ []) made (record { log = log; world = world }) (record { log = log; world = noted (ask ∷ []) world }) (record { log = log; world = noted made (noted (ask ∷ []) world) })
-    (runs_once client (record { log = log; world = world }) (Notes ask) tt) rest)
+    subst (λ w. Runs client [] (ask ∷ made) (kept_at log world) (kept_at log w)) (noted-noted (ask ∷ []) made world)
+    (runs_then client [] [] (ask ∷ []) made (kept_at log world) (kept_at log (noted (ask ∷ []) world)) (kept_at log (noted made (noted (ask ∷ []) world)))
+    (runs_once client (kept_at log world) (Notes ask) tt) rest)
 
--- while a request is asked that the log may send, the world goes on by possible moves
+-- while a request is asked that the kept log may send, the world goes on by possible moves
 pub moved_runs : (client : ℕ) (log : Log) (request : Message) (made : List Ask) (old new : World) → MaySend client log request → Moved request made old new
-    → Runs client [] made (record { log = log; world = old }) (record { log = log; world = new })
+    → Runs client [] made (kept_at log old) (kept_at log new)
 moved_runs client log request made old new may moves =
-    subst (λ w. Runs client [] made (record { log = log; world = old }) (record { log = log; world = w })) (sym moves.result)
-    (runs_then client [] [] [] made (record { log = log; world = old }) (record { log = log; world = happen moves.steps old }) (record { log = log; world = noted made (happen moves.steps old) })
+    subst (λ w. Runs client [] made (kept_at log old) (kept_at log w)) (sym moves.result)
+    (runs_then client [] [] [] made (kept_at log old) (kept_at log (happen moves.steps old)) (kept_at log (noted made (happen moves.steps old)))
     (steps_run client log request moves.steps old may moves.allowed)
     (notes_run client log made (happen moves.steps old)))
 
@@ -432,6 +508,7 @@ taken_by_move (Notes ask) state = sym (append-nil state.world.taken)
 taken_by_move (Logs entry) state = sym (append-nil state.world.taken)
 taken_by_move (Acknowledges reply) state = sym (append-nil state.world.taken)
 taken_by_move (Pulls last seen) state = sym (append-nil state.world.taken)
+taken_by_move Saves state = sym (append-nil state.world.taken)
 
 taken_grows : (moves : List Move) (state : State) → (moved_by moves state).world.taken ≡ state.world.taken ++ taken_in moves state
 taken_grows [] state = sym (append-nil state.world.taken)
@@ -454,6 +531,7 @@ asked_by_move (Notes ask) state = refl
 asked_by_move (Logs entry) state = sym (append-nil state.world.asks)
 asked_by_move (Acknowledges reply) state = sym (append-nil state.world.asks)
 asked_by_move (Pulls last seen) state = sym (append-nil state.world.asks)
+asked_by_move Saves state = sym (append-nil state.world.asks)
 
 asks_grow : (moves : List Move) (state : State) → (moved_by moves state).world.asks ≡ state.world.asks ++ asks_in moves
 asks_grow [] state = sym (append-nil state.world.asks)
@@ -471,6 +549,7 @@ packet_stays (Notes ask) state message among = among
 packet_stays (Logs entry) state message among = among
 packet_stays (Acknowledges reply) state message among = among
 packet_stays (Pulls last seen) state message among = among
+packet_stays Saves state message among = among
 
 packets_stay : (moves : List Move) (state : State) (message : Message) → IsIn message state.world.packets → IsIn message (moved_by moves state).world.packets
 packets_stay [] state message among = among

@@ -12,14 +12,17 @@ use Rattle.world_rules.specs.declared.asking.Ask.{Ask}
 use Rattle.world_rules.specs.Served.{IsServed}
 use Rattle.world_rules.specs.World.{World, Step, happen, IsReplayed, Moved, IsFresh}
 use Rattle.world_rules.specs.InStep.{InStep, MaySend, IsRefusal}
-use Rattle.world_rules.specs.Run.{State, Runs, taken_in, own, stores_between, Spares, IsSameAt}
+use Rattle.world_rules.specs.Run.{State, kept_at, restarted, AreInStep, Runs, taken_in, own, stores_between, Spares, IsSameAt}
 
 -- ---- in step
 
--- Every run from a log in step ends in step.
+-- Every run in which the log and what is kept of it begin in step leaves both in step, also where a keeping was refused.
 abbrev pub RunsStayInStep : Type 0
-RunsStayInStep = (client : ℕ) (entries : List Entry) (made : List Ask) (old new : State) → InStep client old.log old.world → Runs client entries made old new
-    → InStep client new.log new.world
+RunsStayInStep = (client : ℕ) (entries : List Entry) (made : List Ask) (old new : State) → AreInStep client old → Runs client entries made old new → AreInStep client new
+
+-- And so does a new beginning with what is kept.
+abbrev pub RestartsStayInStep : Type 0
+RestartsStayInStep = (client : ℕ) (state : State) → AreInStep client state → AreInStep client (restarted state)
 
 -- A new client is in step with each served state that took nothing of it, where no message of it was sent.
 abbrev pub NewClientsAreInStep : Type 0
@@ -27,10 +30,10 @@ NewClientsAreInStep = (client : ℕ) (world : World) → world.client ≡ client
     → ((message : Message) → IsIn message world.packets → (client_of message ≢ client) × IsValid message)
     → InStep client new_log world
 
--- While a request is asked that the log may send, the world goes on by possible moves, in which the asks are noted.
+-- While a request is asked that the kept log may send, the world goes on by possible moves, in which the asks are noted.
 abbrev pub AsksArePossible : Type 0
 AsksArePossible = (client : ℕ) (log : Log) (request : Message) (made : List Ask) (old new : World) → MaySend client log request → Moved request made old new
-    → Runs client [] made (record { log = log; world = old }) (record { log = log; world = new })
+    → Runs client [] made (kept_at log old) (kept_at log new)
 
 -- ---- entries
 
@@ -62,6 +65,14 @@ SparedPathsAreTheClients = (client : ℕ) (entries : List Entry) (made : List As
     → ((message : Message) → IsIn message (taken_in runs.moves old) → client_of message ≢ client → Spares path message)
     → IsSameAt client new.log new.world path
 
+-- And so has the tree that is kept, where the run began with the client's log kept.
+abbrev pub SparedPathsAreKept : Type 0
+SparedPathsAreKept = (client : ℕ) (entries : List Entry) (made : List Ask) (old new : State) (path : FilePath) → AreInStep client old → old.kept ≡ old.log
+    → (runs : Runs client entries made old new)
+    → version_at old.world.served.volume path ≡ version_at (tree_at (old.world.served.last client) old.log) path
+    → ((message : Message) → IsIn message (taken_in runs.moves old) → client_of message ≢ client → Spares path message)
+    → IsSameAt client new.kept new.world path
+
 -- Where only the client's own stores are taken in a run, and it begins with the client's tree served, it ends with the
 -- client's tree after the entries that were taken.
 abbrev pub LoneClientsAreServedTheirTree : Type 0
@@ -69,6 +80,14 @@ LoneClientsAreServedTheirTree = (client : ℕ) (entries : List Entry) (made : Li
     → ((message : Message) → IsIn message (taken_in runs.moves old) → client_of message ≡ client)
     → old.world.served.volume ≡ tree_at (old.world.served.last client) old.log
     → new.world.served.volume ≡ tree_at (new.world.served.last client) new.log
+
+-- And so is the tree that is kept.
+abbrev pub LoneClientsTreeIsKept : Type 0
+LoneClientsTreeIsKept = (client : ℕ) (entries : List Entry) (made : List Ask) (old new : State) → AreInStep client old → old.kept ≡ old.log
+    → (runs : Runs client entries made old new)
+    → ((message : Message) → IsIn message (taken_in runs.moves old) → client_of message ≡ client)
+    → old.world.served.volume ≡ tree_at (old.world.served.last client) old.log
+    → new.world.served.volume ≡ tree_at (new.world.served.last client) new.kept
 
 -- ---- what a world tells
 

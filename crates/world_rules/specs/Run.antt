@@ -1,4 +1,4 @@
--- A client and the world as both go on: what the network does, and what the client does to its log.
+-- A client and the world as both go on: what the network does, what the client does to its log, and what is kept of it.
 use Rattle.std.specs.Prelude.{◌≡◌, ◌≢◌, ℕ, ◌+◌, ◌-◌, ◌==◌, ◌≤◌, List, [], ◌∷◌, ◌++◌, take, drop, filter}
 use Rattle.vol_tree.specs.Path.{FilePath}
 use Rattle.vol_tree.specs.Effects.{touched_all}
@@ -12,12 +12,21 @@ use Rattle.wire_frames.specs.Frame.{client_of}
 use Rattle.world_rules.specs.Served.{Served, taken_of}
 use Rattle.world_rules.specs.World.{World, Step, Deliver, happens, noted, IsAllowed}
 use Rattle.world_rules.specs.declared.asking.Ask.{Ask}
-use Rattle.world_rules.specs.InStep.{MaySend}
+use Rattle.world_rules.specs.InStep.{InStep, MaySend}
 
--- The client's log, and the world. A log that is kept outside memory becomes a further field, and keeping it a further move.
+-- the client's log in memory, the log that is kept of it outside memory, and the world
 pub record State : Type 0 where
   pub log : Log
+  pub kept : Log
   pub world : World
+
+-- a client whose log is kept, in the world
+abbrev pub kept_at : Log → World → State
+kept_at log world = record { log = log; kept = log; world = world }
+
+-- a client that begins anew with what is kept
+abbrev pub restarted : State → State
+restarted state = kept_at state.kept state.world
 
 -- What may come next for a client in its world.
 pub data Move : Type 0 where
@@ -31,25 +40,35 @@ pub data Move : Type 0 where
   Acknowledges : Message → Move
   -- the client takes these rows of a snapshot as its base
   Pulls : ℕ → Volume → Move
+  -- The client's log is kept from here on. A keeping that is refused is this move, too, where it leaves what was to be kept,
+  -- and no move where it leaves what was kept before.
+  Saves : Move
 
 -- the state after a move
 abbrev pub moved : Move → State → State
-moved (Network step) state = record { log = state.log; world = happens step state.world }
-moved (Notes ask) state = record { log = state.log; world = noted (ask ∷ []) state.world }
-moved (Logs entry) state = record { log = logged entry state.log; world = state.world }
-moved (Acknowledges reply) state = record { log = acknowledged (state.log.acked + 1) state.log; world = state.world }
-moved (Pulls last seen) state = record { log = pulled seen state.log; world = state.world }
+moved (Network step) state = record { log = state.log; kept = state.kept; world = happens step state.world }
+moved (Notes ask) state = record { log = state.log; kept = state.kept; world = noted (ask ∷ []) state.world }
+moved (Logs entry) state = record { log = logged entry state.log; kept = state.kept; world = state.world }
+moved (Acknowledges reply) state = record { log = acknowledged (state.log.acked + 1) state.log; kept = state.kept; world = state.world }
+moved (Pulls last seen) state = record { log = pulled seen state.log; kept = state.kept; world = state.world }
+moved Saves state = kept_at state.log state.world
 
--- The client sends what its log may send, logs an entry with which it has a log, acknowledges on a reply that was sent, and
--- pulls a snapshot that was sent, has its acknowledged number as the last and is at no path older than its base.
+-- the client sends what its log may send, and only while this very log is kept
+abbrev pub MaySendKept : ℕ → State → Message → Type 0
+MaySendKept client state message = MaySend client state.log message × (state.kept ≡ state.log)
+
+-- The client sends what its kept log may send, logs an entry with which it has a log, acknowledges on a reply that was sent, and
+-- pulls a snapshot that was sent, has its acknowledged number as the last and is at no path older than its base. It may be kept
+-- at any time.
 abbrev pub IsPossible : ℕ → State → Move → Type 0
-IsPossible client state (Network step) = IsAllowed (MaySend client state.log) state.world step
+IsPossible client state (Network step) = IsAllowed (MaySendKept client state) state.world step
 IsPossible client state (Notes ask) = Unit {0}
 IsPossible client state (Logs entry) = IsLog (logged entry state.log)
 IsPossible client state (Acknowledges reply) = (state.log.pending ≢ []) × (reply ≡ Accepted client (state.log.acked + 1)) × IsIn reply state.world.packets
 IsPossible client state (Pulls last seen) =
     (state.log.pending ≡ []) × (last ≡ state.log.acked) × IsIn (Snapshot client state.log.acked last seen) state.world.packets
     × ((path : FilePath) → version_at state.log.base path ≤ version_at seen path)
+IsPossible client state Saves = Unit {0}
 
 -- each move is possible after those before it
 abbrev pub AllPossible : ℕ → State → List Move → Type 0
@@ -118,6 +137,11 @@ Spares path message = Unit {0}
 pub record IsSameAt (client : ℕ) (log : Log) (world : World) (path : FilePath) : Type 0 where
   pub version : version_at world.served.volume path ≡ version_at (tree_at (world.served.last client) log) path
   pub node : node_at world.served.volume path ≡ node_at (tree_at (world.served.last client) log) path
+
+-- What the client has in memory, and what is kept of it, are both in step with the world.
+pub record AreInStep (client : ℕ) (state : State) : Type 0 where
+  pub in_memory : InStep client state.log state.world
+  pub kept : InStep client state.kept state.world
 
 -- The state went on by possible moves, in which these entries were logged and these asks were made.
 pub record Runs (client : ℕ) (logged_entries : List Entry) (made : List Ask) (old new : State) : Type 0 where

@@ -1,9 +1,11 @@
 // What holds of every run of a client in its world, as contracts of calls that do nothing.
-ghost use Rattle.world_rules.specs.Laws.{RunsStayInStep, NewClientsAreInStep, AsksArePossible, EntriesAreTakenOnce, LaterEntriesArePending, LoneClientsEntriesAreTaken, SparedPathsAreTheClients, LoneClientsAreServedTheirTree, ServedIsReplayed, RunsTellWhatIsTaken, RunsTellWhatIsAsked, PacketsStay, AcceptedEntriesWereTaken, NoGapComes, StaleNamesAPathAhead, RefusalsShowAPathAhead, PullsFindTheirNumber, FreshPullsAreNotOlder};
+ghost use Rattle.world_rules.specs.Laws.{RunsStayInStep, RestartsStayInStep, NewClientsAreInStep, AsksArePossible, EntriesAreTakenOnce, LaterEntriesArePending, LoneClientsEntriesAreTaken, SparedPathsAreTheClients, SparedPathsAreKept, LoneClientsAreServedTheirTree, LoneClientsTreeIsKept, ServedIsReplayed, RunsTellWhatIsTaken, RunsTellWhatIsAsked, PacketsStay, AcceptedEntriesWereTaken, NoGapComes, StaleNamesAPathAhead, RefusalsShowAPathAhead, PullsFindTheirNumber, FreshPullsAreNotOlder};
 
-/// Every run from a log in step ends in step, a new client begins in step, and asking is a run.
+/// Every run from a log in step ends in step, with what is kept of the log, and so does a new beginning with that. A
+/// new client begins in step, and asking is a run.
 pub fn runs_stay_in_step()
     ensures runs { RunsStayInStep }
+    ensures restarts { RestartsStayInStep }
     ensures beginning { NewClientsAreInStep }
     ensures asking { AsksArePossible }
 {}
@@ -16,10 +18,12 @@ pub fn entries_are_taken_once()
     ensures alone { LoneClientsEntriesAreTaken }
 {}
 
-/// Where no other client writes, the server has what the client's tree had.
+/// Where no other client writes, the server has what the client's tree had, and what the kept tree has.
 pub fn unshared_paths_are_the_clients()
     ensures spared { SparedPathsAreTheClients }
+    ensures spared_kept { SparedPathsAreKept }
     ensures alone { LoneClientsAreServedTheirTree }
+    ensures alone_kept { LoneClientsTreeIsKept }
 {}
 
 /// A world tells what was taken, asked and sent in a run, and what is served follows from it.

@@ -1,6 +1,7 @@
-use Rattle.std.proofs.Common.{◌≡◌, ℕ, List, [], ◌∷◌, Err, arith, sym, subst}
+use Rattle.std.proofs.Common.{◌≡◌, ℕ, List, [], ◌∷◌, Ok, Err, refl, arith, sym, subst}
 use Rattle.std.proofs.lemmas.Bool.Decides.{nat_tests}
 use Rattle.outside.specs.Outside.{Told}
+use Rattle.mod_log.specs.Log.{Log}
 use Rattle.world_rules.proofs.Asks.{told_start}
 use Rattle.shell_lang.specs.Lines.{last_line}
 use Rattle.client_core.specs.Trace.{nothing}
@@ -16,10 +17,15 @@ returns-then-is_empty-clause-world g c =
     let r = c.args.route.now in
     let s = c.args.session.now in
     let t = g.L.Link.troubles c.args.link.now in
+    let i = g.K.Keeper.images c.args.keeper.now in
     let o = g.O.Sink.written c.args.output.now in
     let none : last_line c.args.line.now ≡ [] = last_line_none c.args.line.now (grind (arith, nat_tests)) in
-    told_start _ (λ x y. Does (AllAnswered r s (last_line c.args.line.now) o o s) s s t t x y)
-    (λ x. does_none _ s t x (subst (λ (ls : List (List ℕ)). AllAnswered r s ls o o s nothing) (sym none) (answers_nothing r s o)))
+    told_start _ (λ x y. (kept : Log) × Does r.image (AnswersLines {T = Unit {0}} r s (last_line c.args.line.now) o o (Ok tt) s kept) s s kept i i t t x y)
+    (λ x. (
+      s.client.log,
+      does_none r.image (AnswersLines {T = Unit {0}} r s (last_line c.args.line.now) o o (Ok tt) s s.client.log) s i t x c.requires
+          (subst (λ (ls : List (List ℕ)). AllAnswered r s ls o o s nothing) (sym none) (answers_nothing r s o), refl),
+    ))
 
 pub returns-in-Ok-clause-world : goal.returns-in-Ok-clause-world
 returns-in-Ok-clause-world g c =
@@ -28,10 +34,12 @@ returns-in-Ok-clause-world g c =
     let b = c.answer.new.session in
     let t = g.L.Link.troubles c.args.link.now in
     let u = g.L.Link.troubles c.answer.new.link in
+    let i = g.K.Keeper.images c.args.keeper.now in
+    let j = g.K.Keeper.images c.answer.new.keeper in
     let o = g.O.Sink.written c.args.output.now in
     let n = g.O.Sink.written c.answer.new.output in
     let one : last_line c.args.line.now ≡ c.args.line.now ∷ [] = last_line_some c.args.line.now (grind (arith, nat_tests)) in
-    subst (λ (ls : List (List ℕ)). Told (g.L.Link.world c.args.link.now) (g.L.Link.world c.answer.new.link) (λ x y. Does (AllAnswered r a ls o n b) a b t u x y))
+    subst (λ (ls : List (List ℕ)). Told (g.L.Link.world c.args.link.now) (g.L.Link.world c.answer.new.link) (λ x y. (kept : Log) × Does r.image (AnswersLines {T = Unit {0}} r a ls o n (Ok tt) b kept) a b kept i j t u x y))
     (sym one) c.in-Ok.ensures.world
 
 pub returns-in-Err-clause-world : goal.returns-in-Err-clause-world
@@ -41,8 +49,10 @@ returns-in-Err-clause-world g c =
     let b = c.answer.new.session in
     let t = g.L.Link.troubles c.args.link.now in
     let u = g.L.Link.troubles c.answer.new.link in
+    let i = g.K.Keeper.images c.args.keeper.now in
+    let j = g.K.Keeper.images c.answer.new.keeper in
     let o = g.O.Sink.written c.args.output.now in
     let n = g.O.Sink.written c.answer.new.output in
     let one : last_line c.args.line.now ≡ c.args.line.now ∷ [] = last_line_some c.args.line.now (grind (arith, nat_tests)) in
-    subst (λ (ls : List (List ℕ)). Told (g.L.Link.world c.args.link.now) (g.L.Link.world c.answer.new.link) (λ x y. Does (AnswersLines {T = Unit {0}} r a ls o n (Err c.in-Err.stop) b) a b t u x y))
+    subst (λ (ls : List (List ℕ)). Told (g.L.Link.world c.args.link.now) (g.L.Link.world c.answer.new.link) (λ x y. (kept : Log) × Does r.image (AnswersLines {T = Unit {0}} r a ls o n (Err c.in-Err.stop) b kept) a b kept i j t u x y))
     (sym one) c.in-Err.ensures.world

@@ -1,9 +1,13 @@
 use Rattle.mod_log.proofs.Entries.{acknowledged_is_log, acknowledged_keeps, pulled_is_log, pulled_replaces, new_is_log, holds_trees}
 use Rattle.mod_log.proofs.Appending.{appended_adds}
+use Rattle.mod_log.proofs.Fitting.{fit_is_appended}
 use Rattle.mod_log.proofs.laws.logs_keep_their_trees.Goals as goal
 
 pub returns-clause-appending : goal.returns-clause-appending
 returns-clause-appending c = appended_adds
+
+pub returns-clause-fitting : goal.returns-clause-fitting
+returns-clause-fitting c = fit_is_appended
 
 pub returns-clause-acknowledging : goal.returns-clause-acknowledging
 returns-clause-acknowledging c = λ log number is lower upper. (acknowledged_is_log log number is lower upper, acknowledged_keeps log number)

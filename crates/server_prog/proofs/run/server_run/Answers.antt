@@ -1,15 +1,16 @@
-use Rattle.std.proofs.Common.{Option, sym, subst}
+use Rattle.std.proofs.Common.{ℕ, List, Option, sym, subst}
 use Rattle.std.specs.Prelude.{IfSome}
+use Rattle.outside.specs.Keeper.{kept_under}
 use Rattle.server_prog.specs.Words.{Run}
-use Rattle.server_prog.specs.Serving.{telling}
+use Rattle.server_prog.specs.Serving.{Telling, telling}
 use Rattle.server_prog.specs.Run.{Ran}
 use Rattle.server_prog.proofs.run.server_run.Goals as goal
 
 pub returns-clause-served : goal.returns-clause-served
 returns-clause-served g c =
-    let old = telling (g.P.Port.left c.args.port.now) (g.P.Port.taken c.args.port.now) (g.P.Port.answered c.args.port.now) (g.P.Port.faults c.args.port.now) in
-    let new = telling (g.P.Port.left c.run.new.port) (g.P.Port.taken c.run.new.port) (g.P.Port.answered c.run.new.port) (g.P.Port.faults c.run.new.port) in
+    let old : List ℕ → Telling = λ image. telling (g.P.Port.left c.args.port.now) (g.P.Port.taken c.args.port.now) (g.P.Port.answered c.args.port.now) (g.P.Port.faults c.args.port.now) (kept_under image (g.K.Keeper.images c.args.keeper.now)) in
+    let new : List ℕ → Telling = λ image. telling (g.P.Port.left c.run.new.port) (g.P.Port.taken c.run.new.port) (g.P.Port.answered c.run.new.port) (g.P.Port.faults c.run.new.port) (kept_under image (g.K.Keeper.images c.run.new.keeper)) in
     let o = g.O.Sink.written c.args.output.now in
     let n = g.O.Sink.written c.run.new.output in
-    subst (λ (f : Option Run). IfSome f (λ r. Ran r.count c.status_of.result old new o n)) (sym c.in-Some.ensures.form)
-    (c.run.result, c.status_of.ensures.status, c.run.ensures.turn)
+    subst (λ (f : Option Run). IfSome f (λ r. Ran r.count c.status_of.result (old r.image) (new r.image) o n)) (sym c.in-Some.ensures.form)
+    (c.run.result, c.status_of.ensures.status, rw c.as_bytes-name.ensures.value at c.run.ensures.turn)

@@ -4,22 +4,25 @@ use Rattle.server_prog.proofs.Connections.{so_far_tallied, all_came, all_made, f
 use Rattle.server_prog.proofs.serving.serve.Goals as goal
 
 pub loop-take-preserved : goal.loop-take-preserved
-loop-take-preserved g c = so_far_tallied _ _ _ _ _ _ _ _ _ _ c.in_default.not-NoConnection c.tallied-tally.ensures c.loop-take.invariant c.in_ok-came.ensures.ok
+loop-take-preserved g c = record {
+  served = so_far_tallied _ _ _ _ _ _ _ _ _ _ c.in_default.not-NoConnection c.tallied-tally.ensures c.loop-take.invariant.served c.in_ok-came.ensures.ok;
+  later = omega (arith, c.loop-take.invariant.later, c.in_ok-came.ensures.cause.later);
+}
 
 pub returns-in_err-came-clause-err : goal.returns-in_err-came-clause-err
-returns-in_err-came-clause-err g c = on_err _ _ _ _ (front _ _ _ _ _ _ _ _ c.loop-take-test.true c.loop-take.invariant c.in_err-came.ensures.err)
+returns-in_err-came-clause-err g c = on_err _ _ _ _ (front _ _ _ _ _ _ _ _ c.loop-take-test.true c.loop-take.invariant.served c.in_err-came.ensures.err)
 
 pub tallied-tally-requires : goal.tallied-tally-requires
 tallied-tally-requires g c =
-    let fit : (c.loop-take.tally.frames < 65536) × (c.loop-take.tally.faults < 65536) = fits _ _ _ _ _ _ (omega (arith, c.loop-take-test.true, c.requires)) c.loop-take.invariant in
+    let fit : (c.loop-take.tally.frames < 65536) × (c.loop-take.tally.faults < 65536) = fits _ _ _ _ _ _ (omega (arith, c.loop-take-test.true, c.requires)) c.loop-take.invariant.served in
     record { frames = fit.0; faults = fit.1 }
 
 pub returns-after-loop-take-clause-ok : goal.returns-after-loop-take-clause-ok
 returns-after-loop-take-clause-ok g c =
     let full : c.loop-take._take ≡ c.args.count = omega (arith, c.loop-take-test.false, c.loop-take.auto._take-end) in
-    all_made _ _ _ _ _ _ _ full c.loop-take.invariant
+    all_made _ _ _ _ _ _ _ full c.loop-take.invariant.served
 
 pub returns-in-NoConnection-clause-ok : goal.returns-in-NoConnection-clause-ok
 returns-in-NoConnection-clause-ok g c =
     let few : c.loop-take._take ≤ c.args.count = omega (arith, c.loop-take-test.true) in
-    all_came _ _ _ _ _ _ _ _ _ _ few c.in-NoConnection.is c.loop-take.invariant c.in_ok-came.ensures.ok
+    all_came _ _ _ _ _ _ _ _ _ _ few c.in-NoConnection.is c.loop-take.invariant.served c.in_ok-came.ensures.ok

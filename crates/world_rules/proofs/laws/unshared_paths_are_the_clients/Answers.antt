@@ -1,4 +1,4 @@
-use Rattle.world_rules.proofs.Runs.{path_is_same, lone_tree}
+use Rattle.world_rules.proofs.Runs.{path_is_same, path_is_kept, lone_tree, lone_kept}
 use Rattle.world_rules.proofs.laws.unshared_paths_are_the_clients.Goals as goal
 
 pub returns-clause-spared : goal.returns-clause-spared
@@ -6,3 +6,9 @@ returns-clause-spared c = path_is_same
 
 pub returns-clause-alone : goal.returns-clause-alone
 returns-clause-alone c = lone_tree
+
+pub returns-clause-spared_kept : goal.returns-clause-spared_kept
+returns-clause-spared_kept c = path_is_kept
+
+pub returns-clause-alone_kept : goal.returns-clause-alone_kept
+returns-clause-alone_kept c = lone_kept

@@ -4,7 +4,9 @@ use Rattle.client_prog.specs.Session.{State, make_effect}
 use Rattle.client_prog.specs.InsideSession.{Logs}
 use Rattle.client_prog.proofs.session.Session.make.Goals as goal
 
-pub returns : goal.returns
-returns c =
-    subst (λ (folder : FilePath). Logs (make_effect folder c.args.path.now) c.args.self.now c.log.result c.log.new.self) (ap (λ (s : State). s.folder) c.self.view_is)
-    (c.log.ensures (make_effect c.self.inside.folder c.args.path.now) c.make_effect-made.ensures)
+pub returns-clause-logs : goal.returns-clause-logs
+returns-clause-logs g c =
+    let i = g.K.Keeper.images c.args.keeper.now in
+    let j = g.K.Keeper.images c.log.new.keeper in
+    subst (λ (folder : FilePath). Logs c.args.image.now (make_effect folder c.args.path.now) c.args.self.now c.log.result c.log.new.self i j) (ap (λ (s : State). s.folder) c.self.view_is)
+    (c.log.ensures.logs (make_effect c.self.inside.folder c.args.path.now) c.make_effect-made.ensures)

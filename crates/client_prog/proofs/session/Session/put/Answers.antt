@@ -4,7 +4,9 @@ use Rattle.client_prog.specs.Session.{State, put_effect}
 use Rattle.client_prog.specs.InsideSession.{Logs}
 use Rattle.client_prog.proofs.session.Session.put.Goals as goal
 
-pub returns : goal.returns
-returns c =
-    subst (λ (folder : FilePath). Logs (put_effect folder c.args.path.now c.args.text.now) c.args.self.now c.log.result c.log.new.self) (ap (λ (s : State). s.folder) c.self.view_is)
-    (c.log.ensures (put_effect c.self.inside.folder c.args.path.now c.args.text.now) c.put_effect-made.ensures)
+pub returns-clause-logs : goal.returns-clause-logs
+returns-clause-logs g c =
+    let i = g.K.Keeper.images c.args.keeper.now in
+    let j = g.K.Keeper.images c.log.new.keeper in
+    subst (λ (folder : FilePath). Logs c.args.image.now (put_effect folder c.args.path.now c.args.text.now) c.args.self.now c.log.result c.log.new.self i j) (ap (λ (s : State). s.folder) c.self.view_is)
+    (c.log.ensures.logs (put_effect c.self.inside.folder c.args.path.now c.args.text.now) c.put_effect-made.ensures)

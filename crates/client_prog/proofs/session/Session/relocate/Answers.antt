@@ -4,7 +4,9 @@ use Rattle.client_prog.specs.Session.{State, move_effect}
 use Rattle.client_prog.specs.InsideSession.{Logs}
 use Rattle.client_prog.proofs.session.Session.relocate.Goals as goal
 
-pub returns : goal.returns
-returns c =
-    subst (λ (folder : FilePath). Logs (move_effect folder c.args.from.now c.args.to.now) c.args.self.now c.log.result c.log.new.self) (ap (λ (s : State). s.folder) c.self.view_is)
-    (c.log.ensures (move_effect c.self.inside.folder c.args.from.now c.args.to.now) c.move_effect-made.ensures)
+pub returns-clause-logs : goal.returns-clause-logs
+returns-clause-logs g c =
+    let i = g.K.Keeper.images c.args.keeper.now in
+    let j = g.K.Keeper.images c.log.new.keeper in
+    subst (λ (folder : FilePath). Logs c.args.image.now (move_effect folder c.args.from.now c.args.to.now) c.args.self.now c.log.result c.log.new.self i j) (ap (λ (s : State). s.folder) c.self.view_is)
+    (c.log.ensures.logs (move_effect c.self.inside.folder c.args.from.now c.args.to.now) c.move_effect-made.ensures)

@@ -1,0 +1,13 @@
+use Rattle.std.proofs.Common.{sym, subst}
+use Rattle.store_image.specs.Image.{IsKeptFor}
+use Rattle.outside.specs.declared.errors.KeepError.TheVariants.{Memory}
+use Rattle.client_core.proofs.Putting.{saved_keeps, unsaved_keeps}
+use Rattle.client_core.proofs.keeping.keep_log.Goals as goal
+
+pub returns-in-Err-clause-kept : goal.returns-in-Err-clause-kept
+returns-in-Err-clause-kept g c = unsaved_keeps c.args.name.now c.args.client c.args.log.now Memory (g.K.Keeper.images c.args.keeper.now)
+
+pub returns-clause-kept : goal.returns-clause-kept
+returns-clause-kept g c =
+    saved_keeps c.args.name.now c.args.client c.args.log.now c.deref.result.now c.save.result (g.K.Keeper.images c.args.keeper.now) (g.K.Keeper.images c.save.new.self)
+    (subst (IsKeptFor c.args.client c.args.log.now) (sym c.deref.ensures.value) c.in-Ok.ensures.kept) c.save.ensures.images

@@ -1,0 +1,6 @@
+pub mod Pairs
+pub mod Wrapped
+pub mod Alike
+pub mod Codec
+pub mod Captured
+pub mod Cutting

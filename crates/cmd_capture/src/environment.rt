@@ -1,0 +1,99 @@
+// Variables with their values, which contracts see as the list of pairs.
+ghost use Rattle.std.specs.Prelude.{◌≡◌, ◌<◌, ◌^◌, ℕ, List, [], ◌++◌, length, map, slice_get, option_map, OnOk, OnErr, IfOk};
+ghost use Rattle.std.specs.List.{IsDistinct};
+ghost use Rattle.std.specs.Str.{bytes_eq};
+ghost use Rattle.cmd_capture.specs.Environment.{has_key, set_pair};
+ghost use Rattle.cmd_capture.specs.Spelling as spelling;
+
+use crate::spelling::{put_count16, put_text};
+use indexmap::IndexMap;
+use std::alloc::{AllocError, Global};
+use std::marker::Model;
+use vol_tree::{Content, TryCopy};
+
+/// Variables with their values, in the order in which they were first set: at most 4,294,967,295.
+#[derive(Debug, Drop)]
+pub struct Env {
+    alloc: Global,
+    pairs: IndexMap<Content, Content>,
+}
+
+impl Model for Env {
+    ghost use Rattle.std.specs.Prelude.{ℕ, List, length, ◌<◌, ◌^◌};
+
+    ghost Value = { List (List ℕ × List ℕ) };
+
+    ghost view = { λ env. env.pairs.entries };
+
+    ghost invariant = { λ env. length env.pairs.entries < 2 ^ 32 };
+}
+
+impl Env {
+    /// No variable.
+    pub fn new(alloc: Global) -> Env
+        ensures { result ≡ [] }
+    {
+        Env {
+            alloc,
+            pairs: IndexMap::new(alloc),
+        }
+    }
+
+    /// Replaces the value of the key in its place, or adds the pair last; a new key past 4,294,967,295 is refused.
+    pub fn set(&mut self, key: Content, value: Content) -> Result<(), AllocError>
+        ensures set { OnOk result (self.new ≡ set_pair self.old key value) }
+        ensures refused { OnErr result (self.new ≡ self.old) }
+    {
+        if self.pairs.len() >= 4_294_967_295 && self.pairs.get(&key).is_none() {
+            return Err(AllocError);
+        }
+        self.pairs.insert(key, value)?;
+        Ok(())
+    }
+
+    /// Whether the key has a value.
+    #[tactic(auto, using(crate::proofs::Pairs::lookup_is_has_key))]
+    pub(crate) fn has(&self, key: &Content) -> bool
+        ensures { result ≡ has_key self.now key.now }
+    {
+        self.pairs.contains_key(key)
+    }
+
+    /// The number of variables.
+    pub fn len(&self) -> usize
+        ensures value { result ≡ length self.now }
+        ensures bound { result < 2 ^ 32 }
+    {
+        self.pairs.len()
+    }
+
+    /// Variable `i` with its value, counted from 0.
+    pub fn get(&self, i: usize) -> Option<(&Content, &Content)>
+        ensures { option_map (λ p. (p.0.now, p.1.now)) result ≡ slice_get self.now i }
+    {
+        self.pairs.get_index(i)
+    }
+
+    /// Adds the spelling of the pairs, in their order.
+    #[tactic(auto, using(std::proofs::Common::append_assoc))]
+    pub(crate) fn spell(&self, out: &mut Vec<u8>) -> Result<(), AllocError>
+        ensures { OnOk result (out.new.items ≡ out.old.items ++ spelling.counted spelling.variable self.now) }
+    {
+        put_count16(out, self.pairs.len())?;
+        for (key, value) in self.pairs.iter() {
+            put_text(out, key.bytes())?;
+            put_text(out, value.bytes())?;
+        }
+        Ok(())
+    }
+}
+
+impl TryCopy for Env {
+    fn copy(&self) -> Result<Env, AllocError> {
+        let mut copied = Env::new(self.alloc);
+        for (key, value) in self.pairs.iter() {
+            copied.set(key.copy()?, value.copy()?)?;
+        }
+        Ok(copied)
+    }
+}

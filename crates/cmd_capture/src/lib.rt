@@ -1,0 +1,26 @@
+//! Commands from their words, the jobs that are run, and the trait of what runs them.
+#![tactic(auto)]
+
+mod capturing;
+mod command;
+mod environment;
+mod job;
+mod laws;
+mod rules;
+mod runner;
+mod script;
+mod spelling;
+mod taking;
+
+pub use capturing::{CaptureError, capture};
+pub use command::{Command, Template, Templates, Words};
+pub use environment::Env;
+pub use job::{Job, JobRow, JobRows, Outcome, RawRow, RawRows, job_print};
+pub use laws::{
+    captured_commands_have_a_spelling, commands_are_spelled_once, commands_end_with_their_bytes,
+};
+pub use runner::{Run, RunError, Runner};
+pub use script::{ScriptAnswer, ScriptRunner};
+
+#[cfg(test)]
+mod tests;

@@ -1,0 +1,5 @@
+//! Tests of images in bytes that were written by hand.
+#![tactic(auto)]
+
+#[cfg(test)]
+mod tests;

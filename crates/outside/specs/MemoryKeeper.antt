@@ -1,0 +1,66 @@
+-- The keeper in memory, as contracts see it.
+use Rattle.std.specs.Prelude.{◌≡◌, ℕ, Bool, true, false, ◌==◌, List, find, Option, option_map, is_some, unwrap_or, Result, Ok, Err}
+use Rattle.std.specs.Str.{bytes_eq}
+use Rattle.outside.specs.declared.errors.KeepError.{KeepError}
+use Rattle.outside.specs.declared.errors.KeepError.TheVariants.{Failed, Memory}
+use Rattle.outside.specs.declared.memory_keeper.KeepFail.{KeepFail}
+use Rattle.outside.specs.declared.memory_keeper.Slot.{Slot}
+use Rattle.outside.specs.Keeper.{Images, IsPut}
+use Rattle.outside.specs.Memory.{one_more}
+use Rattle.outside.specs.MemoryPort.{faults_after}
+
+pub record KeeperInMemory : Type 0 where
+  -- what is kept, each image beside its name
+  pub slots : List Slot
+  -- how many calls were made of it
+  pub calls : ℕ
+  -- which of its calls fail, counted from 0, and what they leave
+  pub fails : List KeepFail
+  -- how many of its calls failed
+  pub faults : ℕ
+
+-- the slot of this name
+abbrev pub has_name : List ℕ → Slot → Bool
+has_name name slot = bytes_eq slot.name.items name
+
+-- what the slots keep under each name
+abbrev pub images_of : List Slot → Images
+images_of slots name = option_map (λ slot. slot.image.items) (find (has_name name) slots)
+
+-- how a call fails, where it is a named one
+abbrev pub fail_of : List KeepFail → ℕ → Option KeepFail
+fail_of fails call = find (λ fail. fail.call == call) fails
+
+-- whether the next call fails
+abbrev pub fails_now : KeeperInMemory → Bool
+fails_now keeper = is_some (fail_of keeper.fails keeper.calls)
+
+-- whether the next call leaves the new image where it fails
+abbrev pub leaves_new : KeeperInMemory → Bool
+leaves_new keeper = unwrap_or (option_map (λ fail. fail.leaves_new) (fail_of keeper.fails keeper.calls)) false
+
+-- whether the call answered that it failed
+abbrev pub has_failed : {T : Type 0} → Result T KeepError → Bool
+has_failed (Err Failed) = true
+has_failed _ = false
+
+-- the keeper after its next call, with these slots: the call is counted, and counted as a fault exactly where it answered so
+abbrev pub after_call : {T : Type 0} → KeeperInMemory → List Slot → Result T KeepError → KeeperInMemory
+after_call keeper slots result =
+    record {
+      slots = slots;
+      calls = one_more keeper.calls;
+      fails = keeper.fails;
+      faults = faults_after (has_failed result) keeper.faults;
+    }
+
+-- what a failed save leaves: the new image, or all as before
+abbrev pub Leaves : Bool → List ℕ → List ℕ → List Slot → List Slot → Type 0
+Leaves true name image old new = IsPut name image (images_of old) (images_of new)
+Leaves false name image old new = new ≡ old
+
+-- what a save leaves
+abbrev pub SavesAs : {T : Type 0} → List ℕ → List ℕ → Result T KeepError → KeeperInMemory → List Slot → Type 0
+SavesAs name image (Ok done) old new = IsPut name image (images_of old.slots) (images_of new)
+SavesAs name image (Err Failed) old new = Leaves (leaves_new old) name image old.slots new
+SavesAs name image (Err Memory) old new = new ≡ old.slots

@@ -1,0 +1,157 @@
+ghost use Rattle.std.specs.Prelude.{◌≡◌, ◌↔◌, [], None, Some, option_map, position, OnOk, OnErr, IsErr, IsErrOf, IsTrue};
+ghost use Rattle.std.specs.Option.{option_copied};
+ghost use Rattle.outside.specs.Outside.{Told, HasCause};
+ghost use Rattle.outside.specs.Keeper.{IsPut, Loads, Saves};
+ghost use Rattle.outside.specs.MemoryKeeper.{KeeperInMemory, has_name, images_of, fail_of, fails_now, after_call, SavesAs};
+
+use crate::{KeepError, Keeper};
+use std::alloc::{AllocError, Global};
+use std::marker::Model;
+
+/// A call of a keeper that fails, counted from 0 over all its calls.
+#[derive(Clone, Copy, Debug, PartialEq, Eq)]
+pub struct KeepFail {
+    pub call: u32,
+    /// Whether the call leaves the new image, where it is a save.
+    pub leaves_new: bool,
+}
+
+/// An image beside its name.
+#[derive(Drop)]
+struct Slot {
+    name: Vec<u8>,
+    image: Vec<u8>,
+}
+
+/// A keeper of images in memory. Contracts see what is kept, the calls made, which of them fail, and the faults.
+#[derive(Drop)]
+pub struct MemKeeper {
+    slots: Vec<Slot>,
+    calls: u64,
+    fails: Vec<KeepFail>,
+    faults: u64,
+}
+
+impl Model for MemKeeper {
+    ghost Value = { KeeperInMemory };
+
+    ghost view = { λ k. record { slots = k.slots.items; calls = k.calls; fails = k.fails.items; faults = k.faults } };
+}
+
+impl MemKeeper {
+    /// A keeper of nothing that fails in the named calls, counted from 0 over all its calls.
+    pub fn new(alloc: Global, fails: Vec<KeepFail>) -> MemKeeper
+        ensures { result ≡ record { slots = []; calls = 0; fails = fails.items; faults = 0 } }
+    {
+        MemKeeper {
+            slots: Vec::new(alloc),
+            calls: 0,
+            fails,
+            faults: 0,
+        }
+    }
+
+    /// The image that is kept under the name.
+    pub fn image(&self, name: &[u8]) -> Option<&[u8]>
+        ensures { option_copied result ≡ images_of self.now.slots name.now }
+    {
+        image_of(&self.slots, name)
+    }
+}
+
+fn image_of<'a>(slots: &'a [Slot], name: &[u8]) -> Option<&'a [u8]>
+    ensures { option_copied result ≡ images_of slots.now name.now }
+{
+    match slots.iter().find(|slot| slot.name.as_slice() == name) {
+        Some(slot) => Some(slot.image.as_slice()),
+        None => None,
+    }
+}
+
+/// Whether a failing call leaves the new image; none where the call does not fail.
+fn left_by(fails: &[KeepFail], call: u64) -> Option<bool>
+    ensures { result ≡ option_map (λ fail. fail.leaves_new) (fail_of fails.now call) }
+{
+    match fails.iter().find(|fail| u64::from(fail.call) == call) {
+        Some(fail) => Some(fail.leaves_new),
+        None => None,
+    }
+}
+
+impl Keeper for MemKeeper {
+    ghost images = { λ k. Some (images_of k.slots) };
+
+    ghost faults = { λ k. k.faults };
+
+    /// Gives a copy of the image, but in the named calls.
+    fn load(&mut self, name: &[u8]) -> Result<Option<Vec<u8>>, KeepError>
+        ensures images { Told (Some (images_of self.old.slots)) (Some (images_of self.new.slots)) (λ old new. Loads name.now result old new) }
+        ensures cause { HasCause KeepError.Failed self.old.faults self.new.faults result }
+
+        ensures exactly { IsErrOf result KeepError.Failed ↔ IsTrue (fails_now self.old) }
+        ensures counted { self.new ≡ after_call self.old self.old.slots result }
+    {
+        let call = self.calls;
+        self.calls = call.saturating_add(1);
+        if left_by(&self.fails, call).is_some() {
+            self.faults = self.faults.saturating_add(1);
+            return Err(KeepError::Failed);
+        }
+        match image_of(&self.slots, name) {
+            Some(image) => Ok(Some(image.to_vec(*self.slots.allocator())?)),
+            None => Ok(None),
+        }
+    }
+
+    /// Keeps a copy of the image, but in the named calls.
+    fn save(&mut self, name: &[u8], image: &[u8]) -> Result<(), KeepError>
+        ensures images { Told (Some (images_of self.old.slots)) (Some (images_of self.new.slots)) (λ old new. Saves name.now image.now result old new) }
+        ensures cause { HasCause KeepError.Failed self.old.faults self.new.faults result }
+
+        ensures exactly { IsErrOf result KeepError.Failed → IsTrue (fails_now self.old) }
+        // A named call fails, or memory ran out before the image that it leaves was there.
+        ensures always { IsTrue (fails_now self.old) → IsErr result }
+        ensures left { SavesAs name.now image.now result self.old self.new.slots }
+        ensures counted { self.new ≡ after_call self.old self.new.slots result }
+    {
+        let call = self.calls;
+        self.calls = call.saturating_add(1);
+        match left_by(&self.fails, call) {
+            None => {
+                put(&mut self.slots, name, image)?;
+                Ok(())
+            }
+            Some(leaves_new) => {
+                if leaves_new {
+                    put(&mut self.slots, name, image)?;
+                }
+                self.faults = self.faults.saturating_add(1);
+                Err(KeepError::Failed)
+            }
+        }
+    }
+}
+
+/// Keeps a copy of the image under the name, in place of what is kept there.
+fn put(slots: &mut Vec<Slot>, name: &[u8], image: &[u8]) -> Result<(), AllocError>
+    ensures ok { OnOk result (IsPut name.now image.now (images_of slots.old.items) (images_of slots.new.items)) }
+    ensures err { OnErr result (slots.new.items ≡ slots.old.items) }
+{
+    let alloc = *slots.allocator();
+    let image = image.to_vec(alloc)?;
+    match place_of(slots, name) {
+        Some(i) => slots[i].image = image,
+        None => {
+            let name = name.to_vec(alloc)?;
+            slots.push(Slot { name, image })?;
+        }
+    }
+    Ok(())
+}
+
+/// Where the slot of this name stands.
+fn place_of(slots: &[Slot], name: &[u8]) -> Option<usize>
+    ensures { result ≡ position (has_name name.now) slots.now }
+{
+    slots.iter().position(|slot| slot.name.as_slice() == name)
+}

@@ -1,0 +1,110 @@
+-- What is kept while frames are served.
+use Rattle.std.proofs.Common.{◌≡◌, ◌⊎◌, inl, inr, ℕ, Bool, true, false, ◌||◌, List, [], ◌∷◌, ◌++◌, Option, None, Some, Result, Ok, Err, OnOk, OnErr, refl, sym, ◌∙◌, ap, subst, true≢false}
+use Rattle.outside.specs.Outside.{Told}
+use Rattle.outside.specs.Keeper.{Images, IsPut, Saves, kept_under}
+use Rattle.world_rules.specs.Served.{Served}
+use Rattle.server_core.specs.Framing.{frame_after, frames_after, takes, change}
+use Rattle.server_core.specs.Keeping.{IsKeptForServed}
+use Rattle.server_core.proofs.Noting.{taken_frames_change}
+use Rattle.server_prog.specs.Serving.{KeptAs}
+
+-- what is kept under a name, told or not
+abbrev pub Kept : Type 0
+Kept = Option (Option (List ℕ))
+
+pub kept_same : (k : Kept) (s : Served) → Told k k (KeptAs false s)
+kept_same None s = refl
+kept_same (Some x) s = refl
+
+-- one after the other
+pub told_then : (a b c : Kept) (P Q R : Option (List ℕ) → Option (List ℕ) → Type 0) → ((x y z : Option (List ℕ)) → P x y → Q y z → R x z) → Told a b P → Told b c Q → Told a c R
+told_then None None c P Q R joins first second = second
+told_then None (Some y) c P Q R joins first second = absurd (cc first)
+told_then (Some x) None c P Q R joins first second = absurd first
+told_then (Some x) (Some y) None P Q R joins first second = absurd second
+told_then (Some x) (Some y) (Some z) P Q R joins first second = joins x y z first second
+
+pub told_with : (a b : Kept) (P Q : Option (List ℕ) → Option (List ℕ) → Type 0) → ((x y : Option (List ℕ)) → P x y → Q x y) → Told a b P → Told a b Q
+told_with None b P Q with_it told = told
+told_with (Some x) None P Q with_it told = absurd told
+told_with (Some x) (Some y) P Q with_it told = with_it x y told
+
+-- ---- whether frames change the state
+
+either : (a b : Bool) → (a || b) ≡ false → (a ≡ false) × (b ≡ false)
+either true b e = absurd (true≢false e)
+either false b e = (refl, e)
+
+or_false : (a : Bool) → (a || false) ≡ a
+or_false true = refl
+or_false false = refl
+
+or_assoc : (a b c : Bool) → (a || (b || c)) ≡ ((a || b) || c)
+or_assoc true b c = refl
+or_assoc false b c = refl
+
+pub change-append : (xs ys : List (List ℕ)) (s : Served) → change (xs ++ ys) s ≡ (change xs s || change ys (frames_after xs s))
+change-append [] ys s = refl
+change-append (x ∷ xs) ys s = ap (λ b. takes x s || b) (change-append xs ys (frame_after x s)) ∙ or_assoc (takes x s) (change xs (frame_after x s)) (change ys (frames_after xs (frame_after x s)))
+
+pub unchanged : (frames : List (List ℕ)) (s : Served) → change frames s ≡ false → frames_after frames s ≡ s
+unchanged [] s none = refl
+unchanged (f ∷ frames) s none =
+    let both = either (takes f s) (change frames (frame_after f s)) none in
+    let here = (taken_frames_change f s).1 both.0 in
+    unchanged frames (frame_after f s) both.1 ∙ here
+
+-- ---- what is kept of frames in a row
+
+pub kept_both : (p q : Bool) (t u : Served) → (q ≡ false → u ≡ t) → (x y z : Option (List ℕ)) → KeptAs p t x y → KeptAs q u y z → KeptAs (p || q) u x z
+kept_both false q t u same x y z first second = subst (λ (k : Option (List ℕ)). KeptAs q u k z) first second
+kept_both true true t u same x y z first second = second
+kept_both true false t u same x y z first second = (first.0, second ∙ first.1, subst (λ (s : Served). IsKeptForServed s first.0) (sym (same refl)) first.2)
+
+pub kept_more : (xs ys : List (List ℕ)) (s t u : Served) (a b c : Kept) → t ≡ frames_after xs s → u ≡ frames_after ys t → Told a b (KeptAs (change xs s) t) → Told b c (KeptAs (change ys t) u) → Told a c (KeptAs (change (xs ++ ys) s) u)
+kept_more xs ys s t u a b c is is' first second =
+    let both : change (xs ++ ys) s ≡ (change xs s || change ys t) = change-append xs ys s ∙ ap (λ v. change xs s || change ys v) (sym is) in
+    subst (λ (p : Bool). Told a c (KeptAs p u)) (sym both)
+    (told_then a b c (KeptAs (change xs s) t) (KeptAs (change ys t) u) (KeptAs (change xs s || change ys t) u) (kept_both (change xs s) (change ys t) t u (λ none. is' ∙ unchanged ys t none)) first second)
+
+-- ---- one frame
+
+-- what is kept of a frame that was taken
+pub kept_one : (changed : Bool) (frame : List ℕ) (s t : Served) (a b : Kept) → changed ≡ takes frame s → Told a b (KeptAs changed t) → Told a b (KeptAs (change (frame ∷ []) s) t)
+kept_one changed frame s t a b is kept = subst (λ (p : Bool). Told a b (KeptAs p t)) (is ∙ sym (or_false (takes frame s))) kept
+
+-- what is kept where serving was broken off
+abbrev pub PerhapsAs : Bool → Served → Option (List ℕ) → Option (List ℕ) → Type 0
+PerhapsAs changed t o n = (n ≡ o) ⊎ KeptAs changed t o n
+
+pub perhaps_same : (k : Kept) (frames : List (List ℕ)) (s t : Served) → Told k k (PerhapsAs (change frames s) t)
+perhaps_same None frames s t = refl
+perhaps_same (Some x) frames s t = inl refl
+
+pub perhaps_one : (changed : Bool) (frame : List ℕ) (s t : Served) (a b : Kept) → changed ≡ takes frame s → t ≡ frame_after frame s → Told a b (PerhapsAs changed t) → Told a b (PerhapsAs (change (frame ∷ []) s) (frames_after (frame ∷ []) s))
+perhaps_one changed frame s t a b is after kept = subst (λ (p : Bool). Told a b (PerhapsAs p (frame_after frame s))) (is ∙ sym (or_false (takes frame s))) (subst (λ (v : Served). Told a b (PerhapsAs changed v)) after kept)
+
+pub perhaps_kept : (changed : Bool) (frame : List ℕ) (s t : Served) (a b : Kept) → changed ≡ takes frame s → t ≡ frame_after frame s → Told a b (KeptAs changed t) → Told a b (PerhapsAs (change (frame ∷ []) s) (frames_after (frame ∷ []) s))
+perhaps_kept changed frame s t a b is after kept = perhaps_one changed frame s t a b is after (told_with a b (KeptAs changed t) (PerhapsAs changed t) (λ x y k. inr k) kept)
+
+-- ---- a save
+
+pub saved : {T E : Type 0} (result : Result T E) (name image : List ℕ) (old new : Option Images) (s : Served) → IsKeptForServed s image → Told old new (λ o n. Saves name image result o n)
+    → OnOk result (Told (kept_under name old) (kept_under name new) (KeptAs true s))
+saved (Ok done) name image None None s kept told = refl
+saved (Ok done) name image None (Some n) s kept told = absurd (cc told)
+saved (Ok done) name image (Some o) None s kept told = absurd told
+saved (Ok done) name image (Some o) (Some n) s kept told = (image, told.here, kept)
+saved (Err e) name image old new s kept told = tt
+
+pub not_saved : {T E : Type 0} (result : Result T E) (name image : List ℕ) (old new : Option Images) (s : Served) → IsKeptForServed s image → Told old new (λ o n. Saves name image result o n)
+    → OnErr result (Told (kept_under name old) (kept_under name new) (PerhapsAs true s))
+not_saved (Ok done) name image old new s kept told = tt
+not_saved (Err e) name image None None s kept told = refl
+not_saved (Err e) name image None (Some n) s kept told = absurd (cc told)
+not_saved (Err e) name image (Some o) None s kept told = absurd told
+not_saved (Err e) name image (Some o) (Some n) s kept told = by told
+  where
+    by : (n ≡ o) ⊎ IsPut name image o n → (n name ≡ o name) ⊎ KeptAs true s (o name) (n name)
+    by (inl same) = inl (ap (λ (f : Images). f name) same)
+    by (inr put) = inr (image, put.here, kept)

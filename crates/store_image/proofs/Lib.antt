@@ -1,0 +1,11 @@
+pub mod Growing
+pub mod Bases
+pub mod Entries
+pub mod Images
+pub mod Whole
+pub mod Places
+pub mod Sizes
+pub mod Keeping
+pub mod Cuts
+pub mod Refused
+pub mod Breaking

@@ -1,0 +1,16 @@
+use Rattle.std.proofs.Common.{rules, ◌≡◌}
+use Rattle.store_image.specs.Spelling.{client, ClientFits}
+use Rattle.store_image.proofs.Images.{client_made}
+use Rattle.store_image.proofs.Sizes.{client_small}
+use Rattle.store_image.proofs.writing.write_client.Goals as goal
+
+pub returns-clause-kept : goal.returns-clause-kept
+returns-clause-kept c =
+    let is : c.put_log.new.out.items ≡ client (client_made c.args.client c.args.log.now) = search rules in
+    record { fits = record { some = c.requires.low; few = c.requires.high; log = c.tree.ensures.log }; spelled = is }
+
+pub returns-clause-small : goal.returns-clause-small
+returns-clause-small c =
+    let is : c.put_log.new.out.items ≡ client (client_made c.args.client c.args.log.now) = search rules in
+    let fits : ClientFits (client_made c.args.client c.args.log.now) = record { some = c.requires.low; few = c.requires.high; log = c.tree.ensures.log } in
+    rw is (client_small (client_made c.args.client c.args.log.now) fits)

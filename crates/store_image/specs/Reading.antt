@@ -1,0 +1,141 @@
+-- Reading images, with the place of the first faulty field. What was read decides what is wanted next: the tree so far
+-- says which effects apply, and the log so far which entry comes next.
+use Rattle.std.specs.Prelude.{ℕ, ◌+◌, ◌-◌, nat_le, ◌==◌, ◌&&◌, Bool, List, [], ◌∷◌, length, Ok, Err}
+use Rattle.std.specs.Int.{w8, w32, w64}
+use Rattle.std.specs.Str.{bytes_eq}
+use Rattle.std.specs.Result.{is_ok}
+use Rattle.byte_fields.specs.Field.{Reader, ◌>>=◌, ruled, limited, span_at, number_at, tagged_at, each_at}
+use Rattle.vol_tree.specs.Path.{is_same_path}
+use Rattle.vol_tree.specs.Tree.{Volume, apply, changed}
+use Rattle.vol_tree.specs.Effects.{base_of}
+use Rattle.vol_tree.specs.Reading.{path_at, effect_at, room_after, rows_at}
+use Rattle.vol_tree.specs.declared.tree.Effect.{Effect}
+use Rattle.vol_tree.specs.declared.tree.Base.{Base}
+use Rattle.mod_log.specs.declared.log.Entry.{Entry}
+use Rattle.mod_log.specs.Log.{Log, tree_of, new_log_of, logged}
+use Rattle.store_image.specs.declared.image.ClientImage.{ClientImage}
+use Rattle.store_image.specs.declared.image.ServerImage.{ServerImage}
+
+-- ---- entries
+
+-- the tree so far, and the bytes of content for which an entry has still room
+pub record Growing : Type 0 where
+  pub tree : Volume
+  pub room : ℕ
+
+-- an effect that applies to the tree; one that does not is a fault of its first byte
+unfoldable pub growing_effect_at : Growing → Reader Effect
+growing_effect_at growing = ruled (λ effect. is_ok (apply effect growing.tree)) (effect_at growing.room)
+
+-- the tree and the room after an effect
+abbrev pub grown : Growing → Effect → Growing
+grown growing effect = record { tree = changed effect growing.tree; room = room_after growing.room effect }
+
+-- 1 to 4,096 effects with contents of at most 32 MiB together, each of which applies to the tree after those before it
+unfoldable pub applied_effects_at : Volume → Reader (List Effect)
+applied_effects_at tree bytes at = do
+  count ← ruled (λ n. nat_le 1 n && nat_le n 4096) (number_at w32) bytes at
+  each_at growing_effect_at grown count.0 (record { tree = tree; room = 33554432 }) bytes count.1
+
+-- just this path and this version
+unfoldable pub known_base_at : Base → Reader Base
+known_base_at known bytes at = do
+  path ← ruled (is_same_path known.path) path_at bytes at
+  version ← ruled (λ n. n == known.version) (number_at w64) bytes path.1
+  Ok (record { path = path.0; version = version.0 }, version.1)
+
+-- the first of these
+unfoldable pub first_base_at : List Base → Reader Base
+first_base_at [] bytes at = Err at
+first_base_at (known ∷ others) bytes at = known_base_at known bytes at
+
+-- those that are left
+abbrev pub others_after : List Base → Base → List Base
+others_after [] base = []
+others_after (known ∷ others) base = others
+
+-- just these paths and versions, in their order
+unfoldable pub known_bases_at : List Base → Reader (List Base)
+known_bases_at known bytes at = do
+  count ← ruled (λ n. n == length known) (number_at w32) bytes at
+  each_at first_base_at others_after count.0 known bytes count.1
+
+-- the entry behind those of the log: the byte 0, effects that apply to its tree, and the versions that this tree has
+unfoldable pub next_entry_at : Log → Reader Entry
+next_entry_at log bytes at = do
+  origin ← ruled (λ n. n == 0) (number_at w8) bytes at
+  effects ← applied_effects_at (tree_of log) bytes origin.1
+  base ← known_bases_at (base_of effects.0 (tree_of log)) bytes effects.1
+  Ok (record { seq = log.acked + length log.pending + 1; effects = effects.0; base = base.0 }, base.1)
+
+-- the log with one more entry
+abbrev pub with_entry : Log → Entry → Log
+with_entry log entry = logged entry log
+
+-- whether so many entries may be pending behind the acknowledged number
+abbrev pub is_count : ℕ → ℕ → Bool
+is_count acked n = nat_le n 1024 && nat_le n (18446744073709551615 - acked)
+
+-- the pending entries of a log with nothing pending yet, which are spelled in at most 64 MiB
+unfoldable pub entries_at : Log → Reader (List Entry)
+entries_at log bytes at = do
+  count ← ruled (is_count log.acked) (number_at w32) bytes at
+  limited 67108864 (each_at next_entry_at with_entry count.0 log) bytes count.1
+
+-- the acknowledged number, the base and the pending entries
+unfoldable pub log_at : Reader Log
+log_at bytes at = do
+  acked ← number_at w64 bytes at
+  base ← rows_at bytes acked.1
+  pending ← entries_at (new_log_of acked.0 base.0) bytes base.1
+  Ok (record { acked = acked.0; base = base.0; pending = pending.0 }, pending.1)
+
+-- ---- images
+
+-- a mark of four bytes, and what follows it
+unfoldable pub marked : {A : Type 0} → List ℕ → Reader A → Reader A
+marked mark read bytes at = do
+  found ← ruled (bytes_eq mark) (span_at 4) bytes at
+  read bytes found.1
+
+-- O, S, C, I
+abbrev pub client_mark : List ℕ
+client_mark = 79 ∷ 83 ∷ 67 ∷ 73 ∷ []
+
+-- O, S, S, I
+abbrev pub server_mark : List ℕ
+server_mark = 79 ∷ 83 ∷ 83 ∷ 73 ∷ []
+
+-- a client's number and its log
+unfoldable pub client_body_at : Reader ClientImage
+client_body_at bytes at = do
+  client ← ruled (λ n. nat_le 1 n && nat_le n 64) (number_at w8) bytes at
+  log ← log_at bytes client.1
+  Ok (record { client = client.0; log = log.0 }, log.1)
+
+-- each version of a client's image, with what follows it
+abbrev pub client_versions : List (ℕ × Reader ClientImage)
+client_versions = (1, client_body_at) ∷ []
+
+-- the mark, the version and what follows it
+unfoldable pub client_at : Reader ClientImage
+client_at = marked client_mark (tagged_at client_versions)
+
+-- the 64 numbers of clients 1, 2, 3 and so on
+unfoldable pub numbers_at : Reader (List ℕ)
+numbers_at = each_at (λ (_ : Unit {0}). number_at w64) (λ _ _. tt {0}) 64 (tt {0})
+
+-- the last numbers of the clients, and the rows
+unfoldable pub server_body_at : Reader ServerImage
+server_body_at bytes at = do
+  last ← numbers_at bytes at
+  rows ← rows_at bytes last.1
+  Ok (record { last = last.0; tree = rows.0 }, rows.1)
+
+-- each version of a server's image, with what follows it
+abbrev pub server_versions : List (ℕ × Reader ServerImage)
+server_versions = (1, server_body_at) ∷ []
+
+-- the mark, the version and what follows it
+unfoldable pub server_at : Reader ServerImage
+server_at = marked server_mark (tagged_at server_versions)

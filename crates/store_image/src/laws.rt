@@ -1,0 +1,42 @@
+//! What holds of images: functions that do nothing, whose contracts are laws.
+
+ghost use Rattle.byte_fields.specs.Codec.{IsCodec};
+ghost use Rattle.byte_fields.specs.Cuts.{IsCut};
+ghost use Rattle.store_image.specs.Reading.{client_at, server_at};
+ghost use Rattle.store_image.specs.Spelling.{client, ClientFits, server, ServerFits};
+ghost use Rattle.store_image.specs.Fields.{client_fields, server_fields};
+ghost use Rattle.store_image.specs.Broken.{BrokenEntries, BrokenImages};
+ghost use Rattle.store_image.specs.Laws.{BytesAreKeptForOneClient, BytesAreKeptForOneServer, ImagesAreSmall, CutClientImagesAreRefused, CutServerImagesAreRefused, WrittenClientsAreKept, WrittenServersAreKept};
+
+/// States that each image has one spelling, and each spelling one image.
+pub fn images_are_spelled_once()
+    ensures clients { IsCodec client_at client ClientFits }
+    ensures servers { IsCodec server_at server ServerFits }
+{}
+
+/// States that what is written is read, and that bytes are kept for one state.
+pub fn kept_states_are_read()
+    ensures client_read { WrittenClientsAreKept }
+    ensures server_read { WrittenServersAreKept }
+    ensures client_once { BytesAreKeptForOneClient }
+    ensures server_once { BytesAreKeptForOneServer }
+{}
+
+/// States that, where the bytes end inside an image, the field in which they end is the faulty one.
+pub fn cut_images_name_the_field()
+    ensures clients { IsCut client_at client client_fields ClientFits }
+    ensures servers { IsCut server_at server server_fields ServerFits }
+    ensures client_refused { CutClientImagesAreRefused }
+    ensures server_refused { CutServerImagesAreRefused }
+{}
+
+/// States how large images are at most.
+pub fn images_are_small()
+    ensures { ImagesAreSmall }
+{}
+
+/// States that an image that breaks a rule is refused at the field of the rule.
+pub fn broken_images_name_the_field()
+    ensures entries { BrokenEntries }
+    ensures images { BrokenImages }
+{}

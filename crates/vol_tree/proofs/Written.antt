@@ -1,0 +1,116 @@
+-- A slot of which version and node are written: the rules stay, and the rows but for its own.
+use Rattle.std.proofs.Common.{◌≡◌, ℕ, zero, suc, ◌+◌, ◌<◌, ◌≤◌, ◌==◌, Bool, true, false, cond, List, [], ◌∷◌, ◌++◌, length, get_or, set, find, Option, Some, None, inl, inr, arith, refl, sym, ap, ◌∙◌, subst}
+use Rattle.std.specs.Prelude.{◌⊎◌}
+use Rattle.std.specs.List.{AllByRecursion}
+use Rattle.std.specs.Option.{option_or}
+use Rattle.std.proofs.lemmas.Bool.{cases_eq, eqb-true}
+use Rattle.std.proofs.lemmas.List.{length-set, get_or-set_same, get_or-set_other, get_or_past}
+use Rattle.std.proofs.lemmas.List.Folds.{find-append}
+use Rattle.std.specs.declared.cmp.Ordering.{Ordering}
+use Rattle.std.specs.declared.cmp.Ordering.TheVariants.{Less, Equal, Greater}
+use Rattle.std.specs.Ordering.{is_eq}
+use Rattle.vol_tree.specs.Inside.{is_at}
+use Rattle.vol_tree.specs.Path.{FilePath, path_cmp}
+use Rattle.vol_tree.specs.declared.tree.Node.{Node}
+use Rattle.vol_tree.specs.declared.tree.Row.{Row}
+use Rattle.vol_tree.specs.Tree.{Volume, AreInOrder, row_at, rows_below, rows_above, with_row, without_row}
+use Rattle.vol_tree.specs.Arena.{Place, Places, no_place, place, slot_of, own_row, rows_of, IsArena, written}
+use Rattle.vol_tree.proofs.Places.{same_path}
+use Rattle.vol_tree.proofs.Rows.{all_map, all_below, all_above, find_none, row_at-with_row, row_at-other, with_row_in_order, without_row_in_order}
+use Rattle.vol_tree.proofs.Walk.{row_of, found_row, rows_in_order}
+use Rattle.vol_tree.proofs.Behind.{same_rows}
+use Rattle.vol_tree.proofs.Links.{SameShape, same_or_not, shape_slot, shape_arena}
+
+-- ---- rows without one
+
+apart_at : (p : FilePath) (q : FilePath) → (q ≡ p → ⊥) → is_eq (path_cmp p q) ≡ false
+apart_at p q other = by (path_cmp p q) refl
+  where
+    by : (o : Ordering) → path_cmp p q ≡ o → is_eq o ≡ false
+    by Less e = refl
+    by Greater e = refl
+    by Equal e = absurd (other (sym (same_path p q e)))
+
+pub without_here : (rows : Volume) (p : FilePath) → row_at (without_row rows p) p ≡ None
+without_here rows p =
+    find-append (is_at p) (rows_below rows p) (rows_above rows p)
+    ∙ rw (find_none (is_at p) (rows_below rows p) (all_map (λ row e. ap is_eq e) (rows_below rows p) (all_below rows p)), find_none (is_at p) (rows_above rows p) (all_map (λ row e. ap is_eq e) (rows_above rows p) (all_above rows p))) refl
+
+pub without_other : (rows : Volume) (p q : FilePath) → (q ≡ p → ⊥) → row_at (without_row rows p) q ≡ row_at rows q
+without_other rows p q other =
+    let new : Row = record { path = p; version = 0; node = None } in
+    let both = find-append (is_at q) (rows_below rows p) (new ∷ rows_above rows p) in
+    find-append (is_at q) (rows_below rows p) (rows_above rows p)
+    ∙ sym (both ∙ rw (apart_at p q other) refl)
+    ∙ row_at-other rows new q other
+
+-- ---- one slot written
+
+module _ (slots : Places) (i version : ℕ) (node : Option Node) (within : i < length slots) where
+  here : place (written slots i version node) i ≡ record { name = (place slots i).name; version = version; node = node; children = (place slots i).children }
+  here = get_or-set_same slots i (record { name = (place slots i).name; version = version; node = node; children = (place slots i).children }) no_place within
+
+  elsewhere : (k : ℕ) → (k ≡ i → ⊥) → place (written slots i version node) k ≡ place slots k
+  elsewhere k other = get_or-set_other slots i k (record { name = (place slots i).name; version = version; node = node; children = (place slots i).children }) no_place other
+
+  shape : SameShape slots (written slots i version node)
+  shape = record {
+    names = λ k. elim (cases_eq k i) [
+      | inl same ↦ subst (λ a. (place (written slots i version node) a).name ≡ (place slots a).name) (sym same) (ap (λ (x : Place). x.name) here)
+      | inr other ↦ ap (λ (x : Place). x.name) (elsewhere k other)
+    ];
+    children = λ k. elim (cases_eq k i) [
+      | inl same ↦ subst (λ a. (place (written slots i version node) a).children ≡ (place slots a).children) (sym same) (ap (λ (x : Place). x.children) here)
+      | inr other ↦ ap (λ (x : Place). x.children) (elsewhere k other)
+    ];
+  }
+
+  pub written_slot : (q : FilePath) → slot_of (written slots i version node) 0 q ≡ slot_of slots 0 q
+  written_slot q = shape_slot slots (written slots i version node) shape q 0
+
+  pub written_arena : IsArena slots → (i ≡ 0 → ⊥) → (version ≡ 0 → node ≡ None) → IsArena (written slots i version node)
+  written_arena arena below_root bare =
+      shape_arena slots (written slots i version node) shape (omega (arith, length-set slots i (record { name = (place slots i).name; version = version; node = node; children = (place slots i).children }))) arena
+      (ap (λ (x : Place). x.version) (elsewhere 0 (λ z. below_root (sym z))) ∙ arena.root)
+      (λ k. elim (cases_eq k i) [
+        | inl same ↦ subst (λ a. (place (written slots i version node) a).version ≡ 0 → (place (written slots i version node) a).node ≡ None) (sym same) (rw here bare)
+        | inr other ↦ rw (elsewhere k other) (arena.bare k)
+      ])
+
+  module _ (arena : IsArena slots) (path : FilePath) (at : slot_of slots 0 path ≡ Some i) (below_root : i ≡ 0 → ⊥) (bare : version ≡ 0 → node ≡ None) where
+    row_here : row_at (rows_of (written slots i version node)) path ≡ own_row path (record { name = (place slots i).name; version = version; node = node; children = (place slots i).children })
+    row_here = found_row (written slots i version node) path (written_arena arena below_root bare) ∙ rw (written_slot path, at, here) refl
+
+    row_elsewhere : (q : FilePath) → (q ≡ path → ⊥) → row_at (rows_of (written slots i version node)) q ≡ row_at (rows_of slots) q
+    row_elsewhere q other =
+        found_row (written slots i version node) q (written_arena arena below_root bare)
+        ∙ ap (row_of (written slots i version node) q) (written_slot q) ∙ by (slot_of slots 0 q) refl ∙ sym (found_row slots q arena)
+      where
+        by : (o : Option ℕ) → slot_of slots 0 q ≡ o → row_of (written slots i version node) q o ≡ row_of slots q o
+        by None e = refl
+        by (Some k) e = ap (own_row q) (elsewhere k (λ same. other (arena.apart q path i (e ∙ ap Some same) at)))
+
+    -- a written row is with the others
+    pub written_rows : (version ≡ 0 → ⊥) → rows_of (written slots i version node) ≡ with_row (rows_of slots) (record { path = path; version = version; node = node })
+    written_rows some =
+        let new : Row = record { path = path; version = version; node = node } in
+        let after = written_arena arena below_root bare in
+        same_rows (rows_of (written slots i version node)) (with_row (rows_of slots) new) (rows_in_order (written slots i version node) after.linked) (with_row_in_order (rows_of slots) new (rows_in_order slots arena.linked))
+        (λ q. elim (same_or_not q path) [
+          | inl same ↦ subst (λ a. row_at (rows_of (written slots i version node)) a ≡ row_at (with_row (rows_of slots) new) a) (sym same) (row_here ∙ is_there (version == 0) refl ∙ sym (row_at-with_row (rows_of slots) new))
+          | inr other ↦ row_elsewhere q other ∙ sym (row_at-other (rows_of slots) new q other)
+        ])
+      where
+        is_there : (b : Bool) → (version == 0) ≡ b → own_row path (record { name = (place slots i).name; version = version; node = node; children = (place slots i).children }) ≡ Some (record { path = path; version = version; node = node })
+        is_there true z = absurd (some (eqb-true version 0 z))
+        is_there false z = rw z refl
+
+    -- with version 0 its row is gone
+    pub erased_rows : version ≡ 0 → rows_of (written slots i version node) ≡ without_row (rows_of slots) path
+    erased_rows none =
+        let after = written_arena arena below_root bare in
+        same_rows (rows_of (written slots i version node)) (without_row (rows_of slots) path) (rows_in_order (written slots i version node) after.linked) (without_row_in_order (rows_of slots) path (rows_in_order slots arena.linked))
+        (λ q. elim (same_or_not q path) [
+          | inl same ↦ subst (λ a. row_at (rows_of (written slots i version node)) a ≡ row_at (without_row (rows_of slots) path) a) (sym same) (row_here ∙ rw none refl ∙ sym (without_here (rows_of slots) path))
+          | inr other ↦ row_elsewhere q other ∙ sym (without_other (rows_of slots) path q other)
+        ])

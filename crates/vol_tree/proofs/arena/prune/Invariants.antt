@@ -1,0 +1,13 @@
+use Rattle.std.proofs.Common.{◌≡◌, ◌≤◌, length}
+use Rattle.vol_tree.specs.Arena.{rows_of, IsArena}
+use Rattle.vol_tree.proofs.arena.prune.Given as goal
+
+abbrev pub invariant-loop-depth : goal.invariant-loop-depth
+invariant-loop-depth l = record {
+  arena : IsArena l.slots.items;
+  rows : rows_of l.slots.items ≡ rows_of l.fn.slots.items;
+  within : l.depth ≤ length l.path;
+}
+
+abbrev pub decreases-loop-depth : goal.decreases-loop-depth
+decreases-loop-depth l = l.depth

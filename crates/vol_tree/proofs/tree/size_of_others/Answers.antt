@@ -1,0 +1,7 @@
+use Rattle.std.proofs.Common.{◌≡◌}
+use Rattle.vol_tree.proofs.Counts.{node_at_most}
+use Rattle.vol_tree.proofs.tree.size_of_others.Goals as goal
+
+pub overflow_sub-result : goal.overflow_sub-result
+overflow_sub-result c =
+    rw (c.size_at.ensures, c.node_in.ensures, c.size.ensures) (node_at_most c.args.rows.now c.args.path.now c.requires.in_order)

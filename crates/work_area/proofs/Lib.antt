@@ -1,0 +1,9 @@
+pub mod Paths
+pub mod JobRows
+pub mod Filters
+pub mod Leading
+pub mod Unchanged
+pub mod Names
+pub mod Applying
+pub mod Holding
+pub mod Forming

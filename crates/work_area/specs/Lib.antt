@@ -1,0 +1,4 @@
+pub mod Jobs
+pub mod Outcomes
+pub mod Changes
+pub mod Laws

@@ -1,0 +1,15 @@
+//! The rows that a command is run on, the rows that it leaves, and the effects that lead from the one to the other.
+#![tactic(auto)]
+
+mod changing;
+mod jobs;
+mod laws;
+mod rows;
+
+pub use changing::{changes, clash};
+pub use jobs::{JobError, job_of};
+pub use laws::{change_lists_lead_to_what_is_left, jobs_hold_the_tree};
+pub use rows::{RowsFault, rows_of};
+
+#[cfg(test)]
+mod tests;

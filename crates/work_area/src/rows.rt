@@ -1,0 +1,120 @@
+//! The legal rows of an outcome.
+
+ghost use Rattle.std.specs.Prelude.{◌≡◌, IfOk, IfErr, OnOk};
+ghost use Rattle.std.specs.Option.{option_copied};
+ghost use Rattle.std.specs.List.{list_all};
+ghost use Rattle.std.specs.Ordering.{is_lt};
+ghost use Rattle.vol_tree.specs.Path.{path_cmp, is_same_path};
+ghost use Rattle.work_area.specs.declared.rows.RowsFault.TheVariants.{Memory};
+ghost use Rattle.work_area.specs.Outcomes.{IsRowsFault};
+ghost use Rattle.cmd_capture.specs.Rows as rules;
+ghost use Rattle.cmd_capture.specs.Rows.{AreLegal, AreJobRows, read_rows};
+
+use byte_fields::saturate_u32;
+use cmd_capture::{JobRow, JobRows, RawRow, RawRows};
+use std::alloc::{AllocError, Global};
+use thiserror::Error;
+use vol_tree::{Content, Node, Path, PathError, TryCopy};
+
+/// Why raw rows are no rows of a job.
+#[derive(Clone, Copy, Debug, PartialEq, Eq, Error)]
+pub enum RowsFault {
+    /// The first row, counted from 0, whose text is no path or the root, or whose path is not above the one before or
+    /// in no folder.
+    #[error("row {0} is odd")]
+    OddTree(u32),
+    #[error("out of memory")]
+    Memory,
+}
+
+impl From<AllocError> for RowsFault {
+    ghost from_gives = { λ _ e. e ≡ Memory };
+
+    fn from(_: AllocError) -> RowsFault {
+        RowsFault::Memory
+    }
+}
+
+fn is_same(path: &[Content], other: &[Content]) -> bool
+    ensures { result ≡ is_same_path path.now other.now }
+{
+    path.cmp(&other).is_eq()
+}
+
+/// Whether it is the row of the path.
+pub(crate) fn is_at(row: &JobRow, path: &[Content]) -> bool
+    ensures { result ≡ rules.is_at path.now row.now }
+{
+    is_same(row.path.names(), path)
+}
+
+/// The node of a path.
+pub(crate) fn node_in<'a>(rows: &'a [JobRow], path: &[Content]) -> Option<&'a Node>
+    ensures { option_copied result ≡ rules.node_in rows.now path.now }
+{
+    let row = rows.iter().find(|row| is_at(row, path))?;
+    Some(&row.node)
+}
+
+/// Whether the path is a folder of the rows, as the root always is.
+fn is_folder_in(rows: &[JobRow], path: &[Content]) -> bool
+    ensures { result ≡ rules.is_folder_in rows.now path.now }
+{
+    path.is_empty() || matches!(node_in(rows, path), Some(Node::Folder))
+}
+
+fn is_above_all(rows: &[JobRow], path: &Path) -> bool
+    ensures { result ≡ list_all (λ before. is_lt (path_cmp before.path path.now)) rows.now }
+{
+    rows.iter().all(|before| before.path.cmp(path).is_lt())
+}
+
+/// Whether the row may stand behind these.
+fn may_follow(rows: &[JobRow], row: &JobRow) -> bool
+    ensures { result ≡ rules.may_follow rows.now row.now }
+{
+    !row.path.names().is_empty()
+        && is_above_all(rows, &row.path)
+        && is_folder_in(rows, row.path.folder_names())
+}
+
+/// The row whose path the text spells; `None` where it spells none.
+fn read_row(alloc: Global, raw: &RawRow) -> Result<Option<JobRow>, AllocError>
+    ensures { IfOk result (λ row. row ≡ rules.read_row raw.now) }
+{
+    match Path::read(alloc, raw.path.bytes()) {
+        Ok(path) => Ok(Some(JobRow {
+            path,
+            node: raw.node.copy()?,
+        })),
+        Err(PathError::Memory) => Err(AllocError),
+        Err(_) => Ok(None),
+    }
+}
+
+/// The row, where it may stand behind these.
+fn next_row(alloc: Global, rows: &[JobRow], raw: &RawRow) -> Result<Option<JobRow>, AllocError>
+    ensures { IfOk result (λ row. row ≡ rules.next_row rows.now raw.now) }
+{
+    match read_row(alloc, raw)? {
+        Some(row) if may_follow(rows, &row) => Ok(Some(row)),
+        _ => Ok(None),
+    }
+}
+
+/// The rows whose paths the raw rows spell; refused at the first that may not stand behind those before it.
+pub fn rows_of(alloc: Global, raw: &RawRows) -> Result<JobRows, RowsFault>
+    ensures legal { OnOk result (AreLegal raw.now) }
+    ensures rows { IfOk result (λ rows. rows ≡ read_rows raw.now) }
+    ensures job_rows { IfOk result AreJobRows }
+    ensures err { IfErr result (IsRowsFault raw.now) }
+{
+    let mut rows = JobRows::new(alloc);
+    for (i, row) in raw.as_slice().iter().enumerate() {
+        match next_row(alloc, rows.as_slice(), row)? {
+            Some(row) => rows.push(row)?,
+            None => return Err(RowsFault::OddTree(saturate_u32(i))),
+        }
+    }
+    Ok(rows)
+}
