@@ -126,7 +126,9 @@ fn settle_store<L: Link>(
     ensures later { L.troubles link.old ≤ L.troubles link.new }
 {
     let store = store_of(client, entry)?;
-    settle(alloc, route, &store, link)
+    let settled = settle(alloc, route, &store, link);
+    drop(store);
+    settled
 }
 
 /// An entry's store.

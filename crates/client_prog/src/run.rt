@@ -112,11 +112,16 @@ fn is_quit(asked: &Result<Line, LineError>) -> bool
 fn text(alloc: Global, answer: Option<Answer>) -> Result<Vec<u8>, AllocError>
     ensures { IfOk result (λ text. IsText answer text.items) }
 {
-    match answer {
-        None => Ok(Vec::new(alloc)),
-        Some(answer) if has_no_memory(&answer) => text_of(alloc, &answer),
-        Some(_) => Err(AllocError),
+    let Some(answer) = answer else {
+        return Ok(Vec::new(alloc));
+    };
+    if !has_no_memory(&answer) {
+        drop(answer);
+        return Err(AllocError);
     }
+    let text = text_of(alloc, &answer);
+    drop(answer);
+    text
 }
 
 /// Does what a line asks for, writes its answer, and says whether it quits.
@@ -325,7 +330,10 @@ fn write_closing<O: Sink>(alloc: Global, session: &Session, output: &mut O) -> R
 fn closing(alloc: Global, session: &Session) -> Result<Vec<u8>, AllocError>
     ensures { IfOk result (λ text. text.items ≡ closing_line session.now) }
 {
-    text_of(alloc, &session.status())
+    let status = session.status();
+    let text = text_of(alloc, &status);
+    drop(status);
+    text
 }
 
 /// Answers the input of a client, and closes the output.

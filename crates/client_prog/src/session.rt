@@ -215,7 +215,13 @@ impl Session {
         let tree = self.client.log().tree();
         let answer = enter(alloc, tree, &self.folder, path)?;
         if let Answer::At(entered) = &answer {
-            self.folder = entered.copy()?;
+            match entered.copy() {
+                Ok(folder) => self.folder = folder,
+                Err(refused) => {
+                    drop(answer);
+                    return Err(KeepError::from(refused));
+                }
+            }
         }
         Ok(Some(answer))
     }

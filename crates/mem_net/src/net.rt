@@ -47,7 +47,7 @@ impl Model for MemNet {
 }
 
 impl MemNet {
-    ghost use Rattle.std.specs.Prelude.{◌≤◌, ◌∷◌, ◌++◌, [], IfOk, IfErr, IfSome, IfNone, OnOk, OnErr, option_map, slice_get, true, false};
+    ghost use Rattle.std.specs.Prelude.{◌≤◌, ◌∷◌, ◌++◌, [], Ok, IfOk, IfErr, IfSome, IfNone, OnOk, OnErr, option_map, slice_get, true, false};
     ghost use Rattle.std.specs.Option.{option_copied};
     ghost use Rattle.vol_tree.specs.Behind.{IsIn};
     ghost use Rattle.wire_frames.specs.Frame.{IsValid, Spells, Echoes, client_of, frame};
@@ -144,6 +144,15 @@ impl MemNet {
         Ok(())
     }
 
+    /// A copy of a packet joins the others.
+    fn join_copy(&mut self, packet: &Packet) -> Result<(), AllocError>
+        ensures ok { OnOk result (self.new ≡ record self.old { packets = self.old.packets ++ packet.now ∷ [] }) }
+        ensures err { OnErr result (self.new ≡ self.old) }
+    {
+        let copy = packet.copy()?;
+        self.join(copy)
+    }
+
     /// A message joins the packets.
     fn send(&mut self, message: &Message) -> Result<(), AllocError>
         requires { IsValid message.now }
@@ -165,7 +174,14 @@ impl MemNet {
         ensures ok { OnOk result (self.new ≡ record self.old { asks = self.old.asks ++ ask_of to address.now request answer ∷ [] }) }
         ensures err { OnErr result (self.new ≡ self.old) }
     {
-        let address = Content::of(self.alloc, address)?;
+        let address = match Content::of(self.alloc, address) {
+            Ok(address) => address,
+            Err(refused) => {
+                drop(request);
+                drop(answer);
+                return Err(refused);
+            }
+        };
         self.asks.push(Ask {
             to,
             address,
@@ -229,8 +245,13 @@ impl MemNet {
     {
         let reply = self.handle(request)?;
         let packet = Packet::of(self.alloc, reply)?;
-        self.join(packet.copy()?)?;
-        Ok(packet)
+        match self.join_copy(&packet) {
+            Ok(()) => Ok(packet),
+            Err(refused) => {
+                drop(packet);
+                Err(refused)
+            }
+        }
     }
 
     /// The packet of this number is delivered late, where it is a request.
@@ -246,7 +267,10 @@ impl MemNet {
             return Ok(());
         }
         let request = packet.message().copy()?;
-        self.deliver(&request)?;
+        let delivered = self.deliver(&request);
+        drop(request);
+        let reply = delivered?;
+        drop(reply);
         Ok(())
     }
 
@@ -261,11 +285,24 @@ impl MemNet {
             Err(FrameError::Memory) => return Err(AllocError),
             Err(_refusal) => return Ok(()),
         };
-        if !is_store(&store) || store.client() == self.client {
+        let injected = self.inject_message(&store);
+        drop(store);
+        injected
+    }
+
+    /// The message is sent and delivered, where it is another client's store.
+    fn inject_message(&mut self, message: &Message) -> Result<(), AllocError>
+        requires { IsValid message.now }
+        ensures world { OnOk result (world_of self.new ≡ injected (Ok message.now) (world_of self.old)) }
+        ensures moved { MovedFree (world_of self.old) (world_of self.new) }
+        ensures kept { KeepsFates self.old self.new }
+    {
+        if !is_store(message) || message.client() == self.client {
             return Ok(());
         }
-        self.send(&store)?;
-        self.deliver(&store)?;
+        self.send(message)?;
+        let reply = self.deliver(message)?;
+        drop(reply);
         Ok(())
     }
 
@@ -333,7 +370,10 @@ impl MemNet {
     {
         match self.deliver(&request) {
             Ok(reply) => self.answer(to, address, request, reply),
-            Err(_refused) => Err(LinkError::Memory),
+            Err(_refused) => {
+                drop(request);
+                Err(LinkError::Memory)
+            }
         }
     }
 
@@ -386,7 +426,10 @@ impl MemNet {
                 Ok(frame)
             }
             Ok(None) => self.lose(to, address, request),
-            Err(_refused) => Err(LinkError::Memory),
+            Err(_refused) => {
+                drop(request);
+                Err(LinkError::Memory)
+            }
         }
     }
 
@@ -411,12 +454,24 @@ impl MemNet {
             Fate::Pass => self.pass(to, address, request),
             Fate::LoseRequest => self.lose(to, address, request),
             Fate::LoseReply => match self.deliver(&request) {
-                Ok(_lost) => self.lose(to, address, request),
-                Err(_refused) => Err(LinkError::Memory),
+                Ok(lost) => {
+                    drop(lost);
+                    self.lose(to, address, request)
+                }
+                Err(_refused) => {
+                    drop(request);
+                    Err(LinkError::Memory)
+                }
             },
             Fate::Twice => match self.deliver(&request) {
-                Ok(_first) => self.pass(to, address, request),
-                Err(_refused) => Err(LinkError::Memory),
+                Ok(first) => {
+                    drop(first);
+                    self.pass(to, address, request)
+                }
+                Err(_refused) => {
+                    drop(request);
+                    Err(LinkError::Memory)
+                }
             },
             Fate::Old(k) => self.answer_by_old(k, to, address, request),
             Fate::Late(_) | Fate::Inject(_) => unreachable!(),
@@ -484,11 +539,15 @@ impl Link for MemNet {
             return Err(LinkError::Memory);
         };
         let Ok(decided) = self.reach(&request) else {
+            drop(request);
             return Err(LinkError::Memory);
         };
         let fate = match to {
             Peer::Server => decided,
-            Peer::Surrogate => Fate::LoseRequest,
+            Peer::Surrogate => {
+                drop(decided);
+                Fate::LoseRequest
+            }
         };
         self.meet(fate, to, address, request)
     }

@@ -29,8 +29,13 @@ impl Packet {
         requires { IsValid message }
         ensures { IfOk result (λ packet. packet ≡ message) }
     {
-        let frame = write(alloc, &message)?;
-        Ok(Packet { message, frame })
+        match write(alloc, &message) {
+            Ok(frame) => Ok(Packet { message, frame }),
+            Err(refused) => {
+                drop(message);
+                Err(refused)
+            }
+        }
     }
 
     /// The message.
@@ -60,8 +65,8 @@ impl Packet {
 
 impl TryCopy for Packet {
     fn copy(&self) -> Result<Packet, AllocError> {
-        let message = self.message.copy()?;
         let frame = Vec::from_slice(*self.frame.allocator(), &self.frame)?;
+        let message = self.message.copy()?;
         Ok(Packet { message, frame })
     }
 }

@@ -82,8 +82,11 @@ fn check_echo(alloc: Global, request: &Message, bytes: &[u8]) -> Result<(), Link
     ensures { OnOk result (IsReplyTo request.now bytes.now) }
 {
     match read(alloc, bytes) {
-        Ok(reply) if echoes(request, &reply) => Ok(()),
-        Ok(_) => Err(LinkError::Failed),
+        Ok(reply) => {
+            let fits = echoes(request, &reply);
+            drop(reply);
+            if fits { Ok(()) } else { Err(LinkError::Failed) }
+        }
         Err(refused) => Err(failure_of(&refused)),
     }
 }

@@ -8,18 +8,15 @@ use Rattle.mem_net.proofs.net.MemNet.deliver.Goals as goal
 pub returns-in_err-packet-clause-moved : goal.returns-in_err-packet-clause-moved
 returns-in_err-packet-clause-moved c = moved-handled c.args.request.now c.args.self.now c.handle.new.self c.requires.request c.requires.sent c.in_ok-reply.ensures.world
 
-pub returns-in_err-copy-clause-moved : goal.returns-in_err-copy-clause-moved
-returns-in_err-copy-clause-moved c = moved-handled c.args.request.now c.args.self.now c.handle.new.self c.requires.request c.requires.sent c.in_ok-reply.ensures.world
-
-pub returns-in_err-join-clause-moved : goal.returns-in_err-join-clause-moved
-returns-in_err-join-clause-moved c =
-    free_then (world_of c.args.self.now) (world_of c.handle.new.self) (world_of c.join.new.self)
+pub returns-in-Err-clause-moved : goal.returns-in-Err-clause-moved
+returns-in-Err-clause-moved c =
+    free_then (world_of c.args.self.now) (world_of c.handle.new.self) (world_of c.join_copy.new.self)
     (moved-handled c.args.request.now c.args.self.now c.handle.new.self c.requires.request c.requires.sent c.in_ok-reply.ensures.world)
-    (moved-same c.handle.new.self c.join.new.self c.in_err-join.ensures.err)
+    (moved-same c.handle.new.self c.join_copy.new.self c.in-Err.ensures.err)
 
-pub returns-clause-moved : goal.returns-clause-moved
-returns-clause-moved c =
+pub returns-in-Ok-clause-moved : goal.returns-in-Ok-clause-moved
+returns-in-Ok-clause-moved c =
     let m = c.args.request.now in
     let a : Net = c.args.self.now in
-    free_as (world_of a) (delivered m true (world_of a)) (world_of c.join.new.self) (free_delivered m (world_of a) c.requires.request c.requires.sent)
-    (world-answered m c.in_ok-copy.field-0 a c.handle.new.self c.join.new.self c.in_ok-reply.ensures.world (c.in_ok-copy.ensures ∙ c.in_ok-packet.ensures ∙ c.in_ok-reply.ensures.ok.0) c.in_ok-join.ensures.ok)
+    free_as (world_of a) (delivered m true (world_of a)) (world_of c.join_copy.new.self) (free_delivered m (world_of a) c.requires.request c.requires.sent)
+    (world-answered m c.in_ok-packet.packet a c.handle.new.self c.join_copy.new.self c.in_ok-reply.ensures.world (c.in_ok-packet.ensures ∙ c.in_ok-reply.ensures.ok.0) c.in-Ok.ensures.ok)

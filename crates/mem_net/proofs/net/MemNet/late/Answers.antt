@@ -8,8 +8,8 @@ use Rattle.mem_net.proofs.Network.{got_in}
 use Rattle.mem_net.proofs.Delivering.{late-delivered}
 use Rattle.mem_net.proofs.net.MemNet.late.Goals as goal
 
-pub deliver-requires-clause-sent : goal.deliver-requires-clause-sent
-deliver-requires-clause-sent c =
+pub deliver-delivered-requires-clause-sent : goal.deliver-delivered-requires-clause-sent
+deliver-delivered-requires-clause-sent c =
     let a : Net = c.args.self.now in
     subst (λ (m : Message). IsIn m a.packets) (sym (c.in_ok-request.ensures ∙ c.message-2.ensures.message)) (got_in a.packets c.args.k c.in-Some.packet.now (sym c.in-Some.ensures))
 
@@ -20,4 +20,4 @@ returns-clause-world c =
     let is : m ≡ c.in-Some.packet.now = c.in_ok-request.ensures ∙ c.message-2.ensures.message in
     let found : slice_get a.packets c.args.k ≡ Some m = sym c.in-Some.ensures ∙ ap Some (sym is) in
     let for : IsForServer m = search rules in
-    c.in_ok-deliver.ensures.world ∙ late-delivered m (slice_get a.packets c.args.k) (world_of a) found for
+    c.in_ok-reply.ensures.world ∙ late-delivered m (slice_get a.packets c.args.k) (world_of a) found for
