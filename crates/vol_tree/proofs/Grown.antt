@@ -20,7 +20,7 @@ use Rattle.vol_tree.proofs.Links.{SameShape, shape_slot, shape_arena, same_or_no
 
 -- ---- order
 
-with_one : (P : ℕ → Type 0) (front back : List ℕ) (j : ℕ) → AllByRecursion P (front ++ back) → P j → AllByRecursion P (front ++ j ∷ back)
+pub with_one : (P : ℕ → Type 0) (front back : List ℕ) (j : ℕ) → AllByRecursion P (front ++ back) → P j → AllByRecursion P (front ++ j ∷ back)
 with_one P [] back j all here = (here, all)
 with_one P (c ∷ front) back j all here = (all.0, with_one P front back j all.1 here)
 

@@ -29,3 +29,6 @@ pub mod Folders
 pub mod Counts
 pub mod Listing
 pub mod Shrunk
+pub mod Pool
+pub mod Used
+pub mod Leading

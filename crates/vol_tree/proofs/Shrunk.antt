@@ -21,7 +21,7 @@ use Rattle.vol_tree.proofs.Links.{same_or_not, all_at, same_child, same_ascendin
 
 -- ---- order
 
-without_one : (P : ℕ → Type 0) (front back : List ℕ) (j : ℕ) → AllByRecursion P (front ++ j ∷ back) → AllByRecursion P (front ++ back)
+pub without_one : (P : ℕ → Type 0) (front back : List ℕ) (j : ℕ) → AllByRecursion P (front ++ j ∷ back) → AllByRecursion P (front ++ back)
 without_one P [] back j all = all.1
 without_one P (c ∷ front) back j all = (all.0, without_one P front back j all.1)
 
@@ -100,8 +100,12 @@ module _ (old new : Places) (parent k : ℕ) (name : List ℕ) (arena : IsArena 
   not_itself : path ≡ path ++ name ∷ [] → ⊥
   not_itself same = omega (arith, ap length same, length-append path (name ∷ []))
 
+  -- the slot above it is where it was
+  pub shrunk_at : slot_of new 0 path ≡ Some parent
+  shrunk_at = kept_path path not_itself ∙ at
+
   gone : slot_of new 0 (path ++ name ∷ []) ≡ None
-  gone = one_further new path name parent (kept_path path not_itself ∙ at) ∙ ap (λ cs. child_named new cs name) shrinks.linked ∙ no_child
+  gone = one_further new path name parent shrunk_at ∙ ap (λ cs. child_named new cs name) shrinks.linked ∙ no_child
 
   -- a path that has a slot had it before
   had : (p : FilePath) (i : ℕ) → slot_of new 0 p ≡ Some i → slot_of old 0 p ≡ Some i

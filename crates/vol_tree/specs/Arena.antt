@@ -1,5 +1,5 @@
 -- Slots: which of them stands for a path, and the rows that all of them stand for.
-use Rattle.std.specs.Prelude.{◌≡◌, ℕ, zero, suc, ◌+◌, ◌<◌, ◌≤◌, ◌==◌, cond, List, [], ◌∷◌, ◌++◌, length, find, map, filter, is_some, slice_index, slice_index_or, slice_set, Option, Some, None, option_and_then}
+use Rattle.std.specs.Prelude.{◌≡◌, ◌≢◌, ℕ, zero, suc, ◌+◌, ◌-◌, ◌<◌, ◌≤◌, ◌==◌, cond, List, [], ◌∷◌, ◌++◌, length, find, map, filter, sum_by, is_some, IsTrue, slice_index, slice_index_or, slice_set, Option, Some, None, option_and_then}
 use Rattle.std.specs.List.{flat_map, AllByRecursion, insert, remove}
 use Rattle.std.specs.Option.{option_to_list}
 use Rattle.std.specs.declared.cmp.Ordering.{Ordering}
@@ -9,7 +9,7 @@ use Rattle.std.specs.Cmp.Lexicographic.{slice_cmp}
 use Rattle.vol_tree.specs.Path.{FilePath, IsPath}
 use Rattle.vol_tree.specs.declared.tree.Node.{Node}
 use Rattle.vol_tree.specs.declared.tree.Row.{Row}
-use Rattle.vol_tree.specs.Tree.{Volume, AreInOrder, total_size}
+use Rattle.vol_tree.specs.Tree.{Volume, AreInOrder, row_at, total_size}
 
 -- a slot: its name, how often its path was touched, what stands there, and the slots in it
 pub record Place : Type 0 where
@@ -84,6 +84,57 @@ pub record IsArena (slots : Places) : Type 0 where
   -- where no row is, nothing stands
   pub bare : (i : ℕ) → (place slots i).version ≡ 0 → (place slots i).node ≡ None
 
+-- ---- free slots
+
+-- no slot stands twice among these
+abbrev pub AreDistinct : List ℕ → Type 0
+AreDistinct [] = Unit {0}
+AreDistinct (c ∷ cs) = AllByRecursion (λ d. d ≡ c → ⊥) cs × AreDistinct cs
+
+-- a slot that is in no other and has none in it
+pub record IsFree (slots : Places) (owner : Option ℕ) (c : ℕ) : Type 0 where
+  pub within : c < length slots
+  pub below_root : c ≡ 0 → ⊥
+  pub unowned : owner ≡ None
+  pub leaf : (place slots c).children ≡ []
+
+-- how many slots are in others
+abbrev pub linked : Places → ℕ
+linked slots = sum_by (λ (slot : Place). length slot.children) slots
+
+-- each slot but the root's is in one other, or once among the free ones, for which there is room
+pub record IsPool (slots : Places) (free : List ℕ) (capacity : ℕ) : Type 0 where
+  -- the slot that each slot is in
+  pub owner : ℕ → Option ℕ
+  pub owned : (i : ℕ) → AllByRecursion (λ c. owner c ≡ Some i) (place slots i).children
+  pub root : owner 0 ≡ None
+  pub unlinked : AllByRecursion (λ c. IsFree slots (owner c) c) free
+  pub once : AreDistinct free
+  pub all : length slots - 1 ≡ linked slots + length free
+  pub room : length slots - 1 ≤ capacity
+
+-- a slot that stands for no row and has no slots in it
+abbrev pub IsIdle : Place → Type 0
+IsIdle slot = (slot.version ≡ 0) × (slot.children ≡ [])
+
+-- no slot that is in another is idle, but perhaps this one
+abbrev pub AreUsed : Places → Option ℕ → Type 0
+AreUsed slots but = (i : ℕ) → AllByRecursion (λ c. (but ≡ Some c → ⊥) → IsIdle (place slots c) → ⊥) (place slots i).children
+
+-- what an arena keeps
+pub record IsKept (slots : Places) (free : List ℕ) (capacity : ℕ) : Type 0 where
+  pub arena : IsArena slots
+  pub pool : IsPool slots free capacity
+  pub used : AreUsed slots None
+
+-- a row is at this path, or at one that goes on from it
+abbrev pub LeadsToRow : Volume → FilePath → Type 0
+LeadsToRow rows path = (rest : FilePath) × IsTrue (is_some (row_at rows (path ++ rest)))
+
+-- a slot, but the root's, is there only while a row lies at its path or below
+abbrev pub SlotsLeadToRows : Type 0
+SlotsLeadToRows = (slots : Places) (free : List ℕ) (capacity : ℕ) → IsKept slots free capacity → (path : FilePath) (i : ℕ) → path ≢ [] → slot_of slots 0 path ≡ Some i → LeadsToRow (rows_of slots) path
+
 -- ---- searching
 
 -- the child of this name is that with index k
@@ -100,6 +151,11 @@ pub record IsMissing (slots : Places) (children : List ℕ) (name : List ℕ) (k
   pub above : (j : ℕ) → k ≤ j → j < length children → name_cmp (place slots (slice_index children j)).name name ≡ Greater
 
 -- ---- changes
+
+-- the same slots, and perhaps more that nothing names
+pub record Pads (old new : Places) : Type 0 where
+  pub same : (i : ℕ) → place new i ≡ place old i
+  pub longer : length old ≤ length new
 
 -- one more slot, which stands for no row: j, with this name, before index k of the children of a slot
 pub record Grows (old new : Places) (parent k : ℕ) (name : List ℕ) (j : ℕ) : Type 0 where

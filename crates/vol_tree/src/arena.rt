@@ -1,10 +1,10 @@
 // The slots of a tree, which contracts see as the list of their rows.
-ghost use Rattle.std.specs.Prelude.{◌≡◌, ◌≢◌, ℕ, ◌+◌, ◌*◌, ◌<◌, ◌≤◌, List, [], ◌∷◌, ◌++◌, length, Some, None, IfOk, IfErr, OnOk, OnErr, slice_index, slice_get, IsTrue, is_some, false};
+ghost use Rattle.std.specs.Prelude.{◌≡◌, ◌≢◌, ℕ, ◌+◌, ◌*◌, ◌<◌, ◌≤◌, List, [], ◌∷◌, ◌++◌, length, vec_capacity, Some, None, IfOk, IfErr, OnOk, OnErr, slice_index, slice_get, IsTrue, is_some, false};
 ghost use Rattle.std.specs.Option.{option_copied, option_to_list};
 ghost use Rattle.vol_tree.specs.Tree.{row_at, version_at, node_at, is_root, is_at_top, touched, kept_row, restored, with_row, children};
 ghost use Rattle.std.specs.List.{insert, remove};
 ghost use Rattle.vol_tree.specs.Path.{FilePath, IsPath};
-ghost use Rattle.vol_tree.specs.Arena.{Place, Places, rows_of, rows_from, IsArena, own_row, written, Grows, IsEntered, place, slot_of, AreAscending, AreLinked, IsFound, IsMissing, standing as standing_names};
+ghost use Rattle.vol_tree.specs.Arena.{Place, Places, rows_of, rows_from, IsArena, IsPool, AreUsed, SlotsLeadToRows, own_row, written, Pads, Grows, IsEntered, place, slot_of, AreAscending, AreLinked, IsFound, IsMissing, standing as standing_names};
 
 use crate::content::Content;
 use crate::list::TryCopy;
@@ -34,6 +34,28 @@ impl Model for Slot {
 }
 
 impl Slot {
+    /// A slot without a name, which stands for no row.
+    fn blank(alloc: Global) -> Result<Slot, AllocError>
+        ensures { IfOk result (λ slot. slot ≡ record { name = []; version = 0; node = None; children = [] }) }
+    {
+        Ok(Slot {
+            name: Content::of(alloc, b"")?,
+            version: 0,
+            node: None,
+            children: Vec::new(alloc),
+        })
+    }
+
+    /// Begins anew with this name: it stands for no row and has no slots in it.
+    fn begin(&mut self, name: Content)
+        ensures { self.new ≡ record { name = name; version = 0; node = None; children = [] } }
+    {
+        self.name = name;
+        self.version = 0;
+        self.node = None;
+        self.children.clear();
+    }
+
     fn children(&self) -> &[u32]
         ensures { result.now ≡ self.now.children }
     {
@@ -88,6 +110,7 @@ impl Slot {
     fn is_idle(&self) -> bool
         ensures version { IsTrue result → self.now.version ≡ 0 }
         ensures leaf { IsTrue result → self.now.children ≡ [] }
+        ensures busy { result ≡ false → self.now.version ≡ 0 → self.now.children ≡ [] → ⊥ }
     {
         self.version == 0 && self.children.is_empty()
     }
@@ -157,18 +180,20 @@ fn descend(slots: &[Slot], path: &[Content]) -> (Option<u32>, u32)
 #[derive(Drop)]
 pub(crate) struct Arena {
     slots: Vec<Slot>,
+    /// The slots that are in no other, to be used again. There is room for all, so that giving one back takes no memory.
+    free: Vec<u32>,
 }
 
 impl Model for Arena {
-    ghost use Rattle.std.specs.Prelude.{List};
+    ghost use Rattle.std.specs.Prelude.{List, vec_capacity};
     ghost use Rattle.vol_tree.specs.declared.tree.Row.{Row};
-    ghost use Rattle.vol_tree.specs.Arena.{rows_of, IsArena};
+    ghost use Rattle.vol_tree.specs.Arena.{rows_of, IsKept};
 
     ghost Value = { List Row };
 
     ghost view = { λ arena. rows_of arena.slots.items };
 
-    ghost invariant = { λ arena. IsArena arena.slots.items };
+    ghost invariant = { λ arena. IsKept arena.slots.items arena.free.items (vec_capacity arena.free) };
 }
 
 impl Arena {
@@ -178,6 +203,7 @@ impl Arena {
     {
         Arena {
             slots: Vec::new(alloc),
+            free: Vec::new(alloc),
         }
     }
 
@@ -246,7 +272,7 @@ impl Arena {
         ensures kept { IfOk result (λ kept. kept ≡ kept_row self.old path) }
         ensures err { OnErr result (self.new ≡ self.old) }
     {
-        let i = reach(&mut self.slots, path.names())?;
+        let i = reach(&mut self.slots, &mut self.free, path.names())?;
         let version = version_of(&self.slots, i);
         let old = write(&mut self.slots, i, version + 1, node);
         Ok(Row {
@@ -285,7 +311,7 @@ impl Arena {
         } = kept;
         let i = slot_of_row(&self.slots, path.names());
         write_over(&mut self.slots, i, version, node);
-        prune(&mut self.slots, path.names());
+        prune(&mut self.slots, &mut self.free, path.names());
     }
 
     /// Adds a row.
@@ -300,7 +326,7 @@ impl Arena {
             version,
             node,
         } = row;
-        let i = reach(&mut self.slots, path.names())?;
+        let i = reach(&mut self.slots, &mut self.free, path.names())?;
         write_over(&mut self.slots, i, version, node);
         Ok(())
     }
@@ -323,7 +349,9 @@ impl TryCopy for Arena {
         for slot in &self.slots {
             slots.push(slot.copy()?)?;
         }
-        Ok(Arena { slots })
+        let mut free = Vec::with_capacity(*self.free.allocator(), self.slots.len())?;
+        free.extend_from_slice(self.free.as_slice())?;
+        Ok(Arena { slots, free })
     }
 }
 
@@ -451,48 +479,74 @@ fn write(slots: &mut Vec<Slot>, i: u32, version: u64, node: Option<Node>) -> Opt
     slots[i as usize].write(version, node)
 }
 
+/// A slot that is in no other: a free one, or one more.
+fn take_slot(slots: &mut Vec<Slot>, free: &mut Vec<u32>) -> Result<u32, AllocError>
+    requires linked { AreLinked slots.old.items }
+    requires root { 0 < length slots.old.items }
+    requires pool { IsPool slots.old.items free.old.items (vec_capacity free.old) }
+    ensures ok { IfOk result (λ j. IsPool slots.new.items (free.new.items ++ j ∷ []) (vec_capacity free.new)) }
+    ensures err { OnErr result (IsPool slots.new.items free.new.items (vec_capacity free.new)) }
+    ensures pads { Pads slots.old.items slots.new.items }
+{
+    if let Some(j) = free.pop() {
+        return Ok(j);
+    }
+    if slots.len() >= 4_294_967_295 {
+        return Err(AllocError);
+    }
+    let j = slots.len() as u32;
+    free.reserve(slots.len())?;
+    slots.push(Slot::blank(*slots.allocator())?)?;
+    Ok(j)
+}
+
 /// Adds a slot without a row before index `k` of a slot's children.
 fn add_child(
     slots: &mut Vec<Slot>,
+    free: &mut Vec<u32>,
     parent: u32,
     k: usize,
     name: &Content,
 ) -> Result<u32, AllocError>
     requires linked { AreLinked slots.old.items }
+    requires pool { IsPool slots.old.items free.old.items (vec_capacity free.old) }
     requires parent { parent < length slots.old.items }
+    requires reached { (path : FilePath) × (slot_of slots.old.items 0 path ≡ Some parent) }
     requires place { k ≤ length (place slots.old.items parent).children }
     ensures ok { IfOk result (Grows slots.old.items slots.new.items parent k name.now) }
     ensures room { OnOk result (length (place slots.old.items parent).children < 65535) }
-    ensures err { OnErr result (slots.new.items ≡ slots.old.items) }
+    ensures pool { IsPool slots.new.items free.new.items (vec_capacity free.new) }
+    ensures err { OnErr result (Pads slots.old.items slots.new.items) }
 {
-    if slots.len() >= 4_294_967_295 {
-        return Err(AllocError);
-    }
-    let j = slots.len() as u32;
-    let slot = Slot {
-        name: name.copy()?,
-        version: 0,
-        node: None,
-        children: Vec::new(*slots.allocator()),
-    };
-    slots.push(slot)?;
+    let name = name.copy()?;
+    let j = take_slot(slots, free)?;
     if slots[parent as usize].link(k, j).is_err() {
-        let _ = slots.pop();
+        let _ = free.push(j);
         return Err(AllocError);
     }
+    slots[j as usize].begin(name);
     Ok(j)
 }
 
 /// The child of a name, which is added where it is not there.
-fn enter(slots: &mut Vec<Slot>, at: u32, name: &Content) -> Result<u32, AllocError>
+fn enter(
+    slots: &mut Vec<Slot>,
+    free: &mut Vec<u32>,
+    at: u32,
+    name: &Content,
+) -> Result<u32, AllocError>
     requires arena { IsArena slots.old.items }
+    requires pool { IsPool slots.old.items free.old.items (vec_capacity free.old) }
     requires at { at < length slots.old.items }
+    requires reached { (path : FilePath) × (slot_of slots.old.items 0 path ≡ Some at) }
     ensures ok { IfOk result (λ j. (path : FilePath) → slot_of slots.old.items 0 path ≡ Some at → IsPath (path ++ name.now ∷ []) → IsEntered slots.old.items slots.new.items (path ++ name.now ∷ []) j) }
-    ensures err { OnErr result (slots.new.items ≡ slots.old.items) }
+    ensures used { IfOk result (λ j. AreUsed slots.old.items (Some at) → AreUsed slots.new.items (Some j)) }
+    ensures pool { IsPool slots.new.items free.new.items (vec_capacity free.new) }
+    ensures err { OnErr result (Pads slots.old.items slots.new.items) }
 {
     match search(slots, children_of(slots, at), name).0 {
         Ok(k) => Ok(children_of(slots, at)[k]),
-        Err(k) => add_child(slots, at, k, name),
+        Err(k) => add_child(slots, free, at, k, name),
     }
 }
 
@@ -500,40 +554,53 @@ fn enter(slots: &mut Vec<Slot>, at: u32, name: &Content) -> Result<u32, AllocErr
 fn add_root(slots: &mut Vec<Slot>) -> Result<(), AllocError>
     requires { IsArena slots.old.items }
     ensures ok { OnOk result (IsEntered slots.old.items slots.new.items [] 0) }
+    ensures pool { (free : List ℕ) (capacity : ℕ) → IsPool slots.old.items free capacity → IsPool slots.new.items free capacity }
+    ensures pads { Pads slots.old.items slots.new.items }
     ensures err { OnErr result (slots.new.items ≡ slots.old.items) }
 {
-    let alloc = *slots.allocator();
     if slots.is_empty() {
-        slots.push(Slot {
-            name: Content::from_vec(Vec::new(alloc)),
-            version: 0,
-            node: None,
-            children: Vec::new(alloc),
-        })?;
+        slots.push(Slot::blank(*slots.allocator())?)?;
     }
     Ok(())
 }
 
 /// The slot of a path, which is added, as are those above it, where they are not there.
-fn reach(slots: &mut Vec<Slot>, path: &[Content]) -> Result<u32, AllocError>
+/// Where memory is wanting, what was added is taken away again.
+fn reach(slots: &mut Vec<Slot>, free: &mut Vec<u32>, path: &[Content]) -> Result<u32, AllocError>
     requires arena { IsArena slots.old.items }
+    requires pool { IsPool slots.old.items free.old.items (vec_capacity free.old) }
+    requires used { AreUsed slots.old.items None }
     requires path { IsPath path.now }
     ensures ok { IfOk result (IsEntered slots.old.items slots.new.items path.now) }
     ensures arena { IsArena slots.new.items }
+    ensures pool { IsPool slots.new.items free.new.items (vec_capacity free.new) }
+    ensures used { IfOk result (λ i. AreUsed slots.new.items (Some i)) }
+    ensures err { OnErr result (AreUsed slots.new.items None) }
     ensures rows { rows_of slots.new.items ≡ rows_of slots.old.items }
 {
     add_root(slots)?;
     let mut at = 0;
-    for name in path {
-        at = enter(slots, at, name)?;
+    for depth in 0..path.len() {
+        match enter(slots, free, at, &path[depth]) {
+            Ok(next) => at = next,
+            Err(error) => {
+                prune(slots, free, &path[..depth]);
+                return Err(error);
+            }
+        }
     }
     Ok(at)
 }
 
 /// Takes away the slot of a name in a folder, if it stands for no row and has no slots in it; whether it did.
-fn drop_idle(slots: &mut Vec<Slot>, folder: &[Content], name: &Content) -> bool
-    requires { IsArena slots.old.items }
+fn drop_idle(slots: &mut Vec<Slot>, free: &mut Vec<u32>, folder: &[Content], name: &Content) -> bool
+    requires arena { IsArena slots.old.items }
+    requires pool { IsPool slots.old.items free.old.items (vec_capacity free.old) }
+    requires used { AreUsed slots.old.items (slot_of slots.old.items 0 (folder.now ++ name.now ∷ [])) }
     ensures arena { IsArena slots.new.items }
+    ensures pool { IsPool slots.new.items free.new.items (vec_capacity free.new) }
+    ensures dropped { IsTrue result → AreUsed slots.new.items (slot_of slots.new.items 0 folder.now) }
+    ensures kept { result ≡ false → AreUsed slots.new.items None }
     ensures rows { rows_of slots.new.items ≡ rows_of slots.old.items }
 {
     let Some(at) = descend(slots, folder).0 else {
@@ -547,20 +614,30 @@ fn drop_idle(slots: &mut Vec<Slot>, folder: &[Content], name: &Content) -> bool
         return false;
     }
     slots[at as usize].unlink(k);
+    let _ = free.push(child);
     true
 }
 
 /// Takes away the slots on the way to a path that stand for no row and have none below them, the last first.
-fn prune(slots: &mut Vec<Slot>, path: &[Content])
-    requires { IsArena slots.old.items }
+fn prune(slots: &mut Vec<Slot>, free: &mut Vec<u32>, path: &[Content])
+    requires arena { IsArena slots.old.items }
+    requires pool { IsPool slots.old.items free.old.items (vec_capacity free.old) }
+    requires used { AreUsed slots.old.items (slot_of slots.old.items 0 path.now) }
     ensures arena { IsArena slots.new.items }
+    ensures pool { IsPool slots.new.items free.new.items (vec_capacity free.new) }
+    ensures used { AreUsed slots.new.items None }
     ensures rows { rows_of slots.new.items ≡ rows_of slots.old.items }
 {
     let mut depth = path.len();
     while depth > 0 {
         depth -= 1;
-        if !drop_idle(slots, &path[..depth], &path[depth]) {
+        if !drop_idle(slots, free, &path[..depth], &path[depth]) {
             return;
         }
     }
 }
+
+/// States that a slot, but the root's, is there only while a row lies at its path or below.
+pub(crate) fn slots_lead_to_rows()
+    ensures { SlotsLeadToRows }
+{}

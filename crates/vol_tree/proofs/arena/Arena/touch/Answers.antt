@@ -1,6 +1,8 @@
-use Rattle.std.proofs.Common.{◌≡◌, ◌∙◌, refl, sym, ap, arith}
+use Rattle.std.proofs.Common.{◌≡◌, ◌∙◌, ◌+◌, refl, sym, ap, arith, vec_capacity}
 use Rattle.vol_tree.specs.Tree.{touched}
 use Rattle.vol_tree.proofs.Arenas.{may_rise, version_before, node_before, touched_arena, touched_rows}
+use Rattle.vol_tree.specs.Arena.{place}
+use Rattle.vol_tree.proofs.Used.{written_kept}
 use Rattle.vol_tree.proofs.arena.Arena.touch.Goals as goal
 
 pub overflow_add-version : goal.overflow_add-version
@@ -16,7 +18,8 @@ pub invariant_of-self-2 : goal.invariant_of-self-2
 invariant_of-self-2 c =
     let entered = rw c.names.ensures.names at c.in_ok-i.ensures.ok in
     let read = rw c.deref.ensures.value at c.version_of-version.ensures in
-    rw (c.write-old.ensures.new, read) (touched_arena c.self.inside.slots.items c.reach.new.slots.items c.args.path c.in_ok-i.i c.args.node entered c.requires.below_root)
+    let arena = touched_arena c.self.inside.slots.items c.reach.new.slots.items c.args.path c.in_ok-i.i c.args.node entered c.requires.below_root in
+    rw (c.write-old.ensures.new, read) (written_kept c.reach.new.slots.items c.reach.new.free.items (vec_capacity c.reach.new.free) c.in_ok-i.i ((place c.reach.new.slots.items c.in_ok-i.i).version + 1) c.args.node arena entered.within (λ z. absurd (omega arith)) c.in_ok-i.ensures.pool c.in_ok-i.ensures.used)
 
 pub returns-clause-ok : goal.returns-clause-ok
 returns-clause-ok c =
