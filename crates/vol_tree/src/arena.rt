@@ -479,7 +479,7 @@ fn add_child(
     };
     slots.push(slot)?;
     if slots[parent as usize].link(k, j).is_err() {
-        let _ = slots.pop();
+        drop(slots.pop());
         return Err(AllocError);
     }
     Ok(j)
@@ -507,7 +507,7 @@ fn add_root(slots: &mut Vec<Slot>) -> Result<(), AllocError>
     let alloc = *slots.allocator();
     if slots.is_empty() {
         slots.push(Slot {
-            name: Content::from_vec(Vec::new(alloc)),
+            name: Content::empty(),
             version: 0,
             node: None,
             children: Vec::new(alloc),

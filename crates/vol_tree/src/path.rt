@@ -108,7 +108,7 @@ impl Path {
     pub fn text(&self) -> Result<Content, AllocError>
         ensures { IfOk result (λ text. text ≡ path_text self.now) }
     {
-        Ok(Content::from_vec(joined(self.names.allocator(), self.names.as_slice())?))
+        Content::from_vec(joined(self.names.allocator(), self.names.as_slice())?)
     }
 
     /// Appends the text.
@@ -135,7 +135,7 @@ impl Path {
             text.push(b'/')?;
         }
         text.extend_from_slice(word)?;
-        Ok(Content::from_vec(text))
+        Content::from_vec(text)
     }
 
     /// The path without its last name; `None` for the root.
@@ -179,7 +179,7 @@ impl Path {
     {
         match self.names.as_slice().last() {
             Some(name) => name.copy(),
-            None => Ok(Content::from_vec(Vec::new(self.names.allocator()))),
+            None => Ok(Content::empty()),
         }
     }
 

@@ -345,6 +345,7 @@ fn restore_both(rows: &mut Counted, first: Row, second: Row)
     requires can_undo { CanUndo (first ∷ second ∷ []) rows.old }
     ensures { rows.new ≡ undone (first ∷ second ∷ []) rows.old }
 {
+    let _size = size_of(&first.node);
     rows.restore(first);
     rows.restore(second);
 }
@@ -640,7 +641,8 @@ pub(crate) fn is_folder_at(rows: &[Row], path: &[Content]) -> bool
 }
 
 pub(crate) fn size_of(node: &Option<Node>) -> u64
-    ensures { result ≡ node_size node.now }
+    ensures value { result ≡ node_size node.now }
+    ensures bound { result < 2 ^ 63 }
 {
     match node {
         Some(Node::File(content)) => content.bytes().len() as u64,
