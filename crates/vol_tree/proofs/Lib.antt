@@ -32,3 +32,4 @@ pub mod Shrunk
 pub mod Pool
 pub mod Used
 pub mod Leading
+pub mod Spelled

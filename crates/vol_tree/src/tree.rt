@@ -8,12 +8,14 @@ ghost use Rattle.vol_tree.specs.declared.tree.TreeError.TheVariants.{Memory};
 ghost use Rattle.vol_tree.specs.declared.tree.Row.{Row};
 ghost use Rattle.vol_tree.specs.Tree.{IsTree, AreInOrder, row_at, version_at, node_at, is_folder, apply, touched, kept_row, restored, undone, CanUndo, changed, kept_rows, is_at_top, has_no_room, is_child, total_size, size_with, node_size, is_folder_node, children, IsRowsRefusal, IsLegalEffect};
 ghost use Rattle.vol_tree.specs.Path.{IsPath, folder_of, path_cmp, is_same_path};
+ghost use Rattle.vol_tree.specs.Spelling.{rows as spelled_rows};
 
 use crate::content::Content;
 use crate::counted::{Counted, size_at};
 use crate::list::TryCopy;
 use crate::path::Path;
 use crate::{Names, Rows};
+use byte_fields::put_u32;
 use std::alloc::{AllocError, Global};
 use std::cmp::Ordering;
 use std::marker::Model;
@@ -286,6 +288,16 @@ impl Tree {
         rows.arena().rows()
     }
 
+    /// Appends the spelling of the rows, as `Rows::spell` does, and copies none of them.
+    pub fn spell_rows(&self, out: &mut Vec<u8>) -> Result<(), AllocError>
+        ensures rows { OnOk result (out.new.items ≡ out.old.items ++ spelled_rows self.now) }
+        ensures tree { IsTree self.now }
+    {
+        put_u32(out, self.count())?;
+        let rows = &self.rows;
+        rows.arena().spell(out)
+    }
+
     /// The names in a folder, in order; none where the path is no folder.
     pub fn children(&self, path: &Path) -> Result<Names, AllocError>
         ensures { IfOk result (λ names. names ≡ children self.now path.now) }
@@ -333,6 +345,7 @@ fn restore_both(rows: &mut Counted, first: Row, second: Row)
     requires can_undo { CanUndo (first ∷ second ∷ []) rows.old }
     ensures { rows.new ≡ undone (first ∷ second ∷ []) rows.old }
 {
+    let _size = size_of(&first.node);
     rows.restore(first);
     rows.restore(second);
 }
@@ -628,7 +641,8 @@ pub(crate) fn is_folder_at(rows: &[Row], path: &[Content]) -> bool
 }
 
 pub(crate) fn size_of(node: &Option<Node>) -> u64
-    ensures { result ≡ node_size node.now }
+    ensures value { result ≡ node_size node.now }
+    ensures bound { result < 2 ^ 63 }
 {
     match node {
         Some(Node::File(content)) => content.bytes().len() as u64,

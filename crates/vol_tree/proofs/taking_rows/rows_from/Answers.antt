@@ -17,7 +17,7 @@ loop-preserved c =
     record {
       so_far = rw c.in_ok-push.ensures.ok step;
       in_order = rw c.in_ok-push.ensures.ok (order_with_next c.loop.rows c.args.bytes.now c.loop.at c.in_ok-row.row c.in_ok-row.next read c.loop.invariant.in_order);
-      left = rw c.in_ok-push.ensures.ok (omega (arith, c.saturating_sub-room.ensures, c.size_of.ensures, c.loop.invariant.left, room_with_next c.loop.rows c.in_ok-row.row));
+      left = rw c.in_ok-push.ensures.ok (omega (arith, c.saturating_sub-room.ensures, c.size_of.ensures.value, c.loop.invariant.left, room_with_next c.loop.rows c.in_ok-row.row));
     }
 
 pub returns : goal.returns

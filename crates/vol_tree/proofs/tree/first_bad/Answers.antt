@@ -15,7 +15,7 @@ next c =
     next_is_tree c.args.rows.now c.loop-i.i c.index-rows-i.result (omega arith) c.index-rows-i.is c.loop-i.invariant.tree (record { is_path = c.follows.ensures.path; version_fits = c.follows.ensures.version }) follows
 
 size : (c : goal.After-size_of-size) → total_size (take (c.loop-i.i + 1) c.args.rows.now) ≡ c.loop-i.size + c.size_of-size.result
-size c = omega (arith, size_of_next c.args.rows.now c.loop-i.i c.index-rows-i.result (omega arith) c.index-rows-i.is, c.loop-i.invariant.size, c.size_of-size.ensures)
+size c = omega (arith, size_of_next c.args.rows.now c.loop-i.i c.index-rows-i.result (omega arith) c.index-rows-i.is, c.loop-i.invariant.size, c.size_of-size.ensures.value)
 
 pub overflow_add-size : goal.overflow_add-size
 overflow_add-size c = omega (arith, (next c).small, size c)

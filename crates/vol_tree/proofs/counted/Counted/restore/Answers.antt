@@ -24,7 +24,7 @@ pub invariant_of-self-2 : goal.invariant_of-self-2
 invariant_of-self-2 c =
     let node = rw c.names.ensures.names at c.find.ensures.node in
     let there = rw (← c.self.view_is) at c.requires.there in
-    rw (c.restore-2.ensures, c.size_at-removed.ensures, node, c.size_of.ensures)
+    rw (c.restore-2.ensures, c.size_at-removed.ensures, node, c.size_of.ensures.value)
     (counted_restored c.self.inside.arena c.self.inside.count c.self.inside.size c.self.invariant c.args.kept.path c.args.kept refl c.if-kept-eq0.false there)
 
 pub overflow_add-self : goal.overflow_add-self
@@ -32,4 +32,4 @@ overflow_add-self c =
     let node = rw c.names.ensures.names at c.find.ensures.node in
     let is = size_restored c.self.inside.arena c.self.inside.count c.self.inside.size c.args.kept c.self.invariant c.if-kept-eq0.false in
     let small = rw (← c.self.view_is) at c.requires.small in
-    rw (c.size_at-removed.ensures, node, c.size_of.ensures) (omega (arith, is, small))
+    rw (c.size_at-removed.ensures, node, c.size_of.ensures.value) (omega (arith, is, small))
