@@ -1,4 +1,5 @@
 use super::*;
+use bytes::Bytes;
 use std::alloc::Global;
 use std::test::Fail;
 
@@ -75,6 +76,20 @@ fn copies_paths(rt: HostRuntime) -> Result<(), Fail> {
     assert!(rt; x.parent()? == Some(d));
     let root = Path::root(alloc);
     assert!(rt; root.parent()?.is_none());
+    Ok(())
+}
+
+#[test]
+fn copies_share_their_bytes(rt: HostRuntime) -> Result<(), Fail> {
+    let alloc = rt.alloc();
+    let content = Content::of_shared(Bytes::copy_from_slice(alloc, b"xy")?);
+    let copied = content.copy()?;
+    assert_eq!(rt; copied.bytes(), b"xy".as_slice());
+    let (first, second) = (
+        content.bytes().as_ptr(),
+        copied.shared().as_slice().as_ptr(),
+    );
+    assert!(rt; first == second);
     Ok(())
 }
 
