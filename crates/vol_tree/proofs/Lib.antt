@@ -29,3 +29,4 @@ pub mod Folders
 pub mod Counts
 pub mod Listing
 pub mod Shrunk
+pub mod Spelled

@@ -53,10 +53,10 @@ pub text_of_parts : (first : List ℕ) (rest : List (List ℕ)) → path_text (f
 text_of_parts first [] = sym (append-nil first)
 text_of_parts first (next ∷ rest) = ap (λ text. first ++ 47 ∷ text) (text_of_parts next rest)
 
--- the text once each name but the first is behind it
-pub joined_whole : (names : List (List ℕ)) (first : List ℕ) (rest : List (List ℕ)) (i : ℕ) (text start : List ℕ) → names ≡ first ∷ rest → start ≡ first → text ≡ start ++ flat_map (λ name. 47 ∷ name) (take i rest) → length rest ≤ i → text ≡ path_text names
-joined_whole names first rest i text start split is so_far end =
-    rw (split, so_far, is, take_all i rest end) (sym (text_of_parts first rest))
+-- the bytes once each name but the first is behind it
+pub joined_whole : (names : List (List ℕ)) (first : List ℕ) (rest : List (List ℕ)) (i : ℕ) (start out : List ℕ) → names ≡ first ∷ rest → out ≡ (start ++ first) ++ flat_map (λ name. 47 ∷ name) (take i rest) → length rest ≤ i → out ≡ start ++ path_text names
+joined_whole names first rest i start out split so_far end =
+    rw (split, so_far, take_all i rest end, text_of_parts first rest) (append_assoc start first (flat_map (λ name. 47 ∷ name) rest))
 
 -- no front of a path has a longer text
 shorter : (names : List (List ℕ)) (n : ℕ) → length (path_text (take n names)) ≤ length (path_text names)

@@ -1,14 +1,16 @@
 // The slots of a tree, which contracts see as the list of their rows.
 ghost use Rattle.std.specs.Prelude.{◌≡◌, ◌≢◌, ℕ, ◌+◌, ◌*◌, ◌<◌, ◌≤◌, List, [], ◌∷◌, ◌++◌, length, Some, None, IfOk, IfErr, OnOk, OnErr, slice_index, slice_get, IsTrue, is_some, false};
 ghost use Rattle.std.specs.Option.{option_copied, option_to_list};
-ghost use Rattle.vol_tree.specs.Tree.{row_at, version_at, node_at, is_root, is_at_top, touched, kept_row, restored, with_row, children};
-ghost use Rattle.std.specs.List.{insert, remove};
+ghost use Rattle.vol_tree.specs.Tree.{row_at, version_at, node_at, node_size, is_root, is_at_top, touched, kept_row, restored, with_row, children};
+ghost use Rattle.std.specs.List.{insert, remove, flat_map, AllByRecursion};
 ghost use Rattle.vol_tree.specs.Path.{FilePath, IsPath};
+ghost use Rattle.vol_tree.specs.Spelling.{row as spelled_row};
 ghost use Rattle.vol_tree.specs.Arena.{Place, Places, rows_of, rows_from, IsArena, own_row, written, Grows, IsEntered, place, slot_of, AreAscending, AreLinked, IsFound, IsMissing, standing as standing_names};
 
 use crate::content::Content;
 use crate::list::TryCopy;
 use crate::path::Path;
+use crate::spelling::spell_row;
 use crate::tree::{Node, Row, copy_node};
 use crate::{Names, Rows};
 use std::alloc::{AllocError, Global};
@@ -563,4 +565,51 @@ fn prune(slots: &mut Vec<Slot>, path: &[Content])
             return;
         }
     }
+}
+
+impl Arena {
+    /// Appends the spellings of the rows, in order; none of them is copied.
+    pub(crate) fn spell(&self, out: &mut Vec<u8>) -> Result<(), AllocError>
+        requires { AllByRecursion (λ row. node_size row.node ≤ 8388608) self.now }
+        ensures { OnOk result (out.new.items ≡ out.old.items ++ flat_map spelled_row self.now) }
+    {
+        let root = Path::root(*self.slots.allocator());
+        spell_rows(&self.slots, &root, 0, 34, out)
+    }
+}
+
+/// Appends the spellings of the row of a slot and of those below it, so many levels down.
+fn spell_rows(
+    slots: &[Slot],
+    path: &Path,
+    i: u32,
+    levels: u32,
+    out: &mut Vec<u8>,
+) -> Result<(), AllocError>
+    requires linked { AreLinked slots.now }
+    requires paths { (below : FilePath) (k : ℕ) → slot_of slots.now i below ≡ Some k → IsPath (path.now ++ below) }
+    requires small { AllByRecursion (λ row. node_size row.node ≤ 8388608) (rows_from levels slots.now path.now i) }
+    ensures { OnOk result (out.new.items ≡ out.old.items ++ flat_map spelled_row (rows_from levels slots.now path.now i)) }
+{
+    if levels == 0 {
+        return Ok(());
+    }
+    spell_own_row(slots, path, i, out)?;
+    for c in children_of(slots, i) {
+        let child = path.child(slots[*c as usize].name())?;
+        spell_rows(slots, &child, *c, levels - 1, out)?;
+    }
+    Ok(())
+}
+
+/// Appends the spelling of the row of a slot, if it stands for one.
+fn spell_own_row(slots: &[Slot], path: &Path, i: u32, out: &mut Vec<u8>) -> Result<(), AllocError>
+    requires { AllByRecursion (λ row. node_size row.node ≤ 8388608) (option_to_list (own_row path.now (place slots.now i))) }
+    ensures { OnOk result (out.new.items ≡ out.old.items ++ flat_map spelled_row (option_to_list (own_row path.now (place slots.now i)))) }
+{
+    let version = version_of(slots, i);
+    if version > 0 {
+        spell_row(path, version, node_of(slots, i), out)?;
+    }
+    Ok(())
 }

@@ -1,5 +1,5 @@
 // Paths, which contracts see as the list of their names.
-ghost use Rattle.std.specs.Prelude.{◌≤◌, ◌≡◌, ◌≢◌, ℕ, ◌+◌, ◌-◌, List, [], ◌∷◌, ◌++◌, length, min, not, ◌==◌, IfOk, IfErr, IsTrue, position, map, slice_get};
+ghost use Rattle.std.specs.Prelude.{◌≤◌, ◌≡◌, ◌≢◌, ℕ, ◌+◌, ◌-◌, List, [], ◌∷◌, ◌++◌, length, min, not, ◌==◌, IfOk, IfErr, OnOk, IsTrue, position, map, slice_get};
 ghost use Rattle.std.specs.List.{list_all, slice_split};
 ghost use Rattle.vol_tree.specs.Inside.{joined_size};
 ghost use Rattle.vol_tree.specs.declared.path.PathError.TheVariants.{Memory};
@@ -109,6 +109,13 @@ impl Path {
         ensures { IfOk result (λ text. text ≡ path_text self.now) }
     {
         Ok(Content::from_vec(joined(self.names.allocator(), self.names.as_slice())?))
+    }
+
+    /// Appends the text.
+    pub(crate) fn put_text(&self, out: &mut Vec<u8>) -> Result<(), AllocError>
+        ensures { OnOk result (out.new.items ≡ out.old.items ++ path_text self.now) }
+    {
+        put_joined(self.names.as_slice(), out)
     }
 
     /// The number of bytes of the text.
@@ -262,15 +269,24 @@ impl Ord for Path {
 fn joined(alloc: Global, names: &[Content]) -> Result<Vec<u8>, AllocError>
     ensures { IfOk result (λ text. text.items ≡ path_text names.now) }
 {
-    let Some((first, rest)) = names.split_first() else {
-        return Ok(Vec::new(alloc));
-    };
-    let mut text = Vec::from_slice(alloc, first.bytes())?;
-    for name in rest {
-        text.push(b'/')?;
-        text.extend_from_slice(name.bytes())?;
-    }
+    let mut text = Vec::new(alloc);
+    put_joined(names, &mut text)?;
     Ok(text)
+}
+
+/// Appends the names, joined by `/`.
+fn put_joined(names: &[Content], out: &mut Vec<u8>) -> Result<(), AllocError>
+    ensures { OnOk result (out.new.items ≡ out.old.items ++ path_text names.now) }
+{
+    let Some((first, rest)) = names.split_first() else {
+        return Ok(());
+    };
+    out.extend_from_slice(first.bytes())?;
+    for name in rest {
+        out.push(b'/')?;
+        out.extend_from_slice(name.bytes())?;
+    }
+    Ok(())
 }
 
 /// The bytes of the names, with one more for each.

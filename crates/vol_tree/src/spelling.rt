@@ -1,6 +1,7 @@
 //! Appending the spellings of values, and how long they are.
 
 ghost use Rattle.std.specs.Prelude.{◌≡◌, ◌<◌, ◌≤◌, ◌+◌, ◌^◌, ◌++◌, length, OnOk};
+ghost use Rattle.std.specs.Option.{option_copied};
 ghost use Rattle.vol_tree.specs.Tree.{IsTree, node_size};
 ghost use Rattle.vol_tree.specs.Effects.{content_size};
 ghost use Rattle.vol_tree.specs.Spelling.{path, content, effect, effects, base, bases, node, row, rows, EffectFits, EffectsFit};
@@ -20,8 +21,7 @@ impl Path {
         ensures { OnOk result (out.new.items ≡ out.old.items ++ path value.now) }
     {
         put_u16(out, value.text_len() as u16)?;
-        out.extend_from_slice(value.text()?.bytes())?;
-        Ok(())
+        value.put_text(out)
     }
 
     /// The number of bytes of the spelling.
@@ -137,9 +137,9 @@ impl List<Base> {
 }
 
 /// Appends what stands at a path: a byte for its kind, and a file's content.
-fn spell_node(value: &Option<Node>, out: &mut Vec<u8>) -> Result<(), AllocError>
-    requires { node_size value.now ≤ 8388608 }
-    ensures { OnOk result (out.new.items ≡ out.old.items ++ node value.now) }
+fn spell_node(value: Option<&Node>, out: &mut Vec<u8>) -> Result<(), AllocError>
+    requires { node_size (option_copied value) ≤ 8388608 }
+    ensures { OnOk result (out.new.items ≡ out.old.items ++ node (option_copied value.entry)) }
 {
     match value {
         None => out.push(0)?,
@@ -152,16 +152,28 @@ fn spell_node(value: &Option<Node>, out: &mut Vec<u8>) -> Result<(), AllocError>
     Ok(())
 }
 
+/// Appends a row's path, its version and what stands at the path.
+pub(crate) fn spell_row(
+    path: &Path,
+    version: u64,
+    node: Option<&Node>,
+    out: &mut Vec<u8>,
+) -> Result<(), AllocError>
+    requires { node_size (option_copied node) ≤ 8388608 }
+    ensures { OnOk result (out.new.items ≡ out.old.items ++ row (record { path = path.now; version = version; node = option_copied node.entry })) }
+{
+    Path::spell(path, out)?;
+    put_u64(out, version)?;
+    spell_node(node, out)
+}
+
 impl Row {
     /// Appends the spelling: the path, eight bytes for the version, and what stands at the path.
     pub fn spell(value: &Row, out: &mut Vec<u8>) -> Result<(), AllocError>
         requires { node_size value.now.node ≤ 8388608 }
         ensures { OnOk result (out.new.items ≡ out.old.items ++ row value.now) }
     {
-        Path::spell(&value.path, out)?;
-        put_u64(out, value.version)?;
-        spell_node(&value.node, out)?;
-        Ok(())
+        spell_row(&value.path, value.version, value.node.as_ref(), out)
     }
 }
 

@@ -8,12 +8,14 @@ ghost use Rattle.vol_tree.specs.declared.tree.TreeError.TheVariants.{Memory};
 ghost use Rattle.vol_tree.specs.declared.tree.Row.{Row};
 ghost use Rattle.vol_tree.specs.Tree.{IsTree, AreInOrder, row_at, version_at, node_at, is_folder, apply, touched, kept_row, restored, undone, CanUndo, changed, kept_rows, is_at_top, has_no_room, is_child, total_size, size_with, node_size, is_folder_node, children, IsRowsRefusal, IsLegalEffect};
 ghost use Rattle.vol_tree.specs.Path.{IsPath, folder_of, path_cmp, is_same_path};
+ghost use Rattle.vol_tree.specs.Spelling.{rows as spelled_rows};
 
 use crate::content::Content;
 use crate::counted::{Counted, size_at};
 use crate::list::TryCopy;
 use crate::path::Path;
 use crate::{Names, Rows};
+use byte_fields::put_u32;
 use std::alloc::{AllocError, Global};
 use std::cmp::Ordering;
 use std::marker::Model;
@@ -284,6 +286,16 @@ impl Tree {
     {
         let rows = &self.rows;
         rows.arena().rows()
+    }
+
+    /// Appends the spelling of the rows, as `Rows::spell` does, and copies none of them.
+    pub fn spell_rows(&self, out: &mut Vec<u8>) -> Result<(), AllocError>
+        ensures rows { OnOk result (out.new.items ≡ out.old.items ++ spelled_rows self.now) }
+        ensures tree { IsTree self.now }
+    {
+        put_u32(out, self.count())?;
+        let rows = &self.rows;
+        rows.arena().spell(out)
     }
 
     /// The names in a folder, in order; none where the path is no folder.
