@@ -5,7 +5,7 @@ use Rattle.std.specs.List.{flat_map}
 use Rattle.std.proofs.lemmas.Bool.{le-leb}
 use Rattle.std.proofs.lemmas.List.{drop-take}
 use Rattle.std.proofs.Math.Seq.{take-append-add}
-use Rattle.byte_fields.specs.Field.{Reader, ◌>>=◌, digits, limited, number_at, each_at}
+use Rattle.byte_fields.specs.Field.{Reader, ◌>>=◌, digits, limited, each_at}
 use Rattle.byte_fields.specs.Codec.{Stands}
 use Rattle.byte_fields.specs.Cuts.{start_of}
 use Rattle.byte_fields.specs.Broken.{IsRefused, passed}

@@ -1,5 +1,5 @@
 -- The laws of entries in which an effect or a base breaks a rule.
-use Rattle.std.proofs.Common.{◌≡◌, ◌≢◌, ◌⊎◌, ℕ, ◌+◌, ◌-◌, ◌^◌, ◌<◌, ◌≤◌, Bool, true, false, ◌&&◌, leb, eqb, List, [], ◌∷◌, ◌++◌, length, Ok, inl, inr, refl, sym, subst, ◌∙◌, arith, lit<, length-append}
+use Rattle.std.proofs.Common.{◌≡◌, ◌≢◌, ◌⊎◌, ℕ, ◌+◌, ◌-◌, ◌^◌, ◌<◌, ◌≤◌, true, false, ◌&&◌, leb, eqb, List, [], ◌∷◌, ◌++◌, length, Ok, inl, inr, refl, sym, subst, ◌∙◌, arith, lit<, length-append}
 use Rattle.std.specs.Int.{w8, w32}
 use Rattle.std.specs.List.{flat_map, AllByRecursion}
 use Rattle.std.proofs.lemmas.Bool.{le-leb, eq-eqb, ne_eqb}
@@ -13,7 +13,7 @@ use Rattle.vol_tree.specs.declared.tree.Effect.{Effect}
 use Rattle.vol_tree.specs.declared.tree.Base.{Base}
 use Rattle.vol_tree.specs.Tree.{Volume, IsTree, apply, changed}
 use Rattle.vol_tree.specs.Effects.{content_size, contents_size, changed_all, base_of}
-use Rattle.vol_tree.specs.Spelling.{effect, effects, base, BaseFits, EffectsFit}
+use Rattle.vol_tree.specs.Spelling.{effect, effects, base, BaseFits}
 use Rattle.vol_tree.specs.Reading.{effect_at, room_after}
 use Rattle.mod_log.specs.Log.{Log, after, tree_of, IsLog}
 use Rattle.mod_log.proofs.Entries.{holds_trees}
