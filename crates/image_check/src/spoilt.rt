@@ -438,45 +438,52 @@ fn sum_of_answers(alloc: Global, reader: Reader, image: &[u8]) -> Result<u32, Al
     Ok(sum)
 }
 
-#[test]
-fn fronts_end_in_the_field_that_is_cut(rt: HostRuntime) -> Result<(), Fail> {
-    let alloc = rt.alloc();
-    let client = bytes_of(alloc, CLIENT)?;
-    let new = bytes_of(alloc, NEW)?;
-    let server = server(alloc)?;
-    let fields = server_fields(alloc)?;
-    assert_eq!(rt;
-        first_wrong_front(alloc, Reader::Client, &client, &CLIENT_FIELDS),
-        None
-    );
-    assert_eq!(rt;
-        first_wrong_front(alloc, Reader::Client, &new, &NEW_FIELDS),
-        None
-    );
-    assert_eq!(rt;
-        first_wrong_front(alloc, Reader::Server, &server, &fields),
-        None
-    );
-    Ok(())
+/// What a test wants of an image: where its fields begin, the answers to a zero and to ones in place of each byte, and the
+/// answers to turned bits as one number.
+#[derive(Clone, Copy)]
+struct Wanted<'a> {
+    fields: &'a [u32],
+    zeros: &'a [(usize, Answer)],
+    ones: &'a [(usize, Answer)],
+    turned: u32,
+}
+
+/// Which of the answers to an image is not the wanted one.
+fn wrong(
+    alloc: Global,
+    reader: Reader,
+    image: &[u8],
+    wanted: &Wanted<'_>,
+) -> Result<Option<&'static str>, AllocError> {
+    if first_wrong_front(alloc, reader, image, wanted.fields) != None {
+        return Ok(Some("a front"));
+    }
+    if first_wrong_byte(alloc, reader, image, Change::Zero, wanted.zeros)? != None {
+        return Ok(Some("a zero"));
+    }
+    if first_wrong_byte(alloc, reader, image, Change::Ones, wanted.ones)? != None {
+        return Ok(Some("ones"));
+    }
+    if first_wrong_byte(alloc, reader, image, Change::Complement, wanted.ones)? != None {
+        return Ok(Some("a complement"));
+    }
+    if sum_of_answers(alloc, reader, image)? != wanted.turned {
+        return Ok(Some("a turned bit"));
+    }
+    Ok(None)
 }
 
 #[test]
 fn a_spoilt_client_is_refused_at_its_field(rt: HostRuntime) -> Result<(), Fail> {
     let alloc = rt.alloc();
     let image = bytes_of(alloc, CLIENT)?;
-    let zero = first_wrong_byte(alloc, Reader::Client, &image, Change::Zero, &CLIENT_ZEROS)?;
-    let ones = first_wrong_byte(alloc, Reader::Client, &image, Change::Ones, &CLIENT_ONES)?;
-    let turned = first_wrong_byte(
-        alloc,
-        Reader::Client,
-        &image,
-        Change::Complement,
-        &CLIENT_ONES,
-    )?;
-    assert_eq!(rt; zero, None);
-    assert_eq!(rt; ones, None);
-    assert_eq!(rt; turned, None);
-    assert_eq!(rt; sum_of_answers(alloc, Reader::Client, &image)?, 162_640_575);
+    let wanted = Wanted {
+        fields: &CLIENT_FIELDS,
+        zeros: &CLIENT_ZEROS,
+        ones: &CLIENT_ONES,
+        turned: 162_640_575,
+    };
+    assert_eq!(rt; wrong(alloc, Reader::Client, &image, &wanted)?, None);
     Ok(())
 }
 
@@ -484,13 +491,13 @@ fn a_spoilt_client_is_refused_at_its_field(rt: HostRuntime) -> Result<(), Fail> 
 fn a_spoilt_new_client_is_refused_at_its_field(rt: HostRuntime) -> Result<(), Fail> {
     let alloc = rt.alloc();
     let image = bytes_of(alloc, NEW)?;
-    let zero = first_wrong_byte(alloc, Reader::Client, &image, Change::Zero, &NEW_ZEROS)?;
-    let ones = first_wrong_byte(alloc, Reader::Client, &image, Change::Ones, &NEW_ONES)?;
-    let turned = first_wrong_byte(alloc, Reader::Client, &image, Change::Complement, &NEW_ONES)?;
-    assert_eq!(rt; zero, None);
-    assert_eq!(rt; ones, None);
-    assert_eq!(rt; turned, None);
-    assert_eq!(rt; sum_of_answers(alloc, Reader::Client, &image)?, 786_501_266);
+    let wanted = Wanted {
+        fields: &NEW_FIELDS,
+        zeros: &NEW_ZEROS,
+        ones: &NEW_ONES,
+        turned: 786_501_266,
+    };
+    assert_eq!(rt; wrong(alloc, Reader::Client, &image, &wanted)?, None);
     Ok(())
 }
 
@@ -498,39 +505,33 @@ fn a_spoilt_new_client_is_refused_at_its_field(rt: HostRuntime) -> Result<(), Fa
 fn a_spoilt_server_is_refused_at_its_field(rt: HostRuntime) -> Result<(), Fail> {
     let alloc = rt.alloc();
     let image = server(alloc)?;
-    let zero = first_wrong_byte(alloc, Reader::Server, &image, Change::Zero, &SERVER_ZEROS)?;
-    let ones = first_wrong_byte(alloc, Reader::Server, &image, Change::Ones, &SERVER_ONES)?;
-    let turned = first_wrong_byte(
-        alloc,
-        Reader::Server,
-        &image,
-        Change::Complement,
-        &SERVER_ONES,
-    )?;
-    assert_eq!(rt; zero, None);
-    assert_eq!(rt; ones, None);
-    assert_eq!(rt; turned, None);
-    assert_eq!(rt;
-        sum_of_answers(alloc, Reader::Server, &image)?,
-        3_404_901_961
-    );
+    let fields = server_fields(alloc)?;
+    let wanted = Wanted {
+        fields: &fields,
+        zeros: &SERVER_ZEROS,
+        ones: &SERVER_ONES,
+        turned: 3_404_901_961,
+    };
+    assert_eq!(rt; wrong(alloc, Reader::Server, &image, &wanted)?, None);
     Ok(())
+}
+
+/// Whether a client's image is written as it was read.
+fn client_again(alloc: Global, bytes: &[u8]) -> Result<bool, Fail> {
+    let image = read_client(alloc, bytes)?;
+    Ok(write_client(image.client, &image.log)?.as_slice() == bytes)
+}
+
+/// Whether a server's image is written as it was read.
+fn server_again(alloc: Global, bytes: &[u8]) -> Result<bool, Fail> {
+    let image = read_server(alloc, bytes)?;
+    Ok(write_server(&image.last, &image.tree)?.as_slice() == bytes)
 }
 
 #[test]
 fn what_is_read_is_written_again(rt: HostRuntime) -> Result<(), Fail> {
     let alloc = rt.alloc();
-    let client = bytes_of(alloc, CLIENT)?;
-    let server = server(alloc)?;
-    let read = read_client(alloc, &client)?;
-    let kept = read_server(alloc, &server)?;
-    assert_eq!(rt;
-        write_client(read.client, &read.log)?.as_slice(),
-        client.as_slice()
-    );
-    assert_eq!(rt;
-        write_server(&kept.last, &kept.tree)?.as_slice(),
-        server.as_slice()
-    );
+    assert!(rt; client_again(alloc, &bytes_of(alloc, CLIENT)?)?);
+    assert!(rt; server_again(alloc, &server(alloc)?)?);
     Ok(())
 }
