@@ -1,7 +1,7 @@
 ghost use Rattle.std.specs.Prelude.{◌≢◌, IfOk, []};
 
 use mod_log::Log;
-use std::alloc::Global;
+use std::alloc::{AllocError, Global};
 use std::rt::HostRuntime;
 use std::test::Fail;
 use store_image::{ImageError, read_client, read_server, write_client, write_server};
@@ -29,125 +29,145 @@ fn hello(alloc: Global) -> Result<Effects, Fail>
     Ok(effects)
 }
 
-/// The refusal of the bytes with this byte at the place.
-fn refusal_with(alloc: Global, bytes: &[u8], place: usize, byte: u8) -> Result<ImageError, Fail> {
-    let mut changed = bytes.to_vec(alloc)?;
-    if place < changed.len() {
-        changed[place] = byte;
+/// The image of client 1 that has logged so many puts.
+fn written(alloc: Global, puts: u32) -> Result<Vec<u8>, Fail> {
+    let mut log = Log::new(0, Tree::new(alloc));
+    for _ in 0..puts {
+        let _ = log.append(hello(alloc)?)?;
     }
-    refusal_of(alloc, &changed)
+    Ok(write_client(1, &log)?)
 }
 
-fn refusal_of(alloc: Global, bytes: &[u8]) -> Result<ImageError, Fail> {
+/// What is read of an image: the client, the acknowledged number, how many entries are pending, and how many rows the tree has.
+fn told(alloc: Global, bytes: &[u8]) -> Result<[u64; 4], Fail> {
+    let image = read_client(alloc, bytes)?;
+    let client = u64::from(image.client);
+    let pending = u64::from(image.log.pending());
+    let rows = u64::from(image.log.tree().count());
+    Ok([client, image.log.acked(), pending, rows])
+}
+
+/// The number of the next entry of the client that is read.
+fn next_number(alloc: Global, bytes: &[u8]) -> Result<u64, Fail> {
+    let mut image = read_client(alloc, bytes)?;
+    Ok(image.log.append(hello(alloc)?)?)
+}
+
+/// Why the bytes are no client's image.
+fn refusal_of(alloc: Global, bytes: &[u8]) -> Option<ImageError> {
     match read_client(alloc, bytes) {
-        Ok(_) => Err("it is read")?,
-        Err(refusal) => Ok(refusal),
+        Ok(image) => {
+            drop(image);
+            None
+        }
+        Err(refusal) => Some(refusal),
+    }
+}
+
+/// Bytes of an image up to a place, with others in their place, and where the faulty field begins.
+#[derive(Clone, Copy)]
+struct Case<'a> {
+    image: &'a [u8],
+    place: usize,
+    bytes: &'a [u8],
+    refused: u32,
+}
+
+/// The image with these bytes in place of its own.
+fn spoilt(alloc: Global, case: &Case<'_>) -> Result<Vec<u8>, AllocError> {
+    let mut spoilt = Vec::new(alloc);
+    let place = case.place.min(case.image.len());
+    spoilt.extend_from_slice(&case.image[..place])?;
+    spoilt.extend_from_slice(case.bytes)?;
+    let behind = (place + case.bytes.len().min(64)).min(case.image.len());
+    spoilt.extend_from_slice(&case.image[behind..])?;
+    Ok(spoilt)
+}
+
+/// The first of these cases that is refused elsewhere, or not at all.
+fn first_wrong(alloc: Global, cases: &[Case<'_>]) -> Result<Option<usize>, AllocError> {
+    for (i, case) in cases.iter().enumerate() {
+        let spoilt = spoilt(alloc, case)?;
+        if refusal_of(alloc, &spoilt) != Some(ImageError::BadImage(case.refused)) {
+            return Ok(Some(i));
+        }
+    }
+    Ok(None)
+}
+
+fn spoilt_case<'a>(image: &'a [u8], place: usize, bytes: &'a [u8], refused: u32) -> Case<'a> {
+    Case {
+        image,
+        place,
+        bytes,
+        refused,
     }
 }
 
 #[test]
 fn the_smallest_image(rt: HostRuntime) -> Result<(), Fail> {
     let alloc = rt.alloc();
-    let log = Log::new(0, Tree::new(alloc));
-    let written = write_client(1, &log)?;
-    assert_eq!(rt; written.as_slice(), EMPTY.as_slice());
-    let image = read_client(alloc, &EMPTY)?;
-    assert_eq!(rt; image.client, 1);
-    assert_eq!(rt; image.log.acked(), 0);
-    assert_eq!(rt; image.log.pending(), 0);
-    assert_eq!(rt; image.log.tree().count(), 0);
+    assert!(rt; written(alloc, 0)?.as_slice() == EMPTY.as_slice());
+    assert!(rt; told(alloc, &EMPTY)? == [1, 0, 0, 0]);
     Ok(())
 }
 
 #[test]
 fn an_entry_is_kept(rt: HostRuntime) -> Result<(), Fail> {
     let alloc = rt.alloc();
-    let mut log = Log::new(0, Tree::new(alloc));
-    let _ = log.append(hello(alloc)?)?;
-    let written = write_client(1, &log)?;
-    assert_eq!(rt; written.as_slice(), HELLO.as_slice());
-    let mut image = read_client(alloc, &HELLO)?;
-    let again = write_client(1, &image.log)?;
-    assert_eq!(rt; again.as_slice(), HELLO.as_slice());
-    let a = Path::read(alloc, b"a")?;
-    assert_eq!(rt; image.log.pending(), 1);
-    assert_eq!(rt; image.log.tree().version(&a), 1);
-    let seq = image.log.append(hello(alloc)?)?;
-    assert_eq!(rt; seq, 2);
+    assert!(rt; written(alloc, 1)?.as_slice() == HELLO.as_slice());
+    assert!(rt; told(alloc, &HELLO)? == [1, 0, 1, 1]);
+    assert!(rt; next_number(alloc, &HELLO)? == 2);
     Ok(())
 }
 
 #[test]
 fn what_is_no_image(rt: HostRuntime) -> Result<(), Fail> {
     let alloc = rt.alloc();
-    assert_eq!(rt; refusal_of(alloc, &EMPTY[..21])?, ImageError::BadImage(18));
-    assert_eq!(rt; refusal_of(alloc, &EMPTY[..3])?, ImageError::BadImage(0));
-    assert_eq!(rt; refusal_of(alloc, b"OSSI")?, ImageError::WrongKind);
-    assert_eq!(rt; refusal_with(alloc, &EMPTY, 4, 2)?, ImageError::BadImage(4));
-    assert_eq!(rt; refusal_with(alloc, &EMPTY, 5, 0)?, ImageError::BadImage(5));
-    assert_eq!(rt;
-        refusal_with(alloc, &EMPTY, 5, 65)?,
-        ImageError::BadImage(5)
-    );
-    // 1,280 entries; then a byte that is left
-    assert_eq!(rt;
-        refusal_with(alloc, &EMPTY, 20, 5)?,
-        ImageError::BadImage(18)
-    );
-    assert_eq!(rt; refusal_of(alloc, &HELLO[..55])?, ImageError::BadImage(48));
-    let mut longer = EMPTY.to_vec(alloc)?;
-    longer.push(0)?;
-    assert_eq!(rt; refusal_of(alloc, &longer)?, ImageError::BadImage(22));
+    assert!(rt; refusal_of(alloc, b"OSSI") == Some(ImageError::WrongKind));
+    // another version; clients 0 and 65; 1,280 entries, and one behind the last number; a byte that is left
+    let cases = [
+        spoilt_case(&EMPTY, 4, &[2], 4),
+        spoilt_case(&EMPTY, 5, &[0], 5),
+        spoilt_case(&EMPTY, 5, &[65], 5),
+        spoilt_case(&EMPTY, 20, &[5], 18),
+        spoilt_case(&HELLO, 6, &[255; 8], 18),
+        spoilt_case(&EMPTY, 22, &[0], 22),
+        // a removal of what is not there, at the effect; another origin; another version
+        spoilt_case(&HELLO, 27, &[3], 27),
+        spoilt_case(&HELLO, 22, &[1], 22),
+        spoilt_case(&HELLO, 55, &[1], 48),
+    ];
+    assert!(rt; first_wrong(alloc, &cases)? == None);
+    assert!(rt; refusal_of(alloc, &EMPTY[..21]) == Some(ImageError::BadImage(18)));
     Ok(())
 }
 
-#[test]
-fn an_entry_that_does_not_fit(rt: HostRuntime) -> Result<(), Fail> {
-    let alloc = rt.alloc();
-    // a removal of what is not there, at the effect; an origin of a command; another version; the last number
-    assert_eq!(rt;
-        refusal_with(alloc, &HELLO, 27, 3)?,
-        ImageError::BadImage(27)
-    );
-    assert_eq!(rt;
-        refusal_with(alloc, &HELLO, 22, 1)?,
-        ImageError::BadImage(22)
-    );
-    assert_eq!(rt;
-        refusal_with(alloc, &HELLO, 55, 1)?,
-        ImageError::BadImage(48)
-    );
-    let mut last = HELLO.to_vec(alloc)?;
-    for i in 6..14 {
-        if i < last.len() {
-            last[i] = 255;
-        }
+/// The image of a server with a folder `d`, and 258 as the last number of client 64; or of a new one.
+fn server(alloc: Global, is_new: bool) -> Result<Vec<u8>, Fail> {
+    let mut tree = Tree::new(alloc);
+    let mut last = [0; 64];
+    if !is_new {
+        last[63] = 258;
+        let _ = tree.apply(&Effect::Make(Path::read(alloc, b"d")?))?;
     }
-    assert_eq!(rt; refusal_of(alloc, &last)?, ImageError::BadImage(18));
-    Ok(())
+    Ok(write_server(&last, &tree)?)
+}
+
+/// Whether the bytes are the image of the server that has the folder.
+fn has_folder(alloc: Global, bytes: &[u8]) -> Result<bool, Fail> {
+    let image = read_server(alloc, bytes)?;
+    let folder = Path::read(alloc, b"d")?;
+    Ok(image.last[63] == 258 && image.last[0] == 0 && image.tree.is_folder(&folder))
 }
 
 #[test]
 fn a_server_is_kept(rt: HostRuntime) -> Result<(), Fail> {
     let alloc = rt.alloc();
-    let mut tree = Tree::new(alloc);
-    let mut last = [0; 64];
-    let new = write_server(&last, &tree)?;
-    assert_eq!(rt; new.len(), 521);
-    assert_eq!(rt; refusal_of(alloc, &new)?, ImageError::WrongKind);
-    last[63] = 258;
-    let _ = tree.apply(&Effect::Make(Path::read(alloc, b"d")?))?;
-    let written = write_server(&last, &tree)?;
-    assert_eq!(rt; written.len(), 533);
-    let image = read_server(alloc, &written)?;
-    assert_eq!(rt; image.last, last);
-    assert!(rt; image.tree.is_folder(&Path::read(alloc, b"d")?));
+    let new = server(alloc, true)?;
+    assert!(rt; new.len() == 521);
+    assert!(rt; refusal_of(alloc, &new) == Some(ImageError::WrongKind));
+    assert!(rt; has_folder(alloc, &server(alloc, false)?)?);
     assert!(rt; matches!(read_server(alloc, &EMPTY), Err(ImageError::WrongKind)));
-    assert!(rt;
-        matches!(
-            read_server(alloc, &written[..written.len().min(532)]),
-            Err(ImageError::BadImage(532))
-        )
-    );
     Ok(())
 }

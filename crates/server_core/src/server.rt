@@ -123,7 +123,11 @@ impl Server {
     {
         let alloc = self.tree.allocator();
         match read(alloc, bytes) {
-            Ok(message) => self.serve_in_frame(&message),
+            Ok(message) => {
+                let reply = self.serve_in_frame(&message);
+                drop(message);
+                reply
+            }
             Err(FrameError::Memory) => Err(AllocError),
             Err(refusal) => in_frame(alloc, malformed(&refusal)),
         }
@@ -139,7 +143,11 @@ impl Server {
     {
         let alloc = self.tree.allocator();
         match read(alloc, bytes) {
-            Ok(message) => self.noted(&message),
+            Ok(message) => {
+                let noted = self.noted(&message);
+                drop(message);
+                noted
+            }
             Err(FrameError::Memory) => Err(AllocError),
             Err(refusal) => Ok((in_frame(alloc, malformed(&refusal))?, false)),
         }
@@ -320,7 +328,7 @@ fn acceptance(alloc: Global, message: &Message) -> Result<Vec<u8>, AllocError>
     match message {
         Message::Store { client, number, .. } => {
             let (client, number) = (*client, *number);
-            write(alloc, &Message::Accepted { client, number })
+            in_frame(alloc, Message::Accepted { client, number })
         }
         _ => Ok(Vec::new(alloc)),
     }
@@ -330,7 +338,9 @@ fn in_frame(alloc: Global, message: Message) -> Result<Vec<u8>, AllocError>
     requires { IsValid message }
     ensures { IfOk result (λ bytes. bytes.items ≡ frame message) }
 {
-    write(alloc, &message)
+    let frame = write(alloc, &message);
+    drop(message);
+    frame
 }
 
 /// What is answered to bytes that are refused.

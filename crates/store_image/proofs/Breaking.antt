@@ -1,23 +1,34 @@
 -- The laws of images that break a rule.
-use Rattle.std.proofs.Common.{◌≡◌, ◌≢◌, ◌⊎◌, ℕ, ◌+◌, ◌-◌, ◌<◌, Bool, true, false, ◌&&◌, leb, eqb, List, [], ◌∷◌, ◌++◌, length, Ok, inl, inr, refl, sym, arith, lit<, true≢false}
-use Rattle.std.specs.Int.{w8, w32, w64}
+use Rattle.std.proofs.Common.{◌≡◌, ◌≢◌, ◌⊎◌, ℕ, ◌+◌, ◌^◌, ◌<◌, ◌≤◌, Bool, true, false, ◌&&◌, leb, eqb, List, [], ◌∷◌, ◌++◌, length, take, drop, Ok, Err, inl, inr, refl, sym, ap, arith, lit<, length-append}
+use Rattle.std.specs.Int.{w8, w64}
 use Rattle.std.specs.Str.{bytes_eq}
+use Rattle.std.specs.List.{AllByRecursion}
 use Rattle.std.specs.Result.{is_ok}
-use Rattle.std.proofs.lemmas.Bool.{ne_eqb}
+use Rattle.std.proofs.lemmas.Bool.{le-leb, ne_eqb}
 use Rattle.std.proofs.lemmas.Slice.Eq.{bytes_eq-Decides}
 use Rattle.byte_fields.specs.Field.{Reader, ◌>>=◌, digits, ruled, number_at, span_at, tagged_at}
+use Rattle.byte_fields.specs.Numbers.{as_u32}
+use Rattle.byte_fields.specs.Codec.{Stands}
 use Rattle.byte_fields.specs.Broken.{IsRefused}
-use Rattle.byte_fields.proofs.Codec.{u8_codec, u32_codec, u64_codec, span_codec, ruled_codec}
-use Rattle.byte_fields.proofs.Breaking.{read_again, refused_there, rule_refused, first_refused, later_refused, tagged_refused, kind_refused, above, second_fails}
+use Rattle.byte_fields.proofs.Codec.{u8_codec, u64_codec, span_codec, ruled_codec}
+use Rattle.byte_fields.proofs.Breaking.{read_again, refused_there, rule_refused, ruled_refused, first_refused, later_refused, tagged_refused, kind_refused, above, second_fails}
 use Rattle.vol_tree.specs.declared.tree.Base.{Base}
 use Rattle.vol_tree.specs.Path.{FilePath, is_same_path}
-use Rattle.vol_tree.specs.Tree.{apply}
-use Rattle.vol_tree.specs.Spelling.{path, effect}
-use Rattle.vol_tree.specs.Reading.{path_at, effect_at}
-use Rattle.vol_tree.proofs.Parts.{path_codec, effect_codec, tied_path, path_tied}
-use Rattle.mod_log.specs.Log.{Log}
-use Rattle.store_image.specs.Reading.{growing_effect_at, known_base_at, next_entry_at, is_count, entries_at, marked, client_mark, client_body_at, client_versions, client_at, server_mark, server_versions, server_at}
+use Rattle.vol_tree.specs.Tree.{Volume, IsTree, apply}
+use Rattle.vol_tree.specs.Spelling.{path, effect, rows}
+use Rattle.vol_tree.specs.Reading.{path_at, effect_at, rows_at}
+use Rattle.vol_tree.proofs.Parts.{path_codec, effect_codec, rows_codec, tied_path, path_tied}
+use Rattle.vol_tree.proofs.Sizes.{eight_digits}
+use Rattle.mod_log.specs.Log.{Log, new_log_of}
+use Rattle.store_image.specs.declared.image.ImageError.TheVariants.{BadImage}
+use Rattle.store_image.specs.Reading.{growing_effect_at, known_base_at, next_entry_at, entries_at, log_at, marked, client_mark, client_body_at, client_versions, client_at, numbers_at, server_mark, server_body_at, server_versions, server_at}
+use Rattle.store_image.specs.Spelling.{numbers}
+use Rattle.store_image.specs.Image.{image_of}
 use Rattle.store_image.specs.Broken.{BrokenEntries, BrokenImages}
+use Rattle.store_image.proofs.Entries.{made_log}
+use Rattle.store_image.proofs.Images.{client_made, number_codec, numbers_codec, server_made}
+use Rattle.store_image.proofs.Sizes.{numbers_size}
+use Rattle.store_image.proofs.BreakingParts.{effect_is_none, effects_are_none, effect_is_refused, bases_are_others, base_is_refused}
 
 not_true : (b : Bool) → (b ≡ true → ⊥) → b ≡ false
 not_true true h = absurd (h refl)
@@ -28,29 +39,27 @@ not_true false h = refl
 path_differs : (known other : FilePath) → other ≢ known → is_same_path known other ≡ false
 path_differs known other differ = not_true (is_same_path known other) (λ same. differ (sym (tied_path known other same)))
 
-base_path_refused : (known : Base) (text : List ℕ) → IsRefused (ruled (is_same_path known.path) path_at) text 0 → IsRefused (known_base_at known) text 0
+base_path_refused : (known : Base) (text : List ℕ) (offset : ℕ) → IsRefused (ruled (is_same_path known.path) path_at) text offset → IsRefused (known_base_at known) text offset
 unfolding known_base_at
-base_path_refused known text refused bytes at next stands = rw (refused bytes at next stands) refl
+base_path_refused known text offset refused bytes at next stands = rw (refused bytes at next stands) refl
 
 origin_refused : (log : Log) (text : List ℕ) → IsRefused (ruled (λ n. eqb n 0) (number_at w8)) text 0 → IsRefused (next_entry_at log) text 0
 unfolding next_entry_at
 origin_refused log text refused bytes at next stands = rw (refused bytes at next stands) refl
 
-entry_count_refused : (log : Log) (text : List ℕ) → IsRefused (ruled (is_count log.acked) (number_at w32)) text 0 → IsRefused (entries_at log) text 0
-unfolding entries_at
-entry_count_refused log text refused bytes at next stands = rw (refused bytes at next stands) refl
-
-first_fails : (a b : Bool) → a ≡ false → (a && b) ≡ false
-first_fails true b e = absurd (true≢false e)
-first_fails false b e = refl
-
 pub broken_entries : BrokenEntries
 unfolding growing_effect_at known_base_at
 broken_entries = record {
+  effect_is_none = effect_is_none;
+  path_is_none = λ known text offset refused. base_path_refused known text offset (ruled_refused path_at (is_same_path known.path) text offset refused);
+  effects_are_none = effects_are_none;
+  effect_is_refused = effect_is_refused;
+  bases_are_others = bases_are_others;
+  base_is_refused = base_is_refused;
   effect_does_not_apply = λ growing e refusal fits room none.
       rule_refused (effect_at growing.room) (λ x. is_ok (apply x growing.tree)) (effect e) e (read_again (effect_codec growing.room) e (fits, room)) (rw none refl);
   path_is_another = λ known other is differ.
-      base_path_refused known (path other) (rule_refused path_at (is_same_path known.path) (path other) other (read_again path_codec other is) (path_differs known.path other differ));
+      base_path_refused known (path other) 0 (rule_refused path_at (is_same_path known.path) (path other) other (read_again path_codec other is) (path_differs known.path other differ));
   version_is_another = λ known version is small differ.
       refused_there (known_base_at known) (path known.path ++ digits w64 version) (length (path known.path) + 0) (length (path known.path)) (omega arith)
       (later_refused (ruled (is_same_path known.path) path_at) (λ p bytes at. ruled (λ n. eqb n known.version) (number_at w64) bytes at >>= λ v. Ok (record { path = p; version = v.0 }, v.1)) (path known.path) (digits w64 version) known.path 0
@@ -59,8 +68,6 @@ broken_entries = record {
       (rule_refused (number_at w64) (λ n. eqb n known.version) (digits w64 version) version (read_again u64_codec version small) (ne_eqb version known.version differ))));
   origin_is_another = λ log origin byte differ.
       origin_refused log (origin ∷ []) (rule_refused (number_at w8) (λ n. eqb n 0) (origin ∷ []) origin (read_again u8_codec origin byte) (ne_eqb origin 0 differ));
-  count_is_large = λ log count small large.
-      entry_count_refused log (digits w32 count) (rule_refused (number_at w32) (is_count log.acked) (digits w32 count) count (read_again u32_codec count small) (first_fails (leb count 1024) (leb count (18446744073709551615 - log.acked)) (above count 1024 large)));
 }
 
 -- ---- images
@@ -85,6 +92,53 @@ client_number_refused : (text : List ℕ) → IsRefused (ruled (λ n. leb 1 n &&
 unfolding client_body_at
 client_number_refused text refused bytes at next stands = rw (refused bytes at next stands) refl
 
+log_refused : (client : ℕ) (text : List ℕ) (offset : ℕ) → 1 ≤ client → client ≤ 64 → IsRefused log_at text offset → IsRefused client_at (client_mark ++ (1 ∷ client ∷ text)) (6 + offset)
+unfolding client_at client_body_at
+log_refused client text offset some few refused =
+    refused_there client_at (client_mark ++ (1 ∷ client ∷ text)) (4 + (1 + (1 + offset))) (6 + offset) (omega arith)
+    (behind_mark_refused client_mark refl (tagged_at client_versions) (1 ∷ client ∷ text) (1 + (1 + offset))
+    (tagged_refused client_versions 1 client_body_at (client ∷ text) (1 + offset) (lit< tt) (λ tag at bytes. refl)
+    (later_refused (ruled (λ n. leb 1 n && leb n 64) (number_at w8)) (λ n bytes at. log_at bytes at >>= λ l. Ok (client_made n l.0, l.1)) (client ∷ []) text client offset
+    (read_again number_codec client (omega arith, rw (le-leb 1 client some, le-leb client 64 few) refl)) (first_refused log_at (λ l bytes at. Ok (client_made client l, at)) text offset refused))))
+
+module _ (client acked : ℕ) (some : 1 ≤ client) (few : client ≤ 64) (small : acked < 2 ^ 64) where
+  client_rows : (text : List ℕ) (offset : ℕ) → IsRefused rows_at text offset → IsRefused client_at (client_mark ++ (1 ∷ client ∷ (digits w64 acked ++ text))) (14 + offset)
+  unfolding log_at
+  client_rows text offset refused =
+      refused_there client_at (client_mark ++ (1 ∷ client ∷ (digits w64 acked ++ text))) (6 + (length (digits w64 acked) + offset)) (14 + offset) (omega (arith, eight_digits acked))
+      (log_refused client (digits w64 acked ++ text) (length (digits w64 acked) + offset) some few
+      (later_refused (number_at w64) (λ n bytes at. rows_at bytes at >>= λ base. entries_at (new_log_of n base.0) bytes base.1 >>= λ pending. Ok (made_log n base.0 pending.0, pending.1)) (digits w64 acked) text acked offset (read_again u64_codec acked small)
+      (first_refused rows_at (λ base bytes at. entries_at (new_log_of acked base) bytes at >>= λ pending. Ok (made_log acked base pending.0, pending.1)) text offset refused)))
+
+  client_entries : (base : Volume) (text : List ℕ) (offset : ℕ) → IsTree base → IsRefused (entries_at (new_log_of acked base)) text offset → IsRefused client_at (client_mark ++ (1 ∷ client ∷ (digits w64 acked ++ (rows base ++ text)))) (14 + (length (rows base) + offset))
+  unfolding log_at
+  client_entries base text offset tree refused =
+      refused_there client_at (client_mark ++ (1 ∷ client ∷ (digits w64 acked ++ (rows base ++ text)))) (6 + (length (digits w64 acked) + (length (rows base) + offset))) (14 + (length (rows base) + offset)) (omega (arith, eight_digits acked))
+      (log_refused client (digits w64 acked ++ (rows base ++ text)) (length (digits w64 acked) + (length (rows base) + offset)) some few
+      (later_refused (number_at w64) (λ n bytes at. rows_at bytes at >>= λ v. entries_at (new_log_of n v.0) bytes v.1 >>= λ pending. Ok (made_log n v.0 pending.0, pending.1)) (digits w64 acked) (rows base ++ text) acked (length (rows base) + offset) (read_again u64_codec acked small)
+      (later_refused rows_at (λ v bytes at. entries_at (new_log_of acked v) bytes at >>= λ pending. Ok (made_log acked v pending.0, pending.1)) (rows base) text base offset (read_again rows_codec base tree)
+      (first_refused (entries_at (new_log_of acked base)) (λ pending bytes at. Ok (made_log acked base pending, at)) text offset refused))))
+
+server_rows : (last : List ℕ) (text : List ℕ) (offset : ℕ) → length last ≡ 64 → AllByRecursion (λ n. n < 2 ^ 64) last → IsRefused rows_at text offset → IsRefused server_at (server_mark ++ (1 ∷ (numbers last ++ text))) (517 + offset)
+unfolding server_at server_body_at
+server_rows last text offset count fit refused =
+    refused_there server_at (server_mark ++ (1 ∷ (numbers last ++ text))) (4 + (1 + (length (numbers last) + offset))) (517 + offset) (omega (arith, numbers_size last, count))
+    (behind_mark_refused server_mark refl (tagged_at server_versions) (1 ∷ (numbers last ++ text)) (1 + (length (numbers last) + offset))
+    (tagged_refused server_versions 1 server_body_at (numbers last ++ text) (length (numbers last) + offset) (lit< tt) (λ tag at bytes. refl)
+    (later_refused numbers_at (λ ns bytes at. rows_at bytes at >>= λ v. Ok (server_made ns v.0, v.1)) (numbers last) text last offset (read_again numbers_codec last (count, fit))
+    (first_refused rows_at (λ v bytes at. Ok (server_made last v, at)) text offset refused))))
+
+-- what begins with a refused text is refused where this is
+whole_refused : {A : Type 0} (other : List ℕ) (read : Reader A) (text more : List ℕ) (offset : ℕ) → IsRefused read text offset → bytes_eq other (take 4 (text ++ more)) ≡ false → image_of other read (text ++ more) ≡ Err (BadImage (as_u32 offset))
+whole_refused other read text more offset refused apart =
+    let stands : Stands (text ++ more) 0 text (length text) = record { here = ap (λ (rest : List ℕ). text ++ rest) (sym (drop_front text more)); next_is = omega arith; within = omega (arith, length-append text more) } in
+    let place : 0 + offset ≡ offset = omega arith in
+    rw (apart, refused (text ++ more) 0 (length text) stands) (ap (λ (n : ℕ). Err (BadImage (as_u32 n))) place)
+  where
+    drop_front : (xs ys : List ℕ) → drop (length xs) (xs ++ ys) ≡ ys
+    drop_front [] ys = refl
+    drop_front (x ∷ xs) ys = drop_front xs ys
+
 pub broken_images : BrokenImages
 unfolding client_at server_at
 broken_images = record {
@@ -98,4 +152,9 @@ broken_images = record {
       behind_mark_refused client_mark refl (tagged_at client_versions) (1 ∷ client ∷ []) 1
       (tagged_refused client_versions 1 client_body_at (client ∷ []) 0 (lit< tt) (λ tag at bytes. refl)
       (client_number_refused (client ∷ []) (rule_refused (number_at w8) (λ n. leb 1 n && leb n 64) (client ∷ []) client (read_again u8_codec client byte) (wrong_client client none))));
+  client_rows_are_refused = λ client acked text offset some few small refused. client_rows client acked some few small text offset refused;
+  server_rows_are_refused = server_rows;
+  entries_are_refused = λ client acked base text offset some few small tree refused. client_entries client acked some few small base text offset tree refused;
+  client_is_refused = λ text more offset refused apart. whole_refused server_mark client_at text more offset refused apart;
+  server_is_refused = λ text more offset refused apart. whole_refused client_mark server_at text more offset refused apart;
 }

@@ -69,7 +69,7 @@ known_bases_cut known lt =
 origin_cut : IsCut (ruled (λ n. eqb n 0) (number_at w8)) (λ n. n ∷ []) (λ n. 1 ∷ []) (λ n. (n < 2 ^ 8) × (eqb n 0 ≡ true))
 origin_cut = ruled_cut u8_cut (λ n. eqb n 0)
 
-next_entry_cut : (l : Log) → IsCut (next_entry_at l) entry entry_fields (NextFits l)
+pub next_entry_cut : (l : Log) → IsCut (next_entry_at l) entry entry_fields (NextFits l)
 unfolding next_entry_at
 next_entry_cut l = record {
   whole = λ e fits.

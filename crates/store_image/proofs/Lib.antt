@@ -8,4 +8,6 @@ pub mod Sizes
 pub mod Keeping
 pub mod Cuts
 pub mod Refused
+pub mod BreakingParts
 pub mod Breaking
+pub mod BreakingLists

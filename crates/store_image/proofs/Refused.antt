@@ -1,5 +1,5 @@
 -- Images that are cut short are refused at the field in which they end.
-use Rattle.std.proofs.Common.{◌≡◌, ℕ, zero, suc, ◌+◌, ◌-◌, ◌<◌, ◌≤◌, Bool, true, false, List, [], ◌∷◌, length, take, Err, refl, sym, ap, ◌∙◌, arith, inl, inr, length-take}
+use Rattle.std.proofs.Common.{◌≡◌, ℕ, zero, suc, ◌+◌, ◌-◌, ◌^◌, ◌<◌, ◌≤◌, Bool, true, false, List, [], ◌∷◌, length, take, Err, refl, sym, ap, ◌∙◌, arith, inl, inr, length-take}
 use Rattle.std.specs.Prelude.{nat_lt}
 use Rattle.std.specs.Str.{bytes_eq}
 use Rattle.std.proofs.lemmas.Bool.{cases_lt}
@@ -16,7 +16,7 @@ use Rattle.store_image.specs.Spelling.{client, ClientFits, server, ServerFits}
 use Rattle.store_image.specs.Fields.{client_fields, server_fields}
 use Rattle.store_image.specs.Image.{image_of, client_of, server_of}
 use Rattle.store_image.proofs.Cuts.{client_cut, server_cut}
-use Rattle.store_image.proofs.Sizes.{client_small, server_small}
+use Rattle.store_image.proofs.Sizes.{client_size, server_size}
 use Rattle.store_image.proofs.Whole.{whole_stands}
 
 below : (a b : ℕ) → a < b → nat_lt a b ≡ true
@@ -53,7 +53,7 @@ no_mark other text end four apart = by (bytes_eq other (take 4 (take end text)))
         sym same ∙ apart
 
 module _ {A : Type 0} {read : Reader A} {spelling fields : A → List ℕ} {Fits : A → Type 0} (other : List ℕ) (cut : IsCut read spelling fields Fits) where
-  image_refused : (x : A) (end : ℕ) → length other ≡ 4 → bytes_eq other (take 4 (spelling x)) ≡ false → Fits x → end < length (spelling x) → length (spelling x) < 134217728
+  image_refused : (x : A) (end : ℕ) → length other ≡ 4 → bytes_eq other (take 4 (spelling x)) ≡ false → Fits x → end < length (spelling x) → length (spelling x) < 2 ^ 32
       → image_of other read (take end (spelling x)) ≡ Err (BadImage (start_of end (fields x)))
   image_refused x end four apart fits lt small =
       let ends = cut.cut (spelling x) 0 x (length (spelling x)) end (whole_stands (spelling x)) fits (omega arith) lt in
@@ -66,7 +66,7 @@ module _ {A : Type 0} {read : Reader A} {spelling fields : A → List ℕ} {Fits
       at_most n le = omega arith
 
 pub client_refused : (image : ClientImage) (end : ℕ) → ClientFits image → end < length (client image) → client_of (take end (client image)) ≡ Err (BadImage (start_of end (client_fields image)))
-client_refused image end fits lt = image_refused server_mark client_cut image end refl refl fits lt (client_small image fits)
+client_refused image end fits lt = image_refused server_mark client_cut image end refl refl fits lt (omega (arith, client_size image fits))
 
 pub server_refused : (image : ServerImage) (end : ℕ) → ServerFits image → end < length (server image) → server_of (take end (server image)) ≡ Err (BadImage (start_of end (server_fields image)))
-server_refused image end fits lt = image_refused client_mark server_cut image end refl refl fits lt (omega (arith, server_small image fits))
+server_refused image end fits lt = image_refused client_mark server_cut image end refl refl fits lt (omega (arith, server_size image fits))

@@ -1,5 +1,5 @@
 -- How large images are.
-use Rattle.std.proofs.Common.{◌≡◌, ℕ, ◌*◌, ◌<◌, ◌≤◌, List, [], ◌∷◌, ◌++◌, length, refl, ap, arith, length-append}
+use Rattle.std.proofs.Common.{◌≡◌, ℕ, ◌+◌, ◌*◌, ◌≤◌, List, [], ◌∷◌, ◌++◌, length, refl, ap, arith, length-append}
 use Rattle.std.specs.Int.{w32, w64}
 use Rattle.std.specs.List.{flat_map}
 use Rattle.std.proofs.lemmas.List.Concat.{flat_map-cons}
@@ -9,9 +9,11 @@ use Rattle.vol_tree.proofs.Sizes.{four_digits, eight_digits, rows_size}
 use Rattle.mod_log.specs.Log.{Log, entry, IsLog}
 use Rattle.store_image.specs.declared.image.ClientImage.{ClientImage}
 use Rattle.store_image.specs.declared.image.ServerImage.{ServerImage}
+use Rattle.store_image.specs.declared.image.TheConstants.{MAX_CLIENT_IMAGE, MAX_SERVER_IMAGE}
 use Rattle.store_image.specs.Spelling.{entries, log, client, ClientFits, numbers, server, ServerFits}
+use Rattle.store_image.specs.Laws.{ImagesAreSmall}
 
-log_size : (l : Log) → IsLog l → length (log l) ≤ 117686288
+log_size : (l : Log) → IsLog l → length (log l) + 6 ≤ MAX_CLIENT_IMAGE
 log_size l is =
     omega (
       arith,
@@ -24,15 +26,20 @@ log_size l is =
       is.small,
     )
 
-pub client_size : (image : ClientImage) → ClientFits image → length (client image) ≤ 117686294
+pub client_size : (image : ClientImage) → ClientFits image → length (client image) ≤ MAX_CLIENT_IMAGE
 client_size image fits = omega (arith, log_size image.log fits.log)
 
-pub client_small : (image : ClientImage) → ClientFits image → length (client image) < 134217728
-client_small image fits = omega (arith, client_size image fits)
-
-numbers_size : (last : List ℕ) → length (numbers last) ≡ 8 * length last
+pub numbers_size : (last : List ℕ) → length (numbers last) ≡ 8 * length last
 numbers_size [] = refl
 numbers_size (n ∷ last) = omega (arith, ap length (flat_map-cons (digits w64) n last), length-append (digits w64 n) (numbers last), eight_digits n, numbers_size last)
 
-pub server_small : (image : ServerImage) → ServerFits image → length (server image) < 67108864
-server_small image fits = omega (arith, length-append (numbers image.last) (rows image.tree), numbers_size image.last, fits.count, rows_size image.tree fits.tree)
+pub server_size : (image : ServerImage) → ServerFits image → length (server image) ≤ MAX_SERVER_IMAGE
+server_size image fits = omega (arith, length-append (numbers image.last) (rows image.tree), numbers_size image.last, fits.count, rows_size image.tree fits.tree)
+
+pub images_small : ImagesAreSmall
+images_small = record {
+  clients = λ number log bytes kept. rw kept.spelled (client_size (record { client = number; log = log }) kept.fits);
+  servers = λ image bytes kept. rw kept.spelled (server_size image kept.fits);
+  clients_loaded = omega arith;
+  servers_loaded = omega arith;
+}

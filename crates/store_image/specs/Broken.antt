@@ -1,29 +1,78 @@
 -- Images that break a rule: the field that is refused, whatever stands before and behind them.
-use Rattle.std.specs.Prelude.{◌≡◌, ◌≢◌, ◌⊎◌, ℕ, ◌^◌, ◌<◌, ◌≤◌, List, [], ◌∷◌, ◌++◌, length, Err}
+use Rattle.std.specs.Prelude.{◌≡◌, ◌≢◌, ◌⊎◌, ℕ, ◌+◌, ◌-◌, ◌^◌, ◌<◌, ◌≤◌, false, List, [], ◌∷◌, ◌++◌, length, take, Ok, Err}
 use Rattle.std.specs.Int.{w32, w64}
+use Rattle.std.specs.Str.{bytes_eq}
+use Rattle.std.specs.List.{flat_map, AllByRecursion}
 use Rattle.byte_fields.specs.Field.{digits}
+use Rattle.byte_fields.specs.Numbers.{as_u32}
+use Rattle.byte_fields.specs.Cuts.{start_of}
 use Rattle.byte_fields.specs.Broken.{IsRefused}
 use Rattle.vol_tree.specs.declared.tree.Effect.{Effect}
 use Rattle.vol_tree.specs.declared.tree.Base.{Base}
 use Rattle.vol_tree.specs.declared.tree.TreeError.{TreeError}
 use Rattle.vol_tree.specs.Path.{FilePath, IsPath}
-use Rattle.vol_tree.specs.Tree.{apply}
-use Rattle.vol_tree.specs.Effects.{content_size}
-use Rattle.vol_tree.specs.Spelling.{path, effect, EffectFits}
-use Rattle.mod_log.specs.Log.{Log}
+use Rattle.vol_tree.specs.Tree.{Volume, IsTree, apply}
+use Rattle.vol_tree.specs.Effects.{content_size, contents_size, changed_all, apply_all, base_of}
+use Rattle.vol_tree.specs.Spelling.{path, effect, effects, base, rows, EffectFits}
+use Rattle.vol_tree.specs.Reading.{path_at, effect_at, rows_at}
+use Rattle.mod_log.specs.declared.log.Entry.{Entry}
+use Rattle.mod_log.specs.Log.{Log, entry, tree_of, AreEntriesOf, IsLog, new_log_of}
+use Rattle.store_image.specs.declared.image.ImageError.TheVariants.{BadImage}
 use Rattle.store_image.specs.Reading.{Growing, growing_effect_at, known_base_at, next_entry_at, entries_at, client_mark, client_at, server_mark, server_at}
+use Rattle.store_image.specs.Spelling.{numbers}
+use Rattle.store_image.specs.Fields.{entry_fields}
+use Rattle.store_image.specs.Image.{client_of, server_of}
+
+-- effects that the tree takes one after the other
+pub record AreTaken (v : Volume) (es : List Effect) : Type 0 where
+  pub each : AllByRecursion EffectFits es
+  pub small : contents_size es ≤ 33554432
+  pub applies : apply_all 0 es v ≡ Ok (changed_all es v)
+
+-- what stands behind effects that the tree takes: the tree after them, and the room that they leave
+abbrev pub growing_behind : List Effect → Volume → Growing
+growing_behind es v = record { tree = changed_all es v; room = 33554432 - contents_size es }
 
 pub record BrokenEntries : Type 0 where
   -- an effect that does not apply: at its first byte
   pub effect_does_not_apply : (growing : Growing) (e : Effect) (refusal : TreeError) → EffectFits e → content_size e ≤ growing.room → apply e growing.tree ≡ Err refusal → IsRefused (growing_effect_at growing) (effect e) 0
+  -- an effect that is refused before it is applied: in it
+  pub effect_is_none : (growing : Growing) (text : List ℕ) (offset : ℕ) → IsRefused (effect_at growing.room) text offset → IsRefused (growing_effect_at growing) text offset
+  -- a path that is refused: in it
+  pub path_is_none : (known : Base) (text : List ℕ) (offset : ℕ) → IsRefused path_at text offset → IsRefused (known_base_at known) text offset
   -- another path than the next: at the path
   pub path_is_another : (known : Base) (other : FilePath) → IsPath other → other ≢ known.path → IsRefused (known_base_at known) (path other) 0
   -- another version than the tree has: behind the path
   pub version_is_another : (known : Base) (version : ℕ) → IsPath known.path → version < 2 ^ 64 → version ≢ known.version → IsRefused (known_base_at known) (path known.path ++ digits w64 version) (length (path known.path))
   -- another first byte than 0: there
   pub origin_is_another : (log : Log) (origin : ℕ) → origin < 2 ^ 8 → origin ≢ 0 → IsRefused (next_entry_at log) (origin ∷ []) 0
-  -- more than 1,024 entries: at the count
-  pub count_is_large : (log : Log) (count : ℕ) → count < 2 ^ 32 → 1024 < count → IsRefused (entries_at log) (digits w32 count) 0
+  -- no effect, or more than 4,096: behind the first byte
+  pub effects_are_none : (log : Log) (count : ℕ) → count < 2 ^ 32 → (count ≡ 0) ⊎ (4096 < count) → IsRefused (next_entry_at log) (0 ∷ digits w32 count) 1
+  -- an effect that is refused: behind those before it
+  pub effect_is_refused : (log : Log) (before : List Effect) (count : ℕ) (text : List ℕ) (offset : ℕ) → AreTaken (tree_of log) before → length before < count → count ≤ 4096 → IsRefused (growing_effect_at (growing_behind before (tree_of log))) text offset
+      → IsRefused (next_entry_at log) (0 ∷ (digits w32 count ++ (flat_map effect before ++ text))) (1 + (4 + (length (flat_map effect before) + offset)))
+  -- another number of bases than of touched paths: behind the effects
+  pub bases_are_others : (log : Log) (es : List Effect) (count : ℕ) → AreTaken (tree_of log) es → 1 ≤ length es → length es ≤ 4096 → count < 2 ^ 32 → count ≢ length (base_of es (tree_of log))
+      → IsRefused (next_entry_at log) (0 ∷ (effects es ++ digits w32 count)) (1 + length (effects es))
+  -- a base that is refused: behind those before it
+  pub base_is_refused : (log : Log) (es : List Effect) (before others : List Base) (known : Base) (text : List ℕ) (offset : ℕ) → IsLog log → AreTaken (tree_of log) es → 1 ≤ length es → length es ≤ 4096 → base_of es (tree_of log) ≡ before ++ known ∷ others
+      → IsRefused (known_base_at known) text offset
+      → IsRefused (next_entry_at log) (0 ∷ (effects es ++ (digits w32 (length (before ++ known ∷ others)) ++ (flat_map base before ++ text)))) (1 + (length (effects es) + (4 + (length (flat_map base before) + offset))))
+
+-- as many entries may be pending behind this number
+pub record MayFollow (acked count : ℕ) : Type 0 where
+  pub few : count ≤ 1024
+  pub last : acked + count ≤ 18446744073709551615
+
+pub record BrokenEntryLists : Type 0 where
+  -- more than 1,024 entries, or than numbers are left: at the count
+  pub count_is_large : (log : Log) (count : ℕ) → log.acked < 2 ^ 64 → count < 2 ^ 32 → (1024 < count) ⊎ (18446744073709551615 < log.acked + count) → IsRefused (entries_at log) (digits w32 count) 0
+  -- an entry that is refused within the first 64 MiB: behind those before it
+  pub entry_is_refused : (log : Log) (count : ℕ) (text : List ℕ) (offset : ℕ) → IsLog log → length log.pending < count → MayFollow log.acked count → length (flat_map entry log.pending ++ text) ≤ 67108864
+      → IsRefused (next_entry_at log) text offset → IsRefused (entries_at (new_log_of log.acked log.base)) (digits w32 count ++ (flat_map entry log.pending ++ text)) (4 + (length (flat_map entry log.pending) + offset))
+  -- entries of more than 64 MiB together: at the field in which the 64 MiB end
+  pub entries_are_large : (acked : ℕ) (base : Volume) (es : List Entry) (count : ℕ) → IsTree base → AreEntriesOf (acked + 1) base es → length es ≤ count → MayFollow acked count → 67108864 < length (flat_map entry es)
+      → IsRefused (entries_at (new_log_of acked base)) (digits w32 count ++ flat_map entry es) (4 + start_of 67108864 (flat_map entry_fields es))
 
 pub record BrokenImages : Type 0 where
   -- another mark: at the mark
@@ -34,3 +83,14 @@ pub record BrokenImages : Type 0 where
   pub server_version_is_another : (version : ℕ) → version < 2 ^ 8 → version ≢ 1 → IsRefused server_at (server_mark ++ version ∷ []) 4
   -- a number that no client has: behind the version
   pub client_is_none : (client : ℕ) → client < 2 ^ 8 → (client ≡ 0) ⊎ (64 < client) → IsRefused client_at (client_mark ++ 1 ∷ client ∷ []) 5
+  -- rows that are refused: behind the acknowledged number, and behind the last numbers
+  pub client_rows_are_refused : (client acked : ℕ) (text : List ℕ) (offset : ℕ) → 1 ≤ client → client ≤ 64 → acked < 2 ^ 64 → IsRefused rows_at text offset
+      → IsRefused client_at (client_mark ++ (1 ∷ client ∷ (digits w64 acked ++ text))) (14 + offset)
+  pub server_rows_are_refused : (last : List ℕ) (text : List ℕ) (offset : ℕ) → length last ≡ 64 → AllByRecursion (λ n. n < 2 ^ 64) last → IsRefused rows_at text offset
+      → IsRefused server_at (server_mark ++ (1 ∷ (numbers last ++ text))) (517 + offset)
+  -- entries that are refused: behind the rows
+  pub entries_are_refused : (client acked : ℕ) (base : Volume) (text : List ℕ) (offset : ℕ) → 1 ≤ client → client ≤ 64 → acked < 2 ^ 64 → IsTree base → IsRefused (entries_at (new_log_of acked base)) text offset
+      → IsRefused client_at (client_mark ++ (1 ∷ client ∷ (digits w64 acked ++ (rows base ++ text)))) (14 + (length (rows base) + offset))
+  -- bytes that begin with what is refused, and not as an image of the other kind, are refused there
+  pub client_is_refused : (text more : List ℕ) (offset : ℕ) → IsRefused client_at text offset → bytes_eq server_mark (take 4 (text ++ more)) ≡ false → client_of (text ++ more) ≡ Err (BadImage (as_u32 offset))
+  pub server_is_refused : (text more : List ℕ) (offset : ℕ) → IsRefused server_at text offset → bytes_eq client_mark (take 4 (text ++ more)) ≡ false → server_of (text ++ more) ≡ Err (BadImage (as_u32 offset))

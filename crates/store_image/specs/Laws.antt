@@ -1,10 +1,11 @@
 -- What holds of images, in their own words.
-use Rattle.std.specs.Prelude.{◌≡◌, ℕ, ◌<◌, List, length, take, Ok, Err}
+use Rattle.std.specs.Prelude.{◌≡◌, ℕ, ◌<◌, ◌≤◌, List, length, take, Ok, Err}
 use Rattle.byte_fields.specs.Cuts.{start_of}
 use Rattle.mod_log.specs.Log.{Log}
 use Rattle.store_image.specs.declared.image.ClientImage.{ClientImage}
 use Rattle.store_image.specs.declared.image.ServerImage.{ServerImage}
 use Rattle.store_image.specs.declared.image.ImageError.TheVariants.{BadImage}
+use Rattle.store_image.specs.declared.image.TheConstants.{MAX_CLIENT_IMAGE, MAX_SERVER_IMAGE, MAX_LOADED}
 use Rattle.store_image.specs.Spelling.{client, ClientFits, server, ServerFits}
 use Rattle.store_image.specs.Fields.{client_fields, server_fields}
 use Rattle.store_image.specs.Image.{client_of, server_of, IsKeptFor, IsKeptForServer}
@@ -35,6 +36,9 @@ abbrev pub CutServerImagesAreRefused : Type 0
 CutServerImagesAreRefused = (image : ServerImage) (end : ℕ) → ServerFits image → end < length (server image)
     → server_of (take end (server image)) ≡ Err (BadImage (start_of end (server_fields image)))
 
--- a client's image has fewer than 128 MiB, and a server's fewer than 64
-abbrev pub ImagesAreSmall : Type 0
-ImagesAreSmall = ((image : ClientImage) → ClientFits image → length (client image) < 134217728) × ((image : ServerImage) → ServerFits image → length (server image) < 67108864)
+-- what is kept for a client, and for a server, has so many bytes at most; a keeper loads more
+pub record ImagesAreSmall : Type 0 where
+  pub clients : (number : ℕ) (log : Log) (bytes : List ℕ) → IsKeptFor number log bytes → length bytes ≤ MAX_CLIENT_IMAGE
+  pub servers : (image : ServerImage) (bytes : List ℕ) → IsKeptForServer image bytes → length bytes ≤ MAX_SERVER_IMAGE
+  pub clients_loaded : MAX_CLIENT_IMAGE < MAX_LOADED
+  pub servers_loaded : MAX_SERVER_IMAGE < MAX_LOADED

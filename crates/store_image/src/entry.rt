@@ -1,9 +1,10 @@
 //! Taking the entries of a log from the bytes that spell them, while a tree takes their effects.
 
-ghost use Rattle.std.specs.Prelude.{◌≡◌, length, IfOk, OnOk};
-ghost use Rattle.byte_fields.specs.Field.{Gives, Lends, each_at};
-ghost use Rattle.vol_tree.specs.Tree.{changed};
-ghost use Rattle.vol_tree.specs.Effects.{changed_all};
+ghost use Rattle.std.specs.Prelude.{◌≡◌, ◌≢◌, length, Ok, IfOk, IfErr, IfSome, OnOk, false};
+ghost use Rattle.std.specs.Result.{is_ok};
+ghost use Rattle.byte_fields.specs.Field.{Gives, Lends, place_of, each_at};
+ghost use Rattle.vol_tree.specs.Tree.{apply, changed};
+ghost use Rattle.vol_tree.specs.Effects.{base_of as bases_of, changed_all};
 ghost use Rattle.mod_log.specs.Log.{IsLog, tree_of, logged};
 ghost use Rattle.mod_log.specs.Append.{next_entry};
 ghost use Rattle.store_image.specs.Reading.{growing_effect_at, grown, applied_effects_at, known_base_at, first_base_at, others_after, known_bases_at, next_entry_at};
@@ -12,6 +13,32 @@ use byte_fields::{TakeError, u8_at, u32_at, u64_at};
 use mod_log::{Log, LogError, base_of};
 use std::alloc::{AllocError, Global};
 use vol_tree::{Base, Bases, Effect, Effects, Path, Tree, TreeError};
+
+/// The fault that a refusal of the tree is, where the effect stands at the place.
+fn fault_of(refusal: TreeError, at: usize) -> TakeError
+    ensures { IfSome (place_of result) (λ place. (place ≡ at) × (refusal ≢ TreeError.Memory)) }
+{
+    let fault = match &refusal {
+        TreeError::Memory => TakeError::Memory,
+        _ => TakeError::At(at),
+    };
+    drop(refusal);
+    fault
+}
+
+/// The tree takes an effect that stands at the place.
+fn grow(tree: &mut Tree, effect: &Effect, at: usize) -> Result<(), TakeError>
+    ensures ok { OnOk result (apply effect.now tree.old ≡ Ok tree.new) }
+    ensures err { IfErr result (λ e. IfSome (place_of e) (λ place. (place ≡ at) × (is_ok (apply effect.now tree.old) ≡ false))) }
+{
+    match tree.apply(effect) {
+        Ok(undo) => {
+            drop(undo);
+            Ok(())
+        }
+        Err(refusal) => Err(fault_of(refusal, at)),
+    }
+}
 
 /// An effect, which the tree takes.
 #[tactic(auto, unfolding(crate::specs::Reading::growing_effect_at, byte_fields::specs::Field::ruled))]
@@ -26,10 +53,12 @@ fn growing_effect(
     ensures applied { IfOk result (λ x. tree.new ≡ changed x.0 tree.old) }
 {
     let (effect, next) = Effect::take_within(alloc, bytes, at, room)?;
-    match tree.apply(&effect) {
-        Ok(_undo) => Ok((effect, next)),
-        Err(TreeError::Memory) => Err(TakeError::Memory),
-        Err(_refusal) => Err(TakeError::At(at)),
+    match grow(tree, &effect, at) {
+        Ok(()) => Ok((effect, next)),
+        Err(fault) => {
+            drop(effect);
+            Err(fault)
+        }
     }
 }
 
@@ -119,6 +148,22 @@ fn behind_bases(alloc: Global, bytes: &[u8], at: usize, bases: &Bases) -> Result
     behind_each(alloc, bytes, start, bases)
 }
 
+/// The place behind the bases of effects that are next in the log.
+fn behind_bases_of(
+    alloc: Global,
+    bytes: &[u8],
+    at: usize,
+    log: &Log,
+    effects: &Effects,
+) -> Result<usize, TakeError>
+    ensures { Lends (λ next. (bases_of effects.now (tree_of log.now), next)) result (known_bases_at (bases_of effects.now (tree_of log.now)) bytes.now at) }
+{
+    let bases = base_of(log.tree(), effects)?;
+    let behind = behind_bases(alloc, bytes, at, &bases);
+    drop(bases);
+    behind
+}
+
 /// The effects of the entry behind those of the log. The other tree is the log's at first, and takes the effects.
 #[tactic(auto, unfolding(crate::specs::Reading::next_entry_at, byte_fields::specs::Field::ruled))]
 pub(crate) fn next_effects(
@@ -137,9 +182,13 @@ pub(crate) fn next_effects(
         return Err(TakeError::At(at));
     }
     let (effects, middle) = applied_effects(alloc, bytes, start, ahead)?;
-    let bases = base_of(log.tree(), &effects)?;
-    let next = behind_bases(alloc, bytes, middle, &bases)?;
-    Ok((effects, next))
+    match behind_bases_of(alloc, bytes, middle, log, &effects) {
+        Ok(next) => Ok((effects, next)),
+        Err(fault) => {
+            drop(effects);
+            Err(fault)
+        }
+    }
 }
 
 /// Logs effects that fit.

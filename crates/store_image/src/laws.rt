@@ -5,7 +5,7 @@ ghost use Rattle.byte_fields.specs.Cuts.{IsCut};
 ghost use Rattle.store_image.specs.Reading.{client_at, server_at};
 ghost use Rattle.store_image.specs.Spelling.{client, ClientFits, server, ServerFits};
 ghost use Rattle.store_image.specs.Fields.{client_fields, server_fields};
-ghost use Rattle.store_image.specs.Broken.{BrokenEntries, BrokenImages};
+ghost use Rattle.store_image.specs.Broken.{BrokenEntries, BrokenEntryLists, BrokenImages};
 ghost use Rattle.store_image.specs.Laws.{BytesAreKeptForOneClient, BytesAreKeptForOneServer, ImagesAreSmall, CutClientImagesAreRefused, CutServerImagesAreRefused, WrittenClientsAreKept, WrittenServersAreKept};
 
 /// States that each image has one spelling, and each spelling one image.
@@ -30,7 +30,7 @@ pub fn cut_images_name_the_field()
     ensures server_refused { CutServerImagesAreRefused }
 {}
 
-/// States how large images are at most.
+/// States how large images are at most, and that a keeper loads more.
 pub fn images_are_small()
     ensures { ImagesAreSmall }
 {}
@@ -38,5 +38,6 @@ pub fn images_are_small()
 /// States that an image that breaks a rule is refused at the field of the rule.
 pub fn broken_images_name_the_field()
     ensures entries { BrokenEntries }
+    ensures lists { BrokenEntryLists }
     ensures images { BrokenImages }
 {}

@@ -3,26 +3,16 @@
 ghost use Rattle.std.specs.Prelude.{◌≡◌, ◌<◌, ◌≤◌, ◌^◌, ◌++◌, length, slice_get, IfOk, OnOk};
 ghost use Rattle.std.specs.List.{flat_map, AllByRecursion};
 ghost use Rattle.std.specs.Option.{option_to_list};
-ghost use Rattle.vol_tree.specs.Tree.{IsTree};
 ghost use Rattle.vol_tree.specs.Spelling.{rows};
 ghost use Rattle.mod_log.specs.Log.{entry};
 ghost use Rattle.store_image.specs.Spelling.{entries, log, numbers};
 ghost use Rattle.store_image.specs.Image.{IsKeptFor, IsKeptForServer};
+ghost use Rattle.store_image.specs.declared.image.TheConstants.{MAX_CLIENT_IMAGE, MAX_SERVER_IMAGE};
 
 use byte_fields::{put_u32, put_u64};
 use mod_log::{Entry, Log};
 use std::alloc::{AllocError, Global};
-use vol_tree::{Rows, Tree};
-
-/// The rows of a tree, behind their number.
-fn put_rows(tree: &Tree, out: &mut Vec<u8>) -> Result<(), AllocError>
-    ensures rows { OnOk result (out.new.items ≡ out.old.items ++ rows tree.now) }
-    ensures tree { IsTree tree.now }
-{
-    let rows = tree.rows()?;
-    Rows::spell(&rows, out)?;
-    Ok(())
-}
+use vol_tree::Tree;
 
 /// The pending entries, behind their number.
 fn put_entries(value: &Log, out: &mut Vec<u8>) -> Result<(), AllocError>
@@ -46,15 +36,23 @@ fn put_entry(value: &Log, i: u32, out: &mut Vec<u8>) -> Result<(), AllocError>
     Ok(())
 }
 
+/// The rows of the base.
+fn put_base(value: &Log, out: &mut Vec<u8>) -> Result<(), AllocError>
+    ensures { OnOk result (out.new.items ≡ out.old.items ++ rows value.now.base) }
+{
+    let base = value.base()?;
+    let put = base.spell_rows(out);
+    drop(base);
+    put
+}
+
 /// The acknowledged number, the base and the pending entries.
 fn put_log(value: &Log, out: &mut Vec<u8>) -> Result<(), AllocError>
     ensures { OnOk result (out.new.items ≡ out.old.items ++ log value.now) }
 {
     put_u64(out, value.acked())?;
-    let base = value.base()?;
-    put_rows(&base, out)?;
-    put_entries(value, out)?;
-    Ok(())
+    put_base(value, out)?;
+    put_entries(value, out)
 }
 
 /// The image of the client with this number and this log.
@@ -62,7 +60,7 @@ pub fn write_client(client: u8, log: &Log) -> Result<Vec<u8>, AllocError>
     requires low { 1 ≤ client }
     requires high { client ≤ 64 }
     ensures kept { IfOk result (λ v. IsKeptFor client log.now v.items) }
-    ensures small { IfOk result (λ v. length v.items < 134217728) }
+    ensures small { IfOk result (λ v. length v.items ≤ MAX_CLIENT_IMAGE) }
 {
     let alloc = log.tree().allocator();
     let mut out = Vec::from_slice(alloc, b"OSCI")?;
@@ -85,11 +83,12 @@ fn put_numbers(values: &[u64], out: &mut Vec<u8>) -> Result<(), AllocError>
 
 /// The image of a server with these last numbers and this tree.
 pub fn write_server(last: &[u64; 64], tree: &Tree) -> Result<Vec<u8>, AllocError>
-    ensures { IfOk result (λ v. IsKeptForServer (record { last = last.now; tree = tree.now }) v.items) }
+    ensures kept { IfOk result (λ v. IsKeptForServer (record { last = last.now; tree = tree.now }) v.items) }
+    ensures small { IfOk result (λ v. length v.items ≤ MAX_SERVER_IMAGE) }
 {
     let mut out = Vec::from_slice(tree.allocator(), b"OSSI")?;
     out.push(1)?;
     put_numbers(last.as_slice(), &mut out)?;
-    put_rows(tree, &mut out)?;
+    tree.spell_rows(&mut out)?;
     Ok(out)
 }

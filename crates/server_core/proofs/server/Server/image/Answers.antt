@@ -12,4 +12,4 @@ kept_as (Ok v) held holding is kept = record { image = image_of held; kept = kep
 kept_as (Err e) held holding is kept = tt
 
 pub returns : goal.returns
-returns c = kept_as c.write_server.result (record { rows = c.self.inside.tree; last = c.self.inside.last }) c.args.self.now c.self.view_is c.write_server.ensures
+returns c = kept_as c.write_server.result (record { rows = c.self.inside.tree; last = c.self.inside.last }) c.args.self.now c.self.view_is c.write_server.ensures.kept

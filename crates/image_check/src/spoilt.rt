@@ -1,0 +1,537 @@
+//! Images that are cut, or have one byte in place of another, and what the readers say of each.
+//!
+//! The expected answers are those of a second reader, in Python: `tools/image_answers`.
+
+use Answer::{Bad, Read};
+use std::alloc::{AllocError, Global};
+use std::test::Fail;
+use store_image::{ImageError, read_client, read_server, write_client, write_server};
+
+/// Which reader is asked.
+#[derive(Clone, Copy)]
+enum Reader {
+    Client,
+    Server,
+}
+
+/// What a reader says of bytes.
+#[derive(Clone, Copy, Debug, PartialEq, Eq)]
+enum Answer {
+    Read,
+    WrongKind,
+    Bad(u32),
+    Memory,
+}
+
+/// What stands in place of a byte.
+#[derive(Clone, Copy)]
+enum Change {
+    Zero,
+    Ones,
+    Complement,
+}
+
+/// Client 7 with 300 acknowledged entries and three rows, a folder, a file and a removed path; and two entries that wait: they
+/// make a folder, put a file in it, move it, and remove a file.
+const CLIENT: &str = "4f534349 01 07 000000000000012c
+    00000003 0001 61 0000000000000002 01 0003 612f78 0000000000000102 02 00000003 6f6e65 0001 62 0000000000000003 00
+    00000002
+    00 00000002 01 0001 64 02 0003 642f66 00000002 6869
+    00000002 0001 64 0000000000000000 0003 642f66 0000000000000000
+    00 00000002 04 0003 642f66 0001 62 03 0003 612f78
+    00000003 0003 642f66 0000000000000001 0001 62 0000000000000003 0003 612f78 0000000000000102";
+
+/// Where the fields of this image begin.
+const CLIENT_FIELDS: [u32; 57] = [
+    0, 4, 5, 6, 14, 18, 20, 21, 29, 30, 32, 35, 43, 44, 48, 51, 53, 54, 62, 63, 67, 68, 72, 73, 75,
+    76, 77, 79, 82, 86, 88, 92, 94, 95, 103, 105, 108, 116, 117, 121, 122, 124, 127, 129, 130, 131,
+    133, 136, 140, 142, 145, 153, 155, 156, 164, 166, 169,
+];
+
+/// A new client 1.
+const NEW: &str = "4f534349 01 01 0000000000000000 00000000 00000000";
+
+/// Where the fields of this image begin.
+const NEW_FIELDS: [u32; 6] = [0, 4, 5, 6, 14, 18];
+
+/// The image of a server up to the number of client 2: the last one of client 1 is 5.
+const SERVER_HEAD: &str = "4f535349 01 0000000000000005";
+
+/// The rest of the image from the number of client 64 on: its last one is 258; and three rows, a folder, a file and a removed path.
+const SERVER_REST: &str = "0000000000000102
+    00000003 0001 64 0000000000000001 01 0003 642f78 0000000000000002 02 00000001 31 0001 65 0000000000000004 00";
+
+/// Where the fields of this image begin behind the numbers.
+const SERVER_FIELDS: [u32; 15] = [
+    517, 521, 523, 524, 532, 533, 535, 538, 546, 547, 551, 552, 554, 555, 563,
+];
+
+/// The answers to the image of client 7 with a zero in place of a byte, each with the place behind the last byte that gets it.
+const CLIENT_ZEROS: [(usize, Answer); 75] = [
+    (4, Bad(0)),
+    (5, Bad(4)),
+    (6, Bad(5)),
+    (17, Read),
+    (18, Bad(18)),
+    (19, Read),
+    (20, Bad(18)),
+    (21, Bad(20)),
+    (28, Read),
+    (29, Bad(21)),
+    (30, Bad(43)),
+    (31, Read),
+    (32, Bad(30)),
+    (35, Bad(32)),
+    (41, Read),
+    (43, Bad(169)),
+    (44, Bad(44)),
+    (47, Read),
+    (48, Bad(50)),
+    (52, Read),
+    (53, Bad(51)),
+    (54, Bad(53)),
+    (61, Read),
+    (62, Bad(54)),
+    (66, Read),
+    (67, Bad(67)),
+    (71, Read),
+    (72, Bad(68)),
+    (73, Bad(72)),
+    (74, Read),
+    (75, Bad(72)),
+    (76, Bad(75)),
+    (77, Bad(76)),
+    (78, Read),
+    (82, Bad(79)),
+    (85, Read),
+    (86, Bad(86)),
+    (91, Read),
+    (92, Bad(88)),
+    (93, Read),
+    (94, Bad(92)),
+    (95, Bad(94)),
+    (104, Read),
+    (105, Bad(103)),
+    (108, Bad(105)),
+    (120, Read),
+    (121, Bad(117)),
+    (122, Bad(121)),
+    (123, Read),
+    (124, Bad(126)),
+    (127, Bad(124)),
+    (128, Read),
+    (129, Bad(121)),
+    (130, Bad(129)),
+    (131, Bad(130)),
+    (132, Read),
+    (133, Bad(130)),
+    (136, Bad(133)),
+    (139, Read),
+    (140, Bad(136)),
+    (141, Read),
+    (142, Bad(140)),
+    (145, Bad(142)),
+    (152, Read),
+    (153, Bad(145)),
+    (154, Read),
+    (155, Bad(153)),
+    (156, Bad(155)),
+    (163, Read),
+    (164, Bad(156)),
+    (165, Read),
+    (166, Bad(164)),
+    (169, Bad(166)),
+    (175, Read),
+    (177, Bad(169)),
+];
+
+/// The answers with 255 in place of a byte, and with the byte's bits turned round.
+const CLIENT_ONES: [(usize, Answer); 63] = [
+    (4, Bad(0)),
+    (5, Bad(4)),
+    (6, Bad(5)),
+    (14, Read),
+    (17, Bad(14)),
+    (18, Bad(63)),
+    (20, Bad(20)),
+    (21, Bad(30)),
+    (29, Read),
+    (30, Bad(29)),
+    (32, Bad(32)),
+    (33, Bad(43)),
+    (35, Bad(130)),
+    (43, Bad(169)),
+    (44, Bad(43)),
+    (46, Bad(44)),
+    (48, Bad(48)),
+    (51, Read),
+    (53, Bad(53)),
+    (62, Bad(156)),
+    (63, Bad(62)),
+    (66, Bad(63)),
+    (67, Bad(177)),
+    (68, Bad(67)),
+    (71, Bad(68)),
+    (72, Bad(88)),
+    (73, Bad(72)),
+    (75, Bad(75)),
+    (77, Bad(76)),
+    (79, Bad(79)),
+    (80, Bad(76)),
+    (82, Bad(103)),
+    (84, Bad(82)),
+    (86, Bad(86)),
+    (88, Read),
+    (92, Bad(88)),
+    (94, Bad(94)),
+    (95, Bad(92)),
+    (103, Bad(95)),
+    (105, Bad(105)),
+    (108, Bad(103)),
+    (116, Bad(108)),
+    (117, Bad(116)),
+    (120, Bad(117)),
+    (121, Bad(136)),
+    (122, Bad(121)),
+    (124, Bad(124)),
+    (127, Bad(121)),
+    (129, Bad(129)),
+    (130, Bad(153)),
+    (131, Bad(130)),
+    (133, Bad(133)),
+    (136, Bad(130)),
+    (140, Bad(136)),
+    (142, Bad(142)),
+    (145, Bad(140)),
+    (153, Bad(145)),
+    (155, Bad(155)),
+    (156, Bad(153)),
+    (164, Bad(156)),
+    (166, Bad(166)),
+    (169, Bad(164)),
+    (177, Bad(169)),
+];
+
+/// The answers to the image of the new client with a zero in place of a byte, each with the place behind the last byte that gets it.
+const NEW_ZEROS: [(usize, Answer); 4] = [(4, Bad(0)), (5, Bad(4)), (6, Bad(5)), (22, Read)];
+
+/// The answers with 255 in place of a byte, and with the byte's bits turned round.
+const NEW_ONES: [(usize, Answer); 7] = [
+    (4, Bad(0)),
+    (5, Bad(4)),
+    (6, Bad(5)),
+    (14, Read),
+    (17, Bad(14)),
+    (21, Bad(18)),
+    (22, Bad(22)),
+];
+
+/// The answers to the image of the server with a zero in place of a byte, each with the place behind the last byte that gets it.
+const SERVER_ZEROS: [(usize, Answer); 24] = [
+    (4, Bad(0)),
+    (5, Bad(4)),
+    (520, Read),
+    (521, Bad(521)),
+    (522, Read),
+    (523, Bad(521)),
+    (524, Bad(523)),
+    (531, Read),
+    (532, Bad(524)),
+    (533, Bad(546)),
+    (534, Read),
+    (535, Bad(533)),
+    (538, Bad(535)),
+    (545, Read),
+    (546, Bad(538)),
+    (547, Bad(547)),
+    (550, Read),
+    (551, Bad(553)),
+    (553, Read),
+    (554, Bad(552)),
+    (555, Bad(554)),
+    (562, Read),
+    (563, Bad(555)),
+    (564, Read),
+];
+
+/// The answers with 255 in place of a byte, and with the byte's bits turned round.
+const SERVER_ONES: [(usize, Answer); 19] = [
+    (4, Bad(0)),
+    (5, Bad(4)),
+    (517, Read),
+    (520, Bad(517)),
+    (521, Bad(564)),
+    (523, Bad(523)),
+    (524, Bad(533)),
+    (532, Read),
+    (533, Bad(532)),
+    (535, Bad(535)),
+    (536, Bad(546)),
+    (546, Read),
+    (547, Bad(546)),
+    (549, Bad(547)),
+    (551, Bad(551)),
+    (552, Read),
+    (554, Bad(554)),
+    (563, Read),
+    (564, Bad(563)),
+];
+
+/// The bytes that the hexadecimal digits spell; other letters stand between them.
+fn bytes_of(alloc: Global, text: &str) -> Result<Vec<u8>, AllocError> {
+    let mut bytes = Vec::new(alloc);
+    let mut high = None;
+    for letter in text.bytes() {
+        let digit = match letter {
+            b'0'..=b'9' => letter - b'0',
+            b'a'..=b'f' => letter - b'a' + 10,
+            _ => continue,
+        };
+        high = match high {
+            None => Some(digit),
+            Some(first) => {
+                let first: u8 = first;
+                bytes.push(first.wrapping_mul(16).wrapping_add(digit))?;
+                None
+            }
+        };
+    }
+    Ok(bytes)
+}
+
+/// The server's image.
+fn server(alloc: Global) -> Result<Vec<u8>, AllocError> {
+    let mut bytes = bytes_of(alloc, SERVER_HEAD)?;
+    for _ in 0..62 {
+        bytes.extend_from_slice(&[0; 8])?;
+    }
+    bytes.extend_from_slice(&bytes_of(alloc, SERVER_REST)?)?;
+    Ok(bytes)
+}
+
+/// Where the fields of the server's image begin.
+fn server_fields(alloc: Global) -> Result<Vec<u32>, AllocError> {
+    let mut fields = Vec::from_slice(alloc, &[0, 4])?;
+    for number in 0..64 {
+        fields.push(5 + 8 * number)?;
+    }
+    fields.extend_from_slice(&SERVER_FIELDS)?;
+    Ok(fields)
+}
+
+/// What an error of a reader is as an answer.
+fn refusal(error: ImageError) -> Answer {
+    match error {
+        ImageError::WrongKind => Answer::WrongKind,
+        ImageError::BadImage(place) => Bad(place),
+        ImageError::Memory => Answer::Memory,
+    }
+}
+
+/// What the reader says of the bytes.
+fn answer_of(alloc: Global, reader: Reader, bytes: &[u8]) -> Answer {
+    match reader {
+        Reader::Client => match read_client(alloc, bytes) {
+            Ok(image) => {
+                drop(image);
+                Read
+            }
+            Err(error) => refusal(error),
+        },
+        Reader::Server => match read_server(alloc, bytes) {
+            Ok(image) => {
+                drop(image);
+                Read
+            }
+            Err(error) => refusal(error),
+        },
+    }
+}
+
+/// The greatest of the places that is not behind this one.
+fn begun(fields: &[u32], place: usize) -> Option<u32> {
+    fields
+        .iter()
+        .rev()
+        .find(|field| **field as usize <= place)
+        .copied()
+}
+
+/// The first size of a front of the image that is not refused at the last field that begins in it or behind it.
+fn first_wrong_front(alloc: Global, reader: Reader, image: &[u8], fields: &[u32]) -> Option<usize> {
+    for size in 0..image.len() {
+        if Some(answer_of(alloc, reader, &image[..size])) != begun(fields, size).map(Bad) {
+            return Some(size);
+        }
+    }
+    None
+}
+
+/// What stands in place of the byte.
+fn changed(change: Change, byte: u8) -> u8 {
+    match change {
+        Change::Zero => 0,
+        Change::Ones => 255,
+        Change::Complement => !byte,
+    }
+}
+
+/// What the reader says of the image with another byte at the place.
+fn answer_with(
+    alloc: Global,
+    reader: Reader,
+    image: &[u8],
+    place: usize,
+    byte: u8,
+) -> Result<Answer, AllocError> {
+    let mut other = image.to_vec(alloc)?;
+    if let Some(here) = other.get_mut(place) {
+        *here = byte;
+    }
+    Ok(answer_of(alloc, reader, &other))
+}
+
+/// The answer that a table states for a place: that of the first entry whose end is behind it.
+fn stated(table: &[(usize, Answer)], place: usize) -> Option<Answer> {
+    table
+        .iter()
+        .find(|entry| place < entry.0)
+        .map(|entry| entry.1)
+}
+
+/// The first place of the image where a changed byte gets another answer than the stated one.
+fn first_wrong_byte(
+    alloc: Global,
+    reader: Reader,
+    image: &[u8],
+    change: Change,
+    table: &[(usize, Answer)],
+) -> Result<Option<usize>, AllocError> {
+    for (place, byte) in image.iter().enumerate() {
+        let byte = changed(change, *byte);
+        if Some(answer_with(alloc, reader, image, place, byte)?) != stated(table, place) {
+            return Ok(Some(place));
+        }
+    }
+    Ok(None)
+}
+
+/// An answer as a number.
+fn code(answer: Answer) -> u32 {
+    match answer {
+        Answer::Memory => 0,
+        Read => 1,
+        Answer::WrongKind => 2,
+        Bad(place) => place.saturating_add(3),
+    }
+}
+
+/// The answers to each bit turned round, the lowest of each byte first, as one number.
+fn sum_of_answers(alloc: Global, reader: Reader, image: &[u8]) -> Result<u32, AllocError> {
+    let mut sum: u32 = 0;
+    for (place, byte) in image.iter().enumerate() {
+        for bit in [1, 2, 4, 8, 16, 32, 64, 128] {
+            let answer = answer_with(alloc, reader, image, place, *byte ^ bit)?;
+            sum = sum.wrapping_mul(31).wrapping_add(code(answer));
+        }
+    }
+    Ok(sum)
+}
+
+/// What a test wants of an image: where its fields begin, the answers to a zero and to ones in place of each byte, and the
+/// answers to turned bits as one number.
+#[derive(Clone, Copy)]
+struct Wanted<'a> {
+    fields: &'a [u32],
+    zeros: &'a [(usize, Answer)],
+    ones: &'a [(usize, Answer)],
+    turned: u32,
+}
+
+/// Which of the answers to an image is not the wanted one.
+fn wrong(
+    alloc: Global,
+    reader: Reader,
+    image: &[u8],
+    wanted: &Wanted<'_>,
+) -> Result<Option<&'static str>, AllocError> {
+    if first_wrong_front(alloc, reader, image, wanted.fields) != None {
+        return Ok(Some("a front"));
+    }
+    if first_wrong_byte(alloc, reader, image, Change::Zero, wanted.zeros)? != None {
+        return Ok(Some("a zero"));
+    }
+    if first_wrong_byte(alloc, reader, image, Change::Ones, wanted.ones)? != None {
+        return Ok(Some("ones"));
+    }
+    if first_wrong_byte(alloc, reader, image, Change::Complement, wanted.ones)? != None {
+        return Ok(Some("a complement"));
+    }
+    if sum_of_answers(alloc, reader, image)? != wanted.turned {
+        return Ok(Some("a turned bit"));
+    }
+    Ok(None)
+}
+
+#[test]
+fn a_spoilt_client_is_refused_at_its_field(rt: HostRuntime) -> Result<(), Fail> {
+    let alloc = rt.alloc();
+    let image = bytes_of(alloc, CLIENT)?;
+    let wanted = Wanted {
+        fields: &CLIENT_FIELDS,
+        zeros: &CLIENT_ZEROS,
+        ones: &CLIENT_ONES,
+        turned: 162_640_575,
+    };
+    assert_eq!(rt; wrong(alloc, Reader::Client, &image, &wanted)?, None);
+    Ok(())
+}
+
+#[test]
+fn a_spoilt_new_client_is_refused_at_its_field(rt: HostRuntime) -> Result<(), Fail> {
+    let alloc = rt.alloc();
+    let image = bytes_of(alloc, NEW)?;
+    let wanted = Wanted {
+        fields: &NEW_FIELDS,
+        zeros: &NEW_ZEROS,
+        ones: &NEW_ONES,
+        turned: 786_501_266,
+    };
+    assert_eq!(rt; wrong(alloc, Reader::Client, &image, &wanted)?, None);
+    Ok(())
+}
+
+#[test]
+fn a_spoilt_server_is_refused_at_its_field(rt: HostRuntime) -> Result<(), Fail> {
+    let alloc = rt.alloc();
+    let image = server(alloc)?;
+    let fields = server_fields(alloc)?;
+    let wanted = Wanted {
+        fields: &fields,
+        zeros: &SERVER_ZEROS,
+        ones: &SERVER_ONES,
+        turned: 3_404_901_961,
+    };
+    assert_eq!(rt; wrong(alloc, Reader::Server, &image, &wanted)?, None);
+    Ok(())
+}
+
+/// Whether a client's image is written as it was read.
+fn client_again(alloc: Global, bytes: &[u8]) -> Result<bool, Fail> {
+    let image = read_client(alloc, bytes)?;
+    Ok(write_client(image.client, &image.log)?.as_slice() == bytes)
+}
+
+/// Whether a server's image is written as it was read.
+fn server_again(alloc: Global, bytes: &[u8]) -> Result<bool, Fail> {
+    let image = read_server(alloc, bytes)?;
+    Ok(write_server(&image.last, &image.tree)?.as_slice() == bytes)
+}
+
+#[test]
+fn what_is_read_is_written_again(rt: HostRuntime) -> Result<(), Fail> {
+    let alloc = rt.alloc();
+    assert!(rt; client_again(alloc, &bytes_of(alloc, CLIENT)?)?);
+    assert!(rt; server_again(alloc, &server(alloc)?)?);
+    Ok(())
+}
