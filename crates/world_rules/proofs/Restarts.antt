@@ -43,8 +43,12 @@ module _ (client : ℕ) where
   unkept_later state (Acknowledges reply) moves may rest = inl rest
   unkept_later state (Pulls last seen) moves may rest = inl rest
   unkept_later state Saves moves may rest =
-      inr ([], entries_in moves, refl,
-      runs_then client [] [] [] (asks_in moves) state (moved Saves state) (restarted (moved_by moves (moved Saves state))) (runs_once client state Saves tt) rest)
+      inr (
+        [],
+        entries_in moves,
+        refl,
+        runs_then client [] [] [] (asks_in moves) state (moved Saves state) (restarted (moved_by moves (moved Saves state))) (runs_once client state Saves tt) rest,
+      )
 
   part_or_none : (moves : List Move) (state : State) → AllPossible client state moves → Unkept moves state ⊎ InPart moves state
   part_or_none [] state may = inl (runs_none client (restarted state))
@@ -55,11 +59,18 @@ module _ (client : ℕ) where
       → (kept unkept : List Entry) × (entries ≡ kept ++ unkept) × Runs client kept made old (restarted new)
   restart_runs entries made old new begins runs =
       let same : restarted old ≡ old = λ i. record { log = begins i; kept = old.kept; world = old.world } in
-      let part : InPart runs.moves old = ⊎_elim (λ (none : Unkept runs.moves old). ([], entries_in runs.moves, refl,
-      subst (λ (s : State). Runs client [] (asks_in runs.moves) s (restarted (moved_by runs.moves old))) same none)) (λ part. part) (part_or_none runs.moves old runs.possible) in
-      (part.0, part.1, sym runs.entries ∙ part.2,
-      subst (λ (asks : List Ask). Runs client part.0 asks old (restarted new)) runs.asks
-      (subst (λ (s : State). Runs client part.0 (asks_in runs.moves) old (restarted s)) (sym runs.result) part.3))
+      let part : InPart runs.moves old = ⊎_elim (λ (none : Unkept runs.moves old). (
+        [],
+        entries_in runs.moves,
+        refl,
+        subst (λ (s : State). Runs client [] (asks_in runs.moves) s (restarted (moved_by runs.moves old))) same none,
+      )) (λ part. part) (part_or_none runs.moves old runs.possible) in (
+        part.0,
+        part.1,
+        sym runs.entries ∙ part.2,
+        subst (λ (asks : List Ask). Runs client part.0 asks old (restarted new)) runs.asks
+            (subst (λ (s : State). Runs client part.0 (asks_in runs.moves) old (restarted s)) (sym runs.result) part.3),
+      )
 
   -- ---- a world that goes on without its client
 
