@@ -1,11 +1,11 @@
 -- An image that is put under a name.
-use Rattle.std.proofs.Common.{◌≡◌, inl, inr, ℕ, List, Option, refl, Result, Ok, Err, sym, ap, subst}
+use Rattle.std.proofs.Common.{inl, inr, ℕ, List, Option, refl, Result, Ok, Err, sym, ap, subst}
 use Rattle.outside.specs.Outside.{Told}
 use Rattle.outside.specs.Keeper.{Images, IsPut, Saves}
 use Rattle.mod_log.specs.Log.{Log}
 use Rattle.store_image.specs.Image.{IsKeptFor, Keeps}
 use Rattle.world_rules.proofs.Asks.{told_start, told_as}
-use Rattle.client_core.specs.Keeping.{StillKeeps, KeepsLog}
+use Rattle.client_core.specs.Keeping.{KeepsLog}
 
 module _ {E : Type 0} (name : List ℕ) (client : ℕ) (log : Log) where
   -- a save of the client's image keeps it, or leaves what was kept

@@ -67,6 +67,17 @@ module _ (client : ℕ) (entry : Entry) where
     has_cause (Some (Snapshot of number last rows)) is told rose = absurd told.1.0
     has_cause (Some (Malformed code offset)) is told rose = absurd told.1.0
 
+-- a sync after which nothing is pending, and in which no keeping failed
+pub settled_end : (end : SyncEnd) (after : Log) (t v p q : ℕ) → HasSyncCause end after t v p q → after.pending ≡ [] → (Rose p q → ⊥) → (end ≡ ends.Synced after.acked) ⊎ (end ≡ ends.Memory)
+settled_end (ends.Synced number) after t v p q cause none sound = inl (ap ends.Synced cause.1)
+settled_end (ends.Stale number path theirs ours) after t v p q cause none sound = absurd (cause.0 none)
+settled_end (ends.Unfit number index fault) after t v p q cause none sound = absurd (cause.0 none)
+settled_end (ends.Full number index fault) after t v p q cause none sound = absurd (cause.0 none)
+settled_end (ends.Unanswered number) after t v p q cause none sound = absurd (cause.0 none)
+settled_end (ends.Behind number last) after t v p q cause none sound = absurd (cause.0 none)
+settled_end ends.KeepFault after t v p q cause none sound = absurd (sound cause)
+settled_end ends.Memory after t v p q cause none sound = inr refl
+
 -- a sync whose log could not be kept
 pub unkept_cause : (e : KeepError) (after : Log) (t v p m q : ℕ) → p ≤ m → (e ≡ keepers.Failed → Rose m q) → HasSyncCause (unkept_end e) after t v p q
 unkept_cause keepers.Failed after t v p m q later rose = omega (arith, later, rose refl)

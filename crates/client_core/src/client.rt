@@ -1,5 +1,5 @@
 // A client: its number and its log.
-ghost use Rattle.std.specs.Prelude.{◌≡◌, ◌≢◌, ◌≤◌, [], ◌∷◌, Ok, Err, IfOk, IfErr, OnOk, OnErr};
+ghost use Rattle.std.specs.Prelude.{◌≡◌, ◌≢◌, ◌⊎◌, ◌≤◌, [], ◌∷◌, Ok, Err, IfOk, IfErr, OnOk, OnErr};
 ghost use Rattle.outside.specs.Outside.{Told, Rose, HasCause};
 ghost use Rattle.mod_log.specs.Log.{Log, IsLog, new_log};
 ghost use Rattle.mod_log.specs.Append.{appended};
@@ -137,6 +137,8 @@ impl Client {
         ensures honest { Told (L.world link.old) (L.world link.new) (λ old new. InStep self.old.number self.old.log old → IsTrueSync result self.old.number self.new.log new) }
         // without trouble and faults, and where others wrote nothing newer, all is acknowledged
         ensures complete { (Rose (L.troubles link.old) (L.troubles link.new) → ⊥) → (Rose (K.faults keeper.old) (K.faults keeper.new) → ⊥) → Told (L.world link.old) (L.world link.new) (λ old new. InStep self.old.number self.old.log old → IsComplete result self.old.number self.new.log new) }
+        // and where nothing is pending at the end and no keeping failed, that is how it ends, but for want of memory
+        ensures settled { self.new.log.pending ≡ [] → (Rose (K.faults keeper.old) (K.faults keeper.new) → ⊥) → (result ≡ SyncEnd.Synced self.new.log.acked) ⊎ (result ≡ SyncEnd.Memory) }
         ensures number { self.new.number ≡ self.old.number }
         ensures later { L.troubles link.old ≤ L.troubles link.new }
         ensures faults { K.faults keeper.old ≤ K.faults keeper.new }

@@ -136,7 +136,9 @@ fn settle_pull<L: Link>(
     ensures later { L.troubles link.old ≤ L.troubles link.new }
 {
     let pull = Message::Pull { client, number };
-    settle(alloc, route, &pull, link)
+    let settled = settle(alloc, route, &pull, link);
+    drop(pull);
+    settled
 }
 
 /// What a snapshot tells: the client's last number at the server, and the rows.
@@ -145,7 +147,10 @@ fn snapshot_of(reply: Option<Message>) -> Option<(u64, Rows)>
 {
     match reply {
         Some(Message::Snapshot { last, rows, .. }) => Some((last, rows)),
-        _ => None,
+        other => {
+            drop(other);
+            None
+        }
     }
 }
 

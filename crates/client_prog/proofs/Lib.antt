@@ -1,3 +1,4 @@
+pub mod Composing
 pub mod Doing
 pub mod InputReading
 pub mod Numbers

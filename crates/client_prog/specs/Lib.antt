@@ -1,5 +1,6 @@
 pub mod Beginning
 pub mod Causes
+pub mod Composing
 pub mod Headline
 pub mod Input
 pub mod Inside

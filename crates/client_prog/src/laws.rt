@@ -1,3 +1,4 @@
+ghost use Rattle.client_prog.specs.Composing.{RunsCompose, MovesLeave};
 ghost use Rattle.client_prog.specs.Laws.{QuitIsTheLast, AllCountWithoutQuit};
 ghost use Rattle.client_prog.specs.Words.{NumbersArePrinted};
 
@@ -10,4 +11,11 @@ pub fn client_numbers_are_as_printed()
 pub fn sessions_end_with_the_first_quit()
     ensures last { QuitIsTheLast }
     ensures all { AllCountWithoutQuit }
+{}
+
+/// Law: two runs, the second begun on what the first left kept, leave together what one run leaves, whatever stopped them. And so
+/// do any number of runs.
+pub fn runs_compose()
+    ensures two { RunsCompose }
+    ensures many { MovesLeave }
 {}

@@ -14,7 +14,7 @@ mod words;
 
 pub use beginning::new_sessions_are_in_step;
 pub use input::{InputEnd, LineReader, MAX_INPUT};
-pub use laws::{client_numbers_are_as_printed, sessions_end_with_the_first_quit};
+pub use laws::{client_numbers_are_as_printed, runs_compose, sessions_end_with_the_first_quit};
 pub use opening::Unopened;
 pub use program::{client_main, client_program};
 pub use run::{Stop, client_run};

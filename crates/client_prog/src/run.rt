@@ -356,9 +356,14 @@ fn run<I: Source, O: Sink, K: Keeper, L: Link>(
     let mut session = session;
     let end = match answer_input(alloc, route, &mut session, input, output, keeper, link) {
         Ok(end) => end,
-        Err(stop) => return Err(stop),
+        Err(stop) => {
+            drop(session);
+            return Err(stop);
+        }
     };
-    match close(alloc, &session, end, output) {
+    let closed = close(alloc, &session, end, output);
+    drop(session);
+    match closed {
         Ok(()) => Ok(end),
         Err(stop) => Err(stop),
     }
@@ -433,8 +438,13 @@ pub fn client_run<I: Source, O: Sink, K: Keeper, L: Link>(
     match open(alloc, words.client, route.image.bytes(), keeper) {
         Ok(client) => {
             let session = Session::new(alloc, client);
-            status_of(run(alloc, session, &route, input, output, keeper, link))
+            let ended = run(alloc, session, &route, input, output, keeper, link);
+            drop(route);
+            status_of(ended)
         }
-        Err(unopened) => status_unopened(unopened),
+        Err(unopened) => {
+            drop(route);
+            status_unopened(unopened)
+        }
     }
 }

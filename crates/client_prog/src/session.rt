@@ -294,6 +294,7 @@ fn answered(fault: bool, answer: Option<Answer>) -> Result<Option<Answer>, KeepE
     ensures { result ≡ answered fault answer }
 {
     if fault {
+        drop(answer);
         return Err(KeepError::Failed);
     }
     match answer {

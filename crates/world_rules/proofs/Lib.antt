@@ -5,6 +5,7 @@ pub mod Sending
 pub mod Client
 pub mod Events
 pub mod Runs
+pub mod Restarts
 pub mod Replay
 pub mod Replying
 pub mod FirstPull

@@ -54,7 +54,7 @@ allowed_log client state (Send message) may = may.0
 allowed_log client state (Deliver message joins) may = may
 allowed_log client state (Other message) may = may
 
-allowed_kept : (client : ℕ) (state : State) (step : Step) → IsAllowed (MaySendKept client state) state.world step → IsAllowed (MaySend client state.kept) state.world step
+pub allowed_kept : (client : ℕ) (state : State) (step : Step) → IsAllowed (MaySendKept client state) state.world step → IsAllowed (MaySend client state.kept) state.world step
 allowed_kept client state (Send message) may = subst (λ log. MaySend client log message) (sym may.1) may.0
 allowed_kept client state (Deliver message joins) may = may
 allowed_kept client state (Other message) may = may
@@ -340,6 +340,13 @@ entries_in_order client entries made old new now runs = (in_order_at_end client 
 pub pending_later : (client : ℕ) (entries : List Entry) (made : List Ask) (old new : State) → InStep client old.log old.world → Runs client entries made old new
     → (old.log.acked ≤ new.log.acked) × (new.log.pending ≡ drop (new.log.acked - old.log.acked) (old.log.pending ++ entries))
 pending_later client entries made old new now runs = let told = in_order_at_end client entries made old new now runs in (told.above, told.pending)
+
+-- no entry is lost: the last number, acknowledged or pending, grew by those that were logged
+pub counted_later : (client : ℕ) (entries : List Entry) (made : List Ask) (old new : State) → InStep client old.log old.world → Runs client entries made old new
+    → new.log.acked + length new.log.pending ≡ old.log.acked + length old.log.pending + length entries
+counted_later client entries made old new now runs =
+    let told = in_order_at_end client entries made old new now runs in
+    omega (arith, told.above, told.within, ap length told.pending, length-drop (new.log.acked - old.log.acked) (old.log.pending ++ entries), length-append old.log.pending entries)
 
 pub path_is_same : (client : ℕ) (entries : List Entry) (made : List Ask) (old new : State) (path : FilePath) → InStep client old.log old.world → (runs : Runs client entries made old new)
     → version_at old.world.served.volume path ≡ version_at (tree_at (old.world.served.last client) old.log) path → AllSpare client path (taken_in runs.moves old) → IsSameAt client new.log new.world path

@@ -10,7 +10,7 @@ use Rattle.wire_frames.specs.declared.message.Message.TheVariants.{Pull, Accepte
 use Rattle.wire_frames.specs.Frame.{client_of, IsValid}
 use Rattle.world_rules.specs.declared.asking.Ask.{Ask}
 use Rattle.world_rules.specs.Served.{IsServed}
-use Rattle.world_rules.specs.World.{World, Step, happen, IsReplayed, Moved, IsFresh}
+use Rattle.world_rules.specs.World.{World, Step, happen, IsReplayed, GoesOnAlone, Moved, IsFresh}
 use Rattle.world_rules.specs.InStep.{InStep, MaySend, IsRefusal}
 use Rattle.world_rules.specs.Run.{State, kept_at, restarted, AreInStep, Runs, taken_in, own, stores_between, Spares, IsSameAt}
 
@@ -34,6 +34,23 @@ NewClientsAreInStep = (client : ℕ) (world : World) → world.client ≡ client
 abbrev pub AsksArePossible : Type 0
 AsksArePossible = (client : ℕ) (log : Log) (request : Message) (made : List Ask) (old new : World) → MaySend client log request → Moved request made old new
     → Runs client [] made (kept_at log old) (kept_at log new)
+
+-- ---- runs one after the other
+
+-- Two runs, the second from where the first ended, are a run.
+abbrev pub RunsJoin : Type 0
+RunsJoin = (client : ℕ) (earlier later : List Entry) (made more : List Ask) (old middle new : State) → Runs client earlier made old middle → Runs client later more middle new
+    → Runs client (earlier ++ later) (made ++ more) old new
+
+-- A new beginning with what is kept is the end of a run, too: of one in which what was not kept was not done. In it the first of the
+-- entries were logged, and the same was asked, in the same world.
+abbrev pub RestartsEndRuns : Type 0
+RestartsEndRuns = (client : ℕ) (entries : List Entry) (made : List Ask) (old new : State) → old.kept ≡ old.log → Runs client entries made old new
+    → (kept unkept : List Entry) × (entries ≡ kept ++ unkept) × Runs client kept made old (restarted new)
+
+-- And so is a world that went on without its client.
+abbrev pub SilentClientsRun : Type 0
+SilentClientsRun = (client : ℕ) (log : Log) (old new : World) → GoesOnAlone old new → Runs client [] [] (kept_at log old) (kept_at log new)
 
 -- ---- entries
 

@@ -87,6 +87,12 @@ AreAllowed MaySend world (step ∷ steps) = IsAllowed MaySend world step × AreA
 abbrev pub Is : Message → Message → Type 0
 Is request message = message ≡ request
 
+-- The world went on without its client: others sent, and what was ever sent may have been delivered.
+pub record GoesOnAlone (old new : World) : Type 0 where
+  pub steps : List Step
+  pub allowed : AreAllowed (λ message. ⊥) old steps
+  pub result : new ≡ happen steps old
+
 -- The world moved by allowed steps, each sending of which sends this request, and these asks were made. Where any was made,
 -- the request is among the packets.
 pub record Moved (request : Message) (made : List Ask) (old new : World) : Type 0 where

@@ -1,5 +1,5 @@
 // What holds of every run of a client in its world, as contracts of calls that do nothing.
-ghost use Rattle.world_rules.specs.Laws.{RunsStayInStep, RestartsStayInStep, NewClientsAreInStep, AsksArePossible, EntriesAreTakenOnce, LaterEntriesArePending, LoneClientsEntriesAreTaken, SparedPathsAreTheClients, SparedPathsAreKept, LoneClientsAreServedTheirTree, LoneClientsTreeIsKept, ServedIsReplayed, RunsTellWhatIsTaken, RunsTellWhatIsAsked, PacketsStay, AcceptedEntriesWereTaken, NoGapComes, StaleNamesAPathAhead, RefusalsShowAPathAhead, PullsFindTheirNumber, FreshPullsAreNotOlder};
+ghost use Rattle.world_rules.specs.Laws.{RunsStayInStep, RestartsStayInStep, NewClientsAreInStep, AsksArePossible, RunsJoin, RestartsEndRuns, SilentClientsRun, EntriesAreTakenOnce, LaterEntriesArePending, LoneClientsEntriesAreTaken, SparedPathsAreTheClients, SparedPathsAreKept, LoneClientsAreServedTheirTree, LoneClientsTreeIsKept, ServedIsReplayed, RunsTellWhatIsTaken, RunsTellWhatIsAsked, PacketsStay, AcceptedEntriesWereTaken, NoGapComes, StaleNamesAPathAhead, RefusalsShowAPathAhead, PullsFindTheirNumber, FreshPullsAreNotOlder};
 
 /// Every run from a log in step ends in step, with what is kept of the log, and so does a new beginning with that. A
 /// new client begins in step, and asking is a run.
@@ -8,6 +8,14 @@ pub fn runs_stay_in_step()
     ensures restarts { RestartsStayInStep }
     ensures beginning { NewClientsAreInStep }
     ensures asking { AsksArePossible }
+{}
+
+/// Runs one after the other are a run, also where the client begins anew with what is kept, and where others went on without it
+/// in between.
+pub fn runs_go_on()
+    ensures joined { RunsJoin }
+    ensures restarted { RestartsEndRuns }
+    ensures alone { SilentClientsRun }
 {}
 
 /// The server takes the client's entries in order, each once, and those that are not acknowledged are

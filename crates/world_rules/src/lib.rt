@@ -8,8 +8,8 @@ mod link;
 
 pub use asking::{Answer, Ask, Peer};
 pub use laws::{
-    entries_are_taken_once, replies_are_true, runs_stay_in_step, unshared_paths_are_the_clients,
-    worlds_tell_what_happened,
+    entries_are_taken_once, replies_are_true, runs_go_on, runs_stay_in_step,
+    unshared_paths_are_the_clients, worlds_tell_what_happened,
 };
 pub use link::{AskError, Link, LinkError, ask_eight};
 

@@ -27,8 +27,8 @@ returns-in-Err-clause-world g c =
     c.in-Err.ensures.world
     (λ x y did. (b, did.0, does_as r.image (AnswersInput r a left rest o n (Err stop) b did.0) (RunTurn r a left rest o n (Err stop) b did.0) a b did.0 i j t u x y did.1 (λ p turn back. run_stops r a left rest o stop n b did.0 p turn)))
 
-pub returns-in-Ok-close-clause-world : goal.returns-in-Ok-close-clause-world
-returns-in-Ok-close-clause-world g c =
+pub returns-in-Ok-closed-clause-world : goal.returns-in-Ok-closed-clause-world
+returns-in-Ok-closed-clause-world g c =
     let r = c.args.route.now in
     let a = c.args.session in
     let b = c.answer_input.new.session in
@@ -38,7 +38,7 @@ returns-in-Ok-close-clause-world g c =
     let j = g.K.Keeper.images c.answer_input.new.keeper in
     let o = g.O.Sink.written c.args.output.now in
     let m = g.O.Sink.written c.answer_input.new.output in
-    let n = g.O.Sink.written c.close.new.output in
+    let n = g.O.Sink.written c.close-closed.new.output in
     let left = g.I.Source.left c.args.input.now in
     let rest = g.I.Source.left c.answer_input.new.input in
     let end = c.in-Ok.end in
@@ -48,11 +48,11 @@ returns-in-Ok-close-clause-world g c =
       b,
       did.0,
       does_as r.image (AnswersInput r a left rest o m (Ok end) b did.0) (RunTurn r a left rest o n (Ok end) b did.0) a b did.0 i j t u x y did.1
-          (λ p turn back. run_ends r a left rest o end m n b did.0 p turn c.in-Ok-close.ensures.all),
+          (λ p turn back. run_ends r a left rest o end m n b did.0 p turn c.in-Ok-closed.ensures.all),
     ))
 
-pub returns-clause-world : goal.returns-clause-world
-returns-clause-world g c =
+pub returns-in-Err-closed-clause-world : goal.returns-in-Err-closed-clause-world
+returns-in-Err-closed-clause-world g c =
     let r = c.args.route.now in
     let a = c.args.session in
     let b = c.answer_input.new.session in
@@ -62,13 +62,13 @@ returns-clause-world g c =
     let j = g.K.Keeper.images c.answer_input.new.keeper in
     let o = g.O.Sink.written c.args.output.now in
     let m = g.O.Sink.written c.answer_input.new.output in
-    let n = g.O.Sink.written c.close.new.output in
+    let n = g.O.Sink.written c.close-closed.new.output in
     let left = g.I.Source.left c.args.input.now in
     let rest = g.I.Source.left c.answer_input.new.input in
     let end = c.in-Ok.end in
-    let stop = c.in-Err-close.stop in
-    let front = c.in-Err-close.ensures.front in
-    let other : stop ≢ Keeper = λ is. c.in-Err-close.ensures.keeper (ap Err is) in
+    let stop = c.in-Err-closed.stop in
+    let front = c.in-Err-closed.ensures.front in
+    let other : stop ≢ Keeper = λ is. c.in-Err-closed.ensures.keeper (ap Err is) in
     told_as _ _ (λ x y. (kept : Log) × Does r.image (AnswersInput r a left rest o m (Ok end) b kept) a b kept i j t u x y) (λ x y. RunGoes r a left rest o n (Err stop) i j t u x y)
     c.in-Ok.ensures.world
     (λ x y did. (

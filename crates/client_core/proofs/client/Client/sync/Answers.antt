@@ -6,6 +6,7 @@ use Rattle.mod_log.specs.Log.{Log}
 use Rattle.client_core.specs.Syncing.{SyncEnds}
 use Rattle.client_core.specs.Goes.{Goes}
 use Rattle.client_core.specs.Honest.{IsComplete}
+use Rattle.client_core.proofs.Syncs.{settled_end}
 use Rattle.client_core.proofs.client.Client.sync.Goals as goal
 
 pub returns-clause-world : goal.returns-clause-world
@@ -24,3 +25,6 @@ pub returns-clause-complete : goal.returns-clause-complete
 returns-clause-complete g c = λ calm sound.
     subst (λ (self : Client). Told (g.L.Link.world c.args.link.now) (g.L.Link.world c.sync_log.new.link) (λ x y. InStep self.number self.log x → IsComplete c.sync_log.result self.number c.sync_log.new.log y)) c.self.view_is
     (c.sync_log.ensures.complete calm sound)
+
+pub returns-clause-settled : goal.returns-clause-settled
+returns-clause-settled g c = λ none sound. settled_end c.sync_log.result c.sync_log.new.log _ _ _ _ c.sync_log.ensures.cause none sound

@@ -1,0 +1,235 @@
+-- Two runs, the second begun on what the first left kept, leave together what one run leaves.
+use Rattle.std.proofs.Common.{◌≡◌, ◌⊎◌, inl, inr, ⊎_elim, ℕ, zero, suc, ◌+◌, ◌-◌, ◌≤◌, List, [], ◌∷◌, ◌++◌, length, drop, Option, Result, Ok, Err, refl, sym, ◌∙◌, ap, subst, arith, length-append}
+use Rattle.std.proofs.lemmas.List.{append-nil}
+use Rattle.outside.specs.Keeper.{Images}
+use Rattle.vol_tree.specs.declared.path.PathError.{PathError}
+use Rattle.vol_tree.specs.declared.tree.Effect.{Effect}
+use Rattle.mod_log.specs.declared.log.Entry.{Entry}
+use Rattle.mod_log.specs.declared.log.LogError.{LogError}
+use Rattle.mod_log.specs.Log.{Log, logged}
+use Rattle.world_rules.specs.declared.asking.Ask.{Ask}
+use Rattle.world_rules.specs.World.{World, GoesOnAlone}
+use Rattle.world_rules.specs.InStep.{InStep}
+use Rattle.world_rules.specs.Run.{kept_at}
+use Rattle.world_rules.proofs.Runs.{runs_then, counted_later}
+use Rattle.world_rules.proofs.Restarts.{restart_runs, alone_runs}
+use Rattle.client_core.specs.declared.route.Route.{Route}
+use Rattle.client_core.specs.declared.pulling.PullEnd.{PullEnd}
+use Rattle.client_core.specs.declared.pulling.PullEnd.TheVariants.{Pulled, Pending, OtherLast, Older, Unanswered, KeepFault, Memory}
+use Rattle.client_core.specs.Trace.{Trace, nothing, followed, asking, last_log, log_before_last, IsLastOrBefore}
+use Rattle.client_core.specs.Logging.{local_entry, LocalTurn}
+use Rattle.client_core.specs.Syncing.{IsFirst, Acknowledges}
+use Rattle.client_core.specs.Pulling.{PullsSnapshot, PullTurn}
+use Rattle.client_core.specs.Goes.{stand}
+use Rattle.client_core.proofs.Locals.{appended-is}
+use Rattle.client_core.proofs.Pulls.{none_pending}
+use Rattle.shell_lang.specs.declared.line.Line.{Line}
+use Rattle.shell_lang.specs.declared.line.Line.TheVariants as lines
+use Rattle.shell_lang.specs.declared.line.LineError.{LineError}
+use Rattle.shell_lang.specs.declared.answer.Answer.{Answer}
+use Rattle.client_prog.specs.declared.input.InputEnd.{InputEnd}
+use Rattle.client_prog.specs.declared.run.Stop.{Stop}
+use Rattle.client_prog.specs.declared.run.Stop.TheVariants as stops
+use Rattle.client_prog.specs.Session.{State, opened, put_effect, make_effect, remove_effect, move_effect, LogTurn, LineTurn, BreaksOff, Broken, BreaksChain}
+use Rattle.client_prog.specs.Run.{asked_for, Handles, RunTurn}
+use Rattle.client_prog.specs.Headline.{Ran}
+use Rattle.client_prog.specs.Composing.{LeaveTogether}
+use Rattle.client_prog.proofs.RunningLeaves.{leaves}
+
+-- ---- how many entries a log has known
+
+-- the number of its last entry
+abbrev last_number : Log → ℕ
+last_number log = log.acked + length log.pending
+
+-- each of these logs has this last number
+abbrev KnowAll : ℕ → List Log → Type 0
+KnowAll n [] = Unit {0}
+KnowAll n (log ∷ logs) = (last_number log ≡ n) × KnowAll n logs
+
+know-append : (n : ℕ) (xs ys : List Log) → KnowAll n xs → KnowAll n ys → KnowAll n (xs ++ ys)
+know-append n [] ys first second = second
+know-append n (x ∷ xs) ys first second = (first.0, know-append n xs ys first.1 second)
+
+last_knows : (n : ℕ) (log : Log) (xs : List Log) → last_number log ≡ n → KnowAll n xs → last_number (last_log log xs) ≡ n
+last_knows n log [] is all = is
+last_knows n log (x ∷ xs) is all = last_knows n x xs all.0 all.1
+
+before_knows : (n : ℕ) (log : Log) (xs : List Log) → last_number log ≡ n → KnowAll n xs → last_number (log_before_last log xs) ≡ n
+before_knows n log [] is all = is
+before_knows n log (x ∷ []) is all = is
+before_knows n log (x ∷ y ∷ xs) is all = before_knows n x (y ∷ xs) all.0 all.1
+
+-- the changes log no entry, or they are one entry that is logged
+abbrev AtMostOne : Log → Log → List Log → Type 0
+AtMostOne before after changes =
+    (KnowAll (last_number before) changes × (last_number after ≡ last_number before)) ⊎ ((changes ≡ after ∷ []) × (last_number after ≡ last_number before + 1))
+
+-- so what is kept lacks at most one entry
+kept_but_one : (before after kept : Log) (changes : List Log) → AtMostOne before after changes → IsLastOrBefore before changes kept → last_number after ≤ last_number kept + 1
+kept_but_one before after kept changes (inl none) (inl is) = omega (arith, none.1, ap last_number is, last_knows (last_number before) before changes refl none.0)
+kept_but_one before after kept changes (inl none) (inr is) = omega (arith, none.1, ap last_number is, before_knows (last_number before) before changes refl none.0)
+kept_but_one before after kept changes (inr one) behind =
+    ⊎_elim (λ (is : kept ≡ after). omega (arith, ap last_number is)) (λ (is : kept ≡ before). omega (arith, one.1, ap last_number is))
+    (subst (λ (cs : List Log). IsLastOrBefore before cs kept) one.0 behind)
+
+still : (before after : Log) (changes : List Log) → after ≡ before → changes ≡ [] → AtMostOne before after changes
+still before after changes same none = inl (subst (KnowAll (last_number before)) (sym none) tt, ap last_number same)
+
+-- ---- a sync
+
+counts_first : (acked : ℕ) (pending : List Entry) (entry : Entry) → IsFirst entry pending → acked + 1 + length (drop (acked + 1 - acked) pending) ≡ acked + length pending
+counts_first acked [] entry first = absurd first
+counts_first acked (e ∷ entries) entry first =
+    let one : acked + 1 - acked ≡ 1 = omega arith in
+    omega (arith, ap (λ (n : ℕ). length (drop n (e ∷ entries))) one)
+
+acknowledged_know : (client : ℕ) (route : Route) (count : ℕ) (before after : Log) (trace : Trace) → Acknowledges client route count before after trace
+    → KnowAll (last_number before) trace.changes × (last_number after ≡ last_number before)
+acknowledged_know client route zero before after trace turn = (subst (λ (t : Trace). KnowAll (last_number before) t.changes) (sym turn.1) tt, ap last_number turn.0)
+acknowledged_know client route (suc count) before after trace turn =
+    let middle : Log = turn.0 in
+    let earlier : Trace = turn.1 in
+    let all = acknowledged_know client route count before middle earlier turn.4 in
+    let is : last_number after ≡ last_number before = ap last_number turn.6 ∙ counts_first middle.acked middle.pending turn.2 turn.5.first ∙ all.1 in
+    (subst (λ (t : Trace). KnowAll (last_number before) t.changes) (sym turn.7) (know-append (last_number before) earlier.changes (after ∷ []) all.0 (is, tt)), is)
+
+acknowledged_then : (client : ℕ) (route : Route) (count : ℕ) (before after : Log) (earlier trace : Trace) (last : List Ask) → Acknowledges client route count before after earlier
+    → trace ≡ followed earlier (asking last) → AtMostOne before after trace.changes
+acknowledged_then client route count before after earlier trace last turn is =
+    let all = acknowledged_know client route count before after earlier turn in
+    inl (subst (KnowAll (last_number before)) (sym (ap (λ (t : Trace). t.changes) is ∙ append-nil earlier.changes)) all.0, all.1)
+
+-- ---- a pull
+
+snapshot_knows : (client : ℕ) (route : Route) (before : Log) (end : PullEnd) (after : Log) (trace : Trace) → PullsSnapshot client route before end after trace → AtMostOne before after trace.changes
+snapshot_knows client route before (Pulled count) after trace turn =
+    let same : last_number after ≡ last_number before = ap last_number turn.met.3 in
+    inl (subst (λ (t : Trace). KnowAll (last_number before) t.changes) (sym turn.trace_is) (same, tt), same)
+snapshot_knows client route before (OtherLast last acked) after trace turn = still before after trace.changes turn.met.3 (ap (λ (t : Trace). t.changes) turn.trace_is)
+snapshot_knows client route before (Older path theirs ours) after trace turn = still before after trace.changes turn.met.4 (ap (λ (t : Trace). t.changes) turn.trace_is)
+snapshot_knows client route before (Pending count) after trace turn = absurd turn.met
+snapshot_knows client route before Unanswered after trace turn = absurd turn.met
+snapshot_knows client route before KeepFault after trace turn = absurd turn.met
+snapshot_knows client route before Memory after trace turn = absurd turn.met
+
+pull_knows : (client : ℕ) (route : Route) (before : Log) (end : PullEnd) (after : Log) (trace : Trace) → PullTurn client route before end after trace → AtMostOne before after trace.changes
+pull_knows client route before (Pending count) after trace turn = still before after trace.changes turn.2 (ap (λ (t : Trace). t.changes) turn.3)
+pull_knows client route before Unanswered after trace turn = still before after trace.changes turn.1.2 (ap (λ (t : Trace). t.changes) turn.1.3)
+pull_knows client route before (Pulled count) after trace turn = snapshot_knows client route before (Pulled count) after trace turn
+pull_knows client route before (OtherLast last acked) after trace turn = snapshot_knows client route before (OtherLast last acked) after trace turn
+pull_knows client route before (Older path theirs ours) after trace turn = snapshot_knows client route before (Older path theirs ours) after trace turn
+pull_knows client route before KeepFault after trace turn = snapshot_knows client route before KeepFault after trace turn
+pull_knows client route before Memory after trace turn = snapshot_knows client route before Memory after trace turn
+
+-- ---- a line
+
+module _ (before after : State) (trace : Trace) where
+  abbrev LineKnows : Type 0
+  LineKnows = AtMostOne before.client.log after.client.log trace.changes
+
+  untouched : after ≡ before → trace ≡ nothing → LineKnows
+  untouched same none = still before.client.log after.client.log trace.changes (ap (λ (s : State). s.client.log) same) (ap (λ (t : Trace). t.changes) none)
+
+  local_knows : (effect : Effect) (result : Result ℕ LogError) → LocalTurn effect before.client.log result after.client.log trace → LineKnows
+  local_knows effect (Ok number) turn =
+      let entry : Entry = local_entry effect before.client.log in
+      let same : logged entry before.client.log ≡ after.client.log = appended-is (effect ∷ []) before.client.log after.client.log turn.0 in
+      inr (ap (λ (t : Trace). t.changes) turn.2, omega (arith, ap last_number same, length-append before.client.log.pending (entry ∷ [])))
+  local_knows effect (Err refusal) turn = still before.client.log after.client.log trace.changes turn.1 (ap (λ (t : Trace). t.changes) turn.2)
+
+  log_knows : (named : Result Effect PathError) (answer : Option Answer) → LogTurn named before answer after trace → LineKnows
+  log_knows (Ok effect) answer turn = local_knows effect turn.0 turn.1
+  log_knows (Err refusal) answer turn = untouched turn.1 turn.2
+
+  line_knows : (route : Route) (line : Result Line LineError) (answer : Option Answer) → LineTurn route before line answer after trace → LineKnows
+  line_knows route (Err refusal) answer turn = untouched turn.1 turn.2
+  line_knows route (Ok lines.Empty) answer turn = untouched turn.1 turn.2
+  line_knows route (Ok (lines.Put word text)) answer turn = log_knows (put_effect before.folder word text) answer turn
+  line_knows route (Ok (lines.Make word)) answer turn = log_knows (make_effect before.folder word) answer turn
+  line_knows route (Ok (lines.Remove word)) answer turn = log_knows (remove_effect before.folder word) answer turn
+  line_knows route (Ok (lines.Move from to)) answer turn = log_knows (move_effect before.folder from to) answer turn
+  line_knows route (Ok (lines.Cat word)) answer turn = untouched turn.1 turn.2
+  line_knows route (Ok (lines.List word)) answer turn = untouched turn.1 turn.2
+  line_knows route (Ok (lines.Enter word)) answer turn =
+      still before.client.log after.client.log trace.changes (ap (λ (s : State). s.client.log) turn.1) (ap (λ (t : Trace). t.changes) turn.2)
+  line_knows route (Ok lines.Status) answer turn = untouched turn.1 turn.2
+  line_knows route (Ok lines.Sync) answer turn =
+      acknowledged_then before.client.number route turn.1.0 before.client.log after.client.log turn.1.1 trace turn.1.2 turn.1.3 turn.1.5
+  line_knows route (Ok lines.Pull) answer turn = pull_knows before.client.number route before.client.log turn.0 after.client.log trace turn.1
+  line_knows route (Ok lines.Quit) answer turn = untouched turn.1 turn.2
+
+  breaks_knows : (route : Route) (line : Result Line LineError) → BreaksOff route before line after.client.log trace → LineKnows
+  breaks_knows route (Err refusal) breaks = absurd breaks
+  breaks_knows route (Ok lines.Empty) breaks = absurd breaks
+  breaks_knows route (Ok (lines.Put word text)) breaks = absurd breaks
+  breaks_knows route (Ok (lines.Make word)) breaks = absurd breaks
+  breaks_knows route (Ok (lines.Remove word)) breaks = absurd breaks
+  breaks_knows route (Ok (lines.Move from to)) breaks = absurd breaks
+  breaks_knows route (Ok (lines.Cat word)) breaks = absurd breaks
+  breaks_knows route (Ok (lines.List word)) breaks = absurd breaks
+  breaks_knows route (Ok (lines.Enter word)) breaks = absurd breaks
+  breaks_knows route (Ok lines.Status) breaks = absurd breaks
+  breaks_knows route (Ok lines.Sync) breaks = acknowledged_then before.client.number route breaks.0 before.client.log after.client.log breaks.1 trace breaks.2 breaks.3 breaks.5
+  breaks_knows route (Ok lines.Pull) breaks =
+      ⊎_elim (λ asks. still before.client.log after.client.log trace.changes asks.2 (ap (λ (t : Trace). t.changes) asks.4))
+      (λ pulls. snapshot_knows before.client.number route before.client.log (Pulled pulls.0) after.client.log trace pulls.1) breaks
+  breaks_knows route (Ok lines.Quit) breaks = absurd breaks
+
+  broken_knows : (route : Route) (line : Result Line LineError) → Broken route before line after trace → LineKnows
+  broken_knows route line broken =
+      ⊎_elim (λ none. untouched none.0 none.1) (λ some. ⊎_elim (λ whole. line_knows route line whole.0 whole.1) (λ breaks. breaks_knows route line breaks.0) some) broken
+
+-- ---- a run
+
+module _ (route : Route) (before after : State) (kept : Log) where
+  abbrev LacksAtMostOne : Type 0
+  LacksAtMostOne = last_number after.client.log ≤ last_number kept + 1
+
+  all_kept : kept ≡ after.client.log → LacksAtMostOne
+  all_kept is = omega (arith, ap last_number is)
+
+  chain_kept : (asked : List (Result Line LineError)) (answers : List ℕ) (trace : Trace) → BreaksChain route before asked answers after kept trace → LacksAtMostOne
+  chain_kept asked answers trace breaks =
+      let middle : State = breaks.2 in
+      let broken : Trace = breaks.4 in
+      kept_but_one middle.client.log after.client.log kept broken.changes (broken_knows middle after broken route breaks.1 breaks.7) breaks.8
+
+  handled_kept : (stop : Stop) (handled : List (List ℕ)) (answers : List ℕ) (trace : Trace) → Handles stop route before handled answers after kept trace → LacksAtMostOne
+  handled_kept stops.Sink handled answers trace all = all_kept all.1
+  handled_kept stops.Keeper handled answers trace some = ⊎_elim (λ all. all_kept all.1) (λ breaks. chain_kept (asked_for handled) answers trace breaks) some
+  handled_kept stops.Memory handled answers trace some = ⊎_elim (λ all. all_kept all.1) (λ breaks. chain_kept (asked_for handled) answers trace breaks) some
+
+  run_kept : (left rest o n : Option (List ℕ)) (ended : Result InputEnd Stop) (trace : Trace) → RunTurn route before left rest o n ended after kept trace → LacksAtMostOne
+  run_kept left rest o n (Ok end) trace turn = all_kept turn.3.1
+  run_kept left rest o n (Err stop) trace turn =
+      ⊎_elim (λ did. handled_kept stop did.0 did.2 trace did.4) (λ closing. all_kept closing.1.3.1) turn.3
+
+pub runs_compose : (client : ℕ) (route other_route : Route) (start : Log) (left rest written now : Option (List ℕ)) (images images_now : Option Images) (status troubles troubles_now : ℕ)
+    (other_left other_rest other_written other_now : Option (List ℕ)) (other_images other_images_now : Option Images) (other_status other_troubles other_troubles_now : ℕ)
+    (old middle begun new : World) → InStep client start old
+    → (first : Ran client route start left rest written now images images_now status troubles troubles_now old middle) → GoesOnAlone middle begun
+    → (second : Ran client other_route first.kept other_left other_rest other_written other_now other_images other_images_now other_status other_troubles other_troubles_now begun new)
+    → LeaveTogether client start second.after.client.log second.kept status first.goes.trace.entries second.goes.trace.entries old new
+runs_compose client route other_route start left rest written now images images_now status troubles troubles_now other_left other_rest other_written other_now other_images other_images_now other_status other_troubles other_troubles_now old middle begun new in_step first alone second =
+    let did = first.goes.trace in
+    let does = second.goes.trace in
+    let last = first.after.client.log in
+    let kept = first.kept in
+    let part = restart_runs client did.entries did.asks (kept_at start old) (stand last kept middle) refl first.goes.runs in
+    let whole = counted_later client did.entries did.asks (kept_at start old) (stand last kept middle) in_step first.goes.runs in
+    let held = counted_later client part.0 did.asks (kept_at start old) (kept_at kept middle) in_step part.3 in
+    let sum = ap length part.2 ∙ length-append part.0 part.1 in
+    let lacks = run_kept route (opened client start) first.after kept left rest written now first.ended did first.goes.turn in
+    let joined = runs_then client part.0 does.entries did.asks does.asks (kept_at start old) (kept_at kept middle) (stand second.after.client.log second.kept new) part.3
+    (runs_then client [] does.entries [] does.asks (kept_at kept middle) (kept_at kept begun) (stand second.after.client.log second.kept new) (alone_runs client kept middle begun alone) second.goes.runs) in
+    record {
+      stayed = part.0;
+      lost = part.1;
+      all = part.2;
+      at_most_one = omega (arith, whole, held, sum, lacks);
+      none = λ other more.
+          let same : kept ≡ last = first.kept_last other more ∙ sym first.goes.keeping.last in
+          none_pending part.1 (omega (arith, whole, held, sum, ap last_number same));
+      leaves = leaves client (part.0 ++ does.entries) (did.asks ++ does.asks) start second.after.client.log second.kept old new in_step joined;
+    }

@@ -1,0 +1,40 @@
+-- Runs of one client, one after the other: what they leave together.
+use Rattle.std.specs.Prelude.{◌≡◌, ◌≢◌, ℕ, ◌≤◌, List, [], ◌++◌, length, Option}
+use Rattle.outside.specs.Keeper.{Images}
+use Rattle.mod_log.specs.declared.log.Entry.{Entry}
+use Rattle.mod_log.specs.Log.{Log}
+use Rattle.world_rules.specs.declared.asking.Ask.{Ask}
+use Rattle.world_rules.specs.World.{World, GoesOnAlone}
+use Rattle.world_rules.specs.InStep.{InStep}
+use Rattle.world_rules.specs.Run.{Runs, kept_at}
+use Rattle.client_core.specs.declared.route.Route.{Route}
+use Rattle.client_core.specs.Goes.{stand}
+use Rattle.client_prog.specs.Headline.{Leaves, Ran}
+
+-- What two runs leave, of which the first ended with this status and logged these entries, and the second logged those. All that the
+-- first logged is kept, but where its keeper failed or memory ran out, perhaps the last entry. In all else they leave together what
+-- one run leaves that logged what was kept of the first, and what the second logged.
+pub record LeaveTogether (client : ℕ) (start log kept : Log) (status : ℕ) (earlier later : List Entry) (old new : World) : Type 0 where
+  pub stayed : List Entry
+  pub lost : List Entry
+  pub all : earlier ≡ stayed ++ lost
+  pub at_most_one : length lost ≤ 1
+  pub none : status ≢ 5 → status ≢ 7 → lost ≡ []
+  pub leaves : Leaves client start log kept (stayed ++ later) old new
+
+-- Two runs, the second begun on what the first left kept, in the world that it left or one that went on without the client since.
+-- Where the first began in step, they leave together what one run leaves.
+abbrev pub RunsCompose : Type 0
+RunsCompose =
+    (client : ℕ) (route other_route : Route) (start : Log) (left rest written now : Option (List ℕ)) (images images_now : Option Images) (status troubles troubles_now : ℕ)
+    (other_left other_rest other_written other_now : Option (List ℕ)) (other_images other_images_now : Option Images) (other_status other_troubles other_troubles_now : ℕ)
+    (old middle begun new : World) → InStep client start old
+    → (first : Ran client route start left rest written now images images_now status troubles troubles_now old middle) → GoesOnAlone middle begun
+    → (second : Ran client other_route first.kept other_left other_rest other_written other_now other_images other_images_now other_status other_troubles other_troubles_now begun new)
+    → LeaveTogether client start second.after.client.log second.kept status first.goes.trace.entries second.goes.trace.entries old new
+
+-- Whatever a client did from a kept log on that was in step, in one run or in many, it leaves this. For runs join, and a new beginning
+-- with what is kept ends a run, as does a world that went on without the client.
+abbrev pub MovesLeave : Type 0
+MovesLeave = (client : ℕ) (entries : List Entry) (asks : List Ask) (start log kept : Log) (old new : World) → InStep client start old
+    → Runs client entries asks (kept_at start old) (stand log kept new) → Leaves client start log kept entries old new
