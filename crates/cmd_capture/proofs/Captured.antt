@@ -26,7 +26,7 @@ use Rattle.cmd_capture.proofs.Codec.{keys, one_more_key}
 
 -- ---- lists that pass a test
 
-none_passes : {X : Type 0} (p : X → Bool) (xs : List X) → position p xs ≡ None → AllByRecursion (λ x. p x ≡ false) xs
+pub none_passes : {X : Type 0} (p : X → Bool) (xs : List X) → position p xs ≡ None → AllByRecursion (λ x. p x ≡ false) xs
 none_passes p [] e = tt
 none_passes p (x ∷ xs) e = by (p x) refl (position p xs) refl (sym (position_step p x xs) ∙ e) (none_passes p xs)
   where
@@ -219,12 +219,14 @@ captured_fits words cwd c is h =
     let all = texts (program_words words) (none_passes has_zero (program_words words) (not_mapped (λ i. length (options words) + 1 + i) _ (not_at ZeroByte _ n.1.1.1.1.1.1.0))) in
     let short = at_most (length (command (captured words cwd))) (not_when (nat_lt 65536 (length (command (captured words cwd)))) (CommandTooLong (as_u64 (length (command (captured words cwd))))) n.1.1.1.1.1.1.1.0) in
     let fits : IsCommand (captured words cwd) = record {
-      program = rw (first_text (program_words words) some all, absolute) refl;
-      args = other_texts (program_words words) all;
-      cwd = is;
-      env = all_set [] (filter_map variable_of (options words)) no_variables (all_found IsVariable (λ w. holds_behind env_mark is_bad_assignment w ≡ false) variable_of (λ w pair good h. variable_fits w pair good h) (options words) env);
-      inputs = all_found IsPath (λ w. Unit {0}) (input_of cwd) (input_fits cwd is) (options words) (all_any (options words));
-      templates = all_found (λ t. is_template t ≡ true) (λ w. holds_behind tmp_mark is_bad_template w ≡ false) (behind tmp_mark) (λ w t good h. template_fits w t good h) (options words) templates;
+      parts = record {
+        program = rw (first_text (program_words words) some all, absolute) refl;
+        args = other_texts (program_words words) all;
+        cwd = is;
+        env = all_set [] (filter_map variable_of (options words)) no_variables (all_found IsVariable (λ w. holds_behind env_mark is_bad_assignment w ≡ false) variable_of (λ w pair good h. variable_fits w pair good h) (options words) env);
+        inputs = all_found IsPath (λ w. Unit {0}) (input_of cwd) (input_fits cwd is) (options words) (all_any (options words));
+        templates = all_found (λ t. is_template t ≡ true) (λ w. holds_behind tmp_mark is_bad_template w ≡ false) (behind tmp_mark) (λ w t good h. template_fits w t good h) (options words) templates;
+      };
       short = short;
     } in
     subst IsCommand r.1 fits

@@ -23,7 +23,7 @@ use Rattle.cmd_capture.specs.declared.job.Job.{Job}
 use Rattle.cmd_capture.specs.declared.job.JobRow.{JobRow}
 use Rattle.cmd_capture.specs.Environment.{has_key}
 use Rattle.cmd_capture.specs.Rules.{is_text, is_program, is_key, is_pattern, is_template, IsVariable, AreVariables}
-use Rattle.cmd_capture.specs.Spelling.{variable, template, counted, command, IsCommand, node, job_row, job, RowFits, IsJob}
+use Rattle.cmd_capture.specs.Spelling.{variable, template, counted, command, AreParts, CountsFit, IsCommand, node, job_row, job, RowFits, IsJob}
 use Rattle.cmd_capture.specs.Reading.{bytes_at, text_at, template_at, is_new_key, variable_at, with_pair, variables_at, alike_at, counted_at, parts_at, command_at, file_at, node_kinds, node_at, job_row_at, job_rows_at, job_at}
 
 -- ---- one field and what is read behind it
@@ -220,7 +220,7 @@ len8 : (n : ℕ) → length (digits w8 n) ≡ 1
 unfolding digits
 len8 n = refl
 
-len16 : (n : ℕ) → length (digits w16 n) ≡ 2
+pub len16 : (n : ℕ) → length (digits w16 n) ≡ 2
 unfolding digits
 len16 n = refl
 
@@ -228,7 +228,7 @@ len32 : (n : ℕ) → length (digits w32 n) ≡ 4
 unfolding digits
 len32 n = refl
 
-content_len : (t : List ℕ) → length (content t) ≡ 4 + length t
+pub content_len : (t : List ℕ) → length (content t) ≡ 4 + length t
 content_len t = omega (arith, length-append (digits w32 (length t)) t, len32 (length t))
 
 module _ {A : Type 0} (s : A → List ℕ) where
@@ -244,33 +244,33 @@ module _ {A : Type 0} (s : A → List ℕ) where
       let long = ap length (flat_map-cons s x xs) in
       (omega (arith, whole, long, le), each_short n xs (omega (arith, whole, long, le)))
 
-  few_items : ((x : A) → 1 ≤ length (s x)) → (xs : List A) → length (counted s xs) ≤ 65536 → length xs < 2 ^ 16
+  pub few_items : ((x : A) → 1 ≤ length (s x)) → (xs : List A) → length (counted s xs) ≤ 65536 → length xs < 2 ^ 16
   few_items low xs le = omega (arith, length-append (digits w16 (length xs)) (flat_map s xs), len16 (length xs), flat_long low xs, le)
 
-  short_items : (xs : List A) → length (counted s xs) ≤ 65536 → AllByRecursion (λ x. length (s x) ≤ 65536) xs
-  short_items xs le = each_short 65536 xs (omega (arith, length-append (digits w16 (length xs)) (flat_map s xs), le))
+  pub short_items : (n : ℕ) (xs : List A) → length (counted s xs) ≤ n → AllByRecursion (λ x. length (s x) ≤ n) xs
+  short_items n xs le = each_short n xs (omega (arith, length-append (digits w16 (length xs)) (flat_map s xs), le))
 
-content_low : (t : List ℕ) → 1 ≤ length (content t)
+pub content_low : (t : List ℕ) → 1 ≤ length (content t)
 content_low t = omega (arith, content_len t)
 
-path_low : (p : FilePath) → 1 ≤ length (path p)
+pub path_low : (p : FilePath) → 1 ≤ length (path p)
 path_low p = omega (arith, length-append (digits w16 (length (path_text p))) (path_text p), len16 (length (path_text p)))
 
-variable_low : (pair : List ℕ × List ℕ) → 1 ≤ length (variable pair)
+pub variable_low : (pair : List ℕ × List ℕ) → 1 ≤ length (variable pair)
 variable_low pair = omega (arith, length-append (content pair.0) (content pair.1), content_len pair.0)
 
 template_low : (t : List ℕ) → 1 ≤ length (template t)
 template_low t = omega (arith, length-append (digits w8 (length t)) t, len8 (length t))
 
-short_texts : (xs : List (List ℕ)) → AllByRecursion (λ x. length (content x) ≤ 65536) xs → AllByRecursion (λ x. is_text x ≡ true) xs → AllByRecursion (BytesFit is_text) xs
-short_texts [] short texts = tt
-short_texts (x ∷ xs) short texts = ((omega (arith, content_len x, short.0), texts.0), short_texts xs short.1 texts.1)
+pub short_texts : (n : ℕ) → n < 2 ^ 32 → (xs : List (List ℕ)) → AllByRecursion (λ x. length (content x) ≤ n) xs → AllByRecursion (λ x. is_text x ≡ true) xs → AllByRecursion (BytesFit is_text) xs
+short_texts n lt [] short texts = tt
+short_texts n lt (x ∷ xs) short texts = ((omega (arith, content_len x, short.0), texts.0), short_texts n lt xs short.1 texts.1)
 
-short_pairs : (xs : List (List ℕ × List ℕ)) → AllByRecursion (λ x. length (variable x) ≤ 65536) xs → AllByRecursion IsShortPair xs
-short_pairs [] short = tt
-short_pairs (x ∷ xs) short =
+pub short_pairs : (n : ℕ) → n < 2 ^ 32 → (xs : List (List ℕ × List ℕ)) → AllByRecursion (λ x. length (variable x) ≤ n) xs → AllByRecursion IsShortPair xs
+short_pairs n lt [] short = tt
+short_pairs n lt (x ∷ xs) short =
     let both = length-append (content x.0) (content x.1) in
-    ((omega (arith, both, content_len x.0, short.0), omega (arith, both, content_len x.1, short.0)), short_pairs xs short.1)
+    ((omega (arith, both, content_len x.0, short.0), omega (arith, both, content_len x.1, short.0)), short_pairs n lt xs short.1)
 
 texts_of : (xs : List (List ℕ)) → AllByRecursion (BytesFit is_text) xs → AllByRecursion (λ x. is_text x ≡ true) xs
 texts_of [] fits = tt
@@ -345,34 +345,48 @@ command_len c =
       length-append (counted path c.inputs) (counted template c.templates),
     )
 
-pub command_fits : (c : Command) → IsCommand c → Fits0 c
-command_fits c is =
+-- parts that keep their rules fit, where each count has its two bytes and each length its four
+pub parts_fit : (c : Command) → AreParts c → CountsFit c → length (command c) < 2 ^ 32 → Fits0 c
+parts_fit c are counts lt =
+    let n = length (command c) in
     let len = command_len c in
-    let args : length (counted content c.args) ≤ 65536 = omega (arith, len, is.short) in
-    let env : length (counted variable c.env) ≤ 65536 = omega (arith, len, is.short) in
-    let inputs : length (counted path c.inputs) ≤ 65536 = omega (arith, len, is.short) in
-    let templates : length (counted template c.templates) ≤ 65536 = omega (arith, len, is.short) in (
-      (omega (arith, content_len c.program, len, is.short), is.program),
+    let args : length (counted content c.args) ≤ n = omega (arith, len) in
+    let env : length (counted variable c.env) ≤ n = omega (arith, len) in (
+      (omega (arith, content_len c.program, len, lt), are.program),
       (
-        (few_items content content_low c.args args, short_texts c.args (short_items content c.args args) is.args),
+        (counts.args, short_texts n lt c.args (short_items content n c.args args) are.args),
         (
-          is.cwd,
+          are.cwd,
           (
-            (few_items variable variable_low c.env env, (is.env, short_pairs c.env (short_items variable c.env env))),
-            (
-              (few_items path path_low c.inputs inputs, is.inputs),
-              ((few_items template template_low c.templates templates, is.templates), refl),
-            ),
+            (counts.env, (are.env, short_pairs n lt c.env (short_items variable n c.env env))),
+            ((counts.inputs, are.inputs), ((counts.templates, are.templates), refl)),
           ),
         ),
       ),
     )
 
+-- a short command has few of each
+pub few_parts : (c : Command) → length (command c) ≤ 65536 → CountsFit c
+few_parts c short =
+    let len = command_len c in
+    record {
+      args = few_items content content_low c.args (omega (arith, len, short));
+      env = few_items variable variable_low c.env (omega (arith, len, short));
+      inputs = few_items path path_low c.inputs (omega (arith, len, short));
+      templates = few_items template template_low c.templates (omega (arith, len, short));
+    }
+
+pub command_fits : (c : Command) → IsCommand c → Fits0 c
+command_fits c is = parts_fit c is.parts (few_parts c is.short) (omega (arith, is.short))
+
 pub command_codec : IsCodec command_at command IsCommand
 unfolding command_at
 command_codec =
     codec_for (limited_codec 65536 parts_codec)
-    (λ c fits. record { program = fits.0.0.1; args = texts_of c.args fits.0.1.0.1; cwd = fits.0.1.1.0; env = fits.0.1.1.1.0.1.0; inputs = fits.0.1.1.1.1.0.1; templates = fits.0.1.1.1.1.1.0.1; short = fits.1 })
+    (λ c fits. record {
+      parts = record { program = fits.0.0.1; args = texts_of c.args fits.0.1.0.1; cwd = fits.0.1.1.0; env = fits.0.1.1.1.0.1.0; inputs = fits.0.1.1.1.1.0.1; templates = fits.0.1.1.1.1.1.0.1 };
+      short = fits.1;
+    })
     (λ c is. (command_fits c is, is.short))
 
 -- ---- jobs

@@ -109,7 +109,7 @@ cut1 : (p : List ℕ) → IsCut (read1 p) (λ c. counted content c.args ++ (path
     (λ c. counted_fields content_fields c.args ++ (path_fields c.cwd ++ (counted_fields variable_fields c.env ++ (counted_fields path_fields c.inputs ++ counted_fields template_fields c.templates)))) (Fits1 p)
 cut1 p = behind_cut (λ c. c.args) (items_codec (bytes_codec is_text)) (items_cut (bytes_codec is_text) (bytes_cut is_text)) (cut2 p)
 
-parts_cut : IsCut parts_at command command_fields Fits0
+pub parts_cut : IsCut parts_at command command_fields Fits0
 unfolding parts_at
 parts_cut = behind_cut (λ c. c.program) (bytes_codec is_program) (bytes_cut is_program) cut1
 

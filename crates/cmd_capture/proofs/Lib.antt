@@ -4,3 +4,4 @@ pub mod Alike
 pub mod Codec
 pub mod Captured
 pub mod Cutting
+pub mod Breaking

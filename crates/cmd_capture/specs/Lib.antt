@@ -4,5 +4,6 @@ pub mod Spelling
 pub mod Capture
 pub mod Reading
 pub mod Fields
+pub mod Broken
 pub mod Rows
 pub mod Runs

@@ -37,14 +37,25 @@ command c =
     ++ (counted path c.inputs
     ++ counted template c.templates))))
 
--- a command with a spelling
-pub record IsCommand (c : Command) : Type 0 where
+-- a command whose parts keep their rules
+pub record AreParts (c : Command) : Type 0 where
   pub program : is_program c.program ≡ true
   pub args : AllByRecursion (λ arg. is_text arg ≡ true) c.args
   pub cwd : IsPath c.cwd
   pub env : AreVariables c.env
   pub inputs : AllByRecursion IsPath c.inputs
   pub templates : AllByRecursion (λ bytes. is_template bytes ≡ true) c.templates
+
+-- a command each of whose counts its two bytes hold
+pub record CountsFit (c : Command) : Type 0 where
+  pub args : length c.args < 2 ^ 16
+  pub env : length c.env < 2 ^ 16
+  pub inputs : length c.inputs < 2 ^ 16
+  pub templates : length c.templates < 2 ^ 16
+
+-- a command with a spelling
+pub record IsCommand (c : Command) : Type 0 where
+  pub parts : AreParts c
   -- the whole has at most 64 KiB
   pub short : length (command c) ≤ 65536
 

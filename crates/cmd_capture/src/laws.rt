@@ -8,6 +8,7 @@ ghost use Rattle.cmd_capture.specs.declared.command.Command.{Command};
 ghost use Rattle.cmd_capture.specs.Capture.{capture};
 ghost use Rattle.cmd_capture.specs.Fields.{command_fields, job_row_fields, job_fields};
 ghost use Rattle.cmd_capture.specs.Reading.{command_at, job_row_at, job_at};
+ghost use Rattle.cmd_capture.specs.Broken.{BrokenParts, BrokenLists, BrokenCommands, LongCommands, BrokenJobRows, BrokenJobs};
 ghost use Rattle.cmd_capture.specs.Spelling.{command, job_row, job, IsCommand, RowFits, IsJob};
 
 /// States that each command and each job has one spelling, and each spelling one of them.
@@ -22,6 +23,16 @@ pub fn commands_end_with_their_bytes()
     ensures commands { IsCut command_at command command_fields IsCommand }
     ensures rows { IsCut job_row_at job_row job_row_fields RowFits }
     ensures jobs { IsCut job_at job job_fields IsJob }
+{}
+
+/// States at which field a command or a job that breaks a rule is refused, whatever stands before and behind it.
+pub fn broken_commands_are_refused_at_their_field()
+    ensures parts { BrokenParts }
+    ensures lists { BrokenLists }
+    ensures commands { BrokenCommands }
+    ensures long { LongCommands }
+    ensures rows { BrokenJobRows }
+    ensures jobs { BrokenJobs }
 {}
 
 /// States that what is captured has a spelling.
