@@ -10,6 +10,7 @@ use crate::run::client_run;
 use real_edge::{
     FileKeeper, Page, StdSink, StdSource, TcpLink, end, page_asked, program_words, show,
 };
+use std::fs::File;
 use std::io;
 use std::net::Net;
 use std::process::ExitCode;
@@ -37,7 +38,8 @@ Words are separated by single spaces; one that has spaces stands between quotes:
 
 NUMBER is the client's number, from 1 to 64. SERVER is the server's address, with
 a port. IMAGE is the file in which the client is kept from run to run; where there
-is none the client is new. WORK is not empty, and not used yet. The word '-' says
+is none the client is new. IMAGE.new and IMAGE.lock belong to it, and no other
+program has it meanwhile. WORK is not empty, and not used yet. The word '-' says
 that there is no surrogate.
 
 Example:
@@ -48,7 +50,7 @@ The client ends with one of these statuses:
   2  the words have another form
   3  standard input failed
   4  standard output failed
-  5  the image could not be read or written
+  5  the image could not be read or written, or another program has it
   6  the image is no client's, or another client's
   7  memory ran out
   8  the input has more than 16777216 bytes
@@ -66,9 +68,9 @@ const NO_MEMORY: u8 = 7;
 const NAME: &str = "client";
 
 /// Runs the client with the words behind the program's name. Words that are no text are of no form.
-pub fn client_program<R: Input + Print + Eprint + AllocGlobal + Env + Files + Net + Clock>(
-    rt: &R,
-) -> ExitCode
+pub fn client_program<
+    R: Input + Print + Eprint + AllocGlobal + Env + Files<File = File> + Net + Clock,
+>(rt: &R) -> ExitCode
     ensures { IsTrue (is_status (exit_status result)) }
 {
     match program_words(rt) {
@@ -82,7 +84,7 @@ pub fn client_program<R: Input + Print + Eprint + AllocGlobal + Env + Files + Ne
 ///
 /// `--help` and `--version`, as the only word, are answered on standard output. Where the status is not 0, standard
 /// error says so.
-pub fn client_main<R: Input + Print + Eprint + AllocGlobal + Files + Net + Clock>(
+pub fn client_main<R: Input + Print + Eprint + AllocGlobal + Files<File = File> + Net + Clock>(
     rt: &R,
     words: &[String],
 ) -> ExitCode
@@ -97,7 +99,10 @@ pub fn client_main<R: Input + Print + Eprint + AllocGlobal + Files + Net + Clock
 }
 
 /// Runs the client over the standard streams and TCP, and answers the status.
-fn run<R: Input + Print + AllocGlobal + Files + Net + Clock>(rt: &R, words: &[String]) -> u8
+fn run<R: Input + Print + AllocGlobal + Files<File = File> + Net + Clock>(
+    rt: &R,
+    words: &[String],
+) -> u8
     ensures form { result ≡ 2 ↔ run_of (map string_bytes words.now) ≡ None }
     ensures known { IsTrue (is_status result) }
 {

@@ -9,6 +9,7 @@ ghost use Rattle.server_prog.specs.Words.{run_of};
 use crate::run::server_run;
 use crate::words::run_words;
 use real_edge::{FileKeeper, Page, StdSink, TcpPort, end, page_asked, program_words, show};
+use std::fs::File;
 use std::io;
 use std::io::ErrorKind;
 use std::net::Net;
@@ -24,8 +25,8 @@ next one. At its end it writes 'served K faults F': K frames were taken, and F
 calls of the network failed. A fault ends one connection alone.
 
 LISTEN is an address with a port. IMAGE names the file in which the server is
-kept; IMAGE.new belongs to it. COUNT is how many connections are taken, from 1
-to 65536.
+kept; IMAGE.new and IMAGE.lock belong to it, and no other program has it
+meanwhile. COUNT is how many connections are taken, from 1 to 65536.
 
 Example:
   server run 127.0.0.1:7001 server.image 100
@@ -35,7 +36,7 @@ The server ends with one of these statuses:
   1  it cannot listen at LISTEN
   2  the words have another form
   4  standard output failed
-  5  the image could not be kept
+  5  the image could not be read or written, or another program has it
   6  what is kept under IMAGE is no server's image
   7  memory ran out
 
@@ -56,7 +57,7 @@ const NO_MEMORY: u8 = 7;
 const NAME: &str = "server";
 
 /// Runs the server with the words behind the program's name. Words that are no text are of no form.
-pub fn server_program<R: Print + Eprint + AllocGlobal + Env + Files + Net + Clock>(
+pub fn server_program<R: Print + Eprint + AllocGlobal + Env + Files<File = File> + Net + Clock>(
     rt: &R,
 ) -> ExitCode
     ensures { IsTrue (is_status (exit_status result)) }
@@ -72,7 +73,7 @@ pub fn server_program<R: Print + Eprint + AllocGlobal + Env + Files + Net + Cloc
 ///
 /// `--help` and `--version`, as the only word, are answered on standard output. Where the status is not 0, standard error
 /// says so, or why the server cannot listen.
-pub fn server_main<R: Print + Eprint + AllocGlobal + Files + Net + Clock>(
+pub fn server_main<R: Print + Eprint + AllocGlobal + Files<File = File> + Net + Clock>(
     rt: &R,
     words: &[String],
 ) -> ExitCode
@@ -87,7 +88,7 @@ pub fn server_main<R: Print + Eprint + AllocGlobal + Files + Net + Clock>(
 }
 
 /// Listens where the words say, and runs the server there. Words of no form listen nowhere.
-fn run_at<R: Print + Eprint + AllocGlobal + Files + Net + Clock>(
+fn run_at<R: Print + Eprint + AllocGlobal + Files<File = File> + Net + Clock>(
     rt: &R,
     words: &[String],
 ) -> ExitCode
@@ -108,7 +109,7 @@ fn run_at<R: Print + Eprint + AllocGlobal + Files + Net + Clock>(
 }
 
 /// Runs the server over its port and standard output, and answers the status.
-fn serve_at<R: Print + AllocGlobal + Files + Net + Clock>(
+fn serve_at<R: Print + AllocGlobal + Files<File = File> + Net + Clock>(
     rt: &R,
     words: &[String],
     port: &mut TcpPort<'_, R>,
