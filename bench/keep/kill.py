@@ -157,12 +157,14 @@ class Pair:
         for it in list(self.started):
             self.end(it)
 
-    def last_of(self, client):
+    def last_number(self):
         """The server's last number of client 1, by its image."""
+        if not os.path.exists(self.server_image):
+            return 0
         with open(self.server_image, "rb") as it:
-            kept = it.read(5 + 8 * client)
+            kept = it.read(13)
         expect(kept[:5] == b"OSSI\x01", "no server's image")
-        return struct.unpack_from(">Q", kept, 5 + 8 * (client - 1))[0]
+        return struct.unpack_from(">Q", kept, 5)[0]
 
     def pull(self):
         """The tree that the server has, asked as client 64. It may have been started just now."""
@@ -256,7 +258,7 @@ def go_on(pair, model, lines, expected, answers, seen):
     rest = replies.rest()[2:]
     expect(rest == good, f"behind line {done}: {rest} is not {good}")
     pair.end(client, 0)
-    expect(pair.last_of(1) == model.count(), "the server's image has another last number")
+    expect(pair.last_number() == model.count(), "the server's image has another last number")
     expect(pair.pull() == model.trees[-1], "the server's tree at the end is another")
 
 
@@ -281,7 +283,7 @@ def session(pair, model, who, seen):
         seen["at hand"] += os.path.exists(pair.server_image + ".new")
         pair.start_server()
         tree = pair.pull()
-        last = pair.last_of(1)
+        last = pair.last_number()
         expect(last >= known, f"{known} was acknowledged, and the server has {last}")
         expect(who == "server" or tree == model.trees[last], f"the server's tree is not that after {last} entries")
     client.stdin.close()
@@ -294,7 +296,7 @@ def session(pair, model, who, seen):
         seen["at its end"] += len(answers) > LINES
         seen["at hand"] += os.path.exists(pair.client_image + ".new")
     pair.end(client, 0 if who == "server" else -signal.SIGKILL)
-    seen["last"] = pair.last_of(1) if os.path.exists(pair.server_image) else 0
+    seen["last"] = pair.last_number()
     go_on(pair, model, lines, expected, answers, seen)
 
 
