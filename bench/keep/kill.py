@@ -16,6 +16,7 @@ SESSIONS = 20  # over the same images, before both begin anew
 FOLDERS = ["a", "b", "a/c"]
 FILES = ["x", "y", "z"]
 WHO = ["client", "server", "both"]
+started = []  # the processes that run, to be ended at the end
 
 
 class Wrong(Exception):
@@ -121,7 +122,6 @@ class Pair:
     def __init__(self, client, server, folder):
         self.programs, self.folder = (client, server), folder
         self.client_image, self.server_image = f"{folder}/client", f"{folder}/server"
-        self.started = []
         with socket.socket() as it:
             it.bind(("127.0.0.1", 0))
             self.port = it.getsockname()[1]
@@ -129,7 +129,7 @@ class Pair:
 
     def start(self, words, **pipes):
         it = subprocess.Popen(words, stderr=subprocess.PIPE, cwd=self.folder, **pipes)
-        self.started.append(it)
+        started.append(it)
         return it
 
     def start_server(self):
@@ -147,14 +147,14 @@ class Pair:
         said = it.stderr.read()
         it.stderr.close()
         expect(it.wait(60) in (status, 0), f"status {it.returncode}: {said.decode(errors='replace')}")
-        self.started.remove(it)
+        started.remove(it)
 
     def kill_server(self):
         expect(self.server.poll() is None, f"the server ended with {self.server.returncode}")
         self.end(self.server)
 
     def end_all(self):
-        for it in list(self.started):
+        for it in list(started):
             self.end(it)
 
     def last_number(self):
@@ -322,7 +322,7 @@ def main(client, server, moments, seed):
             except Wrong as wrong:
                 sys.exit(f"moment {number} of seed {seed}, {who} killed: {wrong}")
     finally:
-        for it in pair.started if pair else []:
+        for it in started:
             it.kill()
             it.wait()
         shutil.rmtree(room)
@@ -332,6 +332,15 @@ def main(client, server, moments, seed):
     print("  nothing that was answered is lost, nothing is applied twice, both programs went on from their images")
 
 
-for it in (signal.SIGTERM, signal.SIGHUP, signal.SIGINT):
-    signal.signal(it, lambda number, _: sys.exit(128 + number))
+SIGNALS = signal.SIGTERM, signal.SIGHUP, signal.SIGINT
+
+
+def stop(number, _):
+    for it in SIGNALS:
+        signal.signal(it, signal.SIG_IGN)
+    sys.exit(128 + number)
+
+
+for it in SIGNALS:
+    signal.signal(it, stop)
 main(sys.argv[1], sys.argv[2], int(sys.argv[3]), int(sys.argv[4]))
