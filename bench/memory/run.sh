@@ -7,6 +7,8 @@ top="$here/../.."
 work=$(mktemp -d)
 server=
 trap 'if [ -n "$server" ]; then kill "$server" 2> /dev/null || true; fi; rm -rf "$work"' EXIT
+trap 'exit 130' INT
+trap 'exit 143' TERM HUP
 
 for name in client server; do
     (cd "$top/crates/$name" && rt run -- --version) > "$work/build" 2>&1 || { cat "$work/build"; exit 1; }
@@ -39,7 +41,7 @@ LINES
 start_server() {
     while true; do
         port=$((20001 + (port + 7) % 20000))
-        "$top/crates/server/out/server" run "127.0.0.1:$port" image 32 > "$work/served" 2>&1 &
+        "$top/crates/server/out/server" run "127.0.0.1:$port" "$work/server.image" 32 > "$work/served" 2>&1 &
         server=$!
         tries=0
         while kill -0 "$server" 2> /dev/null && [ "$tries" -lt 100 ]; do
@@ -54,9 +56,10 @@ start_server() {
 
 # A session with a new server, in which allocation $1 of the client fails; what it ended with goes to status.
 session() {
+    rm -f "$work/server.image" "$work/client.image"
     start_server
     status=0
-    FAIL_NTH=$1 COUNT_TO="$work/count" LD_PRELOAD="$work/fail_nth.so" "$top/crates/client/out/client" run 1 image "127.0.0.1:$port" - work < "$work/lines" > "$work/answers" 2> "$work/said" || status=$?
+    FAIL_NTH=$1 COUNT_TO="$work/count" LD_PRELOAD="$work/fail_nth.so" "$top/crates/client/out/client" run 1 "$work/client.image" "127.0.0.1:$port" - work < "$work/lines" > "$work/answers" 2> "$work/said" || status=$?
     kill "$server" 2> /dev/null || true
     wait "$server" 2> /dev/null || true
     server=

@@ -6,13 +6,16 @@ here=$(cd "$(dirname "$0")" && pwd)
 top="$here/../.."
 work=$(mktemp -d)
 trap 'rm -rf "$work"' EXIT
+trap 'exit 130' INT
+trap 'exit 143' TERM HUP
 
 (cd "$top/crates/client" && rt run -- --version) > "$work/build" 2>&1 || { cat "$work/build"; exit 1; }
 
 # The milliseconds that the client takes over the input in a file, with at most so many KiB of memory.
 spent() {
+    rm -f "$work/image"
     start=$(date +%s%N)
-    (ulimit -v "$2"; "$top/crates/client/out/client" run 1 image 127.0.0.1:1 - work) < "$1" > "$work/answers"
+    (ulimit -v "$2"; "$top/crates/client/out/client" run 1 "$work/image" 127.0.0.1:1 - work) < "$1" > "$work/answers"
     echo $((($(date +%s%N) - start) / 1000000))
 }
 

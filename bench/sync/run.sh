@@ -8,6 +8,8 @@ count=500
 work=$(mktemp -d)
 server=
 trap 'if [ -n "$server" ]; then kill "$server" 2> /dev/null || true; fi; rm -rf "$work"' EXIT
+trap 'exit 130' INT
+trap 'exit 143' TERM HUP
 
 # Proves and builds a program.
 build() {
@@ -24,12 +26,12 @@ build client
 awk -v count="$count" 'BEGIN { for (i = 0; i < count; i++) print "put a x\nsync" }' > "$work/lines"
 for turn in 1 2 3; do
     port=$((20000 + ($$ + turn) % 20000))
-    "$top/crates/server/out/server" run "127.0.0.1:$port" image "$count" > "$work/served" &
+    "$top/crates/server/out/server" run "127.0.0.1:$port" "$work/server$turn" "$count" > "$work/served" &
     server=$!
     sleep 1
     bytes=$(carried)
     start=$(date +%s%N)
-    "$top/crates/client/out/client" run 1 image "127.0.0.1:$port" - work < "$work/lines" > "$work/answers"
+    "$top/crates/client/out/client" run 1 "$work/client$turn" "127.0.0.1:$port" - work < "$work/lines" > "$work/answers"
     end=$(date +%s%N)
     wait "$server"
     server=

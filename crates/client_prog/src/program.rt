@@ -36,11 +36,25 @@ Reads lines from standard input and answers each on standard output:
 Words are separated by single spaces; one that has spaces stands between quotes:
 'two words'. A path that does not begin with / lies below the current folder.
 
-NUMBER is the client's number, from 1 to 64. SERVER is the server's address, with
-a port. IMAGE is the file in which the client is kept from run to run; where there
-is none the client is new. IMAGE.new and IMAGE.lock belong to it, and no other
-program has it meanwhile. WORK is not empty, and not used yet. The word '-' says
-that there is no surrogate.
+Answers:
+  logged N          the change is entry N, and kept in IMAGE
+  refused FAULT     nothing changed; FAULT tells what is wrong
+  acknowledged A pending P
+                    the server has the entries up to A; P more wait
+  synced N          nothing waits any more
+  stale N PATH ..   somebody else wrote PATH: entry N stays refused
+  unfit N, full N   entry N does not fit at the server; others may clear the way
+  unanswered N      eight tries failed: look at SERVER, and sync again later
+  behind N LAST     the server has lost entries: is it on its own image?
+  other last LAST   NUMBER was used with another image: take another one
+  older PATH ..     the server has lost something: is it on its own image?
+
+NUMBER is the client's number, from 1 to 64. It goes with one IMAGE, the file in
+which the client is kept from run to run; where there is none the client is new.
+Of a number that was used with another image the server drops what it had before,
+and answers 'synced': ask 'pull' first. IMAGE.new and IMAGE.lock belong to IMAGE,
+and no other program has it meanwhile. SERVER is the server's address, with a port.
+The word '-' says that there is no surrogate. WORK is not empty, and not used yet.
 
 Example:
   client run 1 client.image 127.0.0.1:7001 - work
@@ -50,8 +64,9 @@ The client ends with one of these statuses:
   2  the words have another form
   3  standard input failed
   4  standard output failed
-  5  the image could not be read or written, or another program has it
-  6  the image is no client's, or another client's
+  5  IMAGE could not be read or written, or another program has it; what was
+     answered is kept
+  6  IMAGE is no client's, or another number's; nothing was touched
   7  memory ran out
   8  the input has more than 16777216 bytes
 

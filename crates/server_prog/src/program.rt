@@ -22,11 +22,15 @@ Usage: server run LISTEN IMAGE COUNT
 
 Listens at LISTEN, takes one frame of each connection, and answers it before the
 next one. At its end it writes 'served K faults F': K frames were taken, and F
-calls of the network failed. A fault ends one connection alone.
+calls of the network failed. A fault ends one connection alone. A peer that is
+slow or silent holds up the others.
 
 LISTEN is an address with a port. IMAGE names the file in which the server is
-kept; IMAGE.new and IMAGE.lock belong to it, and no other program has it
-meanwhile. COUNT is how many connections are taken, from 1 to 65536.
+kept, before it answers; where there is none the server is new. IMAGE.new and
+IMAGE.lock belong to it, and no other program has it meanwhile. COUNT is how many
+connections are taken, from 1 to 65536: one for each change that a client syncs,
+one for each pull, and one for each stranger. A server that has ended goes on from
+its image.
 
 Example:
   server run 127.0.0.1:7001 server.image 100
@@ -36,9 +40,10 @@ The server ends with one of these statuses:
   1  it cannot listen at LISTEN
   2  the words have another form
   4  standard output failed
-  5  the image could not be read or written, or another program has it
-  6  what is kept under IMAGE is no server's image
-  7  memory ran out
+  5  IMAGE could not be read or written, or another program has it; what was
+     answered is kept
+  6  IMAGE is no server's; nothing was touched
+  7  memory ran out; what was answered is kept
 
 Options:
   --help      shows this text

@@ -118,13 +118,6 @@ impl Path {
         put_joined(self.names.as_slice(), out)
     }
 
-    /// Appends the text.
-    pub(crate) fn put_text(&self, out: &mut Vec<u8>) -> Result<(), AllocError>
-        ensures { OnOk result (out.new.items ≡ out.old.items ++ path_text self.now) }
-    {
-        put_joined(self.names.as_slice(), out)
-    }
-
     /// The number of bytes of the text.
     pub fn text_len(&self) -> u64
         ensures value { result ≡ length (path_text self.now) }

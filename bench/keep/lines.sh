@@ -1,0 +1,57 @@
+#!/usr/bin/env bash
+# The seconds that logged lines take, each of which writes the client's whole image and syncs it to the disk: on an empty base, and on
+# a base of 32 MiB; beside them a program in Python that writes, syncs and renames as many files of these lengths.
+#
+#   bench/keep/lines.sh [LINES [LINES ON 32 MIB]]    1000 and 100 of them, where nothing else is said
+#   CLIENT=.. bench/keep/lines.sh                    over this program; else the proved one is built
+#
+# It wants the Debian packages bash and python3, and writes in TMPDIR.
+set -eu
+here=$(cd "$(dirname "$0")" && pwd)
+top="$here/../.."
+command -v python3 > /dev/null || { echo "it wants the package python3" >&2; exit 2; }
+if [ -z "${CLIENT-}" ]; then
+    (cd "$top/crates/client" && rt run -- --version) >&2
+    CLIENT="$top/crates/client/out/client"
+fi
+work=$(mktemp -d)
+trap 'rm -rf "$work"' EXIT
+trap 'exit 130' INT
+trap 'exit 143' TERM HUP
+
+# The client over so many puts, on the image that is there.
+measure() {
+    awk -v count="$2" 'BEGIN { for (i = 0; i < count; i++) print "put n" i " x" }' > "$work/lines"
+    start=$(date +%s%N)
+    "$CLIENT" run 1 "$work/image" 127.0.0.1:1 - work < "$work/lines" > "$work/answers" || { echo "status $?" >&2; exit 1; }
+    spent=$((($(date +%s%N) - start) / 1000000))
+    [ "$(grep -c '^logged ' "$work/answers")" = "$2" ] || { echo "a line was not logged" >&2; exit 1; }
+    size=$(wc -c < "$work/image")
+    beside=$(python3 - "$work" "$2" "$3" "$size" << 'PYTHON'
+import os, sys, time
+folder, count, least, most = sys.argv[1], *map(int, sys.argv[2:])
+began = time.monotonic()
+for i in range(count):
+    with open(f"{folder}/beside.new", "wb") as it:
+        it.write(bytes(least + (most - least) * i // count))
+        it.flush()
+        os.fsync(it.fileno())
+    os.rename(f"{folder}/beside.new", f"{folder}/beside")
+print(round((time.monotonic() - began) * 1000))
+PYTHON
+    )
+    echo "$1: $2 lines in $spent ms, the last image of $size bytes; as many files written, synced and renamed: $beside ms"
+}
+
+measure "on an empty base" "${1-1000}" 22
+python3 - "$work/image" << 'PYTHON'
+import struct, sys
+# Client 1, four files, together as many bytes as leave room for the lines; no entry waits.
+sizes = [8388608] * 3 + [8388608 - 65536]
+with open(sys.argv[1], "wb") as it:
+    it.write(b"OSCI\x01\x01" + struct.pack(">QI", len(sizes), len(sizes)))
+    for i, size in enumerate(sizes):
+        it.write(struct.pack(">HBQBI", 1, 97 + i, 1, 2, size) + bytes(size))
+    it.write(bytes(4))
+PYTHON
+measure "on a base of 32 MiB" "${2-100}" "$(wc -c < "$work/image")"
