@@ -10,6 +10,7 @@ use crate::run::client_run;
 use real_edge::{
     FileKeeper, Page, StdSink, StdSource, TcpLink, end, page_asked, program_words, show,
 };
+use std::fs::File;
 use std::io;
 use std::net::Net;
 use std::process::ExitCode;
@@ -51,9 +52,10 @@ Answers:
 NUMBER is the client's number, from 1 to 64. It goes with one IMAGE, the file in
 which the client is kept from run to run; where there is none the client is new.
 Of a number that was used with another image the server drops what it had before,
-and answers 'synced': ask 'pull' first. IMAGE.new belongs to IMAGE. SERVER is the
-server's address, with a port. The word '-' says that there is no surrogate. WORK
-is not empty, and not used yet.
+and answers 'synced': ask 'pull' first. IMAGE.new and IMAGE.lock belong to IMAGE,
+and no other program has it meanwhile. SERVER is the server's address, with a
+port. The word '-' says that there is no surrogate. WORK is not empty, and not
+used yet.
 
 Example:
   client run 1 client.image 127.0.0.1:7001 - work
@@ -63,7 +65,8 @@ The client ends with one of these statuses:
   2  the words have another form
   3  standard input failed
   4  standard output failed
-  5  IMAGE could not be read or written; what was answered is kept
+  5  IMAGE could not be read or written, or another program has it; what was
+     answered is kept
   6  IMAGE is no client's, or another number's; nothing was touched
   7  memory ran out
   8  the input has more than 16777216 bytes
@@ -81,9 +84,9 @@ const NO_MEMORY: u8 = 7;
 const NAME: &str = "client";
 
 /// Runs the client with the words behind the program's name. Words that are no text are of no form.
-pub fn client_program<R: Input + Print + Eprint + AllocGlobal + Env + Files + Net + Clock>(
-    rt: &R,
-) -> ExitCode
+pub fn client_program<
+    R: Input + Print + Eprint + AllocGlobal + Env + Files<File = File> + Net + Clock,
+>(rt: &R) -> ExitCode
     ensures { IsTrue (is_status (exit_status result)) }
 {
     match program_words(rt) {
@@ -97,7 +100,7 @@ pub fn client_program<R: Input + Print + Eprint + AllocGlobal + Env + Files + Ne
 ///
 /// `--help` and `--version`, as the only word, are answered on standard output. Where the status is not 0, standard
 /// error says so.
-pub fn client_main<R: Input + Print + Eprint + AllocGlobal + Files + Net + Clock>(
+pub fn client_main<R: Input + Print + Eprint + AllocGlobal + Files<File = File> + Net + Clock>(
     rt: &R,
     words: &[String],
 ) -> ExitCode
@@ -112,7 +115,10 @@ pub fn client_main<R: Input + Print + Eprint + AllocGlobal + Files + Net + Clock
 }
 
 /// Runs the client over the standard streams and TCP, and answers the status.
-fn run<R: Input + Print + AllocGlobal + Files + Net + Clock>(rt: &R, words: &[String]) -> u8
+fn run<R: Input + Print + AllocGlobal + Files<File = File> + Net + Clock>(
+    rt: &R,
+    words: &[String],
+) -> u8
     ensures form { result ≡ 2 ↔ run_of (map string_bytes words.now) ≡ None }
     ensures known { IsTrue (is_status result) }
 {

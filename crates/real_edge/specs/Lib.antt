@@ -1,4 +1,6 @@
 pub mod Counting
 pub mod Frames
+pub mod Held
 pub mod Inside
+pub mod Pace
 pub mod Program

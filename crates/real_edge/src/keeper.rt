@@ -1,12 +1,15 @@
 // Images as files.
-ghost use Rattle.std.specs.Prelude.{◌≡◌, None};
+ghost use Rattle.std.specs.Prelude.{◌≡◌, ◌↔◌, None, IsTrue, IfOk};
 ghost use Rattle.outside.specs.Outside.{Told, HasCause};
 ghost use Rattle.outside.specs.Keeper.{Images, Loads, Saves};
 ghost use Rattle.real_edge.specs.Counting.{Counts};
+ghost use Rattle.real_edge.specs.Held.{Holds};
 
 use crate::faults::count_fault;
+use crate::lock::Held;
+use crate::names::{beside, folder_of, name_text};
 use outside::{KeepError, Keeper};
-use std::alloc::{AllocError, Global};
+use std::alloc::Global;
 use std::fs::{self, File, OpenFile};
 use std::io::{self, ErrorKind, Read, Write};
 use std::rt::Files;
@@ -14,15 +17,17 @@ use std::rt::Files;
 /// One byte more than the longest image has, so that a longer one is seen to be too long.
 const MOST_LOADED: u64 = 134_217_729;
 
-/// Images as files. A save writes beside the old file, under its name with `.new` added, and renames over it.
+/// Images as files. A save writes beside the old file, under its name with `.new` added, and renames over it. Under the name
+/// with `.lock` added stands the lock: of all keepers that are alive one alone has it.
 #[derive(Drop)]
-pub struct FileKeeper<'a, R: Files> {
+pub struct FileKeeper<'a, R: Files<File = File>> {
     alloc: Global,
     files: &'a R,
+    held: Option<Held>,
     faults: u64,
 }
 
-impl<'a, R: Files> FileKeeper<'a, R> {
+impl<'a, R: Files<File = File>> FileKeeper<'a, R> {
     /// A keeper that has not failed yet. It opens nothing.
     pub fn new(alloc: Global, files: &'a R) -> FileKeeper<'a, R>
         ensures { result.faults ≡ 0 }
@@ -30,40 +35,115 @@ impl<'a, R: Files> FileKeeper<'a, R> {
         FileKeeper {
             alloc,
             files,
+            held: None,
             faults: 0,
         }
     }
 
-    fn read_image(&self, name: &[u8]) -> io::Result<Option<Vec<u8>>> {
-        let file = match File::open(self.files, name_text(name)?) {
-            Ok(file) => file,
-            Err(error) if error.kind() == ErrorKind::NotFound => return Ok(None),
-            Err(error) => return Err(error),
-        };
-        let mut bytes = Vec::new(self.alloc);
-        file.take(MOST_LOADED).read_to_end(&mut bytes)?;
-        Ok(Some(bytes))
+    /// Takes the image's lock, where it is not held already. A keeper holds one lock.
+    fn hold(&mut self, name: &[u8]) -> io::Result<()>
+        ensures held { IfOk result (λ _. Holds self.new.held name.now) }
+        ensures same { self.new.faults ≡ self.old.faults }
+    {
+        if self.holds(name) {
+            return Ok(());
+        }
+        self.held = None;
+        self.held = Some(Held::take(self.alloc, self.files, name)?);
+        Ok(())
     }
 
-    fn write_image(&self, name: &[u8], bytes: &[u8]) -> io::Result<()> {
-        let name = name_text(name)?;
-        let beside = beside(self.alloc, name)?;
-        let mut file = File::create(self.files, beside.as_str())?;
-        file.write_all(bytes)?;
-        file.sync_all()?;
-        fs::rename(self.files, beside.as_str(), name)
+    /// Whether the lock that is held is the image's.
+    fn holds(&self, name: &[u8]) -> bool
+        ensures { IsTrue result ↔ Holds self.now.held name.now }
+    {
+        match &self.held {
+            Some(held) => held.is_of(name),
+            None => false,
+        }
+    }
+
+    /// Takes the image's lock, and reads the image.
+    fn read_image(&mut self, name: &[u8]) -> io::Result<Option<Vec<u8>>>
+        ensures held { IfOk result (λ _. Holds self.new.held name.now) }
+        ensures same { self.new.faults ≡ self.old.faults }
+    {
+        self.hold(name)?;
+        read_file(self.alloc, self.files, name)
+    }
+
+    /// Takes the image's lock, and writes the image.
+    fn write_image(&mut self, name: &[u8], bytes: &[u8]) -> io::Result<()>
+        ensures held { IfOk result (λ _. Holds self.new.held name.now) }
+        ensures same { self.new.faults ≡ self.old.faults }
+    {
+        self.hold(name)?;
+        write_file(self.alloc, self.files, name, bytes)
     }
 }
 
-/// The platform takes names of text alone.
-fn name_text(name: &[u8]) -> io::Result<&str> {
-    str::from_utf8(name).map_err(|_| io::Error::from(ErrorKind::InvalidFilename))
+/// Reads the file, where there is one.
+fn read_file<R: Files>(alloc: Global, files: &R, name: &[u8]) -> io::Result<Option<Vec<u8>>> {
+    match File::open(files, name_text(name)?) {
+        Ok(file) => Ok(Some(read_bytes(alloc, file)?)),
+        Err(error) if error.kind() == ErrorKind::NotFound => Ok(None),
+        Err(error) => Err(error),
+    }
 }
 
-fn beside(alloc: Global, name: &str) -> Result<String, AllocError> {
-    let mut text = String::from_str(alloc, name)?;
-    text.push_str(".new")?;
-    Ok(text)
+/// Reads the file's bytes, as far as an image may reach.
+fn read_bytes<F: Read + Drop>(alloc: Global, file: F) -> io::Result<Vec<u8>> {
+    let mut bytes = Vec::new(alloc);
+    match file.take(MOST_LOADED).read_to_end(&mut bytes) {
+        Ok(_count) => Ok(bytes),
+        Err(error) => {
+            drop(bytes);
+            Err(error)
+        }
+    }
+}
+
+/// Writes the file beside the old one, and renames it over that.
+fn write_file<R: Files>(alloc: Global, files: &R, name: &[u8], bytes: &[u8]) -> io::Result<()> {
+    let name = name_text(name)?;
+    let beside = beside(alloc, name, ".new")?;
+    let written = write_over(files, beside.as_str(), name, bytes);
+    drop(beside);
+    written
+}
+
+fn write_over<R: Files>(files: &R, beside: &str, name: &str, bytes: &[u8]) -> io::Result<()> {
+    let mut file = File::create(files, beside)?;
+    let written = write_down(&mut file, bytes);
+    drop(file);
+    written?;
+    fs::rename(files, beside, name)?;
+    sync_folder(files, folder_of(name))
+}
+
+/// Writes the bytes, and waits until the platform has written them down.
+fn write_down<F: Write + OpenFile>(file: &mut F, bytes: &[u8]) -> io::Result<()> {
+    file.write_all(bytes)?;
+    file.sync_all()
+}
+
+/// Has the platform write down what stands in the folder. One that does so for files alone has done it.
+fn sync_folder<R: Files>(files: &R, folder: &str) -> io::Result<()> {
+    match File::open(files, folder).and_then(|file| file.sync_all()) {
+        Err(error) if is_for_files_alone(&error) => Ok(()),
+        synced => synced,
+    }
+}
+
+/// Whether this is how a platform refuses a folder that is opened, or synced, as a file is.
+fn is_for_files_alone(error: &io::Error) -> bool {
+    matches!(
+        error.kind(),
+        ErrorKind::IsADirectory
+            | ErrorKind::PermissionDenied
+            | ErrorKind::InvalidInput
+            | ErrorKind::Unsupported
+    )
 }
 
 /// What an error of the platform comes to.
@@ -74,7 +154,7 @@ fn refusal_of(error: io::Error) -> KeepError {
     KeepError::Failed
 }
 
-impl<'a, R: Files> Keeper for FileKeeper<'a, R> {
+impl<'a, R: Files<File = File>> Keeper for FileKeeper<'a, R> {
     ghost images = { λ _. None };
 
     ghost faults = { λ keeper. keeper.faults };
@@ -84,6 +164,7 @@ impl<'a, R: Files> Keeper for FileKeeper<'a, R> {
         ensures cause { HasCause KeepError.Failed self.old.faults self.new.faults result }
 
         ensures counted { Counts KeepError.Failed self.old.faults self.new.faults result }
+        ensures held { IfOk result (λ _. Holds self.new.held name.now) }
     {
         match self.read_image(name) {
             Ok(image) => Ok(image),
@@ -102,6 +183,7 @@ impl<'a, R: Files> Keeper for FileKeeper<'a, R> {
         ensures cause { HasCause KeepError.Failed self.old.faults self.new.faults result }
 
         ensures counted { Counts KeepError.Failed self.old.faults self.new.faults result }
+        ensures held { IfOk result (λ _. Holds self.new.held name.now) }
     {
         match self.write_image(name, bytes) {
             Ok(()) => Ok(()),

@@ -6,10 +6,13 @@ mod faults;
 mod frames;
 mod keeper;
 mod link;
+mod lock;
+mod names;
 mod pace;
 mod port;
 mod program;
 mod streams;
+mod wants;
 
 pub use keeper::FileKeeper;
 pub use link::TcpLink;

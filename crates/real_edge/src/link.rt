@@ -9,11 +9,11 @@ ghost use Rattle.real_edge.specs.Counting.{Counts};
 
 use crate::faults::count_fault;
 use crate::frames::read_frame;
-use crate::pace::{Paced, TALK};
+use crate::pace::Paced;
 use std::alloc::Global;
 use std::io;
-use std::io::{ErrorKind, Write};
-use std::net::{Net, TcpStream, ToSocketAddrs};
+use std::io::{ErrorKind, Read, Write};
+use std::net::{Net, OpenStream, TcpStream, ToSocketAddrs};
 use std::time::{Clock, Duration};
 use wire_frames::{FrameError, Message, echoes, read};
 use world_rules::{Link, LinkError, Peer};
@@ -47,9 +47,10 @@ impl<'a, N: Net + Clock> TcpLink<'a, N> {
     /// Sends the frame over a new connection, and gives the frame that comes back.
     fn exchange(&self, address: &[u8], frame: &[u8]) -> io::Result<Vec<u8>> {
         let stream = connect(self.net, address)?;
-        let mut stream = Paced::start(stream, self.net, TALK)?;
-        stream.write_all(frame)?;
-        read_frame(self.alloc, &mut stream)
+        let mut stream = Paced::start(stream, self.net)?;
+        let reply = talk(self.alloc, &mut stream, frame);
+        drop(stream);
+        reply
     }
 
     /// Asks once, and gives the frame that comes back where it spells a reply to the request.
@@ -67,12 +68,27 @@ impl<'a, N: Net + Clock> TcpLink<'a, N> {
     }
 }
 
+/// Sends the frame, and reads the one that comes back once the peer has worked.
+fn talk<S: Read + Write + OpenStream + Drop, C: Clock>(
+    alloc: Global,
+    stream: &mut Paced<'_, S, C>,
+    frame: &[u8],
+) -> io::Result<Vec<u8>> {
+    stream.write_all(frame)?;
+    stream.wait()?;
+    read_frame(alloc, stream)
+}
+
 /// Refuses bytes that spell no reply to the request of this frame.
 fn check_reply(alloc: Global, frame: &[u8], bytes: &[u8]) -> Result<(), LinkError>
     ensures { (request : Message) → Spells request frame.now → OnOk result (IsReplyTo request bytes.now) }
 {
     match read(alloc, frame) {
-        Ok(request) => check_echo(alloc, &request, bytes),
+        Ok(request) => {
+            let checked = check_echo(alloc, &request, bytes);
+            drop(request);
+            checked
+        }
         Err(refused) => Err(failure_of(&refused)),
     }
 }

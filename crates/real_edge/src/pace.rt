@@ -1,82 +1,195 @@
 // How long a connection may take.
-ghost use Rattle.std.specs.Prelude.{◌≡◌};
+ghost use Rattle.std.specs.Prelude.{◌≡◌, ◌-◌, ◌*◌, ◌≤◌, ◌<◌, min, None, Some, MatchOption};
+ghost use Rattle.std.specs.Duration.{as_nanos};
+ghost use Rattle.real_edge.specs.Pace.{window_bytes, silence, parting, fresh, of_request, spent, limit};
 
 use std::io;
 use std::io::{ErrorKind, Read, Write};
 use std::net::{OpenStream, Shutdown};
 use std::time::{Clock, Duration, Instant};
 
-/// How often a call that a signal broke off is made again.
+/// How often a call that broke off without a fault is made again.
 const TRIES: usize = 1_000;
 
-/// The time of a connection: so many seconds, and one more for each so many bytes that it moves. With 0 bytes a second
-/// none comes.
+/// How many seconds a window has.
+const WINDOW_SECONDS: u64 = 30;
+
+/// How many bytes a window has to move, so that another follows it.
+const WINDOW_BYTES: u64 = 30_720;
+
+/// How many bytes the head of a frame has.
+const HEAD_BYTES: u64 = 4;
+
+/// Within how many seconds of its connection the head of a request has to come.
+const HEAD_SECONDS: u64 = 5;
+
+/// How long a peer that was answered may be silent, in milliseconds.
+const SILENCE_MILLIS: u64 = 200;
+
+/// How long a peer that was answered may go on sending, in milliseconds.
+const PARTING_MILLIS: u64 = 2_000;
+
+/// A window of a connection's time. Nothing is saved up: what it moved earns the window behind it, and no later
+/// one.
 #[derive(Clone, Copy)]
-pub(crate) struct Pace {
-    pub(crate) seconds: u64,
-    pub(crate) bytes_a_second: u64,
+struct Window {
+    start: Instant,
+    head_seconds: u64,
+    moved: u64,
 }
 
-/// The time of a connection from its first byte to its answer.
-pub(crate) const TALK: Pace = Pace {
-    seconds: 30,
-    bytes_a_second: 1_024,
-};
+impl Window {
+    /// A window that begins at this moment.
+    fn new(start: Instant) -> Window
+        ensures { result ≡ fresh start }
+    {
+        Window {
+            start,
+            head_seconds: WINDOW_SECONDS,
+            moved: 0,
+        }
+    }
 
-/// A stream whose calls fail once its time is over.
+    /// The first window of a connection that a port took at this moment.
+    fn of_request(start: Instant) -> Window
+        ensures { result ≡ of_request start }
+    {
+        Window {
+            start,
+            head_seconds: HEAD_SECONDS,
+            moved: 0,
+        }
+    }
+
+    /// How long it may go on: until the head is there, no longer than the head may take.
+    fn limit(&self) -> Duration
+        ensures { as_nanos result ≡ limit self.now }
+    {
+        if self.moved < HEAD_BYTES {
+            return Duration::from_secs(self.head_seconds);
+        }
+        Duration::from_secs(WINDOW_SECONDS)
+    }
+
+    /// The window that holds at a moment: this one while it lasts, and another one behind it, where it has moved its share.
+    fn at(self, now: Instant) -> Option<Window>
+        ensures lasts { spent self now < limit self → result ≡ Some self }
+        ensures follows { limit self ≤ spent self now → window_bytes ≤ self.moved → result ≡ Some (fresh now) }
+        ensures over { limit self ≤ spent self now → self.moved < window_bytes → result ≡ None }
+    {
+        if now.duration_since(self.start) < self.limit() {
+            return Some(self);
+        }
+        if self.moved < WINDOW_BYTES {
+            return None;
+        }
+        Some(Window::new(now))
+    }
+
+    /// What is left of it at a moment.
+    fn left(&self, now: Instant) -> Duration
+        ensures { as_nanos result ≡ limit self.now - spent self.now now }
+    {
+        self.limit().saturating_sub(now.duration_since(self.start))
+    }
+}
+
+/// A stream whose calls fail once its time is over. One window follows the other from its start, and each has to move its
+/// share.
 #[derive(Drop)]
 pub(crate) struct Paced<'a, S: Read + Write + OpenStream + Drop, C: Clock> {
     stream: S,
     clock: &'a C,
-    start: Instant,
-    pace: Pace,
-    moved: u64,
+    window: Window,
 }
 
 impl<'a, S: Read + Write + OpenStream + Drop, C: Clock> Paced<'a, S, C> {
-    /// Starts the time of the stream.
-    pub(crate) fn start(stream: S, clock: &'a C, pace: Pace) -> io::Result<Paced<'a, S, C>> {
+    /// Starts the time of a stream.
+    pub(crate) fn start(stream: S, clock: &'a C) -> io::Result<Paced<'a, S, C>> {
+        let window = Window::new(Instant::now(clock)?);
         Ok(Paced {
             stream,
             clock,
-            start: Instant::now(clock)?,
-            pace,
-            moved: 0,
+            window,
         })
     }
 
-    /// Ends what is written, and starts the stream's time again at another pace.
-    pub(crate) fn end_writing(self, pace: Pace) -> io::Result<Paced<'a, S, C>> {
-        self.stream.shutdown(Shutdown::Write)?;
-        Paced::start(self.stream, self.clock, pace)
+    /// Starts the time of a stream that brings a request.
+    pub(crate) fn start_request(stream: S, clock: &'a C) -> io::Result<Paced<'a, S, C>> {
+        let window = Window::of_request(Instant::now(clock)?);
+        Ok(Paced {
+            stream,
+            clock,
+            window,
+        })
     }
 
-    /// The longest wait of the next call: what is left of the stream's time, and no more than its first seconds.
-    fn longest_wait(&self) -> io::Result<Duration> {
-        let first = Duration::from_secs(self.pace.seconds);
-        let earned = self
-            .moved
-            .checked_div(self.pace.bytes_a_second)
-            .unwrap_or(0);
-        let whole = first.saturating_add(Duration::from_secs(earned));
-        let left = whole.saturating_sub(self.start.elapsed(self.clock)?);
-        if left.is_zero() {
-            return Err(io::Error::from(ErrorKind::TimedOut));
-        }
-        Ok(left.min(first))
+    /// Starts the stream's time anew.
+    pub(crate) fn restart(&mut self) -> io::Result<()> {
+        self.window = Window::new(Instant::now(self.clock)?);
+        Ok(())
     }
+
+    /// Waits for the peer's next byte, or its end, and starts the stream's time anew there.
+    pub(crate) fn wait(&mut self) -> io::Result<()> {
+        self.restart()?;
+        for _ in 0..TRIES {
+            let left = self.time_left()?;
+            self.stream.set_read_timeout(Some(left))?;
+            match self.stream.peek(&mut [0]) {
+                Ok(_) => return self.restart(),
+                Err(error) if is_passing(&error) => {}
+                Err(error) => return Err(error),
+            }
+        }
+        Err(io::Error::from(ErrorKind::TimedOut))
+    }
+
+    /// Ends what is written, and leaves the peer a moment to end, too.
+    pub(crate) fn part(self) -> io::Result<Parting<'a, S, C>> {
+        self.stream.shutdown(Shutdown::Write)?;
+        let start = Instant::now(self.clock)?;
+        Ok(Parting {
+            stream: self.stream,
+            clock: self.clock,
+            start,
+        })
+    }
+
+    /// The longest wait of the next call: what is left of the window.
+    fn time_left(&mut self) -> io::Result<Duration> {
+        let now = Instant::now(self.clock)?;
+        match self.window.at(now) {
+            Some(window) => {
+                self.window = window;
+                Ok(window.left(now))
+            }
+            None => Err(io::Error::from(ErrorKind::TimedOut)),
+        }
+    }
+
+    /// Counts what a call moved.
+    fn count(&mut self, moved: usize) {
+        self.window.moved = self.window.moved.saturating_add(moved as u64);
+    }
+}
+
+/// Whether a call that failed is made again: a signal broke it off, or the window ended.
+fn is_passing(error: &io::Error) -> bool {
+    matches!(error.kind(), ErrorKind::Interrupted | ErrorKind::WouldBlock)
 }
 
 impl<'a, S: Read + Write + OpenStream + Drop, C: Clock> Read for Paced<'a, S, C> {
     fn read(&mut self, buf: &mut [u8]) -> io::Result<usize> {
         for _ in 0..TRIES {
-            self.stream.set_read_timeout(Some(self.longest_wait()?))?;
+            let left = self.time_left()?;
+            self.stream.set_read_timeout(Some(left))?;
             match self.stream.read(buf) {
                 Ok(count) => {
-                    self.moved = self.moved.saturating_add(count as u64);
+                    self.count(count);
                     return Ok(count);
                 }
-                Err(error) if error.kind() == ErrorKind::Interrupted => {}
+                Err(error) if is_passing(&error) => {}
                 Err(error) => return Err(error),
             }
         }
@@ -87,13 +200,14 @@ impl<'a, S: Read + Write + OpenStream + Drop, C: Clock> Read for Paced<'a, S, C>
 impl<'a, S: Read + Write + OpenStream + Drop, C: Clock> Write for Paced<'a, S, C> {
     fn write(&mut self, buf: &[u8]) -> io::Result<usize> {
         for _ in 0..TRIES {
-            self.stream.set_write_timeout(Some(self.longest_wait()?))?;
+            let left = self.time_left()?;
+            self.stream.set_write_timeout(Some(left))?;
             match self.stream.write(buf) {
                 Ok(count) => {
-                    self.moved = self.moved.saturating_add(count as u64);
+                    self.count(count);
                     return Ok(count);
                 }
-                Err(error) if error.kind() == ErrorKind::Interrupted => {}
+                Err(error) if is_passing(&error) => {}
                 Err(error) => return Err(error),
             }
         }
@@ -102,5 +216,36 @@ impl<'a, S: Read + Write + OpenStream + Drop, C: Clock> Write for Paced<'a, S, C
 
     fn flush(&mut self) -> io::Result<()> {
         self.stream.flush()
+    }
+}
+
+/// A stream whose peer was answered, and may still send for a moment.
+#[derive(Drop)]
+pub(crate) struct Parting<'a, S: Read + Write + OpenStream + Drop, C: Clock> {
+    stream: S,
+    clock: &'a C,
+    start: Instant,
+}
+
+/// The longest wait for the next byte of a peer that was answered so long ago; none where its time is over.
+fn wait_after(spent: Duration) -> Option<Duration>
+    ensures { MatchOption result (parting ≤ as_nanos spent)
+        (λ wait. (as_nanos spent < parting) × (as_nanos wait ≡ min (parting - as_nanos spent) silence)) }
+{
+    let left = Duration::from_millis(PARTING_MILLIS).saturating_sub(spent);
+    if left.is_zero() {
+        return None;
+    }
+    Some(left.min(Duration::from_millis(SILENCE_MILLIS)))
+}
+
+impl<'a, S: Read + Write + OpenStream + Drop, C: Clock> Read for Parting<'a, S, C> {
+    fn read(&mut self, buf: &mut [u8]) -> io::Result<usize> {
+        let spent = self.start.elapsed(self.clock)?;
+        let Some(wait) = wait_after(spent) else {
+            return Err(io::Error::from(ErrorKind::TimedOut));
+        };
+        self.stream.set_read_timeout(Some(wait))?;
+        self.stream.read(buf)
     }
 }

@@ -6,7 +6,8 @@ ghost use Rattle.real_edge.specs.Counting.{Counts, connections};
 
 use crate::faults::count_fault;
 use crate::frames::{MAX_FRAME, read_frame};
-use crate::pace::{Pace, Paced, TALK};
+use crate::pace::Paced;
+use crate::wants::next_connection;
 use outside::{Port, PortError};
 use std::alloc::Global;
 use std::io;
@@ -16,12 +17,6 @@ use std::time::Clock;
 
 /// How many connections a port takes.
 const CONNECTIONS: u32 = 65_536;
-
-/// How long a peer that was answered may go on sending.
-const PARTING: Pace = Pace {
-    seconds: 2,
-    bytes_a_second: 0,
-};
 
 /// Takes connections over TCP, each with one frame and its answer.
 #[derive(Drop)]
@@ -64,14 +59,19 @@ impl<'a, N: Net + Clock> TcpPort<'a, N> {
 
     /// Waits for the next connection, and reads its frame.
     fn accept(&self) -> io::Result<(Paced<'a, N::Stream, N>, Vec<u8>)> {
-        let (stream, _peer) = self.listener.accept()?;
-        let mut talk = Paced::start(stream, self.net, TALK)?;
-        let frame = read_frame(self.alloc, &mut talk)?;
-        Ok((talk, frame))
+        let stream = next_connection(&self.listener, self.net)?;
+        let mut talk = Paced::start_request(stream, self.net)?;
+        match read_frame(self.alloc, &mut talk) {
+            Ok(frame) => Ok((talk, frame)),
+            Err(error) => {
+                drop(talk);
+                Err(error)
+            }
+        }
     }
 }
 
-/// Sends the frame, and closes the connection.
+/// Sends the frame, and closes the connection. The time before, in which its own node worked, is not the peer's.
 fn send<S: Read + Write + OpenStream + Drop, C: Clock>(
     talk: Option<Paced<'_, S, C>>,
     frame: &[u8],
@@ -79,26 +79,25 @@ fn send<S: Read + Write + OpenStream + Drop, C: Clock>(
     let Some(mut talk) = talk else {
         return Err(io::Error::from(ErrorKind::NotConnected));
     };
+    talk.restart()?;
     talk.write_all(frame)?;
     let _parted = part(talk);
     Ok(())
 }
 
-/// Reads what the peer still sends until it closes, since a connection that is closed before may lose its answer.
+/// Reads what the peer still sends until it closes, or for a moment, since a connection that is closed before may lose its
+/// answer.
 fn part<S: Read + Write + OpenStream + Drop, C: Clock>(talk: Paced<'_, S, C>) -> io::Result<u64> {
-    let talk = talk.end_writing(PARTING)?;
-    io::copy(&mut talk.take(MAX_FRAME as u64), &mut io::sink())
+    let rest = talk.part()?;
+    io::copy(&mut rest.take(MAX_FRAME as u64), &mut io::sink())
 }
 
-/// What an error of the platform is to a port. All but want of memory is counted.
-fn refusal_of(faults: &mut u64, error: io::Error) -> PortError
+/// Counts a connection that failed, and says so. Want of memory for a frame ends its connection alone.
+fn failed(faults: &mut u64) -> PortError
     ensures later { faults.old ≤ faults.new }
-    ensures rose { result ≡ PortError.Failed → Rose faults.old faults.new }
+    ensures rose { Rose faults.old faults.new }
     ensures counted { Counts {T = ℕ} PortError.Failed faults.old faults.new (Err result) }
 {
-    if error.kind() == ErrorKind::OutOfMemory {
-        return PortError::Memory;
-    }
     count_fault(faults);
     PortError::Failed
 }
@@ -131,7 +130,7 @@ impl<'a, N: Net + Clock> Port for TcpPort<'a, N> {
                 self.talk = Some(talk);
                 Ok(Some(frame))
             }
-            Err(error) => Err(refusal_of(&mut self.faults, error)),
+            Err(_) => Err(failed(&mut self.faults)),
         }
     }
 
@@ -145,7 +144,7 @@ impl<'a, N: Net + Clock> Port for TcpPort<'a, N> {
     {
         match send(self.talk.take(), frame) {
             Ok(()) => Ok(()),
-            Err(error) => Err(refusal_of(&mut self.faults, error)),
+            Err(_) => Err(failed(&mut self.faults)),
         }
     }
 }

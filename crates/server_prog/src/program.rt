@@ -9,6 +9,7 @@ ghost use Rattle.server_prog.specs.Words.{run_of};
 use crate::run::server_run;
 use crate::words::run_words;
 use real_edge::{FileKeeper, Page, StdSink, TcpPort, end, page_asked, program_words, show};
+use std::fs::File;
 use std::io;
 use std::io::ErrorKind;
 use std::net::Net;
@@ -25,10 +26,11 @@ calls of the network failed. A fault ends one connection alone. A peer that is
 slow or silent holds up the others.
 
 LISTEN is an address with a port. IMAGE names the file in which the server is
-kept, before it answers; where there is none the server is new. IMAGE.new belongs
-to it. COUNT is how many connections are taken, from 1 to 65536: one for each
-change that a client syncs, one for each pull, and one for each stranger. A server
-that has ended goes on from its image.
+kept, before it answers; where there is none the server is new. IMAGE.new and
+IMAGE.lock belong to it, and no other program has it meanwhile. COUNT is how many
+connections are taken, from 1 to 65536: one for each change that a client syncs,
+one for each pull, and one for each stranger. A server that has ended goes on from
+its image.
 
 Example:
   server run 127.0.0.1:7001 server.image 100
@@ -38,7 +40,8 @@ The server ends with one of these statuses:
   1  it cannot listen at LISTEN
   2  the words have another form
   4  standard output failed
-  5  IMAGE could not be read or written; what was answered is kept
+  5  IMAGE could not be read or written, or another program has it; what was
+     answered is kept
   6  IMAGE is no server's; nothing was touched
   7  memory ran out; what was answered is kept
 
@@ -59,7 +62,7 @@ const NO_MEMORY: u8 = 7;
 const NAME: &str = "server";
 
 /// Runs the server with the words behind the program's name. Words that are no text are of no form.
-pub fn server_program<R: Print + Eprint + AllocGlobal + Env + Files + Net + Clock>(
+pub fn server_program<R: Print + Eprint + AllocGlobal + Env + Files<File = File> + Net + Clock>(
     rt: &R,
 ) -> ExitCode
     ensures { IsTrue (is_status (exit_status result)) }
@@ -75,7 +78,7 @@ pub fn server_program<R: Print + Eprint + AllocGlobal + Env + Files + Net + Cloc
 ///
 /// `--help` and `--version`, as the only word, are answered on standard output. Where the status is not 0, standard error
 /// says so, or why the server cannot listen.
-pub fn server_main<R: Print + Eprint + AllocGlobal + Files + Net + Clock>(
+pub fn server_main<R: Print + Eprint + AllocGlobal + Files<File = File> + Net + Clock>(
     rt: &R,
     words: &[String],
 ) -> ExitCode
@@ -90,7 +93,7 @@ pub fn server_main<R: Print + Eprint + AllocGlobal + Files + Net + Clock>(
 }
 
 /// Listens where the words say, and runs the server there. Words of no form listen nowhere.
-fn run_at<R: Print + Eprint + AllocGlobal + Files + Net + Clock>(
+fn run_at<R: Print + Eprint + AllocGlobal + Files<File = File> + Net + Clock>(
     rt: &R,
     words: &[String],
 ) -> ExitCode
@@ -111,7 +114,7 @@ fn run_at<R: Print + Eprint + AllocGlobal + Files + Net + Clock>(
 }
 
 /// Runs the server over its port and standard output, and answers the status.
-fn serve_at<R: Print + AllocGlobal + Files + Net + Clock>(
+fn serve_at<R: Print + AllocGlobal + Files<File = File> + Net + Clock>(
     rt: &R,
     words: &[String],
     port: &mut TcpPort<'_, R>,

@@ -2,14 +2,16 @@
 #![tactic(auto)]
 
 mod client;
+mod images;
+mod serving;
 mod strangers;
 
 use client::{print_ended, start_client};
 use client_prog::client_main;
+use images::{fill_the_disk, fill_the_servers_disk, forget, share_an_image};
 use outside::{MemKeeper, Port};
-use real_edge::{StdSink, TcpPort, program_words};
-use server_prog::server_run;
-use std::alloc::{AllocError, Global};
+use real_edge::{TcpPort, program_words};
+use serving::{address_of, free_address, serve};
 use std::io;
 use std::net::Net;
 use std::process::{ExitCode, Processes};
@@ -23,11 +25,22 @@ fn main(rt: HostRuntime) -> io::Result<ExitCode> {
     if !words.is_empty() {
         return Ok(client_main(&rt, &words));
     }
+    forget(&rt);
     serve_a_client(&rt)?;
+    forget(&rt);
     serve_strangers(&rt)?;
     mislead_a_client(&rt)?;
+    forget(&rt);
     miss_the_server(&rt)?;
+    forget(&rt);
     refuse_words(&rt)?;
+    let address = free_address(&rt)?;
+    fill_the_disk(&rt, &address)?;
+    forget(&rt);
+    fill_the_servers_disk(&rt)?;
+    forget(&rt);
+    share_an_image(&rt, &address)?;
+    forget(&rt);
     Ok(ExitCode::SUCCESS)
 }
 
@@ -36,23 +49,25 @@ fn serve_a_client<R: Processes + Files + Env + AllocGlobal + Net + Clock + Print
     rt: &R,
 ) -> io::Result<()> {
     println!(rt; "-- a client and its server")?;
-    let mut port = TcpPort::bind(rt.alloc(), rt, "127.0.0.1:0")?;
+    let port = TcpPort::bind(rt.alloc(), rt, "127.0.0.1:0")?;
     let address = address_of(rt.alloc(), &port)?;
     let client = start_client(rt, &["run", "1", "image", &address, "-", "work"])?;
-    serve(rt, "1", &mut port)?;
+    let mut keeper = MemKeeper::new(rt.alloc(), Vec::new(rt.alloc()));
+    serve(rt, "served", "1", port, &mut keeper)?;
     print_ended(rt, client)
 }
 
 /// Serves connections that bring no frame.
 fn serve_strangers<R: AllocGlobal + Net + Clock + Print>(rt: &R) -> io::Result<()> {
     println!(rt; "-- strangers to the server")?;
-    let mut port = TcpPort::bind(rt.alloc(), rt, "127.0.0.1:0")?;
+    let port = TcpPort::bind(rt.alloc(), rt, "127.0.0.1:0")?;
     let address = address_of(rt.alloc(), &port)?;
     let mut streams = Vec::new(rt.alloc());
     for stranger in VISITS {
         streams.push(call_on(rt, &address, stranger.bytes)?)?;
     }
-    serve(rt, "5", &mut port)?;
+    let mut keeper = MemKeeper::new(rt.alloc(), Vec::new(rt.alloc()));
+    serve(rt, "served", "5", port, &mut keeper)?;
     for (stranger, stream) in VISITS.iter().zip(streams) {
         print_answer(rt, stranger.name, stream)?;
     }
@@ -90,37 +105,4 @@ fn refuse_words<R: Processes + Files + Env + AllocGlobal + Print>(rt: &R) -> io:
     println!(rt; "-- a client with other words")?;
     let client = start_client(rt, &["run", "65"])?;
     print_ended(rt, client)
-}
-
-/// An address at which nothing listens any more.
-fn free_address<R: AllocGlobal + Net + Clock>(rt: &R) -> io::Result<String> {
-    let port = TcpPort::bind(rt.alloc(), rt, "127.0.0.1:0")?;
-    address_of(rt.alloc(), &port)
-}
-
-fn address_of<R: Net + Clock>(alloc: Global, port: &TcpPort<'_, R>) -> io::Result<String> {
-    let number = port.number()?;
-    Ok(format!(in alloc; "127.0.0.1:{number}")?)
-}
-
-/// Runs a server that takes so many connections.
-fn serve<R: AllocGlobal + Net + Clock + Print>(
-    rt: &R,
-    count: &str,
-    port: &mut TcpPort<'_, R>,
-) -> io::Result<()> {
-    let words = server_words(rt.alloc(), count)?;
-    let mut output = StdSink::new(io::writer(rt));
-    let alloc = rt.alloc();
-    let mut keeper = MemKeeper::new(alloc, Vec::new(alloc));
-    let status = server_run(alloc, &words, port, &mut keeper, &mut output);
-    println!(rt; "server: status {status}")
-}
-
-fn server_words(alloc: Global, count: &str) -> Result<Vec<String>, AllocError> {
-    let mut words = Vec::new(alloc);
-    for word in ["run", "listen", "image", count] {
-        words.push(String::from_str(alloc, word)?)?;
-    }
-    Ok(words)
 }
