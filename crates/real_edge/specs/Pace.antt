@@ -24,10 +24,11 @@ head_bytes = 4
 abbrev pub head_seconds : ℕ
 head_seconds = 5
 
--- how long a peer that was answered may be silent, and how long it may go on sending, in nanoseconds
+-- for how many nanoseconds a peer that was answered may be silent
 abbrev pub silence : ℕ
 silence = 200_000_000
 
+-- for how many it may go on sending
 abbrev pub parting : ℕ
 parting = 2_000_000_000
 

@@ -48,7 +48,7 @@ impl<'a, N: Net + Clock> TcpLink<'a, N> {
     fn exchange(&self, address: &[u8], frame: &[u8]) -> io::Result<Vec<u8>> {
         let stream = connect(self.net, address)?;
         let mut stream = Paced::start(stream, self.net)?;
-        let reply = talk(self.alloc, &mut stream, frame);
+        let reply = converse(self.alloc, &mut stream, frame);
         drop(stream);
         reply
     }
@@ -69,7 +69,7 @@ impl<'a, N: Net + Clock> TcpLink<'a, N> {
 }
 
 /// Sends the frame, and reads the one that comes back once the peer has worked.
-fn talk<S: Read + Write + OpenStream + Drop, C: Clock>(
+fn converse<S: Read + Write + OpenStream + Drop, C: Clock>(
     alloc: Global,
     stream: &mut Paced<'_, S, C>,
     frame: &[u8],

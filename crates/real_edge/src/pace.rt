@@ -134,8 +134,7 @@ impl<'a, S: Read + Write + OpenStream + Drop, C: Clock> Paced<'a, S, C> {
     pub(crate) fn wait(&mut self) -> io::Result<()> {
         self.restart()?;
         for _ in 0..TRIES {
-            let left = self.time_left()?;
-            self.stream.set_read_timeout(Some(left))?;
+            self.limit_read()?;
             match self.stream.peek(&mut [0]) {
                 Ok(_) => return self.restart(),
                 Err(error) if is_passing(&error) => {}
@@ -168,6 +167,18 @@ impl<'a, S: Read + Write + OpenStream + Drop, C: Clock> Paced<'a, S, C> {
         }
     }
 
+    /// Gives the next read what is left of the window.
+    fn limit_read(&mut self) -> io::Result<()> {
+        let left = self.time_left()?;
+        self.stream.set_read_timeout(Some(left))
+    }
+
+    /// Gives the next write what is left of the window.
+    fn limit_write(&mut self) -> io::Result<()> {
+        let left = self.time_left()?;
+        self.stream.set_write_timeout(Some(left))
+    }
+
     /// Counts what a call moved.
     fn count(&mut self, moved: usize) {
         self.window.moved = self.window.moved.saturating_add(moved as u64);
@@ -182,8 +193,7 @@ fn is_passing(error: &io::Error) -> bool {
 impl<'a, S: Read + Write + OpenStream + Drop, C: Clock> Read for Paced<'a, S, C> {
     fn read(&mut self, buf: &mut [u8]) -> io::Result<usize> {
         for _ in 0..TRIES {
-            let left = self.time_left()?;
-            self.stream.set_read_timeout(Some(left))?;
+            self.limit_read()?;
             match self.stream.read(buf) {
                 Ok(count) => {
                     self.count(count);
@@ -200,8 +210,7 @@ impl<'a, S: Read + Write + OpenStream + Drop, C: Clock> Read for Paced<'a, S, C>
 impl<'a, S: Read + Write + OpenStream + Drop, C: Clock> Write for Paced<'a, S, C> {
     fn write(&mut self, buf: &[u8]) -> io::Result<usize> {
         for _ in 0..TRIES {
-            let left = self.time_left()?;
-            self.stream.set_write_timeout(Some(left))?;
+            self.limit_write()?;
             match self.stream.write(buf) {
                 Ok(count) => {
                     self.count(count);
