@@ -53,8 +53,9 @@ NUMBER is the client's number, from 1 to 64. It goes with one IMAGE, the file in
 which the client is kept from run to run; where there is none the client is new.
 Of a number that was used with another image the server drops what it had before,
 and answers 'synced': ask 'pull' first. IMAGE.new and IMAGE.lock belong to IMAGE,
-and no other program has it meanwhile. SERVER is the server's address, with a port.
-The word '-' says that there is no surrogate. WORK is not empty, and not used yet.
+and no other program has it meanwhile. SERVER is the server's address, with a
+port. The word '-' says that there is no surrogate. WORK is not empty, and not
+used yet.
 
 Example:
   client run 1 client.image 127.0.0.1:7001 - work
