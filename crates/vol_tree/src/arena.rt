@@ -523,6 +523,7 @@ fn add_child(
     let name = name.copy()?;
     let j = take_slot(slots, free)?;
     if slots[parent as usize].link(k, j).is_err() {
+        drop(name);
         let _ = free.push(j);
         return Err(AllocError);
     }
