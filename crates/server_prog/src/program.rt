@@ -105,9 +105,14 @@ fn run_at<R: Print + Eprint + AllocGlobal + Files<File = File> + Net + Clock>(
     };
     let address = run.address;
     match TcpPort::bind(rt.alloc(), rt, address) {
-        Ok(mut port) => end(rt, NAME, serve_at(rt, words, &mut port)),
+        Ok(mut port) => {
+            let status = serve_at(rt, words, &mut port);
+            drop(port);
+            end(rt, NAME, status)
+        }
         Err(error) => {
             let _ = eprintln!(rt; "server: cannot listen at {address}: {error}");
+            drop(error);
             ExitCode::from(CANNOT_LISTEN)
         }
     }
