@@ -7,3 +7,4 @@ pub mod Names
 pub mod Applying
 pub mod Holding
 pub mod Forming
+pub mod Searching
