@@ -8,3 +8,5 @@ pub mod Applying
 pub mod Holding
 pub mod Forming
 pub mod Searching
+pub mod Ordered
+pub mod Sparing
