@@ -20,7 +20,7 @@ use Rattle.cmd_capture.specs.declared.capturing.CaptureError.TheVariants.{NoProg
 use Rattle.cmd_capture.specs.Environment.{has_key, set_pair}
 use Rattle.cmd_capture.specs.Rules.{is_text_byte, is_text, is_absolute, is_program, is_key_byte, is_key, is_template, IsVariable, AreVariables}
 use Rattle.cmd_capture.specs.Spelling.{command, IsCommand}
-use Rattle.cmd_capture.specs.Capture.{options, program_words, program, in_mark, env_mark, tmp_mark, behind, holds_behind, is_bad_assignment, is_bad_template, has_zero, assignment, variable_of, set_variable, ok, input_of, captured, refusal_at, refusals, capture}
+use Rattle.cmd_capture.specs.Capture.{options, program_words, program, in_mark, env_mark, tmp_mark, behind, holds_behind, is_unknown, is_bad_path, is_bad_assignment, is_bad_template, has_zero, assignment, variable_of, set_variable, ok, input_of, captured, refusal_at, text_refusals, refusals, capture}
 use Rattle.cmd_capture.proofs.Pairs.{new_key_is_last}
 use Rattle.cmd_capture.proofs.Codec.{keys, one_more_key}
 
@@ -234,3 +234,28 @@ captured_fits words cwd c is h =
 pub spelled_ok : (words : List (List ℕ)) (cwd : FilePath) (r : Result Command CaptureError) → IsPath cwd → IfOk r (λ c. capture words cwd ≡ Ok c) → IfOk r IsCommand
 spelled_ok words cwd (Ok c) is h = captured_fits words cwd c is h
 spelled_ok words cwd (Err e) is h = tt
+
+-- ---- refusals of a text
+
+-- what is refused is refused whatever stands behind it in the list
+refused_first : {T U E : Type 0} (first more : List (Option E)) (u : U) (value : T) (e : E) → unless_refused first u ≡ Err e → unless_refused (first ++ more) value ≡ Err e
+refused_first [] more u value e h = absurd cc
+refused_first (None ∷ rest) more u value e h = refused_first rest more u value e h
+refused_first (Some x ∷ rest) more u value e h = let same : x ≡ e = cc in ap (λ y. Err y) same
+
+three_pass : {T E : Type 0} (a b c : Option E) (rest : List (Option E)) (value : T) → a ≡ None → b ≡ None → c ≡ None → unless_refused (a ∷ b ∷ c ∷ rest) value ≡ unless_refused rest value
+three_pass a b c rest value ea eb ec = rw (ea, eb, ec) refl
+
+-- words with a program and with good options and paths are refused for their texts
+pub text_refused : (words : List (List ℕ)) (cwd : FilePath) (opts texts : List (List ℕ)) (first : List ℕ) (others : List (List ℕ)) (refusal : CaptureError) → opts ≡ options words → texts ≡ program_words words → texts ≡ first ∷ others
+    → position is_unknown opts ≡ None → position (holds_behind in_mark (is_bad_path cwd)) opts ≡ None → Err refusal ≡ unless_refused {T = Unit {0}} (text_refusals opts texts) tt → capture words cwd ≡ Err refusal
+text_refused words cwd opts texts first others refusal is_opts is_texts split known good refused =
+    let long : 1 ≤ length (program_words words) = omega (arith, ap length is_texts, ap length split) in
+    let some : nat_lt (length (program_words words)) 1 ≡ false = grind (arith, nat_tests) in
+    let there : unless_refused {T = Unit {0}} (text_refusals (options words) (program_words words)) tt ≡ Err refusal =
+    sym (refused ∙ ap (λ (o : List (List ℕ)). unless_refused {T = Unit {0}} (text_refusals o texts) tt) is_opts ∙ ap (λ (t : List (List ℕ)). unless_refused {T = Unit {0}} (text_refusals (options words) t) tt) is_texts) in
+    let too_long : List (Option CaptureError) = when (nat_lt 65536 (length (command (captured words cwd)))) (CommandTooLong (as_u64 (length (command (captured words cwd))))) ∷ [] in
+    three_pass (when (nat_lt (length (program_words words)) 1) NoProgram) (refusal_at BadOption (position is_unknown (options words))) (refusal_at BadInput (position (holds_behind in_mark (is_bad_path cwd)) (options words)))
+    (text_refusals (options words) (program_words words) ++ too_long) (captured words cwd) (ap (λ b. when b NoProgram) some) (ap (refusal_at BadOption) (ap (position is_unknown) (sym is_opts) ∙ known))
+    (ap (refusal_at BadInput) (ap (position (holds_behind in_mark (is_bad_path cwd))) (sym is_opts) ∙ good))
+    ∙ refused_first {U = Unit {0}} (text_refusals (options words) (program_words words)) too_long tt (captured words cwd) refusal there

@@ -1,5 +1,5 @@
 -- A command from its words: options, `--`, the program and its arguments.
-use Rattle.std.specs.Prelude.{ℕ, ◌+◌, Bool, true, false, ◌||◌, ◌&&◌, not, ◌==◌, nat_lt, List, [], ◌∷◌, length, take, drop, slice_index_or, Option, Some, None, is_some, option_map, option_and_then, unwrap_or, Result, Ok, Err, position, if◌then◌else◌}
+use Rattle.std.specs.Prelude.{ℕ, ◌+◌, Bool, true, false, ◌||◌, ◌&&◌, not, ◌==◌, nat_lt, List, [], ◌∷◌, ◌++◌, length, take, drop, slice_index_or, Option, Some, None, is_some, option_map, option_and_then, unwrap_or, Result, Ok, Err, position, if◌then◌else◌}
 use Rattle.std.specs.List.{fold, filter_map}
 use Rattle.std.specs.Str.{bytes_eq}
 use Rattle.byte_fields.specs.Numbers.{as_u32, as_u64}
@@ -121,17 +121,23 @@ captured words cwd = record {
 abbrev pub refusal_at : (ℕ → CaptureError) → Option ℕ → Option CaptureError
 refusal_at refusal found = option_map (λ i. refusal (as_u32 i)) found
 
+-- why the options and the words behind `--` are refused, but for what an option is and for paths
+abbrev pub text_refusals : List (List ℕ) → List (List ℕ) → List (Option CaptureError)
+text_refusals options texts =
+    refusal_at BadEnv (position (holds_behind env_mark is_bad_assignment) options)
+    ∷ refusal_at BadTemplate (position (holds_behind tmp_mark is_bad_template) options)
+    ∷ when (not (is_absolute (slice_index_or texts 0 []))) NotAbsolute
+    ∷ refusal_at ZeroByte (option_map (λ i. length options + 1 + i) (position has_zero texts))
+    ∷ []
+
 -- why words are refused, in the order in which it is tried
 abbrev pub refusals : List (List ℕ) → FilePath → List (Option CaptureError)
 refusals words cwd =
     when (nat_lt (length (program_words words)) 1) NoProgram
     ∷ refusal_at BadOption (position is_unknown (options words))
     ∷ refusal_at BadInput (position (holds_behind in_mark (is_bad_path cwd)) (options words))
-    ∷ refusal_at BadEnv (position (holds_behind env_mark is_bad_assignment) (options words))
-    ∷ refusal_at BadTemplate (position (holds_behind tmp_mark is_bad_template) (options words))
-    ∷ when (not (is_absolute (program words))) NotAbsolute
-    ∷ refusal_at ZeroByte (option_map (λ i. length (options words) + 1 + i) (position has_zero (program_words words)))
-    ∷ when (nat_lt 65536 (length (command (captured words cwd)))) (CommandTooLong (as_u64 (length (command (captured words cwd)))))
+    ∷ text_refusals (options words) (program_words words)
+    ++ when (nat_lt 65536 (length (command (captured words cwd)))) (CommandTooLong (as_u64 (length (command (captured words cwd)))))
     ∷ []
 
 -- the command of the words, or the first refusal

@@ -1,11 +1,13 @@
 //! A command from its words.
 
-ghost use Rattle.std.specs.Prelude.{◌≡◌, ◌≢◌, ◌+◌, ◌||◌, ◌==◌, true, false, [], Some, None, Ok, Err, length, position, option_map, IfOk, IfErr, OnOk};
+ghost use Rattle.std.specs.Prelude.{◌≡◌, ◌≢◌, ◌+◌, ◌||◌, ◌==◌, true, false, [], Some, None, Ok, Err, length, slice_index_or, position, option_map, IfOk, IfErr, OnOk};
 ghost use Rattle.std.specs.List.{fold, filter_map};
 ghost use Rattle.std.specs.Option.{option_copied, option_to_list};
 ghost use Rattle.byte_fields.specs.Numbers.{as_u32};
 ghost use Rattle.cmd_capture.specs.declared.capturing.CaptureError.TheVariants.{Memory};
 ghost use Rattle.cmd_capture.specs.Spelling.{command as spelled_command, IsCommand};
+ghost use Rattle.vol_tree.specs.Refusals.{unless_refused};
+ghost use Rattle.cmd_capture.specs.Rules as rules_of_parts;
 ghost use Rattle.cmd_capture.specs.Capture as rules;
 ghost use Rattle.cmd_capture.specs.Capture.{capture, options, program_words};
 
@@ -247,6 +249,56 @@ fn copies_of(alloc: Global, words: &[Content]) -> Result<Words, AllocError>
     Ok(copied)
 }
 
+/// Whether the first of the texts begins with `/`.
+fn has_absolute_program(texts: &[Content]) -> bool
+    ensures { result ≡ rules_of_parts.is_absolute (slice_index_or texts.now 0 []) }
+{
+    match texts.first() {
+        Some(program) => is_absolute(program.bytes()),
+        None => false,
+    }
+}
+
+/// Refuses options, and words behind `--`, that break a rule other than that of paths.
+fn check_texts(options: &[Content], texts: &[Content]) -> Result<(), CaptureError>
+    ensures { result ≡ unless_refused (rules.text_refusals options.now texts.now) tt }
+{
+    if let Some(i) = first_bad_assignment(options) {
+        return Err(CaptureError::BadEnv(saturate_u32(i)));
+    }
+    if let Some(i) = first_bad_template(options) {
+        return Err(CaptureError::BadTemplate(saturate_u32(i)));
+    }
+    if !has_absolute_program(texts) {
+        return Err(CaptureError::NotAbsolute);
+    }
+    if let Some(i) = first_with_zero(texts) {
+        return Err(CaptureError::ZeroByte(saturate_u32(options.len() + 1 + i)));
+    }
+    Ok(())
+}
+
+/// The command of a program and its arguments, and of options with these inputs.
+fn command_of(
+    alloc: Global,
+    program: &Content,
+    args: &[Content],
+    cwd: &Path,
+    options: &[Content],
+    inputs: Paths,
+) -> Result<Command, AllocError>
+    ensures { IfOk result (λ c. c ≡ record { program = program.now; args = args.now; cwd = cwd.now; env = fold rules.set_variable [] (filter_map rules.variable_of options.now); inputs = inputs; templates = filter_map (rules.behind rules.tmp_mark) options.now }) }
+{
+    Ok(Command {
+        inputs,
+        program: program.copy()?,
+        args: copies_of(alloc, args)?,
+        cwd: cwd.copy()?,
+        env: env_of(alloc, options)?,
+        templates: templates_of(alloc, options)?,
+    })
+}
+
 /// The number of bytes of the command's spelling.
 fn spelled_size(alloc: Global, command: &Command) -> Result<u64, AllocError>
     ensures { IfOk result (λ size. size ≡ length (spelled_command command.now)) }
@@ -279,29 +331,20 @@ fn captured(alloc: Global, words: &Words, cwd: &Path) -> Result<Command, Capture
         return Err(CaptureError::BadOption(saturate_u32(i)));
     }
     let inputs = inputs_of(alloc, cwd, options)?;
-    if let Some(i) = first_bad_assignment(options) {
-        return Err(CaptureError::BadEnv(saturate_u32(i)));
+    if let Err(refusal) = check_texts(options, texts) {
+        drop(inputs);
+        return Err(refusal);
     }
-    if let Some(i) = first_bad_template(options) {
-        return Err(CaptureError::BadTemplate(saturate_u32(i)));
+    let command = command_of(alloc, program, args, cwd, options, inputs)?;
+    match spelled_size(alloc, &command) {
+        Ok(size) if size <= 65_536 => Ok(command),
+        Ok(size) => {
+            drop(command);
+            Err(CaptureError::CommandTooLong(size))
+        }
+        Err(error) => {
+            drop(command);
+            Err(error.into())
+        }
     }
-    if !is_absolute(program.bytes()) {
-        return Err(CaptureError::NotAbsolute);
-    }
-    if let Some(i) = first_with_zero(texts) {
-        return Err(CaptureError::ZeroByte(saturate_u32(options.len() + 1 + i)));
-    }
-    let command = Command {
-        program: program.copy()?,
-        args: copies_of(alloc, args)?,
-        cwd: cwd.copy()?,
-        env: env_of(alloc, options)?,
-        inputs,
-        templates: templates_of(alloc, options)?,
-    };
-    let size = spelled_size(alloc, &command)?;
-    if size > 65_536 {
-        return Err(CaptureError::CommandTooLong(size));
-    }
-    Ok(command)
 }

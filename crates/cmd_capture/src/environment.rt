@@ -51,6 +51,15 @@ impl Env {
         Ok(())
     }
 
+    /// The same with copies of the key and of the value.
+    fn set_copies(&mut self, key: &Content, value: &Content) -> Result<(), AllocError>
+        ensures set { OnOk result (self.new ≡ set_pair self.old key.now value.now) }
+    {
+        let key = key.copy()?;
+        let value = value.copy()?;
+        self.set(key, value)
+    }
+
     /// Whether the key has a value.
     #[tactic(auto, using(crate::proofs::Pairs::lookup_is_has_key))]
     pub(crate) fn has(&self, key: &Content) -> bool
@@ -92,7 +101,7 @@ impl TryCopy for Env {
     fn copy(&self) -> Result<Env, AllocError> {
         let mut copied = Env::new(self.alloc);
         for (key, value) in self.pairs.iter() {
-            copied.set(key.copy()?, value.copy()?)?;
+            copied.set_copies(key, value)?;
         }
         Ok(copied)
     }

@@ -1,6 +1,6 @@
 //! A runner of given outcomes.
 
-ghost use Rattle.std.specs.Prelude.{◌≡◌, ◌↔◌, ℕ, List, [], Some, None, map, reverse, IfOk, IsErrOf};
+ghost use Rattle.std.specs.Prelude.{◌≡◌, ◌↔◌, ℕ, List, [], ◌∷◌, ◌++◌, Some, None, map, reverse, IfOk, IfErr, OnOk, OnErr, IsErrOf};
 ghost use Rattle.outside.specs.Outside.{Told, HasCause};
 ghost use Rattle.cmd_capture.specs.Runs.{AddsRun, InScript, raw_row, unchanged, outcome_of, after_run};
 
@@ -59,6 +59,17 @@ impl ScriptRunner {
             None => Ok(Some(unchanged(self.alloc, job)?)),
         }
     }
+
+    /// Keeps the run that gave the outcome.
+    fn tell(&mut self, work: &[u8], job: &Job, outcome: &Outcome) -> Result<(), RunError>
+        ensures ok { OnOk result (self.new ≡ record { answers = self.old.answers; runs = self.old.runs ++ record { work = work.now; job = job.now; outcome = outcome.now } ∷ []; faults = self.old.faults }) }
+        ensures err { OnErr result (self.new ≡ self.old) }
+        ensures cause { IfErr result (λ e. e ≡ RunError.Memory) }
+    {
+        let run = run_of(self.alloc, work, job, outcome)?;
+        self.runs.push(run)?;
+        Ok(())
+    }
 }
 
 impl Runner for ScriptRunner {
@@ -76,18 +87,31 @@ impl Runner for ScriptRunner {
         ensures after { self.new ≡ after_run self.old work.now job.now result }
     {
         let Some(outcome) = self.next_outcome(job)? else {
-            let _ = self.answers.pop();
+            drop(self.answers.pop());
             self.faults = self.faults.saturating_add(1);
             return Err(RunError::Failed);
         };
-        let run = Run {
-            work: Content::of(self.alloc, work)?,
-            job: job.copy()?,
-            outcome: outcome.copy()?,
-        };
-        self.runs.push(run)?;
-        let _ = self.answers.pop();
+        if let Err(error) = self.tell(work, job, &outcome) {
+            drop(outcome);
+            return Err(error);
+        }
+        drop(self.answers.pop());
         Ok(outcome)
+    }
+}
+
+/// The run of the job that gave the outcome.
+fn run_of(alloc: Global, work: &[u8], job: &Job, outcome: &Outcome) -> Result<Run, AllocError>
+    ensures { IfOk result (λ run. run ≡ record { work = work.now; job = job.now; outcome = outcome.now }) }
+{
+    let work = Content::of(alloc, work)?;
+    let job = job.copy()?;
+    match outcome.copy() {
+        Ok(outcome) => Ok(Run { work, job, outcome }),
+        Err(error) => {
+            drop(job);
+            Err(error)
+        }
     }
 }
 

@@ -118,11 +118,11 @@ leads before after old new are_before are_after applied path there =
 
 -- ---- what both have
 
-all_map : (P Q : JobRow → Type 0) → ((row : JobRow) → P row → Q row) → (rows : List JobRow) → AllByRecursion P rows → AllByRecursion Q rows
+pub all_map : (P Q : JobRow → Type 0) → ((row : JobRow) → P row → Q row) → (rows : List JobRow) → AllByRecursion P rows → AllByRecursion Q rows
 all_map P Q to [] all = tt
 all_map P Q to (row ∷ rows) all = (to row all.0, all_map P Q to rows all.1)
 
-all_reverse : (P : JobRow → Type 0) (xs : List JobRow) → AllByRecursion P xs → AllByRecursion P (reverse xs)
+pub all_reverse : (P : JobRow → Type 0) (xs : List JobRow) → AllByRecursion P xs → AllByRecursion P (reverse xs)
 all_reverse P [] all = tt
 all_reverse P (x ∷ xs) all = subst (AllByRecursion P) (sym (reverse-append (x ∷ []) xs)) (all_push P (reverse xs) x (all_reverse P xs all.1) all.0)
 

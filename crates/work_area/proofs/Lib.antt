@@ -7,3 +7,6 @@ pub mod Names
 pub mod Applying
 pub mod Holding
 pub mod Forming
+pub mod Searching
+pub mod Ordered
+pub mod Sparing

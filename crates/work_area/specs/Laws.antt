@@ -1,19 +1,20 @@
 -- What holds of jobs and of change lists, in their own words.
-use Rattle.std.specs.Prelude.{◌≡◌, ◌≤◌, true, ℕ, List, [], ◌∷◌, ◌++◌, map, Some, None, Ok}
+use Rattle.std.specs.Prelude.{◌≡◌, ◌≤◌, true, false, ℕ, List, [], ◌∷◌, ◌++◌, map, Some, None, is_some, Ok}
 use Rattle.std.specs.List.{AllByRecursion}
 use Rattle.std.specs.declared.cmp.Ordering.TheVariants.{Less}
 use Rattle.vol_tree.specs.Path.{FilePath, path_cmp}
 use Rattle.vol_tree.specs.Tree.{Volume, IsTree, version_at, node_at}
 use Rattle.vol_tree.specs.Effects.{apply_all}
 use Rattle.vol_tree.specs.declared.tree.Node.{Node}
+use Rattle.vol_tree.specs.declared.tree.Effect.{Effect}
 use Rattle.vol_tree.specs.declared.tree.Effect.TheVariants.{Remove}
 use Rattle.cmd_capture.specs.declared.command.Command.{Command}
 use Rattle.cmd_capture.specs.declared.job.Job.{Job}
 use Rattle.cmd_capture.specs.declared.job.JobRow.{JobRow}
 use Rattle.cmd_capture.specs.declared.job.RawRow.{RawRow}
-use Rattle.cmd_capture.specs.Rows.{AreJobRows, AreLegal, IsFirstOdd, read_rows, node_in}
+use Rattle.cmd_capture.specs.Rows.{AreInOrder, AreJobRows, AreLegal, IsFirstOdd, read_rows, node_in}
 use Rattle.work_area.specs.Jobs.{is_of_job, job_of}
-use Rattle.work_area.specs.Changes.{changes, making}
+use Rattle.work_area.specs.Changes.{has_kind, has_content, changes, making, has_row, clash}
 
 -- ---- jobs
 
@@ -42,3 +43,41 @@ ChangesLeaveTheRest = (before after : List JobRow) (old new : Volume) → AreJob
 -- no effect where nothing changed
 abbrev pub NothingChanges : Type 0
 NothingChanges = (rows : List JobRow) → AreJobRows rows → changes rows rows ≡ []
+
+-- ---- the order of a change list
+
+-- each path is below those before it
+abbrev pub AreFalling : List FilePath → Type 0
+AreFalling [] = Unit {0}
+AreFalling (path ∷ paths) = AllByRecursion (λ next. path_cmp next path ≡ Less) paths × AreFalling paths
+
+-- something stood at the path, and nothing of its kind is left there
+pub record IsGone (before after : List JobRow) (path : FilePath) : Type 0 where
+  pub node : Node
+  pub stood : node_in before path ≡ Some node
+  pub left : has_kind node (node_in after path) ≡ false
+
+-- the row is left, and before it its path had no such node
+pub record IsNew (before after : List JobRow) (row : JobRow) : Type 0 where
+  pub left : node_in after row.path ≡ Some row.node
+  pub stood : has_content row.node (node_in before row.path) ≡ false
+
+-- first what is gone is removed, in falling order of the paths, and then what is new is made, in rising order
+pub record RemovesAndMakes (before after : List JobRow) (effects : List Effect) : Type 0 where
+  pub removed : List FilePath
+  pub made : List JobRow
+  pub parts : effects ≡ map Remove removed ++ map making made
+  pub falls : AreFalling removed
+  pub rises : AreInOrder made
+  pub gone : AllByRecursion (IsGone before after) removed
+  pub new : AllByRecursion (IsNew before after) made
+
+abbrev pub ChangesAreInOrder : Type 0
+ChangesAreInOrder = (before after : List JobRow) → AreJobRows before → AreJobRows after → RemovesAndMakes before after (changes before after)
+
+-- ---- change lists that do not clash
+
+-- what stands beside the job keeps its version and its node
+abbrev pub NoClashSparesTheRest : Type 0
+NoClashSparesTheRest = (job after : List JobRow) (old new : Volume) → AreJobRows job → AreJobRows after → clash old job (changes job after) ≡ None → apply_all 0 (changes job after) old ≡ Ok new
+    → (path : FilePath) → has_row job path ≡ false → is_some (node_at old path) ≡ true → (version_at new path ≡ version_at old path) × (node_at new path ≡ node_at old path)

@@ -1,17 +1,19 @@
 //! Change lists, and what they meet in a tree.
 
-ghost use Rattle.std.specs.Prelude.{◌≡◌, ◌++◌, ◌∷◌, [], not, reverse, position, IfOk, OnOk};
+ghost use Rattle.std.specs.Prelude.{◌≡◌, ◌++◌, ◌∷◌, [], not, reverse, position, find, IfOk, OnOk};
 ghost use Rattle.std.specs.List.{list_any, filter_map, flat_map};
 ghost use Rattle.std.specs.Option.{option_copied};
 ghost use Rattle.vol_tree.specs.Tree.{children};
-ghost use Rattle.cmd_capture.specs.Rows.{is_at as stands_at};
+ghost use Rattle.vol_tree.specs.Path.{path_cmp};
+ghost use Rattle.cmd_capture.specs.Rows.{is_at, AreInOrder, AreJobRows};
 ghost use Rattle.work_area.specs.Changes as rules;
 ghost use Rattle.work_area.specs.Changes.{changes, clash};
 
-use crate::rows::{is_at, node_in};
+use crate::rows::{node_in, row_of};
 use byte_fields::saturate_u32;
 use cmd_capture::{Job, JobRow, JobRows};
 use std::alloc::{AllocError, Global};
+use std::cmp::Ordering;
 use vol_tree::{Content, Effect, Effects, Node, Path, Tree, TryCopy};
 
 /// Whether both are folders, or both are files.
@@ -38,6 +40,7 @@ fn has_content(node: &Node, other: Option<&Node>) -> bool
 
 /// Whether the path of the row has no node there, or one of the other kind.
 fn is_gone(after: &[JobRow], row: &JobRow) -> bool
+    requires { AreInOrder after.now }
     ensures { result ≡ rules.is_gone after.now row.now }
 {
     !has_kind(&row.node, node_in(after, row.path.names()))
@@ -45,6 +48,7 @@ fn is_gone(after: &[JobRow], row: &JobRow) -> bool
 
 /// Whether the path of the row has no node there, one of the other kind, or a file with another content.
 fn is_new(before: &[JobRow], row: &JobRow) -> bool
+    requires { AreInOrder before.now }
     ensures { result ≡ rules.is_new before.now row.now }
 {
     !has_content(&row.node, node_in(before, row.path.names()))
@@ -63,6 +67,7 @@ fn making(row: &JobRow) -> Result<Effect, AllocError>
 
 /// The removal of the row, where it is gone.
 fn removal(after: &[JobRow], row: &JobRow) -> Result<Option<Effect>, AllocError>
+    requires { AreInOrder after.now }
     ensures { IfOk result (λ found. found ≡ rules.removal_of after.now row.now) }
 {
     if !is_gone(after, row) {
@@ -73,6 +78,7 @@ fn removal(after: &[JobRow], row: &JobRow) -> Result<Option<Effect>, AllocError>
 
 /// What makes the row, where it is new.
 fn new_making(before: &[JobRow], row: &JobRow) -> Result<Option<Effect>, AllocError>
+    requires { AreInOrder before.now }
     ensures { IfOk result (λ found. found ≡ rules.making_of before.now row.now) }
 {
     if !is_new(before, row) {
@@ -87,6 +93,7 @@ fn push_removals(
     before: &[JobRow],
     after: &[JobRow],
 ) -> Result<(), AllocError>
+    requires { AreInOrder after.now }
     ensures { OnOk result (effects.new ≡ effects.old ++ filter_map (rules.removal_of after.now) (reverse before.now)) }
 {
     let mut rest = before;
@@ -103,6 +110,7 @@ fn push_makings(
     before: &[JobRow],
     after: &[JobRow],
 ) -> Result<(), AllocError>
+    requires { AreInOrder before.now }
     ensures { OnOk result (effects.new ≡ effects.old ++ flat_map (rules.makings_of before.now) after.now) }
 {
     for row in after {
@@ -113,6 +121,8 @@ fn push_makings(
 
 /// The effects that make the rows `after` of the rows `before`.
 pub fn changes(alloc: Global, before: &JobRows, after: &JobRows) -> Result<Effects, AllocError>
+    requires before { AreJobRows before.now }
+    requires after { AreJobRows after.now }
     ensures { IfOk result (λ effects. effects ≡ changes before.now after.now) }
 {
     let mut effects = Effects::new(alloc);
@@ -122,45 +132,52 @@ pub fn changes(alloc: Global, before: &JobRows, after: &JobRows) -> Result<Effec
 }
 
 /// Whether the job has a row at the path.
+#[tactic(auto, using(crate::proofs::Searching::any_is_found))]
 fn has_row(job: &Job, path: &Path) -> bool
+    requires { AreInOrder job.now.rows }
     ensures { result ≡ rules.has_row job.now.rows path.now }
 {
-    job.rows
-        .as_slice()
-        .iter()
-        .any(|row| is_at(row, path.names()))
+    row_of(job.rows.as_slice(), path.names()).is_some()
 }
 
 /// Whether something stands at the path that the job has not.
 fn is_taken(tree: &Tree, job: &Job, path: &Path) -> bool
+    requires { AreInOrder job.now.rows }
     ensures { result ≡ rules.is_taken tree.now job.now.rows path.now }
 {
     tree.get(path).is_some() && !has_row(job, path)
 }
 
-/// Whether it is the row of this name in the folder.
-fn is_child_at(row: &JobRow, folder: &Path, name: &Content) -> bool
-    ensures { result ≡ stands_at (folder.now ++ name.now ∷ []) row.now }
+/// How the path of a row compares with that of a name in a folder.
+fn order_of_child(row: &JobRow, folder: &[Content], name: &Content) -> Ordering
+    ensures { result ≡ path_cmp row.now.path (folder.now ++ name.now ∷ []) }
 {
-    match row.path.names().split_last() {
-        Some((last, front)) => front == folder.names() && last == name,
-        None => false,
+    let names = row.path.names();
+    let (front, rest) = names.split_at(names.len().min(folder.len()));
+    match rest.split_first() {
+        Some((first, more)) => front
+            .cmp(&folder)
+            .then(first.cmp(name))
+            .then(more.len().cmp(&0)),
+        None => front.cmp(&folder).then(Ordering::Less),
     }
 }
 
 /// Whether the job has a row of this name in the folder.
 fn has_child(job: &Job, folder: &Path, name: &Content) -> bool
+    requires { AreInOrder job.now.rows }
     ensures { result ≡ rules.has_row job.now.rows (folder.now ++ name.now ∷ []) }
 {
     job.rows
         .as_slice()
-        .iter()
-        .any(|row| is_child_at(row, folder, name))
+        .binary_search_by(|row| order_of_child(row, folder.names(), name))
+        .is_ok()
 }
 
 /// Whether something stands in the folder that the job has not.
 #[tactic(auto, using(crate::proofs::Names::none_left, crate::proofs::Names::found_here, crate::proofs::Names::none_here, crate::proofs::Names::all_seen, crate::proofs::Names::children_few))]
 fn has_foreign_child(tree: &Tree, job: &Job, folder: &Path) -> bool
+    requires { AreInOrder job.now.rows }
     ensures { result ≡ list_any (λ name. not (rules.has_row job.now.rows (folder.now ++ name ∷ []))) (children tree.now folder.now) }
 {
     for i in 0..tree.count() {
@@ -175,6 +192,7 @@ fn has_foreign_child(tree: &Tree, job: &Job, folder: &Path) -> bool
 }
 
 fn clashes(tree: &Tree, job: &Job, effect: &Effect) -> bool
+    requires { AreInOrder job.now.rows }
     ensures { result ≡ rules.clashes tree.now job.now.rows effect.now }
 {
     match effect {
@@ -186,6 +204,7 @@ fn clashes(tree: &Tree, job: &Job, effect: &Effect) -> bool
 }
 
 fn first_clash(tree: &Tree, job: &Job, effects: &[Effect]) -> Option<usize>
+    requires { AreInOrder job.now.rows }
     ensures { result ≡ position (rules.clashes tree.now job.now.rows) effects.now }
 {
     effects.iter().position(|effect| clashes(tree, job, effect))
@@ -194,6 +213,7 @@ fn first_clash(tree: &Tree, job: &Job, effects: &[Effect]) -> Option<usize>
 /// The first effect, counted from 0, that makes what stands in the tree beside the job, or removes a folder of such. It
 /// takes no memory.
 pub fn clash(tree: &Tree, job: &Job, effects: &Effects) -> Option<u32>
+    requires { AreJobRows job.now.rows }
     ensures { result ≡ clash tree.now job.now.rows effects.now }
 {
     let i = first_clash(tree, job, effects.as_slice())?;

@@ -8,7 +8,10 @@ mod rows;
 
 pub use changing::{changes, clash};
 pub use jobs::{JobError, job_of};
-pub use laws::{change_lists_lead_to_what_is_left, jobs_hold_the_tree};
+pub use laws::{
+    change_lists_are_in_order, change_lists_lead_to_what_is_left, jobs_hold_the_tree,
+    no_clash_spares_the_rest,
+};
 pub use rows::{RowsFault, rows_of};
 
 #[cfg(test)]

@@ -1,18 +1,19 @@
 //! The legal rows of an outcome.
 
-ghost use Rattle.std.specs.Prelude.{◌≡◌, IfOk, IfErr, OnOk};
+ghost use Rattle.std.specs.Prelude.{◌≡◌, find, IfOk, IfErr, OnOk};
 ghost use Rattle.std.specs.Option.{option_copied};
 ghost use Rattle.std.specs.List.{list_all};
 ghost use Rattle.std.specs.Ordering.{is_lt};
-ghost use Rattle.vol_tree.specs.Path.{path_cmp, is_same_path};
+ghost use Rattle.vol_tree.specs.Path.{path_cmp};
 ghost use Rattle.work_area.specs.declared.rows.RowsFault.TheVariants.{Memory};
 ghost use Rattle.work_area.specs.Outcomes.{IsRowsFault};
 ghost use Rattle.cmd_capture.specs.Rows as rules;
-ghost use Rattle.cmd_capture.specs.Rows.{AreLegal, AreJobRows, read_rows};
+ghost use Rattle.cmd_capture.specs.Rows.{AreInOrder, AreLegal, AreJobRows, read_rows};
 
 use byte_fields::saturate_u32;
 use cmd_capture::{JobRow, JobRows, RawRow, RawRows};
 use std::alloc::{AllocError, Global};
+use std::cmp::Ordering;
 use thiserror::Error;
 use vol_tree::{Content, Node, Path, PathError, TryCopy};
 
@@ -35,42 +36,55 @@ impl From<AllocError> for RowsFault {
     }
 }
 
-fn is_same(path: &[Content], other: &[Content]) -> bool
-    ensures { result ≡ is_same_path path.now other.now }
+/// How the path of a row compares with another.
+fn order_of(row: &JobRow, path: &[Content]) -> Ordering
+    ensures { result ≡ path_cmp row.now.path path.now }
 {
-    path.cmp(&other).is_eq()
+    row.path.names().cmp(&path)
 }
 
-/// Whether it is the row of the path.
-pub(crate) fn is_at(row: &JobRow, path: &[Content]) -> bool
-    ensures { result ≡ rules.is_at path.now row.now }
+/// The row of a path.
+pub(crate) fn row_of<'a>(rows: &'a [JobRow], path: &[Content]) -> Option<&'a JobRow>
+    requires { AreInOrder rows.now }
+    ensures { option_copied result ≡ find (rules.is_at path.now) rows.now }
 {
-    is_same(row.path.names(), path)
+    match rows.binary_search_by(|row| order_of(row, path)) {
+        Ok(i) => rows.get(i),
+        Err(_) => None,
+    }
 }
 
 /// The node of a path.
 pub(crate) fn node_in<'a>(rows: &'a [JobRow], path: &[Content]) -> Option<&'a Node>
+    requires { AreInOrder rows.now }
     ensures { option_copied result ≡ rules.node_in rows.now path.now }
 {
-    let row = rows.iter().find(|row| is_at(row, path))?;
+    let row = row_of(rows, path)?;
     Some(&row.node)
 }
 
 /// Whether the path is a folder of the rows, as the root always is.
 fn is_folder_in(rows: &[JobRow], path: &[Content]) -> bool
+    requires { AreInOrder rows.now }
     ensures { result ≡ rules.is_folder_in rows.now path.now }
 {
     path.is_empty() || matches!(node_in(rows, path), Some(Node::Folder))
 }
 
+/// Whether the path is above those of all rows, the last of which is above the others.
 fn is_above_all(rows: &[JobRow], path: &Path) -> bool
+    requires { AreInOrder rows.now }
     ensures { result ≡ list_all (λ before. is_lt (path_cmp before.path path.now)) rows.now }
 {
-    rows.iter().all(|before| before.path.cmp(path).is_lt())
+    match rows.last() {
+        Some(last) => last.path.cmp(path).is_lt(),
+        None => true,
+    }
 }
 
 /// Whether the row may stand behind these.
 fn may_follow(rows: &[JobRow], row: &JobRow) -> bool
+    requires { AreInOrder rows.now }
     ensures { result ≡ rules.may_follow rows.now row.now }
 {
     !row.path.names().is_empty()
@@ -94,6 +108,7 @@ fn read_row(alloc: Global, raw: &RawRow) -> Result<Option<JobRow>, AllocError>
 
 /// The row, where it may stand behind these.
 fn next_row(alloc: Global, rows: &[JobRow], raw: &RawRow) -> Result<Option<JobRow>, AllocError>
+    requires { AreInOrder rows.now }
     ensures { IfOk result (λ row. row ≡ rules.next_row rows.now raw.now) }
 {
     match read_row(alloc, raw)? {
