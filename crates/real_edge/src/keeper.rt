@@ -13,9 +13,10 @@ use std::alloc::Global;
 use std::fs::{self, File, OpenFile};
 use std::io::{self, ErrorKind, Read, Write};
 use std::rt::Files;
+use store_image::MAX_LOADED;
 
-/// One byte more than the longest image has, so that a longer one is seen to be too long.
-const MOST_LOADED: u64 = 134_217_729;
+/// One byte more than a keeper has to load, so that a file that is longer is read as no image.
+const MOST_READ: u64 = MAX_LOADED as u64 + 1;
 
 /// Images as files. A save writes beside the old file, under its name with `.new` added, and renames over it. Under the name
 /// with `.lock` added stands the lock: of all keepers that are alive one alone has it.
@@ -94,7 +95,7 @@ fn read_file<R: Files>(alloc: Global, files: &R, name: &[u8]) -> io::Result<Opti
 /// Reads the file's bytes, as far as an image may reach.
 fn read_bytes<F: Read + Drop>(alloc: Global, file: F) -> io::Result<Vec<u8>> {
     let mut bytes = Vec::new(alloc);
-    match file.take(MOST_LOADED).read_to_end(&mut bytes) {
+    match file.take(MOST_READ).read_to_end(&mut bytes) {
         Ok(_count) => Ok(bytes),
         Err(error) => {
             drop(bytes);
