@@ -105,14 +105,9 @@ fn run_at<R: Print + Eprint + AllocGlobal + Files<File = File> + Net + Clock>(
     };
     let address = run.address;
     match TcpPort::bind(rt.alloc(), rt, address) {
-        Ok(mut port) => {
-            let status = serve_at(rt, words, &mut port);
-            drop(port);
-            end(rt, NAME, status)
-        }
+        Ok(mut port) => end(rt, NAME, serve_at(rt, words, &mut port)),
         Err(error) => {
             let _ = eprintln!(rt; "server: cannot listen at {address}: {error}");
-            drop(error);
             ExitCode::from(CANNOT_LISTEN)
         }
     }

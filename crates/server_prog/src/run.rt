@@ -134,9 +134,7 @@ fn run<P: Port, K: Keeper, O: Sink>(
     ensures keeper { HasCause Stopped.Keeper (K.faults keeper.old) (K.faults keeper.new) result }
 {
     let mut server = opened(alloc, name, keeper)?;
-    let served = serve(&mut server, port, name, keeper, count);
-    drop(server);
-    let tally = served?;
+    let tally = serve(&mut server, port, name, keeper, count)?;
     write_last(alloc, tally, output)?;
     Ok(())
 }

@@ -65,7 +65,6 @@ fn serve_next<P: Port, K: Keeper>(
         Err(PortError::Memory) => return Err(KeepError::Memory),
     };
     let (reply, taken) = server.serve_noted(&frame)?;
-    drop(frame);
     keep_if(taken, server, name, keeper)?;
     match port.answer(&reply) {
         Ok(()) => Ok(Came::Answered),
