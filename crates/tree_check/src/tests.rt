@@ -1,8 +1,11 @@
-use std::alloc::Global;
+ghost use Rattle.vol_tree.specs.Undos.{CanUndoAll};
+
+use crate::kept::{apply_kept, undo_last};
+use std::alloc::{AllocError, Global};
 use std::rt::HostRuntime;
 use std::test::Fail;
 use vol_tree::{
-    Content, Effect, Node, Path, Row, Rows, RowsError, TakeError, Tree, TreeError, TryCopy,
+    Content, Effect, Node, Path, Row, Rows, RowsError, TakeError, Tree, TreeError, TryCopy, Undo,
 };
 
 /// The most bytes of a file. Four such files are the most bytes of all files.
@@ -125,10 +128,78 @@ fn has_file(tree: &Tree, path: &Path) -> bool {
     matches!(tree.get(path), Some(Node::File(content)) if content.bytes() == b"x".as_slice())
 }
 
+/// The text of a file in a folder, both named by their numbers.
+fn text_in(folder: u16, file: u16) -> [u8; 9] {
+    let [a, b, c, d] = name_of(folder);
+    let [e, f, g, h] = name_of(file);
+    [a, b, c, d, b'/', e, f, g, h]
+}
+
+/// The paths of 64 folders with 255 files each, each folder before its files.
+fn full_paths(alloc: Global) -> Result<Vec<Path>, Fail> {
+    let mut paths = Vec::new(alloc);
+    for number in 0..64 {
+        paths.push(path(alloc, &name_of(number))?)?;
+        for file in 0..255 {
+            paths.push(path(alloc, &text_in(number, file))?)?;
+        }
+    }
+    Ok(paths)
+}
+
+/// Makes a folder of a path of one name, and puts a file without bytes at another.
+fn effect_at(alloc: Global, path: &Path) -> Result<Effect, AllocError> {
+    let content = Content::of(alloc, b"")?;
+    let path = path.copy()?;
+    Ok(match path.depth() {
+        1 => Effect::Make(path),
+        _ => Effect::Put(path, content),
+    })
+}
+
+/// Whether each path could be made or put.
+fn are_filled(tree: &mut Tree, undos: &mut Vec<Undo>, paths: &[Path]) -> Result<bool, AllocError>
+    requires { CanUndoAll undos.old.items tree.old }
+    ensures { CanUndoAll undos.new.items tree.new }
+{
+    let alloc = tree.allocator();
+    for path in paths {
+        let effect = effect_at(alloc, path)?;
+        let applied = apply_kept(tree, undos, &effect).is_ok();
+        drop(effect);
+        if !applied {
+            return Ok(false);
+        }
+    }
+    Ok(true)
+}
+
+/// Undoes all, the last first.
+fn undo_each(tree: &mut Tree, undos: &mut Vec<Undo>)
+    requires { CanUndoAll undos.old.items tree.old }
+{
+    for _ in 0..undos.len() {
+        let _ = undo_last(tree, undos);
+    }
+}
+
+/// The most names that were compared to find one of these paths, at each of which something stands.
+fn most_compared(tree: &Tree, paths: &[Path]) -> Option<u32> {
+    let mut most = 0;
+    for path in paths {
+        let (node, compared) = tree.find(path);
+        if node.is_none() {
+            return None;
+        }
+        most = compared.max(most);
+    }
+    Some(most)
+}
+
 /// How many bytes the rows' spelling has, where it is taken again whole, with as many rows.
 fn spelled_and_taken(alloc: Global, tree: &Tree) -> Result<usize, Fail> {
     let mut out = Vec::new(alloc);
-    Rows::spell(&tree.rows()?, &mut out)?;
+    tree.spell_rows(&mut out)?;
     let (rows, next) = Rows::take(alloc, &out, 0).ok().ok_or("refused")?;
     let is_whole = next == out.len() && rows.len() == tree.count() as usize;
     Ok(if is_whole { next } else { 0 })
@@ -201,6 +272,42 @@ fn holds_16384_rows(rt: HostRuntime) -> Result<(), Fail> {
     assert_eq!(rt; remove(&mut tree, alloc, b"aaaa")?, ("applied", 0));
     assert_eq!(rt; put(&mut tree, alloc, b"aaaa", 1)?, ("applied", 0));
     assert_eq!(rt; tree.count(), 16_384);
+    Ok(())
+}
+
+#[test]
+fn a_folder_is_made_above_a_row(rt: HostRuntime) -> Result<(), Fail> {
+    let alloc = rt.alloc();
+    let (d, x) = (path(alloc, b"d")?, path(alloc, b"d/x")?);
+    let mut rows = Rows::new(alloc);
+    rows.push(Row {
+        path: x.copy()?,
+        version: 1,
+        node: None,
+    })?;
+    let mut tree = Tree::from_rows(alloc, rows)?;
+    let undo = tree.apply(&Effect::Make(d.copy()?))?;
+    assert_eq!(rt; tree.count(), 2);
+    tree.undo(undo);
+    assert_eq!(rt; tree.count(), 1);
+    assert_eq!(rt; (tree.version(&d), tree.version(&x)), (0, 1));
+    Ok(())
+}
+
+#[test]
+fn finds_each_of_16384_paths(rt: HostRuntime) -> Result<(), Fail> {
+    let alloc = rt.alloc();
+    let paths = full_paths(alloc)?;
+    let (mut tree, mut undos) = (Tree::new(alloc), Vec::new(alloc));
+    assert!(rt; are_filled(&mut tree, &mut undos, &paths)?);
+    assert_eq!(rt; tree.count(), 16_384);
+    let more = Effect::Make(path(alloc, b"more")?);
+    let refused = apply_kept(&mut tree, &mut undos, &more);
+    assert!(rt; matches!(refused, Err(TreeError::RowsFull(16_384))));
+    assert!(rt; matches!(most_compared(&tree, &paths), Some(most) if most <= 32));
+    undo_each(&mut tree, &mut undos);
+    assert_eq!(rt; tree.count(), 0);
+    assert_eq!(rt; tree.rows()?.len(), 0);
     Ok(())
 }
 
