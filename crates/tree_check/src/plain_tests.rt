@@ -195,15 +195,26 @@ fn is_the_same_backward(
     Ok(before.is_empty())
 }
 
+/// Takes 1,000 random steps, of which some are not refused, and undoes them; whether the tree is all the time as a plain one.
+fn is_the_same(tree: &mut Tree, undos: &mut Vec<Undo>, paths: &[Path]) -> Result<bool, AllocError>
+    requires { CanUndoAll undos.old.items tree.old }
+{
+    let mut before = Vec::new(tree.allocator());
+    let forward = is_the_same_forward(tree, undos, paths, &mut before, 1_000)?;
+    let many = undos.len() > 100;
+    Ok(forward && many && is_the_same_backward(tree, undos, paths, &mut before)?)
+}
+
 #[test]
 fn the_tree_is_as_a_plain_one(rt: HostRuntime) -> Result<(), Fail> {
     let alloc = rt.alloc();
     let paths = all_paths(alloc)?;
     let mut tree = first_tree(alloc, &paths)?;
     let mut undos = Vec::new(alloc);
-    let mut before = Vec::new(alloc);
-    assert!(rt; is_the_same_forward(&mut tree, &mut undos, &paths, &mut before, 1_000)?);
-    assert!(rt; undos.len() > 100);
-    assert!(rt; is_the_same_backward(&mut tree, &mut undos, &paths, &mut before)?);
+    let outcome = is_the_same(&mut tree, &mut undos, &paths);
+    drop(undos);
+    drop(tree);
+    drop(paths);
+    assert!(rt; outcome?);
     Ok(())
 }

@@ -32,16 +32,20 @@ fn content(alloc: Global, size: usize) -> Result<Content, Fail> {
 }
 
 /// What an effect comes to: the name of its refusal, and the refusal's number where it has one.
-fn apply(tree: &mut Tree, effect: &Effect) -> (&'static str, u64) {
-    match tree.apply(effect) {
+fn apply(tree: &mut Tree, effect: Effect) -> (&'static str, u64) {
+    let applied = tree.apply(&effect);
+    drop(effect);
+    let outcome = match &applied {
         Ok(_) => ("applied", 0),
         Err(TreeError::NotEmpty(_, _)) => ("NotEmpty", 0),
-        Err(TreeError::RowsFull(rows)) => ("RowsFull", u64::from(rows)),
-        Err(TreeError::FileTooLarge(bytes)) => ("FileTooLarge", bytes),
-        Err(TreeError::TreeFull(bytes)) => ("TreeFull", bytes),
+        Err(TreeError::RowsFull(rows)) => ("RowsFull", u64::from(*rows)),
+        Err(TreeError::FileTooLarge(bytes)) => ("FileTooLarge", *bytes),
+        Err(TreeError::TreeFull(bytes)) => ("TreeFull", *bytes),
         Err(TreeError::VersionTop(_)) => ("VersionTop", 0),
         Err(_) => ("another", 0),
-    }
+    };
+    drop(applied);
+    outcome
 }
 
 fn put(
@@ -50,18 +54,16 @@ fn put(
     text: &[u8],
     size: usize,
 ) -> Result<(&'static str, u64), Fail> {
-    Ok(apply(
-        tree,
-        &Effect::Put(path(alloc, text)?, content(alloc, size)?),
-    ))
+    let content = content(alloc, size)?;
+    Ok(apply(tree, Effect::Put(path(alloc, text)?, content)))
 }
 
 fn make(tree: &mut Tree, alloc: Global, text: &[u8]) -> Result<(&'static str, u64), Fail> {
-    Ok(apply(tree, &Effect::Make(path(alloc, text)?)))
+    Ok(apply(tree, Effect::Make(path(alloc, text)?)))
 }
 
 fn remove(tree: &mut Tree, alloc: Global, text: &[u8]) -> Result<(&'static str, u64), Fail> {
-    Ok(apply(tree, &Effect::Remove(path(alloc, text)?)))
+    Ok(apply(tree, Effect::Remove(path(alloc, text)?)))
 }
 
 fn version(tree: &Tree, alloc: Global, text: &[u8]) -> Result<u64, Fail> {
@@ -128,11 +130,33 @@ fn has_file(tree: &Tree, path: &Path) -> bool {
     matches!(tree.get(path), Some(Node::File(content)) if content.bytes() == b"x".as_slice())
 }
 
-/// The text of a file in a folder, both named by their numbers.
-fn text_in(folder: u16, file: u16) -> [u8; 9] {
-    let [a, b, c, d] = name_of(folder);
-    let [e, f, g, h] = name_of(file);
-    [a, b, c, d, b'/', e, f, g, h]
+/// The rows' number and a path's version once an effect is applied, and then once it is undone.
+fn applied_and_undone(
+    tree: &mut Tree,
+    effect: &Effect,
+    path: &Path,
+) -> Result<((u32, u64), (u32, u64)), TreeError> {
+    let undo = tree.apply(effect)?;
+    let applied = (tree.count(), tree.version(path));
+    tree.undo(undo);
+    Ok((applied, (tree.count(), tree.version(path))))
+}
+
+/// The row of a path at which nothing stands any more.
+fn removed(path: Path) -> Row {
+    Row {
+        path,
+        version: 1,
+        node: None,
+    }
+}
+
+/// The path of a file in a folder, both named by their numbers.
+fn path_in(alloc: Global, folder: u16, file: u16) -> Result<Path, Fail> {
+    let mut text = Vec::from_slice(alloc, &name_of(folder))?;
+    text.push(b'/')?;
+    text.extend_from_slice(&name_of(file))?;
+    path(alloc, &text)
 }
 
 /// The paths of 64 folders with 255 files each, each folder before its files.
@@ -141,7 +165,7 @@ fn full_paths(alloc: Global) -> Result<Vec<Path>, Fail> {
     for number in 0..64 {
         paths.push(path(alloc, &name_of(number))?)?;
         for file in 0..255 {
-            paths.push(path(alloc, &text_in(number, file))?)?;
+            paths.push(path_in(alloc, number, file)?)?;
         }
     }
     Ok(paths)
@@ -196,6 +220,41 @@ fn most_compared(tree: &Tree, paths: &[Path]) -> Option<u32> {
     Some(most)
 }
 
+/// Whether an effect is refused since there are 16,384 rows.
+fn is_full(tree: &mut Tree, undos: &mut Vec<Undo>, effect: &Effect) -> bool
+    requires { CanUndoAll undos.old.items tree.old }
+    ensures { CanUndoAll undos.new.items tree.new }
+{
+    let applied = apply_kept(tree, undos, effect);
+    let full = matches!(&applied, Err(TreeError::RowsFull(16_384)));
+    drop(applied);
+    full
+}
+
+/// Whether a tree has no row.
+fn is_empty(tree: &Tree) -> Result<bool, AllocError> {
+    let rows = tree.rows()?;
+    let none = rows.len() == 0;
+    drop(rows);
+    Ok(none && tree.count() == 0)
+}
+
+/// Fills a tree at 16,384 paths, finds each of them by at most 32 names, cannot apply one effect more, and undoes all.
+fn is_filled_and_emptied(
+    tree: &mut Tree,
+    undos: &mut Vec<Undo>,
+    paths: &[Path],
+    more: &Effect,
+) -> Result<bool, AllocError>
+    requires { CanUndoAll undos.old.items tree.old }
+{
+    let filled = are_filled(tree, undos, paths)? && tree.count() == 16_384;
+    let full = is_full(tree, undos, more);
+    let found = matches!(most_compared(tree, paths), Some(most) if most <= 32);
+    undo_each(tree, undos);
+    Ok(filled && full && found && is_empty(tree)?)
+}
+
 /// How many bytes the rows' spelling has, where it is taken again whole, with as many rows.
 fn spelled_and_taken(alloc: Global, tree: &Tree) -> Result<usize, Fail> {
     let mut out = Vec::new(alloc);
@@ -208,11 +267,15 @@ fn spelled_and_taken(alloc: Global, tree: &Tree) -> Result<usize, Fail> {
 #[test]
 fn a_put_is_undone(rt: HostRuntime) -> Result<(), Fail> {
     let alloc = rt.alloc();
+    let x = path(alloc, b"d/x")?;
+    let content = content(alloc, 2)?;
+    let put = Effect::Put(x.copy()?, content);
     let mut tree = small(alloc)?;
-    let undo = tree.apply(&Effect::Put(path(alloc, b"d/x")?, content(alloc, 2)?))?;
-    assert_eq!(rt; version(&tree, alloc, b"d/x")?, 2);
-    tree.undo(undo);
-    assert_eq!(rt; version(&tree, alloc, b"d/x")?, 1);
+    let outcome = applied_and_undone(&mut tree, &put, &x);
+    drop(tree);
+    drop(put);
+    drop(x);
+    assert_eq!(rt; outcome?, ((3, 2), (3, 1)));
     Ok(())
 }
 
@@ -246,7 +309,7 @@ fn a_move_carries_the_file(rt: HostRuntime) -> Result<(), Fail> {
     let mut tree = small(alloc)?;
     let (x, z) = (path(alloc, b"d/x")?, path(alloc, b"z")?);
     assert_eq!(rt;
-        apply(&mut tree, &Effect::Move(x.copy()?, z.copy()?)),
+        apply(&mut tree, Effect::Move(x.copy()?, z.copy()?)),
         ("applied", 0)
     );
     assert!(rt; has_file(&tree, &z) && tree.get(&x).is_none());
@@ -280,17 +343,16 @@ fn a_folder_is_made_above_a_row(rt: HostRuntime) -> Result<(), Fail> {
     let alloc = rt.alloc();
     let (d, x) = (path(alloc, b"d")?, path(alloc, b"d/x")?);
     let mut rows = Rows::new(alloc);
-    rows.push(Row {
-        path: x.copy()?,
-        version: 1,
-        node: None,
-    })?;
+    rows.push(removed(x.copy()?))?;
     let mut tree = Tree::from_rows(alloc, rows)?;
-    let undo = tree.apply(&Effect::Make(d.copy()?))?;
-    assert_eq!(rt; tree.count(), 2);
-    tree.undo(undo);
-    assert_eq!(rt; tree.count(), 1);
-    assert_eq!(rt; (tree.version(&d), tree.version(&x)), (0, 1));
+    let make = Effect::Make(d.copy()?);
+    let outcome = applied_and_undone(&mut tree, &make, &d);
+    let below = tree.version(&x);
+    drop(tree);
+    drop(make);
+    drop((d, x));
+    assert_eq!(rt; below, 1);
+    assert_eq!(rt; outcome?, ((2, 1), (1, 0)));
     Ok(())
 }
 
@@ -298,16 +360,15 @@ fn a_folder_is_made_above_a_row(rt: HostRuntime) -> Result<(), Fail> {
 fn finds_each_of_16384_paths(rt: HostRuntime) -> Result<(), Fail> {
     let alloc = rt.alloc();
     let paths = full_paths(alloc)?;
+    let more = path(alloc, b"more")?;
+    let more = Effect::Make(more);
     let (mut tree, mut undos) = (Tree::new(alloc), Vec::new(alloc));
-    assert!(rt; are_filled(&mut tree, &mut undos, &paths)?);
-    assert_eq!(rt; tree.count(), 16_384);
-    let more = Effect::Make(path(alloc, b"more")?);
-    let refused = apply_kept(&mut tree, &mut undos, &more);
-    assert!(rt; matches!(refused, Err(TreeError::RowsFull(16_384))));
-    assert!(rt; matches!(most_compared(&tree, &paths), Some(most) if most <= 32));
-    undo_each(&mut tree, &mut undos);
-    assert_eq!(rt; tree.count(), 0);
-    assert_eq!(rt; tree.rows()?.len(), 0);
+    let outcome = is_filled_and_emptied(&mut tree, &mut undos, &paths, &more);
+    drop(undos);
+    drop(tree);
+    drop(more);
+    drop(paths);
+    assert!(rt; outcome?);
     Ok(())
 }
 
