@@ -133,22 +133,53 @@ fn has_file(tree: &Tree, path: &Path) -> bool {
 /// The rows' number and a path's version once an effect is applied, and then once it is undone.
 fn applied_and_undone(
     tree: &mut Tree,
-    effect: &Effect,
+    effect: Effect,
     path: &Path,
 ) -> Result<((u32, u64), (u32, u64)), TreeError> {
-    let undo = tree.apply(effect)?;
+    let applied = tree.apply(&effect);
+    drop(effect);
+    let undo = applied?;
     let applied = (tree.count(), tree.version(path));
     tree.undo(undo);
     Ok((applied, (tree.count(), tree.version(path))))
 }
 
-/// The row of a path at which nothing stands any more.
-fn removed(path: Path) -> Row {
-    Row {
+/// The tree of the row of a path at which nothing stands any more.
+fn tree_without(alloc: Global, path: Path) -> Result<Tree, Fail> {
+    let mut rows = Rows::new(alloc);
+    rows.push(Row {
         path,
         version: 1,
         node: None,
+    })?;
+    Ok(Tree::from_rows(alloc, rows)?)
+}
+
+/// Whether all could be removed, one after the other.
+fn are_removed(tree: &mut Tree, alloc: Global, texts: &[&[u8]]) -> Result<bool, Fail> {
+    for text in texts {
+        if remove(tree, alloc, text)? != ("applied", 0) {
+            return Ok(false);
+        }
     }
+    Ok(true)
+}
+
+/// Whether the name `y` alone is listed in a folder.
+fn lists_only_y(tree: &Tree, folder: &Path) -> Result<bool, AllocError> {
+    let names = tree.children(folder)?;
+    let is_one = names.len() == 1;
+    drop(names);
+    let is_y = matches!(tree.child(folder, 0), Some(name) if name.bytes() == b"y".as_slice());
+    Ok(is_one && is_y && tree.child(folder, 1).is_none())
+}
+
+/// Whether a file of one byte is moved to a new path, both being touched by this.
+fn is_moved(tree: &mut Tree, from: &Path, to: &Path) -> Result<bool, AllocError> {
+    let outcome = apply(tree, Effect::Move(from.copy()?, to.copy()?));
+    let is_carried = has_file(tree, to) && tree.get(from).is_none();
+    let is_counted = tree.version(from) == 2 && tree.version(to) == 1;
+    Ok(outcome == ("applied", 0) && is_carried && is_counted)
 }
 
 /// The path of a file in a folder, both named by their numbers.
@@ -267,13 +298,11 @@ fn spelled_and_taken(alloc: Global, tree: &Tree) -> Result<usize, Fail> {
 #[test]
 fn a_put_is_undone(rt: HostRuntime) -> Result<(), Fail> {
     let alloc = rt.alloc();
-    let x = path(alloc, b"d/x")?;
-    let content = content(alloc, 2)?;
-    let put = Effect::Put(x.copy()?, content);
     let mut tree = small(alloc)?;
-    let outcome = applied_and_undone(&mut tree, &put, &x);
+    let content = content(alloc, 2)?;
+    let x = path(alloc, b"d/x")?;
+    let outcome = applied_and_undone(&mut tree, Effect::Put(x.copy()?, content), &x);
     drop(tree);
-    drop(put);
     drop(x);
     assert_eq!(rt; outcome?, ((3, 2), (3, 1)));
     Ok(())
@@ -284,9 +313,7 @@ fn a_folder_is_removed_behind_what_it_holds(rt: HostRuntime) -> Result<(), Fail>
     let alloc = rt.alloc();
     let mut tree = small(alloc)?;
     assert_eq!(rt; remove(&mut tree, alloc, b"d")?, ("NotEmpty", 0));
-    assert_eq!(rt; remove(&mut tree, alloc, b"d/x")?, ("applied", 0));
-    assert_eq!(rt; remove(&mut tree, alloc, b"d/y")?, ("applied", 0));
-    assert_eq!(rt; remove(&mut tree, alloc, b"d")?, ("applied", 0));
+    assert!(rt; are_removed(&mut tree, alloc, &[b"d/x", b"d/y", b"d"])?);
     assert_eq!(rt; tree.count(), 3);
     Ok(())
 }
@@ -294,26 +321,25 @@ fn a_folder_is_removed_behind_what_it_holds(rt: HostRuntime) -> Result<(), Fail>
 #[test]
 fn removed_names_are_not_listed(rt: HostRuntime) -> Result<(), Fail> {
     let alloc = rt.alloc();
+    let d = path(alloc, b"d")?;
     let mut tree = small(alloc)?;
     assert_eq!(rt; remove(&mut tree, alloc, b"d/x")?, ("applied", 0));
-    let d = path(alloc, b"d")?;
-    assert_eq!(rt; tree.children(&d)?.len(), 1);
-    assert!(rt; matches!(tree.child(&d, 0), Some(name) if name.bytes() == b"y".as_slice()));
-    assert!(rt; tree.child(&d, 1).is_none());
+    let outcome = lists_only_y(&tree, &d);
+    drop(tree);
+    drop(d);
+    assert!(rt; outcome?);
     Ok(())
 }
 
 #[test]
 fn a_move_carries_the_file(rt: HostRuntime) -> Result<(), Fail> {
     let alloc = rt.alloc();
-    let mut tree = small(alloc)?;
     let (x, z) = (path(alloc, b"d/x")?, path(alloc, b"z")?);
-    assert_eq!(rt;
-        apply(&mut tree, Effect::Move(x.copy()?, z.copy()?)),
-        ("applied", 0)
-    );
-    assert!(rt; has_file(&tree, &z) && tree.get(&x).is_none());
-    assert!(rt; tree.version(&x) == 2 && tree.version(&z) == 1);
+    let mut tree = small(alloc)?;
+    let outcome = is_moved(&mut tree, &x, &z);
+    drop(tree);
+    drop((x, z));
+    assert!(rt; outcome?);
     Ok(())
 }
 
@@ -342,14 +368,10 @@ fn holds_16384_rows(rt: HostRuntime) -> Result<(), Fail> {
 fn a_folder_is_made_above_a_row(rt: HostRuntime) -> Result<(), Fail> {
     let alloc = rt.alloc();
     let (d, x) = (path(alloc, b"d")?, path(alloc, b"d/x")?);
-    let mut rows = Rows::new(alloc);
-    rows.push(removed(x.copy()?))?;
-    let mut tree = Tree::from_rows(alloc, rows)?;
-    let make = Effect::Make(d.copy()?);
-    let outcome = applied_and_undone(&mut tree, &make, &d);
+    let mut tree = tree_without(alloc, x.copy()?)?;
+    let outcome = applied_and_undone(&mut tree, Effect::Make(d.copy()?), &d);
     let below = tree.version(&x);
     drop(tree);
-    drop(make);
     drop((d, x));
     assert_eq!(rt; below, 1);
     assert_eq!(rt; outcome?, ((2, 1), (1, 0)));
