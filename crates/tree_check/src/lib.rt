@@ -2,4 +2,10 @@
 #![tactic(auto)]
 
 #[cfg(test)]
+mod kept;
+#[cfg(test)]
+mod plain;
+#[cfg(test)]
+mod plain_tests;
+#[cfg(test)]
 mod tests;
