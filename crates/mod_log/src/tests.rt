@@ -17,6 +17,7 @@ fn appends_and_acknowledges(rt: HostRuntime) -> Result<(), Fail> {
     assert_eq!(rt; seq, 1);
     let base = log.base()?;
     assert_eq!(rt; base.count(), 0);
+    assert_eq!(rt; log.acked(), 0);
     log.acknowledge(1);
     assert_eq!(rt; log.pending(), 0);
     let a = Path::read(alloc, b"a")?;

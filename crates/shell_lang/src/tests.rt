@@ -51,8 +51,17 @@ fn lines_are_refused(rt: HostRuntime) -> Result<(), Fail> {
 /// The answer to a line that is refused.
 fn refusal_of(alloc: Global, line: &[u8]) -> Result<Vec<u8>, Fail> {
     match read_line(alloc, line) {
-        Ok(_) | Err(LineError::Memory) => Ok(b"read".to_vec(alloc)?),
-        Err(fault) => Ok(text_of(alloc, &Answer::Refused(Fault::Line(fault)))?),
+        Ok(read) => {
+            drop(read);
+            Ok(b"read".to_vec(alloc)?)
+        }
+        Err(LineError::Memory) => Ok(b"memory".to_vec(alloc)?),
+        Err(fault) => {
+            let refused = Answer::Refused(Fault::Line(fault));
+            let text = text_of(alloc, &refused);
+            drop(refused);
+            Ok(text?)
+        }
     }
 }
 
