@@ -2,12 +2,30 @@ ghost use Rattle.std.specs.Prelude.{None, IfSome};
 ghost use Rattle.wire_frames.specs.Frame.{IsValid, Echoes};
 
 use crate::*;
-use outside::MemKeeper;
+use outside::{KeepError, Keeper};
 use std::alloc::Global;
 use std::test::Fail;
 use vol_tree::{Content, Effect, Path, Rows};
 use wire_frames::{Message, read, write};
 use world_rules::{Link, LinkError, Peer};
+
+/// A keeper that is always content, and tells nothing.
+#[derive(Drop)]
+struct Quiet;
+
+impl Keeper for Quiet {
+    ghost images = { λ keeper. None };
+
+    ghost faults = { λ keeper. 0 };
+
+    fn load(&mut self, _name: &[u8]) -> Result<Option<Vec<u8>>, KeepError> {
+        Ok(None)
+    }
+
+    fn save(&mut self, _name: &[u8], _image: &[u8]) -> Result<(), KeepError> {
+        Ok(())
+    }
+}
 
 /// A link over which no reply ever comes.
 #[derive(Drop)]
@@ -91,7 +109,7 @@ fn logs_and_syncs(rt: HostRuntime) -> Result<(), Fail> {
     let alloc = rt.alloc();
     let route = route(alloc)?;
     let mut client = Client::new(alloc, 7);
-    let mut keeper = MemKeeper::new(alloc, Vec::new(alloc));
+    let mut keeper = Quiet;
     assert_eq!(rt; client.number(), 7);
     assert_eq!(rt; client.local(put(alloc, b"a", b"x\n")?)?, 1);
     assert_eq!(rt; client.local(put(alloc, b"b", b"y\n")?)?, 2);
@@ -121,7 +139,7 @@ fn pulls(rt: HostRuntime) -> Result<(), Fail> {
     let alloc = rt.alloc();
     let route = route(alloc)?;
     let mut client = Client::new(alloc, 64);
-    let mut keeper = MemKeeper::new(alloc, Vec::new(alloc));
+    let mut keeper = Quiet;
     let mut willing = Willing { alloc, ahead: 0 };
     assert!(rt;
         matches!(
