@@ -1,6 +1,6 @@
 // The client as a program of its own.
 use std::io::Write;
-use std::process::{Child, Command, OpenProcess, Output, Processes, Stdio};
+use std::process::{Child, Command, OpenProcess, Processes, Stdio};
 use std::rt::{Env, Files};
 use std::{env, io};
 
@@ -12,39 +12,17 @@ pub(crate) fn start_client<R: Processes + Files + Env + AllocGlobal>(
     rt: &R,
     words: &[&str],
 ) -> io::Result<Child<R::Started>> {
-    let mut command = this_program(rt)?;
-    let started = start(rt, &mut command, words);
-    drop(command);
-    let mut child = started?;
-    feed(&mut child);
-    Ok(child)
-}
-
-fn this_program<R: Env + Files + AllocGlobal>(rt: &R) -> io::Result<Command> {
-    let path = env::current_exe(rt)?;
-    let command = Command::new(rt.alloc(), path.as_path());
-    drop(path);
-    Ok(command?)
-}
-
-fn start<R: Processes + Files>(
-    rt: &R,
-    command: &mut Command,
-    words: &[&str],
-) -> io::Result<Child<R::Started>> {
+    let mut command = Command::new(rt.alloc(), env::current_exe(rt)?.as_path())?;
     command.args(words)?;
     command.stdin(Stdio::piped());
     command.stdout(Stdio::piped());
     command.stderr(Stdio::piped());
-    command.spawn(rt)
-}
-
-/// Gives the client its lines, and the end of its input. A client with other words reads nothing.
-fn feed<P: OpenProcess + Drop>(child: &mut Child<P>) {
+    let mut child = command.spawn(rt)?;
     if let Some(mut stdin) = child.stdin.take() {
+        // A client with other words reads nothing.
         let _written = stdin.write_all(INPUT);
-        drop(stdin);
     }
+    Ok(child)
 }
 
 /// Waits for the client's end, and prints what it wrote and its status.
@@ -53,12 +31,6 @@ pub(crate) fn print_ended<R: AllocGlobal + Print, P: OpenProcess + Drop>(
     client: Child<P>,
 ) -> io::Result<()> {
     let end = client.wait_with_output(rt.alloc())?;
-    let printed = print_output(rt, &end);
-    drop(end);
-    printed
-}
-
-fn print_output<R: Print>(rt: &R, end: &Output) -> io::Result<()> {
     io::writer(rt).write_all(&end.stdout)?;
     io::writer(rt).write_all(&end.stderr)?;
     let status = end.status;

@@ -1,8 +1,8 @@
 // Images on a full disk, and images that two programs want.
 use crate::client::{print_ended, start_client};
-use crate::serving::{open_place, serve};
+use crate::serving::{address_of, serve};
 use outside::{KeepError, Keeper};
-use real_edge::FileKeeper;
+use real_edge::{FileKeeper, TcpPort};
 use std::fs::{self, File};
 use std::io;
 use std::net::Net;
@@ -46,64 +46,34 @@ pub(crate) fn fill_the_disk<R: Processes + Files + Env + AllocGlobal + Print>(
     run_client(rt, address)
 }
 
-/// Serves a client while the disk is full: the server ends before it answers, and nothing is kept.
+/// Serves a client while the disk is full: the server ends before it answers.
 pub(crate) fn fill_the_servers_disk<
     R: Processes + Files<File = File> + Env + AllocGlobal + Net + Clock + Print,
 >(rt: &R) -> io::Result<()> {
     println!(rt; "-- a server on a full disk")?;
+    let port = TcpPort::bind(rt.alloc(), rt, "127.0.0.1:0")?;
+    let address = address_of(rt.alloc(), &port)?;
     symlink(rt, "/dev/full", SERVED_BESIDE)?;
+    let client = start_client(rt, &["run", "1", IMAGE, &address, "-", "work"])?;
     let mut keeper = FileKeeper::new(rt.alloc(), rt);
-    let served = serve_and_close(rt, &mut keeper);
-    let loaded = print_load(rt, SERVED, &mut keeper);
-    drop(keeper);
-    served.and(loaded)
+    serve(rt, SERVED, "1", port, &mut keeper)?;
+    print_ended(rt, client)?;
+    fs::remove_file(rt, SERVED_BESIDE)?;
+    print_load(rt, SERVED, &mut keeper)
 }
 
-/// Serves one client, and closes the port before the client asks again.
-fn serve_and_close<R: Processes + Files<File = File> + Env + AllocGlobal + Net + Clock + Print>(
-    rt: &R,
-    keeper: &mut FileKeeper<'_, R>,
-) -> io::Result<()> {
-    let mut place = open_place(rt)?;
-    match start_client(rt, &["run", "1", IMAGE, &place.address, "-", "work"]) {
-        Ok(client) => {
-            let served = serve(rt, SERVED, "1", &mut place.port, keeper);
-            drop(place);
-            let ended = print_ended(rt, client);
-            served.and(ended)
-        }
-        Err(error) => {
-            drop(place);
-            Err(error)
-        }
-    }
-}
-
-/// Runs a client on an image that a keeper has, and again once it is free.
+/// Runs a client on an image that another keeper has, and again once it is free.
 pub(crate) fn share_an_image<R: Processes + Files<File = File> + Env + AllocGlobal + Print>(
     rt: &R,
     address: &str,
 ) -> io::Result<()> {
     println!(rt; "-- two programs on one image")?;
     let mut keeper = FileKeeper::new(rt.alloc(), rt);
-    let shared = share_with(rt, address, &mut keeper);
+    print_load(rt, IMAGE, &mut keeper)?;
+    print_load(rt, IMAGE, &mut keeper)?;
+    print_load(rt, IMAGE, &mut FileKeeper::new(rt.alloc(), rt))?;
+    run_client(rt, address)?;
     drop(keeper);
-    shared?;
-    run_client(rt, address)
-}
-
-/// Loads the image with the keeper, twice, with another one, and with a client.
-fn share_with<R: Processes + Files<File = File> + Env + AllocGlobal + Print>(
-    rt: &R,
-    address: &str,
-    keeper: &mut FileKeeper<'_, R>,
-) -> io::Result<()> {
-    print_load(rt, IMAGE, keeper)?;
-    print_load(rt, IMAGE, keeper)?;
-    let mut other = FileKeeper::new(rt.alloc(), rt);
-    let loaded = print_load(rt, IMAGE, &mut other);
-    drop(other);
-    loaded?;
     run_client(rt, address)
 }
 
@@ -121,10 +91,7 @@ fn print_load<R: Files<File = File> + Print>(
     keeper: &mut FileKeeper<'_, R>,
 ) -> io::Result<()> {
     match keeper.load(image.as_bytes()) {
-        Ok(Some(image)) => {
-            drop(image);
-            println!(rt; "keeper: an image")
-        }
+        Ok(Some(_image)) => println!(rt; "keeper: an image"),
         Ok(None) => println!(rt; "keeper: no image"),
         Err(KeepError::Failed) => println!(rt; "keeper: failed"),
         Err(KeepError::Memory) => println!(rt; "keeper: no memory"),

@@ -9,15 +9,15 @@ mod strangers;
 use client::{print_ended, start_client};
 use client_prog::client_main;
 use images::{fill_the_disk, fill_the_servers_disk, forget, share_an_image};
-use outside::Port;
+use outside::{MemKeeper, Port};
 use real_edge::{TcpPort, program_words};
-use serving::{Place, free_address, open_place, serve_from_memory};
+use serving::{address_of, free_address, serve};
 use std::io;
 use std::net::Net;
 use std::process::{ExitCode, Processes};
 use std::rt::{Env, Files};
 use std::time::Clock;
-use strangers::{FALSE_REPLIES, call_all, print_answers};
+use strangers::{FALSE_REPLIES, VISITS, call_on, print_answer};
 
 /// With words it is the client. Without any it shows what clients and servers meet.
 fn main(rt: HostRuntime) -> io::Result<ExitCode> {
@@ -49,39 +49,29 @@ fn serve_a_client<R: Processes + Files + Env + AllocGlobal + Net + Clock + Print
     rt: &R,
 ) -> io::Result<()> {
     println!(rt; "-- a client and its server")?;
-    let mut place = open_place(rt)?;
-    let served = serve_one(rt, &mut place);
-    drop(place);
-    served
-}
-
-fn serve_one<R: Processes + Files + Env + AllocGlobal + Net + Clock + Print>(
-    rt: &R,
-    place: &mut Place<'_, R>,
-) -> io::Result<()> {
-    let client = start_client(rt, &["run", "1", "image", &place.address, "-", "work"])?;
-    let served = serve_from_memory(rt, "1", &mut place.port);
-    let ended = print_ended(rt, client);
-    served.and(ended)
+    let port = TcpPort::bind(rt.alloc(), rt, "127.0.0.1:0")?;
+    let address = address_of(rt.alloc(), &port)?;
+    let client = start_client(rt, &["run", "1", "image", &address, "-", "work"])?;
+    let mut keeper = MemKeeper::new(rt.alloc(), Vec::new(rt.alloc()));
+    serve(rt, "served", "1", port, &mut keeper)?;
+    print_ended(rt, client)
 }
 
 /// Serves connections that bring no frame.
 fn serve_strangers<R: AllocGlobal + Net + Clock + Print>(rt: &R) -> io::Result<()> {
     println!(rt; "-- strangers to the server")?;
-    let mut place = open_place(rt)?;
-    let served = serve_all(rt, &mut place);
-    drop(place);
-    served
-}
-
-fn serve_all<R: AllocGlobal + Net + Clock + Print>(
-    rt: &R,
-    place: &mut Place<'_, R>,
-) -> io::Result<()> {
-    let streams = call_all(rt, &place.address)?;
-    let served = serve_from_memory(rt, "5", &mut place.port);
-    let printed = print_answers(rt, streams);
-    served.and(printed)
+    let port = TcpPort::bind(rt.alloc(), rt, "127.0.0.1:0")?;
+    let address = address_of(rt.alloc(), &port)?;
+    let mut streams = Vec::new(rt.alloc());
+    for stranger in VISITS {
+        streams.push(call_on(rt, &address, stranger.bytes)?)?;
+    }
+    let mut keeper = MemKeeper::new(rt.alloc(), Vec::new(rt.alloc()));
+    serve(rt, "served", "5", port, &mut keeper)?;
+    for (stranger, stream) in VISITS.iter().zip(streams) {
+        print_answer(rt, stranger.name, stream)?;
+    }
+    Ok(())
 }
 
 /// Answers each ask of a client by what is no reply to it.
@@ -89,27 +79,15 @@ fn mislead_a_client<R: Processes + Files + Env + AllocGlobal + Net + Clock + Pri
     rt: &R,
 ) -> io::Result<()> {
     println!(rt; "-- a client and false replies")?;
-    let mut place = open_place(rt)?;
-    let misled = mislead_one(rt, &mut place);
-    drop(place);
-    misled
-}
-
-fn mislead_one<R: Processes + Files + Env + AllocGlobal + Net + Clock + Print>(
-    rt: &R,
-    place: &mut Place<'_, R>,
-) -> io::Result<()> {
-    let client = start_client(rt, &["run", "1", "image", &place.address, "-", "work"])?;
-    answer_falsely(&mut place.port);
-    print_ended(rt, client)
-}
-
-fn answer_falsely<N: Net + Clock>(port: &mut TcpPort<'_, N>) {
+    let mut port = TcpPort::bind(rt.alloc(), rt, "127.0.0.1:0")?;
+    let address = address_of(rt.alloc(), &port)?;
+    let client = start_client(rt, &["run", "1", "image", &address, "-", "work"])?;
     for reply in FALSE_REPLIES {
         if let Ok(Some(_frame)) = port.take() {
             let _answered = port.answer(reply);
         }
     }
+    print_ended(rt, client)
 }
 
 /// Runs a client whose server does not listen.
@@ -118,9 +96,8 @@ fn miss_the_server<R: Processes + Files + Env + AllocGlobal + Net + Clock + Prin
 ) -> io::Result<()> {
     println!(rt; "-- a client without a server")?;
     let address = free_address(rt)?;
-    let started = start_client(rt, &["run", "1", "image", &address, "-", "work"]);
-    drop(address);
-    print_ended(rt, started?)
+    let client = start_client(rt, &["run", "1", "image", &address, "-", "work"])?;
+    print_ended(rt, client)
 }
 
 /// Runs a client on words of no form.
