@@ -1,18 +1,25 @@
 //! Jobs, legal rows, changes and clashes, with values from outside.
 
+ghost use Rattle.std.specs.Prelude.{IfOk};
+ghost use Rattle.cmd_capture.specs.Spelling.{IsCommand};
+ghost use Rattle.cmd_capture.specs.Rows.{AreJobRows};
+
 use super::*;
-use cmd_capture::{Command, JobRow, JobRows, RawRow, RawRows, Words, capture};
+use cmd_capture::{Command, Job, JobRows, RawRow, RawRows, Words, capture};
 use std::alloc::Global;
 use std::rt::HostRuntime;
 use std::test::Fail;
-use vol_tree::{Content, Effect, Effects, Node, Path, Tree, TryCopy};
+use vol_tree::{Content, Effect, Effects, Node, Path, Tree};
 
 fn path(alloc: Global, text: &[u8]) -> Result<Path, Fail> {
-    Ok(Path::read(alloc, text).ok().ok_or("no path")?)
+    match Path::read(alloc, text) {
+        Ok(path) => Ok(path),
+        Err(_refused) => Err(Fail::from("no path")),
+    }
 }
 
-fn file(alloc: Global, bytes: &[u8]) -> Result<Node, Fail> {
-    Ok(Node::File(Content::of(alloc, bytes)?))
+fn put(alloc: Global, text: &[u8], content: &[u8]) -> Result<Effect, Fail> {
+    Ok(Effect::Put(path(alloc, text)?, Content::of(alloc, content)?))
 }
 
 /// The words of a line, cut at its spaces.
@@ -24,41 +31,44 @@ fn words(alloc: Global, line: &[u8]) -> Result<Words, Fail> {
     Ok(words)
 }
 
-fn rows(alloc: Global, texts: &[&[u8]]) -> Result<RawRows, Fail> {
-    let mut rows = RawRows::new(alloc);
-    for text in texts {
-        let path = Content::of(alloc, text)?;
-        rows.push(RawRow {
-            path,
-            node: Node::Folder,
-        })?;
+fn command(alloc: Global, line: &[u8], cwd: &[u8]) -> Result<Command, Fail>
+    ensures { IfOk result IsCommand }
+{
+    let cwd = path(alloc, cwd)?;
+    let words = words(alloc, line)?;
+    let captured = capture(alloc, &words, &cwd);
+    drop(words);
+    drop(cwd);
+    match captured {
+        Ok(command) => Ok(command),
+        Err(_refused) => Err(Fail::from("no command")),
     }
-    Ok(rows)
 }
 
-fn command(alloc: Global, line: &[u8], cwd: &[u8]) -> Result<Command, Fail> {
-    Ok(capture(alloc, &words(alloc, line)?, &path(alloc, cwd)?)?)
+fn apply(tree: &mut Tree, effect: Effect) -> Result<(), Fail> {
+    let applied = tree.apply(&effect);
+    drop(effect);
+    match applied {
+        Ok(undo) => {
+            drop(undo);
+            Ok(())
+        }
+        Err(refused) => {
+            drop(refused);
+            Err(Fail::from("refused"))
+        }
+    }
 }
 
-/// d, d/x with a file, and another path with a file.
-fn tree(alloc: Global, other: &[u8]) -> Result<Tree, Fail> {
-    let mut tree = Tree::new(alloc);
-    let _ = tree
-        .apply(&Effect::Make(path(alloc, b"d")?))
-        .ok()
-        .ok_or("refused")?;
-    for (text, content) in [
-        (b"d/x".as_slice(), b"1".as_slice()),
-        (other, b"2".as_slice()),
-    ] {
-        let put = Effect::Put(path(alloc, text)?, Content::of(alloc, content)?);
-        let _ = tree.apply(&put).ok().ok_or("refused")?;
-    }
-    Ok(tree)
+/// Makes d, d/x with a file, and another path with a file.
+fn fill(alloc: Global, tree: &mut Tree, other: &[u8]) -> Result<(), Fail> {
+    apply(tree, Effect::Make(path(alloc, b"d")?))?;
+    apply(tree, put(alloc, b"d/x", b"1")?)?;
+    apply(tree, put(alloc, other, b"2")?)
 }
 
 /// The texts of the job's paths, each with a line end.
-fn paths(alloc: Global, job: &cmd_capture::Job) -> Result<Vec<u8>, Fail> {
+fn paths(alloc: Global, job: &Job) -> Result<Vec<u8>, Fail> {
     let mut texts = Vec::new(alloc);
     for row in job.rows.as_slice() {
         texts.extend_from_slice(row.path.text()?.bytes())?;
@@ -67,106 +77,228 @@ fn paths(alloc: Global, job: &cmd_capture::Job) -> Result<Vec<u8>, Fail> {
     Ok(texts)
 }
 
+/// The paths of a command's job in a tree, or why it has none.
+fn told(alloc: Global, tree: &Tree, line: &[u8], cwd: &[u8]) -> Result<Vec<u8>, Fail> {
+    let command = command(alloc, line, cwd)?;
+    let job = job_of(alloc, tree, &command);
+    drop(command);
+    match job {
+        Ok(job) => {
+            let texts = paths(alloc, &job);
+            drop(job);
+            texts
+        }
+        Err(JobError::NoFolder(folder)) => {
+            let text = folder.text();
+            drop(folder);
+            Ok(text?.bytes().to_vec(alloc)?)
+        }
+        Err(JobError::NoInput(i)) => Ok(
+            format!(in alloc; "no input {i}")?.as_bytes().to_vec(alloc)?,
+        ),
+        Err(JobError::Memory) => Err(Fail::from("memory")),
+    }
+}
+
+/// The tree with d, d/x with a file, and another path with a file.
+fn filled(alloc: Global, other: &[u8]) -> Result<Tree, Fail> {
+    let mut tree = Tree::new(alloc);
+    match fill(alloc, &mut tree, other) {
+        Ok(()) => Ok(tree),
+        Err(error) => {
+            drop(tree);
+            Err(error)
+        }
+    }
+}
+
+/// Whether a job of a tree with d, d/x and e is told by this text.
+fn is_told(alloc: Global, line: &[u8], cwd: &[u8], text: &[u8]) -> Result<bool, Fail> {
+    let tree = filled(alloc, b"e")?;
+    let job = told(alloc, &tree, line, cwd);
+    drop(tree);
+    Ok(job?.as_slice() == text)
+}
+
 #[test]
 fn a_job_has_the_folder_its_inputs_and_what_lies_above(rt: HostRuntime) -> Result<(), Fail> {
     let alloc = rt.alloc();
-    let tree = tree(alloc, b"e")?;
-    let job = job_of(alloc, &tree, &command(alloc, b"-- /b", b"d")?)
-        .ok()
-        .ok_or("no job")?;
-    assert_eq!(rt; paths(alloc, &job)?.as_slice(), b"d\nd/x\n".as_slice());
-    let job = job_of(alloc, &tree, &command(alloc, b"in=/e -- /b", b"d")?)
-        .ok()
-        .ok_or("no job")?;
-    assert_eq!(rt; paths(alloc, &job)?.as_slice(), b"d\ne\n".as_slice());
-    assert!(rt;
-        matches!(
-            job_of(alloc, &tree, &command(alloc, b"in=/f -- /b", b"d")?),
-            Err(JobError::NoInput(0))
-        )
-    );
-    let g = path(alloc, b"g")?;
-    assert!(rt;
-        matches!(
-            job_of(alloc, &tree, &command(alloc, b"-- /b", b"g")?),
-            Err(JobError::NoFolder(p)) if p == g
-        )
-    );
+    assert!(rt; is_told(alloc, b"-- /b", b"d", b"d\nd/x\n")?);
+    assert!(rt; is_told(alloc, b"in=/e -- /b", b"d", b"d\ne\n")?);
+    assert!(rt; is_told(alloc, b"in=/f -- /b", b"d", b"no input 0")?);
+    assert!(rt; is_told(alloc, b"-- /b", b"g", b"g")?);
     Ok(())
+}
+
+fn raw(alloc: Global, text: &[u8], content: Option<&[u8]>) -> Result<RawRow, Fail> {
+    let path = Content::of(alloc, text)?;
+    let node = match content {
+        None => Node::Folder,
+        Some(bytes) => Node::File(Content::of(alloc, bytes)?),
+    };
+    Ok(RawRow { path, node })
+}
+
+/// Two rows of folders, and the first of them that is odd.
+fn odd_row(alloc: Global, first: &[u8], second: &[u8]) -> Result<Option<u32>, Fail> {
+    let mut raws = RawRows::new(alloc);
+    raws.push(raw(alloc, first, None)?)?;
+    raws.push(raw(alloc, second, None)?)?;
+    let rows = rows_of(alloc, &raws);
+    drop(raws);
+    match rows {
+        Ok(rows) => {
+            drop(rows);
+            Ok(None)
+        }
+        Err(RowsFault::OddTree(i)) => Ok(Some(i)),
+        Err(RowsFault::Memory) => Err(Fail::from("memory")),
+    }
 }
 
 #[test]
 fn refuses_odd_rows(rt: HostRuntime) -> Result<(), Fail> {
     let alloc = rt.alloc();
-    assert!(rt;
-        matches!(
-            rows_of(alloc, &rows(alloc, &[b"a".as_slice(), b"..".as_slice()])?),
-            Err(RowsFault::OddTree(1))
-        )
-    );
-    assert!(rt;
-        matches!(
-            rows_of(alloc, &rows(alloc, &[b"a".as_slice(), b"a".as_slice()])?),
-            Err(RowsFault::OddTree(1))
-        )
-    );
-    assert!(rt;
-        matches!(
-            rows_of(alloc, &rows(alloc, &[b"b".as_slice(), b"a".as_slice()])?),
-            Err(RowsFault::OddTree(1))
-        )
-    );
-    assert!(rt; rows_of(alloc, &rows(alloc, &[b"a".as_slice(), b"a/b".as_slice()])?).is_ok());
+    assert_eq!(rt; odd_row(alloc, b"a", b"..")?, Some(1));
+    assert_eq!(rt; odd_row(alloc, b"a", b"a")?, Some(1));
+    assert_eq!(rt; odd_row(alloc, b"b", b"a")?, Some(1));
+    assert_eq!(rt; odd_row(alloc, b"a", b"a/b")?, None);
     Ok(())
+}
+
+/// The rows of a job that these are.
+fn legal(alloc: Global, raws: RawRows) -> Result<JobRows, Fail>
+    ensures { IfOk result AreJobRows }
+{
+    let rows = rows_of(alloc, &raws);
+    drop(raws);
+    match rows {
+        Ok(rows) => Ok(rows),
+        Err(_fault) => Err(Fail::from("odd rows")),
+    }
+}
+
+/// The folder d with a file.
+fn a_folder(alloc: Global) -> Result<JobRows, Fail>
+    ensures { IfOk result AreJobRows }
+{
+    let mut raws = RawRows::new(alloc);
+    raws.push(raw(alloc, b"d", None)?)?;
+    raws.push(raw(alloc, b"d/x", Some(b"1"))?)?;
+    legal(alloc, raws)
+}
+
+/// The file d.
+fn a_file(alloc: Global) -> Result<JobRows, Fail>
+    ensures { IfOk result AreJobRows }
+{
+    let mut raws = RawRows::new(alloc);
+    raws.push(raw(alloc, b"d", Some(b"2"))?)?;
+    legal(alloc, raws)
+}
+
+/// What an effect is, as a letter and the names of its path.
+fn shape(effect: Option<&Effect>) -> (u8, u32) {
+    match effect {
+        None => (b'-', 0),
+        Some(Effect::Make(path)) => (b'm', path.depth()),
+        Some(Effect::Put(path, _content)) => (b'p', path.depth()),
+        Some(Effect::Remove(path)) => (b'r', path.depth()),
+        Some(Effect::Move(_from, to)) => (b'v', to.depth()),
+    }
+}
+
+/// The shapes of the first four changes from a folder with a file to a file.
+fn shapes(alloc: Global) -> Result<[(u8, u32); 4], Fail> {
+    let before = a_folder(alloc)?;
+    let after = a_file(alloc)?;
+    let list = changes(alloc, &before, &after);
+    drop(before);
+    drop(after);
+    let list = list?;
+    let shapes = [
+        shape(list.get(0)),
+        shape(list.get(1)),
+        shape(list.get(2)),
+        shape(list.get(3)),
+    ];
+    drop(list);
+    Ok(shapes)
+}
+
+/// How many changes there are from a folder to itself.
+fn unchanged(alloc: Global) -> Result<usize, Fail> {
+    let rows = a_folder(alloc)?;
+    let list = changes(alloc, &rows, &rows);
+    drop(rows);
+    let list = list?;
+    let count = list.len();
+    drop(list);
+    Ok(count)
 }
 
 #[test]
 fn changes_kinds(rt: HostRuntime) -> Result<(), Fail> {
     let alloc = rt.alloc();
-    let mut before = JobRows::new(alloc);
-    before.push(JobRow {
-        path: path(alloc, b"d")?,
-        node: Node::Folder,
-    })?;
-    before.push(JobRow {
-        path: path(alloc, b"d/x")?,
-        node: file(alloc, b"1")?,
-    })?;
-    let mut after = JobRows::new(alloc);
-    after.push(JobRow {
-        path: path(alloc, b"d")?,
-        node: file(alloc, b"2")?,
-    })?;
-    let list = changes(alloc, &before, &after)?;
-    assert_eq!(rt; list.len(), 3);
-    assert!(rt; matches!(list.get(0), Some(Effect::Remove(x)) if x.depth() == 2));
-    assert!(rt; matches!(list.get(1), Some(Effect::Remove(d)) if d.depth() == 1));
-    assert!(rt; matches!(list.get(2), Some(Effect::Put(_, two)) if two.bytes() == b"2".as_slice()));
-    assert_eq!(rt; changes(alloc, &before, &before)?.len(), 0);
+    let shapes = shapes(alloc)?;
+    assert_eq!(rt; shapes[0], (b'r', 2));
+    assert_eq!(rt; shapes[1], (b'r', 1));
+    assert_eq!(rt; shapes[2], (b'p', 1));
+    assert_eq!(rt; shapes[3], (b'-', 0));
+    assert_eq!(rt; unchanged(alloc)?, 0);
     Ok(())
+}
+
+/// The first of the effects that clashes with a tree and the job that is d/x in it.
+fn clash_in(alloc: Global, tree: &Tree, effects: &Effects) -> Result<Option<u32>, Fail> {
+    let command = command(alloc, b"in=d/x -- /b", b"")?;
+    let job = job_of(alloc, tree, &command);
+    drop(command);
+    match job {
+        Ok(job) => {
+            let found = clash(tree, &job, effects);
+            drop(job);
+            Ok(found)
+        }
+        Err(refused) => {
+            drop(refused);
+            Err(Fail::from("no job"))
+        }
+    }
+}
+
+/// The first of the effects that clashes with a tree with d, d/x and d/y.
+fn clash_of(alloc: Global, effects: &Effects) -> Result<Option<u32>, Fail> {
+    let tree = filled(alloc, b"d/y")?;
+    let found = clash_in(alloc, &tree, effects);
+    drop(tree);
+    found
+}
+
+/// The first of two effects that clashes.
+fn first_of(alloc: Global, first: Effect, second: Effect) -> Result<Option<u32>, Fail> {
+    let mut effects = Effects::new(alloc);
+    let pushed = effects.push(first);
+    let also = effects.push(second);
+    let found = clash_of(alloc, &effects);
+    drop(effects);
+    let found = found?;
+    pushed?;
+    also?;
+    Ok(found)
 }
 
 #[test]
 fn finds_clashes(rt: HostRuntime) -> Result<(), Fail> {
     let alloc = rt.alloc();
-    let tree = tree(alloc, b"d/y")?;
-    let (d, x, y) = (
-        path(alloc, b"d")?,
-        path(alloc, b"d/x")?,
-        path(alloc, b"d/y")?,
+    let removals = (
+        Effect::Remove(path(alloc, b"d/x")?),
+        Effect::Remove(path(alloc, b"d")?),
     );
-    let job = job_of(alloc, &tree, &command(alloc, b"in=d/x -- /b", b"")?)
-        .ok()
-        .ok_or("no job")?;
-    assert_eq!(rt; paths(alloc, &job)?.as_slice(), b"d\nd/x\n".as_slice());
-    let mut effects = Effects::new(alloc);
-    effects.push(Effect::Remove(x.copy()?))?;
-    effects.push(Effect::Remove(d))?;
-    assert_eq!(rt; clash(&tree, &job, &effects), Some(1));
-    let mut effects = Effects::new(alloc);
-    effects.push(Effect::Put(x, Content::of(alloc, b"3")?))?;
-    assert_eq!(rt; clash(&tree, &job, &effects), None);
-    effects.push(Effect::Put(y, Content::of(alloc, b"3")?))?;
-    assert_eq!(rt; clash(&tree, &job, &effects), Some(1));
+    assert_eq!(rt; first_of(alloc, removals.0, removals.1)?, Some(1));
+    let puts = (put(alloc, b"d/x", b"3")?, put(alloc, b"d/z", b"3")?);
+    assert_eq!(rt; first_of(alloc, puts.0, puts.1)?, None);
+    let puts = (put(alloc, b"d/x", b"3")?, put(alloc, b"d/y", b"3")?);
+    assert_eq!(rt; first_of(alloc, puts.0, puts.1)?, Some(1));
     Ok(())
 }
