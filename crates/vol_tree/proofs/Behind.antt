@@ -12,18 +12,19 @@ use Rattle.std.specs.declared.cmp.Ordering.{Ordering}
 use Rattle.std.specs.declared.cmp.Ordering.TheVariants.{Less, Equal, Greater}
 use Rattle.std.specs.Ordering.{ordering_reverse, is_lt, is_eq}
 use Rattle.vol_tree.specs.Inside.{is_at}
-use Rattle.vol_tree.specs.Path.{path_cmp, FilePath, is_same_path}
-use Rattle.vol_tree.specs.Refusals.{unless_refused}
-use Rattle.vol_tree.specs.declared.tree.Node.{Node}
-use Rattle.vol_tree.specs.declared.tree.Row.{Row}
-use Rattle.vol_tree.specs.declared.tree.Effect.{Effect}
-use Rattle.vol_tree.specs.declared.tree.Effect.TheVariants.{Make, Put, Remove, Move}
-use Rattle.vol_tree.specs.declared.tree.TreeError.{TreeError}
+use Rattle.file_paths.specs.Path.{path_cmp, FilePath, is_same_path}
+use Rattle.file_paths.specs.Refusals.{unless_refused}
+use Rattle.vol_tree.specs.declared.node.Node.{Node}
+use Rattle.vol_tree.specs.declared.node.Row.{Row}
+use Rattle.vol_tree.specs.declared.node.Effect.{Effect}
+use Rattle.vol_tree.specs.declared.node.Effect.TheVariants.{Make, Put, Remove, Move}
+use Rattle.vol_tree.specs.declared.node.TreeError.{TreeError}
 use Rattle.vol_tree.specs.Tree.{AreInOrder, IsRow, IsTree, row_at, version_at, node_at, with_row, touched, refusals, changed, apply, touched_paths, IsLegalEffect, Volume}
 use Rattle.vol_tree.specs.Effects.{changed_all, unless_refused_at, apply_all, touched_all, distinct, base_of, Conflict, first_conflict}
 use Rattle.vol_tree.specs.Behind.{IsBehind, IsAhead, AgreeAt, IsIn}
-use Rattle.vol_tree.proofs.Places.{paths_total, same_path, are_above, after_row}
-use Rattle.vol_tree.proofs.Rows.{same_place, row_at-with_row, is_at_equal}
+use Rattle.file_paths.proofs.Order.{paths_total, same_path, same_place}
+use Rattle.vol_tree.proofs.Places.{are_above, after_row}
+use Rattle.vol_tree.proofs.Rows.{row_at-with_row, is_at_equal}
 use Rattle.vol_tree.proofs.Undoing.{find_passes, find_among}
 use Rattle.vol_tree.proofs.Trees.{row_untouched, changed_is_tree}
 

@@ -5,18 +5,17 @@ use Rattle.std.specs.List.{AllByRecursion}
 use Rattle.std.specs.Option.{option_to_list, option_and_then}
 use Rattle.std.proofs.lemmas.Bool.{cases_eq, eqb-true, eqb-false}
 use Rattle.vol_tree.specs.Inside.{is_at}
-use Rattle.vol_tree.specs.Path.{FilePath}
-use Rattle.vol_tree.specs.declared.tree.Node.{Node}
-use Rattle.vol_tree.specs.declared.tree.Row.{Row}
-use Rattle.vol_tree.specs.Tree.{Volume, AreInOrder, row_at, version_at, node_at, node_size, total_size, rows_below, rows_above, with_row, without_row, touched, kept_row, restored}
+use Rattle.file_paths.specs.Path.{FilePath}
+use Rattle.vol_tree.specs.declared.node.Node.{Node}
+use Rattle.vol_tree.specs.declared.node.Row.{Row}
+use Rattle.vol_tree.specs.Tree.{Volume, AreInOrder, row_at, version_at, node_at, node_size, total_size, rows_below, rows_above, with_row, without_row, touched, kept_row, restored, refusals, changed, apply}
 use Rattle.vol_tree.specs.Arena.{IsCounted, new_rows}
 use Rattle.vol_tree.proofs.Rows.{all_append, all_filter, split_at_path, with_row_in_order, without_row_in_order, size_append, size-with_row, restored_row}
 use Rattle.vol_tree.proofs.Trees.{length-with_row, size_touched, none_refused, not_when}
 use Rattle.std.proofs.Common.{Ok}
 use Rattle.std.specs.Prelude.{nat_lt}
 use Rattle.std.proofs.lemmas.Bool.Decides.{nat_tests}
-use Rattle.vol_tree.specs.declared.tree.Effect.TheVariants.{Put}
-use Rattle.vol_tree.specs.Tree.{refusals, changed, apply}
+use Rattle.vol_tree.specs.declared.node.Effect.TheVariants.{Put}
 use Rattle.vol_tree.proofs.Undoing.{find_among}
 
 length-without_row : (rows : Volume) (p : FilePath) → AreInOrder rows → length (without_row rows p) + length (option_to_list (row_at rows p)) ≡ length rows

@@ -4,12 +4,11 @@ use Rattle.std.specs.List.{fold, list_any}
 use Rattle.std.specs.Str.{bytes_eq}
 use Rattle.std.specs.Cmp.Lexicographic.{pointwise, lists_equiv, nat_list_eq_equiv}
 use Rattle.std.specs.Ordering.{is_eq}
-use Rattle.vol_tree.specs.Path.{FilePath, is_same_path}
-use Rattle.vol_tree.specs.Effects.{distinct}
+use Rattle.file_paths.specs.Path.{FilePath, is_same_path}
+use Rattle.vol_tree.specs.Effects.{distinct, NoneTwice}
 use Rattle.vol_tree.specs.Behind.{IsIn}
-use Rattle.vol_tree.specs.Laws.{NoneTwice}
 use Rattle.vol_tree.specs.Inside.{add_new}
-use Rattle.vol_tree.proofs.Rows.{same_place}
+use Rattle.file_paths.proofs.Order.{same_place}
 use Rattle.vol_tree.proofs.Behind.{is_same_path-eq, same_names}
 
 -- ---- tests of paths

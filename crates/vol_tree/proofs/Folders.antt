@@ -11,13 +11,13 @@ use Rattle.std.proofs.lemmas.List.Elements.{filter-append}
 use Rattle.std.specs.declared.cmp.Ordering.{Ordering}
 use Rattle.std.specs.declared.cmp.Ordering.TheVariants.{Less, Equal, Greater}
 use Rattle.std.specs.Ordering.{ordering_reverse, is_eq}
-use Rattle.vol_tree.specs.Path.{FilePath, path_cmp, is_same_path, folder_of, last_name}
-use Rattle.vol_tree.specs.declared.tree.Node.{Node}
-use Rattle.vol_tree.specs.declared.tree.Row.{Row}
+use Rattle.file_paths.specs.Path.{FilePath, path_cmp, is_same_path, folder_of, last_name}
+use Rattle.vol_tree.specs.declared.node.Node.{Node}
+use Rattle.vol_tree.specs.declared.node.Row.{Row}
 use Rattle.vol_tree.specs.Tree.{Volume, is_child, is_root, children}
 use Rattle.vol_tree.specs.Arena.{Place, Places, place, name_cmp, child_named, slot_of, own_row, rows_from, rows_of, standing, AreAscending, AreLinked, IsArena}
-use Rattle.vol_tree.proofs.Places.{paths_total, same_path}
-use Rattle.vol_tree.proofs.Rows.{all_map, all_append, filter_none, same_place}
+use Rattle.file_paths.proofs.Order.{paths_total, same_path, same_place}
+use Rattle.vol_tree.proofs.Rows.{all_map, all_append, filter_none}
 use Rattle.vol_tree.proofs.Trees.{above_itself}
 use Rattle.vol_tree.proofs.Slots.{same_name, names_total, child_has_name}
 use Rattle.vol_tree.proofs.Walk.{Extends, extends, rows_in, cmp_apart, cmp_longer, own_all}

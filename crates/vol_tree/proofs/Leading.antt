@@ -4,7 +4,7 @@ use Rattle.std.specs.List.{AllByRecursion}
 use Rattle.std.specs.Option.{option_and_then}
 use Rattle.std.proofs.lemmas.Bool.{cases_eq, eqb-true}
 use Rattle.std.proofs.lemmas.List.{append-nil}
-use Rattle.vol_tree.specs.Path.{FilePath}
+use Rattle.file_paths.specs.Path.{FilePath}
 use Rattle.vol_tree.specs.Tree.{row_at}
 use Rattle.vol_tree.specs.Arena.{Place, Places, place, child_named, slot_of, own_row, rows_of, IsArena, IsIdle, AreUsed, LeadsToRow, SlotsLeadToRows}
 use Rattle.vol_tree.proofs.Walk.{same_itself, one_found}

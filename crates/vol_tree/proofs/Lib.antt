@@ -1,4 +1,3 @@
-pub mod PathLemmas
 pub mod Places
 pub mod Rows
 pub mod Undoing
@@ -10,15 +9,8 @@ pub mod Appending
 pub mod Steps
 pub mod Distinct
 pub mod Touching
-pub mod PathTexts
-pub mod Fronts
-pub mod Parts
 pub mod Sizes
 pub mod RowsTaken
-pub mod CutParts
-pub mod Breaking
-pub mod Few
-pub mod Loops
 pub mod Slots
 pub mod Walk
 pub mod Links

@@ -9,13 +9,12 @@ use Rattle.std.proofs.lemmas.List.Folds.{find-append}
 use Rattle.std.specs.declared.cmp.Ordering.{Ordering}
 use Rattle.std.specs.declared.cmp.Ordering.TheVariants.{Less, Equal, Greater}
 use Rattle.std.specs.Ordering.{is_eq}
-use Rattle.vol_tree.specs.Path.{FilePath, IsPath, path_cmp}
-use Rattle.vol_tree.specs.declared.tree.Node.{Node}
-use Rattle.vol_tree.specs.declared.tree.Row.{Row}
+use Rattle.file_paths.specs.Path.{FilePath, IsPath, path_cmp}
+use Rattle.vol_tree.specs.declared.node.Node.{Node}
+use Rattle.vol_tree.specs.declared.node.Row.{Row}
 use Rattle.vol_tree.specs.Tree.{Volume, AreInOrder, row_at, with_row, without_row}
 use Rattle.vol_tree.specs.Arena.{Place, Places, no_place, place, name_cmp, child_named, slot_of, own_row, rows_of, AreAscending, AreLinked, IsArena, Grows}
-use Rattle.vol_tree.proofs.Places.{same_path}
-use Rattle.vol_tree.proofs.Rows.{same_place}
+use Rattle.file_paths.proofs.Order.{same_path, same_place}
 use Rattle.vol_tree.proofs.Slots.{same_name}
 use Rattle.vol_tree.proofs.Walk.{row_of, found_row, rows_in_order, same_itself}
 

@@ -7,8 +7,8 @@ use Rattle.std.proofs.lemmas.Cmp.{tied_itself}
 use Rattle.std.specs.declared.cmp.Ordering.{Ordering}
 use Rattle.std.specs.declared.cmp.Ordering.TheVariants.{Less, Equal, Greater}
 use Rattle.std.specs.Ordering.{is_lt, is_gt, is_eq}
-use Rattle.vol_tree.specs.Path.{FilePath, IsPath, path_cmp}
-use Rattle.vol_tree.specs.declared.tree.Row.{Row}
+use Rattle.file_paths.specs.Path.{FilePath, IsPath, path_cmp}
+use Rattle.vol_tree.specs.declared.node.Row.{Row}
 use Rattle.std.proofs.Common.{drop, drop-cons}
 use Rattle.vol_tree.specs.Inside.{is_at}
 use Rattle.vol_tree.specs.Tree.{Volume, AreInOrder, IsTree, IsRow, is_root, node_size, total_size, with_row, rows_below, rows_above, row_at}

@@ -8,8 +8,8 @@ use Rattle.std.proofs.lemmas.List.{length-set, get_or-set_same, get_or-set_other
 use Rattle.std.proofs.lemmas.List.Edits.{length-insert, length-remove}
 use Rattle.std.proofs.lemmas.List.Sums.{sum_by-set, sum_by-append}
 use Rattle.std.specs.declared.cmp.Ordering.TheVariants.{Less, Equal}
-use Rattle.vol_tree.specs.Path.{FilePath}
-use Rattle.vol_tree.specs.declared.tree.Node.{Node}
+use Rattle.file_paths.specs.Path.{FilePath}
+use Rattle.vol_tree.specs.declared.node.Node.{Node}
 use Rattle.vol_tree.specs.Arena.{Place, Places, no_place, place, name_cmp, child_named, slot_of, AreAscending, AreLinked, AreDistinct, IsFree, IsPool, IsArena, IsEntered, rows_of, linked, written, Pads, Grows}
 use Rattle.vol_tree.proofs.Walk.{same_itself}
 use Rattle.vol_tree.proofs.Slots.{read_place}

@@ -10,10 +10,11 @@ use Rattle.std.specs.declared.cmp.Ordering.{Ordering}
 use Rattle.std.specs.declared.cmp.Ordering.TheVariants.{Less, Equal, Greater}
 use Rattle.std.specs.Ordering.{ordering_reverse, is_lt, is_eq, is_gt}
 use Rattle.vol_tree.specs.Inside.{is_at}
-use Rattle.vol_tree.specs.Path.{path_cmp}
-use Rattle.vol_tree.specs.declared.tree.Row.{Row}
+use Rattle.file_paths.specs.Path.{path_cmp}
+use Rattle.vol_tree.specs.declared.node.Row.{Row}
 use Rattle.vol_tree.specs.Tree.{AreInOrder, row_at, rows_below, rows_above, with_row, without_row, restored, total_size, node_size, node_at}
-use Rattle.vol_tree.proofs.Places.{paths_total, same_path, are_above, after_row}
+use Rattle.file_paths.proofs.Order.{paths_total, same_path}
+use Rattle.vol_tree.proofs.Places.{are_above, after_row}
 
 -- ---- facts of each row
 

@@ -9,12 +9,13 @@ use Rattle.std.specs.declared.cmp.Ordering.{Ordering}
 use Rattle.std.specs.declared.cmp.Ordering.TheVariants.{Less}
 use Rattle.byte_fields.specs.Field.{ruled, number_at}
 use Rattle.byte_fields.proofs.Codec.{bind_ok, kept_ok, ok_is}
-use Rattle.vol_tree.specs.Path.{FilePath, path_cmp, folder_of}
-use Rattle.vol_tree.specs.declared.tree.Row.{Row}
+use Rattle.file_paths.specs.Path.{FilePath, path_cmp, folder_of}
+use Rattle.vol_tree.specs.declared.node.Row.{Row}
 use Rattle.vol_tree.specs.Tree.{Volume, AreInOrder, is_root, is_folder, node_size}
-use Rattle.vol_tree.specs.Reading.{path_at, may_stand, standing_at, room_beside, next_row_at}
-use Rattle.vol_tree.proofs.Places.{paths_total}
-use Rattle.vol_tree.proofs.Rows.{order_join, same_place, is_less, size_append}
+use Rattle.file_paths.specs.Reading.{path_at}
+use Rattle.vol_tree.specs.Reading.{may_stand, standing_at, room_beside, next_row_at}
+use Rattle.file_paths.proofs.Order.{paths_total, same_place, is_less}
+use Rattle.vol_tree.proofs.Rows.{order_join, size_append}
 
 -- a row that was read may stand there
 next_stands : (before : Volume) (bytes : List ℕ) (at : ℕ) (r : Row) (next : ℕ) → next_row_at before bytes at ≡ Ok (r, next) → may_stand before r.path ≡ true

@@ -10,8 +10,8 @@ use Rattle.std.proofs.lemmas.List.Edits.{length-remove, get_or-remove_below, get
 use Rattle.std.proofs.lemmas.List.Folds.{find-append}
 use Rattle.std.specs.declared.cmp.Ordering.TheVariants.{Less, Equal, Greater}
 use Rattle.std.specs.Ordering.{ordering_reverse, is_eq}
-use Rattle.vol_tree.specs.Path.{FilePath, IsPath}
-use Rattle.vol_tree.specs.declared.tree.Row.{Row}
+use Rattle.file_paths.specs.Path.{FilePath, IsPath}
+use Rattle.vol_tree.specs.declared.node.Row.{Row}
 use Rattle.vol_tree.specs.Tree.{Volume, row_at}
 use Rattle.vol_tree.specs.Arena.{Place, Places, no_place, place, name_cmp, child_named, slot_of, own_row, rows_of, AreAscending, AreLinked, IsArena, IsFound, Shrinks}
 use Rattle.vol_tree.proofs.Slots.{read_place, names_total, same_name, name_at, ascending_at, none_at}

@@ -4,17 +4,18 @@ use Rattle.std.specs.List.{flat_map, sum_by, AllByRecursion}
 use Rattle.std.specs.Int.{w16, w32, w64}
 use Rattle.std.proofs.lemmas.List.Concat.{flat_map-cons}
 use Rattle.std.proofs.lemmas.List.Sums.{sum_by-cons}
-use Rattle.vol_tree.specs.Path.{FilePath, IsPath, path_text}
+use Rattle.file_paths.specs.Path.{FilePath, IsPath, path_text}
 use Rattle.vol_tree.specs.Tree.{Volume, IsRow, IsTree, node_size, total_size}
 use Rattle.vol_tree.specs.Effects.{content_size}
-use Rattle.vol_tree.specs.declared.tree.Effect.{Effect}
-use Rattle.vol_tree.specs.declared.tree.Effect.TheVariants.{Make, Put, Remove, Move}
-use Rattle.vol_tree.specs.declared.tree.Base.{Base}
-use Rattle.vol_tree.specs.declared.tree.Row.{Row}
-use Rattle.vol_tree.specs.declared.tree.Node.{Node}
-use Rattle.vol_tree.specs.declared.tree.Node.TheVariants.{Folder, File}
+use Rattle.vol_tree.specs.declared.node.Effect.{Effect}
+use Rattle.vol_tree.specs.declared.node.Effect.TheVariants.{Make, Put, Remove, Move}
+use Rattle.vol_tree.specs.declared.node.Base.{Base}
+use Rattle.vol_tree.specs.declared.node.Row.{Row}
+use Rattle.vol_tree.specs.declared.node.Node.{Node}
+use Rattle.vol_tree.specs.declared.node.Node.TheVariants.{Folder, File}
 use Rattle.byte_fields.specs.Field.{digits}
-use Rattle.vol_tree.specs.Spelling.{path, content, effect, effects, base, bases, node, row, rows, EffectFits, EffectsFit, BaseFits}
+use Rattle.file_paths.specs.Spelling.{path, content}
+use Rattle.vol_tree.specs.Spelling.{effect, effects, base, bases, node, row, rows, EffectFits, EffectsFit, BaseFits}
 
 -- ---- exactly
 

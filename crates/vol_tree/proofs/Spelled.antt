@@ -5,8 +5,8 @@ use Rattle.std.specs.Option.{option_to_list}
 use Rattle.std.proofs.lemmas.List.{append_assoc, take_all, take_more, flat_map_more}
 use Rattle.std.proofs.lemmas.List.Concat.{flat_map-cons}
 use Rattle.std.proofs.lemmas.Grind.{flat_map-append}
-use Rattle.vol_tree.specs.Path.{FilePath}
-use Rattle.vol_tree.specs.declared.tree.Row.{Row}
+use Rattle.file_paths.specs.Path.{FilePath}
+use Rattle.vol_tree.specs.declared.node.Row.{Row}
 use Rattle.vol_tree.specs.Tree.{Volume, IsRow, node_size}
 use Rattle.vol_tree.specs.Spelling.{row as spelled_row}
 use Rattle.vol_tree.specs.Arena.{Place, Places, place, own_row, rows_from}

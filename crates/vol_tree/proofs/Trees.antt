@@ -9,20 +9,20 @@ use Rattle.std.proofs.lemmas.Bool.Decides.{nat_tests}
 use Rattle.std.specs.declared.cmp.Ordering.{Ordering}
 use Rattle.std.specs.declared.cmp.Ordering.TheVariants.{Less, Equal, Greater}
 use Rattle.vol_tree.specs.Inside.{is_at}
-use Rattle.vol_tree.specs.Path.{path_cmp, folder_of, IsPath, is_same_path}
-use Rattle.vol_tree.specs.Refusals.{when, unless_refused}
-use Rattle.vol_tree.specs.declared.tree.Node.{Node}
-use Rattle.vol_tree.specs.declared.tree.Node.TheVariants.{Folder, File}
-use Rattle.vol_tree.specs.declared.tree.Row.{Row}
-use Rattle.vol_tree.specs.declared.tree.Effect.{Effect}
-use Rattle.vol_tree.specs.declared.tree.Effect.TheVariants.{Make, Put, Remove, Move}
+use Rattle.file_paths.specs.Path.{path_cmp, folder_of, IsPath, is_same_path}
+use Rattle.file_paths.specs.Refusals.{when, unless_refused}
+use Rattle.vol_tree.specs.declared.node.Node.{Node}
+use Rattle.vol_tree.specs.declared.node.Node.TheVariants.{Folder, File}
+use Rattle.vol_tree.specs.declared.node.Row.{Row}
+use Rattle.vol_tree.specs.declared.node.Effect.{Effect}
+use Rattle.vol_tree.specs.declared.node.Effect.TheVariants.{Make, Put, Remove, Move}
 use Rattle.vol_tree.specs.Tree.{AreInOrder, IsRow, IsTree, row_at, node_at, version_at, is_root, is_folder, is_folder_node, node_size, total_size, has_no_room, is_at_top, size_with, is_child, rows_below, rows_above, with_row, touched, touched_paths, kept_row, kept_rows, restored, undone, CanUndo, refusals, changed, apply, IsLegalEffect}
-use Rattle.vol_tree.proofs.Places.{same_path}
-use Rattle.vol_tree.proofs.Rows.{all_append, all_filter, all_map, same_place, split_at_path, with_row_in_order, row_at-with_row, row_at-other, size-with_row, is_at_equal}
+use Rattle.file_paths.proofs.Order.{same_path, same_place}
+use Rattle.vol_tree.proofs.Rows.{all_append, all_filter, all_map, split_at_path, with_row_in_order, row_at-with_row, row_at-other, size-with_row, is_at_equal}
 use Rattle.vol_tree.proofs.Undoing.{undo_touched, find_passes, find_among}
 use Rattle.std.specs.Cmp.Derive.{both_true}
 use Rattle.std.specs.Ordering.{is_eq}
-use Rattle.vol_tree.specs.declared.tree.TreeError.TheVariants.{NotEmpty}
+use Rattle.vol_tree.specs.declared.node.TreeError.TheVariants.{NotEmpty}
 
 -- ---- what is not refused
 

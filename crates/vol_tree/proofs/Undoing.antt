@@ -5,11 +5,12 @@ use Rattle.std.specs.Option.{option_to_list}
 use Rattle.std.proofs.lemmas.List.Elements.{filter-append}
 use Rattle.std.specs.Ordering.{is_lt, is_gt}
 use Rattle.vol_tree.specs.Inside.{is_at}
-use Rattle.vol_tree.specs.Path.{path_cmp}
-use Rattle.vol_tree.specs.declared.tree.Node.{Node}
-use Rattle.vol_tree.specs.declared.tree.Row.{Row}
+use Rattle.file_paths.specs.Path.{path_cmp}
+use Rattle.vol_tree.specs.declared.node.Node.{Node}
+use Rattle.vol_tree.specs.declared.node.Row.{Row}
 use Rattle.vol_tree.specs.Tree.{AreInOrder, row_at, rows_below, rows_above, with_row, without_row, touched, kept_row, restored, version_at}
-use Rattle.vol_tree.proofs.Rows.{all_map, all_below, all_above, same_place, filter_all, filter_none, split_at_path, is_at_equal, restored_row}
+use Rattle.vol_tree.proofs.Rows.{all_map, all_below, all_above, filter_all, filter_none, split_at_path, is_at_equal, restored_row}
+use Rattle.file_paths.proofs.Order.{same_place}
 
 below_with_row : (rows : List Row) (new : Row) → rows_below (with_row rows new) new.path ≡ rows_below rows new.path
 below_with_row rows new =

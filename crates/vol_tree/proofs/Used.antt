@@ -6,8 +6,8 @@ use Rattle.std.specs.Option.{option_and_then}
 use Rattle.std.proofs.lemmas.Bool.{cases_eq}
 use Rattle.std.proofs.lemmas.List.{get_or-set_same, get_or-set_other, take-append-drop, take_more, take_all}
 use Rattle.std.proofs.lemmas.List.Edits.{length-insert}
-use Rattle.vol_tree.specs.Path.{FilePath}
-use Rattle.vol_tree.specs.declared.tree.Node.{Node}
+use Rattle.file_paths.specs.Path.{FilePath}
+use Rattle.vol_tree.specs.declared.node.Node.{Node}
 use Rattle.vol_tree.specs.Arena.{Place, Places, no_place, place, slot_of, AreLinked, IsArena, IsFree, IsPool, IsIdle, AreUsed, IsFound, IsMissing, IsEntered, IsKept, Pads, Grows, Shrinks, written}
 use Rattle.vol_tree.proofs.Slots.{read_place}
 use Rattle.vol_tree.proofs.Links.{SameShape, shape_slot, slot_of-append, one_further}

@@ -11,13 +11,13 @@ use Rattle.std.specs.declared.cmp.Ordering.{Ordering}
 use Rattle.std.specs.declared.cmp.Ordering.TheVariants.{Less, Equal, Greater}
 use Rattle.std.specs.Ordering.{ordering_reverse, is_eq, ordering_then}
 use Rattle.vol_tree.specs.Inside.{is_at}
-use Rattle.vol_tree.specs.Path.{FilePath, path_cmp, is_same_path}
-use Rattle.vol_tree.specs.declared.tree.Row.{Row}
+use Rattle.file_paths.specs.Path.{FilePath, path_cmp, is_same_path}
+use Rattle.vol_tree.specs.declared.node.Row.{Row}
 use Rattle.vol_tree.specs.Tree.{Volume, AreInOrder, row_at, version_at, node_at}
 use Rattle.vol_tree.specs.Arena.{Place, Places, place, name_cmp, child_named, slot_of, own_row, rows_from, rows_of, AreAscending, AreLinked, IsArena}
 use Rattle.vol_tree.proofs.Slots.{names_total, same_name, child_has_name}
-use Rattle.vol_tree.proofs.Places.{paths_total}
-use Rattle.vol_tree.proofs.Rows.{all_append, all_map, find_none, same_place}
+use Rattle.file_paths.proofs.Order.{paths_total, same_place}
+use Rattle.vol_tree.proofs.Rows.{all_append, all_map, find_none}
 
 -- ---- paths below a path
 

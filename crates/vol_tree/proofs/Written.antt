@@ -10,12 +10,12 @@ use Rattle.std.specs.declared.cmp.Ordering.{Ordering}
 use Rattle.std.specs.declared.cmp.Ordering.TheVariants.{Less, Equal, Greater}
 use Rattle.std.specs.Ordering.{is_eq}
 use Rattle.vol_tree.specs.Inside.{is_at}
-use Rattle.vol_tree.specs.Path.{FilePath, path_cmp}
-use Rattle.vol_tree.specs.declared.tree.Node.{Node}
-use Rattle.vol_tree.specs.declared.tree.Row.{Row}
+use Rattle.file_paths.specs.Path.{FilePath, path_cmp}
+use Rattle.vol_tree.specs.declared.node.Node.{Node}
+use Rattle.vol_tree.specs.declared.node.Row.{Row}
 use Rattle.vol_tree.specs.Tree.{Volume, AreInOrder, row_at, rows_below, rows_above, with_row, without_row}
 use Rattle.vol_tree.specs.Arena.{Place, Places, no_place, place, slot_of, own_row, rows_of, IsArena, written}
-use Rattle.vol_tree.proofs.Places.{same_path}
+use Rattle.file_paths.proofs.Order.{same_path}
 use Rattle.vol_tree.proofs.Rows.{all_map, all_below, all_above, find_none, row_at-with_row, row_at-other, with_row_in_order, without_row_in_order}
 use Rattle.vol_tree.proofs.Walk.{row_of, found_row, rows_in_order}
 use Rattle.vol_tree.proofs.Behind.{same_rows}

@@ -1,6 +1,6 @@
 -- How two trees compare by the versions of their paths.
 use Rattle.std.specs.Prelude.{◌≡◌, ◌⊎◌, ◌<◌, ◌≤◌, List, [], ◌∷◌}
-use Rattle.vol_tree.specs.Path.{FilePath}
+use Rattle.file_paths.specs.Path.{FilePath}
 use Rattle.vol_tree.specs.Tree.{Volume, version_at, node_at}
 
 -- At each path the first tree's version is at most the second's, and where they are equal the nodes are.

@@ -1,11 +1,11 @@
 -- Several effects in a row: what they touch, what they come to, and the versions they rest on.
 use Rattle.std.specs.Prelude.{◌≡◌, ℕ, ◌+◌, not, cond, List, [], ◌∷◌, Option, Some, None, Result, Ok, Err, ◌==◌, filter, map, length, ⊤}
 use Rattle.std.specs.List.{flat_map, sum_by}
-use Rattle.vol_tree.specs.Path.{FilePath, is_same_path}
-use Rattle.vol_tree.specs.declared.tree.Base.{Base}
-use Rattle.vol_tree.specs.declared.tree.Effect.{Effect}
-use Rattle.vol_tree.specs.declared.tree.Effect.TheVariants.{Make, Put, Remove, Move}
-use Rattle.vol_tree.specs.declared.tree.TreeError.{TreeError}
+use Rattle.file_paths.specs.Path.{FilePath, is_same_path}
+use Rattle.vol_tree.specs.declared.node.Base.{Base}
+use Rattle.vol_tree.specs.declared.node.Effect.{Effect}
+use Rattle.vol_tree.specs.declared.node.Effect.TheVariants.{Make, Put, Remove, Move}
+use Rattle.vol_tree.specs.declared.node.TreeError.{TreeError}
 use Rattle.vol_tree.specs.declared.effects.ApplyAllError.{ApplyAllError}
 use Rattle.vol_tree.specs.declared.effects.ApplyAllError.TheVariants.{At, Memory}
 use Rattle.vol_tree.specs.Tree.{Volume, version_at, changed, apply, touched_paths}

@@ -4,8 +4,8 @@ use Rattle.std.specs.List.{sum_by, list_all, list_any}
 use Rattle.std.specs.Str.{bytes_eq}
 use Rattle.std.specs.Cmp.Lexicographic.{pointwise}
 use Rattle.std.specs.Ordering.{is_lt}
-use Rattle.vol_tree.specs.Path.{FilePath, path_cmp, is_same_path, folder_of}
-use Rattle.vol_tree.specs.declared.tree.Row.{Row}
+use Rattle.file_paths.specs.Path.{FilePath, path_cmp, is_same_path, folder_of}
+use Rattle.vol_tree.specs.declared.node.Row.{Row}
 use Rattle.vol_tree.specs.Tree.{Volume, row_at, rows_below, rows_above, is_root, is_folder, node_size, total_size, undone, CanUndo}
 
 -- the bytes of the names, with one more for each

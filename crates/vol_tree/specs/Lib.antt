@@ -1,13 +1,9 @@
-pub mod Path
-pub mod Refusals
+pub mod Limits
 pub mod Tree
 pub mod Undos
 pub mod Effects
 pub mod Behind
-pub mod Laws
 pub mod Inside
 pub mod Spelling
 pub mod Reading
-pub mod Fields
-pub mod Broken
 pub mod Arena

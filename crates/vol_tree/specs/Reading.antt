@@ -4,15 +4,15 @@ use Rattle.std.specs.Int.{w16, w32, w64}
 use Rattle.std.specs.List.{list_all}
 use Rattle.std.specs.Ordering.{is_lt}
 use Rattle.byte_fields.specs.Field.{Reader, ◌>>=◌, ruled, mapped, none, tagged_at, span_at, number_at, each_at}
-use Rattle.vol_tree.specs.Path.{FilePath, path_of, path_cmp, is_same_path, folder_of}
+use Rattle.file_paths.specs.Path.{FilePath, path_of, path_cmp, is_same_path, folder_of}
 use Rattle.vol_tree.specs.Tree.{Volume, is_root, is_folder, total_size}
 use Rattle.vol_tree.specs.Effects.{content_size}
-use Rattle.vol_tree.specs.declared.tree.Effect.{Effect}
-use Rattle.vol_tree.specs.declared.tree.Effect.TheVariants.{Make, Put, Remove, Move}
-use Rattle.vol_tree.specs.declared.tree.Base.{Base}
-use Rattle.vol_tree.specs.declared.tree.Row.{Row}
-use Rattle.vol_tree.specs.declared.tree.Node.{Node}
-use Rattle.vol_tree.specs.declared.tree.Node.TheVariants.{Folder, File}
+use Rattle.vol_tree.specs.declared.node.Effect.{Effect}
+use Rattle.vol_tree.specs.declared.node.Effect.TheVariants.{Make, Put, Remove, Move}
+use Rattle.vol_tree.specs.declared.node.Base.{Base}
+use Rattle.vol_tree.specs.declared.node.Row.{Row}
+use Rattle.vol_tree.specs.declared.node.Node.{Node}
+use Rattle.vol_tree.specs.declared.node.Node.TheVariants.{Folder, File}
 
 -- the number of bytes, and a text that spells a path; one that spells none is a fault of the text
 unfoldable pub path_at : Reader FilePath

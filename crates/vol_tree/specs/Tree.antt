@@ -3,17 +3,17 @@ use Rattle.std.specs.Prelude.{◌≡◌, ℕ, ◌+◌, ◌-◌, ◌^◌, ◌<◌
 use Rattle.std.specs.List.{AllByRecursion}
 use Rattle.std.specs.declared.cmp.Ordering.TheVariants.{Less}
 use Rattle.std.specs.Ordering.{is_lt, is_gt}
-use Rattle.vol_tree.specs.Path.{FilePath, IsPath, path_cmp, is_same_path, folder_of, last_name}
-use Rattle.vol_tree.specs.Refusals.{when, unless_refused}
-use Rattle.vol_tree.specs.declared.tree.Node.{Node}
-use Rattle.vol_tree.specs.declared.tree.Node.TheVariants.{Folder, File}
-use Rattle.vol_tree.specs.declared.tree.Row.{Row}
-use Rattle.vol_tree.specs.declared.tree.Effect.{Effect}
-use Rattle.vol_tree.specs.declared.tree.Effect.TheVariants.{Make, Put, Remove, Move}
-use Rattle.vol_tree.specs.declared.tree.TreeError.{TreeError}
-use Rattle.vol_tree.specs.declared.tree.TreeError.TheVariants.{RootFixed, NoParent, Exists, Missing, IsFolder, NotEmpty, RowsFull, FileTooLarge, TreeFull, VersionTop}
-use Rattle.vol_tree.specs.declared.tree.RowsError.{RowsError}
-use Rattle.vol_tree.specs.declared.tree.RowsError.TheVariants.{BadRow, Memory}
+use Rattle.file_paths.specs.Path.{FilePath, IsPath, path_cmp, is_same_path, folder_of, last_name}
+use Rattle.file_paths.specs.Refusals.{when, unless_refused}
+use Rattle.vol_tree.specs.declared.node.Node.{Node}
+use Rattle.vol_tree.specs.declared.node.Node.TheVariants.{Folder, File}
+use Rattle.vol_tree.specs.declared.node.Row.{Row}
+use Rattle.vol_tree.specs.declared.node.Effect.{Effect}
+use Rattle.vol_tree.specs.declared.node.Effect.TheVariants.{Make, Put, Remove, Move}
+use Rattle.vol_tree.specs.declared.node.TreeError.{TreeError}
+use Rattle.vol_tree.specs.declared.node.TreeError.TheVariants.{RootFixed, NoParent, Exists, Missing, IsFolder, NotEmpty, RowsFull, FileTooLarge, TreeFull, VersionTop}
+use Rattle.vol_tree.specs.declared.rows.RowsError.{RowsError}
+use Rattle.vol_tree.specs.declared.rows.RowsError.TheVariants.{BadRow, Memory}
 
 -- a tree, as contracts see it: its rows in the order of their paths
 abbrev pub Volume : Type 0

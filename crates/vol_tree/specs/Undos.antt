@@ -1,6 +1,6 @@
 -- How several effects are undone.
 use Rattle.std.specs.Prelude.{List, [], ◌∷◌, ⊤}
-use Rattle.vol_tree.specs.declared.tree.Row.{Row}
+use Rattle.vol_tree.specs.declared.node.Row.{Row}
 use Rattle.vol_tree.specs.Tree.{Volume, undone, CanUndo}
 
 -- the rows once all is undone, the last first

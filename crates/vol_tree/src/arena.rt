@@ -3,7 +3,7 @@ ghost use Rattle.std.specs.Prelude.{◌≡◌, ◌≢◌, ℕ, ◌+◌, ◌*◌,
 ghost use Rattle.std.specs.Option.{option_copied, option_to_list};
 ghost use Rattle.vol_tree.specs.Tree.{row_at, version_at, node_at, node_size, is_root, is_at_top, touched, kept_row, restored, with_row, children};
 ghost use Rattle.std.specs.List.{insert, remove, flat_map, AllByRecursion};
-ghost use Rattle.vol_tree.specs.Path.{FilePath, IsPath};
+ghost use Rattle.file_paths.specs.Path.{FilePath, IsPath};
 ghost use Rattle.vol_tree.specs.Spelling.{row as spelled_row};
 ghost use Rattle.vol_tree.specs.Arena.{Place, Places, rows_of, rows_from, IsArena, IsPool, AreUsed, SlotsLeadToRows, own_row, written, Pads, Grows, IsEntered, place, slot_of, AreAscending, AreLinked, IsFound, IsMissing, standing as standing_names};
 
@@ -188,7 +188,7 @@ pub(crate) struct Arena {
 
 impl Model for Arena {
     ghost use Rattle.std.specs.Prelude.{List, vec_capacity};
-    ghost use Rattle.vol_tree.specs.declared.tree.Row.{Row};
+    ghost use Rattle.vol_tree.specs.declared.node.Row.{Row};
     ghost use Rattle.vol_tree.specs.Arena.{rows_of, IsKept};
 
     ghost Value = { List Row };

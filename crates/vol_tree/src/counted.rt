@@ -5,9 +5,8 @@ ghost use Rattle.vol_tree.specs.Tree.{AreInOrder, row_at, version_at, node_at, n
 ghost use Rattle.vol_tree.specs.Arena.{IsCounted, new_rows as counted_new};
 
 use crate::arena::Arena;
-use crate::list::TryCopy;
-use crate::path::Path;
-use crate::tree::{Node, Row, size_of};
+use crate::node::{Node, Row, size_of};
+use file_paths::{Path, TryCopy};
 use std::alloc::{AllocError, Global};
 use std::marker::Model;
 
@@ -21,7 +20,7 @@ pub(crate) struct Counted {
 
 impl Model for Counted {
     ghost use Rattle.std.specs.Prelude.{List};
-    ghost use Rattle.vol_tree.specs.declared.tree.Row.{Row};
+    ghost use Rattle.vol_tree.specs.declared.node.Row.{Row};
     ghost use Rattle.vol_tree.specs.Arena.{IsCounted};
 
     ghost Value = { List Row };

@@ -1,4 +1,4 @@
-// Several effects in a row: what they touch, and how they are applied and undone together.
+//! Several effects in a row: what they touch, and how they are applied and undone together.
 ghost use Rattle.std.specs.Prelude.{◌≡◌, ◌≢◌, length, IfOk, IfErr, OnOk, OnErr, Ok, Err};
 ghost use Rattle.std.specs.List.{fold, list_any, AllByRecursion};
 ghost use Rattle.std.specs.Str.{bytes_eq};
@@ -8,10 +8,10 @@ ghost use Rattle.vol_tree.specs.Tree.{touched_paths, apply, IsLegalEffect};
 ghost use Rattle.vol_tree.specs.Effects.{touched_all, distinct, content_size, apply_all as applied_all, IsAllRefusal};
 ghost use Rattle.vol_tree.specs.Undos.{undone_all, CanUndoAll};
 
-use crate::list::{List, TryCopy};
-use crate::path::Path;
-use crate::tree::{Effect, Tree, TreeError, Undo};
-use crate::{Effects, Paths};
+use crate::lists::Effects;
+use crate::node::{Effect, TreeError};
+use crate::tree::{Tree, Undo};
+use file_paths::{Path, Paths};
 use std::alloc::AllocError;
 use thiserror::Error;
 
@@ -25,7 +25,7 @@ pub enum ApplyAllError {
     Memory,
 }
 
-impl List<Effect> {
+impl Effects {
     /// The paths that the effects touch, each once, in the order of their first touch.
     pub fn touched(&self) -> Result<Paths, AllocError>
         ensures { IfOk result (λ paths. paths ≡ distinct (touched_all self.now)) }

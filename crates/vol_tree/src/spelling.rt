@@ -4,48 +4,16 @@ ghost use Rattle.std.specs.Prelude.{◌≡◌, ◌<◌, ◌≤◌, ◌+◌, ◌^
 ghost use Rattle.std.specs.Option.{option_copied};
 ghost use Rattle.vol_tree.specs.Tree.{IsTree, node_size};
 ghost use Rattle.vol_tree.specs.Effects.{content_size};
-ghost use Rattle.vol_tree.specs.Spelling.{path, content, effect, effects, base, bases, node, row, rows, EffectFits, EffectsFit};
-ghost use Rattle.vol_tree.specs.Path.{path_text};
-ghost use Rattle.vol_tree.specs.declared.tree.Row.{Row};
+ghost use Rattle.file_paths.specs.Spelling.{path, content};
+ghost use Rattle.vol_tree.specs.Spelling.{effect, effects, base, bases, node, row, rows, EffectFits, EffectsFit};
+ghost use Rattle.file_paths.specs.Path.{path_text};
+ghost use Rattle.vol_tree.specs.declared.node.Row.{Row};
 
-use crate::content::Content;
-use crate::list::List;
-use crate::path::Path;
-use crate::tree::{Base, Effect, Node, Row};
-use byte_fields::{Spelled, put_each, put_u16, put_u32, put_u64};
+use crate::lists::{Bases, Effects, Rows};
+use crate::node::{Base, Effect, Node, Row};
+use byte_fields::{Spelled, put_each, put_u32, put_u64};
+use file_paths::{Content, MAX_FILE, Path};
 use std::alloc::AllocError;
-
-impl Path {
-    /// Appends the spelling: two bytes for the length of the text, and the text.
-    pub fn spell(value: &Path, out: &mut Vec<u8>) -> Result<(), AllocError>
-        ensures { OnOk result (out.new.items ≡ out.old.items ++ path value.now) }
-    {
-        put_u16(out, value.text_len() as u16)?;
-        value.put_text(out)
-    }
-
-    /// The number of bytes of the spelling.
-    #[tactic(auto, using(crate::proofs::Sizes::path_length))]
-    pub fn size(&self) -> u64
-        ensures value { result ≡ length (path self.now) }
-        ensures bound { result ≤ 1026 }
-    {
-        2 + self.text_len()
-    }
-}
-
-impl Content {
-    /// Appends the spelling: four bytes for the length, and the bytes.
-    pub fn spell(value: &Content, out: &mut Vec<u8>) -> Result<(), AllocError>
-        requires { length value.now ≤ 8388608 }
-        ensures { OnOk result (out.new.items ≡ out.old.items ++ content value.now) }
-    {
-        let bytes = value.bytes();
-        put_u32(out, bytes.len() as u32)?;
-        out.extend_from_slice(bytes)?;
-        Ok(())
-    }
-}
 
 impl Effect {
     /// Appends the spelling: a byte for the kind, and the effect's paths and content.
@@ -91,9 +59,9 @@ impl Effect {
     }
 }
 
-impl List<Effect> {
+impl Effects {
     /// Appends the spelling: four bytes for the number of effects, and the effects.
-    pub fn spell(value: &List<Effect>, out: &mut Vec<u8>) -> Result<(), AllocError>
+    pub fn spell(value: &Effects, out: &mut Vec<u8>) -> Result<(), AllocError>
         requires { EffectsFit value.now }
         ensures { OnOk result (out.new.items ≡ out.old.items ++ effects value.now) }
     {
@@ -124,9 +92,9 @@ impl Base {
     }
 }
 
-impl List<Base> {
+impl Bases {
     /// Appends the spelling: four bytes for the number of bases, and the bases.
-    pub fn spell(value: &List<Base>, out: &mut Vec<u8>) -> Result<(), AllocError>
+    pub fn spell(value: &Bases, out: &mut Vec<u8>) -> Result<(), AllocError>
         ensures { OnOk result (out.new.items ≡ out.old.items ++ bases value.now) }
     {
         let items = value.as_slice();
@@ -138,7 +106,7 @@ impl List<Base> {
 
 /// Appends what stands at a path: a byte for its kind, and a file's content.
 fn spell_node(value: Option<&Node>, out: &mut Vec<u8>) -> Result<(), AllocError>
-    requires { node_size (option_copied value) ≤ 8388608 }
+    requires { node_size (option_copied value) ≤ max_file }
     ensures { OnOk result (out.new.items ≡ out.old.items ++ node (option_copied value.entry)) }
 {
     match value {
@@ -159,7 +127,7 @@ pub(crate) fn spell_row(
     node: Option<&Node>,
     out: &mut Vec<u8>,
 ) -> Result<(), AllocError>
-    requires { node_size (option_copied node) ≤ 8388608 }
+    requires { node_size (option_copied node) ≤ max_file }
     ensures { OnOk result (out.new.items ≡ out.old.items ++ row (record { path = path.now; version = version; node = option_copied node.entry })) }
 {
     Path::spell(path, out)?;
@@ -170,16 +138,16 @@ pub(crate) fn spell_row(
 impl Row {
     /// Appends the spelling: the path, eight bytes for the version, and what stands at the path.
     pub fn spell(value: &Row, out: &mut Vec<u8>) -> Result<(), AllocError>
-        requires { node_size value.now.node ≤ 8388608 }
+        requires { node_size value.now.node ≤ max_file }
         ensures { OnOk result (out.new.items ≡ out.old.items ++ row value.now) }
     {
         spell_row(&value.path, value.version, value.node.as_ref(), out)
     }
 }
 
-impl List<Row> {
+impl Rows {
     /// Appends the spelling of a tree's rows: four bytes for their number, and the rows.
-    pub fn spell(value: &List<Row>, out: &mut Vec<u8>) -> Result<(), AllocError>
+    pub fn spell(value: &Rows, out: &mut Vec<u8>) -> Result<(), AllocError>
         requires { IsTree value.now }
         ensures { OnOk result (out.new.items ≡ out.old.items ++ rows value.now) }
     {
@@ -213,7 +181,7 @@ impl Spelled for Base {
 impl Spelled for Row {
     ghost spelling = { row };
 
-    ghost fits = { λ x. node_size x.node ≤ 8388608 };
+    ghost fits = { λ x. node_size x.node ≤ max_file };
 
     fn put(&self, out: &mut Vec<u8>) -> Result<(), AllocError> {
         Row::spell(self, out)

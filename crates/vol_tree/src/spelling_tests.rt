@@ -5,18 +5,6 @@ use std::rt::HostRuntime;
 use std::test::Fail;
 
 #[test]
-fn a_path_is_spelled_and_taken(rt: HostRuntime) -> Result<(), Fail> {
-    let alloc = rt.alloc();
-    let path = Path::read(alloc, b"d/x").ok().ok_or("no path")?;
-    let mut out = Vec::new(alloc);
-    Path::spell(&path, &mut out)?;
-    assert_eq!(rt; out.as_slice(), [0, 3, b'd', b'/', b'x'].as_slice());
-    let (again, next) = Path::take(alloc, out.as_slice(), 0).ok().ok_or("refused")?;
-    assert!(rt; again == path && next == 5);
-    Ok(())
-}
-
-#[test]
 fn bases_are_taken_and_spelled(rt: HostRuntime) -> Result<(), Fail> {
     let alloc = rt.alloc();
     let bytes = [0, 0, 0, 1, 0, 1, b'a', 0, 0, 0, 0, 0, 0, 0, 7];

@@ -3,63 +3,15 @@
 ghost use Rattle.std.specs.Prelude.{◌≡◌, length, ◌≤◌, ◌<◌, ◌^◌, ◌-◌, IfOk};
 ghost use Rattle.byte_fields.specs.Field.{Gives, each_at};
 ghost use Rattle.vol_tree.specs.Tree.{IsTree, total_size};
-ghost use Rattle.vol_tree.specs.Reading.{path_at, content_at, effect_at, make_at, put_at, remove_at, move_at, room_after, effects_at, base_at, first_base_at, others_after, bases_at, may_stand, standing_at, file_at, room_beside, next_row_at, with_next, rows_at};
+ghost use Rattle.file_paths.specs.Reading.{path_at, content_at};
+ghost use Rattle.vol_tree.specs.Reading.{effect_at, make_at, put_at, remove_at, move_at, room_after, effects_at, base_at, first_base_at, others_after, bases_at, may_stand, standing_at, file_at, room_beside, next_row_at, with_next, rows_at};
 
-use crate::content::Content;
-use crate::list::List;
-use crate::path::{Path, PathError};
-use crate::tree::{Base, Effect, Node, Row};
-use crate::{Bases, Effects, Paths, Rows};
-use byte_fields::{Item, TakeError, span_at, take_each, u8_at, u16_at, u32_at, u64_at};
+use crate::limits::{MAX_EFFECTS, MAX_FILES};
+use crate::lists::{Bases, Effects};
+use crate::node::{Base, Effect};
+use byte_fields::{Item, TakeError, take_each, u8_at, u32_at, u64_at};
+use file_paths::{Content, MAX_FILE, Path, Paths};
 use std::alloc::Global;
-
-impl Path {
-    /// Takes the path at the place, and gives the place after it.
-    ///
-    /// Refuses `At` where the bytes end in one of the two fields, or where the text spells no path.
-    #[tactic(auto, unfolding(crate::specs::Reading::path_at, byte_fields::specs::Field::mapped))]
-    pub fn take(alloc: Global, bytes: &[u8], at: usize) -> Result<(Path, usize), TakeError>
-        ensures { Gives result (path_at bytes.now at) }
-    {
-        let (size, start) = u16_at(bytes, at)?;
-        let (text, next) = span_at(bytes, start, size as usize)?;
-        match Path::read(alloc, text) {
-            Ok(path) => Ok((path, next)),
-            Err(PathError::Memory) => Err(TakeError::Memory),
-            Err(_) => Err(TakeError::At(start)),
-        }
-    }
-}
-
-impl Content {
-    /// Takes the content of at most so many bytes at the place, and gives the place after it.
-    ///
-    /// Refuses `At` at a length above the limit before it looks at the content.
-    #[tactic(auto, unfolding(crate::specs::Reading::content_at, byte_fields::specs::Field::ruled))]
-    pub fn take_within(
-        alloc: Global,
-        bytes: &[u8],
-        at: usize,
-        limit: usize,
-    ) -> Result<(Content, usize), TakeError>
-        ensures { Gives result (content_at limit bytes.now at) }
-    {
-        let (size, start) = u32_at(bytes, at)?;
-        let size = size as usize;
-        if size > limit {
-            return Err(TakeError::At(at));
-        }
-        let (content, next) = span_at(bytes, start, size)?;
-        Ok((Content::of(alloc, content)?, next))
-    }
-
-    /// Takes the content of at most 8 MiB at the place, and gives the place after it.
-    pub fn take(alloc: Global, bytes: &[u8], at: usize) -> Result<(Content, usize), TakeError>
-        ensures { Gives result (content_at 8388608 bytes.now at) }
-    {
-        Content::take_within(alloc, bytes, at, 8_388_608)
-    }
-}
 
 #[tactic(auto, unfolding(crate::specs::Reading::make_at))]
 fn make_at(alloc: Global, bytes: &[u8], at: usize) -> Result<(Effect, usize), TakeError>
@@ -74,7 +26,7 @@ fn put_at(alloc: Global, bytes: &[u8], at: usize, room: usize) -> Result<(Effect
     ensures { Gives result (put_at room bytes.now at) }
 {
     let (path, middle) = Path::take(alloc, bytes, at)?;
-    let (content, next) = Content::take_within(alloc, bytes, middle, room.min(8_388_608))?;
+    let (content, next) = Content::take_within(alloc, bytes, middle, room.min(MAX_FILE))?;
     Ok((Effect::Put(path, content), next))
 }
 
@@ -138,7 +90,7 @@ impl Item<usize> for Effect {
     }
 }
 
-impl List<Effect> {
+impl Effects {
     /// Takes the effects at the place, and gives the place after them.
     ///
     /// Refuses `At` also at a count that is not from 1 to 4,096, and at the length with which the contents have more
@@ -148,10 +100,10 @@ impl List<Effect> {
         ensures { Gives result (effects_at bytes.now at) }
     {
         let (count, start) = u32_at(bytes, at)?;
-        if count < 1 || count > 4096 {
+        if count < 1 || count > MAX_EFFECTS as u32 {
             return Err(TakeError::At(at));
         }
-        let (items, next) = take_each::<usize, Effect>(alloc, bytes, start, count, 33_554_432)?;
+        let (items, next) = take_each::<usize, Effect>(alloc, bytes, start, count, MAX_FILES)?;
         Ok((Effects::from_vec(items), next))
     }
 }
@@ -188,7 +140,7 @@ fn bases_from(
     Ok((bases, at))
 }
 
-impl List<Base> {
+impl Bases {
     /// Takes the versions of the touched paths at the place, and gives the place after them.
     ///
     /// Refuses `At` also at a count other than that of the touched paths, and at the first path that is not the

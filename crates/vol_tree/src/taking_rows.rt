@@ -5,15 +5,15 @@ ghost use Rattle.byte_fields.specs.Field.{Gives, each_at};
 ghost use Rattle.vol_tree.specs.Tree.{AreInOrder};
 ghost use Rattle.vol_tree.specs.Reading.{may_stand, standing_at, file_at, room_beside, next_row_at, with_next, rows_at};
 
-use crate::Rows;
-use crate::content::Content;
-use crate::list::List;
-use crate::path::Path;
-use crate::tree::{Node, Row, is_behind, is_folder_at, size_of};
+use crate::limits::{MAX_FILES, MAX_ROWS};
+use crate::lists::Rows;
+use crate::node::{Node, Row, size_of};
+use crate::rows::{is_behind, is_folder_at};
 use byte_fields::{TakeError, u8_at, u32_at, u64_at};
+use file_paths::{Content, MAX_FILE, Path};
 use std::alloc::Global;
 
-impl List<Row> {
+impl Rows {
     /// Takes a tree's rows at the place, and gives the place after them.
     ///
     /// Refuses `At` also at a count above 16,384 and where a row breaks a rule of trees, given the rows before it: at
@@ -24,7 +24,7 @@ impl List<Row> {
         ensures { Gives result (rows_at bytes.now at) }
     {
         let (count, start) = u32_at(bytes, at)?;
-        if count > 16_384 {
+        if count > MAX_ROWS as u32 {
             return Err(TakeError::At(at));
         }
         rows_from(alloc, bytes, start, count)
@@ -42,7 +42,7 @@ fn rows_from(
 {
     let mut rows = Rows::new(alloc);
     let mut at = start;
-    let mut room = 33_554_432;
+    let mut room = MAX_FILES;
     for _ in 0..count {
         let (row, next) = next_row_at(alloc, bytes, at, rows.as_slice(), room)?;
         room = room.saturating_sub(size_of(&row.node) as usize);
@@ -123,6 +123,6 @@ fn file_at(
 ) -> Result<(Option<Node>, usize), TakeError>
     ensures { Gives result (file_at room bytes.now at) }
 {
-    let (content, next) = Content::take_within(alloc, bytes, at, room.min(8_388_608))?;
+    let (content, next) = Content::take_within(alloc, bytes, at, room.min(MAX_FILE))?;
     Ok((Some(Node::File(content)), next))
 }

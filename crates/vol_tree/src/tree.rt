@@ -1,189 +1,25 @@
-// The volume tree, which contracts see as the list of its rows in the order of their paths.
+//! The volume tree, which contracts see as the list of its rows in the order of their paths.
 ghost use Rattle.std.specs.Prelude.{◌≡◌, ◌≢◌, ℕ, ◌+◌, ◌*◌, ◌^◌, ◌<◌, ◌≤◌, List, [], ◌∷◌, ◌++◌, length, Some, None, IfOk, IfErr, OnOk, OnErr, IsTrue, IsSome, is_some, option_map, slice_get, IfSome, IfNone, false, find, ◌-◌, Ok, Err};
 ghost use Rattle.std.specs.List.{list_all};
 ghost use Rattle.std.specs.Ordering.{is_lt};
 ghost use Rattle.std.specs.Option.{option_copied, option_to_list};
 ghost use Rattle.vol_tree.specs.Inside.{StandsAt, BelongsAt, may_follow};
-ghost use Rattle.vol_tree.specs.declared.tree.TreeError.TheVariants.{Memory};
-ghost use Rattle.vol_tree.specs.declared.tree.Row.{Row};
+ghost use Rattle.vol_tree.specs.declared.node.TreeError.TheVariants.{Memory};
+ghost use Rattle.vol_tree.specs.declared.node.Row.{Row};
 ghost use Rattle.vol_tree.specs.Tree.{IsTree, AreInOrder, row_at, version_at, node_at, is_folder, apply, touched, kept_row, restored, undone, CanUndo, changed, kept_rows, is_at_top, has_no_room, is_child, total_size, size_with, node_size, is_folder_node, children, IsRowsRefusal, IsLegalEffect};
-ghost use Rattle.vol_tree.specs.Path.{IsPath, folder_of, path_cmp, is_same_path};
+ghost use Rattle.file_paths.specs.Path.{IsPath, folder_of, path_cmp, is_same_path};
+ghost use Rattle.vol_tree.specs.Limits.{max_files};
 ghost use Rattle.vol_tree.specs.Spelling.{rows as spelled_rows};
 
-use crate::content::Content;
 use crate::counted::{Counted, size_at};
-use crate::list::TryCopy;
-use crate::path::Path;
-use crate::{Names, Rows};
+use crate::limits::{MAX_FILES, MAX_ROWS};
+use crate::lists::Rows;
+use crate::node::{Effect, Node, Row, TreeError, copy_node, size_of};
+use crate::rows::{RowsError, first_bad};
 use byte_fields::put_u32;
+use file_paths::{Content, MAX_FILE, Names, Path, TryCopy};
 use std::alloc::{AllocError, Global};
-use std::cmp::Ordering;
 use std::marker::Model;
-use thiserror::Error;
-
-/// What stands at a path.
-#[derive(Debug, Drop)]
-pub enum Node {
-    Folder,
-    File(Content),
-}
-
-/// What stands at a path, and how many applied effects touched it.
-#[derive(Debug, Drop)]
-pub struct Row {
-    pub path: Path,
-    pub version: u64,
-    pub node: Option<Node>,
-}
-
-/// A path and the version that it had.
-#[derive(Debug, Drop)]
-pub struct Base {
-    pub path: Path,
-    pub version: u64,
-}
-
-/// A change of a tree: it makes a folder, writes a file, removes a file or an empty folder, or
-/// moves a file from one path to another.
-#[derive(Debug, Drop)]
-pub enum Effect {
-    Make(Path),
-    Put(Path, Content),
-    Remove(Path),
-    Move(Path, Path),
-}
-
-/// Why an effect is refused.
-#[derive(Debug, Drop, Error)]
-pub enum TreeError {
-    /// The root is neither made, written, removed nor moved.
-    #[error("the root is fixed")]
-    RootFixed,
-    /// This folder, in which something would stand, does not exist.
-    #[error("no such folder")]
-    NoParent(Path),
-    /// Something stands at this path already.
-    #[error("there is something already")]
-    Exists(Path),
-    /// Nothing stands at this path.
-    #[error("there is nothing")]
-    Missing(Path),
-    /// A folder stands at this path, where a file is wanted.
-    #[error("it is a folder")]
-    IsFolder(Path),
-    /// The folder holds something, the second path being the first such.
-    #[error("the folder is not empty")]
-    NotEmpty(Path, Path),
-    /// The tree has this many rows, which is the most that it may have.
-    #[error("more than {0} rows")]
-    RowsFull(u32),
-    /// The file would have this many bytes.
-    #[error("a file of {0} bytes")]
-    FileTooLarge(u64),
-    /// All files together would have this many bytes.
-    #[error("{0} bytes in all files")]
-    TreeFull(u64),
-    /// The version of this path is the greatest that there is.
-    #[error("the last version")]
-    VersionTop(Path),
-    #[error("out of memory")]
-    Memory,
-}
-
-/// Why rows are no tree.
-#[derive(Debug, Drop, Error)]
-pub enum RowsError {
-    /// The first row, counted from 0, that breaks a rule, given those before it.
-    #[error("row {0} breaks a rule of trees")]
-    BadRow(u32),
-    #[error("out of memory")]
-    Memory,
-}
-
-impl From<AllocError> for TreeError {
-    ghost from_gives = { λ _ e. e ≡ Memory };
-
-    fn from(_: AllocError) -> TreeError {
-        TreeError::Memory
-    }
-}
-
-impl TryCopy for Node {
-    fn copy(&self) -> Result<Node, AllocError> {
-        match self {
-            Node::Folder => Ok(Node::Folder),
-            Node::File(content) => Ok(Node::File(content.copy()?)),
-        }
-    }
-}
-
-impl TryCopy for Tree {
-    fn copy(&self) -> Result<Tree, AllocError> {
-        Ok(Tree {
-            rows: self.rows.copy()?,
-        })
-    }
-}
-
-impl TryCopy for Row {
-    fn copy(&self) -> Result<Row, AllocError> {
-        Ok(Row {
-            path: self.path.copy()?,
-            version: self.version,
-            node: copy_node(self.node.as_ref())?,
-        })
-    }
-}
-
-impl TryCopy for Base {
-    fn copy(&self) -> Result<Base, AllocError> {
-        Ok(Base {
-            path: self.path.copy()?,
-            version: self.version,
-        })
-    }
-}
-
-impl TryCopy for Effect {
-    fn copy(&self) -> Result<Effect, AllocError> {
-        match self {
-            Effect::Make(path) => Ok(Effect::Make(path.copy()?)),
-            Effect::Put(path, content) => Ok(Effect::Put(path.copy()?, content.copy()?)),
-            Effect::Remove(path) => Ok(Effect::Remove(path.copy()?)),
-            Effect::Move(from, to) => Ok(Effect::Move(from.copy()?, to.copy()?)),
-        }
-    }
-}
-
-impl TryCopy for TreeError {
-    fn copy(&self) -> Result<TreeError, AllocError> {
-        Ok(match self {
-            TreeError::RootFixed => TreeError::RootFixed,
-            TreeError::NoParent(path) => TreeError::NoParent(path.copy()?),
-            TreeError::Exists(path) => TreeError::Exists(path.copy()?),
-            TreeError::Missing(path) => TreeError::Missing(path.copy()?),
-            TreeError::IsFolder(path) => TreeError::IsFolder(path.copy()?),
-            TreeError::NotEmpty(path, child) => TreeError::NotEmpty(path.copy()?, child.copy()?),
-            TreeError::RowsFull(rows) => TreeError::RowsFull(*rows),
-            TreeError::FileTooLarge(bytes) => TreeError::FileTooLarge(*bytes),
-            TreeError::TreeFull(bytes) => TreeError::TreeFull(*bytes),
-            TreeError::VersionTop(path) => TreeError::VersionTop(path.copy()?),
-            TreeError::Memory => TreeError::Memory,
-        })
-    }
-}
-
-impl TryCopy for Undo {
-    fn copy(&self) -> Result<Undo, AllocError> {
-        Ok(Undo {
-            first: self.first.copy()?,
-            second: match &self.second {
-                Some(row) => Some(row.copy()?),
-                None => None,
-            },
-        })
-    }
-}
 
 /// What an effect changed, as the rows from before; version 0 stands for no row.
 #[derive(Debug, Drop)]
@@ -198,6 +34,27 @@ impl Model for Undo {
     ghost view = { λ undo. undo.first ∷ option_to_list undo.second };
 }
 
+impl TryCopy for Undo {
+    fn copy(&self) -> Result<Undo, AllocError> {
+        Undo::copy(self)
+    }
+}
+
+impl Undo {
+    /// A copy of the undo.
+    pub fn copy(&self) -> Result<Undo, AllocError>
+        ensures { IfOk result (λ copied. copied ≡ self.now) }
+    {
+        Ok(Undo {
+            first: self.first.copy()?,
+            second: match &self.second {
+                Some(row) => Some(row.copy()?),
+                None => None,
+            },
+        })
+    }
+}
+
 /// A tree of files and folders: at most 16,384 rows, and 33,554,432 bytes in all files.
 #[derive(Drop)]
 pub struct Tree {
@@ -210,6 +67,12 @@ impl Model for Tree {
     ghost view = { λ tree. tree.rows };
 
     ghost invariant = { λ tree. IsTree tree.rows };
+}
+
+impl TryCopy for Tree {
+    fn copy(&self) -> Result<Tree, AllocError> {
+        Tree::copy(self)
+    }
 }
 
 impl Tree {
@@ -234,6 +97,15 @@ impl Tree {
             Ok(rows) => Ok(Tree { rows }),
             Err(_) => Err(RowsError::Memory),
         }
+    }
+
+    /// A copy of the tree, whose contents share their bytes.
+    pub fn copy(&self) -> Result<Tree, AllocError>
+        ensures { IfOk result (λ copied. copied ≡ self.now) }
+    {
+        Ok(Tree {
+            rows: self.rows.copy()?,
+        })
     }
 
     /// The allocator of the tree.
@@ -350,57 +222,6 @@ fn restore_both(rows: &mut Counted, first: Row, second: Row)
     rows.restore(second);
 }
 
-/// The first row with which the rows up to it are no tree.
-fn first_bad(rows: &[Row], count: usize) -> Option<u32>
-    requires all { count ≡ length rows.now }
-    requires few { count < 2 ^ 32 }
-    ensures none { IfNone result (IsTree rows.now) }
-    ensures some { IfSome result (λ i. IsRowsRefusal rows.now (RowsError.BadRow i)) }
-{
-    let mut size = 0;
-    for i in 0..count {
-        let row = &rows[i];
-        if !follows(rows.split_at(i).0, size, row) {
-            return Some(i as u32);
-        }
-        size += size_of(&row.node);
-    }
-    None
-}
-
-/// Whether a tree's rows, whose files have so many bytes, are a tree with this row behind them.
-fn follows(rows: &[Row], size: u64, row: &Row) -> bool
-    requires tree { IsTree rows.now }
-    requires size { size ≡ total_size rows.now }
-    ensures follows { result ≡ may_follow rows.now row.now }
-    ensures path { IsPath row.now.path }
-    ensures version { row.now.version < 2 ^ 64 }
-{
-    let _version = row.version;
-    let names = row.path.names();
-    if !is_behind(rows, &row.path) {
-        return false;
-    }
-    if names.is_empty() || row.version < 1 || size_of(&row.node) > 8_388_608 {
-        return false;
-    }
-    if row.node.is_some() && !is_folder_at(rows, row.path.folder_names()) {
-        return false;
-    }
-    rows.len() < 16384 && size + size_of(&row.node) <= 33_554_432
-}
-
-/// Whether the path is above those of all rows, the last of which is above the others.
-pub(crate) fn is_behind(rows: &[Row], path: &Path) -> bool
-    requires { AreInOrder rows.now }
-    ensures { result ≡ list_all (λ row. is_lt (path_cmp row.path path.now)) rows.now }
-{
-    match rows.last() {
-        Some(last) => last.path.cmp(path).is_lt(),
-        None => true,
-    }
-}
-
 /// Whether the effect may be applied, and else why not.
 fn check(rows: &Counted, effect: &Effect) -> Result<(), TreeError>
     requires { IsTree rows.now }
@@ -433,7 +254,7 @@ fn check_make(rows: &Counted, path: &Path) -> Result<(), TreeError>
         return Err(TreeError::Exists(path.copy()?));
     }
     if lacks_room(rows, names) {
-        return Err(TreeError::RowsFull(16384));
+        return Err(TreeError::RowsFull(MAX_ROWS as u32));
     }
     if version_in(rows, names) == u64::MAX {
         return Err(TreeError::VersionTop(path.copy()?));
@@ -458,14 +279,14 @@ fn check_put(rows: &Counted, path: &Path, content: &Content) -> Result<(), TreeE
         return Err(TreeError::IsFolder(path.copy()?));
     }
     if lacks_room(rows, names) {
-        return Err(TreeError::RowsFull(16384));
+        return Err(TreeError::RowsFull(MAX_ROWS as u32));
     }
     let size = content.bytes().len() as u64;
-    if size > 8_388_608 {
+    if size > MAX_FILE as u64 {
         return Err(TreeError::FileTooLarge(size));
     }
     let total = size_of_others(rows, names) + size;
-    if total > 33_554_432 {
+    if total > MAX_FILES as u64 {
         return Err(TreeError::TreeFull(total));
     }
     if version_in(rows, names) == u64::MAX {
@@ -520,7 +341,7 @@ fn check_move(rows: &Counted, from: &Path, to: &Path) -> Result<(), TreeError>
         return Err(TreeError::IsFolder(from.copy()?));
     }
     if lacks_room(rows, new) {
-        return Err(TreeError::RowsFull(16384));
+        return Err(TreeError::RowsFull(MAX_ROWS as u32));
     }
     if version_in(rows, old) == u64::MAX {
         return Err(TreeError::VersionTop(from.copy()?));
@@ -572,15 +393,6 @@ fn move_node(rows: &mut Counted, from: &Path, to: &Path) -> Result<Undo, AllocEr
     })
 }
 
-pub(crate) fn copy_node(node: Option<&Node>) -> Result<Option<Node>, AllocError>
-    ensures { IfOk result (λ copied. copied ≡ option_copied node.entry) }
-{
-    match node {
-        Some(node) => Ok(Some(node.copy()?)),
-        None => Ok(None),
-    }
-}
-
 fn node_in<'a>(rows: &'a Counted, path: &[Content]) -> Option<&'a Node>
     ensures { option_copied result ≡ node_at rows.now path.now }
 {
@@ -604,14 +416,14 @@ fn lacks_room(rows: &Counted, path: &[Content]) -> bool
     requires { IsTree rows.now }
     ensures { result ≡ has_no_room rows.now path.now }
 {
-    version_in(rows, path) == 0 && rows.count() >= 16384
+    version_in(rows, path) == 0 && rows.count() >= MAX_ROWS as u64
 }
 
 /// The bytes of all files but the one at the path.
 fn size_of_others(rows: &Counted, path: &[Content]) -> u64
     requires { IsTree rows.now }
     ensures value { result ≡ total_size rows.now - node_size (node_at rows.now path.now) }
-    ensures small { result ≤ 33554432 }
+    ensures small { result ≤ max_files }
 {
     rows.size() - size_at(node_in(rows, path))
 }
@@ -623,45 +435,4 @@ fn first_child<'a>(rows: &'a Counted, folder: &[Content]) -> Option<&'a Content>
     ensures path { IfSome (option_copied result) (λ name. IsPath (folder.now ++ name ∷ [])) }
 {
     rows.arena().child(folder, 0)
-}
-
-fn node_of<'a>(rows: &'a [Row], path: &[Content]) -> Option<&'a Node>
-    requires { AreInOrder rows.now }
-    ensures { option_copied result ≡ node_at rows.now path.now }
-{
-    let i = locate(rows, path).ok()?;
-    rows[i].node.as_ref()
-}
-
-pub(crate) fn is_folder_at(rows: &[Row], path: &[Content]) -> bool
-    requires { AreInOrder rows.now }
-    ensures { result ≡ is_folder rows.now path.now }
-{
-    path.is_empty() || matches!(node_of(rows, path), Some(Node::Folder))
-}
-
-pub(crate) fn size_of(node: &Option<Node>) -> u64
-    ensures value { result ≡ node_size node.now }
-    ensures bound { result < 2 ^ 63 }
-{
-    match node {
-        Some(Node::File(content)) => content.bytes().len() as u64,
-        _ => 0,
-    }
-}
-
-/// Where the row of a path stands, or else where it belongs.
-fn locate(rows: &[Row], path: &[Content]) -> Result<usize, usize>
-    requires { AreInOrder rows.now }
-    ensures ok { IfOk result (StandsAt rows.now path.now) }
-    ensures err { IfErr result (BelongsAt rows.now path.now) }
-{
-    rows.binary_search_by(|row| order_of(row, path))
-}
-
-/// How the path of a row compares with another.
-fn order_of(row: &Row, path: &[Content]) -> Ordering
-    ensures { result ≡ path_cmp row.now.path path.now }
-{
-    row.path.names().cmp(&path)
 }

@@ -1,5 +1,5 @@
 use Rattle.std.proofs.Common.{◌∙◌}
-use Rattle.vol_tree.specs.declared.tree.Effect.TheVariants.{Move}
+use Rattle.vol_tree.specs.declared.node.Effect.TheVariants.{Move}
 use Rattle.vol_tree.proofs.Trees.{between_of, below_top, small_node}
 use Rattle.vol_tree.proofs.Counts.{small_touch, few_touch}
 use Rattle.vol_tree.proofs.tree.move_node.Goals as goal

@@ -1,0 +1,6 @@
+pub mod PathLemmas
+pub mod PathTexts
+pub mod Order
+pub mod Parts
+pub mod Sizes
+pub mod Loops

@@ -1,0 +1,50 @@
+-- The paths that effects touch are few, so that their number fits its field.
+use Rattle.std.proofs.Common.{◌*◌, ◌^◌, ◌<◌, ◌≤◌, Bool, true, false, cond, not, List, [], ◌∷◌, length, ap, arith, length-append}
+use Rattle.std.specs.List.{flat_map, filter}
+use Rattle.std.proofs.lemmas.List.{length-map}
+use Rattle.std.proofs.lemmas.List.Concat.{flat_map-cons}
+use Rattle.byte_fields.specs.Codec.{IsCodec}
+use Rattle.vol_tree.specs.declared.node.Effect.{Effect}
+use Rattle.vol_tree.specs.declared.node.Effect.TheVariants.{Make, Put, Remove, Move}
+use Rattle.vol_tree.specs.declared.node.Base.{Base}
+use Rattle.file_paths.specs.Path.{FilePath, is_same_path}
+use Rattle.vol_tree.specs.Tree.{touched_paths}
+use Rattle.vol_tree.specs.Effects.{touched_all, distinct}
+use Rattle.vol_tree.specs.Spelling.{bases, EffectsFit, AreBasesOf}
+use Rattle.vol_tree.specs.Reading.{bases_at}
+use Rattle.tree_laws.proofs.Parts.{bases_codec}
+
+kept_length : {A : Type 0} (f : A → Bool) (xs : List A) → length (filter f xs) ≤ length xs
+kept_length f [] = omega arith
+kept_length f (x ∷ xs) =
+    elim (f x) as (λ kept. length (cond kept (x ∷ filter f xs) (filter f xs)) ≤ length (x ∷ xs)) [
+      | true ↦ omega (arith, kept_length f xs)
+      | false ↦ omega (arith, kept_length f xs)
+    ]
+
+distinct_length : (ps : List FilePath) → length (distinct ps) ≤ length ps
+distinct_length [] = omega arith
+distinct_length (p ∷ ps) = omega (arith, kept_length (λ other. not (is_same_path other p)) (distinct ps), distinct_length ps)
+
+touches_length : (e : Effect) → length (touched_paths e) ≤ 2
+touches_length (Make p) = omega arith
+touches_length (Put p c) = omega arith
+touches_length (Remove p) = omega arith
+touches_length (Move p q) = omega arith
+
+all_touches_length : (es : List Effect) → length (touched_all es) ≤ 2 * length es
+all_touches_length [] = omega arith
+all_touches_length (e ∷ es) =
+    omega (arith, ap length (flat_map-cons touched_paths e es), length-append (touched_paths e) (flat_map touched_paths es), touches_length e, all_touches_length es)
+
+pub touched_few : (es : List Effect) → EffectsFit es → length (distinct (touched_all es)) < 2 ^ 32
+touched_few es fits = omega (arith, distinct_length (touched_all es), all_touches_length es, fits.few)
+
+-- for each effect at most two
+pub few_bases : (es : List Effect) (bs : List Base) → AreBasesOf (distinct (touched_all es)) bs → EffectsFit es → length bs ≤ 8192
+few_bases es bs are fits =
+    omega (arith, length-map bs (λ (b : Base). b.path), ap length are.0, distinct_length (touched_all es), all_touches_length es, fits.few)
+
+-- the versions of the touched paths are spelled once
+pub bases_of : (es : List Effect) → EffectsFit es → IsCodec (bases_at (distinct (touched_all es))) bases (AreBasesOf (distinct (touched_all es)))
+bases_of es fits = bases_codec (distinct (touched_all es)) (touched_few es fits)

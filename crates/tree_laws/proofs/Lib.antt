@@ -1,0 +1,5 @@
+pub mod Fronts
+pub mod Parts
+pub mod CutParts
+pub mod Breaking
+pub mod Few

@@ -1,0 +1,98 @@
+-- What holds of trees and effects, in their own words.
+use Rattle.std.specs.Prelude.{◌≡◌, ◌⊎◌, ℕ, ◌+◌, ◌≤◌, List, [], ◌∷◌, ◌++◌, Some, None, Ok, Err}
+use Rattle.file_paths.specs.Path.{FilePath}
+use Rattle.vol_tree.specs.declared.node.Node.TheVariants.{Folder}
+use Rattle.vol_tree.specs.declared.node.Effect.{Effect}
+use Rattle.vol_tree.specs.declared.node.Effect.TheVariants.{Make, Put, Remove, Move}
+use Rattle.vol_tree.specs.declared.node.TreeError.{TreeError}
+use Rattle.vol_tree.specs.Tree.{Volume, IsTree, IsLegalEffect, version_at, node_at, with_content, apply, touched_paths, kept_rows, undone}
+use Rattle.vol_tree.specs.Effects.{apply_all, changed_all, touched_all, distinct}
+use Rattle.vol_tree.specs.Behind.{IsBehind, IsAhead, AgreeAt, IsIn}
+
+-- ---- what an applied effect does to each path
+
+-- the version of a touched path is one more
+abbrev pub EffectsCountTouches : Type 0
+EffectsCountTouches = (effect : Effect) (rows new : Volume) (path : FilePath) → apply effect rows ≡ Ok new → IsIn path (touched_paths effect)
+    → version_at new path ≡ version_at rows path + 1
+
+-- a path that is not touched keeps its version and its node
+abbrev pub EffectsLeaveTheRest : Type 0
+EffectsLeaveTheRest = (effect : Effect) (rows new : Volume) (path : FilePath) → apply effect rows ≡ Ok new → (IsIn path (touched_paths effect) → ⊥)
+    → (version_at new path ≡ version_at rows path) × (node_at new path ≡ node_at rows path)
+
+-- where a folder is made, a folder stands
+abbrev pub MakingGivesAFolder : Type 0
+MakingGivesAFolder = (path : FilePath) (rows new : Volume) → apply (Make path) rows ≡ Ok new → node_at new path ≡ Some Folder
+
+-- where a content is put, a file with it stands
+abbrev pub PuttingGivesAFile : Type 0
+PuttingGivesAFile = (path : FilePath) (content : List ℕ) (rows new : Volume) → apply (Put path content) rows ≡ Ok new → node_at new path ≡ Some (with_content (node_at rows path) content)
+
+-- where something is removed, nothing stands
+abbrev pub RemovingLeavesNothing : Type 0
+RemovingLeavesNothing = (path : FilePath) (rows new : Volume) → apply (Remove path) rows ≡ Ok new → node_at new path ≡ None
+
+-- what is moved stands at its new path, and nothing at the old one
+abbrev pub MovingCarriesTheNode : Type 0
+MovingCarriesTheNode = (from to : FilePath) (rows new : Volume) → apply (Move from to) rows ≡ Ok new → (node_at new to ≡ node_at rows from) × (node_at new from ≡ None)
+
+-- ---- trees
+
+-- two trees with the same version and node at each path are one
+abbrev pub TreesAreWhatTheyHold : Type 0
+TreesAreWhatTheyHold = (x y : Volume) → IsTree x → IsTree y → ((path : FilePath) → (version_at x path ≡ version_at y path) × (node_at x path ≡ node_at y path)) → x ≡ y
+
+-- an applied effect leaves a tree
+abbrev pub ApplyingKeepsTrees : Type 0
+ApplyingKeepsTrees = (effect : Effect) (rows new : Volume) → IsTree rows → IsLegalEffect effect → apply effect rows ≡ Ok new → IsTree new
+
+-- what is kept of an applied effect puts the rows back
+abbrev pub UndoingRestores : Type 0
+UndoingRestores = (effect : Effect) (rows new : Volume) → IsTree rows → apply effect rows ≡ Ok new → undone (kept_rows effect rows) new ≡ rows
+
+-- ---- distinct paths
+
+-- no element equals a later one
+abbrev pub NoneTwice : List FilePath → Type 0
+NoneTwice [] = Unit {0}
+NoneTwice (path ∷ paths) = (IsIn path paths → ⊥) × NoneTwice paths
+
+-- no path is twice among distinct ones
+abbrev pub DistinctPathsDiffer : Type 0
+DistinctPathsDiffer = (paths : List FilePath) → NoneTwice (distinct paths)
+
+-- the distinct paths are those of the list
+abbrev pub DistinctPathsAreTheSame : Type 0
+DistinctPathsAreTheSame = (paths : List FilePath) (path : FilePath) → (IsIn path (distinct paths) → IsIn path paths) × (IsIn path paths → IsIn path (distinct paths))
+
+-- what comes later in the list comes later among the distinct paths
+abbrev pub DistinctPathsKeepTheirOrder : Type 0
+DistinctPathsKeepTheirOrder = (front back : List FilePath) → (more : List FilePath) × (distinct (front ++ back) ≡ distinct front ++ more)
+
+-- ---- trees behind others
+
+-- a tree is behind itself, and behind what those are behind that it is behind
+abbrev pub BehindIsAnOrder : Type 0
+BehindIsAnOrder = ((v : Volume) → IsBehind v v) × ((u v w : Volume) → IsBehind u v → IsBehind v w → IsBehind u w)
+
+-- versions only grow
+abbrev pub EffectsLeadForward : Type 0
+EffectsLeadForward = (effects : List Effect) (v : Volume) → IsBehind v (changed_all effects v)
+
+-- the same effects keep one tree behind another, where the versions agree at what they touch
+abbrev pub EffectsKeepBehind : Type 0
+EffectsKeepBehind = (effects : List Effect) (x v : Volume) → IsBehind x v → AgreeAt x v (touched_all effects) → IsBehind (changed_all effects x) (changed_all effects v)
+
+-- some path is ahead, or none is
+abbrev pub SomePathIsAheadOrNone : Type 0
+SomePathIsAheadOrNone = (x v : Volume) → IsAhead v x ⊎ ((path : FilePath) → version_at v path ≤ version_at x path)
+
+-- a tree that is behind another, of which no path is ahead, is that tree
+abbrev pub NoneAheadIsTheSame : Type 0
+NoneAheadIsTheSame = (x v : Volume) → IsBehind x v → IsTree x → IsTree v → ((path : FilePath) → version_at v path ≤ version_at x path) → x ≡ v
+
+-- what applies to a tree and not to one that it is behind meets a path that is ahead
+abbrev pub RefusedWhereAhead : Type 0
+RefusedWhereAhead = (x v : Volume) (effects : List Effect) (after : Volume) (cause : ℕ × TreeError) → IsBehind x v → IsTree x → IsTree v
+    → apply_all 0 effects x ≡ Ok after → apply_all 0 effects v ≡ Err cause → IsAhead v x

@@ -1,0 +1,40 @@
+// What holds of trees and effects: functions that do nothing, whose contracts are laws.
+ghost use Rattle.tree_laws.specs.Laws.{EffectsCountTouches, EffectsLeaveTheRest, MakingGivesAFolder, PuttingGivesAFile, RemovingLeavesNothing, MovingCarriesTheNode, TreesAreWhatTheyHold, ApplyingKeepsTrees, UndoingRestores, DistinctPathsDiffer, DistinctPathsAreTheSame, DistinctPathsKeepTheirOrder, BehindIsAnOrder, EffectsLeadForward, EffectsKeepBehind, SomePathIsAheadOrNone, NoneAheadIsTheSame, RefusedWhereAhead};
+
+/// States what an applied effect does to each path, touched or not.
+pub fn effects_change_what_they_touch()
+    ensures touched { EffectsCountTouches }
+    ensures others { EffectsLeaveTheRest }
+    ensures made { MakingGivesAFolder }
+    ensures put { PuttingGivesAFile }
+    ensures removed { RemovingLeavesNothing }
+    ensures moved { MovingCarriesTheNode }
+{}
+
+/// States that versions and nodes are all that a tree is.
+pub fn trees_are_what_they_hold()
+    ensures { TreesAreWhatTheyHold }
+{}
+
+/// States that an applied effect leaves a tree, and that its undo puts the old one back.
+pub fn applying_keeps_trees()
+    ensures keeps { ApplyingKeepsTrees }
+    ensures undoes { UndoingRestores }
+{}
+
+/// States that distinct paths are those of a list, each once, at its first place.
+pub fn distinct_paths_keep_their_order()
+    ensures differ { DistinctPathsDiffer }
+    ensures same { DistinctPathsAreTheSame }
+    ensures order { DistinctPathsKeepTheirOrder }
+{}
+
+/// States how trees compare by the versions of their paths, and what effects leave of that.
+pub fn trees_behind()
+    ensures order { BehindIsAnOrder }
+    ensures forward { EffectsLeadForward }
+    ensures keeps { EffectsKeepBehind }
+    ensures ahead { SomePathIsAheadOrNone }
+    ensures same { NoneAheadIsTheSame }
+    ensures refused { RefusedWhereAhead }
+{}

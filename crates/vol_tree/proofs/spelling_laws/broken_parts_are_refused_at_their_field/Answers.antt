@@ -1,5 +1,0 @@
-use Rattle.vol_tree.proofs.Breaking.{text_refused, length_refused, broken_effects, broken_effect_lists, broken_bases, broken_rows, broken_row_lists}
-use Rattle.vol_tree.proofs.spelling_laws.broken_parts_are_refused_at_their_field.Goals as goal
-
-pub returns : goal.returns
-returns c = record { texts = text_refused; lengths = length_refused; effects = broken_effects; effect_lists = broken_effect_lists; bases = broken_bases; rows = broken_rows; row_lists = broken_row_lists }
