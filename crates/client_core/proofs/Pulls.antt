@@ -8,7 +8,7 @@ use Rattle.outside.specs.declared.errors.KeepError.{KeepError}
 use Rattle.outside.specs.declared.errors.KeepError.TheVariants as keepers
 use Rattle.vol_tree.specs.Tree.{Volume, version_at, IsTree, AreInOrder}
 use Rattle.vol_tree.specs.Behind.{IsIn}
-use Rattle.vol_tree.specs.declared.tree.Row.{Row}
+use Rattle.vol_tree.specs.declared.node.Row.{Row}
 use Rattle.mod_log.specs.declared.log.Entry.{Entry}
 use Rattle.mod_log.specs.Log.{Log, IsLog, pulled}
 use Rattle.wire_frames.specs.declared.message.Message.{Message}

@@ -1,6 +1,6 @@
 -- What the end of a sync or a pull means to a client that was in step with a world that is told.
 use Rattle.std.specs.Prelude.{◌≡◌, ◌≢◌, ◌⊎◌, ℕ, ◌<◌, []}
-use Rattle.vol_tree.specs.Path.{FilePath}
+use Rattle.file_paths.specs.Path.{FilePath}
 use Rattle.vol_tree.specs.Tree.{Volume, version_at}
 use Rattle.vol_tree.specs.Behind.{IsAhead}
 use Rattle.mod_log.specs.Log.{Log, tree_at}

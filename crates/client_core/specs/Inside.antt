@@ -4,7 +4,7 @@ use Rattle.std.specs.declared.alloc.AllocError.{AllocError}
 use Rattle.outside.specs.Outside.{RoseBy}
 use Rattle.vol_tree.specs.Tree.{Volume, version_at}
 use Rattle.vol_tree.specs.Behind.{IsIn}
-use Rattle.vol_tree.specs.declared.tree.Row.{Row}
+use Rattle.vol_tree.specs.declared.node.Row.{Row}
 use Rattle.wire_frames.specs.declared.message.Message.{Message}
 use Rattle.wire_frames.specs.declared.message.Message.TheVariants.{Snapshot}
 use Rattle.world_rules.specs.declared.asking.Ask.{Ask}

@@ -3,7 +3,7 @@ use Rattle.std.specs.Prelude.{◌≡◌, ◌≢◌, ◌⊎◌, ℕ, ◌<◌, ◌
 use Rattle.std.specs.declared.cmp.Ordering.TheVariants.{Less}
 use Rattle.outside.specs.declared.errors.KeepError.{KeepError}
 use Rattle.outside.specs.declared.errors.KeepError.TheVariants as keepers
-use Rattle.vol_tree.specs.Path.{FilePath, path_cmp}
+use Rattle.file_paths.specs.Path.{FilePath, path_cmp}
 use Rattle.vol_tree.specs.Tree.{Volume, version_at}
 use Rattle.mod_log.specs.Log.{Log, pulled}
 use Rattle.wire_frames.specs.declared.message.Message.{Message}

@@ -2,8 +2,8 @@
 use Rattle.std.proofs.Common.{◌≡◌, ◌⊎◌, inl, inr, ⊎_elim, ℕ, zero, suc, ◌+◌, ◌-◌, ◌≤◌, List, [], ◌∷◌, ◌++◌, length, drop, Option, Result, Ok, Err, refl, sym, ◌∙◌, ap, subst, arith, length-append}
 use Rattle.std.proofs.lemmas.List.{append-nil}
 use Rattle.outside.specs.Keeper.{Images}
-use Rattle.vol_tree.specs.declared.path.PathError.{PathError}
-use Rattle.vol_tree.specs.declared.tree.Effect.{Effect}
+use Rattle.file_paths.specs.declared.path.PathError.{PathError}
+use Rattle.vol_tree.specs.declared.node.Effect.{Effect}
 use Rattle.mod_log.specs.declared.log.Entry.{Entry}
 use Rattle.mod_log.specs.declared.log.LogError.{LogError}
 use Rattle.mod_log.specs.Log.{Log, logged}

@@ -5,10 +5,10 @@ use Rattle.std.specs.Cmp.{first_so, second_so}
 use Rattle.std.specs.List.{AllByRecursion, list_all}
 use Rattle.std.proofs.lemmas.List.{take_more, take_all}
 use Rattle.std.proofs.lemmas.List.Folds.{list_all-append}
-use Rattle.vol_tree.specs.Path.{FilePath, IsPath, is_name, is_name_byte, is_dots, path_text, text_before, resolved, path_of, folder_of, last_name, is_same_path}
+use Rattle.file_paths.specs.Path.{FilePath, IsPath, is_name, is_name_byte, is_dots, path_text, text_before, resolved, path_of, folder_of, last_name, is_same_path}
 use Rattle.vol_tree.specs.Tree.{Volume, IsRow, is_child, is_root, children}
-use Rattle.vol_tree.specs.declared.tree.Row.{Row}
-use Rattle.vol_tree.proofs.PathTexts.{text_of_path_read}
+use Rattle.vol_tree.specs.declared.node.Row.{Row}
+use Rattle.file_paths.proofs.PathTexts.{text_of_path_read}
 use Rattle.vol_tree.proofs.Behind.{is_same_path-eq}
 
 -- ---- a name in a folder

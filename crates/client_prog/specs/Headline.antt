@@ -1,7 +1,7 @@
 -- What a whole run of a client leaves at the server and under its name, whatever the network lost, repeated or reordered.
 use Rattle.std.specs.Prelude.{◌≡◌, ◌≢◌, ◌⊎◌, ℕ, ◌+◌, ◌-◌, ◌≤◌, List, ◌++◌, length, drop, Option, Result}
 use Rattle.outside.specs.Keeper.{Images}
-use Rattle.vol_tree.specs.Path.{FilePath}
+use Rattle.file_paths.specs.Path.{FilePath}
 use Rattle.vol_tree.specs.Tree.{version_at}
 use Rattle.vol_tree.specs.Behind.{IsIn}
 use Rattle.mod_log.specs.declared.log.Entry.{Entry}

@@ -4,9 +4,9 @@ use Rattle.outside.specs.Keeper.{Images}
 use Rattle.outside.specs.declared.errors.KeepError.{KeepError}
 use Rattle.outside.specs.declared.errors.KeepError.TheVariants as keepers
 use Rattle.mod_log.specs.Log.{Log}
-use Rattle.vol_tree.specs.declared.path.PathError.{PathError}
-use Rattle.vol_tree.specs.declared.path.PathError.TheVariants.{Memory}
-use Rattle.vol_tree.specs.declared.tree.Effect.{Effect}
+use Rattle.file_paths.specs.declared.path.PathError.{PathError}
+use Rattle.file_paths.specs.declared.path.PathError.TheVariants.{Memory}
+use Rattle.vol_tree.specs.declared.node.Effect.{Effect}
 use Rattle.world_rules.specs.World.{World}
 use Rattle.client_core.specs.declared.route.Route.{Route}
 use Rattle.client_core.specs.Trace.{Trace, nothing}

@@ -1,11 +1,11 @@
 -- What the lines that read the tree answer.
 use Rattle.std.specs.Prelude.{ℕ, List, [], ◌∷◌, ◌++◌, map, Option, None, Some, Result, Ok, Err}
-use Rattle.vol_tree.specs.Path.{FilePath, resolved}
+use Rattle.file_paths.specs.Path.{FilePath, resolved}
 use Rattle.vol_tree.specs.Tree.{Volume, node_at, is_folder, children}
-use Rattle.vol_tree.specs.declared.path.PathError.{PathError}
-use Rattle.vol_tree.specs.declared.tree.Node.{Node}
-use Rattle.vol_tree.specs.declared.tree.Node.TheVariants.{Folder, File}
-use Rattle.vol_tree.specs.declared.tree.TreeError.TheVariants.{Missing, IsFolder}
+use Rattle.file_paths.specs.declared.path.PathError.{PathError}
+use Rattle.vol_tree.specs.declared.node.Node.{Node}
+use Rattle.vol_tree.specs.declared.node.Node.TheVariants.{Folder, File}
+use Rattle.vol_tree.specs.declared.node.TreeError.TheVariants.{Missing, IsFolder}
 use Rattle.shell_lang.specs.declared.answer.Child.{Child}
 use Rattle.shell_lang.specs.declared.answer.Answer.{Answer}
 use Rattle.shell_lang.specs.declared.answer.Answer.TheVariants.{Text, Listing, At, Refused}

@@ -1,10 +1,10 @@
 -- A session: what each line logs, asks of the server and answers. It knows no memory and no keeper, and nothing of how its input comes.
 use Rattle.std.specs.Prelude.{◌≡◌, ◌⊎◌, ℕ, List, [], ◌∷◌, ◌++◌, length, Option, None, Some, Result, Ok, Err}
-use Rattle.vol_tree.specs.Path.{FilePath, resolved}
-use Rattle.vol_tree.specs.declared.path.PathError.{PathError}
-use Rattle.vol_tree.specs.declared.path.PathError.TheVariants as paths
-use Rattle.vol_tree.specs.declared.tree.Effect.{Effect}
-use Rattle.vol_tree.specs.declared.tree.Effect.TheVariants as effects
+use Rattle.file_paths.specs.Path.{FilePath, resolved}
+use Rattle.file_paths.specs.declared.path.PathError.{PathError}
+use Rattle.file_paths.specs.declared.path.PathError.TheVariants as paths
+use Rattle.vol_tree.specs.declared.node.Effect.{Effect}
+use Rattle.vol_tree.specs.declared.node.Effect.TheVariants as effects
 use Rattle.mod_log.specs.declared.log.LogError.{LogError}
 use Rattle.mod_log.specs.declared.log.LogError.TheVariants as logs
 use Rattle.mod_log.specs.Log.{Log, tree_of}

@@ -1,7 +1,7 @@
 // What the lines that read the tree answer.
 ghost use Rattle.std.specs.Prelude.{◌≡◌, ◌∷◌, ◌++◌, [], false, map, IfOk};
 ghost use Rattle.std.specs.Option.{option_copied};
-ghost use Rattle.vol_tree.specs.Path.{IsPath};
+ghost use Rattle.file_paths.specs.Path.{IsPath};
 ghost use Rattle.vol_tree.specs.Tree.{is_folder, children};
 ghost use Rattle.client_prog.specs.Looking.{found_at, shown, child_at, listed, entered, cat_answer, list_answer, enter_answer};
 

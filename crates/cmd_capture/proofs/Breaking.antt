@@ -11,13 +11,12 @@ use Rattle.byte_fields.specs.Cuts.{start_of}
 use Rattle.byte_fields.specs.Broken.{IsRead, IsRefused, passed}
 use Rattle.byte_fields.proofs.Codec.{u8_codec, u16_codec, u32_codec, span_codec, ruled_codec}
 use Rattle.byte_fields.proofs.Breaking.{read_again, refused_there, refused_text, rule_refused, first_refused, later_refused, tagged_refused, kind_refused, second_fails, four_bytes, items_refused, each_read}
-use Rattle.vol_tree.specs.Path.{FilePath, IsPath}
-use Rattle.vol_tree.specs.Spelling.{path, content}
-use Rattle.vol_tree.specs.Reading.{path_at, content_at}
-use Rattle.vol_tree.specs.declared.tree.Node.{Node}
-use Rattle.vol_tree.specs.declared.tree.Node.TheVariants.{File}
-use Rattle.vol_tree.proofs.Parts.{path_codec}
-use Rattle.vol_tree.proofs.Breaking.{length_refused}
+use Rattle.file_paths.specs.Path.{FilePath, IsPath}
+use Rattle.file_paths.specs.Spelling.{path, content}
+use Rattle.file_paths.specs.Reading.{path_at, content_at}
+use Rattle.vol_tree.specs.declared.node.Node.{Node}
+use Rattle.vol_tree.specs.declared.node.Node.TheVariants.{File}
+use Rattle.file_paths.proofs.Parts.{path_codec, length_refused}
 use Rattle.cmd_capture.specs.declared.command.Command.{Command}
 use Rattle.cmd_capture.specs.declared.job.Job.{Job}
 use Rattle.cmd_capture.specs.declared.job.JobRow.{JobRow}

@@ -9,11 +9,11 @@ use Rattle.std.specs.Cmp.Lexicographic.{bytes_decides}
 use Rattle.std.proofs.lemmas.Bool.{le-leb, and_parts}
 use Rattle.std.proofs.lemmas.Bool.Decides.{nat_tests}
 use Rattle.byte_fields.specs.Numbers.{as_u64}
-use Rattle.vol_tree.specs.Refusals.{when, unless_refused}
-use Rattle.vol_tree.specs.Path.{FilePath, IsPath, path_of, resolved, text_before}
-use Rattle.vol_tree.specs.declared.path.PathError.{PathError}
-use Rattle.vol_tree.proofs.PathTexts.{path_of_text}
-use Rattle.vol_tree.proofs.Loops.{position_step}
+use Rattle.file_paths.specs.Refusals.{when, unless_refused}
+use Rattle.file_paths.specs.Path.{FilePath, IsPath, path_of, resolved, text_before}
+use Rattle.file_paths.specs.declared.path.PathError.{PathError}
+use Rattle.file_paths.proofs.PathTexts.{path_of_text}
+use Rattle.file_paths.proofs.Loops.{position_step}
 use Rattle.cmd_capture.specs.declared.command.Command.{Command}
 use Rattle.cmd_capture.specs.declared.capturing.CaptureError.{CaptureError}
 use Rattle.cmd_capture.specs.declared.capturing.CaptureError.TheVariants.{NoProgram, BadOption, BadInput, BadEnv, BadTemplate, NotAbsolute, ZeroByte, CommandTooLong}

@@ -11,13 +11,13 @@ use Rattle.std.proofs.Math.Nat.{mod-eq_of_lt}
 use Rattle.byte_fields.specs.Field.{Reader, ◌>>=◌, digits, ruled, one, span_at, number_at, each_at, limited, tagged_at, EachFits}
 use Rattle.byte_fields.specs.Codec.{Stands, IsBytes, IsFault, IsCodec}
 use Rattle.byte_fields.proofs.Codec.{IsBranch, span_codec, u8_codec, u16_codec, u32_codec, ruled_codec, bind_ok, bind_err, stands_both, stands_first, stands_second, found1, again1, fault1, each_codec, counted_codec, codec_for, limited_codec, tagged_found, tagged_fault, tagged_again0, tagged_again1, branch0, branch1}
-use Rattle.vol_tree.specs.Path.{FilePath, IsPath, path_text}
-use Rattle.vol_tree.specs.Spelling.{path, content}
-use Rattle.vol_tree.specs.Reading.{path_at, content_at}
+use Rattle.file_paths.specs.Path.{FilePath, IsPath, path_text}
+use Rattle.file_paths.specs.Spelling.{path, content}
+use Rattle.file_paths.specs.Reading.{path_at, content_at}
 use Rattle.vol_tree.specs.Tree.{node_size}
-use Rattle.vol_tree.specs.declared.tree.Node.{Node}
-use Rattle.vol_tree.specs.declared.tree.Node.TheVariants.{Folder, File}
-use Rattle.vol_tree.proofs.Parts.{path_codec, content_codec}
+use Rattle.vol_tree.specs.declared.node.Node.{Node}
+use Rattle.vol_tree.specs.declared.node.Node.TheVariants.{Folder, File}
+use Rattle.file_paths.proofs.Parts.{path_codec, content_codec}
 use Rattle.cmd_capture.specs.declared.command.Command.{Command}
 use Rattle.cmd_capture.specs.declared.job.Job.{Job}
 use Rattle.cmd_capture.specs.declared.job.JobRow.{JobRow}

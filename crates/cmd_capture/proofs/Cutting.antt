@@ -10,14 +10,14 @@ use Rattle.byte_fields.specs.Codec.{Stands, IsCodec}
 use Rattle.byte_fields.specs.Cuts.{start_of, IsCut}
 use Rattle.byte_fields.proofs.Codec.{u8_codec, u16_codec, u32_codec, ruled_codec, stands_first, stands_second}
 use Rattle.byte_fields.proofs.Cutting.{sum_more, sum_both, then_cut, span_cut, u8_cut, u16_cut, u32_cut, ruled_cut, cut_for, one_cut, tagged_cut, each_cut, counted_cut}
-use Rattle.vol_tree.specs.Path.{FilePath, IsPath}
-use Rattle.vol_tree.specs.Spelling.{path, content}
-use Rattle.vol_tree.specs.Fields.{path_fields, content_fields, node_fields}
-use Rattle.vol_tree.specs.declared.tree.Node.{Node}
-use Rattle.vol_tree.specs.declared.tree.Node.TheVariants.{Folder, File}
-use Rattle.vol_tree.specs.Reading.{path_at}
-use Rattle.vol_tree.proofs.Parts.{path_codec}
-use Rattle.vol_tree.proofs.CutParts.{path_cut, content_cut}
+use Rattle.file_paths.specs.Path.{FilePath, IsPath}
+use Rattle.file_paths.specs.Spelling.{path, content}
+use Rattle.file_paths.specs.Fields.{path_fields, content_fields}
+use Rattle.vol_tree.specs.Fields.{node_fields}
+use Rattle.vol_tree.specs.declared.node.Node.{Node}
+use Rattle.vol_tree.specs.declared.node.Node.TheVariants.{Folder, File}
+use Rattle.file_paths.specs.Reading.{path_at}
+use Rattle.file_paths.proofs.Parts.{path_codec, path_cut, content_cut}
 use Rattle.cmd_capture.specs.declared.command.Command.{Command}
 use Rattle.cmd_capture.specs.declared.job.Job.{Job}
 use Rattle.cmd_capture.specs.declared.job.JobRow.{JobRow}

@@ -5,9 +5,9 @@ use Rattle.std.specs.List.{flat_map, AllByRecursion}
 use Rattle.byte_fields.specs.Field.{Reader, digits}
 use Rattle.byte_fields.specs.Cuts.{start_of}
 use Rattle.byte_fields.specs.Broken.{IsRefused}
-use Rattle.vol_tree.specs.Path.{FilePath, IsPath}
-use Rattle.vol_tree.specs.Spelling.{path, content}
-use Rattle.vol_tree.specs.Reading.{path_at}
+use Rattle.file_paths.specs.Path.{FilePath, IsPath}
+use Rattle.file_paths.specs.Spelling.{path, content}
+use Rattle.file_paths.specs.Reading.{path_at}
 use Rattle.cmd_capture.specs.declared.command.Command.{Command}
 use Rattle.cmd_capture.specs.declared.job.JobRow.{JobRow}
 use Rattle.cmd_capture.specs.Environment.{has_key}

@@ -3,8 +3,8 @@ use Rattle.std.specs.Prelude.{ℕ, ◌+◌, Bool, true, false, ◌||◌, ◌&&�
 use Rattle.std.specs.List.{fold, filter_map}
 use Rattle.std.specs.Str.{bytes_eq}
 use Rattle.byte_fields.specs.Numbers.{as_u32, as_u64}
-use Rattle.vol_tree.specs.Refusals.{when, unless_refused}
-use Rattle.vol_tree.specs.Path.{FilePath, resolved}
+use Rattle.file_paths.specs.Refusals.{when, unless_refused}
+use Rattle.file_paths.specs.Path.{FilePath, resolved}
 use Rattle.cmd_capture.specs.declared.command.Command.{Command}
 use Rattle.cmd_capture.specs.declared.capturing.CaptureError.{CaptureError}
 use Rattle.cmd_capture.specs.declared.capturing.CaptureError.TheVariants.{NoProgram, BadOption, BadInput, BadEnv, BadTemplate, NotAbsolute, ZeroByte, CommandTooLong}

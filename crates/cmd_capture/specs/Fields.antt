@@ -1,7 +1,8 @@
 -- The fields of each spelling in their order, given by their numbers of bytes.
 use Rattle.std.specs.Prelude.{ℕ, List, [], ◌∷◌, ◌++◌, length, Some}
 use Rattle.std.specs.List.{flat_map}
-use Rattle.vol_tree.specs.Fields.{path_fields, content_fields, node_fields}
+use Rattle.file_paths.specs.Fields.{path_fields, content_fields}
+use Rattle.vol_tree.specs.Fields.{node_fields}
 use Rattle.cmd_capture.specs.declared.command.Command.{Command}
 use Rattle.cmd_capture.specs.declared.job.Job.{Job}
 use Rattle.cmd_capture.specs.declared.job.JobRow.{JobRow}

@@ -2,9 +2,9 @@
 use Rattle.std.specs.Prelude.{◌≡◌, ℕ, Bool, ◌&&◌, not, nat_le, List, [], ◌∷◌, ◌++◌, Ok}
 use Rattle.std.specs.Int.{w8, w16, w32}
 use Rattle.byte_fields.specs.Field.{Reader, ◌>>=◌, ruled, none, tagged_at, span_at, number_at, each_at, limited}
-use Rattle.vol_tree.specs.Reading.{path_at, content_at}
-use Rattle.vol_tree.specs.declared.tree.Node.{Node}
-use Rattle.vol_tree.specs.declared.tree.Node.TheVariants.{Folder, File}
+use Rattle.file_paths.specs.Reading.{path_at, content_at}
+use Rattle.vol_tree.specs.declared.node.Node.{Node}
+use Rattle.vol_tree.specs.declared.node.Node.TheVariants.{Folder, File}
 use Rattle.cmd_capture.specs.declared.command.Command.{Command}
 use Rattle.cmd_capture.specs.declared.job.Job.{Job}
 use Rattle.cmd_capture.specs.declared.job.JobRow.{JobRow}

@@ -3,9 +3,9 @@ use Rattle.std.specs.Prelude.{◌≡◌, ℕ, ◌<◌, Bool, true, false, not, �
 use Rattle.std.specs.List.{list_all, filter_map, AllByRecursion}
 use Rattle.std.specs.Ordering.{is_lt}
 use Rattle.std.specs.declared.cmp.Ordering.TheVariants.{Less}
-use Rattle.vol_tree.specs.Path.{FilePath, IsPath, path_of, path_cmp, is_same_path, folder_of}
+use Rattle.file_paths.specs.Path.{FilePath, IsPath, path_of, path_cmp, is_same_path, folder_of}
 use Rattle.vol_tree.specs.Tree.{is_root, is_folder_node}
-use Rattle.vol_tree.specs.declared.tree.Node.{Node}
+use Rattle.vol_tree.specs.declared.node.Node.{Node}
 use Rattle.cmd_capture.specs.Capture.{ok}
 use Rattle.cmd_capture.specs.declared.job.JobRow.{JobRow}
 use Rattle.cmd_capture.specs.declared.job.RawRow.{RawRow}

@@ -1,7 +1,7 @@
 -- What one more run adds to those that a runner tells, and a script of runs, as contracts see it.
 use Rattle.std.specs.Prelude.{◌≡◌, ℕ, List, [], ◌∷◌, ◌++◌, drop, map, Option, Some, None, Result, Ok, Err}
 use Rattle.outside.specs.Memory.{one_more}
-use Rattle.vol_tree.specs.Path.{path_text}
+use Rattle.file_paths.specs.Path.{path_text}
 use Rattle.cmd_capture.specs.declared.job.Job.{Job}
 use Rattle.cmd_capture.specs.declared.job.JobRow.{JobRow}
 use Rattle.cmd_capture.specs.declared.job.RawRow.{RawRow}

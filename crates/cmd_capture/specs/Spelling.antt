@@ -4,10 +4,11 @@ use Rattle.std.specs.Prelude.{◌≡◌, ℕ, ◌<◌, ◌≤◌, ◌^◌, true,
 use Rattle.std.specs.List.{flat_map, AllByRecursion}
 use Rattle.std.specs.Int.{w8, w16, w32}
 use Rattle.byte_fields.specs.Field.{digits}
-use Rattle.vol_tree.specs.Path.{IsPath}
+use Rattle.file_paths.specs.Path.{IsPath}
 use Rattle.vol_tree.specs.Tree.{node_size}
-use Rattle.vol_tree.specs.Spelling.{path, content, node as node_or_none}
-use Rattle.vol_tree.specs.declared.tree.Node.{Node}
+use Rattle.file_paths.specs.Spelling.{path, content}
+use Rattle.vol_tree.specs.Spelling.{node as node_or_none}
+use Rattle.vol_tree.specs.declared.node.Node.{Node}
 use Rattle.cmd_capture.specs.declared.command.Command.{Command}
 use Rattle.cmd_capture.specs.declared.job.Job.{Job}
 use Rattle.cmd_capture.specs.declared.job.JobRow.{JobRow}

@@ -6,7 +6,7 @@ ghost use Rattle.std.specs.Option.{option_copied, option_to_list};
 ghost use Rattle.byte_fields.specs.Numbers.{as_u32};
 ghost use Rattle.cmd_capture.specs.declared.capturing.CaptureError.TheVariants.{Memory};
 ghost use Rattle.cmd_capture.specs.Spelling.{command as spelled_command, IsCommand};
-ghost use Rattle.vol_tree.specs.Refusals.{unless_refused};
+ghost use Rattle.file_paths.specs.Refusals.{unless_refused};
 ghost use Rattle.cmd_capture.specs.Rules as rules_of_parts;
 ghost use Rattle.cmd_capture.specs.Capture as rules;
 ghost use Rattle.cmd_capture.specs.Capture.{capture, options, program_words};

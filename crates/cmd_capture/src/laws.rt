@@ -3,7 +3,7 @@
 ghost use Rattle.std.specs.Prelude.{◌≡◌, ℕ, List, Ok};
 ghost use Rattle.byte_fields.specs.Codec.{IsCodec};
 ghost use Rattle.byte_fields.specs.Cuts.{IsCut};
-ghost use Rattle.vol_tree.specs.Path.{FilePath, IsPath};
+ghost use Rattle.file_paths.specs.Path.{FilePath, IsPath};
 ghost use Rattle.cmd_capture.specs.declared.command.Command.{Command};
 ghost use Rattle.cmd_capture.specs.Capture.{capture};
 ghost use Rattle.cmd_capture.specs.Fields.{command_fields, job_row_fields, job_fields};

@@ -4,7 +4,7 @@ ghost use Rattle.std.specs.Prelude.{◌≡◌, ◌++◌, length, OnOk, Some};
 ghost use Rattle.std.specs.List.{flat_map};
 ghost use Rattle.std.specs.Int.{w8, w16, w32};
 ghost use Rattle.byte_fields.specs.Field.{digits};
-ghost use Rattle.vol_tree.specs.Spelling.{content, path};
+ghost use Rattle.file_paths.specs.Spelling.{content, path};
 ghost use Rattle.cmd_capture.specs.Spelling as spelling;
 
 use crate::command::Command;

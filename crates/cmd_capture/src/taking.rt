@@ -2,7 +2,7 @@
 
 ghost use Rattle.std.specs.Prelude.{◌≡◌, ◌&&◌, false, [], take, IfOk};
 ghost use Rattle.byte_fields.specs.Field.{Gives, each_at};
-ghost use Rattle.vol_tree.specs.Reading.{path_at};
+ghost use Rattle.file_paths.specs.Reading.{path_at};
 ghost use Rattle.cmd_capture.specs.Environment.{has_key};
 ghost use Rattle.cmd_capture.specs.Rules.{is_text, is_program, is_key, is_pattern};
 ghost use Rattle.cmd_capture.specs.Reading.{bytes_at, text_at, template_at, is_new_key, variable_at, with_pair, variables_at, alike_at, counted_at, parts_at, command_at, file_at, node_at, job_row_at, job_rows_at, job_at};

@@ -4,10 +4,10 @@ use Rattle.std.specs.Prelude.{nat_lt, nat_le}
 use Rattle.std.specs.List.{AllByRecursion}
 use Rattle.std.proofs.lemmas.Bool.Decides.{nat_tests}
 use Rattle.std.proofs.lemmas.Bool.{eqb-false}
-use Rattle.vol_tree.specs.declared.tree.Effect.{Effect}
-use Rattle.vol_tree.specs.declared.tree.Effect.TheVariants.{Make, Put, Remove, Move}
-use Rattle.vol_tree.specs.declared.tree.TreeError.{TreeError}
-use Rattle.vol_tree.specs.Refusals.{unless_refused}
+use Rattle.vol_tree.specs.declared.node.Effect.{Effect}
+use Rattle.vol_tree.specs.declared.node.Effect.TheVariants.{Make, Put, Remove, Move}
+use Rattle.vol_tree.specs.declared.node.TreeError.{TreeError}
+use Rattle.file_paths.specs.Refusals.{unless_refused}
 use Rattle.vol_tree.specs.Tree.{Volume, refusals, changed, apply, IsLegalEffect}
 use Rattle.vol_tree.specs.Effects.{changed_all, unless_refused_at, apply_all, content_size, contents_size}
 use Rattle.vol_tree.specs.Spelling.{EffectFits, EffectsFit}

@@ -7,14 +7,14 @@ use Rattle.std.proofs.lemmas.List.Concat.{flat_map-cons}
 use Rattle.byte_fields.specs.Field.{ruled, number_at}
 use Rattle.byte_fields.specs.Codec.{Stands, IsCodec}
 use Rattle.byte_fields.proofs.Codec.{u8_codec, ruled_codec, found3, again3, fault3}
-use Rattle.vol_tree.specs.declared.tree.Effect.{Effect}
-use Rattle.vol_tree.specs.declared.tree.Effect.TheVariants.{Make, Put, Remove, Move}
-use Rattle.vol_tree.specs.Path.{FilePath, is_same_path}
+use Rattle.vol_tree.specs.declared.node.Effect.{Effect}
+use Rattle.vol_tree.specs.declared.node.Effect.TheVariants.{Make, Put, Remove, Move}
+use Rattle.file_paths.specs.Path.{FilePath, is_same_path}
 use Rattle.vol_tree.specs.Tree.{touched_paths}
 use Rattle.vol_tree.specs.Effects.{touched_all, distinct}
 use Rattle.vol_tree.specs.Spelling.{effects, bases, EffectsFit, AreBasesOf}
 use Rattle.vol_tree.specs.Reading.{bases_at}
-use Rattle.vol_tree.proofs.Parts.{effects_codec, bases_codec}
+use Rattle.tree_laws.proofs.Parts.{effects_codec, bases_codec}
 use Rattle.mod_log.specs.declared.log.Entry.{Entry}
 use Rattle.mod_log.specs.Log.{entry}
 use Rattle.mod_log.specs.Reading.{entry_at, EntryFits}

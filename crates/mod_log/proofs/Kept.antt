@@ -4,8 +4,8 @@ use Rattle.std.specs.Prelude.{slice_index_or}
 use Rattle.std.specs.List.{remove, flat_map}
 use Rattle.std.proofs.lemmas.List.{length-map, map-append}
 use Rattle.byte_fields.specs.Numbers.{as_u64}
-use Rattle.vol_tree.specs.declared.tree.Effect.{Effect}
-use Rattle.vol_tree.specs.Refusals.{when, unless_refused}
+use Rattle.vol_tree.specs.declared.node.Effect.{Effect}
+use Rattle.file_paths.specs.Refusals.{when, unless_refused}
 use Rattle.vol_tree.specs.Tree.{Volume}
 use Rattle.vol_tree.specs.declared.effects.ApplyAllError.{ApplyAllError}
 use Rattle.vol_tree.specs.declared.effects.ApplyAllError.TheVariants.{At, Memory as NoMemory}

@@ -2,11 +2,11 @@
 use Rattle.std.specs.Prelude.{ℕ, ◌+◌, Bool, ◌||◌, nat_lt, nat_le, ◌==◌, List, [], ◌∷◌, ◌++◌, length, Option, Some, None, Result, Ok, Err}
 use Rattle.std.specs.List.{flat_map}
 use Rattle.byte_fields.specs.Numbers.{as_u64}
-use Rattle.vol_tree.specs.Refusals.{when, unless_refused}
+use Rattle.file_paths.specs.Refusals.{when, unless_refused}
 use Rattle.vol_tree.specs.Tree.{Volume}
 use Rattle.vol_tree.specs.Effects.{apply_all, base_of, contents_size}
-use Rattle.vol_tree.specs.declared.tree.Effect.{Effect}
-use Rattle.vol_tree.specs.declared.tree.TreeError.{TreeError}
+use Rattle.vol_tree.specs.declared.node.Effect.{Effect}
+use Rattle.vol_tree.specs.declared.node.TreeError.{TreeError}
 use Rattle.mod_log.specs.declared.log.Entry.{Entry}
 use Rattle.mod_log.specs.declared.log.LogError.{LogError}
 use Rattle.mod_log.specs.declared.log.LogError.TheVariants.{EntryTooLarge, LogFull, LastNumber, Tree}

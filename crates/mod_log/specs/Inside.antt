@@ -2,11 +2,11 @@
 use Rattle.std.specs.Prelude.{◌≡◌, ℕ, ◌+◌, List, [], ◌∷◌, length, ⊤, map, Option}
 use Rattle.std.specs.List.{flat_map}
 use Rattle.byte_fields.specs.Numbers.{as_u64}
-use Rattle.vol_tree.specs.declared.tree.Effect.{Effect}
-use Rattle.vol_tree.specs.declared.tree.Base.{Base}
+use Rattle.vol_tree.specs.declared.node.Effect.{Effect}
+use Rattle.vol_tree.specs.declared.node.Base.{Base}
 use Rattle.vol_tree.specs.declared.effects.ApplyAllError.{ApplyAllError}
 use Rattle.vol_tree.specs.declared.effects.ApplyAllError.TheVariants.{At, Memory as NoMemory}
-use Rattle.vol_tree.specs.Refusals.{when}
+use Rattle.file_paths.specs.Refusals.{when}
 use Rattle.vol_tree.specs.Tree.{Volume}
 use Rattle.vol_tree.specs.Effects.{changed_all}
 use Rattle.vol_tree.specs.Undos.{undone_all, CanUndoAll}

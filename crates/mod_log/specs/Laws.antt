@@ -1,7 +1,7 @@
 -- What logging, acknowledging and pulling leave, in their own words.
 use Rattle.std.specs.Prelude.{◌≡◌, ℕ, ◌+◌, ◌≤◌, List, [], length, Ok}
 use Rattle.std.specs.List.{AllByRecursion}
-use Rattle.vol_tree.specs.declared.tree.Effect.{Effect}
+use Rattle.vol_tree.specs.declared.node.Effect.{Effect}
 use Rattle.vol_tree.specs.Tree.{Volume, IsTree, IsLegalEffect}
 use Rattle.vol_tree.specs.Effects.{changed_all}
 use Rattle.mod_log.specs.Log.{Log, tree_of, tree_after, IsLog, new_log_of, logged, acknowledged, pulled}

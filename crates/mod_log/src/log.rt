@@ -4,7 +4,7 @@ ghost use Rattle.std.specs.Option.{option_copied};
 ghost use Rattle.byte_fields.specs.Numbers.{as_u64};
 ghost use Rattle.vol_tree.specs.Effects.{base_of as bases_of, contents_size as contents_total};
 ghost use Rattle.vol_tree.specs.Spelling.{EffectsFit};
-ghost use Rattle.vol_tree.specs.Refusals.{when, unless_refused};
+ghost use Rattle.file_paths.specs.Refusals.{when, unless_refused};
 ghost use Rattle.mod_log.specs.declared.log.LogError.TheVariants.{Memory, EntryTooLarge};
 ghost use Rattle.mod_log.specs.Log.{IsLog, IsEntryOf, tree_after, entry as spelled, new_log_of, acknowledged, pulled, tree_of};
 ghost use Rattle.mod_log.specs.Append.{appended, is_too_large, has_no_room, is_at_last};

@@ -3,9 +3,9 @@ use Rattle.std.proofs.Common.{◌≡◌, ℕ, ◌+◌, ◌<◌, ◌≤◌, Bool,
 use Rattle.std.specs.Prelude.{◌==◌, nat_lt, nat_le, if◌then◌else◌, IfOk, OnOk}
 use Rattle.std.specs.List.{AllByRecursion}
 use Rattle.std.proofs.lemmas.Bool.Decides.{nat_tests}
-use Rattle.vol_tree.specs.declared.tree.Base.{Base}
-use Rattle.vol_tree.specs.declared.tree.Effect.{Effect}
-use Rattle.vol_tree.specs.declared.tree.TreeError.{TreeError}
+use Rattle.vol_tree.specs.declared.node.Base.{Base}
+use Rattle.vol_tree.specs.declared.node.Effect.{Effect}
+use Rattle.vol_tree.specs.declared.node.TreeError.{TreeError}
 use Rattle.vol_tree.specs.Tree.{Volume, version_at, apply}
 use Rattle.vol_tree.specs.Effects.{apply_all, unless_refused_at, Conflict, first_conflict}
 use Rattle.vol_tree.proofs.Steps.{apply_all-append}

@@ -1,10 +1,10 @@
 -- Words that only the contracts of private functions cite.
 use Rattle.std.specs.Prelude.{◌≡◌, ℕ, List, not, ◌==◌, Bool, Result, Ok, Err}
-use Rattle.vol_tree.specs.declared.tree.Base.{Base}
+use Rattle.vol_tree.specs.declared.node.Base.{Base}
 use Rattle.vol_tree.specs.Tree.{Volume, version_at}
 use Rattle.vol_tree.specs.Effects.{apply_all, Conflict}
-use Rattle.vol_tree.specs.declared.tree.Effect.{Effect}
-use Rattle.vol_tree.specs.declared.tree.TreeError.{TreeError}
+use Rattle.vol_tree.specs.declared.node.Effect.{Effect}
+use Rattle.vol_tree.specs.declared.node.TreeError.{TreeError}
 use Rattle.wire_frames.specs.declared.message.Message.{Message}
 use Rattle.wire_frames.specs.declared.message.Message.TheVariants.{Accepted, Store}
 use Rattle.wire_frames.specs.Frame.{frame}

@@ -1,10 +1,10 @@
 -- What a server answers to a store, case by case, and what becomes of stores that come in any order and any number of times.
 use Rattle.std.specs.Prelude.{◌≡◌, ℕ, ◌+◌, ◌<◌, ◌≤◌, List, [], ◌∷◌, ◌++◌, length, map, filter, count_by, ◌==◌, Ok, Err, true, false}
 use Rattle.std.specs.List.{AllByRecursion, flat_map, range_with_len}
-use Rattle.vol_tree.specs.Path.{FilePath, is_same_path}
-use Rattle.vol_tree.specs.declared.tree.Base.{Base}
-use Rattle.vol_tree.specs.declared.tree.Effect.{Effect}
-use Rattle.vol_tree.specs.declared.tree.TreeError.{TreeError}
+use Rattle.file_paths.specs.Path.{FilePath, is_same_path}
+use Rattle.vol_tree.specs.declared.node.Base.{Base}
+use Rattle.vol_tree.specs.declared.node.Effect.{Effect}
+use Rattle.vol_tree.specs.declared.node.TreeError.{TreeError}
 use Rattle.vol_tree.specs.Tree.{Volume, version_at, apply}
 use Rattle.vol_tree.specs.Effects.{apply_all, touched_all}
 use Rattle.wire_frames.specs.Frame.{client_of, number_of}

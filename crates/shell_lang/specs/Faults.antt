@@ -1,10 +1,10 @@
 -- The texts of refusals: the name of the variant, then its values, each behind a space.
 use Rattle.std.specs.Prelude.{◌≢◌, ⊤, ℕ, List, [], ◌∷◌, ◌++◌, codes, decimal}
-use Rattle.vol_tree.specs.Path.{FilePath, path_text}
-use Rattle.vol_tree.specs.declared.path.PathError.{PathError}
-use Rattle.vol_tree.specs.declared.path.PathError.TheVariants as paths
-use Rattle.vol_tree.specs.declared.tree.TreeError.{TreeError}
-use Rattle.vol_tree.specs.declared.tree.TreeError.TheVariants as trees
+use Rattle.file_paths.specs.Path.{FilePath, path_text}
+use Rattle.file_paths.specs.declared.path.PathError.{PathError}
+use Rattle.file_paths.specs.declared.path.PathError.TheVariants as paths
+use Rattle.vol_tree.specs.declared.node.TreeError.{TreeError}
+use Rattle.vol_tree.specs.declared.node.TreeError.TheVariants as trees
 use Rattle.mod_log.specs.declared.log.LogError.{LogError}
 use Rattle.mod_log.specs.declared.log.LogError.TheVariants as logs
 use Rattle.shell_lang.specs.declared.line.LineError.{LineError}

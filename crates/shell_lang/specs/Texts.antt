@@ -1,8 +1,8 @@
 -- The text of each answer.
 use Rattle.std.specs.Prelude.{◌≢◌, ⊤, ℕ, List, [], ◌∷◌, ◌++◌, length, codes, decimal, flat_map, if◌then◌else◌}
-use Rattle.vol_tree.specs.Path.{path_text}
+use Rattle.file_paths.specs.Path.{path_text}
 use Rattle.shell_lang.specs.Faults.{number, path, tree_fault_text, fault_text, IsShown}
-use Rattle.vol_tree.specs.declared.tree.TreeError.TheVariants as trees
+use Rattle.vol_tree.specs.declared.node.TreeError.TheVariants as trees
 use Rattle.shell_lang.specs.declared.answer.Child.{Child}
 use Rattle.shell_lang.specs.declared.answer.Answer.{Answer}
 use Rattle.shell_lang.specs.declared.answer.Answer.TheVariants as answers

@@ -12,13 +12,17 @@ use Rattle.byte_fields.specs.Codec.{Stands}
 use Rattle.byte_fields.specs.Broken.{IsRefused}
 use Rattle.byte_fields.proofs.Codec.{u8_codec, u64_codec, span_codec, ruled_codec}
 use Rattle.byte_fields.proofs.Breaking.{read_again, refused_there, rule_refused, ruled_refused, first_refused, later_refused, tagged_refused, kind_refused, above, second_fails}
-use Rattle.vol_tree.specs.declared.tree.Base.{Base}
-use Rattle.vol_tree.specs.Path.{FilePath, is_same_path}
+use Rattle.vol_tree.specs.declared.node.Base.{Base}
+use Rattle.file_paths.specs.Path.{FilePath, is_same_path}
 use Rattle.vol_tree.specs.Tree.{Volume, IsTree, apply}
-use Rattle.vol_tree.specs.Spelling.{path, effect, rows}
-use Rattle.vol_tree.specs.Reading.{path_at, effect_at, rows_at}
-use Rattle.vol_tree.proofs.Parts.{path_codec, effect_codec, rows_codec, tied_path, path_tied}
-use Rattle.vol_tree.proofs.Sizes.{eight_digits}
+use Rattle.file_paths.specs.Spelling.{path}
+use Rattle.vol_tree.specs.Spelling.{effect, rows}
+use Rattle.file_paths.specs.Reading.{path_at}
+use Rattle.vol_tree.specs.Reading.{effect_at, rows_at}
+use Rattle.file_paths.proofs.Parts.{path_codec}
+use Rattle.tree_laws.proofs.Parts.{effect_codec, rows_codec}
+use Rattle.file_paths.proofs.Order.{tied_path, path_tied}
+use Rattle.file_paths.proofs.Sizes.{eight_digits}
 use Rattle.mod_log.specs.Log.{Log, new_log_of}
 use Rattle.store_image.specs.declared.image.ImageError.TheVariants.{BadImage}
 use Rattle.store_image.specs.Reading.{growing_effect_at, known_base_at, next_entry_at, entries_at, log_at, marked, client_mark, client_body_at, client_versions, client_at, numbers_at, server_mark, server_body_at, server_versions, server_at}

@@ -9,8 +9,8 @@ use Rattle.std.proofs.lemmas.List.Sums.{sum_by-cons}
 use Rattle.byte_fields.specs.Field.{Reader, ◌>>=◌, digits, ruled, number_at, each_at}
 use Rattle.byte_fields.specs.Broken.{IsRefused, passed, EachIsRead}
 use Rattle.byte_fields.proofs.Breaking.{read_again, refused_there, ruled_refused, first_refused, later_refused, above, second_fails, count_refused, counted_refused, items_refused, each_read}
-use Rattle.vol_tree.specs.declared.tree.Effect.{Effect}
-use Rattle.vol_tree.specs.declared.tree.Base.{Base}
+use Rattle.vol_tree.specs.declared.node.Effect.{Effect}
+use Rattle.vol_tree.specs.declared.node.Base.{Base}
 use Rattle.vol_tree.specs.Tree.{Volume, IsTree, apply, changed}
 use Rattle.vol_tree.specs.Effects.{content_size, contents_size, changed_all, base_of}
 use Rattle.vol_tree.specs.Spelling.{effect, effects, base, BaseFits}

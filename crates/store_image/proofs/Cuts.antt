@@ -10,14 +10,18 @@ use Rattle.byte_fields.specs.Field.{Reader, digits, ruled, limited, number_at, t
 use Rattle.byte_fields.specs.Cuts.{start_of, IsCut}
 use Rattle.byte_fields.proofs.Codec.{u32_codec, u64_codec, span_codec, ruled_codec, stands_first, stands_second}
 use Rattle.byte_fields.proofs.Cutting.{sum_more, sum_both, then_cut, span_cut, ruled_cut, cut_for, u8_cut, u32_cut, u64_cut, two_cut, three_cut, tagged_cut, each_cut, counted_cut}
-use Rattle.vol_tree.specs.Path.{is_same_path}
-use Rattle.vol_tree.specs.declared.tree.Base.{Base}
+use Rattle.file_paths.specs.Path.{is_same_path}
+use Rattle.vol_tree.specs.declared.node.Base.{Base}
 use Rattle.vol_tree.specs.Tree.{Volume, IsTree, apply}
 use Rattle.vol_tree.specs.Effects.{base_of}
-use Rattle.vol_tree.specs.Spelling.{path, base, bases, effect, effects, rows}
-use Rattle.vol_tree.specs.Fields.{path_fields, base_fields, bases_fields, effect_fields, effects_fields, rows_fields}
-use Rattle.vol_tree.proofs.Parts.{path_codec, path_tied, rows_codec}
-use Rattle.vol_tree.proofs.CutParts.{path_cut, effect_cut, rows_cut}
+use Rattle.file_paths.specs.Spelling.{path}
+use Rattle.vol_tree.specs.Spelling.{base, bases, effect, effects, rows}
+use Rattle.file_paths.specs.Fields.{path_fields}
+use Rattle.vol_tree.specs.Fields.{base_fields, bases_fields, effect_fields, effects_fields, rows_fields}
+use Rattle.file_paths.proofs.Parts.{path_codec, path_cut}
+use Rattle.file_paths.proofs.Order.{path_tied}
+use Rattle.tree_laws.proofs.Parts.{rows_codec}
+use Rattle.tree_laws.proofs.CutParts.{effect_cut, rows_cut}
 use Rattle.mod_log.specs.Log.{Log, entry, tree_of, AreEntriesOf, IsLog, new_log_of}
 use Rattle.store_image.specs.Reading.{Growing, growing_effect_at, grown, applied_effects_at, known_base_at, first_base_at, others_after, known_bases_at, next_entry_at, with_entry, is_count, entries_at, log_at, marked, client_mark, server_mark, client_body_at, client_at, numbers_at, server_body_at, server_at}
 use Rattle.store_image.specs.Spelling.{entries, log, client, ClientFits, numbers, server, ServerFits}

@@ -7,14 +7,14 @@ use Rattle.std.proofs.lemmas.List.{length-map}
 use Rattle.byte_fields.specs.Field.{EachFits, ruled, number_at}
 use Rattle.byte_fields.specs.Codec.{Stands, IsBytes, IsCodec}
 use Rattle.byte_fields.proofs.Codec.{u8_codec, u32_codec, u64_codec, ruled_codec, found3, again3, fault3, each_codec, counted_codec, limited_codec, codec_for}
-use Rattle.vol_tree.specs.Path.{FilePath}
-use Rattle.vol_tree.specs.declared.tree.Base.{Base}
-use Rattle.vol_tree.specs.declared.tree.Effect.{Effect}
+use Rattle.file_paths.specs.Path.{FilePath}
+use Rattle.vol_tree.specs.declared.node.Base.{Base}
+use Rattle.vol_tree.specs.declared.node.Effect.{Effect}
 use Rattle.vol_tree.specs.Tree.{Volume, IsTree, version_at}
 use Rattle.vol_tree.specs.Effects.{changed_all, base_of, touched_all, distinct}
 use Rattle.vol_tree.specs.Spelling.{effects, bases, BaseFits, EffectsFit}
-use Rattle.vol_tree.proofs.Few.{touched_few}
-use Rattle.vol_tree.proofs.Parts.{rows_codec}
+use Rattle.tree_laws.proofs.Few.{touched_few}
+use Rattle.tree_laws.proofs.Parts.{rows_codec}
 use Rattle.mod_log.specs.declared.log.Entry.{Entry}
 use Rattle.mod_log.specs.Log.{Log, entry, after, tree_of, IsEntryOf, AreEntriesOf, IsLog, new_log_of, logged}
 use Rattle.mod_log.proofs.Entries.{after-append, after-tree, AreEntriesOf-push}

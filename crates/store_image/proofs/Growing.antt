@@ -7,12 +7,12 @@ use Rattle.std.proofs.lemmas.List.Sums.{sum_by-cons}
 use Rattle.byte_fields.specs.Field.{EachFits}
 use Rattle.byte_fields.specs.Codec.{IsCodec}
 use Rattle.byte_fields.proofs.Codec.{u32_codec, ruled_codec, each_codec, counted_codec, codec_for}
-use Rattle.vol_tree.specs.declared.tree.Effect.{Effect}
-use Rattle.vol_tree.specs.declared.tree.TreeError.{TreeError}
+use Rattle.vol_tree.specs.declared.node.Effect.{Effect}
+use Rattle.vol_tree.specs.declared.node.TreeError.{TreeError}
 use Rattle.vol_tree.specs.Tree.{Volume, apply, changed}
 use Rattle.vol_tree.specs.Effects.{content_size, changed_all, apply_all, unless_refused_at}
 use Rattle.vol_tree.specs.Spelling.{effect, effects, EffectFits, EffectFitsIn, EffectsFit}
-use Rattle.vol_tree.proofs.Parts.{effect_codec}
+use Rattle.tree_laws.proofs.Parts.{effect_codec}
 use Rattle.vol_tree.proofs.Behind.{applied-changed}
 use Rattle.store_image.specs.Reading.{Growing, growing_effect_at, grown, applied_effects_at}
 

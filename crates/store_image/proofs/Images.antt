@@ -10,7 +10,7 @@ use Rattle.byte_fields.specs.Codec.{Stands, IsCodec}
 use Rattle.byte_fields.proofs.Codec.{IsBranch, bind_ok, bind_err, span_codec, u8_codec, u64_codec, ruled_codec, found2, again2, fault2, each_codec, tagged_found, tagged_fault, tagged_again, codec_for, later_fault, stands_both, stands_first, stands_second}
 use Rattle.vol_tree.specs.Tree.{Volume}
 use Rattle.vol_tree.specs.Spelling.{rows}
-use Rattle.vol_tree.proofs.Parts.{rows_codec}
+use Rattle.tree_laws.proofs.Parts.{rows_codec}
 use Rattle.mod_log.specs.Log.{Log}
 use Rattle.store_image.specs.declared.image.ClientImage.{ClientImage}
 use Rattle.store_image.specs.declared.image.ServerImage.{ServerImage}

@@ -5,7 +5,8 @@ use Rattle.std.specs.List.{flat_map}
 use Rattle.std.proofs.lemmas.List.Concat.{flat_map-cons}
 use Rattle.byte_fields.specs.Field.{digits}
 use Rattle.vol_tree.specs.Spelling.{rows}
-use Rattle.vol_tree.proofs.Sizes.{four_digits, eight_digits, rows_size}
+use Rattle.file_paths.proofs.Sizes.{four_digits, eight_digits}
+use Rattle.vol_tree.proofs.Sizes.{rows_size}
 use Rattle.mod_log.specs.Log.{Log, entry, IsLog}
 use Rattle.store_image.specs.declared.image.ClientImage.{ClientImage}
 use Rattle.store_image.specs.declared.image.ServerImage.{ServerImage}

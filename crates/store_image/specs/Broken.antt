@@ -7,14 +7,16 @@ use Rattle.byte_fields.specs.Field.{digits}
 use Rattle.byte_fields.specs.Numbers.{as_u32}
 use Rattle.byte_fields.specs.Cuts.{start_of}
 use Rattle.byte_fields.specs.Broken.{IsRefused}
-use Rattle.vol_tree.specs.declared.tree.Effect.{Effect}
-use Rattle.vol_tree.specs.declared.tree.Base.{Base}
-use Rattle.vol_tree.specs.declared.tree.TreeError.{TreeError}
-use Rattle.vol_tree.specs.Path.{FilePath, IsPath}
+use Rattle.vol_tree.specs.declared.node.Effect.{Effect}
+use Rattle.vol_tree.specs.declared.node.Base.{Base}
+use Rattle.vol_tree.specs.declared.node.TreeError.{TreeError}
+use Rattle.file_paths.specs.Path.{FilePath, IsPath}
 use Rattle.vol_tree.specs.Tree.{Volume, IsTree, apply}
 use Rattle.vol_tree.specs.Effects.{content_size, contents_size, changed_all, apply_all, base_of}
-use Rattle.vol_tree.specs.Spelling.{path, effect, effects, base, rows, EffectFits}
-use Rattle.vol_tree.specs.Reading.{path_at, effect_at, rows_at}
+use Rattle.file_paths.specs.Spelling.{path}
+use Rattle.vol_tree.specs.Spelling.{effect, effects, base, rows, EffectFits}
+use Rattle.file_paths.specs.Reading.{path_at}
+use Rattle.vol_tree.specs.Reading.{effect_at, rows_at}
 use Rattle.mod_log.specs.declared.log.Entry.{Entry}
 use Rattle.mod_log.specs.Log.{Log, entry, tree_of, AreEntriesOf, IsLog, new_log_of}
 use Rattle.store_image.specs.declared.image.ImageError.TheVariants.{BadImage}

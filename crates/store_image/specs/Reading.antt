@@ -5,12 +5,13 @@ use Rattle.std.specs.Int.{w8, w32, w64}
 use Rattle.std.specs.Str.{bytes_eq}
 use Rattle.std.specs.Result.{is_ok}
 use Rattle.byte_fields.specs.Field.{Reader, ◌>>=◌, ruled, limited, span_at, number_at, tagged_at, each_at}
-use Rattle.vol_tree.specs.Path.{is_same_path}
+use Rattle.file_paths.specs.Path.{is_same_path}
 use Rattle.vol_tree.specs.Tree.{Volume, apply, changed}
 use Rattle.vol_tree.specs.Effects.{base_of}
-use Rattle.vol_tree.specs.Reading.{path_at, effect_at, room_after, rows_at}
-use Rattle.vol_tree.specs.declared.tree.Effect.{Effect}
-use Rattle.vol_tree.specs.declared.tree.Base.{Base}
+use Rattle.file_paths.specs.Reading.{path_at}
+use Rattle.vol_tree.specs.Reading.{effect_at, room_after, rows_at}
+use Rattle.vol_tree.specs.declared.node.Effect.{Effect}
+use Rattle.vol_tree.specs.declared.node.Base.{Base}
 use Rattle.mod_log.specs.declared.log.Entry.{Entry}
 use Rattle.mod_log.specs.Log.{Log, tree_of, new_log_of, logged}
 use Rattle.store_image.specs.declared.image.ClientImage.{ClientImage}

@@ -27,23 +27,10 @@ use Rattle.file_paths.specs.Reading.{path_at, content_at}
 use Rattle.vol_tree.specs.Reading.{make_at, put_at, remove_at, move_at, effect_kinds, effect_at, room_after, effects_within, base_at, first_base_at, others_after, bases_at, may_stand, file_at, node_kinds, standing_at, room_beside, next_row_at, with_next, rows_at}
 use Rattle.file_paths.specs.Broken.{BrokenTexts, BrokenLengths}
 use Rattle.tree_laws.specs.Broken.{BrokenEffects, BrokenEffectLists, BrokenBases, IsNext, BrokenRows, BrokenRowLists}
-use Rattle.file_paths.proofs.Parts.{path_codec}
+use Rattle.file_paths.proofs.Parts.{path_codec, length_refused}
 use Rattle.tree_laws.proofs.Parts.{effect_codec, rooms_again, first_base_fits, first_base_codec, path_part, version_part, NextFits, next_row_codec, rows_again}
 use Rattle.file_paths.proofs.Order.{tied_path, is_less}
-
--- ---- paths and contents
-
-pub text_refused : BrokenTexts
-unfolding path_at digits
-text_refused text cause small none =
-    later_refused (number_at w16) (λ n. mapped path_of (span_at n)) (digits w16 (length text)) text (length text) 0 (read_again u16_codec (length text) small)
-    (meaning_refused (span_at (length text)) path_of text text cause (read_again (span_codec (length text)) text refl) none)
-
-pub length_refused : BrokenLengths
-unfolding content_at
-length_refused limit size large small =
-    first_refused (ruled (λ n. leb n limit) (number_at w32)) (λ n. span_at n) (digits w32 size) 0
-    (rule_refused (number_at w32) (λ n. leb n limit) (digits w32 size) size (read_again u32_codec size small) (above size limit large))
+use Rattle.file_paths.proofs.Sizes.{eight_digits}
 
 large_refused : (room size : ℕ) → size < 2 ^ 32 → (8388608 < size) ⊎ (room < size) → IsRefused (content_at (min 8388608 room)) (digits w32 size) 0
 large_refused room size small large = length_refused (min 8388608 room) size (elim large [ inl h ↦ omega arith | inr h ↦ omega arith ]) small
@@ -252,14 +239,10 @@ file_refused room size small large =
     tagged_refused (node_kinds true room) 2 (file_at room) (digits w32 size) 0 (lit< tt) (λ tag at bytes. refl)
     (first_refused (content_at (min 8388608 room)) (λ c. none (Some (File c))) (digits w32 size) 0 (large_refused room size small large))
 
-pub eight_bytes : (n : ℕ) → length (digits w64 n) ≡ 8
-unfolding digits
-eight_bytes n = refl
-
 node_there : (before : Volume) (p : FilePath) (version kind : ℕ) → IsNext before p version → kind < 2 ^ 8 → (2 < kind) ⊎ ((is_folder before (folder_of p) ≡ false) × (1 ≤ kind))
     → IsRefused (next_row_at before) (path p ++ (digits w64 version ++ kind ∷ [])) (length (path p) + 8)
 node_there before p version kind next byte none =
-    refused_there (next_row_at before) (path p ++ (digits w64 version ++ kind ∷ [])) (length (path p) + (length (digits w64 version) + 0)) (length (path p) + 8) (omega (arith, eight_bytes version))
+    refused_there (next_row_at before) (path p ++ (digits w64 version ++ kind ∷ [])) (length (path p) + (length (digits w64 version) + 0)) (length (path p) + 8) (omega (arith, eight_digits version))
     (node_refused before p version (kind ∷ []) 0 next (node_kind_refused (is_folder before (folder_of p)) (room_beside before) kind byte none))
 
 pub broken_rows : BrokenRows
@@ -276,7 +259,7 @@ broken_rows = record {
   kind_is_none = λ before p version kind next large byte. node_there before p version kind next byte (inl large);
   parent_is_no_folder = λ before p version kind next orphan some byte. node_there before p version kind next byte (inr (orphan, some));
   content_is_large = λ before p version size next folder tree small large.
-      refused_there (next_row_at before) (path p ++ (digits w64 version ++ (2 ∷ digits w32 size))) (length (path p) + (length (digits w64 version) + (1 + 0))) (length (path p) + 9) (omega (arith, eight_bytes version))
+      refused_there (next_row_at before) (path p ++ (digits w64 version ++ (2 ∷ digits w32 size))) (length (path p) + (length (digits w64 version) + (1 + 0))) (length (path p) + 9) (omega (arith, eight_digits version))
       (node_refused before p version (2 ∷ digits w32 size) (1 + 0) next
       (subst (λ (in_folder : Bool). IsRefused (standing_at in_folder (room_beside before)) (2 ∷ digits w32 size) (1 + 0)) (sym folder) (file_refused (room_beside before) size small (past before size tree large))));
 }

@@ -19,24 +19,12 @@ use Rattle.vol_tree.specs.Tree.{Volume, IsTree, is_folder}
 use Rattle.file_paths.specs.Spelling.{path, content}
 use Rattle.vol_tree.specs.Spelling.{effect, effects, base, bases, node, row, rows, EffectFitsIn, EffectsFitWithin, EffectsFit, BaseFits, AreBasesOf}
 use Rattle.file_paths.specs.Fields.{path_fields, content_fields}
-use Rattle.tree_laws.specs.Fields.{effect_fields, effects_fields, base_fields, bases_fields, node_fields, row_fields, rows_fields}
+use Rattle.vol_tree.specs.Fields.{effect_fields, effects_fields, base_fields, bases_fields, node_fields, row_fields, rows_fields}
 use Rattle.file_paths.specs.Reading.{path_at, content_at}
 use Rattle.vol_tree.specs.Reading.{make_at, put_at, remove_at, move_at, effect_kinds, effect_at, room_after, effects_within, effects_at, base_at, first_base_at, others_after, bases_at, may_stand, file_at, node_kinds, standing_at, room_beside, next_row_at, with_next, rows_at}
-use Rattle.file_paths.proofs.Parts.{path_codec}
+use Rattle.file_paths.proofs.Parts.{path_codec, path_cut, content_cut}
 use Rattle.tree_laws.proofs.Parts.{effect_codec, rooms_again, first_base_fits, first_base_codec, bases_again, NodeFits, NextFits, path_part, version_part, next_row_codec, rows_again}
 use Rattle.file_paths.proofs.Order.{path_tied}
-
-pub path_cut : IsCut path_at path path_fields IsPath
-unfolding path_at
-path_cut =
-    cut_for (counted_cut (λ (p : FilePath). length (path_text p)) u16_codec u16_cut (λ n lt. mapped_cut (span_cut n) path_of path_text IsPath))
-    (λ p fits. (omega (arith, fits.short), (refl, fits)))
-
-pub content_cut : (limit : ℕ) → limit < 2 ^ 32 → IsCut (content_at limit) content content_fields (λ c. length c ≤ limit)
-unfolding content_at
-content_cut limit lt =
-    cut_for (counted_cut length (ruled_codec (λ n. leb n limit) u32_codec) (ruled_cut u32_cut (λ n. leb n limit)) (λ n fits. span_cut n))
-    (λ c le. ((omega arith, le-leb (length c) limit le), refl))
 
 put_cut : (room : ℕ) → IsCut (content_at (min 8388608 room)) content content_fields (λ c. length c ≤ min 8388608 room)
 put_cut room = content_cut (min 8388608 room) (omega arith)

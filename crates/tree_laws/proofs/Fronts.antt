@@ -12,7 +12,7 @@ use Rattle.vol_tree.specs.declared.node.Row.{Row}
 use Rattle.vol_tree.specs.Tree.{Volume, AreInOrder, IsRow, IsTree, row_at, node_at, is_root, is_folder, is_folder_node}
 use Rattle.vol_tree.specs.Inside.{is_at}
 use Rattle.file_paths.proofs.Order.{paths_total}
-use Rattle.vol_tree.proofs.Rows.{all_map, find_none, is_at_equal, size_append}
+use Rattle.vol_tree.proofs.Ordered.{all_map, find_none, is_at_equal, size_append}
 
 -- a folder is before what it has
 folder_before : (first : List ℕ) (rest : FilePath) → path_cmp (folder_of (first ∷ rest)) (first ∷ rest) ≡ Less

@@ -28,26 +28,11 @@ use Rattle.vol_tree.specs.Spelling.{effect, effects, base, bases, node, row, row
 use Rattle.file_paths.specs.Reading.{path_at, content_at}
 use Rattle.vol_tree.specs.Reading.{make_at, put_at, remove_at, move_at, effect_kinds, effect_at, room_after, effects_within, effects_at, base_at, first_base_at, others_after, bases_at, may_stand, file_at, node_kinds, standing_at, room_beside, next_row_at, with_next, rows_at}
 use Rattle.byte_fields.proofs.Codec.{IsBranch, span_codec, u16_codec, u32_codec, u64_codec, ruled_codec, mapped_codec, here_fault, place_is, found2, fault2, again2, found3, fault3, again3, each_codec, tagged_found, tagged_fault, tagged_again0, tagged_again1, tagged_again2, branch0, branch1, branch2, counted_codec, codec_for}
-use Rattle.file_paths.proofs.Order.{same_path, same_place}
+use Rattle.file_paths.proofs.Order.{same_path, same_place, tied_path, path_tied}
 use Rattle.file_paths.proofs.PathTexts.{path_of_text, text_of_path_read}
 use Rattle.vol_tree.proofs.Appending.{tree_with_row, follows_in_tree}
 use Rattle.tree_laws.proofs.Fronts.{back_all, front_is_tree}
-
--- ---- paths and contents
-
-pub path_codec : IsCodec path_at path IsPath
-unfolding path_at
-path_codec =
-    codec_for (counted_codec (λ (p : FilePath). length (path_text p)) u16_codec (λ n lt. mapped_codec path_text (span_codec n) path_of_text text_of_path_read) (λ n p fits. fits.0))
-    (λ p fits. fits.1.1)
-    (λ p fits. (omega (arith, fits.short), (refl, fits)))
-
-pub content_codec : (limit : ℕ) → limit < 2 ^ 32 → IsCodec (content_at limit) content (λ c. length c ≤ limit)
-unfolding content_at
-content_codec limit lt =
-    codec_for (counted_codec length (ruled_codec (λ n. leb n limit) u32_codec) (λ n fits. span_codec n) (λ n t len. len))
-    (λ c fits. leb-true (length c) limit fits.0.1)
-    (λ c le. ((omega arith, le-leb (length c) limit le), refl))
+use Rattle.file_paths.proofs.Parts.{path_codec, content_codec}
 
 -- a content of a file, where there is so much room
 pub put_content : (room : ℕ) → IsCodec (content_at (min 8388608 room)) content (λ c. length c ≤ min 8388608 room)
@@ -117,17 +102,6 @@ unfolding effects_at
 effects_codec = effects_within_codec 4096 33554432 (lit< tt)
 
 -- ---- bases
-
-pub tied_path : (a b : FilePath) → is_same_path a b ≡ true → a ≡ b
-tied_path a b e = by (path_cmp a b) refl e
-  where
-    by : (o : Ordering) → path_cmp a b ≡ o → is_eq o ≡ true → a ≡ b
-    by Equal h e = same_path a b h
-    by Less h e = absurd cc
-    by Greater h e = absurd cc
-
-pub path_tied : (a b : FilePath) → a ≡ b → is_same_path a b ≡ true
-path_tied a b e = subst (λ (p : FilePath). is_same_path a p ≡ true) e (ap is_eq (same_place a))
 
 pub base_codec : (known : FilePath) → IsCodec (base_at known) base (λ b. BaseFits b × (b.path ≡ known))
 unfolding base_at

@@ -9,6 +9,8 @@ use Rattle.file_paths.specs.declared.path.PathError.{PathError}
 use Rattle.vol_tree.specs.declared.node.Effect.{Effect}
 use Rattle.vol_tree.specs.declared.node.Base.{Base}
 use Rattle.vol_tree.specs.declared.node.Row.{Row}
+use Rattle.file_paths.specs.Limits.{max_file}
+use Rattle.vol_tree.specs.Limits.{max_rows, max_files}
 use Rattle.file_paths.specs.Path.{FilePath, IsPath, path_of, path_cmp, folder_of}
 use Rattle.vol_tree.specs.Tree.{Volume, IsTree, is_folder, total_size}
 use Rattle.vol_tree.specs.Effects.{contents_size}
@@ -17,14 +19,6 @@ use Rattle.file_paths.specs.Spelling.{path}
 use Rattle.vol_tree.specs.Spelling.{effect, base, row, EffectFits, AreBasesOf}
 use Rattle.file_paths.specs.Reading.{path_at, content_at}
 use Rattle.vol_tree.specs.Reading.{effect_at, effects_within, base_at, bases_at, may_stand, next_row_at, rows_at}
-
--- a text that spells no path: at the text, behind its length
-abbrev pub BrokenTexts : Type 0
-BrokenTexts = (text : List ℕ) (cause : PathError) → length text < 2 ^ 16 → path_of text ≡ Err cause → IsRefused path_at (digits w16 (length text) ++ text) 2
-
--- a content that is longer than it may be: at its length
-abbrev pub BrokenLengths : Type 0
-BrokenLengths = (limit size : ℕ) → limit < size → size < 2 ^ 32 → IsRefused (content_at limit) (digits w32 size) 0
 
 -- ---- effects
 
@@ -36,7 +30,7 @@ pub record BrokenEffects : Type 0 where
   -- the second path of a move: behind the first
   pub target_is_none : (room : ℕ) (from : FilePath) (text : List ℕ) (offset : ℕ) → IsPath from → IsRefused path_at text offset → IsRefused (effect_at room) (4 ∷ (path from ++ text)) (1 + (length (path from) + offset))
   -- a content of more than 8 MiB, or than there is room for: at its length
-  pub content_is_large : (room size : ℕ) (p : FilePath) → IsPath p → size < 2 ^ 32 → (8388608 < size) ⊎ (room < size) → IsRefused (effect_at room) (2 ∷ (path p ++ digits w32 size)) (1 + length (path p))
+  pub content_is_large : (room size : ℕ) (p : FilePath) → IsPath p → size < 2 ^ 32 → (max_file < size) ⊎ (room < size) → IsRefused (effect_at room) (2 ∷ (path p ++ digits w32 size)) (1 + length (path p))
 
 pub record BrokenEffectLists : Type 0 where
   -- no effect, or too many: at the count
@@ -86,12 +80,12 @@ pub record BrokenRows : Type 0 where
   pub parent_is_no_folder : (before : Volume) (p : FilePath) (version kind : ℕ) → IsNext before p version → is_folder before (folder_of p) ≡ false → 1 ≤ kind → kind < 2 ^ 8
       → IsRefused (next_row_at before) (path p ++ (digits w64 version ++ kind ∷ [])) (length (path p) + 8)
   -- a content of more than 8 MiB, or with which all are more than 32 MiB: at its length
-  pub content_is_large : (before : Volume) (p : FilePath) (version size : ℕ) → IsNext before p version → is_folder before (folder_of p) ≡ true → IsTree before → size < 2 ^ 32 → (8388608 < size) ⊎ (33554432 < total_size before + size)
+  pub content_is_large : (before : Volume) (p : FilePath) (version size : ℕ) → IsNext before p version → is_folder before (folder_of p) ≡ true → IsTree before → size < 2 ^ 32 → (max_file < size) ⊎ (max_files < total_size before + size)
       → IsRefused (next_row_at before) (path p ++ (digits w64 version ++ (2 ∷ digits w32 size))) (length (path p) + 9)
 
 pub record BrokenRowLists : Type 0 where
   -- too many rows: at the count
-  pub count_is_large : (count : ℕ) → 16384 < count → count < 2 ^ 32 → IsRefused rows_at (digits w32 count) 0
+  pub count_is_large : (count : ℕ) → max_rows < count → count < 2 ^ 32 → IsRefused rows_at (digits w32 count) 0
   -- a row that is refused: behind those before it, which are a tree
-  pub row_is_refused : (before : Volume) (count : ℕ) (text : List ℕ) (offset : ℕ) → IsTree before → length before < count → count ≤ 16384 → IsRefused (next_row_at before) text offset
+  pub row_is_refused : (before : Volume) (count : ℕ) (text : List ℕ) (offset : ℕ) → IsTree before → length before < count → count ≤ max_rows → IsRefused (next_row_at before) text offset
       → IsRefused rows_at (digits w32 count ++ (flat_map row before ++ text)) (4 + (length (flat_map row before) + offset))

@@ -7,7 +7,7 @@ use Rattle.vol_tree.specs.declared.node.Effect.TheVariants.{Make, Put, Remove, M
 use Rattle.vol_tree.specs.declared.node.TreeError.{TreeError}
 use Rattle.vol_tree.specs.Tree.{Volume, IsTree, IsLegalEffect, version_at, node_at, with_content, apply, touched_paths, kept_rows, undone}
 use Rattle.vol_tree.specs.Effects.{apply_all, changed_all, touched_all, distinct}
-use Rattle.vol_tree.specs.Behind.{IsBehind, IsAhead, AgreeAt, IsIn}
+use Rattle.vol_tree.specs.Behind.{NoneTwice, IsBehind, IsAhead, AgreeAt, IsIn}
 
 -- ---- what an applied effect does to each path
 
@@ -52,11 +52,6 @@ abbrev pub UndoingRestores : Type 0
 UndoingRestores = (effect : Effect) (rows new : Volume) → IsTree rows → apply effect rows ≡ Ok new → undone (kept_rows effect rows) new ≡ rows
 
 -- ---- distinct paths
-
--- no element equals a later one
-abbrev pub NoneTwice : List FilePath → Type 0
-NoneTwice [] = Unit {0}
-NoneTwice (path ∷ paths) = (IsIn path paths → ⊥) × NoneTwice paths
 
 -- no path is twice among distinct ones
 abbrev pub DistinctPathsDiffer : Type 0

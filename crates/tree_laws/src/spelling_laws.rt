@@ -8,22 +8,14 @@ ghost use Rattle.vol_tree.specs.Tree.{IsTree};
 ghost use Rattle.file_paths.specs.Spelling.{path, content};
 ghost use Rattle.vol_tree.specs.Spelling.{effect, effects, bases, rows, EffectFitsIn, EffectsFitWithin, EffectsFit, AreBasesOf};
 ghost use Rattle.file_paths.specs.Fields.{path_fields, content_fields};
-ghost use Rattle.tree_laws.specs.Fields.{effect_fields, effects_fields, bases_fields, rows_fields};
+ghost use Rattle.vol_tree.specs.Fields.{effect_fields, effects_fields, bases_fields, rows_fields};
 ghost use Rattle.file_paths.specs.Broken.{BrokenTexts, BrokenLengths};
 ghost use Rattle.tree_laws.specs.Broken.{BrokenEffects, BrokenEffectLists, BrokenBases, BrokenRows, BrokenRowLists};
 ghost use Rattle.file_paths.specs.Reading.{path_at, content_at};
 ghost use Rattle.vol_tree.specs.Reading.{effect_at, effects_within, effects_at, bases_at, rows_at};
 
-/// States that a text has at most one path, and that each path is that of its text.
-pub fn paths_are_read_from_their_texts()
-    ensures read { (text : List ℕ) (path : FilePath) → path_of text ≡ Ok path → IsPath path × (path_text path ≡ text) }
-    ensures again { (path : FilePath) → IsPath path → path_of (path_text path) ≡ Ok path }
-{}
-
 /// States that each value has one spelling, and each spelling one value.
 pub fn parts_are_spelled_once()
-    ensures paths { IsCodec path_at path IsPath }
-    ensures contents { (limit : ℕ) → limit < 2 ^ 32 → IsCodec (content_at limit) content (λ c. length c ≤ limit) }
     ensures effect { (room : ℕ) → IsCodec (effect_at room) effect (EffectFitsIn room) }
     ensures effects_within { (most room : ℕ) → most < 2 ^ 32 → IsCodec (effects_within most room) effects (EffectsFitWithin most room) }
     ensures effects { IsCodec effects_at effects EffectsFit }
@@ -33,8 +25,6 @@ pub fn parts_are_spelled_once()
 
 /// States that, where the bytes end inside a value, the field in which they end is the faulty one.
 pub fn parts_end_with_their_bytes()
-    ensures paths { IsCut path_at path path_fields IsPath }
-    ensures contents { (limit : ℕ) → limit < 2 ^ 32 → IsCut (content_at limit) content content_fields (λ c. length c ≤ limit) }
     ensures effect { (room : ℕ) → IsCut (effect_at room) effect effect_fields (EffectFitsIn room) }
     ensures effects_within { (most room : ℕ) → most < 2 ^ 32 → IsCut (effects_within most room) effects effects_fields (EffectsFitWithin most room) }
     ensures effects { IsCut effects_at effects effects_fields EffectsFit }
@@ -44,8 +34,6 @@ pub fn parts_end_with_their_bytes()
 
 /// States at which field a part that breaks a rule is refused, whatever stands before and behind it.
 pub fn broken_parts_are_refused_at_their_field()
-    ensures texts { BrokenTexts }
-    ensures lengths { BrokenLengths }
     ensures effects { BrokenEffects }
     ensures effect_lists { BrokenEffectLists }
     ensures bases { BrokenBases }

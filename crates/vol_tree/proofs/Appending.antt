@@ -14,7 +14,7 @@ use Rattle.file_paths.specs.Path.{path_cmp, folder_of, IsPath}
 use Rattle.vol_tree.specs.declared.node.Row.{Row}
 use Rattle.vol_tree.specs.Tree.{AreInOrder, IsRow, IsTree, row_at, node_at, is_root, is_folder, is_folder_node, node_size, total_size}
 use Rattle.vol_tree.specs.Inside.{is_at, may_follow}
-use Rattle.vol_tree.proofs.Rows.{all_append, all_map, order_join, find_none, is_at_equal, size_append}
+use Rattle.vol_tree.proofs.Ordered.{all_append, all_map, order_join, find_none, is_at_equal, size_append}
 use Rattle.file_paths.proofs.Order.{same_place, is_less}
 use Rattle.vol_tree.proofs.Trees.{above_itself}
 

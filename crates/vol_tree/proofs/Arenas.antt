@@ -7,7 +7,7 @@ use Rattle.vol_tree.specs.declared.node.Node.{Node}
 use Rattle.vol_tree.specs.declared.node.Row.{Row}
 use Rattle.vol_tree.specs.Tree.{Volume, row_at, version_at, node_at, is_root, is_at_top, with_row, without_row, touched, kept_row, restored}
 use Rattle.vol_tree.specs.Arena.{Place, Places, no_place, place, slot_of, own_row, rows_of, IsArena, written, IsEntered}
-use Rattle.vol_tree.proofs.Rows.{restored_row}
+use Rattle.vol_tree.proofs.Ordered.{restored_row}
 use Rattle.vol_tree.proofs.Walk.{row_of, found_row, version_found, node_found, none_found, one_found}
 use Rattle.vol_tree.proofs.Written.{written_arena, written_rows, erased_rows}
 

@@ -24,7 +24,7 @@ use Rattle.vol_tree.specs.Effects.{changed_all, unless_refused_at, apply_all, to
 use Rattle.vol_tree.specs.Behind.{IsBehind, IsAhead, AgreeAt, IsIn}
 use Rattle.file_paths.proofs.Order.{paths_total, same_path, same_place}
 use Rattle.vol_tree.proofs.Places.{are_above, after_row}
-use Rattle.vol_tree.proofs.Rows.{row_at-with_row, is_at_equal}
+use Rattle.vol_tree.proofs.Ordered.{row_at-with_row, is_at_equal}
 use Rattle.vol_tree.proofs.Undoing.{find_passes, find_among}
 use Rattle.vol_tree.proofs.Trees.{row_untouched, changed_is_tree}
 

@@ -10,7 +10,7 @@ use Rattle.vol_tree.specs.declared.node.Node.{Node}
 use Rattle.vol_tree.specs.declared.node.Row.{Row}
 use Rattle.vol_tree.specs.Tree.{Volume, AreInOrder, row_at, version_at, node_at, node_size, total_size, rows_below, rows_above, with_row, without_row, touched, kept_row, restored, refusals, changed, apply}
 use Rattle.vol_tree.specs.Arena.{IsCounted, new_rows}
-use Rattle.vol_tree.proofs.Rows.{all_append, all_filter, split_at_path, with_row_in_order, without_row_in_order, size_append, size-with_row, restored_row}
+use Rattle.vol_tree.proofs.Ordered.{all_append, all_filter, split_at_path, with_row_in_order, without_row_in_order, size_append, size-with_row, restored_row}
 use Rattle.vol_tree.proofs.Trees.{length-with_row, size_touched, none_refused, not_when}
 use Rattle.std.proofs.Common.{Ok}
 use Rattle.std.specs.Prelude.{nat_lt}

@@ -5,8 +5,8 @@ use Rattle.std.specs.Str.{bytes_eq}
 use Rattle.std.specs.Cmp.Lexicographic.{pointwise, lists_equiv, nat_list_eq_equiv}
 use Rattle.std.specs.Ordering.{is_eq}
 use Rattle.file_paths.specs.Path.{FilePath, is_same_path}
-use Rattle.vol_tree.specs.Effects.{distinct, NoneTwice}
-use Rattle.vol_tree.specs.Behind.{IsIn}
+use Rattle.vol_tree.specs.Effects.{distinct}
+use Rattle.vol_tree.specs.Behind.{IsIn, NoneTwice}
 use Rattle.vol_tree.specs.Inside.{add_new}
 use Rattle.file_paths.proofs.Order.{same_place}
 use Rattle.vol_tree.proofs.Behind.{is_same_path-eq, same_names}

@@ -17,7 +17,7 @@ use Rattle.vol_tree.specs.declared.node.Row.{Row}
 use Rattle.vol_tree.specs.Tree.{Volume, is_child, is_root, children}
 use Rattle.vol_tree.specs.Arena.{Place, Places, place, name_cmp, child_named, slot_of, own_row, rows_from, rows_of, standing, AreAscending, AreLinked, IsArena}
 use Rattle.file_paths.proofs.Order.{paths_total, same_path, same_place}
-use Rattle.vol_tree.proofs.Rows.{all_map, all_append, filter_none}
+use Rattle.vol_tree.proofs.Ordered.{all_map, all_append, filter_none}
 use Rattle.vol_tree.proofs.Trees.{above_itself}
 use Rattle.vol_tree.proofs.Slots.{same_name, names_total, child_has_name}
 use Rattle.vol_tree.proofs.Walk.{Extends, extends, rows_in, cmp_apart, cmp_longer, own_all}

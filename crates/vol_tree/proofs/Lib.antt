@@ -1,5 +1,5 @@
 pub mod Places
-pub mod Rows
+pub mod Ordered
 pub mod Undoing
 pub mod Trees
 pub mod Children

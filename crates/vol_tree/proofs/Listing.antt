@@ -15,7 +15,7 @@ use Rattle.vol_tree.specs.Tree.{Volume, AreInOrder, IsTree, IsRow, is_root, node
 use Rattle.vol_tree.specs.Arena.{Place, Places, place, child_named, slot_of, own_row, rows_from, AreLinked}
 use Rattle.vol_tree.proofs.Slots.{name_at, ascending_at, found_at}
 use Rattle.vol_tree.proofs.Walk.{same_itself}
-use Rattle.vol_tree.proofs.Rows.{filter_all, filter_none, find_none, all_map, size_append}
+use Rattle.vol_tree.proofs.Ordered.{filter_all, filter_none, find_none, all_map, size_append}
 
 -- ---- listing
 

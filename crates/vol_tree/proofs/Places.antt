@@ -16,22 +16,7 @@ use Rattle.file_paths.specs.Path.{path_cmp}
 use Rattle.vol_tree.specs.declared.node.Node.{Node}
 use Rattle.vol_tree.specs.declared.node.Row.{Row}
 use Rattle.vol_tree.specs.Tree.{AreInOrder, row_at, rows_below, rows_above, with_row, without_row, kept_row, version_at, touched}
-
-pub paths_total : IsTotalOrder path_cmp
-paths_total = lists_total nat_list_cmp_total
-
-pub same_path : (a b : List (List ℕ)) → path_cmp a b ≡ Equal → a ≡ b
-same_path = slice_cmp-IsAntisymmetric (slice_cmp-IsAntisymmetric nat_cmp-IsAntisymmetric)
-
--- what follows a path that is not below another one is above it
-after_path : (a b path : List (List ℕ)) → is_lt (path_cmp a path) ≡ false → path_cmp a b ≡ Less → path_cmp b path ≡ Greater
-after_path a b path not_below next =
-    paths_total.antisymm b path ∙ ap ordering_reverse (by (path_cmp a path) refl)
-  where
-    by : (o : Ordering) → path_cmp a path ≡ o → path_cmp path b ≡ Less
-    by Less e = absurd (true≢false (sym (ap is_lt e) ∙ not_below))
-    by Equal e = sym (paths_total.congr a path b e) ∙ next
-    by Greater e = paths_total.trans path a b (paths_total.antisymm path a ∙ ap ordering_reverse e) next
+use Rattle.file_paths.proofs.Order.{paths_total, same_path, after_path}
 
 -- rows that are all above a path
 pub record AreAbove (path : List (List ℕ)) (rows : List Row) : Type 0 where

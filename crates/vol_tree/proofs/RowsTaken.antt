@@ -15,7 +15,7 @@ use Rattle.vol_tree.specs.Tree.{Volume, AreInOrder, is_root, is_folder, node_siz
 use Rattle.file_paths.specs.Reading.{path_at}
 use Rattle.vol_tree.specs.Reading.{may_stand, standing_at, room_beside, next_row_at}
 use Rattle.file_paths.proofs.Order.{paths_total, same_place, is_less}
-use Rattle.vol_tree.proofs.Rows.{order_join, size_append}
+use Rattle.vol_tree.proofs.Ordered.{order_join, size_append}
 
 -- a row that was read may stand there
 next_stands : (before : Volume) (bytes : List ℕ) (at : ℕ) (r : Row) (next : ℕ) → next_row_at before bytes at ≡ Ok (r, next) → may_stand before r.path ≡ true

@@ -16,26 +16,9 @@ use Rattle.vol_tree.specs.declared.node.Node.TheVariants.{Folder, File}
 use Rattle.byte_fields.specs.Field.{digits}
 use Rattle.file_paths.specs.Spelling.{path, content}
 use Rattle.vol_tree.specs.Spelling.{effect, effects, base, bases, node, row, rows, EffectFits, EffectsFit, BaseFits}
+use Rattle.file_paths.proofs.Sizes.{four_digits, eight_digits, path_length, content_length, path_size}
 
 -- ---- exactly
-
-pub two_digits : (n : ℕ) → length (digits w16 n) ≡ 2
-unfolding digits
-two_digits n = refl
-
-pub four_digits : (n : ℕ) → length (digits w32 n) ≡ 4
-unfolding digits
-four_digits n = refl
-
-pub eight_digits : (n : ℕ) → length (digits w64 n) ≡ 8
-unfolding digits
-eight_digits n = refl
-
-pub path_length : (p : FilePath) → length (path p) ≡ 2 + length (path_text p)
-path_length p = omega (arith, length-append (digits w16 (length (path_text p))) (path_text p), two_digits (length (path_text p)))
-
-pub content_length : (c : List ℕ) → length (content c) ≡ 4 + length c
-content_length c = omega (arith, length-append (digits w32 (length c)) c, four_digits (length c))
 
 pub base_length : (b : Base) → length (base b) ≡ length (path b.path) + 8
 base_length b = omega (arith, length-append (path b.path) (digits w64 b.version), eight_digits b.version)
@@ -44,9 +27,6 @@ pub put_length : (p : FilePath) (c : List ℕ) → length (path p ++ content c) 
 put_length p c = omega (arith, length-append (path p) (content c), content_length c)
 
 -- ---- at most
-
-pub path_size : (p : FilePath) → IsPath p → length (path p) ≤ 1026
-path_size p is = omega (arith, path_length p, is.short)
 
 pub effect_size : (e : Effect) → EffectFits e → length (effect e) ≤ 2053 + content_size e
 effect_size (Make p) fits = omega (arith, path_size p fits.0)

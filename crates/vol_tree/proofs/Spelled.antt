@@ -10,7 +10,7 @@ use Rattle.vol_tree.specs.declared.node.Row.{Row}
 use Rattle.vol_tree.specs.Tree.{Volume, IsRow, node_size}
 use Rattle.vol_tree.specs.Spelling.{row as spelled_row}
 use Rattle.vol_tree.specs.Arena.{Place, Places, place, own_row, rows_from}
-use Rattle.vol_tree.proofs.Rows.{all_map}
+use Rattle.vol_tree.proofs.Ordered.{all_map}
 
 -- ---- what holds of all rows holds of those of a slot, and of those of each slot in it
 

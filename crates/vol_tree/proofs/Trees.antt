@@ -18,7 +18,7 @@ use Rattle.vol_tree.specs.declared.node.Effect.{Effect}
 use Rattle.vol_tree.specs.declared.node.Effect.TheVariants.{Make, Put, Remove, Move}
 use Rattle.vol_tree.specs.Tree.{AreInOrder, IsRow, IsTree, row_at, node_at, version_at, is_root, is_folder, is_folder_node, node_size, total_size, has_no_room, is_at_top, size_with, is_child, rows_below, rows_above, with_row, touched, touched_paths, kept_row, kept_rows, restored, undone, CanUndo, refusals, changed, apply, IsLegalEffect}
 use Rattle.file_paths.proofs.Order.{same_path, same_place}
-use Rattle.vol_tree.proofs.Rows.{all_append, all_filter, all_map, split_at_path, with_row_in_order, row_at-with_row, row_at-other, size-with_row, is_at_equal}
+use Rattle.vol_tree.proofs.Ordered.{all_append, all_filter, all_map, split_at_path, with_row_in_order, row_at-with_row, row_at-other, size-with_row, is_at_equal}
 use Rattle.vol_tree.proofs.Undoing.{undo_touched, find_passes, find_among}
 use Rattle.std.specs.Cmp.Derive.{both_true}
 use Rattle.std.specs.Ordering.{is_eq}

@@ -9,7 +9,7 @@ use Rattle.file_paths.specs.Path.{path_cmp}
 use Rattle.vol_tree.specs.declared.node.Node.{Node}
 use Rattle.vol_tree.specs.declared.node.Row.{Row}
 use Rattle.vol_tree.specs.Tree.{AreInOrder, row_at, rows_below, rows_above, with_row, without_row, touched, kept_row, restored, version_at}
-use Rattle.vol_tree.proofs.Rows.{all_map, all_below, all_above, filter_all, filter_none, split_at_path, is_at_equal, restored_row}
+use Rattle.vol_tree.proofs.Ordered.{all_map, all_below, all_above, filter_all, filter_none, split_at_path, is_at_equal, restored_row}
 use Rattle.file_paths.proofs.Order.{same_place}
 
 below_with_row : (rows : List Row) (new : Row) → rows_below (with_row rows new) new.path ≡ rows_below rows new.path

@@ -17,7 +17,7 @@ use Rattle.vol_tree.specs.Tree.{Volume, AreInOrder, row_at, version_at, node_at}
 use Rattle.vol_tree.specs.Arena.{Place, Places, place, name_cmp, child_named, slot_of, own_row, rows_from, rows_of, AreAscending, AreLinked, IsArena}
 use Rattle.vol_tree.proofs.Slots.{names_total, same_name, child_has_name}
 use Rattle.file_paths.proofs.Order.{paths_total, same_place}
-use Rattle.vol_tree.proofs.Rows.{all_append, all_map, find_none}
+use Rattle.vol_tree.proofs.Ordered.{all_append, all_map, find_none}
 
 -- ---- paths below a path
 

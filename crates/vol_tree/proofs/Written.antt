@@ -16,7 +16,7 @@ use Rattle.vol_tree.specs.declared.node.Row.{Row}
 use Rattle.vol_tree.specs.Tree.{Volume, AreInOrder, row_at, rows_below, rows_above, with_row, without_row}
 use Rattle.vol_tree.specs.Arena.{Place, Places, no_place, place, slot_of, own_row, rows_of, IsArena, written}
 use Rattle.file_paths.proofs.Order.{same_path}
-use Rattle.vol_tree.proofs.Rows.{all_map, all_below, all_above, find_none, row_at-with_row, row_at-other, with_row_in_order, without_row_in_order}
+use Rattle.vol_tree.proofs.Ordered.{all_map, all_below, all_above, find_none, row_at-with_row, row_at-other, with_row_in_order, without_row_in_order}
 use Rattle.vol_tree.proofs.Walk.{row_of, found_row, rows_in_order}
 use Rattle.vol_tree.proofs.Behind.{same_rows}
 use Rattle.vol_tree.proofs.Links.{SameShape, same_or_not, shape_slot, shape_arena}

@@ -21,3 +21,8 @@ AgreeAt x v (path ∷ paths) = (version_at x path ≡ version_at v path) × Agre
 abbrev pub IsIn : {X : Type 0} → X → List X → Type 0
 IsIn x [] = ⊥
 IsIn x (y ∷ ys) = (x ≡ y) ⊎ IsIn x ys
+
+-- no element equals a later one
+abbrev pub NoneTwice : List FilePath → Type 0
+NoneTwice [] = Unit {0}
+NoneTwice (path ∷ paths) = (IsIn path paths → ⊥) × NoneTwice paths

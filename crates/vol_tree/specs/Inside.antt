@@ -5,12 +5,10 @@ use Rattle.std.specs.Str.{bytes_eq}
 use Rattle.std.specs.Cmp.Lexicographic.{pointwise}
 use Rattle.std.specs.Ordering.{is_lt}
 use Rattle.file_paths.specs.Path.{FilePath, path_cmp, is_same_path, folder_of}
+use Rattle.file_paths.specs.Limits.{max_file}
+use Rattle.vol_tree.specs.Limits.{max_rows, max_files}
 use Rattle.vol_tree.specs.declared.node.Row.{Row}
 use Rattle.vol_tree.specs.Tree.{Volume, row_at, rows_below, rows_above, is_root, is_folder, node_size, total_size, undone, CanUndo}
-
--- the bytes of the names, with one more for each
-abbrev pub joined_size : FilePath → ℕ
-joined_size names = sum_by (λ name. 1 + length name) names
 
 -- whether it is the row of the path
 abbrev pub is_at : FilePath → Row → Bool
@@ -35,9 +33,9 @@ pub record BelongsAt (rows : Volume) (path : FilePath) (i : ℕ) : Type 0 where
 abbrev pub may_follow : Volume → Row → Bool
 may_follow rows row =
     list_all (λ before. is_lt (path_cmp before.path row.path)) rows
-    && (not (is_root row.path) && (nat_le 1 row.version && (nat_le (node_size row.node) 8388608
+    && (not (is_root row.path) && (nat_le 1 row.version && (nat_le (node_size row.node) max_file
     && ((not (is_some row.node) || is_folder rows (folder_of row.path))
-    && (nat_lt (length rows) 16384 && nat_le (total_size rows + node_size row.node) 33554432)))))
+    && (nat_lt (length rows) max_rows && nat_le (total_size rows + node_size row.node) max_files)))))
 
 -- the paths, with this one behind them unless it is among them
 abbrev pub add_new : List FilePath → FilePath → List FilePath

@@ -6,4 +6,5 @@ pub mod Behind
 pub mod Inside
 pub mod Spelling
 pub mod Reading
+pub mod Fields
 pub mod Arena

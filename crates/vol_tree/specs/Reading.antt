@@ -1,10 +1,13 @@
--- Reading paths, contents, effects, bases and rows, with the place of the first faulty field.
+-- Reading effects, bases and rows, with the place of the first faulty field.
 use Rattle.std.specs.Prelude.{ℕ, ◌-◌, min, nat_le, ◌==◌, ◌&&◌, not, Bool, true, false, List, [], ◌∷◌, ◌++◌, length, Option, Some, None, Ok, Err}
 use Rattle.std.specs.Int.{w16, w32, w64}
 use Rattle.std.specs.List.{list_all}
 use Rattle.std.specs.Ordering.{is_lt}
 use Rattle.byte_fields.specs.Field.{Reader, ◌>>=◌, ruled, mapped, none, tagged_at, span_at, number_at, each_at}
-use Rattle.file_paths.specs.Path.{FilePath, path_of, path_cmp, is_same_path, folder_of}
+use Rattle.file_paths.specs.Limits.{max_file}
+use Rattle.file_paths.specs.Path.{FilePath, path_cmp, is_same_path, folder_of}
+use Rattle.file_paths.specs.Reading.{path_at, content_at}
+use Rattle.vol_tree.specs.Limits.{max_rows, max_files, max_effects}
 use Rattle.vol_tree.specs.Tree.{Volume, is_root, is_folder, total_size}
 use Rattle.vol_tree.specs.Effects.{content_size}
 use Rattle.vol_tree.specs.declared.node.Effect.{Effect}
@@ -13,18 +16,6 @@ use Rattle.vol_tree.specs.declared.node.Base.{Base}
 use Rattle.vol_tree.specs.declared.node.Row.{Row}
 use Rattle.vol_tree.specs.declared.node.Node.{Node}
 use Rattle.vol_tree.specs.declared.node.Node.TheVariants.{Folder, File}
-
--- the number of bytes, and a text that spells a path; one that spells none is a fault of the text
-unfoldable pub path_at : Reader FilePath
-path_at bytes at = do
-  size ← number_at w16 bytes at
-  mapped path_of (span_at size.0) bytes size.1
-
--- a content of at most so many bytes
-unfoldable pub content_at : ℕ → Reader (List ℕ)
-content_at limit bytes at = do
-  size ← ruled (λ n. nat_le n limit) (number_at w32) bytes at
-  span_at size.0 bytes size.1
 
 -- ---- effects
 
@@ -38,7 +29,7 @@ make_at bytes at = do
 unfoldable pub put_at : ℕ → Reader Effect
 put_at room bytes at = do
   path ← path_at bytes at
-  content ← content_at (min 8388608 room) bytes path.1
+  content ← content_at (min max_file room) bytes path.1
   Ok (Put path.0 content.0, content.1)
 
 -- where something is removed
@@ -74,7 +65,7 @@ effects_within most room bytes at = do
 
 -- 1 to 4,096 effects, with contents of at most 32 MiB together
 unfoldable pub effects_at : Reader (List Effect)
-effects_at = effects_within 4096 33554432
+effects_at = effects_within max_effects max_files
 
 -- ---- bases
 
@@ -110,7 +101,7 @@ may_stand rows path = not (is_root path) && list_all (λ before. is_lt (path_cmp
 -- a file where there is still room for so many bytes
 unfoldable pub file_at : ℕ → Reader (Option Node)
 file_at room bytes at = do
-  content ← content_at (min 8388608 room) bytes at
+  content ← content_at (min max_file room) bytes at
   Ok (Some (File content.0), content.1)
 
 -- what may stand at a path: anything where its parent is a folder, and else nothing
@@ -124,7 +115,7 @@ standing_at in_folder room = tagged_at (node_kinds in_folder room)
 
 -- the bytes of content for which a tree of these rows has room
 abbrev pub room_beside : Volume → ℕ
-room_beside rows = 33554432 - total_size rows
+room_beside rows = max_files - total_size rows
 
 -- the row behind these
 unfoldable pub next_row_at : Volume → Reader Row
@@ -141,5 +132,5 @@ with_next rows row = rows ++ row ∷ []
 -- at most 16,384 rows, each of them given those before it
 unfoldable pub rows_at : Reader Volume
 rows_at bytes at = do
-  count ← ruled (λ n. nat_le n 16384) (number_at w32) bytes at
+  count ← ruled (λ n. nat_le n max_rows) (number_at w32) bytes at
   each_at next_row_at with_next count.0 [] bytes count.1

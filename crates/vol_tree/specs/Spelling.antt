@@ -3,7 +3,10 @@ use Rattle.std.specs.Prelude.{◌≡◌, ℕ, ◌<◌, ◌≤◌, ◌^◌, List,
 use Rattle.std.specs.List.{flat_map, AllByRecursion}
 use Rattle.std.specs.Int.{w16, w32, w64}
 use Rattle.byte_fields.specs.Field.{digits}
-use Rattle.file_paths.specs.Path.{FilePath, IsPath, path_text}
+use Rattle.file_paths.specs.Limits.{max_file}
+use Rattle.file_paths.specs.Path.{FilePath, IsPath}
+use Rattle.file_paths.specs.Spelling.{path, content}
+use Rattle.vol_tree.specs.Limits.{max_files, max_effects}
 use Rattle.vol_tree.specs.Tree.{IsLegalEffect}
 use Rattle.vol_tree.specs.Effects.{content_size, contents_size}
 use Rattle.vol_tree.specs.declared.node.Effect.{Effect}
@@ -12,14 +15,6 @@ use Rattle.vol_tree.specs.declared.node.Base.{Base}
 use Rattle.vol_tree.specs.declared.node.Row.{Row}
 use Rattle.vol_tree.specs.declared.node.Node.{Node}
 use Rattle.vol_tree.specs.declared.node.Node.TheVariants.{Folder, File}
-
--- the text, behind the number of its bytes
-abbrev pub path : FilePath → List ℕ
-path p = digits w16 (length (path_text p)) ++ path_text p
-
--- the bytes, behind their number
-abbrev pub content : List ℕ → List ℕ
-content bytes = digits w32 (length bytes) ++ bytes
 
 -- the kind, and what the effect names
 abbrev pub effect : Effect → List ℕ
@@ -56,7 +51,7 @@ rows rs = digits w32 (length rs) ++ flat_map row rs
 
 -- an effect with paths, and a content of at most 8 MiB
 abbrev pub EffectFits : Effect → Type 0
-EffectFits e = IsLegalEffect e × (content_size e ≤ 8388608)
+EffectFits e = IsLegalEffect e × (content_size e ≤ max_file)
 
 -- an effect that has still room for its content
 abbrev pub EffectFitsIn : ℕ → Effect → Type 0
@@ -71,7 +66,7 @@ pub record EffectsFitWithin (most room : ℕ) (es : List Effect) : Type 0 where
 
 -- 1 to 4,096 effects with contents of at most 32 MiB together
 abbrev pub EffectsFit : List Effect → Type 0
-EffectsFit = EffectsFitWithin 4096 33554432
+EffectsFit = EffectsFitWithin max_effects max_files
 
 -- a path, and a version of 64 bits
 abbrev pub BaseFits : Base → Type 0

@@ -4,6 +4,8 @@ use Rattle.std.specs.List.{AllByRecursion}
 use Rattle.std.specs.declared.cmp.Ordering.TheVariants.{Less}
 use Rattle.std.specs.Ordering.{is_lt, is_gt}
 use Rattle.file_paths.specs.Path.{FilePath, IsPath, path_cmp, is_same_path, folder_of, last_name}
+use Rattle.file_paths.specs.Limits.{max_file}
+use Rattle.vol_tree.specs.Limits.{max_rows, max_files}
 use Rattle.file_paths.specs.Refusals.{when, unless_refused}
 use Rattle.vol_tree.specs.declared.node.Node.{Node}
 use Rattle.vol_tree.specs.declared.node.Node.TheVariants.{Folder, File}
@@ -79,7 +81,7 @@ pub record IsRow (row : Row) : Type 0 where
   pub below_root : is_root row.path ≡ false
   pub touched : 1 ≤ row.version
   pub version_fits : row.version < 2 ^ 64
-  pub small : node_size row.node ≤ 8388608
+  pub small : node_size row.node ≤ max_file
 
 -- rows in order, each of them sound, in folders and within the limits
 pub record IsTree (rows : Volume) : Type 0 where
@@ -87,8 +89,8 @@ pub record IsTree (rows : Volume) : Type 0 where
   pub each : AllByRecursion IsRow rows
   -- what has a node stands in a folder
   pub in_folders : (path : FilePath) → IsTrue (is_some (node_at rows path)) → IsTrue (is_folder rows (folder_of path))
-  pub few : length rows ≤ 16384
-  pub small : total_size rows ≤ 33554432
+  pub few : length rows ≤ max_rows
+  pub small : total_size rows ≤ max_files
 
 -- ---- changes of one row
 
@@ -116,7 +118,7 @@ touched rows path node = with_row rows (record { path = path; version = version_
 
 -- a path without a row, where there is room for no more
 abbrev pub has_no_room : Volume → FilePath → Bool
-has_no_room rows path = not (is_some (row_at rows path)) && nat_le 16384 (length rows)
+has_no_room rows path = not (is_some (row_at rows path)) && nat_le max_rows (length rows)
 
 -- whether the path was touched as often as 64 bits count
 abbrev pub is_at_top : Volume → FilePath → Bool
@@ -132,16 +134,16 @@ refusals (Make p) rows =
     when (is_root p) RootFixed
     ∷ when (not (is_folder rows (folder_of p))) (NoParent (folder_of p))
     ∷ when (is_some (node_at rows p)) (Exists p)
-    ∷ when (has_no_room rows p) (RowsFull 16384)
+    ∷ when (has_no_room rows p) (RowsFull max_rows)
     ∷ when (is_at_top rows p) (VersionTop p)
     ∷ []
 refusals (Put p content) rows =
     when (is_root p) RootFixed
     ∷ when (not (is_folder rows (folder_of p))) (NoParent (folder_of p))
     ∷ when (is_folder rows p) (IsFolder p)
-    ∷ when (has_no_room rows p) (RowsFull 16384)
-    ∷ when (nat_lt 8388608 (length content)) (FileTooLarge (length content))
-    ∷ when (nat_lt 33554432 (size_with rows p content)) (TreeFull (size_with rows p content))
+    ∷ when (has_no_room rows p) (RowsFull max_rows)
+    ∷ when (nat_lt max_file (length content)) (FileTooLarge (length content))
+    ∷ when (nat_lt max_files (size_with rows p content)) (TreeFull (size_with rows p content))
     ∷ when (is_at_top rows p) (VersionTop p)
     ∷ []
 refusals (Remove p) rows =
@@ -156,7 +158,7 @@ refusals (Move p q) rows =
     ∷ when (is_some (node_at rows q)) (Exists q)
     ∷ when (not (is_some (node_at rows p))) (Missing p)
     ∷ when (is_folder rows p) (IsFolder p)
-    ∷ when (has_no_room rows q) (RowsFull 16384)
+    ∷ when (has_no_room rows q) (RowsFull max_rows)
     ∷ when (is_at_top rows p) (VersionTop p)
     ∷ when (is_at_top rows q) (VersionTop q)
     ∷ []

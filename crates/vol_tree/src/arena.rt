@@ -7,12 +7,10 @@ ghost use Rattle.file_paths.specs.Path.{FilePath, IsPath};
 ghost use Rattle.vol_tree.specs.Spelling.{row as spelled_row};
 ghost use Rattle.vol_tree.specs.Arena.{Place, Places, rows_of, rows_from, IsArena, IsPool, AreUsed, SlotsLeadToRows, own_row, written, Pads, Grows, IsEntered, place, slot_of, AreAscending, AreLinked, IsFound, IsMissing, standing as standing_names};
 
-use crate::content::Content;
-use crate::list::TryCopy;
-use crate::path::Path;
+use crate::lists::Rows;
+use crate::node::{Node, Row, copy_node};
 use crate::spelling::spell_row;
-use crate::tree::{Node, Row, copy_node};
-use crate::{Names, Rows};
+use file_paths::{Content, Names, Path, TryCopy};
 use std::alloc::{AllocError, Global};
 use std::cmp::Ordering;
 use std::marker::Model;

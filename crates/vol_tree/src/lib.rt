@@ -15,8 +15,8 @@ mod tree;
 
 pub use effects::{ApplyAllError, apply_all, undo_all};
 pub use file_paths::{
-    Content, List, MAX_DEPTH, MAX_FILE, MAX_NAME, MAX_TEXT, Names, Path, PathError, Paths, TakeError,
-    TryCopy, is_name,
+    Content, List, MAX_DEPTH, MAX_FILE, MAX_NAME, MAX_TEXT, Names, Path, PathError, Paths,
+    TakeError, TryCopy, is_name,
 };
 pub use limits::{MAX_EFFECTS, MAX_FILES, MAX_ROWS};
 pub use lists::{Bases, Effects, Rows};

@@ -99,6 +99,11 @@ impl Rows {
         }
     }
 
+    /// The allocator of the list.
+    pub fn allocator(&self) -> Global {
+        self.items.allocator()
+    }
+
     /// A copy of the list.
     pub fn copy(&self) -> Result<Rows, AllocError>
         ensures { IfOk result (λ copied. copied ≡ self.now) }
@@ -203,6 +208,11 @@ impl Effects {
         }
     }
 
+    /// The allocator of the list.
+    pub fn allocator(&self) -> Global {
+        self.items.allocator()
+    }
+
     /// A copy of the list.
     pub fn copy(&self) -> Result<Effects, AllocError>
         ensures { IfOk result (λ copied. copied ≡ self.now) }
@@ -297,6 +307,11 @@ impl Bases {
         Bases {
             items: List::from_vec(bases),
         }
+    }
+
+    /// The allocator of the list.
+    pub fn allocator(&self) -> Global {
+        self.items.allocator()
     }
 
     /// A copy of the list.

@@ -8,8 +8,8 @@ ghost use Rattle.file_paths.specs.Path.{IsPath, path_cmp};
 ghost use Rattle.vol_tree.specs.Inside.{StandsAt, BelongsAt, may_follow};
 ghost use Rattle.vol_tree.specs.Tree.{IsTree, AreInOrder, node_at, is_folder, total_size, IsRowsRefusal};
 
-use crate::node::{Node, Row, size_of};
 use crate::limits::{MAX_FILES, MAX_ROWS};
+use crate::node::{Node, Row, size_of};
 use file_paths::{Content, MAX_FILE, Path};
 use std::cmp::Ordering;
 use thiserror::Error;
@@ -34,7 +34,7 @@ pub(crate) fn first_bad(rows: &[Row], count: usize) -> Option<u32>
     let mut size = 0;
     for i in 0..count {
         let row = &rows[i];
-        if !follows(&rows[..i], size, row) {
+        if !follows(rows.split_at(i).0, size, row) {
             return Some(i as u32);
         }
         size += size_of(&row.node);

@@ -2,6 +2,7 @@
 
 ghost use Rattle.std.specs.Prelude.{◌≡◌, ◌<◌, ◌≤◌, ◌+◌, ◌^◌, ◌++◌, length, OnOk};
 ghost use Rattle.std.specs.Option.{option_copied};
+ghost use Rattle.file_paths.specs.Limits.{max_file};
 ghost use Rattle.vol_tree.specs.Tree.{IsTree, node_size};
 ghost use Rattle.vol_tree.specs.Effects.{content_size};
 ghost use Rattle.file_paths.specs.Spelling.{path, content};

@@ -10,14 +10,17 @@ use Rattle.byte_fields.specs.Codec.{Stands}
 use Rattle.byte_fields.specs.Broken.{IsRefused}
 use Rattle.byte_fields.proofs.Codec.{u8_codec, u32_codec, u64_codec, ruled_codec}
 use Rattle.byte_fields.proofs.Breaking.{read_again, refused_there, refused_text, refused_before, rule_refused, first_refused, later_refused, tagged_refused, kind_refused, above, second_fails, four_bytes}
-use Rattle.vol_tree.specs.declared.tree.Effect.{Effect}
-use Rattle.vol_tree.specs.declared.tree.TreeError.TheVariants.{NoParent, Exists, Missing, IsFolder, NotEmpty, VersionTop}
-use Rattle.vol_tree.specs.Path.{FilePath, IsPath}
+use Rattle.vol_tree.specs.declared.node.Effect.{Effect}
+use Rattle.vol_tree.specs.declared.node.TreeError.TheVariants.{NoParent, Exists, Missing, IsFolder, NotEmpty, VersionTop}
+use Rattle.file_paths.specs.Path.{FilePath, IsPath}
 use Rattle.vol_tree.specs.Effects.{touched_all, distinct}
-use Rattle.vol_tree.specs.Spelling.{path, effects, EffectsFit}
-use Rattle.vol_tree.specs.Reading.{path_at, effects_at, bases_at, rows_at}
-use Rattle.vol_tree.proofs.Parts.{path_codec, effects_codec}
-use Rattle.vol_tree.proofs.Breaking.{eight_bytes}
+use Rattle.file_paths.specs.Spelling.{path}
+use Rattle.vol_tree.specs.Spelling.{effects, EffectsFit}
+use Rattle.file_paths.specs.Reading.{path_at}
+use Rattle.vol_tree.specs.Reading.{effects_at, bases_at, rows_at}
+use Rattle.file_paths.proofs.Parts.{path_codec}
+use Rattle.tree_laws.proofs.Parts.{effects_codec}
+use Rattle.file_paths.proofs.Sizes.{eight_digits}
 use Rattle.wire_frames.specs.declared.message.Message.{Message}
 use Rattle.wire_frames.specs.declared.message.Message.TheVariants as messages
 use Rattle.wire_frames.specs.declared.message.Kind.{Kind}
@@ -61,7 +64,7 @@ body_refused k c n text offset small kept refused =
 inside : (k : Kind) (n : ℕ) (text : List ℕ) (offset place : ℕ) → 15 + offset ≡ place → ((c : ℕ) → IsRefused (body_at k c n) text offset) → IsRefusedAt k n text place
 inside k n text offset place e refused c behind takes kept small short =
     frame_refused k c n (text ++ behind) (length (digits w64 n) + offset) place takes short
-    (body_refused k c n (text ++ behind) offset small kept (refused_before (body_at k c n) text behind offset (refused c))) (omega (arith, eight_bytes n))
+    (body_refused k c n (text ++ behind) offset small kept (refused_before (body_at k c n) text behind offset (refused c))) (omega (arith, eight_digits n))
 
 pub broken_numbers : BrokenNumbers
 broken_numbers k c n behind takes broken small short =
@@ -145,14 +148,14 @@ broken_bodies = record {
       inside Store n (effects es ++ text) (length (effects es) + offset) (15 + length (effects es) + offset) (omega arith) (λ c. base_refused c n es text offset fits refused);
   path_is_refused = λ n text offset refused. inside Stale n text offset (15 + offset) refl (λ c. path_refused c n text offset refused);
   versions_are_equal = λ n p v is small.
-      inside Stale n (path p ++ (digits w64 v ++ digits w64 v)) (length (path p) + (length (digits w64 v) + 0)) (15 + length (path p) + 8) (omega (arith, eight_bytes v)) (λ c. equal_refused c n p v is small);
+      inside Stale n (path p ++ (digits w64 v ++ digits w64 v)) (length (path p) + (length (digits w64 v) + 0)) (15 + length (path p) + 8) (omega (arith, eight_digits v)) (λ c. equal_refused c n p v is small);
   unfit_is_refused = λ n index text offset small refused.
       inside Unfit n (digits w32 index ++ text) (length (digits w32 index) + offset) (19 + offset) (omega (arith, four_bytes index)) (λ c. unfit_refused c n index text offset small refused);
   full_is_refused = λ n index text offset small refused.
       inside Full n (digits w32 index ++ text) (length (digits w32 index) + offset) (19 + offset) (omega (arith, four_bytes index)) (λ c. full_refused c n index text offset small refused);
   last_is_near = λ n last small near. inside Gap n (digits w64 last) 0 15 refl (λ c. last_refused c n last small near);
   rows_are_refused = λ n last text offset small refused.
-      inside Snapshot n (digits w64 last ++ text) (length (digits w64 last) + offset) (23 + offset) (omega (arith, eight_bytes last)) (λ c. rows_refused c n last text offset small refused);
+      inside Snapshot n (digits w64 last ++ text) (length (digits w64 last) + offset) (23 + offset) (omega (arith, eight_digits last)) (λ c. rows_refused c n last text offset small refused);
   code_is_none = λ n code byte wrong. inside Malformed n (code ∷ []) 0 15 refl (λ c. code_refused code byte wrong);
   offset_is_told = λ n code offset low high not5 not6 some small. inside Malformed n (code ∷ digits w32 offset) (1 + 0) 16 refl (λ c. offset_refused code offset low high not5 not6 some small);
 }

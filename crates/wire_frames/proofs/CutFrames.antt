@@ -10,13 +10,14 @@ use Rattle.byte_fields.specs.Codec.{Stands}
 use Rattle.byte_fields.specs.Cuts.{start_of, IsCut}
 use Rattle.byte_fields.proofs.Codec.{u32_codec, u64_codec, stands_first, stands_second}
 use Rattle.byte_fields.proofs.Cutting.{sum_more, sum_both, u8_cut, u32_cut, u64_cut, ruled_cut, one_cut, two_cut, three_cut, tagged_cut, then_cut}
-use Rattle.vol_tree.specs.declared.tree.TreeError.{TreeError}
-use Rattle.vol_tree.specs.declared.tree.TreeError.TheVariants.{RootFixed, NoParent, Exists, Missing, IsFolder, NotEmpty, RowsFull, FileTooLarge, TreeFull, VersionTop, Memory}
-use Rattle.vol_tree.specs.Spelling.{path}
-use Rattle.vol_tree.specs.Fields.{path_fields}
+use Rattle.vol_tree.specs.declared.node.TreeError.{TreeError}
+use Rattle.vol_tree.specs.declared.node.TreeError.TheVariants.{RootFixed, NoParent, Exists, Missing, IsFolder, NotEmpty, RowsFull, FileTooLarge, TreeFull, VersionTop, Memory}
+use Rattle.file_paths.specs.Spelling.{path}
+use Rattle.file_paths.specs.Fields.{path_fields}
 use Rattle.vol_tree.specs.Effects.{touched_all, distinct}
-use Rattle.vol_tree.proofs.Parts.{path_codec, effects_codec}
-use Rattle.vol_tree.proofs.CutParts.{path_cut, effects_cut, bases_cut, rows_cut}
+use Rattle.file_paths.proofs.Parts.{path_codec, path_cut}
+use Rattle.tree_laws.proofs.Parts.{effects_codec}
+use Rattle.tree_laws.proofs.CutParts.{effects_cut, bases_cut, rows_cut}
 use Rattle.wire_frames.specs.declared.message.Message.{Message}
 use Rattle.wire_frames.specs.declared.message.Message.TheVariants as messages
 use Rattle.wire_frames.specs.declared.message.Kind.{Kind}
@@ -27,7 +28,7 @@ use Rattle.wire_frames.specs.Fields.{fault_fields, body_fields, message_fields}
 use Rattle.wire_frames.specs.Frame.{kind, client_of, number_of, code_of, client_rule, number_rule, offset_rule, body, payload, frame, BodyFits}
 use Rattle.wire_frames.specs.Reading.{store_at, stale_at, unfit_at, full_at, snapshot_at, gap_at, malformed_at, body_at, message_at, is_sized, frame_of}
 use Rattle.wire_frames.specs.Laws.{CutFramesNameTheField}
-use Rattle.vol_tree.proofs.Few.{touched_few}
+use Rattle.tree_laws.proofs.Few.{touched_few}
 use Rattle.wire_frames.proofs.Messages.{tail, number_codec, refusal}
 use Rattle.wire_frames.proofs.Frames.{are_sized, kind_again, four_digits}
 use Rattle.wire_frames.proofs.Sizes.{frame_small}

@@ -5,8 +5,9 @@ use Rattle.std.proofs.lemmas.Bool.{eqb-true}
 use Rattle.byte_fields.specs.Field.{digits, ruled, number_at}
 use Rattle.byte_fields.specs.Codec.{Stands, IsBytes, IsFault, IsCodec}
 use Rattle.byte_fields.proofs.Codec.{done, later_fault, ok_is, never_err, bind_ok, bind_err, u8_codec, u32_codec, u64_codec, ruled_codec, found1, found2, found3, again1, again2, again3, fault1, fault2, fault3, stands_none, stands_first, stands_second, stands_both}
-use Rattle.vol_tree.proofs.Parts.{path_codec, effects_codec, rows_codec}
-use Rattle.vol_tree.proofs.Few.{bases_of}
+use Rattle.file_paths.proofs.Parts.{path_codec}
+use Rattle.tree_laws.proofs.Parts.{effects_codec, rows_codec}
+use Rattle.tree_laws.proofs.Few.{bases_of}
 use Rattle.wire_frames.specs.declared.message.Message.{Message}
 use Rattle.wire_frames.specs.declared.message.Message.TheVariants as messages
 use Rattle.wire_frames.specs.declared.message.Kind.{Kind}

@@ -2,15 +2,17 @@
 use Rattle.std.proofs.Common.{◌^◌, ◌<◌, ◌≤◌, ◌++◌, length, arith, length-append}
 use Rattle.std.specs.Int.{w64}
 use Rattle.byte_fields.specs.Field.{digits}
-use Rattle.vol_tree.specs.Spelling.{path, effects, bases, rows}
-use Rattle.vol_tree.proofs.Sizes.{path_size, effects_size, bases_size, rows_size}
-use Rattle.vol_tree.specs.declared.tree.TreeError.{TreeError}
-use Rattle.vol_tree.specs.declared.tree.TreeError.TheVariants.{RootFixed, NoParent, Exists, Missing, IsFolder, NotEmpty, RowsFull, FileTooLarge, TreeFull, VersionTop}
+use Rattle.file_paths.specs.Spelling.{path}
+use Rattle.vol_tree.specs.Spelling.{effects, bases, rows}
+use Rattle.file_paths.proofs.Sizes.{path_size}
+use Rattle.vol_tree.proofs.Sizes.{effects_size, bases_size, rows_size}
+use Rattle.vol_tree.specs.declared.node.TreeError.{TreeError}
+use Rattle.vol_tree.specs.declared.node.TreeError.TheVariants.{RootFixed, NoParent, Exists, Missing, IsFolder, NotEmpty, RowsFull, FileTooLarge, TreeFull, VersionTop}
 use Rattle.wire_frames.specs.declared.message.Message.{Message}
 use Rattle.wire_frames.specs.declared.message.Message.TheVariants as messages
 use Rattle.wire_frames.specs.Fault.{tree_fault, UnfitFits, FullFits}
 use Rattle.wire_frames.specs.Frame.{body, payload, frame, BodyFits, IsValid}
-use Rattle.vol_tree.proofs.Few.{few_bases}
+use Rattle.tree_laws.proofs.Few.{few_bases}
 
 unfit_size : (f : TreeError) → UnfitFits f → length (tree_fault f) ≤ 2053
 unfolding digits

@@ -4,11 +4,13 @@ use Rattle.std.specs.Int.{w32, w64}
 use Rattle.std.specs.List.{AllByRecursion}
 use Rattle.byte_fields.specs.Field.{digits}
 use Rattle.byte_fields.specs.Broken.{IsRefused}
-use Rattle.vol_tree.specs.declared.tree.Effect.{Effect}
-use Rattle.vol_tree.specs.Path.{FilePath, IsPath}
+use Rattle.vol_tree.specs.declared.node.Effect.{Effect}
+use Rattle.file_paths.specs.Path.{FilePath, IsPath}
 use Rattle.vol_tree.specs.Effects.{touched_all, distinct}
-use Rattle.vol_tree.specs.Spelling.{path, effects, EffectsFit}
-use Rattle.vol_tree.specs.Reading.{path_at, effects_at, bases_at, rows_at}
+use Rattle.file_paths.specs.Spelling.{path}
+use Rattle.vol_tree.specs.Spelling.{effects, EffectsFit}
+use Rattle.file_paths.specs.Reading.{path_at}
+use Rattle.vol_tree.specs.Reading.{effects_at, bases_at, rows_at}
 use Rattle.wire_frames.specs.FaultReading.{unfit_fault_at, full_fault_at}
 use Rattle.wire_frames.specs.declared.message.Message.{Message}
 use Rattle.wire_frames.specs.declared.message.Kind.{Kind}

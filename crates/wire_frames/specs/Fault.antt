@@ -2,10 +2,10 @@
 use Rattle.std.specs.Prelude.{ℕ, ◌<◌, ◌^◌, List, [], ◌∷◌, ◌++◌}
 use Rattle.std.specs.Int.{w32, w64}
 use Rattle.byte_fields.specs.Field.{digits}
-use Rattle.vol_tree.specs.Path.{IsPath}
-use Rattle.vol_tree.specs.Spelling.{path}
-use Rattle.vol_tree.specs.declared.tree.TreeError.{TreeError}
-use Rattle.vol_tree.specs.declared.tree.TreeError.TheVariants.{RootFixed, NoParent, Exists, Missing, IsFolder, NotEmpty, RowsFull, FileTooLarge, TreeFull, VersionTop, Memory}
+use Rattle.file_paths.specs.Path.{IsPath}
+use Rattle.file_paths.specs.Spelling.{path}
+use Rattle.vol_tree.specs.declared.node.TreeError.{TreeError}
+use Rattle.vol_tree.specs.declared.node.TreeError.TheVariants.{RootFixed, NoParent, Exists, Missing, IsFolder, NotEmpty, RowsFull, FileTooLarge, TreeFull, VersionTop, Memory}
 
 -- the number of the refusal, and what it names; want of memory is never told
 abbrev pub tree_fault : TreeError → List ℕ

@@ -2,9 +2,9 @@
 use Rattle.std.specs.Prelude.{ℕ, List, [], ◌∷◌}
 use Rattle.std.specs.Int.{w32, w64}
 use Rattle.byte_fields.specs.Field.{Reader, number_at, none, one, two, tagged_at}
-use Rattle.vol_tree.specs.Reading.{path_at}
-use Rattle.vol_tree.specs.declared.tree.TreeError.{TreeError}
-use Rattle.vol_tree.specs.declared.tree.TreeError.TheVariants.{RootFixed, NoParent, Exists, Missing, IsFolder, NotEmpty, RowsFull, FileTooLarge, TreeFull, VersionTop}
+use Rattle.file_paths.specs.Reading.{path_at}
+use Rattle.vol_tree.specs.declared.node.TreeError.{TreeError}
+use Rattle.vol_tree.specs.declared.node.TreeError.TheVariants.{RootFixed, NoParent, Exists, Missing, IsFolder, NotEmpty, RowsFull, FileTooLarge, TreeFull, VersionTop}
 
 -- the numbers of the refusals that an Unfit may tell, with what follows each
 abbrev pub unfit_kinds : List (ℕ × Reader TreeError)

@@ -2,10 +2,11 @@
 use Rattle.std.specs.Prelude.{◌≡◌, ℕ, ◌+◌, ◌<◌, ◌^◌, nat_le, ◌==◌, ◌&&◌, ◌||◌, not, Bool, true, List, [], ◌∷◌, ◌++◌, length}
 use Rattle.std.specs.Int.{w32, w64}
 use Rattle.byte_fields.specs.Field.{digits}
-use Rattle.vol_tree.specs.Path.{IsPath}
+use Rattle.file_paths.specs.Path.{IsPath}
 use Rattle.vol_tree.specs.Tree.{IsTree}
 use Rattle.vol_tree.specs.Effects.{touched_all, distinct}
-use Rattle.vol_tree.specs.Spelling.{path, effects, bases, rows, EffectsFit, AreBasesOf}
+use Rattle.file_paths.specs.Spelling.{path}
+use Rattle.vol_tree.specs.Spelling.{effects, bases, rows, EffectsFit, AreBasesOf}
 use Rattle.wire_frames.specs.Fault.{tree_fault, UnfitFits, FullFits}
 use Rattle.wire_frames.specs.declared.message.Message.{Message}
 use Rattle.wire_frames.specs.declared.message.Message.TheVariants as messages

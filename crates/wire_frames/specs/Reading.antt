@@ -4,7 +4,8 @@ use Rattle.std.specs.Int.{w8, w32, w64, from_be_bytes}
 use Rattle.std.specs.List.{find}
 use Rattle.byte_fields.specs.Field.{Reader, Answers, none, two, ◌>>=◌, ruled, number_at}
 use Rattle.vol_tree.specs.Effects.{touched_all, distinct}
-use Rattle.vol_tree.specs.Reading.{path_at, effects_at, bases_at, rows_at}
+use Rattle.file_paths.specs.Reading.{path_at}
+use Rattle.vol_tree.specs.Reading.{effects_at, bases_at, rows_at}
 use Rattle.wire_frames.specs.FaultReading.{unfit_fault_at, full_fault_at}
 use Rattle.wire_frames.specs.declared.message.Message.{Message}
 use Rattle.wire_frames.specs.declared.message.Message.TheVariants as messages

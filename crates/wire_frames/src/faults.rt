@@ -3,7 +3,7 @@
 ghost use Rattle.std.specs.Prelude.{◌≡◌, ◌∷◌, ◌++◌, OnOk};
 ghost use Rattle.std.specs.Int.{w64};
 ghost use Rattle.byte_fields.specs.Field.{Gives, digits};
-ghost use Rattle.vol_tree.specs.Spelling.{path as path_spelling};
+ghost use Rattle.file_paths.specs.Spelling.{path as path_spelling};
 ghost use Rattle.wire_frames.specs.Fault.{tree_fault};
 ghost use Rattle.wire_frames.specs.FaultReading.{unfit_fault_at, full_fault_at};
 

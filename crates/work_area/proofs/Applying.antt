@@ -2,12 +2,12 @@
 use Rattle.std.proofs.Common.{◌≡◌, ◌⊎◌, ℕ, ◌+◌, Bool, true, false, not, List, [], ◌∷◌, ◌++◌, reverse, Option, Some, None, Result, Ok, Err, cond, refl, sym, ap, ◌∙◌, subst, true≢false, inl, inr}
 use Rattle.std.proofs.lemmas.List.{reverse-append}
 use Rattle.std.specs.List.{filter_map, flat_map, fold, cons_option, AllByRecursion}
-use Rattle.vol_tree.specs.Path.{FilePath, is_same_path}
-use Rattle.vol_tree.specs.declared.tree.Node.{Node}
-use Rattle.vol_tree.specs.declared.tree.Node.TheVariants.{Folder, File}
-use Rattle.vol_tree.specs.declared.tree.TreeError.{TreeError}
-use Rattle.vol_tree.specs.declared.tree.Effect.{Effect}
-use Rattle.vol_tree.specs.declared.tree.Effect.TheVariants.{Make, Put, Remove, Move}
+use Rattle.file_paths.specs.Path.{FilePath, is_same_path}
+use Rattle.vol_tree.specs.declared.node.Node.{Node}
+use Rattle.vol_tree.specs.declared.node.Node.TheVariants.{Folder, File}
+use Rattle.vol_tree.specs.declared.node.TreeError.{TreeError}
+use Rattle.vol_tree.specs.declared.node.Effect.{Effect}
+use Rattle.vol_tree.specs.declared.node.Effect.TheVariants.{Make, Put, Remove, Move}
 use Rattle.vol_tree.specs.Tree.{Volume, version_at, node_at, with_content, apply, touched_paths}
 use Rattle.vol_tree.specs.Effects.{apply_all, unless_refused_at}
 use Rattle.vol_tree.specs.Behind.{IsIn}

@@ -3,24 +3,23 @@ use Rattle.std.proofs.Common.{◌≡◌, ℕ, ◌+◌, ◌<◌, ◌≤◌, ◌�
 use Rattle.std.specs.List.{filter_map, cons_option}
 use Rattle.std.specs.Option.{option_to_list, option_and_then}
 use Rattle.std.proofs.lemmas.List.{reverse-append}
-use Rattle.vol_tree.specs.declared.tree.Effect.{Effect}
+use Rattle.vol_tree.specs.declared.node.Effect.{Effect}
 use Rattle.cmd_capture.specs.declared.job.JobRow.{JobRow}
 use Rattle.cmd_capture.specs.declared.job.RawRow.{RawRow}
 use Rattle.std.specs.List.{list_all, AllByRecursion}
 use Rattle.std.specs.Ordering.{is_lt}
 use Rattle.std.specs.Cmp.{first_so, second_so}
 use Rattle.std.specs.declared.cmp.Ordering.TheVariants.{Equal}
-use Rattle.vol_tree.specs.Path.{path_cmp}
+use Rattle.file_paths.specs.Path.{path_cmp, FilePath, IsPath, path_of}
 use Rattle.vol_tree.specs.Tree.{is_root}
-use Rattle.vol_tree.proofs.Rows.{same_place}
-use Rattle.vol_tree.specs.Path.{FilePath, IsPath, path_of}
-use Rattle.vol_tree.specs.declared.path.PathError.{PathError}
-use Rattle.vol_tree.proofs.PathTexts.{path_of_text}
+use Rattle.file_paths.proofs.Order.{same_place}
+use Rattle.file_paths.specs.declared.path.PathError.{PathError}
+use Rattle.file_paths.proofs.PathTexts.{path_of_text}
 use Rattle.cmd_capture.specs.Capture.{ok}
 use Rattle.cmd_capture.specs.Rows.{may_follow, read_row, read_rows, next_row, is_legal_at}
 use Rattle.std.proofs.lemmas.Bool.Decides.{nat_tests}
 use Rattle.std.specs.Prelude.{nat_lt}
-use Rattle.vol_tree.proofs.Loops.{filter_map_more}
+use Rattle.file_paths.proofs.Loops.{filter_map_more}
 use Rattle.std.proofs.lemmas.Option.{slice_get_read}
 
 -- a row that may stand behind others is the one that was read

@@ -8,12 +8,13 @@ use Rattle.std.specs.declared.cmp.Ordering.TheVariants.{Less, Equal}
 use Rattle.std.specs.Ordering.{is_lt}
 use Rattle.std.proofs.lemmas.Bool.{cases_lt}
 use Rattle.std.proofs.lemmas.List.{take-take}
-use Rattle.vol_tree.specs.Path.{FilePath, path_cmp, is_same_path, folder_of}
-use Rattle.vol_tree.specs.Refusals.{unless_refused}
+use Rattle.file_paths.specs.Path.{FilePath, path_cmp, is_same_path, folder_of}
+use Rattle.file_paths.specs.Refusals.{unless_refused}
 use Rattle.vol_tree.specs.Tree.{Volume, IsRow, IsTree, AreInOrder, is_root, is_folder, is_folder_node, node_at, node_size}
-use Rattle.vol_tree.specs.declared.tree.Node.{Node}
-use Rattle.vol_tree.specs.declared.tree.Row.{Row}
-use Rattle.vol_tree.proofs.Rows.{find_none, same_place}
+use Rattle.vol_tree.specs.declared.node.Node.{Node}
+use Rattle.vol_tree.specs.declared.node.Row.{Row}
+use Rattle.vol_tree.proofs.Ordered.{find_none}
+use Rattle.file_paths.proofs.Order.{same_place}
 use Rattle.cmd_capture.specs.declared.command.Command.{Command}
 use Rattle.cmd_capture.specs.declared.job.Job.{Job}
 use Rattle.cmd_capture.specs.declared.job.JobRow.{JobRow}

@@ -4,10 +4,10 @@ use Rattle.std.specs.List.{list_all, AllByRecursion}
 use Rattle.std.specs.Cmp.{first_so, second_so}
 use Rattle.std.specs.Ordering.{is_lt, is_eq}
 use Rattle.std.specs.declared.cmp.Ordering.TheVariants.{Less, Equal}
-use Rattle.vol_tree.specs.Path.{FilePath, IsPath, path_cmp, is_same_path, folder_of}
+use Rattle.file_paths.specs.Path.{FilePath, IsPath, path_cmp, is_same_path, folder_of}
 use Rattle.vol_tree.specs.Tree.{is_root, is_folder_node}
-use Rattle.vol_tree.specs.declared.tree.Node.{Node}
-use Rattle.vol_tree.proofs.Rows.{is_less, same_place}
+use Rattle.vol_tree.specs.declared.node.Node.{Node}
+use Rattle.file_paths.proofs.Order.{is_less, same_place}
 use Rattle.cmd_capture.specs.declared.job.JobRow.{JobRow}
 use Rattle.cmd_capture.specs.Rows.{is_at, node_in, is_folder_in, AreInOrder, IsJobRow, AreJobRows, may_follow}
 use Rattle.work_area.proofs.Paths.{same_path}

@@ -2,9 +2,9 @@
 use Rattle.std.proofs.Common.{◌≡◌, ℕ, zero, suc, ◌+◌, ◌≤◌, Bool, true, false, ◌||◌, List, [], ◌∷◌, length, take, filter, map, Option, Some, None, slice_get, refl, sym, ap, ◌∙◌, arith, true≢false, cond}
 use Rattle.std.specs.List.{list_any}
 use Rattle.std.proofs.lemmas.List.{length-map}
-use Rattle.vol_tree.specs.Path.{FilePath, last_name}
+use Rattle.file_paths.specs.Path.{FilePath, last_name}
 use Rattle.vol_tree.specs.Tree.{Volume, is_child, children}
-use Rattle.vol_tree.specs.declared.tree.Row.{Row}
+use Rattle.vol_tree.specs.declared.node.Row.{Row}
 
 or_parts : (a b : Bool) → (a || b) ≡ false → (a ≡ false) × (b ≡ false)
 or_parts true b e = absurd (true≢false e)

@@ -4,10 +4,10 @@ use Rattle.std.specs.List.{filter_map, cons_option, flat_map, AllByRecursion}
 use Rattle.std.specs.declared.cmp.Ordering.TheVariants.{Less}
 use Rattle.std.proofs.lemmas.List.{reverse-append}
 use Rattle.std.proofs.lemmas.List.Elements.{filter-append}
-use Rattle.vol_tree.specs.Path.{FilePath, path_cmp}
-use Rattle.vol_tree.specs.declared.tree.Node.{Node}
-use Rattle.vol_tree.specs.declared.tree.Effect.{Effect}
-use Rattle.vol_tree.specs.declared.tree.Effect.TheVariants.{Remove}
+use Rattle.file_paths.specs.Path.{FilePath, path_cmp}
+use Rattle.vol_tree.specs.declared.node.Node.{Node}
+use Rattle.vol_tree.specs.declared.node.Effect.{Effect}
+use Rattle.vol_tree.specs.declared.node.Effect.TheVariants.{Remove}
 use Rattle.cmd_capture.specs.declared.job.JobRow.{JobRow}
 use Rattle.cmd_capture.specs.Rows.{node_in, AreInOrder, AreJobRows}
 use Rattle.work_area.specs.Changes.{has_kind, has_content, is_gone, is_new, removal_of, making_of, makings_of, making, changes}

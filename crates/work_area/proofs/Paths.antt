@@ -1,7 +1,7 @@
 -- Paths that are one, and rows at them.
 use Rattle.std.proofs.Common.{◌≡◌, Bool, true, false, refl}
-use Rattle.vol_tree.specs.Path.{FilePath, is_same_path}
-use Rattle.vol_tree.proofs.Parts.{tied_path, path_tied}
+use Rattle.file_paths.specs.Path.{FilePath, is_same_path}
+use Rattle.file_paths.proofs.Order.{tied_path, path_tied}
 
 pub same_path : (p q : FilePath) → is_same_path p q ≡ true → p ≡ q
 same_path = tied_path

@@ -14,10 +14,10 @@ use Rattle.std.specs.declared.cmp.Ordering.TheVariants.{Less, Equal, Greater}
 use Rattle.std.proofs.lemmas.Bool.{cases_lt}
 use Rattle.std.proofs.lemmas.List.{get_or-map, length-map, take_all, drop_all}
 use Rattle.std.proofs.lemmas.List.Folds.{list_all-map}
-use Rattle.vol_tree.specs.Path.{FilePath, path_cmp}
+use Rattle.file_paths.specs.Path.{FilePath, path_cmp}
 use Rattle.vol_tree.specs.Tree.{Volume, AreInOrder, row_at}
-use Rattle.vol_tree.specs.declared.tree.Node.TheVariants.{Folder}
-use Rattle.vol_tree.specs.declared.tree.Row.{Row}
+use Rattle.vol_tree.specs.declared.node.Node.TheVariants.{Folder}
+use Rattle.vol_tree.specs.declared.node.Row.{Row}
 use Rattle.vol_tree.proofs.Places.{located}
 use Rattle.vol_tree.proofs.RowsTaken.{last_tells}
 use Rattle.cmd_capture.specs.declared.job.JobRow.{JobRow}

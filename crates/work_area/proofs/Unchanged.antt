@@ -4,10 +4,10 @@ use Rattle.std.specs.List.{filter_map, cons_option, AllByRecursion}
 use Rattle.std.specs.Str.{bytes_eq}
 use Rattle.std.specs.Cmp.Lexicographic.{pointwise, pointwise_decides, bytes_decides}
 use Rattle.std.proofs.lemmas.List.{reverse-append}
-use Rattle.vol_tree.specs.declared.tree.Node.{Node}
-use Rattle.vol_tree.specs.declared.tree.Node.TheVariants.{Folder, File}
-use Rattle.vol_tree.specs.declared.tree.Effect.{Effect}
-use Rattle.vol_tree.specs.declared.tree.Effect.TheVariants.{Remove}
+use Rattle.vol_tree.specs.declared.node.Node.{Node}
+use Rattle.vol_tree.specs.declared.node.Node.TheVariants.{Folder, File}
+use Rattle.vol_tree.specs.declared.node.Effect.{Effect}
+use Rattle.vol_tree.specs.declared.node.Effect.TheVariants.{Remove}
 use Rattle.cmd_capture.specs.declared.job.JobRow.{JobRow}
 use Rattle.cmd_capture.specs.Rows.{is_at, node_in}
 use Rattle.std.specs.List.{flat_map}

@@ -4,12 +4,12 @@ use Rattle.std.specs.List.{list_any, filter_map, flat_map}
 use Rattle.std.specs.Option.{option_to_list}
 use Rattle.std.specs.Str.{bytes_eq}
 use Rattle.byte_fields.specs.Numbers.{as_u32}
-use Rattle.vol_tree.specs.Path.{FilePath}
+use Rattle.file_paths.specs.Path.{FilePath}
 use Rattle.vol_tree.specs.Tree.{Volume, node_at, children}
-use Rattle.vol_tree.specs.declared.tree.Node.{Node}
-use Rattle.vol_tree.specs.declared.tree.Node.TheVariants.{Folder, File}
-use Rattle.vol_tree.specs.declared.tree.Effect.{Effect}
-use Rattle.vol_tree.specs.declared.tree.Effect.TheVariants.{Make, Put, Remove, Move}
+use Rattle.vol_tree.specs.declared.node.Node.{Node}
+use Rattle.vol_tree.specs.declared.node.Node.TheVariants.{Folder, File}
+use Rattle.vol_tree.specs.declared.node.Effect.{Effect}
+use Rattle.vol_tree.specs.declared.node.Effect.TheVariants.{Make, Put, Remove, Move}
 use Rattle.cmd_capture.specs.declared.job.JobRow.{JobRow}
 use Rattle.cmd_capture.specs.Rows.{is_at, node_in}
 

@@ -4,7 +4,7 @@ ghost use Rattle.std.specs.Prelude.{◌≡◌, find, IfOk, IfErr, OnOk};
 ghost use Rattle.std.specs.Option.{option_copied};
 ghost use Rattle.std.specs.List.{list_all};
 ghost use Rattle.std.specs.Ordering.{is_lt};
-ghost use Rattle.vol_tree.specs.Path.{path_cmp};
+ghost use Rattle.file_paths.specs.Path.{path_cmp};
 ghost use Rattle.work_area.specs.declared.rows.RowsFault.TheVariants.{Memory};
 ghost use Rattle.work_area.specs.Outcomes.{IsRowsFault};
 ghost use Rattle.cmd_capture.specs.Rows as rules;

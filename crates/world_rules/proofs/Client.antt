@@ -5,8 +5,8 @@ use Rattle.std.proofs.lemmas.List.{take-append-le}
 use Rattle.vol_tree.specs.Effects.{changed_all}
 use Rattle.vol_tree.specs.Tree.{Volume, version_at, IsTree}
 use Rattle.vol_tree.specs.Behind.{IsBehind, IsIn, IsAhead}
-use Rattle.vol_tree.specs.declared.tree.Effect.{Effect}
-use Rattle.vol_tree.specs.declared.tree.Base.{Base}
+use Rattle.vol_tree.specs.declared.node.Effect.{Effect}
+use Rattle.vol_tree.specs.declared.node.Base.{Base}
 use Rattle.vol_tree.proofs.Behind.{applied_all-tree, counted, node_of, IsTree-empty}
 use Rattle.mod_log.specs.declared.log.Entry.{Entry}
 use Rattle.mod_log.specs.Log.{Log, entry as spelled, after, tree_at, IsLog, logged, acknowledged, new_log}

@@ -3,19 +3,19 @@ use Rattle.std.proofs.Common.{◌≡◌, ◌⊎◌, inl, inr, ⊎_elim, ℕ, ◌
 use Rattle.std.specs.Prelude.{◌==◌, ◌^◌, nat_lt, nat_le, ◌&&◌, if◌then◌else◌}
 use Rattle.std.specs.List.{AllByRecursion}
 use Rattle.std.proofs.lemmas.Bool.Decides.{nat_tests}
-use Rattle.vol_tree.specs.Path.{FilePath, IsPath, folder_of}
-use Rattle.vol_tree.specs.Refusals.{when, unless_refused}
-use Rattle.vol_tree.specs.declared.tree.Row.{Row}
-use Rattle.vol_tree.specs.declared.tree.Base.{Base}
-use Rattle.vol_tree.specs.declared.tree.Effect.{Effect}
-use Rattle.vol_tree.specs.declared.tree.Effect.TheVariants.{Make, Put, Remove, Move}
-use Rattle.vol_tree.specs.declared.tree.TreeError.{TreeError}
-use Rattle.vol_tree.specs.declared.tree.TreeError.TheVariants.{NotEmpty}
+use Rattle.file_paths.specs.Path.{FilePath, IsPath, folder_of}
+use Rattle.file_paths.specs.Refusals.{when, unless_refused}
+use Rattle.vol_tree.specs.declared.node.Row.{Row}
+use Rattle.vol_tree.specs.declared.node.Base.{Base}
+use Rattle.vol_tree.specs.declared.node.Effect.{Effect}
+use Rattle.vol_tree.specs.declared.node.Effect.TheVariants.{Make, Put, Remove, Move}
+use Rattle.vol_tree.specs.declared.node.TreeError.{TreeError}
+use Rattle.vol_tree.specs.declared.node.TreeError.TheVariants.{NotEmpty}
 use Rattle.vol_tree.specs.Tree.{Volume, IsRow, IsTree, row_at, version_at, is_child, refusals, apply, changed, IsLegalEffect}
 use Rattle.vol_tree.specs.Effects.{apply_all, unless_refused_at, Conflict, first_conflict}
 use Rattle.vol_tree.specs.Inside.{is_at}
 use Rattle.vol_tree.specs.Spelling.{EffectFits, BaseFits}
-use Rattle.vol_tree.proofs.PathLemmas.{front_is_path}
+use Rattle.file_paths.proofs.PathLemmas.{front_is_path}
 use Rattle.vol_tree.proofs.Undoing.{find_among}
 use Rattle.vol_tree.proofs.Behind.{applied-tree, applied_all-tree}
 use Rattle.wire_frames.specs.Fault.{UnfitFits, FullFits}

@@ -1,6 +1,6 @@
 -- What the replies say to a client in step.
 use Rattle.std.proofs.Common.{◌≡◌, ℕ, ◌+◌, ◌<◌, ◌≤◌, List, [], length, refl, ap, subst, arith}
-use Rattle.vol_tree.specs.Path.{FilePath}
+use Rattle.file_paths.specs.Path.{FilePath}
 use Rattle.vol_tree.specs.Tree.{Volume, version_at}
 use Rattle.vol_tree.specs.Behind.{IsIn, IsAhead}
 use Rattle.mod_log.specs.Log.{Log, tree_at}

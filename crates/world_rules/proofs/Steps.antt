@@ -3,13 +3,13 @@ use Rattle.std.proofs.Common.{◌≡◌, ◌⊎◌, inl, inr, ⊎_elim, ℕ, ◌
 use Rattle.std.specs.Prelude.{Option, Some, None, nat_lt, nat_le, if◌then◌else◌}
 use Rattle.std.specs.List.{AllByRecursion}
 use Rattle.std.proofs.lemmas.Bool.Decides.{nat_tests}
-use Rattle.vol_tree.specs.Path.{FilePath}
+use Rattle.file_paths.specs.Path.{FilePath}
 use Rattle.vol_tree.specs.Effects.{changed_all, apply_all, base_of, Conflict, first_conflict}
 use Rattle.vol_tree.specs.Tree.{Volume, version_at, IsTree, IsLegalEffect}
 use Rattle.vol_tree.specs.Behind.{IsBehind, IsAhead, IsIn}
-use Rattle.vol_tree.specs.declared.tree.Effect.{Effect}
-use Rattle.vol_tree.specs.declared.tree.Base.{Base}
-use Rattle.vol_tree.specs.declared.tree.TreeError.{TreeError}
+use Rattle.vol_tree.specs.declared.node.Effect.{Effect}
+use Rattle.vol_tree.specs.declared.node.Base.{Base}
+use Rattle.vol_tree.specs.declared.node.TreeError.{TreeError}
 use Rattle.vol_tree.proofs.Behind.{IsBehind-trans, IsBehind-changes, IsBehind-after, AgreeAt-touched, ahead_at_conflict, ahead_where_refused, applied-changes, applied_all-tree, lt-changes, same-changes}
 use Rattle.mod_log.specs.declared.log.Entry.{Entry}
 use Rattle.mod_log.specs.Log.{Log, after, tree_at, IsLog}

@@ -1,6 +1,6 @@
 -- What holds of every run of a client in its world.
 use Rattle.std.specs.Prelude.{◌≡◌, ◌≢◌, ℕ, ◌+◌, ◌-◌, ◌<◌, ◌≤◌, List, [], ◌++◌, drop}
-use Rattle.vol_tree.specs.Path.{FilePath}
+use Rattle.file_paths.specs.Path.{FilePath}
 use Rattle.vol_tree.specs.Tree.{Volume, version_at}
 use Rattle.vol_tree.specs.Behind.{IsIn, IsAhead}
 use Rattle.mod_log.specs.declared.log.Entry.{Entry}

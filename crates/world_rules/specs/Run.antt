@@ -1,6 +1,6 @@
 -- A client and the world as both go on: what the network does, what the client does to its log, and what is kept of it.
 use Rattle.std.specs.Prelude.{◌≡◌, ◌≢◌, ℕ, ◌+◌, ◌-◌, ◌==◌, ◌≤◌, List, [], ◌∷◌, ◌++◌, take, drop, filter}
-use Rattle.vol_tree.specs.Path.{FilePath}
+use Rattle.file_paths.specs.Path.{FilePath}
 use Rattle.vol_tree.specs.Effects.{touched_all}
 use Rattle.vol_tree.specs.Tree.{Volume, version_at, node_at}
 use Rattle.vol_tree.specs.Behind.{IsIn}

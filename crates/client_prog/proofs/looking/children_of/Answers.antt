@@ -1,5 +1,5 @@
 use Rattle.std.proofs.Common.{◌≡◌, ℕ, ◌<◌, List, [], ◌∷◌, ◌++◌, length, get_or, sym, ◌∙◌, subst}
-use Rattle.vol_tree.specs.Path.{IsPath}
+use Rattle.file_paths.specs.Path.{IsPath}
 use Rattle.vol_tree.specs.Tree.{children}
 use Rattle.client_prog.proofs.Found.{child_is_path}
 use Rattle.client_prog.proofs.looking.children_of.Goals as goal

@@ -2,7 +2,7 @@ use Rattle.std.proofs.Common.{◌≡◌, ◌++◌, ◌∙◌, take, sym, ap, get
 use Rattle.byte_fields.specs.Numbers.{as_u32}
 use Rattle.cmd_capture.specs.declared.capturing.CaptureError.TheVariants.{BadInput}
 use Rattle.cmd_capture.specs.Capture.{holds_behind, in_mark, is_bad_path, input_of}
-use Rattle.vol_tree.proofs.Loops.{filter_map_more, position_here, position_later}
+use Rattle.file_paths.proofs.Loops.{filter_map_more, position_here, position_later}
 use Rattle.cmd_capture.proofs.capturing.inputs_of.Goals as goal
 
 pub returns-in-Err-clause-bad : goal.returns-in-Err-clause-bad

@@ -2,7 +2,7 @@ use Rattle.std.specs.Prelude.{◌≡◌, ◌++◌, take, length}
 use Rattle.std.specs.List.{flat_map}
 use Rattle.std.specs.Int.{w16}
 use Rattle.byte_fields.specs.Field.{digits}
-use Rattle.vol_tree.specs.Spelling.{content}
+use Rattle.file_paths.specs.Spelling.{content}
 use Rattle.cmd_capture.proofs.spelling.put_texts.Given as goal
 
 abbrev pub invariant-loop-text : goal.invariant-loop-text

@@ -1,7 +1,7 @@
 use Rattle.std.proofs.Common.{◌≡◌, ◌∙◌, sym, ap, subst, Ok}
 use Rattle.std.proofs.lemmas.Result.{err_from_is_err_and}
 use Rattle.byte_fields.specs.Field.{Fails}
-use Rattle.vol_tree.specs.Reading.{path_at}
+use Rattle.file_paths.specs.Reading.{path_at}
 use Rattle.cmd_capture.specs.Reading.{alike_at, counted_at}
 use Rattle.cmd_capture.proofs.Alike.{alike_from}
 use Rattle.cmd_capture.proofs.taking.inputs_at.Goals as goal

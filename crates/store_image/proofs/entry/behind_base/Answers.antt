@@ -2,10 +2,10 @@ use Rattle.std.proofs.Common.{rules, ◌≡◌, ℕ, true, List, Ok, sym}
 use Rattle.std.specs.Int.{w64}
 use Rattle.std.proofs.lemmas.Bool.{eq-eqb}
 use Rattle.byte_fields.specs.Field.{ruled, number_at}
-use Rattle.vol_tree.specs.Path.{FilePath, is_same_path}
-use Rattle.vol_tree.specs.declared.tree.Base.{Base}
-use Rattle.vol_tree.specs.Reading.{path_at}
-use Rattle.vol_tree.proofs.Parts.{tied_path}
+use Rattle.file_paths.specs.Path.{FilePath, is_same_path}
+use Rattle.vol_tree.specs.declared.node.Base.{Base}
+use Rattle.file_paths.specs.Reading.{path_at}
+use Rattle.file_paths.proofs.Order.{tied_path}
 use Rattle.store_image.specs.Reading.{known_base_at}
 use Rattle.store_image.proofs.entry.behind_base.Goals as goal
 

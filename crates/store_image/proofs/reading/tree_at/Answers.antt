@@ -1,5 +1,5 @@
 use Rattle.std.proofs.Common.{arith}
-use Rattle.vol_tree.proofs.Parts.{rows_codec}
+use Rattle.tree_laws.proofs.Parts.{rows_codec}
 use Rattle.store_image.proofs.reading.tree_at.Goals as goal
 
 pub tree_of-requires : goal.tree_of-requires

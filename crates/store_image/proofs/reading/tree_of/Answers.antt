@@ -1,6 +1,6 @@
 use Rattle.std.proofs.Common.{◌+◌, take, drop}
 use Rattle.std.proofs.lemmas.List.{take-append-drop}
-use Rattle.vol_tree.proofs.Fronts.{front_is_tree}
+use Rattle.tree_laws.proofs.Fronts.{front_is_tree}
 use Rattle.store_image.proofs.reading.tree_of.Goals as goal
 
 pub unreachable-requires : goal.unreachable-requires

@@ -1,6 +1,5 @@
-use Rattle.file_paths.proofs.Parts.{path_codec, content_codec}
 use Rattle.tree_laws.proofs.Parts.{effect_codec, effects_within_codec, effects_codec, bases_codec, rows_codec}
 use Rattle.tree_laws.proofs.spelling_laws.parts_are_spelled_once.Goals as goal
 
 pub returns : goal.returns
-returns c = record { paths = path_codec; contents = content_codec; effect = effect_codec; effects_within = effects_within_codec; effects = effects_codec; bases = bases_codec; rows = rows_codec }
+returns c = record { effect = effect_codec; effects_within = effects_within_codec; effects = effects_codec; bases = bases_codec; rows = rows_codec }

@@ -1,6 +1,6 @@
 use Rattle.std.proofs.Common.{◌≡◌, ◌∙◌, ◌++◌, ◌∷◌, [], rules}
 use Rattle.std.proofs.lemmas.Fn.{always_returns_same}
-use Rattle.vol_tree.specs.Path.{path_cmp}
+use Rattle.file_paths.specs.Path.{path_cmp}
 use Rattle.work_area.proofs.Searching.{search_tells}
 use Rattle.work_area.proofs.changing.has_child.Goals as goal
 

@@ -1,6 +1,6 @@
 use Rattle.std.proofs.Common.{◌≡◌, ◌∙◌, Ok, Err, sym, rules}
 use Rattle.std.proofs.lemmas.Fn.{always_returns_same}
-use Rattle.vol_tree.specs.Path.{path_cmp}
+use Rattle.file_paths.specs.Path.{path_cmp}
 use Rattle.work_area.proofs.Searching.{got, searched}
 use Rattle.work_area.proofs.rows.row_of.Goals as goal
 

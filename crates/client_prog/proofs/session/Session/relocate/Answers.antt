@@ -1,5 +1,5 @@
 use Rattle.std.proofs.Common.{ap, subst}
-use Rattle.vol_tree.specs.Path.{FilePath}
+use Rattle.file_paths.specs.Path.{FilePath}
 use Rattle.client_prog.specs.Session.{State, move_effect}
 use Rattle.client_prog.specs.InsideSession.{Logs}
 use Rattle.client_prog.proofs.session.Session.relocate.Goals as goal

@@ -4,7 +4,7 @@ use Rattle.std.proofs.lemmas.List.{take_all}
 use Rattle.vol_tree.specs.Inside.{add_new}
 use Rattle.vol_tree.specs.Effects.{touched_all}
 use Rattle.vol_tree.proofs.Distinct.{fold_is_distinct}
-use Rattle.vol_tree.proofs.effects.Effects.touched.Goals as goal
+use Rattle.vol_tree.proofs.lists.Effects.touched.Goals as goal
 
 pub returns : goal.returns
 returns c =

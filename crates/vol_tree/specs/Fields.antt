@@ -1,21 +1,14 @@
 -- The fields of each spelling in their order, given by their numbers of bytes.
 use Rattle.std.specs.Prelude.{ℕ, List, [], ◌∷◌, ◌++◌, length, Option, Some, None}
 use Rattle.std.specs.List.{flat_map}
-use Rattle.file_paths.specs.Path.{FilePath, path_text}
+use Rattle.file_paths.specs.Path.{FilePath}
+use Rattle.file_paths.specs.Fields.{path_fields, content_fields}
 use Rattle.vol_tree.specs.declared.node.Effect.{Effect}
 use Rattle.vol_tree.specs.declared.node.Effect.TheVariants.{Make, Put, Remove, Move}
 use Rattle.vol_tree.specs.declared.node.Base.{Base}
 use Rattle.vol_tree.specs.declared.node.Row.{Row}
 use Rattle.vol_tree.specs.declared.node.Node.{Node}
 use Rattle.vol_tree.specs.declared.node.Node.TheVariants.{Folder, File}
-
--- the length of the text, and the text
-abbrev pub path_fields : FilePath → List ℕ
-path_fields p = 2 ∷ length (path_text p) ∷ []
-
--- the length, and the bytes
-abbrev pub content_fields : List ℕ → List ℕ
-content_fields c = 4 ∷ length c ∷ []
 
 -- the kind, and the fields of what the effect names
 abbrev pub effect_fields : Effect → List ℕ

@@ -13,7 +13,7 @@ use Rattle.vol_tree.specs.Inside.{is_at}
 use Rattle.file_paths.specs.Path.{path_cmp}
 use Rattle.vol_tree.specs.declared.node.Row.{Row}
 use Rattle.vol_tree.specs.Tree.{AreInOrder, row_at, rows_below, rows_above, with_row, without_row, restored, total_size, node_size, node_at}
-use Rattle.file_paths.proofs.Order.{paths_total, same_path}
+use Rattle.file_paths.proofs.Order.{paths_total, same_path, same_place, below_trans, is_less}
 use Rattle.vol_tree.proofs.Places.{are_above, after_row}
 
 -- ---- facts of each row
@@ -46,18 +46,6 @@ all_map to (x ∷ xs) all = (to x all.0, all_map to xs all.1)
 
 -- ---- order
 
-pub same_place : (a : List (List ℕ)) → path_cmp a a ≡ Equal
-same_place = tied_itself paths_total
-
--- a path below another is below what is not below that
-pub below_trans : (a p b : List (List ℕ)) → path_cmp a p ≡ Less → is_lt (path_cmp b p) ≡ false → path_cmp a b ≡ Less
-below_trans a p b low not_low =
-    elim (path_cmp b p) as (λ o. path_cmp b p ≡ o → is_lt o ≡ false → path_cmp a b ≡ Less) [
-      | Less ↦ λ e no. absurd (true≢false no)
-      | Equal ↦ λ e no. ap (path_cmp a) (same_path b p e) ∙ low
-      | Greater ↦ λ e no. paths_total.trans a p b low (paths_total.antisymm p b ∙ ap ordering_reverse e)
-    ] refl not_low
-
 pub order_filter : (f : Row → Bool) (rows : List Row) → AreInOrder rows → AreInOrder (filter f rows)
 order_filter f [] order = tt
 order_filter f (row ∷ rows) order =
@@ -71,11 +59,6 @@ pub order_join : (p : List (List ℕ)) (xs ys : List Row) → AllByRecursion (λ
 order_join p [] ys low high front back = back
 order_join p (x ∷ xs) ys low high front back =
     (all_append (λ y. path_cmp x.path y.path ≡ Less) xs ys front.0 (all_map (λ y no. below_trans x.path p y.path low.0 no) ys high), order_join p xs ys low.1 high front.1 back)
-
-pub is_less : (o : Ordering) → is_lt o ≡ true → o ≡ Less
-is_less Less e = refl
-is_less Equal e = absurd (true≢false (sym e))
-is_less Greater e = absurd (true≢false (sym e))
 
 is_greater : (o : Ordering) → is_gt o ≡ true → o ≡ Greater
 is_greater Greater e = refl
