@@ -1,3 +1,4 @@
+pub mod Facts
 pub mod Loop
 pub mod Codec
 pub mod Cutting
