@@ -3,3 +3,4 @@ pub mod Loop
 pub mod Codec
 pub mod Cutting
 pub mod Breaking
+pub mod Fronts
