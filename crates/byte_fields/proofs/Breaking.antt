@@ -3,7 +3,7 @@ use Rattle.std.proofs.Common.{◌≡◌, ℕ, zero, suc, ◌+◌, ◌^◌, ◌<�
 use Rattle.std.specs.Int.{w32}
 use Rattle.std.specs.List.{flat_map}
 use Rattle.std.proofs.lemmas.List.Concat.{flat_map-cons}
-use Rattle.byte_fields.specs.Field.{Reader, ◌>>=◌, ruled, mapped, number_at, digits, tagged_at, of_kind, each_at, passed, EachFits}
+use Rattle.byte_fields.specs.Field.{Reader, ◌>>=◌, ruled, mapped, number_at, digits, tagged_at, of_kind, each_at, EachFits}
 use Rattle.byte_fields.specs.Codec.{IsCodec}
 use Rattle.byte_fields.specs.Broken.{IsRead, IsRefused, EachIsRead, RulesAreOfTheirField, MeaningsAreOfTheirField, LaterFieldsAreRefusedLater, ItemsAreRefusedInTheirPlace}
 use Rattle.byte_fields.proofs.Facts.{four_bytes}

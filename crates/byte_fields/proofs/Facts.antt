@@ -165,7 +165,7 @@ eight_are_bytes n = each_byte (digits w64 n) (low_byte _, (low_byte _, (low_byte
 -- ---- what is refused within a limit
 
 -- a text that stands in bytes stands in those of them that end behind it
-stands_before : (bytes : List ℕ) (at : ℕ) (text : List ℕ) (next more : ℕ) → Stands bytes at text next → Stands (take (next + more) bytes) at text next
+pub stands_before : (bytes : List ℕ) (at : ℕ) (text : List ℕ) (next more : ℕ) → Stands bytes at text next → Stands (take (next + more) bytes) at text next
 stands_before bytes at text next more stands =
     let end : next + more ≡ at + (length text + more) = omega (arith, stands.next_is) in
     record {

@@ -1,5 +1,5 @@
 -- Values that break a rule: the field that is refused, whatever stands before and behind them.
-use Rattle.std.specs.Prelude.{◌≡◌, ℕ, ◌+◌, ◌<◌, Bool, false, List, [], ◌∷◌, ◌++◌, length, Result, Ok, Err}
+use Rattle.std.specs.Prelude.{◌≡◌, ℕ, ◌+◌, ◌<◌, Bool, false, List, ◌++◌, length, Result, Ok, Err}
 use Rattle.std.specs.List.{flat_map}
 use Rattle.byte_fields.specs.Field.{Reader, ◌>>=◌, ruled, mapped, each_at, passed, EachFits}
 use Rattle.byte_fields.specs.Codec.{Stands}
