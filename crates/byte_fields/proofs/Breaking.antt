@@ -1,12 +1,12 @@
 -- The laws of values that break a rule.
-use Rattle.std.proofs.Common.{◌≡◌, ℕ, zero, suc, ◌+◌, ◌^◌, ◌<◌, ◌≤◌, Bool, true, false, ◌&&◌, leb, List, [], ◌∷◌, ◌++◌, length, Result, Ok, Err, refl, sym, ap, subst, ◌∙◌, arith, append_assoc, length-append}
-use Rattle.std.specs.Int.{w8, w32}
+use Rattle.std.proofs.Common.{◌≡◌, ℕ, zero, suc, ◌+◌, ◌^◌, ◌<◌, Bool, true, false, ◌&&◌, List, [], ◌∷◌, ◌++◌, length, Err, refl, sym, ap, subst, ◌∙◌, arith, append_assoc, length-append}
+use Rattle.std.specs.Int.{w32}
 use Rattle.std.specs.List.{flat_map}
-use Rattle.std.proofs.lemmas.Bool.Decides.{nat_tests}
 use Rattle.std.proofs.lemmas.List.Concat.{flat_map-cons}
 use Rattle.byte_fields.specs.Field.{Reader, ◌>>=◌, ruled, mapped, number_at, digits, tagged_at, of_kind, each_at, EachFits}
-use Rattle.byte_fields.specs.Codec.{Stands, IsCodec}
-use Rattle.byte_fields.specs.Broken.{IsRead, IsRefused, passed, EachIsRead, RulesAreOfTheirField, MeaningsAreOfTheirField, LaterFieldsAreRefusedLater, ItemsAreRefusedInTheirPlace}
+use Rattle.byte_fields.specs.Codec.{IsCodec}
+use Rattle.byte_fields.specs.Broken.{IsRead, IsRefused, EachIsRead, RulesAreOfTheirField, MeaningsAreOfTheirField, LaterFieldsAreRefusedLater, ItemsAreRefusedInTheirPlace}
+use Rattle.byte_fields.proofs.Facts.{four_bytes}
 use Rattle.byte_fields.proofs.Codec.{failed, stands_first, stands_second, u8_codec, u32_codec, ruled_codec, counted}
 
 -- what fits is read from its spelling
@@ -61,18 +61,11 @@ kind_refused {A} kinds kind byte is bytes at next stands =
 
 -- ---- rules of numbers
 
-pub above : (a b : ℕ) → b < a → leb a b ≡ false
-above a b h = grind (arith, nat_tests)
-
 pub second_fails : (a b : Bool) → b ≡ false → (a && b) ≡ false
 second_fails true b e = e
 second_fails false b e = refl
 
 -- ---- a count, and what is as long as it
-
-pub four_bytes : (n : ℕ) → length (digits w32 n) ≡ 4
-unfolding digits
-four_bytes n = refl
 
 module _ {A : Type 0} (rule : ℕ → Bool) (items : ℕ → Reader A) (count : ℕ) (small : count < 2 ^ 32) where
   pub count_refused : rule count ≡ false → IsRefused (counted (ruled rule (number_at w32)) items) (digits w32 count) 0

@@ -2,25 +2,15 @@
 use Rattle.std.proofs.Common.{◌≡◌, ◌⊎◌, ℕ, zero, suc, ◌+◌, ◌^◌, ◌<◌, ◌≤◌, Bool, true, false, cond, eqb, leb, List, [], ◌∷◌, ◌++◌, length, take, drop, Result, Ok, Err, refl, sym, ap, subst, ◌∙◌, append_assoc, arith, inl, inr, length-append, length-take, length-drop}
 use Rattle.std.specs.Int.{Width, w8, w16, w32, w64, byte_len, from_be_bytes, to_be_bytes}
 use Rattle.std.specs.List.{flat_map, AllByRecursion}
-use Rattle.std.proofs.lemmas.Bool.{cases_lt, leb-true, le-leb, eqb-true}
-use Rattle.std.proofs.lemmas.List.{take_at, drop_at, drop-drop, drop-take, take-append-drop, get_or-drop, get_or-take, get_or_past}
+use Rattle.std.proofs.lemmas.List.{take_at, drop_at, drop-drop, drop-take, take-append-drop}
 use Rattle.std.proofs.lemmas.Nat.{be_bytes_2, be_bytes_4, be_bytes_8, from_be_bytes-to_be_bytes_2, from_be_bytes-to_be_bytes_4, from_be_bytes-to_be_bytes_8}
 use Rattle.std.proofs.Math.Nat.{mod-eq_of_lt}
 use Rattle.std.proofs.lemmas.List.Concat.{flat_map-cons}
 use Rattle.byte_fields.specs.Field.{Reader, digits, ◌>>=◌, ruled, made_at, mapped, span_at, number_at, none, one, two, three, limited, tagged_at, of_kind, each_at, EachFits}
 use Rattle.byte_fields.specs.Codec.{Stands, IsBytes, IsFault, IsCodec}
+use Rattle.byte_fields.proofs.Facts.{le_of, le_holds, eq_of, bytes_taken, bytes_dropped}
 
 -- ---- places
-
-IsBytes-drop : (n : ℕ) (bytes : List ℕ) → IsBytes bytes → IsBytes (drop n bytes)
-IsBytes-drop n bytes h i = rw get_or-drop (h (n + i))
-
-IsBytes-take : (n : ℕ) (bytes : List ℕ) → IsBytes bytes → IsBytes (take n bytes)
-IsBytes-take n bytes h i =
-    elim (cases_lt i n) [
-      | inl lt ↦ rw (get_or-take n bytes i 0 lt) (h i)
-      | inr le ↦ rw (get_or_past (take n bytes) i 0 (omega (arith, length-take n bytes))) (omega arith)
-    ]
 
 pub stands_none : (bytes : List ℕ) (at : ℕ) → at ≤ length bytes → Stands bytes at [] at
 stands_none bytes at le = record { here = refl; next_is = omega arith; within = le }
@@ -99,7 +89,7 @@ unfolding span_at
 span_codec count = record {
   found = λ bytes at text next fits le e.
       let k = kept_ok (leb (at + count) (length bytes)) at (take count (drop at bytes), at + count) (text, next) e in
-      let long : at + count ≤ length bytes = leb-true _ _ k.0 in
+      let long : at + count ≤ length bytes = le_of _ _ k.0 in
       let len : length (take count (drop at bytes)) ≡ count = omega (arith, length-take count (drop at bytes), length-drop at bytes) in
       let stands : Stands bytes at (take count (drop at bytes)) (at + count) = record {
         here = sym (take-append-drop count (drop at bytes)) ∙ ap (λ (rest : List ℕ). take count (drop at bytes) ++ rest) (drop-drop count at bytes);
@@ -108,7 +98,7 @@ span_codec count = record {
       } in
       subst (λ (x : List ℕ × ℕ). Stands bytes at x.0 x.1 × (length x.0 ≡ count)) k.1 (stands, len);
   again = λ bytes at text next stands len.
-      let long : leb (at + count) (length bytes) ≡ true = le-leb _ _ (omega (arith, stands.next_is, stands.within, len)) in
+      let long : leb (at + count) (length bytes) ≡ true = le_holds _ _ (omega (arith, stands.next_is, stands.within, len)) in
       let taken : take count (drop at bytes) ≡ text = subst (λ (n : ℕ). take n (drop at bytes) ≡ text) len (stands_taken bytes at text next stands) in
       let after : at + count ≡ next = omega (arith, stands.next_is, len) in
       rw (long, taken, after) refl;
@@ -161,7 +151,7 @@ wide64 = record {
 }
 
 IsBytes-span : (bytes : List ℕ) (at : ℕ) (text : List ℕ) (next : ℕ) → IsBytes bytes → Stands bytes at text next → IsBytes text
-IsBytes-span bytes at text next fits stands = subst IsBytes (stands_taken bytes at text next stands) (IsBytes-take (length text) (drop at bytes) (IsBytes-drop at bytes fits))
+IsBytes-span bytes at text next fits stands = subst IsBytes (stands_taken bytes at text next stands) (bytes_taken (length text) (drop at bytes) (bytes_dropped at bytes fits))
 
 number_codec : (w : Width) (limit : ℕ) → IsWide w limit → IsCodec (number_at w) (to_be_bytes w) (λ n. n < limit)
 unfolding number_at
@@ -353,7 +343,7 @@ module _ {A : Type 0} (spelling : A → List ℕ) (Fits : A → Type 0) where
       elim (kind_ok (eqb kind k.0) (k.1 bytes at) (of_kind kinds place kind bytes at) (x, next) e) [
         | inl here ↦
             let r = all.0.found bytes at x next fits le here.1 in
-            (r.0, r.1 ∙ ap (λ (n : ℕ). n ∷ r.0) (sym (eqb-true kind k.0 here.0)), r.2, r.3)
+            (r.0, r.1 ∙ ap (λ (n : ℕ). n ∷ r.0) (sym (eq_of kind k.0 here.0)), r.2, r.3)
         | inr there ↦ of_kind_found kinds all.1 place kind bytes at x next fits le there
       ]
 
@@ -558,7 +548,7 @@ module _ {A : Type 0} {read : Reader A} {spelling : A → List ℕ} {Fits : A �
     found = λ bytes at x next fits le e.
         let short = take (at + room) bytes in
         let len = length-take (at + room) bytes in
-        let r = codec.found short at x next (IsBytes-take (at + room) bytes fits) (omega (arith, len)) e in
+        let r = codec.found short at x next (bytes_taken (at + room) bytes fits) (omega (arith, len)) e in
         let small : length (spelling x) ≤ room = omega (arith, r.0.next_is, r.0.within, len) in
         let taken : take (length (spelling x)) (drop at bytes) ≡ spelling x = sym (same_front bytes at room (length (spelling x)) small) ∙ stands_taken short at (spelling x) next r.0 in
         (stands_of bytes at (spelling x) next taken r.0.next_is (omega (arith, r.0.within, len)), (r.1, small));
@@ -568,7 +558,7 @@ module _ {A : Type 0} {read : Reader A} {spelling : A → List ℕ} {Fits : A �
         codec.again (take (at + room) bytes) at x next (stands_of (take (at + room) bytes) at (spelling x) next taken stands.next_is (omega (arith, stands.next_is, stands.within, fits.1, len))) fits.0;
     fault = λ bytes at place fits le e.
         let len = length-take (at + room) bytes in
-        let p = codec.fault (take (at + room) bytes) at place (IsBytes-take (at + room) bytes fits) (omega (arith, len)) e in
+        let p = codec.fault (take (at + room) bytes) at place (bytes_taken (at + room) bytes fits) (omega (arith, len)) e in
         record { begins = p.begins; within = omega (arith, p.within, len) };
   }
 

@@ -1,38 +1,29 @@
 -- The laws of bytes that end too early, for fields and for fields one after the other.
 use Rattle.std.proofs.Common.{◌≡◌, ℕ, ◌+◌, ◌-◌, ◌<◌, ◌≤◌, Bool, true, false, List, [], ◌∷◌, ◌++◌, length, take, Result, Ok, Err, inl, inr, refl, sym, ap, subst, ◌∙◌, arith, length-append, length-take}
-use Rattle.std.specs.Prelude.{nat_lt, nat_le, sum, ◌^◌}
+use Rattle.std.specs.Prelude.{nat_le, sum, ◌^◌}
 use Rattle.std.specs.Int.{Width, w8, w16, w32, w64, byte_len}
 use Rattle.std.specs.List.{flat_map}
 use Rattle.std.proofs.lemmas.Bool.{cases_lt}
-use Rattle.std.proofs.lemmas.Bool.Decides.{nat_tests}
-use Rattle.std.proofs.lemmas.List.Sums.{sum_by-append, sum_by-cons}
+use Rattle.std.proofs.lemmas.List.Sums.{sum_by-append}
 use Rattle.std.proofs.lemmas.List.Concat.{flat_map-cons}
 use Rattle.byte_fields.specs.Field.{Reader, digits, ◌>>=◌, ruled, mapped, span_at, number_at, one, two, three, tagged_at, of_kind, each_at, EachFits, limited}
 use Rattle.byte_fields.specs.Codec.{Stands, IsCodec}
 use Rattle.byte_fields.specs.Cuts.{start_of, IsCut}
+use Rattle.byte_fields.proofs.Facts.{lt_holds, lt_fails, le_fails, sum_more, two_bytes, four_bytes, eight_bytes}
 use Rattle.byte_fields.proofs.Codec.{failed, stands_first, stands_second, u8_codec, limited_codec, counted}
 
 -- ---- places of fields
 
-pub sum_more : (size : ℕ) (sizes : List ℕ) → sum (size ∷ sizes) ≡ size + sum sizes
-sum_more size sizes = sum_by-cons (λ (n : ℕ). n) size sizes
-
 pub sum_both : (xs ys : List ℕ) → sum (xs ++ ys) ≡ sum xs + sum ys
 sum_both xs ys = sum_by-append (λ (n : ℕ). n) xs ys
-
-below : (a b : ℕ) → a < b → nat_lt a b ≡ true
-below a b h = grind (arith, nat_tests)
-
-not_below : (a b : ℕ) → b ≤ a → nat_lt a b ≡ false
-not_below a b h = grind (arith, nat_tests)
 
 -- what stands in the front lies in the front
 start_low : (place : ℕ) (xs ys : List ℕ) → place < sum xs → start_of place (xs ++ ys) ≡ start_of place xs
 start_low place [] ys lt = absurd (omega arith)
 start_low place (x ∷ xs) ys lt =
     elim (cases_lt place x) [
-      | inl low ↦ rw (below place x low) refl
-      | inr high ↦ rw (not_below place x high) (ap (λ (n : ℕ). x + n) (start_low (place - x) xs ys (omega (arith, sum_more x xs))))
+      | inl low ↦ rw (lt_holds place x low) refl
+      | inr high ↦ rw (lt_fails place x high) (ap (λ (n : ℕ). x + n) (start_low (place - x) xs ys (omega (arith, sum_more x xs))))
     ]
 
 -- what stands behind the front lies in what follows
@@ -42,7 +33,7 @@ start_high place (x ∷ xs) ys le =
     let high : x ≤ place = omega (arith, sum_more x xs) in
     let rest : start_of (place - x) (xs ++ ys) ≡ sum xs + start_of (place - x - sum xs) ys = start_high (place - x) xs ys (omega (arith, sum_more x xs)) in
     let same : place - x - sum xs ≡ place - sum (x ∷ xs) = omega (arith, sum_more x xs) in
-    rw (not_below place x high, rest, same) (omega (arith, sum_more x xs))
+    rw (lt_fails place x high, rest, same) (omega (arith, sum_more x xs))
 
 -- ---- one field, and what follows it
 
@@ -73,12 +64,9 @@ unfolding span_at
 span_cut count = record {
   whole = λ text fits. omega (arith, sum_more (length text) []);
   cut = λ bytes at text next end stands fits le lt.
-      let short : nat_le (at + count) (length (take end bytes)) ≡ false = above (at + count) (length (take end bytes)) (omega (arith, length-take end bytes, stands.next_is, fits)) in
-      rw (short, below (end - at) (length text) (omega (arith, stands.next_is))) (ap (failed (List ℕ × ℕ)) (omega arith));
+      let short : nat_le (at + count) (length (take end bytes)) ≡ false = le_fails (at + count) (length (take end bytes)) (omega (arith, length-take end bytes, stands.next_is, fits)) in
+      rw (short, lt_holds (end - at) (length text) (omega (arith, stands.next_is))) (ap (failed (List ℕ × ℕ)) (omega arith));
 }
-  where
-    above : (a b : ℕ) → b < a → nat_le a b ≡ false
-    above a b h = grind (arith, nat_tests)
 
 -- what is made of a field is cut as the field
 module _ {A : Type 0} {read : Reader A} {s f : A → List ℕ} {F : A → Type 0} (cut : IsCut read s f F) where
@@ -114,16 +102,13 @@ number_cut w wide = record {
 }
 
 pub u16_cut : IsCut (number_at w16) (digits w16) (λ n. 2 ∷ []) (λ n. n < 2 ^ 16)
-unfolding digits
-u16_cut = cut_for (number_cut w16 (λ n. refl)) (λ n fits. tt)
+u16_cut = cut_for (number_cut w16 two_bytes) (λ n fits. tt)
 
 pub u32_cut : IsCut (number_at w32) (digits w32) (λ n. 4 ∷ []) (λ n. n < 2 ^ 32)
-unfolding digits
-u32_cut = cut_for (number_cut w32 (λ n. refl)) (λ n fits. tt)
+u32_cut = cut_for (number_cut w32 four_bytes) (λ n fits. tt)
 
 pub u64_cut : IsCut (number_at w64) (digits w64) (λ n. 8 ∷ []) (λ n. n < 2 ^ 64)
-unfolding digits
-u64_cut = cut_for (number_cut w64 (λ n. refl)) (λ n fits. tt)
+u64_cut = cut_for (number_cut w64 eight_bytes) (λ n fits. tt)
 
 pub u8_cut : IsCut (number_at w8) (λ n. n ∷ []) (λ n. 1 ∷ []) (λ n. n < 2 ^ 8)
 unfolding number_at

@@ -1,4 +1,6 @@
+pub mod Facts
 pub mod Loop
 pub mod Codec
 pub mod Cutting
 pub mod Breaking
+pub mod Fronts

@@ -1,9 +1,9 @@
 -- Reading items one after the other, as a loop does.
-use Rattle.std.proofs.Common.{◌≡◌, ℕ, suc, ◌-◌, ◌+◌, ◌≤◌, ◌<◌, List, [], ◌∷◌, ◌++◌, Result, Ok, Err, refl, sym, ap, ◌∙◌, append_assoc, arith}
+use Rattle.std.proofs.Common.{◌≡◌, ℕ, suc, ◌-◌, ◌+◌, ◌≤◌, ◌<◌, List, [], ◌∷◌, ◌++◌, Result, Ok, Err, refl, sym, ap, subst, ◌∙◌, append_assoc, arith}
 use Rattle.std.proofs.lemmas.List.{append-nil}
 use Rattle.byte_fields.specs.declared.error.TakeError.{TakeError}
 use Rattle.byte_fields.specs.declared.error.TakeError.TheVariants as errors
-use Rattle.byte_fields.specs.Field.{Reader, ◌>>=◌, Fails, each_at}
+use Rattle.byte_fields.specs.Field.{Reader, ◌>>=◌, Fails, GivesInto, each_at, passed}
 
 -- what was read before, and what is still read
 abbrev pub with_front : {A : Type 0} → List A → Result (List A × ℕ) ℕ → Result (List A × ℕ) ℕ
@@ -12,6 +12,10 @@ with_front front read = read >>= λ x. Ok (front ++ x.0, x.1)
 regroup : {A : Type 0} (front : List A) (first : A) (read : Result (List A × ℕ) ℕ) → with_front front (read >>= λ x. Ok (first ∷ x.0, x.1)) ≡ with_front (front ++ first ∷ []) read
 regroup {A} front first (Ok x) = ap (λ (items : List A). Ok (items, x.1)) (simp append_assoc)
 regroup front first (Err place) = refl
+
+pub passed_one : {S A : Type 0} (after : S → A → S) (state : S) (front : List A) (x : A) → passed after state (front ++ x ∷ []) ≡ after (passed after state front) x
+passed_one after state [] x = refl
+passed_one after state (y ∷ front) x = passed_one after (after state y) front x
 
 module _ {S A : Type 0} (item : S → Reader A) (after : S → A → S) (bytes : List ℕ) (total : Result (List A × ℕ) ℕ) where
   -- what was read before, and the items from here on, are all of them
@@ -41,3 +45,20 @@ module _ {S A : Type 0} (item : S → Reader A) (after : S → A → S) (bytes :
       let k : count - i ≡ 0 = omega arith in
       let one : with_front front (each_at item after (count - i) state bytes at) ≡ Ok (front, at) = rw k (ap (λ (items : List A). Ok (items, at)) (append-nil front)) in
       sym so_far ∙ one
+
+  -- the same of items that went into the state, and stand nowhere else
+  abbrev pub Gathered : S → ℕ → S → ℕ → Type 0
+  Gathered initial left state at = (front : List A) × (SoFar front left state at × (state ≡ passed after initial front))
+
+  pub gathers_on : (initial : S) (count i : ℕ) (state : S) (at : ℕ) (new : S) (next : ℕ) → i < count → GivesInto new (after state) (Ok next) (item state bytes at)
+      → Gathered initial (count - i) state at → Gathered initial (count - (i + 1)) new next
+  gathers_on initial count i state at new next lt h so_far =
+      let front = so_far.0 ++ h.0 ∷ [] in
+      let step = goes_on so_far.0 count i state at h.0 next lt h.1.0 so_far.1.0 in
+      (front, (subst (λ (s : S). SoFar front (count - (i + 1)) s next) (sym h.1.1) step, h.1.1 ∙ ap (λ (s : S). after s h.0) so_far.1.1 ∙ sym (passed_one after initial so_far.0 h.0)))
+
+  pub gathers_off : (e : TakeError) (initial : S) (count i : ℕ) (state : S) (at : ℕ) → i < count → Fails e (item state bytes at) → Gathered initial (count - i) state at → Fails e total
+  gathers_off e initial count i state at lt h so_far = breaks_off e so_far.0 count i state at lt h so_far.1.0
+
+  pub all_gathered : (initial : S) (count i : ℕ) (state : S) (at : ℕ) → count ≤ i → Gathered initial (count - i) state at → GivesInto state (passed after initial) (Ok at) total
+  all_gathered initial count i state at le so_far = (so_far.0, (is_done so_far.0 count i state at le so_far.1.0, so_far.1.1))

@@ -1,7 +1,7 @@
 -- Values that break a rule: the field that is refused, whatever stands before and behind them.
-use Rattle.std.specs.Prelude.{◌≡◌, ℕ, ◌+◌, ◌<◌, Bool, false, List, [], ◌∷◌, ◌++◌, length, Result, Ok, Err}
+use Rattle.std.specs.Prelude.{◌≡◌, ℕ, ◌+◌, ◌<◌, Bool, false, List, ◌++◌, length, Result, Ok, Err}
 use Rattle.std.specs.List.{flat_map}
-use Rattle.byte_fields.specs.Field.{Reader, ◌>>=◌, ruled, mapped, tagged_at, of_kind, each_at, EachFits}
+use Rattle.byte_fields.specs.Field.{Reader, ◌>>=◌, ruled, mapped, each_at, passed, EachFits}
 use Rattle.byte_fields.specs.Codec.{Stands}
 
 -- where the text stands, the value is read from it
@@ -11,11 +11,6 @@ IsRead read text x = (bytes : List ℕ) (at next : ℕ) → Stands bytes at text
 -- where the text stands, the first faulty field begins so many bytes behind its start
 abbrev pub IsRefused : {A : Type 0} → Reader A → List ℕ → ℕ → Type 0
 IsRefused read text offset = (bytes : List ℕ) (at next : ℕ) → Stands bytes at text next → read bytes at ≡ Err (at + offset)
-
--- the state behind the items
-abbrev pub passed : {S A : Type 0} → (S → A → S) → S → List A → S
-passed after state [] = state
-passed after state (x ∷ xs) = passed after (after state x) xs
 
 -- each item is read from its spelling, in the light of those before it
 abbrev pub EachIsRead : {S A : Type 0} → (S → Reader A) → (S → A → S) → (A → List ℕ) → S → List A → Type 0

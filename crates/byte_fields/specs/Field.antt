@@ -1,6 +1,6 @@
 -- Reading fields one after the other. A reader is given the bytes and a place. It answers the value there and the
 -- place after it, or the place where the first faulty field begins.
-use Rattle.std.specs.Prelude.{◌≡◌, ℕ, zero, suc, ◌+◌, nat_le, List, [], ◌∷◌, length, take, drop, Bool, ◌==◌, Option, Some, None, IfSome, Result, Ok, Err, if◌then◌else◌}
+use Rattle.std.specs.Prelude.{◌≡◌, ℕ, zero, suc, ◌+◌, nat_le, List, [], ◌∷◌, ◌++◌, length, take, drop, Bool, ◌==◌, Option, Some, None, IfSome, Result, Ok, Err, if◌then◌else◌}
 use Rattle.std.specs.Int.{Width, w8, byte_len, from_be_bytes, to_be_bytes}
 use Rattle.byte_fields.specs.declared.error.TakeError.{TakeError}
 use Rattle.byte_fields.specs.declared.error.TakeError.TheVariants as errors
@@ -37,6 +37,11 @@ Lends view = Answers view place_of
 -- the same of a call that failed
 abbrev pub Fails : {A : Type 0} → TakeError → Result A ℕ → Type 0
 Fails e read = IfSome (place_of e) (λ place. read ≡ Err place)
+
+-- A call answers the place behind what it read, and what it read went into a state, which is now as told.
+abbrev pub GivesInto : {S A : Type 0} → S → (A → S) → Result ℕ TakeError → Result (A × ℕ) ℕ → Type 0
+GivesInto {S} {A} new told (Ok next) read = (x : A) × ((read ≡ Ok (x, next)) × (new ≡ told x))
+GivesInto new told (Err e) read = Fails e read
 
 -- so many bytes
 unfoldable pub span_at : ℕ → Reader (List ℕ)
@@ -118,7 +123,16 @@ each_at item after (suc n) state bytes at = do
   others ← each_at item after n (after state first.0) bytes first.1
   Ok (first.0 ∷ others.0, others.1)
 
+-- the state behind the items
+abbrev pub passed : {S A : Type 0} → (S → A → S) → S → List A → S
+passed after state [] = state
+passed after state (x ∷ xs) = passed after (after state x) xs
+
 -- each item fits what stands before it
 abbrev pub EachFits : {S A : Type 0} → (S → A → Type 0) → (S → A → S) → S → List A → Type 0
 EachFits Fits after state [] = Unit {0}
 EachFits Fits after state (x ∷ xs) = Fits state x × EachFits Fits after (after state x) xs
+
+-- a call that appends a spelling failed: it left what stood before, and a front of the spelling behind it
+abbrev pub IsFront : List ℕ → List ℕ → List ℕ → Type 0
+IsFront old new spelling = (front : List ℕ) × ((rest : List ℕ) × ((spelling ≡ front ++ rest) × (new ≡ old ++ front)))

@@ -8,7 +8,7 @@ mod laws;
 mod numbers;
 mod put;
 
-pub use each::{Item, Spelled, put_each, take_each};
+pub use each::{Item, Spelled, Taken, put_each, take_all, take_each};
 pub use error::TakeError;
 pub use field::{span_at, u8_at, u16_at, u32_at, u64_at};
 pub use laws::{

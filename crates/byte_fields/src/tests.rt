@@ -1,8 +1,121 @@
 //! Numbers in bytes that were written by hand.
 
-use crate::{TakeError, put_u16, put_u32, put_u64, u16_at, u32_at};
-use std::alloc::AllocError;
+ghost use Rattle.std.specs.Prelude.{◌≡◌, ℕ, ◌-◌, ◌++◌, [], ◌∷◌, length, nat_le, nat_lt, slice_index};
+ghost use Rattle.std.specs.Int.{w8, w16};
+ghost use Rattle.byte_fields.specs.Field.{digits, number_at, ruled};
+
+use crate::{
+    Item, Spelled, TakeError, Taken, put_each, put_u16, put_u32, put_u64, take_all, take_each,
+    u8_at, u16_at, u32_at,
+};
+use std::alloc::{AllocError, Global};
+use std::marker::Model;
 use std::rt::HostRuntime;
+
+// The state is what the bytes from here on may come to together.
+impl Item<u8> for u8 {
+    ghost item_at = { λ room. ruled (λ byte. nat_le byte room) (number_at w8) };
+
+    ghost after = { λ room byte. room - byte };
+
+    #[tactic(auto, unfolding(crate::specs::Field::ruled))]
+    fn take_next(
+        _alloc: Global,
+        bytes: &[u8],
+        at: usize,
+        room: &mut u8,
+    ) -> Result<(u8, usize), TakeError> {
+        let (byte, next) = u8_at(bytes, at)?;
+        if byte > *room {
+            return Err(TakeError::At(at));
+        }
+        *room -= byte;
+        Ok((byte, next))
+    }
+}
+
+/// Bytes, each above the one before.
+#[derive(Drop)]
+struct Rising {
+    bytes: Vec<u8>,
+}
+
+impl Model for Rising {
+    ghost use Rattle.std.specs.Prelude.{ℕ, List};
+
+    ghost Value = { List ℕ };
+
+    ghost view = { λ rising. rising.bytes.items };
+}
+
+impl Rising {
+    /// The last byte, or 0.
+    fn last(&self) -> u8
+        ensures { result ≡ slice_index self.now (length self.now - 1) }
+    {
+        if self.bytes.is_empty() {
+            return 0;
+        }
+        self.bytes[self.bytes.len() - 1]
+    }
+}
+
+impl Taken<u8> for Rising {
+    ghost item_at = { λ seen. ruled (λ byte. nat_lt (slice_index seen (length seen - 1)) byte) (number_at w8) };
+
+    ghost after = { λ seen byte. seen ++ byte ∷ [] };
+
+    #[tactic(auto, unfolding(crate::specs::Field::ruled))]
+    fn take_next(&mut self, _alloc: Global, bytes: &[u8], at: usize) -> Result<usize, TakeError> {
+        let (byte, next) = u8_at(bytes, at)?;
+        if byte <= self.last() {
+            return Err(TakeError::At(at));
+        }
+        self.bytes.push(byte)?;
+        Ok(next)
+    }
+}
+
+impl Spelled for u16 {
+    ghost spelling = { digits w16 };
+
+    ghost fits = { λ _. Unit {0} };
+
+    #[tactic(auto, using(crate::proofs::Fronts::front_unchanged))]
+    fn put(&self, out: &mut Vec<u8>) -> Result<(), AllocError> {
+        put_u16(out, *self)
+    }
+}
+
+#[test]
+fn items_are_taken_with_the_state_behind_them(rt: HostRuntime) -> Result<(), TakeError> {
+    let mut room = 10;
+    let (items, next) = take_each::<u8, u8>(rt.alloc(), &[9, 3, 7, 1], 1, 2, &mut room)?;
+    assert_eq!(rt; items.as_slice(), [3, 7].as_slice());
+    assert_eq!(rt; (next, room), (3, 0));
+    Ok(())
+}
+
+#[test]
+fn items_are_taken_into_the_state(rt: HostRuntime) -> Result<(), TakeError> {
+    let mut rising = Rising {
+        bytes: Vec::new(rt.alloc()),
+    };
+    let next = take_all::<u8, Rising>(rt.alloc(), &[9, 3, 7, 1], 1, 2, &mut rising)?;
+    assert_eq!(rt; next, 3);
+    assert_eq!(rt; rising.bytes.as_slice(), [3, 7].as_slice());
+    let refused = take_all::<u8, Rising>(rt.alloc(), &[9, 3, 7, 1], 3, 1, &mut rising);
+    assert_eq!(rt; refused, Err(TakeError::At(3)));
+    Ok(())
+}
+
+#[test]
+fn items_are_put_in_order(rt: HostRuntime) -> Result<(), AllocError> {
+    let mut out = Vec::new(rt.alloc());
+    put_each::<u16>(&[258, 3], &mut out)?;
+    assert_eq!(rt; out.as_slice(), [1, 2, 0, 3].as_slice());
+    Ok(())
+}
 
 #[test]
 fn numbers_are_put_high_byte_first(rt: HostRuntime) -> Result<(), AllocError> {
