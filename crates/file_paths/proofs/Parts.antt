@@ -8,7 +8,8 @@ use Rattle.byte_fields.specs.Codec.{IsCodec}
 use Rattle.byte_fields.specs.Cuts.{IsCut}
 use Rattle.byte_fields.proofs.Codec.{span_codec, u16_codec, u32_codec, ruled_codec, mapped_codec, codec_for, counted_codec}
 use Rattle.byte_fields.proofs.Cutting.{span_cut, u16_cut, u32_cut, ruled_cut, mapped_cut, cut_for, counted_cut}
-use Rattle.byte_fields.proofs.Breaking.{read_again, rule_refused, meaning_refused, first_refused, later_refused, above}
+use Rattle.byte_fields.proofs.Facts.{le_fails}
+use Rattle.byte_fields.proofs.Breaking.{read_again, rule_refused, meaning_refused, first_refused, later_refused}
 use Rattle.file_paths.specs.Path.{FilePath, IsPath, path_of, path_text}
 use Rattle.file_paths.specs.Spelling.{path, content}
 use Rattle.file_paths.specs.Reading.{path_at, content_at}
@@ -58,4 +59,4 @@ pub length_refused : BrokenLengths
 unfolding content_at
 length_refused limit size large small =
     first_refused (ruled (λ n. leb n limit) (number_at w32)) (λ n. span_at n) (digits w32 size) 0
-    (rule_refused (number_at w32) (λ n. leb n limit) (digits w32 size) size (read_again u32_codec size small) (above size limit large))
+    (rule_refused (number_at w32) (λ n. leb n limit) (digits w32 size) size (read_again u32_codec size small) (le_fails size limit large))

@@ -6,6 +6,7 @@ use Rattle.std.specs.Cmp.{first_so, second_so}
 use Rattle.std.proofs.lemmas.Bool.Decides.{nat_tests}
 use Rattle.std.proofs.lemmas.List.Sums.{AllPass-from_list_all}
 use Rattle.std.proofs.lemmas.List.Splits.{slice_split_at, slice_split_none, join_with_byte-slice_split}
+use Rattle.byte_fields.proofs.Facts.{not_of, lt_fails, not_lt_of, none_mapped}
 use Rattle.file_paths.specs.Path.{FilePath, IsPath, is_name, is_name_byte, path_text, pieces, path_of}
 use Rattle.file_paths.specs.Refusals.{when, unless_refused}
 use Rattle.file_paths.specs.declared.path.PathError.{PathError}
@@ -17,28 +18,14 @@ not_first : {T E : Type 0} (o : Option E) (rest : List (Option E)) (value x : T)
 not_first None rest value x e = (refl, e)
 not_first (Some refusal) rest value x e = absurd cc
 
-not_when : {E : Type 0} (b : Bool) (refusal : E) → when b refusal ≡ None → b ≡ false
+pub not_when : {E : Type 0} (b : Bool) (refusal : E) → when b refusal ≡ None → b ≡ false
 not_when false refusal e = refl
 not_when true refusal e = absurd cc
-
-not_mapped : {A B : Type 0} (f : A → B) (o : Option A) → option_map f o ≡ None → o ≡ None
-not_mapped f None e = refl
-not_mapped f (Some x) e = absurd cc
-
-at_most : (a b : ℕ) → nat_lt a b ≡ false → b ≤ a
-at_most a b h = grind (arith, nat_tests)
-
-not_more : (a b : ℕ) → b ≤ a → nat_lt a b ≡ false
-not_more a b h = grind (arith, nat_tests)
 
 -- ---- the text of names, cut again
 
 no_slash : (name : List ℕ) → list_all is_name_byte name ≡ true → (k d : ℕ) → k < length name → (get_or name k d == 47) ≡ false
-no_slash name h k d lt = is_not (get_or name k d == 47) (first_so _ _ (AllPass-from_list_all is_name_byte name h k d lt))
-  where
-    is_not : (b : Bool) → not b ≡ true → b ≡ false
-    is_not false e = refl
-    is_not true e = absurd (true≢false (sym e))
+no_slash name h k d lt = not_of (get_or name k d == 47) (first_so _ _ (AllPass-from_list_all is_name_byte name h k d lt))
 
 name_bytes : (name : List ℕ) → is_name name ≡ true → list_all is_name_byte name ≡ true
 name_bytes name h =
@@ -68,22 +55,22 @@ all_pass [] h = refl
 all_pass (x ∷ xs) h = rw (first_so (is_name x) _ h) (omega (arith, all_pass xs (second_so (is_name x) _ h)))
 
 none_bad : (names : List (List ℕ)) → list_all is_name names ≡ true → position (λ piece. not (is_name piece)) names ≡ None
-none_bad names h = rw (all_pass names h, not_more (length names) (length names) (omega arith)) refl
+none_bad names h = rw (all_pass names h, lt_fails (length names) (length names) (omega arith)) refl
 
 -- ---- the laws
 
 pub text_of_path_read : (names : FilePath) → IsPath names → path_of (path_text names) ≡ Ok names
 text_of_path_read names is =
-    rw (pieces_of_text names is, none_bad names is.named, not_more 32 (length names) is.shallow, not_more 1024 (length (path_text names)) is.short) refl
+    rw (pieces_of_text names is, none_bad names is.named, lt_fails 32 (length names) is.shallow, lt_fails 1024 (length (path_text names)) is.short) refl
 
 pub path_of_text : (text : List ℕ) (names : FilePath) → path_of text ≡ Ok names → IsPath names × (path_text names ≡ text)
 path_of_text text names e =
     let a = not_first _ _ (pieces text) names e in
     let b = not_first _ _ (pieces text) names a.1 in
     let c = not_first _ _ (pieces text) names b.1 in
-    let named = not_mapped _ (position (λ piece. not (is_name piece)) (pieces text)) a.0 in
-    let shallow = at_most 32 (length (pieces text)) (not_when _ _ b.0) in
-    let short = at_most 1024 (length text) (not_when _ _ c.0) in
+    let named = none_mapped _ (position (λ piece. not (is_name piece)) (pieces text)) a.0 in
+    let shallow = not_lt_of 32 (length (pieces text)) (not_when _ _ b.0) in
+    let short = not_lt_of 1024 (length text) (not_when _ _ c.0) in
     let is : pieces text ≡ names = by c.1 in
     subst (λ (p : FilePath). IsPath p × (path_text p ≡ text)) is (cut text named shallow short)
   where

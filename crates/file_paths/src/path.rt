@@ -1,6 +1,7 @@
 // Paths, which contracts see as the list of their names.
-ghost use Rattle.std.specs.Prelude.{◌≤◌, ◌≡◌, ◌≢◌, ℕ, ◌+◌, ◌-◌, List, [], ◌∷◌, ◌++◌, length, min, not, ◌==◌, IfOk, IfErr, OnOk, IsTrue, position, map, slice_get};
+ghost use Rattle.std.specs.Prelude.{◌≤◌, ◌≡◌, ◌≢◌, ℕ, ◌+◌, ◌-◌, List, [], ◌∷◌, ◌++◌, length, min, not, ◌==◌, IfOk, IfErr, OnOk, OnErr, IsTrue, position, map, slice_get};
 ghost use Rattle.std.specs.List.{list_all, slice_split};
+ghost use Rattle.byte_fields.specs.Field.{IsFront};
 ghost use Rattle.file_paths.specs.Inside.{joined_size};
 ghost use Rattle.file_paths.specs.Limits.{max_text};
 ghost use Rattle.file_paths.specs.declared.path.PathError.TheVariants.{Memory};
@@ -132,7 +133,8 @@ impl Path {
 
     /// Appends the text.
     pub(crate) fn put_text(&self, out: &mut Vec<u8>) -> Result<(), AllocError>
-        ensures { OnOk result (out.new.items ≡ out.old.items ++ path_text self.now) }
+        ensures ok { OnOk result (out.new.items ≡ out.old.items ++ path_text self.now) }
+        ensures err { OnErr result (IsFront out.old.items out.new.items (path_text self.now)) }
     {
         put_joined(self.names.as_slice(), out)
     }
@@ -293,16 +295,27 @@ fn joined(alloc: Global, names: &[Content]) -> Result<Vec<u8>, AllocError>
 
 /// Appends the names, joined by `/`.
 fn put_joined(names: &[Content], out: &mut Vec<u8>) -> Result<(), AllocError>
-    ensures { OnOk result (out.new.items ≡ out.old.items ++ path_text names.now) }
+    ensures ok { OnOk result (out.new.items ≡ out.old.items ++ path_text names.now) }
+    ensures err { OnErr result (IsFront out.old.items out.new.items (path_text names.now)) }
 {
     let Some((first, rest)) = names.split_first() else {
         return Ok(());
     };
     out.extend_from_slice(first.bytes())?;
     for name in rest {
-        out.push(b'/')?;
-        out.extend_from_slice(name.bytes())?;
+        put_next(name, out)?;
     }
+    Ok(())
+}
+
+/// Appends a `/` and the name.
+#[tactic(auto, using(byte_fields::proofs::Fronts::front_none, byte_fields::proofs::Fronts::front_all, byte_fields::proofs::Fronts::front_before))]
+fn put_next(name: &Content, out: &mut Vec<u8>) -> Result<(), AllocError>
+    ensures ok { OnOk result (out.new.items ≡ out.old.items ++ 47 ∷ name.now) }
+    ensures err { OnErr result (IsFront out.old.items out.new.items (47 ∷ name.now)) }
+{
+    out.push(b'/')?;
+    out.extend_from_slice(name.bytes())?;
     Ok(())
 }
 

@@ -1,6 +1,7 @@
 //! Appending the spellings of paths and contents, and how long they are.
 
-ghost use Rattle.std.specs.Prelude.{◌≡◌, ◌≤◌, ◌++◌, length, OnOk};
+ghost use Rattle.std.specs.Prelude.{◌≡◌, ◌≤◌, ◌++◌, length, OnOk, OnErr};
+ghost use Rattle.byte_fields.specs.Field.{IsFront};
 ghost use Rattle.file_paths.specs.Limits.{max_file};
 ghost use Rattle.file_paths.specs.Spelling.{path, content};
 
@@ -11,8 +12,14 @@ use std::alloc::AllocError;
 
 impl Path {
     /// Appends the spelling: two bytes for the length of the text, and the text.
+    ///
+    /// # Errors
+    ///
+    /// `AllocError` where memory runs out. A front of the spelling is then appended.
+    #[tactic(auto, using(byte_fields::proofs::Fronts::front_none, byte_fields::proofs::Fronts::front_second))]
     pub fn spell(value: &Path, out: &mut Vec<u8>) -> Result<(), AllocError>
-        ensures { OnOk result (out.new.items ≡ out.old.items ++ path value.now) }
+        ensures ok { OnOk result (out.new.items ≡ out.old.items ++ path value.now) }
+        ensures err { OnErr result (IsFront out.old.items out.new.items (path value.now)) }
     {
         put_u16(out, value.text_len() as u16)?;
         value.put_text(out)
@@ -30,9 +37,15 @@ impl Path {
 
 impl Content {
     /// Appends the spelling: four bytes for the length, and the bytes.
+    ///
+    /// # Errors
+    ///
+    /// `AllocError` where memory runs out. A front of the spelling is then appended.
+    #[tactic(auto, using(byte_fields::proofs::Fronts::front_none, byte_fields::proofs::Fronts::front_before))]
     pub fn spell(value: &Content, out: &mut Vec<u8>) -> Result<(), AllocError>
         requires { length value.now ≤ max_file }
-        ensures { OnOk result (out.new.items ≡ out.old.items ++ content value.now) }
+        ensures ok { OnOk result (out.new.items ≡ out.old.items ++ content value.now) }
+        ensures err { OnErr result (IsFront out.old.items out.new.items (content value.now)) }
     {
         let bytes = value.bytes();
         put_u32(out, bytes.len() as u32)?;
