@@ -9,20 +9,27 @@ use Rattle.byte_fields.specs.Field.{IsFront}
 
 -- nothing was appended
 pub front_none : (old new spelling : List ℕ) → new ≡ old → IsFront old new spelling
-front_none old new spelling same = ([], (spelling, (refl, same ∙ sym (append-nil old))))
+front_none old new spelling same =
+    record { front = []; rest = spelling; parts = refl; appended = same ∙ sym (append-nil old) }
 
 -- all was appended
 pub front_all : (old new spelling : List ℕ) → new ≡ old ++ spelling → IsFront old new spelling
-front_all old new spelling all = (spelling, ([], (sym (append-nil spelling), all)))
+front_all old new spelling all = record { front = spelling; rest = []; parts = sym (append-nil spelling); appended = all }
 
 -- a front of the first part
 pub front_first : (old new a b : List ℕ) → IsFront old new a → IsFront old new (a ++ b)
-front_first old new a b f = (f.0, (f.1.0 ++ b, (ap (λ (t : List ℕ). t ++ b) f.1.1.0 ∙ append_assoc f.0 f.1.0 b, f.1.1.1)))
+front_first old new a b f =
+    record { front = f.front; rest = f.rest ++ b; parts = ap (λ (t : List ℕ). t ++ b) f.parts ∙ append_assoc f.front f.rest b; appended = f.appended }
 
 -- the whole first part, and a front of the second
 pub front_second : (old middle new a b : List ℕ) → middle ≡ old ++ a → IsFront middle new b → IsFront old new (a ++ b)
 front_second old middle new a b whole f =
-    (a ++ f.0, (f.1.0, (ap (λ (t : List ℕ). a ++ t) f.1.1.0 ∙ sym (append_assoc a f.0 f.1.0), f.1.1.1 ∙ ap (λ (t : List ℕ). t ++ f.0) whole ∙ append_assoc old a f.0)))
+    record {
+      front = a ++ f.front;
+      rest = f.rest;
+      parts = ap (λ (t : List ℕ). a ++ t) f.parts ∙ sym (append_assoc a f.front f.rest);
+      appended = f.appended ∙ ap (λ (t : List ℕ). t ++ f.front) whole ∙ append_assoc old a f.front;
+    }
 
 -- the whole first part, and nothing of the second
 pub front_before : (old new a b : List ℕ) → new ≡ old ++ a → IsFront old new (a ++ b)
@@ -57,3 +64,12 @@ on_error (Err e) p = p
 pub front_unchanged : {A E : Type 0} (r : Result A E) (old new spelling : List ℕ) → OnErr r (new ≡ old) → OnErr r (IsFront old new spelling)
 front_unchanged (Ok x) old new spelling same = tt
 front_unchanged (Err e) old new spelling same = front_none old new spelling same
+
+-- a kind, a whole part behind it, and a front of the next part
+pub front_behind_kind : (old kinded middle new : List ℕ) (kind : ℕ) (a b : List ℕ) → kinded ≡ old ++ kind ∷ [] → middle ≡ kinded ++ a → IsFront middle new b → IsFront old new ((kind ∷ a) ++ b)
+front_behind_kind old kinded middle new kind a b tagged whole f =
+    front_second old middle new (kind ∷ a) b (whole ∙ ap (λ (t : List ℕ). t ++ a) tagged ∙ append_assoc old (kind ∷ []) a) f
+
+-- two whole parts, and a front of the third
+pub front_third : (old one two new a b c : List ℕ) → one ≡ old ++ a → two ≡ one ++ b → IsFront two new c → IsFront old new (a ++ (b ++ c))
+front_third old one two new a b c first second f = front_second old one new a (b ++ c) first (front_second one two new b c second f)

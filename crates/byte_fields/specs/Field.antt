@@ -133,6 +133,9 @@ abbrev pub EachFits : {S A : Type 0} → (S → A → Type 0) → (S → A → S
 EachFits Fits after state [] = Unit {0}
 EachFits Fits after state (x ∷ xs) = Fits state x × EachFits Fits after (after state x) xs
 
--- a call that appends a spelling failed: it left what stood before, and a front of the spelling behind it
-abbrev pub IsFront : List ℕ → List ℕ → List ℕ → Type 0
-IsFront old new spelling = (front : List ℕ) × ((rest : List ℕ) × ((spelling ≡ front ++ rest) × (new ≡ old ++ front)))
+-- a front of the spelling was appended, and the rest of it was not
+pub record IsFront (old new spelling : List ℕ) : Type 0 where
+  pub front : List ℕ
+  pub rest : List ℕ
+  pub parts : spelling ≡ front ++ rest
+  pub appended : new ≡ old ++ front

@@ -16,12 +16,13 @@ use Rattle.vol_tree.specs.declared.node.Node.TheVariants.{Folder, File}
 use Rattle.byte_fields.specs.Field.{digits}
 use Rattle.file_paths.specs.Spelling.{path, content}
 use Rattle.vol_tree.specs.Spelling.{effect, effects, base, bases, node, row, rows, EffectFits, EffectsFit, BaseFits}
-use Rattle.file_paths.proofs.Sizes.{four_digits, eight_digits, path_length, content_length, path_size}
+use Rattle.byte_fields.proofs.Facts.{four_bytes, eight_bytes}
+use Rattle.file_paths.proofs.Sizes.{path_length, content_length, path_size}
 
 -- ---- exactly
 
 pub base_length : (b : Base) → length (base b) ≡ length (path b.path) + 8
-base_length b = omega (arith, length-append (path b.path) (digits w64 b.version), eight_digits b.version)
+base_length b = omega (arith, length-append (path b.path) (digits w64 b.version), eight_bytes b.version)
 
 pub put_length : (p : FilePath) (c : List ℕ) → length (path p ++ content c) ≡ length (path p) + (4 + length c)
 put_length p c = omega (arith, length-append (path p) (content c), content_length c)
@@ -41,7 +42,7 @@ all_effects_size (e ∷ es) fits =
 
 pub effects_size : (es : List Effect) → EffectsFit es → length (effects es) ≤ 41963524
 effects_size es fits =
-    omega (arith, length-append (digits w32 (length es)) (flat_map effect es), four_digits (length es), all_effects_size es fits.each, fits.few, fits.all_contents)
+    omega (arith, length-append (digits w32 (length es)) (flat_map effect es), four_bytes (length es), all_effects_size es fits.each, fits.few, fits.all_contents)
 
 pub base_size : (b : Base) → BaseFits b → length (base b) ≤ 1034
 base_size b fits = omega (arith, base_length b, path_size b.path fits.0)
@@ -52,7 +53,7 @@ all_bases_size (b ∷ bs) fits =
     omega (arith, ap length (flat_map-cons base b bs), length-append (base b) (flat_map base bs), base_size b fits.0, all_bases_size bs fits.1)
 
 pub bases_size : (bs : List Base) → AllByRecursion BaseFits bs → length (bases bs) ≤ 4 + 1034 * length bs
-bases_size bs fits = omega (arith, length-append (digits w32 (length bs)) (flat_map base bs), four_digits (length bs), all_bases_size bs fits)
+bases_size bs fits = omega (arith, length-append (digits w32 (length bs)) (flat_map base bs), four_bytes (length bs), all_bases_size bs fits)
 
 node_length : (n : Option Node) → length (node n) ≤ 5 + node_size n
 node_length None = omega arith
@@ -61,7 +62,7 @@ node_length (Some (File c)) = omega (arith, content_length c)
 
 pub row_size : (r : Row) → IsRow r → length (row r) ≤ 1039 + node_size r.node
 row_size r is =
-    omega (arith, length-append (path r.path) (digits w64 r.version ++ node r.node), length-append (digits w64 r.version) (node r.node), eight_digits r.version, path_size r.path is.is_path, node_length r.node)
+    omega (arith, length-append (path r.path) (digits w64 r.version ++ node r.node), length-append (digits w64 r.version) (node r.node), eight_bytes r.version, path_size r.path is.is_path, node_length r.node)
 
 all_rows_size : (rs : Volume) → AllByRecursion IsRow rs → length (flat_map row rs) ≤ 1039 * length rs + total_size rs
 all_rows_size [] is = omega arith
@@ -70,4 +71,4 @@ all_rows_size (r ∷ rs) is =
 
 pub rows_size : (rs : Volume) → IsTree rs → length (rows rs) ≤ 50577412
 rows_size rs tree =
-    omega (arith, length-append (digits w32 (length rs)) (flat_map row rs), four_digits (length rs), all_rows_size rs tree.each, tree.few, tree.small)
+    omega (arith, length-append (digits w32 (length rs)) (flat_map row rs), four_bytes (length rs), all_rows_size rs tree.each, tree.few, tree.small)

@@ -1,9 +1,10 @@
 //! Appending the spellings of values, and how long they are.
 
-ghost use Rattle.std.specs.Prelude.{◌≡◌, ◌<◌, ◌≤◌, ◌+◌, ◌^◌, ◌++◌, length, OnOk};
+ghost use Rattle.std.specs.Prelude.{◌≡◌, ◌<◌, ◌≤◌, ◌+◌, ◌^◌, ◌++◌, length, OnOk, OnErr};
 ghost use Rattle.std.specs.Option.{option_copied};
 ghost use Rattle.file_paths.specs.Limits.{max_file};
 ghost use Rattle.vol_tree.specs.Tree.{IsTree, node_size};
+ghost use Rattle.byte_fields.specs.Field.{IsFront};
 ghost use Rattle.vol_tree.specs.Effects.{content_size};
 ghost use Rattle.file_paths.specs.Spelling.{path, content};
 ghost use Rattle.vol_tree.specs.Spelling.{effect, effects, base, bases, node, row, rows, EffectFits, EffectsFit};
@@ -18,9 +19,15 @@ use std::alloc::AllocError;
 
 impl Effect {
     /// Appends the spelling: a byte for the kind, and the effect's paths and content.
+    ///
+    /// # Errors
+    ///
+    /// `AllocError` where memory runs out. A front of the spelling is then appended.
+    #[tactic(auto, using(byte_fields::proofs::Fronts::front_none, byte_fields::proofs::Fronts::front_all, byte_fields::proofs::Fronts::front_first, byte_fields::proofs::Fronts::front_before, byte_fields::proofs::Fronts::front_second, byte_fields::proofs::Fronts::front_behind_kind))]
     pub fn spell(value: &Effect, out: &mut Vec<u8>) -> Result<(), AllocError>
         requires { EffectFits value.now }
-        ensures { OnOk result (out.new.items ≡ out.old.items ++ effect value.now) }
+        ensures ok { OnOk result (out.new.items ≡ out.old.items ++ effect value.now) }
+        ensures err { OnErr result (IsFront out.old.items out.new.items (effect value.now)) }
     {
         match value {
             Effect::Make(path) => {
@@ -62,9 +69,15 @@ impl Effect {
 
 impl Effects {
     /// Appends the spelling: four bytes for the number of effects, and the effects.
+    ///
+    /// # Errors
+    ///
+    /// `AllocError` where memory runs out. A front of the spelling is then appended.
+    #[tactic(auto, using(byte_fields::proofs::Fronts::front_none, byte_fields::proofs::Fronts::front_all, byte_fields::proofs::Fronts::front_first, byte_fields::proofs::Fronts::front_before, byte_fields::proofs::Fronts::front_second))]
     pub fn spell(value: &Effects, out: &mut Vec<u8>) -> Result<(), AllocError>
         requires { EffectsFit value.now }
-        ensures { OnOk result (out.new.items ≡ out.old.items ++ effects value.now) }
+        ensures ok { OnOk result (out.new.items ≡ out.old.items ++ effects value.now) }
+        ensures err { OnErr result (IsFront out.old.items out.new.items (effects value.now)) }
     {
         let items = value.as_slice();
         put_u32(out, value.len() as u32)?;
@@ -75,8 +88,14 @@ impl Effects {
 
 impl Base {
     /// Appends the spelling: the path, and eight bytes for the version.
+    ///
+    /// # Errors
+    ///
+    /// `AllocError` where memory runs out. A front of the spelling is then appended.
+    #[tactic(auto, using(byte_fields::proofs::Fronts::front_none, byte_fields::proofs::Fronts::front_all, byte_fields::proofs::Fronts::front_first, byte_fields::proofs::Fronts::front_before, byte_fields::proofs::Fronts::front_second))]
     pub fn spell(value: &Base, out: &mut Vec<u8>) -> Result<(), AllocError>
-        ensures { OnOk result (out.new.items ≡ out.old.items ++ base value.now) }
+        ensures ok { OnOk result (out.new.items ≡ out.old.items ++ base value.now) }
+        ensures err { OnErr result (IsFront out.old.items out.new.items (base value.now)) }
     {
         Path::spell(&value.path, out)?;
         put_u64(out, value.version)?;
@@ -95,8 +114,14 @@ impl Base {
 
 impl Bases {
     /// Appends the spelling: four bytes for the number of bases, and the bases.
+    ///
+    /// # Errors
+    ///
+    /// `AllocError` where memory runs out. A front of the spelling is then appended.
+    #[tactic(auto, using(byte_fields::proofs::Fronts::front_none, byte_fields::proofs::Fronts::front_all, byte_fields::proofs::Fronts::front_first, byte_fields::proofs::Fronts::front_before, byte_fields::proofs::Fronts::front_second))]
     pub fn spell(value: &Bases, out: &mut Vec<u8>) -> Result<(), AllocError>
-        ensures { OnOk result (out.new.items ≡ out.old.items ++ bases value.now) }
+        ensures ok { OnOk result (out.new.items ≡ out.old.items ++ bases value.now) }
+        ensures err { OnErr result (IsFront out.old.items out.new.items (bases value.now)) }
     {
         let items = value.as_slice();
         put_u32(out, value.len() as u32)?;
@@ -106,9 +131,11 @@ impl Bases {
 }
 
 /// Appends what stands at a path: a byte for its kind, and a file's content.
+#[tactic(auto, using(byte_fields::proofs::Fronts::front_none, byte_fields::proofs::Fronts::front_all, byte_fields::proofs::Fronts::front_first, byte_fields::proofs::Fronts::front_before, byte_fields::proofs::Fronts::front_second))]
 fn spell_node(value: Option<&Node>, out: &mut Vec<u8>) -> Result<(), AllocError>
     requires { node_size (option_copied value) ≤ max_file }
-    ensures { OnOk result (out.new.items ≡ out.old.items ++ node (option_copied value.entry)) }
+    ensures ok { OnOk result (out.new.items ≡ out.old.items ++ node (option_copied value.entry)) }
+    ensures err { OnErr result (IsFront out.old.items out.new.items (node (option_copied value.entry))) }
 {
     match value {
         None => out.push(0)?,
@@ -122,6 +149,7 @@ fn spell_node(value: Option<&Node>, out: &mut Vec<u8>) -> Result<(), AllocError>
 }
 
 /// Appends a row's path, its version and what stands at the path.
+#[tactic(auto, using(byte_fields::proofs::Fronts::front_none, byte_fields::proofs::Fronts::front_all, byte_fields::proofs::Fronts::front_first, byte_fields::proofs::Fronts::front_before, byte_fields::proofs::Fronts::front_second, byte_fields::proofs::Fronts::front_third))]
 pub(crate) fn spell_row(
     path: &Path,
     version: u64,
@@ -129,18 +157,26 @@ pub(crate) fn spell_row(
     out: &mut Vec<u8>,
 ) -> Result<(), AllocError>
     requires { node_size (option_copied node) ≤ max_file }
-    ensures { OnOk result (out.new.items ≡ out.old.items ++ row (record { path = path.now; version = version; node = option_copied node.entry })) }
+    ensures ok { OnOk result (out.new.items ≡ out.old.items ++ row (record { path = path.now; version = version; node = option_copied node.entry })) }
+    ensures err { OnErr result (IsFront out.old.items out.new.items (row (record { path = path.now; version = version; node = option_copied node.entry }))) }
 {
     Path::spell(path, out)?;
     put_u64(out, version)?;
-    spell_node(node, out)
+    spell_node(node, out)?;
+    Ok(())
 }
 
 impl Row {
     /// Appends the spelling: the path, eight bytes for the version, and what stands at the path.
+    ///
+    /// # Errors
+    ///
+    /// `AllocError` where memory runs out. A front of the spelling is then appended.
+    #[tactic(auto, using(byte_fields::proofs::Fronts::front_none, byte_fields::proofs::Fronts::front_all, byte_fields::proofs::Fronts::front_first, byte_fields::proofs::Fronts::front_before, byte_fields::proofs::Fronts::front_second))]
     pub fn spell(value: &Row, out: &mut Vec<u8>) -> Result<(), AllocError>
         requires { node_size value.now.node ≤ max_file }
-        ensures { OnOk result (out.new.items ≡ out.old.items ++ row value.now) }
+        ensures ok { OnOk result (out.new.items ≡ out.old.items ++ row value.now) }
+        ensures err { OnErr result (IsFront out.old.items out.new.items (row value.now)) }
     {
         spell_row(&value.path, value.version, value.node.as_ref(), out)
     }
@@ -148,9 +184,15 @@ impl Row {
 
 impl Rows {
     /// Appends the spelling of a tree's rows: four bytes for their number, and the rows.
+    ///
+    /// # Errors
+    ///
+    /// `AllocError` where memory runs out. A front of the spelling is then appended.
+    #[tactic(auto, using(byte_fields::proofs::Fronts::front_none, byte_fields::proofs::Fronts::front_all, byte_fields::proofs::Fronts::front_first, byte_fields::proofs::Fronts::front_before, byte_fields::proofs::Fronts::front_second))]
     pub fn spell(value: &Rows, out: &mut Vec<u8>) -> Result<(), AllocError>
         requires { IsTree value.now }
-        ensures { OnOk result (out.new.items ≡ out.old.items ++ rows value.now) }
+        ensures ok { OnOk result (out.new.items ≡ out.old.items ++ rows value.now) }
+        ensures err { OnErr result (IsFront out.old.items out.new.items (rows value.now)) }
     {
         let items = value.as_slice();
         put_u32(out, value.len() as u32)?;

@@ -4,7 +4,7 @@ ghost use Rattle.std.specs.Prelude.{◌≡◌, length, ◌≤◌, ◌<◌, ◌^�
 ghost use Rattle.byte_fields.specs.Field.{Gives, each_at};
 ghost use Rattle.vol_tree.specs.Tree.{IsTree, total_size};
 ghost use Rattle.file_paths.specs.Reading.{path_at, content_at};
-ghost use Rattle.vol_tree.specs.Reading.{effect_at, make_at, put_at, remove_at, move_at, room_after, effects_at, base_at, first_base_at, others_after, bases_at, may_stand, standing_at, file_at, room_beside, next_row_at, with_next, rows_at};
+ghost use Rattle.vol_tree.specs.Reading.{effect_at, make_at, put_at, remove_at, move_at, room_after, effects_at, effects_within, base_at, first_base_at, others_after, bases_at, may_stand, standing_at, file_at, room_beside, next_row_at, with_next, rows_at};
 
 use crate::limits::{MAX_EFFECTS, MAX_FILES};
 use crate::lists::{Bases, Effects};
@@ -12,6 +12,7 @@ use crate::node::{Base, Effect};
 use byte_fields::{Item, TakeError, take_each, u8_at, u32_at, u64_at};
 use file_paths::{Content, MAX_FILE, Path, Paths};
 use std::alloc::Global;
+use std::marker::Model;
 
 #[tactic(auto, unfolding(crate::specs::Reading::make_at))]
 fn make_at(alloc: Global, bytes: &[u8], at: usize) -> Result<(Effect, usize), TakeError>
@@ -80,30 +81,50 @@ impl Item<usize> for Effect {
         alloc: Global,
         bytes: &[u8],
         at: usize,
-        room: &usize,
+        room: &mut usize,
     ) -> Result<(Effect, usize), TakeError> {
-        Effect::take_within(alloc, bytes, at, *room)
-    }
-
-    fn passed(&self, room: usize) -> usize {
-        room.saturating_sub(self.content_size() as usize)
+        let (effect, next) = Effect::take_within(alloc, bytes, at, *room)?;
+        *room = room.saturating_sub(effect.content_size() as usize);
+        Ok((effect, next))
     }
 }
 
 impl Effects {
     /// Takes the effects at the place, and gives the place after them.
     ///
-    /// Refuses `At` also at a count that is not from 1 to 4,096, and at the length with which the contents have more
-    /// than 32 MiB together.
-    #[tactic(auto, unfolding(crate::specs::Reading::effects_at, crate::specs::Reading::effects_within, byte_fields::specs::Field::ruled))]
+    /// # Errors
+    ///
+    /// As those of `take_within`, for 1 to 4,096 effects, and 32 MiB for the contents together.
+    #[tactic(auto, unfolding(crate::specs::Reading::effects_at))]
     pub fn take(alloc: Global, bytes: &[u8], at: usize) -> Result<(Effects, usize), TakeError>
         ensures { Gives result (effects_at bytes.now at) }
     {
+        Effects::take_within(alloc, bytes, at, MAX_EFFECTS as u32, MAX_FILES)
+    }
+
+    /// Takes 1 to `most` effects at the place, whose contents have at most `room` bytes together, and gives the place
+    /// after them.
+    ///
+    /// # Errors
+    ///
+    /// `At` the first faulty field: the count, where it is 0 or above `most`; the length with which the contents have
+    /// more than `room` bytes together; or a field of an effect. `Memory` where memory runs out.
+    #[tactic(auto, unfolding(crate::specs::Reading::effects_within, byte_fields::specs::Field::ruled))]
+    pub fn take_within(
+        alloc: Global,
+        bytes: &[u8],
+        at: usize,
+        most: u32,
+        room: usize,
+    ) -> Result<(Effects, usize), TakeError>
+        ensures { Gives result (effects_within most room bytes.now at) }
+    {
         let (count, start) = u32_at(bytes, at)?;
-        if count < 1 || count > MAX_EFFECTS as u32 {
+        if count < 1 || count > most {
             return Err(TakeError::At(at));
         }
-        let (items, next) = take_each::<usize, Effect>(alloc, bytes, start, count, MAX_FILES)?;
+        let mut left = room;
+        let (items, next) = take_each::<usize, Effect>(alloc, bytes, start, count, &mut left)?;
         Ok((Effects::from_vec(items), next))
     }
 }
@@ -121,23 +142,40 @@ fn base_at(alloc: Global, bytes: &[u8], at: usize, known: &Path) -> Result<(Base
     Ok((Base { path, version }, next))
 }
 
-/// The versions of these paths, one after the other.
-fn bases_from(
-    alloc: Global,
-    bytes: &[u8],
-    start: usize,
-    touched: &[Path],
-) -> Result<(Bases, usize), TakeError>
-    ensures { Gives result (each_at first_base_at others_after (length touched.now) touched.now bytes.now start) }
-{
-    let mut bases = Bases::new(alloc);
-    let mut at = start;
-    for known in touched {
-        let (base, next) = base_at(alloc, bytes, at, known)?;
-        bases.push(base)?;
-        at = next;
+/// The paths whose versions are still to come.
+#[derive(Drop)]
+struct Known<'a> {
+    paths: &'a [Path],
+}
+
+impl<'a> Model for Known<'a> {
+    ghost use Rattle.std.specs.Prelude.{List};
+    ghost use Rattle.file_paths.specs.Path.{FilePath};
+
+    ghost Value = { List FilePath };
+
+    ghost view = { λ known. known.paths.now };
+}
+
+impl<'a> Item<Known<'a>> for Base {
+    ghost item_at = { first_base_at };
+
+    ghost after = { others_after };
+
+    #[tactic(auto, unfolding(crate::specs::Reading::first_base_at))]
+    fn take_next(
+        alloc: Global,
+        bytes: &[u8],
+        at: usize,
+        known: &mut Known<'a>,
+    ) -> Result<(Base, usize), TakeError> {
+        let Some((first, others)) = known.paths.split_first() else {
+            return Err(TakeError::At(at));
+        };
+        let taken = base_at(alloc, bytes, at, first)?;
+        known.paths = others;
+        Ok(taken)
     }
-    Ok((bases, at))
 }
 
 impl Bases {
@@ -155,10 +193,13 @@ impl Bases {
         ensures { Gives result (bases_at touched.now bytes.now at) }
     {
         let (count, start) = u32_at(bytes, at)?;
-        let touched = touched.as_slice();
         if count as usize != touched.len() {
             return Err(TakeError::At(at));
         }
-        bases_from(alloc, bytes, start, touched)
+        let mut known = Known {
+            paths: touched.as_slice(),
+        };
+        let (items, next) = take_each::<Known, Base>(alloc, bytes, start, count, &mut known)?;
+        Ok((Bases::from_vec(items), next))
     }
 }
