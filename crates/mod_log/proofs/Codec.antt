@@ -1,10 +1,9 @@
 -- The laws of entries and of sketched effects: what is read is spelled so, and what is spelled so is read.
-use Rattle.std.proofs.Common.{◌≡◌, ℕ, ◌+◌, ◌-◌, ◌^◌, ◌<◌, ◌≤◌, min, Bool, true, ◌&&◌, eqb, leb, List, [], ◌∷◌, ◌++◌, length, Ok, refl, subst, arith, lit<}
-use Rattle.std.specs.Int.{w8}
+use Rattle.std.proofs.Common.{◌≡◌, ℕ, ◌-◌, ◌^◌, ◌<◌, ◌≤◌, true, ◌&&◌, eqb, leb, List, [], ◌∷◌, ◌++◌, length, Ok, refl, subst, arith, lit<}
 use Rattle.std.specs.List.{sum_by, AllByRecursion}
 use Rattle.std.proofs.lemmas.Bool.{eqb-true, leb-true, le-leb, and_parts}
 use Rattle.std.proofs.lemmas.List.Sums.{sum_by-cons}
-use Rattle.byte_fields.specs.Field.{Reader, EachFits, ruled, number_at}
+use Rattle.byte_fields.specs.Field.{Reader, EachFits}
 use Rattle.byte_fields.specs.Codec.{Stands, IsCodec}
 use Rattle.byte_fields.proofs.Codec.{IsBranch, u8_codec, u32_codec, ruled_codec, codec_for, counted_codec, each_codec, found3, again3, fault3, tagged_found, tagged_fault, tagged_again1, tagged_again2, branch1, branch2}
 use Rattle.rs_parity.specs.Spelling.{SketchFits}

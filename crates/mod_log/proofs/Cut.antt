@@ -16,7 +16,7 @@ use Rattle.vol_tree.specs.Reading.{bases_at}
 use Rattle.vol_tree.specs.declared.tree.Effect.{Effect}
 use Rattle.vol_tree.proofs.Parts.{path_codec, effects_codec}
 use Rattle.vol_tree.proofs.CutParts.{path_cut, effects_cut, bases_cut}
-use Rattle.vol_tree.proofs.Few.{touched_few, bases_of}
+use Rattle.vol_tree.proofs.Few.{touched_few}
 use Rattle.mod_log.specs.declared.log.Entry.{Entry}
 use Rattle.mod_log.specs.declared.sketched.SketchEffect.{SketchEffect}
 use Rattle.mod_log.specs.declared.sketched.SketchEffect.TheVariants.{Make, Put, Remove, Move}

@@ -1,6 +1,6 @@
 -- Sketched effects: what fills them, what they touch and how much they stand for, and that effects have one list of them.
-use Rattle.std.proofs.Common.{◌≡◌, inl, inr, ℕ, ◌+◌, ◌≤◌, List, [], ◌∷◌, ◌++◌, length, refl, sym, ◌∙◌, ap, subst, arith}
-use Rattle.std.specs.List.{flat_map, sum_by, AllByRecursion}
+use Rattle.std.proofs.Common.{◌≡◌, inl, inr, ℕ, ◌+◌, List, [], ◌∷◌, ◌++◌, length, refl, sym, ◌∙◌, ap, subst, arith}
+use Rattle.std.specs.List.{AllByRecursion}
 use Rattle.std.proofs.lemmas.List.Concat.{flat_map-cons}
 use Rattle.std.proofs.lemmas.List.Sums.{sum_by-cons}
 use Rattle.sha2.specs.Sha256.{sha256}
@@ -11,11 +11,11 @@ use Rattle.rs_parity.proofs.Unique.{one_sketch_each}
 use Rattle.vol_tree.specs.Path.{FilePath}
 use Rattle.vol_tree.specs.Behind.{IsIn}
 use Rattle.vol_tree.specs.Tree.{touched_paths}
-use Rattle.vol_tree.specs.Effects.{touched_all, content_size, contents_size}
+use Rattle.vol_tree.specs.Effects.{content_size}
 use Rattle.vol_tree.specs.Spelling.{EffectFits}
 use Rattle.vol_tree.specs.declared.tree.Effect.{Effect}
 use Rattle.vol_tree.specs.declared.tree.Effect.TheVariants.{Make, Put, Remove, Move}
-use Rattle.mod_log.specs.Sketched.{sketch_paths, sketches_touch, sketched_size, sketched_sizes, IsSketchedAs, AreSketchedAs, Fills, AllFill, Writes, SketchesAreFilled, FillingsAreEqual, FillingsTouchAlike, OneSketchList}
+use Rattle.mod_log.specs.Sketched.{sketch_paths, sketched_size, IsSketchedAs, AreSketchedAs, Fills, AllFill, Writes, SketchesAreFilled, FillingsAreEqual, FillingsTouchAlike, OneSketchList}
 use Rattle.mod_log.specs.Spelling.{SketchEffectFits, FillingsFit, SketchesOfEffectsFit}
 use Rattle.mod_log.specs.declared.sketched.SketchEffect.{SketchEffect}
 use Rattle.mod_log.specs.declared.sketched.SketchEffect.TheVariants as of_sketch
