@@ -1,5 +1,7 @@
-//! Tests of the log at its limits, and of the bytes of an entry.
+//! Tests of the log at its limits, of the bytes of an entry, and of sketched effects.
 #![tactic(auto)]
 
+#[cfg(test)]
+mod sketches;
 #[cfg(test)]
 mod tests;

@@ -51,11 +51,12 @@ fn version_in_base(alloc: Global, log: &Log) -> Result<u64, Fail> {
     Ok(log.base()?.version(&path))
 }
 
-/// Acknowledges the first pending entry, where there is one.
-fn acknowledge_next(log: &mut Log) {
-    if log.pending() > 0 {
-        let next = log.acked() + 1;
-        log.acknowledge(next);
+/// Acknowledges the first pending entries: so many, or as many as there are.
+fn acknowledge_first(log: &mut Log, count: u32) {
+    let count = count.min(log.pending());
+    if count > 0 {
+        let last = log.acked() + count as u64;
+        log.acknowledge(last);
     }
 }
 
@@ -81,10 +82,24 @@ fn each_acknowledged_entry_goes_into_the_base(rt: HostRuntime) -> Result<(), Fai
     }
     for i in 0..3u32 {
         assert_eq!(rt; version_in_base(alloc, &log)?, i as u64);
-        acknowledge_next(&mut log);
+        acknowledge_first(&mut log, 1);
     }
     assert_eq!(rt; version_in_base(alloc, &log)?, 3);
     assert_eq!(rt; log.pending(), 0);
+    Ok(())
+}
+
+#[test]
+fn several_entries_are_acknowledged_at_once(rt: HostRuntime) -> Result<(), Fail> {
+    let alloc = rt.alloc();
+    let mut log = Log::new(0, Tree::new(alloc));
+    for _ in 0..3 {
+        let _ = log.append(hello(alloc)?)?;
+    }
+    acknowledge_first(&mut log, 2);
+    assert_eq!(rt; version_in_base(alloc, &log)?, 2);
+    assert_eq!(rt; base_version(&log, 0)?, 2);
+    assert!(rt; log.acked() == 2 && log.pending() == 1);
     Ok(())
 }
 

@@ -1,5 +1,5 @@
 -- The base list of effects that fit is spelled.
-use Rattle.std.proofs.Common.{◌≡◌, inl, inr, ◌<◌, ◌^◌, List, [], ◌∷◌, ◌++◌, map, Option, Some, None, refl, sym, ap, subst, arith}
+use Rattle.std.proofs.Common.{◌≡◌, inl, inr, ◌<◌, ◌^◌, List, [], ◌∷◌, ◌++◌, map, Option, Some, None, refl, sym, subst, arith}
 use Rattle.std.specs.Prelude.{unwrap_or, option_map}
 use Rattle.std.specs.List.{AllByRecursion}
 use Rattle.file_paths.specs.Path.{FilePath, IsPath}
@@ -7,11 +7,11 @@ use Rattle.vol_tree.specs.Effects.{touched_all, distinct, base_of}
 use Rattle.vol_tree.specs.Tree.{Volume, row_at, version_at, IsRow, IsTree, IsLegalEffect, touched_paths}
 use Rattle.vol_tree.specs.Inside.{is_at}
 use Rattle.vol_tree.specs.Behind.{IsIn}
-use Rattle.vol_tree.specs.Spelling.{EffectFits, BaseFits, EffectsFit, AreBasesOf}
-use Rattle.vol_tree.specs.declared.node.Row.{Row}
-use Rattle.vol_tree.specs.declared.node.Effect.{Effect}
-use Rattle.vol_tree.specs.declared.node.Effect.TheVariants.{Make, Put, Remove, Move}
-use Rattle.vol_tree.specs.declared.node.Base.{Base}
+use Rattle.vol_tree.specs.Spelling.{EffectFits, BaseFits, EffectsFit}
+use Rattle.vol_tree.specs.declared.tree.Row.{Row}
+use Rattle.vol_tree.specs.declared.tree.Effect.{Effect}
+use Rattle.vol_tree.specs.declared.tree.Effect.TheVariants.{Make, Put, Remove, Move}
+use Rattle.vol_tree.specs.declared.tree.Base.{Base}
 use Rattle.vol_tree.proofs.Distinct.{in_distinct}
 use Rattle.vol_tree.proofs.Undoing.{find_among}
 

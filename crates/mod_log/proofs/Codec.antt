@@ -1,70 +1,101 @@
--- The law of entries: what is read is spelled so, and what is spelled so is read.
-use Rattle.std.proofs.Common.{◌≡◌, ℕ, ◌*◌, ◌^◌, ◌<◌, ◌≤◌, Bool, true, false, cond, not, eqb, List, [], ◌∷◌, ◌++◌, length, Ok, refl, ap, subst, arith, lit<, length-append}
-use Rattle.std.specs.Int.{w8}
-use Rattle.std.specs.List.{flat_map, filter}
-use Rattle.std.proofs.lemmas.Bool.{eqb-true}
-use Rattle.std.proofs.lemmas.List.Concat.{flat_map-cons}
-use Rattle.byte_fields.specs.Field.{ruled, number_at}
+-- The laws of entries and of sketched effects: what is read is spelled so, and what is spelled so is read.
+use Rattle.std.proofs.Common.{◌≡◌, ℕ, ◌-◌, ◌^◌, ◌<◌, ◌≤◌, true, ◌&&◌, eqb, leb, List, [], ◌∷◌, ◌++◌, length, Ok, refl, subst, arith, lit<}
+use Rattle.std.specs.List.{sum_by, AllByRecursion}
+use Rattle.std.proofs.lemmas.Bool.{eqb-true, leb-true, le-leb, and_parts}
+use Rattle.std.proofs.lemmas.List.Sums.{sum_by-cons}
+use Rattle.byte_fields.specs.Field.{Reader, EachFits}
 use Rattle.byte_fields.specs.Codec.{Stands, IsCodec}
-use Rattle.byte_fields.proofs.Codec.{u8_codec, ruled_codec, found3, again3, fault3}
-use Rattle.vol_tree.specs.declared.node.Effect.{Effect}
-use Rattle.vol_tree.specs.declared.node.Effect.TheVariants.{Make, Put, Remove, Move}
-use Rattle.file_paths.specs.Path.{FilePath, is_same_path}
-use Rattle.vol_tree.specs.Tree.{touched_paths}
-use Rattle.vol_tree.specs.Effects.{touched_all, distinct}
-use Rattle.vol_tree.specs.Spelling.{effects, bases, EffectsFit, AreBasesOf}
-use Rattle.vol_tree.specs.Reading.{bases_at}
-use Rattle.tree_laws.proofs.Parts.{effects_codec, bases_codec}
+use Rattle.byte_fields.proofs.Codec.{IsBranch, u8_codec, u32_codec, ruled_codec, codec_for, counted_codec, each_codec, found3, again3, fault3, tagged_found, tagged_fault, tagged_again1, tagged_again2, branch1, branch2}
+use Rattle.rs_parity.specs.Spelling.{SketchFits}
+use Rattle.rs_parity.specs.declared.sketch.Sketch.{Sketch}
+use Rattle.rs_parity.proofs.Spelled.{sketch_codec}
+use Rattle.vol_tree.specs.Spelling.{effects, bases}
+use Rattle.vol_tree.proofs.Parts.{path_codec, effects_codec}
+use Rattle.vol_tree.proofs.Few.{bases_of}
 use Rattle.mod_log.specs.declared.log.Entry.{Entry}
+use Rattle.mod_log.specs.declared.sketched.SketchEffect.{SketchEffect}
+use Rattle.mod_log.specs.declared.sketched.SketchEffect.TheVariants.{Make, Put, Remove, Move}
 use Rattle.mod_log.specs.Log.{entry}
-use Rattle.mod_log.specs.Reading.{entry_at, EntryFits}
-
--- ---- the paths that effects touch are few
-
-kept_length : {A : Type 0} (f : A → Bool) (xs : List A) → length (filter f xs) ≤ length xs
-kept_length f [] = omega arith
-kept_length f (x ∷ xs) =
-    elim (f x) as (λ kept. length (cond kept (x ∷ filter f xs) (filter f xs)) ≤ length (x ∷ xs)) [
-      | true ↦ omega (arith, kept_length f xs)
-      | false ↦ omega (arith, kept_length f xs)
-    ]
-
-distinct_length : (ps : List FilePath) → length (distinct ps) ≤ length ps
-distinct_length [] = omega arith
-distinct_length (p ∷ ps) = omega (arith, kept_length (λ other. not (is_same_path other p)) (distinct ps), distinct_length ps)
-
-touches_length : (e : Effect) → length (touched_paths e) ≤ 2
-touches_length (Make p) = omega arith
-touches_length (Put p c) = omega arith
-touches_length (Remove p) = omega arith
-touches_length (Move p q) = omega arith
-
-all_touches_length : (es : List Effect) → length (touched_all es) ≤ 2 * length es
-all_touches_length [] = omega arith
-all_touches_length (e ∷ es) =
-    omega (arith, ap length (flat_map-cons touched_paths e es), length-append (touched_paths e) (flat_map touched_paths es), touches_length e, all_touches_length es)
-
-touched_few : (es : List Effect) → EffectsFit es → length (distinct (touched_all es)) < 2 ^ 32
-touched_few es fits = omega (arith, distinct_length (touched_all es), all_touches_length es, fits.few)
+use Rattle.mod_log.specs.Sketched.{sketched_size}
+use Rattle.mod_log.specs.Spelling.{sketch_effect, sketch_effects, SketchEffectFits, SketchEffectFitsIn, SketchEffectsFitWithin}
+use Rattle.mod_log.specs.Reading.{made_by_at, entry_at, EntryFits, sketch_effect_kinds, sketch_effect_at, sketch_room_after, sketch_effects_within}
 
 -- ---- entries
 
-origin_codec : IsCodec (ruled (λ n. eqb n 0) (number_at w8)) (λ n. n ∷ []) (λ n. (n < 2 ^ 8) × (eqb n 0 ≡ true))
-origin_codec = ruled_codec (λ n. eqb n 0) u8_codec
-
-base_codec : (es : List Effect) → EffectsFit es → IsCodec (bases_at (distinct (touched_all es))) bases (AreBasesOf (distinct (touched_all es)))
-base_codec es fits = bases_codec (distinct (touched_all es)) (touched_few es fits)
+pub made_by_codec : IsCodec made_by_at (λ n. n ∷ []) (λ n. (n < 2 ^ 8) × (eqb n 0 ≡ true))
+unfolding made_by_at
+made_by_codec = ruled_codec (λ n. eqb n 0) u8_codec
 
 pub entry_codec : (number : ℕ) → IsCodec (entry_at number) entry (EntryFits number)
 unfolding entry_at
 entry_codec number = record {
-  fault = λ bytes at place fits le e. fault3 origin_codec (λ _ _. effects_codec) (λ _ es _ f. base_codec es f) (λ _ es bs. record { seq = number; effects = es; base = bs }) bytes at place fits le e;
+  fault = λ bytes at place fits le e. fault3 made_by_codec (λ _ _. effects_codec) (λ _ es _ f. bases_of es f) (λ _ es bs. record { seq = number; effects = es; base = bs }) bytes at place fits le e;
   found = λ bytes at x next fits le e.
-      let r = found3 origin_codec (λ _ _. effects_codec) (λ _ es _ f. base_codec es f) (λ _ es bs. record { seq = number; effects = es; base = bs }) bytes at x next fits le e in
+      let r = found3 made_by_codec (λ _ _. effects_codec) (λ _ es _ f. bases_of es f) (λ _ es bs. record { seq = number; effects = es; base = bs }) bytes at x next fits le e in
       let none : r.first ≡ 0 = eqb-true r.first 0 r.first_fits.1 in
       subst (λ (y : Entry). Stands bytes at (entry y) next × EntryFits number y) r.is
       (subst (λ (n : ℕ). Stands bytes at (n ∷ (effects r.second ++ bases r.third)) next) none r.stands, record { numbered = refl; fits = r.second_fits; based = r.third_fits });
   again = λ bytes at x next stands fits.
       subst (λ (n : ℕ). entry_at n bytes at ≡ Ok (x, next)) fits.numbered
-      (again3 origin_codec (λ _ _. effects_codec) (λ _ es _ f. base_codec es f) (λ _ es bs. record { seq = x.seq; effects = es; base = bs }) bytes at 0 x.effects x.base next stands (lit< tt, refl) fits.fits fits.based);
+      (again3 made_by_codec (λ _ _. effects_codec) (λ _ es _ f. bases_of es f) (λ _ es bs. record { seq = x.seq; effects = es; base = bs }) bytes at 0 x.effects x.base next stands (lit< tt, refl) fits.fits fits.based);
 }
+
+-- ---- sketched effects
+
+-- a sketch that fits where there is room for its content
+pub in_room : (room : ℕ) (sketch : Sketch) → SketchFits 8388608 sketch → sketch.len ≤ room → SketchFits room sketch
+in_room room sketch fits le = record { len = omega (arith, fits.len); print = fits.print; count = fits.count; checks = fits.checks }
+
+of_room : (room : ℕ) (sketch : Sketch) → SketchFits room sketch → SketchFits 8388608 sketch
+of_room room sketch fits = record { len = omega (arith, fits.len); print = fits.print; count = fits.count; checks = fits.checks }
+
+module _ (room : ℕ) where
+  effect_again : (bytes : List ℕ) (at : ℕ) (x : SketchEffect) (next : ℕ) → Stands bytes at (sketch_effect x) next → SketchEffectFitsIn room x → sketch_effect_at room bytes at ≡ Ok (x, next)
+  unfolding sketch_effect_at
+  effect_again bytes at (Make p) next stands fits = tagged_again1 (sketch_effect_kinds room) 1 (lit< tt) path_codec Make bytes at p next refl stands fits.0
+  effect_again bytes at (Put p s) next stands fits =
+      tagged_again2 (sketch_effect_kinds room) 2 (lit< tt) path_codec (λ _ _. sketch_codec room) Put bytes at p s next refl stands fits.0.0 (in_room room s fits.0.1 fits.1)
+  effect_again bytes at (Remove p) next stands fits = tagged_again1 (sketch_effect_kinds room) 3 (lit< tt) path_codec Remove bytes at p next refl stands fits.0
+  effect_again bytes at (Move p q) next stands fits =
+      tagged_again2 (sketch_effect_kinds room) 4 (lit< tt) path_codec (λ _ _. path_codec) Move bytes at p q next refl stands fits.0.0 fits.0.1
+
+  effect_branches : AllByRecursion (λ (k : ℕ × Reader SketchEffect). IsBranch sketch_effect (SketchEffectFitsIn room) k.0 k.1) (sketch_effect_kinds room)
+  effect_branches = (
+    branch1 (lit< tt) path_codec Make (λ p. refl) (λ p fits. (fits, omega arith)),
+    (
+      branch2 (lit< tt) path_codec (λ _ _. sketch_codec room) Put (λ p s. refl) (λ p s fits sketch_fits. ((fits, of_room room s sketch_fits), omega (arith, sketch_fits.len))),
+      (
+        branch1 (lit< tt) path_codec Remove (λ p. refl) (λ p fits. (fits, omega arith)),
+        (branch2 (lit< tt) path_codec (λ _ _. path_codec) Move (λ p q. refl) (λ p q fits fits'. ((fits, fits'), omega arith)), tt),
+      ),
+    ),
+  )
+
+  pub sketch_effect_codec : IsCodec (sketch_effect_at room) sketch_effect (SketchEffectFitsIn room)
+  unfolding sketch_effect_at
+  sketch_effect_codec = record {
+    found = tagged_found sketch_effect (SketchEffectFitsIn room) (sketch_effect_kinds room) effect_branches;
+    fault = tagged_fault sketch_effect (SketchEffectFitsIn room) (sketch_effect_kinds room) effect_branches;
+    again = effect_again;
+  }
+
+rooms_found : (room : ℕ) (es : List SketchEffect) → EachFits SketchEffectFitsIn sketch_room_after room es → AllByRecursion SketchEffectFits es × (sum_by sketched_size es ≤ room)
+rooms_found room [] fits = (tt, omega arith)
+rooms_found room (e ∷ es) fits =
+    let rest = rooms_found (room - sketched_size e) es fits.1 in
+    ((fits.0.0, rest.0), omega (arith, fits.0.1, rest.1, sum_by-cons sketched_size e es))
+
+pub rooms_again : (room : ℕ) (es : List SketchEffect) → AllByRecursion SketchEffectFits es → sum_by sketched_size es ≤ room → EachFits SketchEffectFitsIn sketch_room_after room es
+rooms_again room [] fits le = tt
+rooms_again room (e ∷ es) fits le =
+    ((fits.0, omega (arith, sum_by-cons sketched_size e es)), rooms_again (room - sketched_size e) es fits.1 (omega (arith, sum_by-cons sketched_size e es)))
+
+pub sketch_effects_codec : (most room : ℕ) → most < 2 ^ 32 → IsCodec (sketch_effects_within most room) sketch_effects (SketchEffectsFitWithin most room)
+unfolding sketch_effects_within
+sketch_effects_codec most room lt =
+    codec_for (counted_codec length (ruled_codec (λ n. leb 1 n && leb n most) u32_codec) (λ n _. each_codec sketch_effect_at sketch_room_after sketch_effect SketchEffectFitsIn sketch_effect_codec n room) (λ n es fits. fits.0))
+    (λ es fits.
+    let b = and_parts (leb 1 (length es)) (leb (length es) most) fits.0.1 in
+    let r = rooms_found room es fits.1.1 in
+    record { some = leb-true 1 (length es) b.0; few = leb-true (length es) most b.1; each = r.0; all_contents = r.1 })
+    (λ es fits. ((omega (arith, fits.few, lt), rw (le-leb 1 (length es) fits.some, le-leb (length es) most fits.few) refl), (refl, rooms_again room es fits.each fits.all_contents)))

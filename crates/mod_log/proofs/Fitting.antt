@@ -1,15 +1,14 @@
 -- An entry that fits behind a log is what appending its effects gives.
 use Rattle.std.proofs.Common.{◌≡◌, ◌≢◌, ℕ, ◌+◌, ◌≤◌, ◌||◌, Bool, false, List, [], ◌∷◌, ◌++◌, length, None, Ok, refl, sym, ap, ◌∙◌, subst, arith, length-append}
 use Rattle.std.specs.Prelude.{nat_lt, nat_le, ◌==◌}
-use Rattle.std.specs.List.{flat_map}
 use Rattle.std.proofs.lemmas.Bool.Decides.{nat_tests}
 use Rattle.vol_tree.specs.Tree.{Volume}
-use Rattle.vol_tree.specs.Effects.{changed_all, apply_all, contents_size}
-use Rattle.vol_tree.specs.declared.node.Effect.{Effect}
+use Rattle.vol_tree.specs.Effects.{changed_all, contents_size}
+use Rattle.vol_tree.specs.declared.tree.Effect.{Effect}
 use Rattle.vol_tree.specs.Spelling.{EffectsFit}
 use Rattle.mod_log.specs.declared.log.Entry.{Entry}
-use Rattle.mod_log.specs.Log.{Log, entry, after, tree_of, IsEntryOf, AreEntriesOf, IsLog, logged}
-use Rattle.mod_log.specs.Append.{next_entry, is_too_large, size_with, has_no_room, is_at_last, refused_effect, appended}
+use Rattle.mod_log.specs.Log.{Log, after, IsEntryOf, AreEntriesOf, IsLog, logged}
+use Rattle.mod_log.specs.Append.{next_entry, is_too_large, size_with, has_no_room, refused_effect, appended}
 use Rattle.mod_log.proofs.Kept.{appended_as}
 
 -- entries with one behind them

@@ -1,8 +1,8 @@
 -- Pending entries and the tree that they lead to.
 use Rattle.std.proofs.Common.{◌≡◌, ◌≢◌, ℕ, zero, suc, ◌+◌, ◌-◌, ◌<◌, ◌≤◌, get_or, Bool, true, false, List, [], ◌∷◌, ◌++◌, length, take, drop, Option, Some, Result, Ok, Err, refl, sym, ap, ◌∙◌, subst, arith}
-use Rattle.std.specs.Prelude.{slice_index_or}
-use Rattle.std.specs.List.{remove, flat_map}
+use Rattle.std.specs.List.{sum_by, flat_map}
 use Rattle.std.proofs.lemmas.List.{length-map, map-append}
+use Rattle.std.proofs.lemmas.List.Sums.{sum_by-cons}
 use Rattle.byte_fields.specs.Numbers.{as_u64}
 use Rattle.vol_tree.specs.declared.node.Effect.{Effect}
 use Rattle.file_paths.specs.Refusals.{when, unless_refused}
@@ -28,32 +28,56 @@ pub after_kept : (pending : List Pending) (tree : Volume) → AreKept pending tr
 after_kept [] tree kept = refl
 after_kept (first ∷ later) tree kept = ap (after (entries_of later)) kept.0.leads ∙ after_kept later tree kept.1
 
--- ---- without the first entry
+-- ---- without the first entries
 
-pub record IsShorter (acked : ℕ) (tree : Volume) (pending rest : List Pending) (size first : ℕ) : Type 0 where
-  pub fields : AreFields (acked + 1) tree rest (size - first)
-  pub view : log_of (acked + 1) tree rest ≡ acknowledged (acked + 1) (log_of acked tree pending)
-  pub small : first ≤ size
+rolled_back-drop : (pending : List Pending) (tree : Volume) (count : ℕ) → AreKept pending tree → rolled_back (drop count pending) tree ≡ after (take count (entries_of pending)) (rolled_back pending tree)
+rolled_back-drop pending tree zero kept = refl
+rolled_back-drop [] tree (suc count) kept = refl
+rolled_back-drop (first ∷ later) tree (suc count) kept = rolled_back-drop later tree count kept.1 ∙ ap (after (take count (entries_of later))) (sym kept.0.leads)
 
-pub shorter : (acked : ℕ) (tree : Volume) (pending rest : List Pending) (size : ℕ) (removed : Pending) → AreFields acked tree pending size → entries_of pending ≢ [] → rest ≡ remove pending 0 → removed ≡ slice_index_or pending 0 removed
-    → IsShorter acked tree pending rest size removed.size
-shorter acked tree [] rest size removed fields some is first = absurd (some refl)
-shorter acked tree (head ∷ later) rest size removed fields some is first =
-    let one : acked + 1 - acked ≡ 1 = omega arith in
-    let same : head ≡ removed = sym first in
-    let view : log_of (acked + 1) tree later ≡ acknowledged (acked + 1) (log_of acked tree (head ∷ later)) =
-    (λ i. record { acked = acked + 1; base = sym fields.kept.0.leads i; pending = entries_of later })
-    ∙ (λ i. record { acked = acked + 1; base = after (take (sym one i) (entries_of (head ∷ later))) (rolled_back (head ∷ later) tree); pending = drop (sym one i) (entries_of (head ∷ later)) }) in
-    let sizes = size_front head.entry (entries_of later) in
-    let first_size : removed.size ≡ length (entry head.entry) = ap (λ k. k.size) (sym same) ∙ fields.kept.0.size in
+kept-drop : (pending : List Pending) (tree : Volume) (count : ℕ) → AreKept pending tree → AreKept (drop count pending) tree
+kept-drop pending tree zero kept = kept
+kept-drop [] tree (suc count) kept = tt
+kept-drop (first ∷ later) tree (suc count) kept = kept-drop later tree count kept.1
+
+entries-drop : (pending : List Pending) (count : ℕ) → entries_of (drop count pending) ≡ drop count (entries_of pending)
+entries-drop pending zero = refl
+entries-drop [] (suc count) = refl
+entries-drop (first ∷ later) (suc count) = entries-drop later count
+
+abbrev total_size : List Pending → ℕ
+total_size pending = sum_by (λ kept. kept.size) pending
+
+size-split : (pending : List Pending) (tree : Volume) (count : ℕ) → AreKept pending tree → length (flat_map entry (entries_of pending)) ≡ total_size (take count pending) + length (flat_map entry (entries_of (drop count pending)))
+size-split pending tree zero kept = omega arith
+size-split [] tree (suc count) kept = omega arith
+size-split (first ∷ later) tree (suc count) kept =
+    omega (arith, size_front first.entry (entries_of later), kept.0.size, sum_by-cons (λ (k : Pending). k.size) first (take count later), size-split later tree count kept.1)
+
+pub record IsShorter (log : Log) (tree : Volume) (rest : List Pending) (size number front : ℕ) : Type 0 where
+  pub fields : AreFields number tree rest (size - front)
+  pub view : log_of number tree rest ≡ acknowledged number log
+  pub small : front ≤ size
+
+pub shorter : (log : Log) (acked : ℕ) (tree : Volume) (pending rest : List Pending) (size number front : ℕ) → log_of acked tree pending ≡ log → AreFields acked tree pending size → log.acked < number → number ≤ log.acked + length log.pending
+    → rest ≡ drop (number - acked) pending → front ≡ as_u64 (total_size (take (number - acked) pending)) → IsShorter log tree rest size number front
+shorter log acked tree pending rest size number front viewed fields above within is sum =
+    let old = log_of acked tree pending in
+    let count = number - acked in
+    let split = size-split pending tree count fields.kept in
+    let same : front ≡ total_size (take count pending) = omega (arith, sum, split, fields.sum, fields.log.small) in
+    let from = ap (λ (l : Log). l.acked) viewed in
+    let long = ap (λ (l : Log). length l.pending) viewed in
+    let view : log_of number tree (drop count pending) ≡ acknowledged number old =
+    λ i. record { acked = number; base = rolled_back-drop pending tree count fields.kept i; pending = entries-drop pending count i } in
     record {
-      fields = subst (λ r. AreFields (acked + 1) tree r (size - removed.size)) (sym is) (record {
-        kept = fields.kept.1;
-        log = subst IsLog (sym view) (acknowledged_is_log (log_of acked tree (head ∷ later)) (acked + 1) fields.log (omega arith) (omega arith));
-        sum = omega (arith, sizes, first_size, fields.sum);
+      fields = subst (λ r. AreFields number tree r (size - front)) (sym is) (record {
+        kept = kept-drop pending tree count fields.kept;
+        log = subst IsLog (sym view) (acknowledged_is_log old number fields.log (omega (arith, from, above)) (omega (arith, from, long, within)));
+        sum = omega (arith, same, split, fields.sum);
       });
-      view = ap (log_of (acked + 1) tree) is ∙ view;
-      small = omega (arith, sizes, first_size, fields.sum);
+      view = ap (log_of number tree) is ∙ view ∙ ap (acknowledged number) viewed;
+      small = omega (arith, same, split, fields.sum);
     }
 
 -- ---- what is answered

@@ -5,3 +5,6 @@ pub mod Sums
 pub mod Codec
 pub mod Fitting
 pub mod BasesFit
+pub mod Sketches
+pub mod Cut
+pub mod Breaking

@@ -2,4 +2,8 @@ pub mod Log
 pub mod Append
 pub mod Laws
 pub mod Inside
+pub mod Sketched
+pub mod Spelling
 pub mod Reading
+pub mod Fields
+pub mod Broken

@@ -12,9 +12,13 @@ pub record Log : Type 0 where
   pub base : Volume
   pub pending : List Entry
 
--- the one spelling of an entry, whose number is not spelled; the byte 0 says that no command made it
+-- what made an entry; the byte says that no command made it
+abbrev pub made_by : List ℕ
+made_by = 0 ∷ []
+
+-- the one spelling of an entry, whose number is not spelled
 abbrev pub entry : Entry → List ℕ
-entry e = 0 ∷ (effects e.effects ++ bases e.base)
+entry e = made_by ++ (effects e.effects ++ bases e.base)
 
 -- the volume after the entries' effects
 abbrev pub after : List Entry → Volume → Volume

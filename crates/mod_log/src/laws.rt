@@ -1,8 +1,6 @@
-// What holds of logs: a function that does nothing, whose contract is laws.
-ghost use Rattle.std.specs.Prelude.{ℕ};
-ghost use Rattle.byte_fields.specs.Codec.{IsCodec};
-ghost use Rattle.mod_log.specs.Log.{entry};
-ghost use Rattle.mod_log.specs.Reading.{entry_at, EntryFits};
+// What holds of logs and of sketched effects: functions that do nothing, whose contracts are laws.
+ghost use Rattle.mod_log.specs.Sketched.{SketchesAreFilled, FillingsAreEqual, FillingsTouchAlike, OneSketchList};
+ghost use Rattle.mod_log.specs.Spelling.{FillingsFit, SketchesOfEffectsFit};
 ghost use Rattle.mod_log.specs.Laws.{AppendingAddsAnEntry, EntriesThatFitAreAppended, AcknowledgingKeepsTheTree, PullingReplacesTheTree, TreesAreLogs, LogsHoldTrees};
 
 /// States what logging, acknowledging and pulling leave of a log and its tree.
@@ -15,7 +13,12 @@ pub fn logs_keep_their_trees()
     ensures trees { LogsHoldTrees }
 {}
 
-/// States that each entry has one spelling, and each spelling one entry of a number.
-pub fn entries_are_spelled_once()
-    ensures { (number : ℕ) → IsCodec (entry_at number) entry (EntryFits number) }
+/// States what stands for effects that are sent without their contents, and which effects may stand for it.
+pub fn sketches_stand_for_contents()
+    ensures filled { SketchesAreFilled }
+    ensures equal { FillingsAreEqual }
+    ensures alike { FillingsTouchAlike }
+    ensures fillings_fit { FillingsFit }
+    ensures sketches_fit { SketchesOfEffectsFit }
+    ensures one { OneSketchList }
 {}

@@ -1,13 +1,22 @@
-//! A client's log: the acknowledged tree and the entries that wait.
+//! A client's log: the acknowledged tree and the entries that wait; and effects with sketches for contents.
 #![tactic(auto)]
 
 mod laws;
 mod log;
 mod sizes;
+mod sketched;
+mod spelling;
+mod spelling_laws;
 mod taking;
 
-pub use laws::{entries_are_spelled_once, logs_keep_their_trees};
+pub use laws::{logs_keep_their_trees, sketches_stand_for_contents};
 pub use log::{Entry, Log, LogError, base_of};
+pub use sketched::{SketchEffect, SketchEffects};
+pub use spelling_laws::{
+    broken_entries_are_refused_at_their_field, broken_sketched_effects_are_refused_at_their_field,
+    entries_are_spelled_once, entries_end_with_their_bytes, sketched_effects_are_spelled_once,
+    sketched_effects_end_with_their_bytes,
+};
 
 #[cfg(test)]
 mod tests;

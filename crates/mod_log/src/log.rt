@@ -1,5 +1,6 @@
 // A client's log, which contracts see as the acknowledged number, the base tree and the pending entries.
 ghost use Rattle.std.specs.Prelude.{◌≡◌, ◌≢◌, ℕ, ◌+◌, ◌<◌, ◌≤◌, List, [], ◌∷◌, ◌++◌, length, false, ◌||◌, nat_le, nat_lt, Ok, Err, Some, IfSome, IfOk, IfErr, OnOk, OnErr, slice_get};
+ghost use Rattle.std.specs.List.{sum_by};
 ghost use Rattle.std.specs.Option.{option_copied};
 ghost use Rattle.byte_fields.specs.Numbers.{as_u64};
 ghost use Rattle.vol_tree.specs.Effects.{base_of as bases_of, contents_size as contents_total};
@@ -226,15 +227,17 @@ impl Log {
         Ok(size)
     }
 
-    /// The base takes the first pending entry, and the tree stays. It takes no memory.
+    /// The base takes the entries up to this number, and the tree stays. It takes no memory.
     pub fn acknowledge(&mut self, seq: u64)
-        requires pending { self.old.pending ≢ [] }
-        requires next { seq ≡ self.old.acked + 1 }
+        requires next { self.old.acked < seq }
+        requires pending { seq ≤ self.old.acked + length self.old.pending }
         ensures acknowledged { self.new ≡ acknowledged seq self.old }
         ensures log { IsLog self.new }
     {
-        let first = self.pending.remove(0);
-        self.size -= first.size;
+        let count = (seq - self.acked) as usize;
+        let size = total_size(&self.pending[..count]);
+        self.pending.drain(..count);
+        self.size -= size;
         self.acked = seq;
     }
 
@@ -310,6 +313,17 @@ fn copy_of(undos: &Vec<Undo>) -> Result<Vec<Undo>, AllocError>
         copied.push(undo.copy()?)?;
     }
     Ok(copied)
+}
+
+/// The bytes of all these spelled entries.
+fn total_size(pending: &[Pending]) -> u64
+    ensures { result ≡ as_u64 (sum_by (λ kept. kept.size) pending.now) }
+{
+    let mut size = 0u64;
+    for kept in pending {
+        size = size.saturating_add(kept.size);
+    }
+    size
 }
 
 /// Adds it last, or gives it back.

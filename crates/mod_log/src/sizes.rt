@@ -1,9 +1,10 @@
 // How large the spelling of an entry is; a number past the greatest stands as the greatest.
-ghost use Rattle.std.specs.Prelude.{◌≡◌, ◌∷◌, ◌++◌, length};
+ghost use Rattle.std.specs.Prelude.{◌≡◌, ◌++◌, length};
 ghost use Rattle.std.specs.List.{sum_by};
 ghost use Rattle.byte_fields.specs.Numbers.{as_u64};
 ghost use Rattle.vol_tree.specs.Effects.{contents_size as contents_total};
 ghost use Rattle.vol_tree.specs.Spelling.{effect, effects, base, bases};
+ghost use Rattle.mod_log.specs.Log.{made_by};
 
 use vol_tree::{Base, Bases, Effect, Effects};
 
@@ -40,7 +41,7 @@ fn bases_size(bases: &[Base]) -> u64
 
 /// The bytes of the spelling of an entry: a byte, and the two lists behind their counts.
 pub(crate) fn entry_size(changes: &Effects, versions: &Bases) -> u64
-    ensures { result ≡ as_u64 (length (0 ∷ (effects changes.now ++ bases versions.now))) }
+    ensures { result ≡ as_u64 (length (made_by ++ (effects changes.now ++ bases versions.now))) }
 {
     9u64.saturating_add(effects_size(changes.as_slice()))
         .saturating_add(bases_size(versions.as_slice()))

@@ -13,7 +13,7 @@ impl Entry {
     ///
     /// Refuses `At` with the place of the first faulty field: also at a first byte that is not 0, and where the base
     /// list is not that of the paths that the effects touch.
-    #[tactic(auto, unfolding(crate::specs::Reading::entry_at, byte_fields::specs::Field::ruled))]
+    #[tactic(auto, unfolding(crate::specs::Reading::entry_at, crate::specs::Reading::made_by_at, byte_fields::specs::Field::ruled))]
     pub fn take(
         alloc: Global,
         bytes: &[u8],

@@ -4,3 +4,4 @@ pub mod Symbols
 pub mod Distance
 pub mod Unique
 pub mod Spelled
+pub mod Cut

@@ -4,3 +4,5 @@ pub mod Blocks
 pub mod Sketches
 pub mod Inside
 pub mod Spelling
+pub mod Fields
+pub mod Broken

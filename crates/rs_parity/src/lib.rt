@@ -11,6 +11,9 @@ mod spelling;
 mod vectors;
 
 pub use encoder::{PARITY, parity, symbol_at};
-pub use laws::{code_words_are_apart, one_parity, one_sketch, one_spelling, sketches_fit};
+pub use laws::{
+    broken_sketches_are_refused_at_their_field, code_words_are_apart, one_parity, one_sketch,
+    one_spelling, sketches_end_with_their_bytes, sketches_fit,
+};
 pub use parities::Parities;
 pub use sketch::{BLOCK, Sketch, block, print, sketch_of};

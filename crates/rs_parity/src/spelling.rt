@@ -1,9 +1,9 @@
 //! Spelling a sketch in bytes, and taking it from them.
 
-ghost use Rattle.std.specs.Prelude.{◌≡◌, ◌++◌, List, ℕ, OnOk};
+ghost use Rattle.std.specs.Prelude.{◌≡◌, ◌++◌, List, ℕ, IfOk, OnOk};
 ghost use Rattle.std.specs.List.{flat_map};
 ghost use Rattle.byte_fields.specs.Field.{Gives};
-ghost use Rattle.rs_parity.specs.Spelling.{parity_spelling, sketch_spelling, parity_at, parities_at, sketch_at};
+ghost use Rattle.rs_parity.specs.Spelling.{parity_spelling, sketch_spelling, SketchFits, parity_at, parities_at, sketch_at};
 
 use crate::encoder::PARITY;
 use crate::parities::Parities;
@@ -29,7 +29,8 @@ impl Sketch {
     ///
     /// Refuses `At` at the first faulty field: one where the bytes end, or a length above 8,388,608.
     pub fn take(alloc: Global, bytes: &[u8], at: usize) -> Result<(Sketch, usize), TakeError>
-        ensures { Gives result (sketch_at 8388608 bytes.now at) }
+        ensures read { Gives result (sketch_at 8388608 bytes.now at) }
+        ensures fits { IfOk result (λ x. SketchFits 8388608 x.0) }
     {
         Sketch::take_within(alloc, bytes, at, MAX_LEN)
     }
@@ -44,7 +45,8 @@ impl Sketch {
         at: usize,
         room: u32,
     ) -> Result<(Sketch, usize), TakeError>
-        ensures { Gives result (sketch_at room bytes.now at) }
+        ensures read { Gives result (sketch_at room bytes.now at) }
+        ensures fits { IfOk result (λ x. SketchFits room x.0) }
     {
         let (len, after_len) = u32_at(bytes, at)?;
         if len > room.min(MAX_LEN) {

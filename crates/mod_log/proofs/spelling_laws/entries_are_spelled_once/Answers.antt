@@ -1,5 +1,5 @@
 use Rattle.mod_log.proofs.Codec.{entry_codec}
-use Rattle.mod_log.proofs.laws.entries_are_spelled_once.Goals as goal
+use Rattle.mod_log.proofs.spelling_laws.entries_are_spelled_once.Goals as goal
 
 pub returns : goal.returns
 returns c = entry_codec

@@ -1,0 +1,148 @@
+-- The laws of entries and of sketched effects that break a rule.
+use Rattle.std.proofs.Common.{◌≡◌, ◌≢◌, ◌⊎◌, ℕ, ◌+◌, ◌-◌, ◌^◌, ◌<◌, ◌≤◌, true, false, ◌&&◌, eqb, leb, List, [], ◌∷◌, ◌++◌, length, inl, inr, refl, sym, subst, ◌∙◌, arith, lit<}
+use Rattle.std.specs.Int.{w8, w32}
+use Rattle.std.specs.List.{flat_map, AllByRecursion}
+use Rattle.std.proofs.lemmas.Bool.{le-leb, ne_eqb}
+use Rattle.std.proofs.lemmas.List.Sums.{sum_by-cons}
+use Rattle.byte_fields.specs.Field.{digits, number_at, none, one, two, each_at}
+use Rattle.byte_fields.specs.Broken.{IsRefused, passed}
+use Rattle.byte_fields.proofs.Codec.{u8_codec}
+use Rattle.byte_fields.proofs.Breaking.{read_again, refused_there, rule_refused, first_refused, later_refused, tagged_refused, kind_refused, above, second_fails, count_refused, counted_refused, items_refused, each_read}
+use Rattle.rs_parity.specs.Spelling.{sketch_at}
+use Rattle.rs_parity.proofs.Cut.{len_refused}
+use Rattle.vol_tree.specs.Path.{FilePath, IsPath}
+use Rattle.vol_tree.specs.Effects.{touched_all, distinct}
+use Rattle.vol_tree.specs.Spelling.{path, effects, EffectsFit}
+use Rattle.vol_tree.specs.Reading.{path_at, effects_at, bases_at}
+use Rattle.vol_tree.specs.declared.tree.Effect.{Effect}
+use Rattle.vol_tree.specs.declared.tree.Base.{Base}
+use Rattle.vol_tree.proofs.Parts.{path_codec, effects_codec}
+use Rattle.mod_log.specs.declared.log.Entry.{Entry}
+use Rattle.mod_log.specs.declared.sketched.SketchEffect.{SketchEffect}
+use Rattle.mod_log.specs.declared.sketched.SketchEffect.TheVariants.{Make, Put, Remove, Move}
+use Rattle.mod_log.specs.Log.{made_by}
+use Rattle.mod_log.specs.Sketched.{sketched_size, sketched_sizes}
+use Rattle.mod_log.specs.Spelling.{sketch_effect, SketchEffectFits, SketchEffectFitsIn}
+use Rattle.mod_log.specs.Reading.{made_by_at, entry_at, sketch_put_at, sketch_effect_kinds, sketch_effect_at, sketch_room_after, sketch_effects_within}
+use Rattle.mod_log.specs.Broken.{BrokenEntries, BrokenSketchEffects, BrokenSketchLists}
+use Rattle.mod_log.proofs.Codec.{made_by_codec, sketch_effect_codec, rooms_again}
+
+-- ---- entries
+
+module _ (number : ℕ) where
+  abbrev entry_of : List Effect → List Base → Entry
+  entry_of es bs = record { seq = number; effects = es; base = bs }
+
+  maker_refused : (text : List ℕ) (offset : ℕ) → IsRefused made_by_at text offset → IsRefused (entry_at number) text offset
+  unfolding entry_at
+  maker_refused text offset refused = first_refused made_by_at (λ _. two effects_at (λ es. bases_at (distinct (touched_all es))) entry_of) text offset refused
+
+  behind_maker : (text : List ℕ) (offset : ℕ) → IsRefused (two effects_at (λ es. bases_at (distinct (touched_all es))) entry_of) text offset → IsRefused (entry_at number) (made_by ++ text) (1 + offset)
+  unfolding entry_at
+  behind_maker text offset refused =
+      later_refused made_by_at (λ _. two effects_at (λ es. bases_at (distinct (touched_all es))) entry_of) made_by text 0 offset (read_again made_by_codec 0 (lit< tt, refl)) refused
+
+  effects_refused : (text : List ℕ) (offset : ℕ) → IsRefused effects_at text offset → IsRefused (two effects_at (λ es. bases_at (distinct (touched_all es))) entry_of) text offset
+  effects_refused text offset refused = first_refused effects_at (λ es. one (bases_at (distinct (touched_all es))) (entry_of es)) text offset refused
+
+  bases_refused : (es : List Effect) (text : List ℕ) (offset : ℕ) → EffectsFit es → IsRefused (bases_at (distinct (touched_all es))) text offset
+      → IsRefused (two effects_at (λ es. bases_at (distinct (touched_all es))) entry_of) (effects es ++ text) (length (effects es) + offset)
+  bases_refused es text offset fits refused =
+      later_refused effects_at (λ xs. one (bases_at (distinct (touched_all xs))) (entry_of xs)) (effects es) text es offset (read_again effects_codec es fits)
+      (first_refused (bases_at (distinct (touched_all es))) (λ bs. none (entry_of es bs)) text offset refused)
+
+byte_refused : (byte : ℕ) → byte < 2 ^ 8 → byte ≢ 0 → IsRefused made_by_at (byte ∷ []) 0
+unfolding made_by_at
+byte_refused byte small another = rule_refused (number_at w8) (λ n. eqb n 0) (byte ∷ []) byte (read_again u8_codec byte small) (ne_eqb byte 0 another)
+
+pub broken_entries : BrokenEntries
+broken_entries = record {
+  maker_is_another = λ number byte small another. maker_refused number (byte ∷ []) 0 (byte_refused byte small another);
+  effects_are_none = λ number text offset refused. behind_maker number text offset (effects_refused number text offset refused);
+  bases_are_none = λ number es text offset fits refused. behind_maker number (effects es ++ text) (length (effects es) + offset) (bases_refused number es text offset fits refused);
+}
+
+-- ---- sketched effects
+
+module _ (room : ℕ) where
+  path_refused : (made : FilePath → SketchEffect) (text : List ℕ) (offset : ℕ) → IsRefused path_at text offset → IsRefused (one path_at made) text offset
+  path_refused made text offset refused = first_refused path_at (λ p. none (made p)) text offset refused
+
+  put_refused : (text : List ℕ) (offset : ℕ) → IsRefused path_at text offset → IsRefused (sketch_put_at room) text offset
+  put_refused text offset refused = first_refused path_at (λ p. one (sketch_at room) (Put p)) text offset refused
+
+  move_refused : (text : List ℕ) (offset : ℕ) → IsRefused path_at text offset → IsRefused (two path_at (λ from. path_at) Move) text offset
+  move_refused text offset refused = first_refused path_at (λ p. one path_at (Move p)) text offset refused
+
+  target_refused : (from : FilePath) (text : List ℕ) (offset : ℕ) → IsPath from → IsRefused path_at text offset → IsRefused (two path_at (λ from. path_at) Move) (path from ++ text) (length (path from) + offset)
+  target_refused from text offset is refused =
+      later_refused path_at (λ p. one path_at (Move p)) (path from) text from offset (read_again path_codec from is) (first_refused path_at (λ q. none (Move from q)) text offset refused)
+
+  sketch_refused : (p : FilePath) (text : List ℕ) (offset : ℕ) → IsPath p → IsRefused (sketch_at room) text offset → IsRefused (sketch_put_at room) (path p ++ text) (length (path p) + offset)
+  sketch_refused p text offset is refused =
+      later_refused path_at (λ q. one (sketch_at room) (Put q)) (path p) text p offset (read_again path_codec p is) (first_refused (sketch_at room) (λ s. none (Put p s)) text offset refused)
+
+  behind_put : (text : List ℕ) (offset : ℕ) → IsRefused (sketch_put_at room) text offset → IsRefused (sketch_effect_at room) (2 ∷ text) (1 + offset)
+  unfolding sketch_effect_at
+  behind_put text offset refused = tagged_refused (sketch_effect_kinds room) 2 (sketch_put_at room) text offset (lit< tt) (λ tag at bytes. refl) refused
+
+  put_len_refused : (len : ℕ) (p : FilePath) → IsPath p → len < 2 ^ 32 → (8388608 < len) ⊎ (room < len) → IsRefused (sketch_effect_at room) (2 ∷ (path p ++ digits w32 len)) (1 + length (path p))
+  put_len_refused len p is small large =
+      refused_there (sketch_effect_at room) (2 ∷ (path p ++ digits w32 len)) (1 + (length (path p) + 0)) (1 + length (path p)) (omega arith)
+      (behind_put (path p ++ digits w32 len) (length (path p) + 0) (sketch_refused p (digits w32 len) 0 is (len_refused room len small large)))
+
+not_one_to_four : (kind k : ℕ) → (kind ≡ 0) ⊎ (4 < kind) → 1 ≤ k → k ≤ 4 → eqb kind k ≡ false
+not_one_to_four kind k (inl e) low high = ne_eqb kind k (λ is. omega arith)
+not_one_to_four kind k (inr lt) low high = ne_eqb kind k (λ is. omega arith)
+
+pub broken_sketch_effects : BrokenSketchEffects
+unfolding sketch_effect_at
+broken_sketch_effects = record {
+  kind_is_none = λ room kind byte none.
+      kind_refused (sketch_effect_kinds room) kind byte
+      (λ tag at bytes. rw (not_one_to_four kind 1 none (omega arith) (omega arith), not_one_to_four kind 2 none (omega arith) (omega arith), not_one_to_four kind 3 none (omega arith) (omega arith), not_one_to_four kind 4 none (omega arith) (omega arith)) refl);
+  path_is_none = λ room text offset refused. (
+    tagged_refused (sketch_effect_kinds room) 1 (one path_at Make) text offset (lit< tt) (λ tag at bytes. refl) (path_refused room Make text offset refused),
+    (
+      behind_put room text offset (put_refused room text offset refused),
+      (
+        tagged_refused (sketch_effect_kinds room) 3 (one path_at Remove) text offset (lit< tt) (λ tag at bytes. refl) (path_refused room Remove text offset refused),
+        (tagged_refused (sketch_effect_kinds room) 4 (two path_at (λ from. path_at) Move) text offset (lit< tt) (λ tag at bytes. refl) (move_refused room text offset refused), tt),
+      ),
+    ),
+  );
+  target_is_none = λ room from text offset is refused.
+      tagged_refused (sketch_effect_kinds room) 4 (two path_at (λ from. path_at) Move) (path from ++ text) (length (path from) + offset) (lit< tt) (λ tag at bytes. refl) (target_refused room from text offset is refused);
+  sketch_is_none = λ room p text offset is refused. behind_put room (path p ++ text) (length (path p) + offset) (sketch_refused room p text offset is refused);
+  content_is_large = λ room len p is small large. put_len_refused room len p is small large;
+}
+
+-- ---- lists of sketched effects
+
+room_left : (room : ℕ) (es : List SketchEffect) → passed sketch_room_after room es ≡ room - sketched_sizes es
+room_left room [] = omega arith
+room_left room (e ∷ es) = room_left (room - sketched_size e) es ∙ omega (arith, sum_by-cons sketched_size e es)
+
+wrong_count : (count most : ℕ) → (count ≡ 0) ⊎ (most < count) → (leb 1 count && leb count most) ≡ false
+wrong_count count most (inl e) = rw e refl
+wrong_count count most (inr lt) = second_fails (leb 1 count) (leb count most) (above count most lt)
+
+right_count : (count most before : ℕ) → before < count → count ≤ most → (leb 1 count && leb count most) ≡ true
+right_count count most before some few = rw (le-leb 1 count (omega arith), le-leb count most few) refl
+
+effect_refused : (most room count : ℕ) (before : List SketchEffect) (text : List ℕ) (offset : ℕ) → length before < count → count ≤ most → count < 2 ^ 32 → AllByRecursion SketchEffectFits before → sketched_sizes before ≤ room
+    → IsRefused (sketch_effect_at (room - sketched_sizes before)) text offset → IsRefused (sketch_effects_within most room) (digits w32 count ++ (flat_map sketch_effect before ++ text)) (4 + (length (flat_map sketch_effect before) + offset))
+unfolding sketch_effects_within
+effect_refused most room count before text offset some few small fits le refused =
+    counted_refused (λ n. leb 1 n && leb n most) (λ n. each_at sketch_effect_at sketch_room_after n room) count small (right_count count most (length before) some few) (flat_map sketch_effect before ++ text) (length (flat_map sketch_effect before) + offset)
+    (items_refused sketch_effect_at sketch_room_after sketch_effect room before count text offset (each_read sketch_effect_at sketch_room_after sketch_effect SketchEffectFitsIn sketch_effect_codec room before (rooms_again room before fits le)) some
+    (subst (λ (left : ℕ). IsRefused (sketch_effect_at left) text offset) (sym (room_left room before)) refused))
+
+pub broken_sketch_lists : BrokenSketchLists
+unfolding sketch_effects_within
+broken_sketch_lists = record {
+  count_is_wrong = λ most room count small wrong. count_refused (λ n. leb 1 n && leb n most) (λ n. each_at sketch_effect_at sketch_room_after n room) count small (wrong_count count most wrong);
+  effect_is_refused = effect_refused;
+  contents_are_large = λ most room count before p len some few small fits le is fits_len large.
+      effect_refused most room count before (2 ∷ (path p ++ digits w32 len)) (1 + length (path p)) some few small fits le (put_len_refused (room - sketched_sizes before) len p is fits_len (inr (omega arith)));
+}

@@ -1,0 +1,5 @@
+use Rattle.mod_log.proofs.Cut.{entry_cut}
+use Rattle.mod_log.proofs.spelling_laws.entries_end_with_their_bytes.Goals as goal
+
+pub returns : goal.returns
+returns c = entry_cut

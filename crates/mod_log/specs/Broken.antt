@@ -1,0 +1,49 @@
+-- Entries and sketched effects that break a rule: the field that is refused, whatever stands before and behind them.
+use Rattle.std.specs.Prelude.{◌≡◌, ◌≢◌, ◌⊎◌, ℕ, ◌+◌, ◌-◌, ◌^◌, ◌<◌, ◌≤◌, List, [], ◌∷◌, ◌++◌, length}
+use Rattle.std.specs.Int.{w32}
+use Rattle.std.specs.List.{flat_map, AllByRecursion}
+use Rattle.byte_fields.specs.Field.{digits}
+use Rattle.byte_fields.specs.Broken.{IsRefused}
+use Rattle.rs_parity.specs.Spelling.{sketch_at}
+use Rattle.vol_tree.specs.Path.{FilePath, IsPath}
+use Rattle.vol_tree.specs.Effects.{touched_all, distinct}
+use Rattle.vol_tree.specs.Spelling.{path, effects, EffectsFit}
+use Rattle.vol_tree.specs.Reading.{path_at, effects_at, bases_at}
+use Rattle.vol_tree.specs.declared.tree.Effect.{Effect}
+use Rattle.mod_log.specs.Log.{made_by}
+use Rattle.mod_log.specs.Sketched.{sketched_sizes}
+use Rattle.mod_log.specs.Spelling.{sketch_effect, SketchEffectFits}
+use Rattle.mod_log.specs.Reading.{entry_at, sketch_effect_at, sketch_effects_within}
+use Rattle.mod_log.specs.declared.sketched.SketchEffect.{SketchEffect}
+
+pub record BrokenEntries : Type 0 where
+  -- another first byte than 0: there
+  pub maker_is_another : (number byte : ℕ) → byte < 2 ^ 8 → byte ≢ 0 → IsRefused (entry_at number) (byte ∷ []) 0
+  -- effects that are refused: behind the first byte
+  pub effects_are_none : (number : ℕ) (text : List ℕ) (offset : ℕ) → IsRefused effects_at text offset → IsRefused (entry_at number) (made_by ++ text) (1 + offset)
+  -- bases that are refused: behind the effects
+  pub bases_are_none : (number : ℕ) (es : List Effect) (text : List ℕ) (offset : ℕ) → EffectsFit es → IsRefused (bases_at (distinct (touched_all es))) text offset
+      → IsRefused (entry_at number) (made_by ++ (effects es ++ text)) (1 + (length (effects es) + offset))
+
+pub record BrokenSketchEffects : Type 0 where
+  -- another kind than 1 to 4: at the kind
+  pub kind_is_none : (room kind : ℕ) → kind < 2 ^ 8 → (kind ≡ 0) ⊎ (4 < kind) → IsRefused (sketch_effect_at room) (kind ∷ []) 0
+  -- a path that is refused: behind the kind
+  pub path_is_none : (room : ℕ) (text : List ℕ) (offset : ℕ) → IsRefused path_at text offset → AllByRecursion (λ kind. IsRefused (sketch_effect_at room) (kind ∷ text) (1 + offset)) (1 ∷ 2 ∷ 3 ∷ 4 ∷ [])
+  -- the second path of a move: behind the first
+  pub target_is_none : (room : ℕ) (from : FilePath) (text : List ℕ) (offset : ℕ) → IsPath from → IsRefused path_at text offset → IsRefused (sketch_effect_at room) (4 ∷ (path from ++ text)) (1 + (length (path from) + offset))
+  -- a sketch that is refused: behind the path
+  pub sketch_is_none : (room : ℕ) (p : FilePath) (text : List ℕ) (offset : ℕ) → IsPath p → IsRefused (sketch_at room) text offset → IsRefused (sketch_effect_at room) (2 ∷ (path p ++ text)) (1 + (length (path p) + offset))
+  -- the sketch of a content of more than 8 MiB, or than there is room for: at its length
+  pub content_is_large : (room len : ℕ) (p : FilePath) → IsPath p → len < 2 ^ 32 → (8388608 < len) ⊎ (room < len) → IsRefused (sketch_effect_at room) (2 ∷ (path p ++ digits w32 len)) (1 + length (path p))
+
+pub record BrokenSketchLists : Type 0 where
+  -- no sketched effect, or too many: at the count
+  pub count_is_wrong : (most room count : ℕ) → count < 2 ^ 32 → (count ≡ 0) ⊎ (most < count) → IsRefused (sketch_effects_within most room) (digits w32 count) 0
+  -- a sketched effect that is refused: behind those before it, which leave it less room
+  pub effect_is_refused : (most room count : ℕ) (before : List SketchEffect) (text : List ℕ) (offset : ℕ) → length before < count → count ≤ most → count < 2 ^ 32 → AllByRecursion SketchEffectFits before → sketched_sizes before ≤ room
+      → IsRefused (sketch_effect_at (room - sketched_sizes before)) text offset → IsRefused (sketch_effects_within most room) (digits w32 count ++ (flat_map sketch_effect before ++ text)) (4 + (length (flat_map sketch_effect before) + offset))
+  -- contents that are too long together: at the length with which they are
+  pub contents_are_large : (most room count : ℕ) (before : List SketchEffect) (p : FilePath) (len : ℕ) → length before < count → count ≤ most → count < 2 ^ 32 → AllByRecursion SketchEffectFits before → sketched_sizes before ≤ room
+      → IsPath p → len < 2 ^ 32 → room < sketched_sizes before + len
+      → IsRefused (sketch_effects_within most room) (digits w32 count ++ (flat_map sketch_effect before ++ (2 ∷ (path p ++ digits w32 len)))) (4 + (length (flat_map sketch_effect before) + (1 + length (path p))))

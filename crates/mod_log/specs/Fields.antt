@@ -1,0 +1,23 @@
+-- The fields of each spelling in their order, given by their numbers of bytes.
+use Rattle.std.specs.Prelude.{ℕ, List, ◌∷◌, ◌++◌}
+use Rattle.std.specs.List.{flat_map}
+use Rattle.rs_parity.specs.Fields.{sketch_fields}
+use Rattle.vol_tree.specs.Fields.{path_fields, effects_fields, bases_fields}
+use Rattle.mod_log.specs.declared.log.Entry.{Entry}
+use Rattle.mod_log.specs.declared.sketched.SketchEffect.{SketchEffect}
+use Rattle.mod_log.specs.declared.sketched.SketchEffect.TheVariants.{Make, Put, Remove, Move}
+
+-- what made the entry, and the fields of the effects and the bases
+abbrev pub entry_fields : Entry → List ℕ
+entry_fields e = 1 ∷ (effects_fields e.effects ++ bases_fields e.base)
+
+-- the kind, and the fields of what the sketched effect names
+abbrev pub sketch_effect_fields : SketchEffect → List ℕ
+sketch_effect_fields (Make p) = 1 ∷ path_fields p
+sketch_effect_fields (Put p sketch) = 1 ∷ (path_fields p ++ sketch_fields sketch)
+sketch_effect_fields (Remove p) = 1 ∷ path_fields p
+sketch_effect_fields (Move p q) = 1 ∷ (path_fields p ++ path_fields q)
+
+-- the count, and the fields of the sketched effects
+abbrev pub sketch_effects_fields : List SketchEffect → List ℕ
+sketch_effects_fields es = 4 ∷ flat_map sketch_effect_fields es

@@ -1,0 +1,89 @@
+-- What stands for effects where they are sent without their contents, and which effects may stand for it.
+use Rattle.std.specs.Prelude.{◌≡◌, ℕ, List, [], ◌∷◌, length}
+use Rattle.std.specs.List.{flat_map, sum_by}
+use Rattle.sha2.specs.Sha256.{sha256}
+use Rattle.rs_parity.specs.Sketches.{IsSketch, Distinct}
+use Rattle.vol_tree.specs.Path.{FilePath}
+use Rattle.vol_tree.specs.Behind.{IsIn}
+use Rattle.vol_tree.specs.Effects.{touched_all, contents_size}
+use Rattle.vol_tree.specs.declared.tree.Effect.{Effect}
+use Rattle.vol_tree.specs.declared.tree.Effect.TheVariants.{Make, Put, Remove, Move}
+use Rattle.mod_log.specs.declared.sketched.SketchEffect.{SketchEffect}
+use Rattle.mod_log.specs.declared.sketched.SketchEffect.TheVariants as of_sketch
+
+-- ---- what sketched effects touch, and how much they stand for
+
+abbrev pub sketch_paths : SketchEffect → List FilePath
+sketch_paths (of_sketch.Make p) = p ∷ []
+sketch_paths (of_sketch.Put p sketch) = p ∷ []
+sketch_paths (of_sketch.Remove p) = p ∷ []
+sketch_paths (of_sketch.Move p q) = p ∷ q ∷ []
+
+-- the paths that sketched effects touch, one after the other
+abbrev pub sketches_touch : List SketchEffect → List FilePath
+sketches_touch effects = flat_map sketch_paths effects
+
+-- the bytes of the content that a sketched effect stands for
+abbrev pub sketched_size : SketchEffect → ℕ
+sketched_size (of_sketch.Make p) = 0
+sketched_size (of_sketch.Put p sketch) = sketch.len
+sketched_size (of_sketch.Remove p) = 0
+sketched_size (of_sketch.Move p q) = 0
+
+-- the bytes of all contents that sketched effects stand for
+abbrev pub sketched_sizes : List SketchEffect → ℕ
+sketched_sizes effects = sum_by sketched_size effects
+
+-- ---- the sketches of effects
+
+-- the same effect, with the sketch of its content in the content's place
+abbrev pub IsSketchedAs : Effect → SketchEffect → Type 0
+IsSketchedAs (Make p) (of_sketch.Make q) = q ≡ p
+IsSketchedAs (Put p content) (of_sketch.Put q sketch) = (q ≡ p) × IsSketch content sketch
+IsSketchedAs (Remove p) (of_sketch.Remove q) = q ≡ p
+IsSketchedAs (Move p to) (of_sketch.Move q onto) = (q ≡ p) × (onto ≡ to)
+IsSketchedAs effect sketched = ⊥
+
+-- each effect is sketched as the one in its place
+abbrev pub AreSketchedAs : List Effect → List SketchEffect → Type 0
+AreSketchedAs [] [] = Unit {0}
+AreSketchedAs (effect ∷ effects) (sketched ∷ more) = IsSketchedAs effect sketched × AreSketchedAs effects more
+AreSketchedAs effects sketched = ⊥
+
+-- ---- what may stand for them
+
+-- the same effect, with a content of the sketch's length and print; the parities are not compared
+abbrev pub Fills : SketchEffect → Effect → Type 0
+Fills (of_sketch.Make p) (Make q) = q ≡ p
+Fills (of_sketch.Put p sketch) (Put q content) = (q ≡ p) × (length content ≡ sketch.len) × (sha256 content ≡ sketch.print)
+Fills (of_sketch.Remove p) (Remove q) = q ≡ p
+Fills (of_sketch.Move p to) (Move q onto) = (q ≡ p) × (onto ≡ to)
+Fills sketched effect = ⊥
+
+-- each sketched effect is filled by the effect in its place
+abbrev pub AllFill : List SketchEffect → List Effect → Type 0
+AllFill [] [] = Unit {0}
+AllFill (sketched ∷ more) (effect ∷ effects) = Fills sketched effect × AllFill more effects
+AllFill sketched effects = ⊥
+
+-- the effects write this content
+abbrev pub Writes : List Effect → List ℕ → Type 0
+Writes effects content = (path : FilePath) × IsIn (Put path content) effects
+
+-- ---- laws
+
+-- effects fill their own sketches
+abbrev pub SketchesAreFilled : Type 0
+SketchesAreFilled = (effects : List Effect) (sketched : List SketchEffect) → AreSketchedAs effects sketched → AllFill sketched effects
+
+-- only the effects themselves do, where no two contents have one print
+abbrev pub FillingsAreEqual : Type 0
+FillingsAreEqual = (effects others : List Effect) (sketched : List SketchEffect) → AreSketchedAs effects sketched → AllFill sketched others → Distinct (Writes effects) (Writes others) → others ≡ effects
+
+-- what fills sketches touches the same paths, and writes as many bytes as they stand for
+abbrev pub FillingsTouchAlike : Type 0
+FillingsTouchAlike = (effects : List Effect) (sketched : List SketchEffect) → AllFill sketched effects → (touched_all effects ≡ sketches_touch sketched) × (contents_size effects ≡ sketched_sizes sketched)
+
+-- effects have one list of sketches
+abbrev pub OneSketchList : Type 0
+OneSketchList = (effects : List Effect) (a b : List SketchEffect) → AreSketchedAs effects a → AreSketchedAs effects b → a ≡ b

@@ -1,0 +1,180 @@
+//! Effects with the sketches of their contents in the contents' places.
+
+ghost use Rattle.std.specs.Prelude.{◌≡◌, ◌++◌, ◌∷◌, ◌<◌, ◌^◌, [], length, IfOk, OnOk, OnErr, slice_get, ◌==◌};
+ghost use Rattle.std.specs.List.{fold, list_any};
+ghost use Rattle.std.specs.Option.{option_copied};
+ghost use Rattle.std.specs.Str.{bytes_eq};
+ghost use Rattle.std.specs.Cmp.Lexicographic.{pointwise};
+ghost use Rattle.vol_tree.specs.Inside.{add_new};
+ghost use Rattle.vol_tree.specs.Effects.{distinct};
+ghost use Rattle.mod_log.specs.Sketched.{sketch_paths, sketches_touch, sketched_size};
+
+use rs_parity::Sketch;
+use std::alloc::{AllocError, Global};
+use std::marker::Model;
+use vol_tree::{List, Path, Paths, TryCopy};
+
+/// A change of a tree, as `Effect`, with the sketch of a content in its place.
+#[derive(Debug, Drop)]
+pub enum SketchEffect {
+    Make(Path),
+    Put(Path, Sketch),
+    Remove(Path),
+    Move(Path, Path),
+}
+
+impl TryCopy for SketchEffect {
+    fn copy(&self) -> Result<SketchEffect, AllocError> {
+        match self {
+            SketchEffect::Make(path) => Ok(SketchEffect::Make(path.copy()?)),
+            SketchEffect::Put(path, sketch) => {
+                Ok(SketchEffect::Put(path.copy()?, sketch.copy()?))
+            }
+            SketchEffect::Remove(path) => Ok(SketchEffect::Remove(path.copy()?)),
+            SketchEffect::Move(from, to) => Ok(SketchEffect::Move(from.copy()?, to.copy()?)),
+        }
+    }
+}
+
+impl SketchEffect {
+    /// The number of bytes of the content that it stands for.
+    pub fn content_size(&self) -> u32
+        ensures { result ≡ sketched_size self.now }
+    {
+        match self {
+            SketchEffect::Put(_, sketch) => sketch.len,
+            SketchEffect::Make(_) | SketchEffect::Remove(_) | SketchEffect::Move(_, _) => 0,
+        }
+    }
+}
+
+/// Sketched effects, which stand for effects in their order: at most 4,294,967,295.
+#[derive(Debug, Drop)]
+pub struct SketchEffects {
+    items: List<SketchEffect>,
+    /// Where the touched paths take their memory.
+    alloc: Global,
+}
+
+impl Model for SketchEffects {
+    ghost use Rattle.std.specs.Prelude.{List};
+    ghost use Rattle.mod_log.specs.declared.sketched.SketchEffect.{SketchEffect};
+
+    ghost Value = { List SketchEffect };
+
+    ghost view = { λ effects. effects.items };
+}
+
+impl SketchEffects {
+    /// No sketched effect. It takes no memory.
+    pub fn new(alloc: Global) -> SketchEffects
+        ensures { result ≡ [] }
+    {
+        SketchEffects {
+            items: List::new(alloc),
+            alloc,
+        }
+    }
+
+    /// The sketched effects of these items. It takes no memory.
+    pub fn from_vec(items: Vec<SketchEffect>) -> SketchEffects
+        requires { length items.items < 2 ^ 32 }
+        ensures { result ≡ items.items }
+    {
+        let alloc = *items.allocator();
+        SketchEffects {
+            items: List::from_vec(items),
+            alloc,
+        }
+    }
+
+    /// Adds it last; past 4,294,967,295 it is refused.
+    pub fn push(&mut self, item: SketchEffect) -> Result<(), AllocError>
+        ensures ok { OnOk result (self.new ≡ self.old ++ item ∷ []) }
+        ensures err { OnErr result (self.new ≡ self.old) }
+    {
+        self.items.push(item)
+    }
+
+    /// How many there are.
+    pub fn len(&self) -> usize
+        ensures value { result ≡ length self.now }
+        ensures bound { result < 2 ^ 32 }
+    {
+        self.items.len()
+    }
+
+    /// Whether there is none.
+    pub fn is_empty(&self) -> bool
+        ensures { result ≡ (length self.now == 0) }
+    {
+        self.items.len() == 0
+    }
+
+    /// Sketched effect `i`, counted from 0.
+    pub fn get(&self, i: usize) -> Option<&SketchEffect>
+        ensures { option_copied result ≡ slice_get self.now i }
+    {
+        self.items.get(i)
+    }
+
+    /// Lends the sketched effects.
+    pub fn as_slice(&self) -> &[SketchEffect]
+        ensures items { result.now ≡ self.now }
+        ensures bound { length self.now < 2 ^ 32 }
+    {
+        self.items.as_slice()
+    }
+
+    /// An equal list.
+    pub fn copy(&self) -> Result<SketchEffects, AllocError>
+        ensures { IfOk result (λ copied. copied ≡ self.now) }
+    {
+        let items = self.items.copy()?;
+        Ok(SketchEffects {
+            items,
+            alloc: self.alloc,
+        })
+    }
+
+    /// The paths that they touch, each once, in the order of their first touch.
+    pub fn touched(&self) -> Result<Paths, AllocError>
+        ensures { IfOk result (λ paths. paths ≡ distinct (sketches_touch self.now)) }
+    {
+        let mut paths = Paths::new(self.alloc);
+        for effect in self.items.as_slice() {
+            add_touched(&mut paths, effect)?;
+        }
+        Ok(paths)
+    }
+}
+
+fn add_touched(paths: &mut Paths, effect: &SketchEffect) -> Result<(), AllocError>
+    ensures { OnOk result (paths.new ≡ fold add_new paths.old (sketch_paths effect.now)) }
+{
+    match effect {
+        SketchEffect::Make(path) | SketchEffect::Put(path, _) | SketchEffect::Remove(path) => {
+            add_new(paths, path)
+        }
+        SketchEffect::Move(from, to) => {
+            add_new(paths, from)?;
+            add_new(paths, to)
+        }
+    }
+}
+
+/// Adds a copy of the path, unless it is there.
+fn add_new(paths: &mut Paths, path: &Path) -> Result<(), AllocError>
+    ensures { OnOk result (paths.new ≡ add_new paths.old path.now) }
+{
+    if !contains(paths, path) {
+        paths.push(path.copy()?)?;
+    }
+    Ok(())
+}
+
+fn contains(paths: &Paths, path: &Path) -> bool
+    ensures { result ≡ list_any (pointwise bytes_eq path.now) paths.now }
+{
+    paths.as_slice().iter().any(|known| path == known)
+}

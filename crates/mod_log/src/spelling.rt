@@ -1,0 +1,171 @@
+//! Spelling sketched effects in bytes, and taking them from the bytes.
+
+ghost use Rattle.std.specs.Prelude.{◌≡◌, ◌++◌, ◌<◌, ◌^◌, length, OnOk};
+ghost use Rattle.byte_fields.specs.Field.{Gives, one, two};
+ghost use Rattle.vol_tree.specs.Reading.{path_at};
+ghost use Rattle.mod_log.specs.Spelling.{sketch_effect, sketch_effects};
+ghost use Rattle.mod_log.specs.Reading.{sketch_put_at, sketch_effect_at, sketch_room_after, sketch_effects_within};
+ghost use Rattle.mod_log.specs.declared.sketched.SketchEffect.TheVariants.{Make, Remove, Move};
+
+use crate::sketched::{SketchEffect, SketchEffects};
+use byte_fields::{Item, Spelled, TakeError, put_each, put_u32, take_each, u8_at, u32_at};
+use rs_parity::Sketch;
+use std::alloc::{AllocError, Global};
+use vol_tree::Path;
+
+impl SketchEffect {
+    /// Appends the spelling: a byte for the kind, and the paths and the sketch.
+    pub fn spell(value: &SketchEffect, out: &mut Vec<u8>) -> Result<(), AllocError>
+        ensures { OnOk result (out.new.items ≡ out.old.items ++ sketch_effect value.now) }
+    {
+        match value {
+            SketchEffect::Make(path) => {
+                out.push(1)?;
+                Path::spell(path, out)?;
+            }
+            SketchEffect::Put(path, sketch) => {
+                out.push(2)?;
+                Path::spell(path, out)?;
+                Sketch::spell(sketch, out)?;
+            }
+            SketchEffect::Remove(path) => {
+                out.push(3)?;
+                Path::spell(path, out)?;
+            }
+            SketchEffect::Move(from, to) => {
+                out.push(4)?;
+                Path::spell(from, out)?;
+                Path::spell(to, out)?;
+            }
+        }
+        Ok(())
+    }
+
+    /// Takes the sketched effect at the place, where there is still room for so many bytes of content, and gives the
+    /// place after it.
+    ///
+    /// # Errors
+    ///
+    /// `At` the first faulty field: also a kind that is not 1 to 4, and a length above the room or above 8 MiB. Want
+    /// of memory.
+    #[tactic(auto, unfolding(crate::specs::Reading::sketch_effect_at))]
+    pub fn take_within(
+        alloc: Global,
+        bytes: &[u8],
+        at: usize,
+        room: u32,
+    ) -> Result<(SketchEffect, usize), TakeError>
+        ensures { Gives result (sketch_effect_at room bytes.now at) }
+    {
+        let (kind, start) = u8_at(bytes, at)?;
+        match kind {
+            1 => make_at(alloc, bytes, start),
+            2 => put_at(alloc, bytes, start, room),
+            3 => remove_at(alloc, bytes, start),
+            4 => move_at(alloc, bytes, start),
+            _ => Err(TakeError::At(at)),
+        }
+    }
+}
+
+fn make_at(alloc: Global, bytes: &[u8], at: usize) -> Result<(SketchEffect, usize), TakeError>
+    ensures { Gives result (one path_at Make bytes.now at) }
+{
+    let (path, next) = Path::take(alloc, bytes, at)?;
+    Ok((SketchEffect::Make(path), next))
+}
+
+fn put_at(
+    alloc: Global,
+    bytes: &[u8],
+    at: usize,
+    room: u32,
+) -> Result<(SketchEffect, usize), TakeError>
+    ensures { Gives result (sketch_put_at room bytes.now at) }
+{
+    let (path, middle) = Path::take(alloc, bytes, at)?;
+    let (sketch, next) = Sketch::take_within(alloc, bytes, middle, room)?;
+    Ok((SketchEffect::Put(path, sketch), next))
+}
+
+fn remove_at(alloc: Global, bytes: &[u8], at: usize) -> Result<(SketchEffect, usize), TakeError>
+    ensures { Gives result (one path_at Remove bytes.now at) }
+{
+    let (path, next) = Path::take(alloc, bytes, at)?;
+    Ok((SketchEffect::Remove(path), next))
+}
+
+fn move_at(alloc: Global, bytes: &[u8], at: usize) -> Result<(SketchEffect, usize), TakeError>
+    ensures { Gives result (two path_at (λ from. path_at) Move bytes.now at) }
+{
+    let (from, middle) = Path::take(alloc, bytes, at)?;
+    let (to, next) = Path::take(alloc, bytes, middle)?;
+    Ok((SketchEffect::Move(from, to), next))
+}
+
+impl Spelled for SketchEffect {
+    ghost spelling = { sketch_effect };
+
+    ghost fits = { λ _. Unit {0} };
+
+    fn put(&self, out: &mut Vec<u8>) -> Result<(), AllocError> {
+        SketchEffect::spell(self, out)
+    }
+}
+
+// The state is the bytes of content for which there is still room.
+impl Item<u32> for SketchEffect {
+    ghost item_at = { sketch_effect_at };
+
+    ghost after = { sketch_room_after };
+
+    fn take_next(
+        alloc: Global,
+        bytes: &[u8],
+        at: usize,
+        room: &u32,
+    ) -> Result<(SketchEffect, usize), TakeError> {
+        SketchEffect::take_within(alloc, bytes, at, *room)
+    }
+
+    fn passed(&self, room: u32) -> u32 {
+        room.saturating_sub(self.content_size())
+    }
+}
+
+impl SketchEffects {
+    /// Appends the spelling: four bytes for the number of sketched effects, and the sketched effects.
+    pub fn spell(value: &SketchEffects, out: &mut Vec<u8>) -> Result<(), AllocError>
+        ensures { OnOk result (out.new.items ≡ out.old.items ++ sketch_effects value.now) }
+    {
+        let items = value.as_slice();
+        put_u32(out, value.len() as u32)?;
+        put_each(items, out)?;
+        Ok(())
+    }
+
+    /// Takes 1 to `most` sketched effects, for contents of at most `room` bytes together, from the place, and gives
+    /// the place after them.
+    ///
+    /// # Errors
+    ///
+    /// `At` the first faulty field: also another count, and the length with which the contents have more than `room`
+    /// bytes. Want of memory.
+    #[tactic(auto, unfolding(crate::specs::Reading::sketch_effects_within, byte_fields::specs::Field::ruled))]
+    pub fn take_within(
+        alloc: Global,
+        bytes: &[u8],
+        at: usize,
+        most: u32,
+        room: u32,
+    ) -> Result<(SketchEffects, usize), TakeError>
+        ensures { Gives result (sketch_effects_within most room bytes.now at) }
+    {
+        let (count, start) = u32_at(bytes, at)?;
+        if count < 1 || count > most {
+            return Err(TakeError::At(at));
+        }
+        let (items, next) = take_each::<u32, SketchEffect>(alloc, bytes, start, count, room)?;
+        Ok((SketchEffects::from_vec(items), next))
+    }
+}
