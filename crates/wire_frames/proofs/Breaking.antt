@@ -18,6 +18,7 @@ use Rattle.vol_tree.specs.Spelling.{path, effects, EffectsFit}
 use Rattle.vol_tree.specs.Reading.{path_at, effects_at, bases_at, rows_at}
 use Rattle.vol_tree.proofs.Parts.{path_codec, effects_codec}
 use Rattle.vol_tree.proofs.Breaking.{eight_bytes}
+use Rattle.wire_frames.specs.declared.message.TheConstants.{MAX_FRAME}
 use Rattle.wire_frames.specs.declared.message.Message.{Message}
 use Rattle.wire_frames.specs.declared.message.Message.TheVariants as messages
 use Rattle.wire_frames.specs.declared.message.Kind.{Kind}
@@ -35,7 +36,7 @@ use Rattle.wire_frames.proofs.CutFrames.{fails_again}
 -- ---- from what stands behind the client to the frame
 
 -- what is refused behind the client is refused in the frame
-frame_refused : (k : Kind) (c n : ℕ) (behind : List ℕ) (offset place : ℕ) → client_rule k c ≡ true → length behind ≤ 67108849 → IsRefused (message_at k c) (digits w64 n ++ behind) offset → 7 + offset ≡ place
+frame_refused : (k : Kind) (c n : ℕ) (behind : List ℕ) (offset place : ℕ) → client_rule k c ≡ true → 15 + length behind ≤ MAX_FRAME → IsRefused (message_at k c) (digits w64 n ++ behind) offset → 7 + offset ≡ place
     → frame_of (framed k c n behind) ≡ Err (BadField place)
 unfolding digits
 frame_refused k c n behind offset place takes short refused e =
