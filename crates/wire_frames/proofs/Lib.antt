@@ -5,4 +5,4 @@ pub mod Frames
 pub mod HeaderLaws
 pub mod CutFrames
 pub mod Breaking
-pub mod Replies
+pub mod Echoing
