@@ -183,13 +183,13 @@ fn lines_are_cut(rt: HostRuntime) -> Result<(), Fail> {
     let alloc = rt.alloc();
     let mut buffer = LineBuffer::new(alloc);
     buffer.add(b"a\n\nb")?;
-    assert_eq!(rt; buffer.first_line(), Some(b"a".as_slice()));
+    assert!(rt; matches!(buffer.first_line(), Some(line) if line == b"a".as_slice()));
     buffer.pass(2);
-    assert_eq!(rt; buffer.first_line(), Some(b"".as_slice()));
+    assert!(rt; matches!(buffer.first_line(), Some(line) if line == b"".as_slice()));
     buffer.pass(1);
-    assert_eq!(rt; buffer.first_line(), None);
+    assert!(rt; buffer.first_line().is_none());
     buffer.add(b"c\nd")?;
-    assert_eq!(rt; buffer.first_line(), Some(b"bc".as_slice()));
+    assert!(rt; matches!(buffer.first_line(), Some(line) if line == b"bc".as_slice()));
     buffer.pass(3);
     assert_eq!(rt; buffer.bytes(), b"d".as_slice());
     Ok(())
@@ -216,9 +216,11 @@ fn a_child_is_copied(rt: HostRuntime) -> Result<(), Fail> {
     let child = folder(rt.alloc(), b"hi")?;
     let copied = child.copy();
     drop(child);
-    assert!(rt;
-        matches!(copied, Ok(Child { name, folder: true }) if name.bytes() == b"hi".as_slice())
-    );
+    let Ok(copied) = copied else {
+        return Err(Fail::from("want of memory"));
+    };
+    assert!(rt; copied.folder);
+    assert_eq!(rt; copied.name.bytes(), b"hi".as_slice());
     Ok(())
 }
 
@@ -231,7 +233,8 @@ fn children_are_copied(rt: HostRuntime) -> Result<(), Fail> {
     let Ok(copied) = copied else {
         return Err(Fail::from("want of memory"));
     };
-    assert!(rt; matches!(copied.as_slice(), [child] if child.name.bytes() == b"hi".as_slice()));
+    assert_eq!(rt; copied.len(), 1);
+    assert!(rt; matches!(copied.get(0), Some(child) if child.name.bytes() == b"hi".as_slice()));
     Ok(())
 }
 
