@@ -80,20 +80,27 @@ fn run_failing(
     Ok((status, output))
 }
 
-/// The status of a run without input by these words.
-fn status_by(alloc: Global, words: &[String]) -> Result<u8, AllocError> {
+/// The status of a run without input by these words, and what was written.
+fn run_by(alloc: Global, words: &[String]) -> Result<(u8, MemSink), AllocError> {
     let mut source = MemSource::new(alloc, Vec::new(alloc), Vec::new(alloc));
     let mut output = MemSink::new(alloc, Vec::new(alloc));
     let mut net = MemNet::new(alloc, 1, Server::new(alloc), Vec::new(alloc))?;
     let mut keeper = MemKeeper::new(alloc, Vec::new(alloc));
-    Ok(client_run(
+    let status = client_run(
         alloc,
         words,
         &mut source,
         &mut output,
         &mut keeper,
         &mut net,
-    ))
+    );
+    Ok((status, output))
+}
+
+/// Whether a run by these words ends with status 2 and writes nothing.
+fn are_refused(alloc: Global, words: &[String]) -> Result<bool, AllocError> {
+    let (status, output) = run_by(alloc, words)?;
+    Ok(status == 2 && output.bytes().is_empty())
 }
 
 #[test]
@@ -182,14 +189,15 @@ fn an_empty_input_is_closed(rt: HostRuntime) -> Result<(), Fail> {
 #[test]
 fn words_of_no_form_are_refused(rt: HostRuntime) -> Result<(), Fail> {
     let alloc = rt.alloc();
-    assert_eq!(rt; status_by(alloc, &words_of(alloc, "64")?)?, 0);
-    assert_eq!(rt; status_by(alloc, &words_of(alloc, "0")?)?, 2);
-    assert_eq!(rt; status_by(alloc, &words_of(alloc, "65")?)?, 2);
-    assert_eq!(rt; status_by(alloc, &words_of(alloc, "01")?)?, 2);
-    assert_eq!(rt; status_by(alloc, &[])?, 2);
+    let (status, _) = run_by(alloc, &words_of(alloc, "64")?)?;
+    assert_eq!(rt; status, 0);
+    assert!(rt; are_refused(alloc, &words_of(alloc, "0")?)?);
+    assert!(rt; are_refused(alloc, &words_of(alloc, "65")?)?);
+    assert!(rt; are_refused(alloc, &words_of(alloc, "01")?)?);
+    assert!(rt; are_refused(alloc, &[])?);
     let mut short = words_of(alloc, "1")?;
     let _work = short.pop();
-    assert_eq!(rt; status_by(alloc, &short)?, 2);
+    assert!(rt; are_refused(alloc, &short)?);
     Ok(())
 }
 
@@ -232,6 +240,15 @@ fn a_failing_sink_ends_the_run(rt: HostRuntime) -> Result<(), Fail> {
     )?;
     assert_eq!(rt; status, 4);
     assert_eq!(rt; output.bytes(), b"logged 1\n".as_slice());
+    Ok(())
+}
+
+#[test]
+fn a_sink_that_fails_at_once_gets_nothing(rt: HostRuntime) -> Result<(), Fail> {
+    let alloc = rt.alloc();
+    let (status, output) = run_failing(alloc, b"", Vec::new(alloc), vec![in alloc; 0]?)?;
+    assert_eq!(rt; status, 4);
+    assert_eq!(rt; output.bytes(), b"".as_slice());
     Ok(())
 }
 

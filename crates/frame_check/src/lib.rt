@@ -1,5 +1,5 @@
-//! Tests of the reader of frames, over frames that are cut, spoilt or break a rule of their fields. Each answer that
-//! is wanted was worked out by hand from the format.
+//! Tests of frames: the reader over frames that are cut, spoilt or break a rule of their fields, and the writer over
+//! what was read. Each answer that is wanted was worked out by hand from the format.
 #![tactic(auto)]
 
 #[cfg(test)]

@@ -3,7 +3,8 @@
 use Answer::{BadClient, BadKind, BadLength, BadVersion, Field, Message, Trailing};
 use std::alloc::{AllocError, Global};
 use std::test::Fail;
-use wire_frames::{FrameError, read};
+use vol_tree::TryCopy;
+use wire_frames::{FrameError, read, write};
 
 /// What the reader says of bytes.
 #[derive(Clone, Copy, Debug, PartialEq, Eq)]
@@ -34,6 +35,17 @@ const STORE: &str =
 /// One row: the six bytes at `a`, in version 1.
 const SNAPSHOT: &str =
     "0000002d 01 15 01 0000000000000000 0000000000000001 00000001 000161 0000000000000001 02 00000006 68656c6c6f0a";
+
+/// Client 1's entry 1 rests on version 1 of `a`, which is at 2.
+const STALE: &str = "0000001e 01 12 01 0000000000000001 000161 0000000000000002 0000000000000001";
+
+/// Client 1's entry 3 comes behind entry 1.
+const GAP: &str = "00000013 01 14 01 0000000000000003 0000000000000001";
+
+/// Version, kind, client, number and index of an entry that does not fit, and of one that finds no room.
+const UNFIT_HEAD: &str = "01 13 01 0000000000000001 00000003";
+
+const FULL_HEAD: &str = "01 18 01 0000000000000001 00000003";
 
 /// Version, kind, client and number of a store.
 const STORE_HEAD: &str = "01 01 01 0000000000000001";
@@ -152,6 +164,72 @@ fn example_frames_are_read(rt: HostRuntime) -> Result<(), Fail> {
     for text in [PULL, STORE, ACCEPTED, MALFORMED, SNAPSHOT] {
         let frame = bytes_of(rt.alloc(), text)?;
         assert_eq!(rt; answer_of(rt.alloc(), &frame), Message, "{text}");
+    }
+    Ok(())
+}
+
+/// The frame of a copy of the message that the frame spells.
+fn copied_frame(alloc: Global, frame: &[u8]) -> Result<Vec<u8>, Fail> {
+    let message = read(alloc, frame).ok().ok_or("refused")?;
+    let copied = message.copy();
+    drop(message);
+    let copied = copied?;
+    let written = write(alloc, &copied);
+    drop(copied);
+    Ok(written?)
+}
+
+#[test]
+fn copied_messages_are_written_as_they_were_read(rt: HostRuntime) -> Result<(), Fail> {
+    for text in [PULL, STORE, ACCEPTED, MALFORMED, SNAPSHOT, STALE, GAP] {
+        let frame = bytes_of(rt.alloc(), text)?;
+        assert_eq!(rt; copied_frame(rt.alloc(), &frame)?, frame, "{text}");
+    }
+    Ok(())
+}
+
+#[test]
+fn told_refusals_are_written_as_they_were_read(rt: HostRuntime) -> Result<(), Fail> {
+    let faults = [
+        (UNFIT_HEAD, "01"),
+        (UNFIT_HEAD, "02 000161"),
+        (UNFIT_HEAD, "03 000161"),
+        (UNFIT_HEAD, "04 000161"),
+        (UNFIT_HEAD, "05 0000"),
+        (UNFIT_HEAD, "06 000161 0003612f62"),
+        (FULL_HEAD, "07 00004000"),
+        (UNFIT_HEAD, "08 0000000000800001"),
+        (FULL_HEAD, "09 0000000002000001"),
+        (UNFIT_HEAD, "0a 000161"),
+    ];
+    for (head, fault) in faults {
+        let mut payload = bytes_of(rt.alloc(), head)?;
+        payload.extend_from_slice(&bytes_of(rt.alloc(), fault)?)?;
+        let frame = framed(rt.alloc(), &payload)?;
+        assert_eq!(rt; copied_frame(rt.alloc(), &frame)?, frame, "{fault}");
+    }
+    Ok(())
+}
+
+#[test]
+fn refusals_have_texts(rt: HostRuntime) -> Result<(), Fail> {
+    let rows = [
+        (
+            FrameError::BadLength,
+            "the frame is too short, too long, or not as long as it says",
+        ),
+        (FrameError::BadVersion, "the frame has another version"),
+        (FrameError::BadKind, "the frame is of no known kind"),
+        (
+            FrameError::BadClient,
+            "the frame's client number does not fit its kind",
+        ),
+        (FrameError::BadField(15), "the field at byte 15 is faulty"),
+        (FrameError::Trailing(16), "bytes are left from byte 16 on"),
+        (FrameError::Memory, "out of memory"),
+    ];
+    for (refusal, text) in &rows {
+        assert_eq!(rt; refusal.to_string(rt.alloc())?.as_str(), *text);
     }
     Ok(())
 }

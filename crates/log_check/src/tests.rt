@@ -4,7 +4,7 @@ use mod_log::{Entry, Log, LogError};
 use std::alloc::Global;
 use std::rt::HostRuntime;
 use std::test::Fail;
-use vol_tree::{Content, Effect, Effects, Path, TakeError, Tree};
+use vol_tree::{Content, Effect, Effects, Path, Paths, TakeError, Tree, TryCopy};
 
 /// The entry of a put of "hello\n" at "a", where there was nothing: the byte 0, one effect, one base.
 const HELLO: [u8; 34] = [
@@ -179,5 +179,29 @@ fn refuses_the_first_faulty_field(rt: HostRuntime) -> Result<(), Fail> {
             Err(TakeError::At(26))
         )
     );
+    Ok(())
+}
+
+/// The paths that a move from "a" to "b" touches.
+fn moved(alloc: Global) -> Result<Paths, Fail> {
+    let mut effects = Effects::new(alloc);
+    effects.push(Effect::Move(Path::read(alloc, b"a")?, Path::read(alloc, b"b")?))?;
+    let touched = effects.touched();
+    drop(effects);
+    Ok(touched?)
+}
+
+#[test]
+fn copies_the_touched_paths(rt: HostRuntime) -> Result<(), Fail> {
+    let alloc = rt.alloc();
+    let touched = moved(alloc)?;
+    let copied = touched.copy();
+    drop(touched);
+    let Ok(copied) = copied else {
+        return Err(Fail::from("want of memory"));
+    };
+    assert_eq!(rt; copied.len(), 2);
+    assert!(rt; matches!(copied.get(0), Some(path) if path.text()?.bytes() == b"a".as_slice()));
+    assert!(rt; matches!(copied.get(1), Some(path) if path.text()?.bytes() == b"b".as_slice()));
     Ok(())
 }

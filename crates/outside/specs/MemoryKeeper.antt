@@ -3,21 +3,18 @@ use Rattle.std.specs.Prelude.{◌≡◌, ℕ, Bool, true, false, ◌==◌, List,
 use Rattle.std.specs.Str.{bytes_eq}
 use Rattle.outside.specs.declared.errors.KeepError.{KeepError}
 use Rattle.outside.specs.declared.errors.KeepError.TheVariants.{Failed, Memory}
+use Rattle.outside.specs.declared.calls.Calls.{Calls}
 use Rattle.outside.specs.declared.memory_keeper.KeepFail.{KeepFail}
 use Rattle.outside.specs.declared.memory_keeper.Slot.{Slot}
 use Rattle.outside.specs.Keeper.{Images, IsPut}
-use Rattle.outside.specs.Memory.{one_more}
-use Rattle.outside.specs.MemoryPort.{faults_after}
 
 pub record KeeperInMemory : Type 0 where
   -- what is kept, each image beside its name
   pub slots : List Slot
-  -- how many calls were made of it
-  pub calls : ℕ
   -- which of its calls fail, counted from 0, and what they leave
   pub fails : List KeepFail
-  -- how many of its calls failed
-  pub faults : ℕ
+  -- the calls made of it, and its faults
+  pub calls : Calls
 
 -- the slot of this name
 abbrev pub has_name : List ℕ → Slot → Bool
@@ -33,26 +30,16 @@ fail_of fails call = find (λ fail. fail.call == call) fails
 
 -- whether the next call fails
 abbrev pub fails_now : KeeperInMemory → Bool
-fails_now keeper = is_some (fail_of keeper.fails keeper.calls)
+fails_now keeper = is_some (fail_of keeper.fails keeper.calls.made)
 
 -- whether the next call leaves the new image where it fails
 abbrev pub leaves_new : KeeperInMemory → Bool
-leaves_new keeper = unwrap_or (option_map (λ fail. fail.leaves_new) (fail_of keeper.fails keeper.calls)) false
+leaves_new keeper = unwrap_or (option_map (λ fail. fail.leaves_new) (fail_of keeper.fails keeper.calls.made)) false
 
 -- whether the call answered that it failed
 abbrev pub has_failed : {T : Type 0} → Result T KeepError → Bool
 has_failed (Err Failed) = true
 has_failed _ = false
-
--- the keeper after its next call, with these slots: the call is counted, and counted as a fault exactly where it answered so
-abbrev pub after_call : {T : Type 0} → KeeperInMemory → List Slot → Result T KeepError → KeeperInMemory
-after_call keeper slots result =
-    record {
-      slots = slots;
-      calls = one_more keeper.calls;
-      fails = keeper.fails;
-      faults = faults_after (has_failed result) keeper.faults;
-    }
 
 -- what a failed save leaves: the new image, or all as before
 abbrev pub Leaves : Bool → List ℕ → List ℕ → List Slot → List Slot → Type 0

@@ -4,6 +4,7 @@
 //! answers `Failed` only where this count rose in the call. A count stands still at its type's end, which counts as risen.
 #![tactic(auto)]
 
+mod calls;
 mod errors;
 mod keeper;
 mod memory;

@@ -2,8 +2,10 @@ ghost use Rattle.std.specs.Prelude.{◌≡◌, ◌↔◌, [], None, Some, option
 ghost use Rattle.std.specs.Option.{option_copied};
 ghost use Rattle.outside.specs.Outside.{Told, HasCause};
 ghost use Rattle.outside.specs.Keeper.{IsPut, Loads, Saves};
-ghost use Rattle.outside.specs.MemoryKeeper.{KeeperInMemory, has_name, images_of, fail_of, fails_now, after_call, SavesAs};
+ghost use Rattle.outside.specs.Memory.{after_call};
+ghost use Rattle.outside.specs.MemoryKeeper.{KeeperInMemory, has_name, images_of, fail_of, fails_now, has_failed, SavesAs};
 
+use crate::calls::Calls;
 use crate::{KeepError, Keeper};
 use std::alloc::{AllocError, Global};
 use std::marker::Model;
@@ -27,27 +29,25 @@ struct Slot {
 #[derive(Drop)]
 pub struct MemKeeper {
     slots: Vec<Slot>,
-    calls: u64,
     fails: Vec<KeepFail>,
-    faults: u64,
+    calls: Calls,
 }
 
 impl Model for MemKeeper {
     ghost Value = { KeeperInMemory };
 
-    ghost view = { λ k. record { slots = k.slots.items; calls = k.calls; fails = k.fails.items; faults = k.faults } };
+    ghost view = { λ k. record { slots = k.slots.items; fails = k.fails.items; calls = k.calls } };
 }
 
 impl MemKeeper {
     /// A keeper of nothing that fails in the named calls, counted from 0 over all its calls.
     pub fn new(alloc: Global, fails: Vec<KeepFail>) -> MemKeeper
-        ensures { result ≡ record { slots = []; calls = 0; fails = fails.items; faults = 0 } }
+        ensures { result ≡ record { slots = []; fails = fails.items; calls = record { made = 0; faults = 0 } } }
     {
         MemKeeper {
             slots: Vec::new(alloc),
-            calls: 0,
             fails,
-            faults: 0,
+            calls: Calls::new(),
         }
     }
 
@@ -81,20 +81,19 @@ fn left_by(fails: &[KeepFail], call: u64) -> Option<bool>
 impl Keeper for MemKeeper {
     ghost images = { λ k. Some (images_of k.slots) };
 
-    ghost faults = { λ k. k.faults };
+    ghost faults = { λ k. k.calls.faults };
 
     /// Gives a copy of the image, but in the named calls.
     fn load(&mut self, name: &[u8]) -> Result<Option<Vec<u8>>, KeepError>
         ensures images { Told (Some (images_of self.old.slots)) (Some (images_of self.new.slots)) (λ old new. Loads name.now result old new) }
-        ensures cause { HasCause KeepError.Failed self.old.faults self.new.faults result }
+        ensures cause { HasCause KeepError.Failed self.old.calls.faults self.new.calls.faults result }
 
         ensures exactly { IsErrOf result KeepError.Failed ↔ IsTrue (fails_now self.old) }
-        ensures counted { self.new ≡ after_call self.old self.old.slots result }
+        ensures counted { self.new ≡ record self.old { calls = after_call (has_failed result) self.old.calls } }
     {
-        let call = self.calls;
-        self.calls = call.saturating_add(1);
+        let call = self.calls.count();
         if left_by(&self.fails, call).is_some() {
-            self.faults = self.faults.saturating_add(1);
+            self.calls.fail();
             return Err(KeepError::Failed);
         }
         match image_of(&self.slots, name) {
@@ -106,16 +105,15 @@ impl Keeper for MemKeeper {
     /// Keeps a copy of the image, but in the named calls.
     fn save(&mut self, name: &[u8], image: &[u8]) -> Result<(), KeepError>
         ensures images { Told (Some (images_of self.old.slots)) (Some (images_of self.new.slots)) (λ old new. Saves name.now image.now result old new) }
-        ensures cause { HasCause KeepError.Failed self.old.faults self.new.faults result }
+        ensures cause { HasCause KeepError.Failed self.old.calls.faults self.new.calls.faults result }
 
         ensures exactly { IsErrOf result KeepError.Failed → IsTrue (fails_now self.old) }
         // A named call fails, or memory ran out before the image that it leaves was there.
         ensures always { IsTrue (fails_now self.old) → IsErr result }
         ensures left { SavesAs name.now image.now result self.old self.new.slots }
-        ensures counted { self.new ≡ after_call self.old self.new.slots result }
+        ensures counted { self.new ≡ record self.old { slots = self.new.slots; calls = after_call (has_failed result) self.old.calls } }
     {
-        let call = self.calls;
-        self.calls = call.saturating_add(1);
+        let call = self.calls.count();
         match left_by(&self.fails, call) {
             None => {
                 put(&mut self.slots, name, image)?;
@@ -125,7 +123,7 @@ impl Keeper for MemKeeper {
                 if leaves_new {
                     put(&mut self.slots, name, image)?;
                 }
-                self.faults = self.faults.saturating_add(1);
+                self.calls.fail();
                 Err(KeepError::Failed)
             }
         }

@@ -4,6 +4,7 @@ ghost use Rattle.outside.specs.Outside.{HasCause};
 ghost use Rattle.outside.specs.Port.{AddsFrames, frames_of_take, frames_of_answer};
 ghost use Rattle.outside.specs.MemoryPort.{PortInMemory, is_named_call, take_fails, after_take, after_answer};
 
+use crate::calls::Calls;
 use crate::memory::is_named;
 use crate::{Port, PortError};
 use std::alloc::{AllocError, Global};
@@ -17,15 +18,14 @@ pub struct MemPort {
     frames: Vec<Vec<u8>>,
     taken: usize,
     answered: Vec<Vec<u8>>,
-    calls: u64,
     fails: Vec<u32>,
-    faults: u64,
+    calls: Calls,
 }
 
 impl Model for MemPort {
     ghost Value = { PortInMemory };
 
-    ghost view = { λ p. record { left = map (λ f. f.items) (drop p.taken p.frames.items); taken = map (λ f. f.items) (take p.taken p.frames.items); answered = map (λ f. f.items) p.answered.items; calls = p.calls; fails = p.fails.items; faults = p.faults } };
+    ghost view = { λ p. record { left = map (λ f. f.items) (drop p.taken p.frames.items); taken = map (λ f. f.items) (take p.taken p.frames.items); answered = map (λ f. f.items) p.answered.items; fails = p.fails.items; calls = p.calls } };
 
     ghost invariant = { λ p. p.taken ≤ length p.frames.items };
 }
@@ -34,15 +34,14 @@ impl MemPort {
     /// A port with a connection for each of these frames, in order, that fails in the named calls, counted from 0 over
     /// all its calls. A take with no connection left does not fail.
     pub fn new(alloc: Global, frames: Vec<Vec<u8>>, fails: Vec<u32>) -> MemPort
-        ensures { result ≡ record { left = map (λ f. f.items) frames.items; taken = []; answered = []; calls = 0; fails = fails.items; faults = 0 } }
+        ensures { result ≡ record { left = map (λ f. f.items) frames.items; taken = []; answered = []; fails = fails.items; calls = record { made = 0; faults = 0 } } }
     {
         MemPort {
             frames,
             taken: 0,
             answered: Vec::new(alloc),
-            calls: 0,
             fails,
-            faults: 0,
+            calls: Calls::new(),
         }
     }
 
@@ -70,7 +69,7 @@ impl Port for MemPort {
 
     ghost answered = { λ p. Some p.answered };
 
-    ghost faults = { λ p. p.faults };
+    ghost faults = { λ p. p.calls.faults };
 
     /// Takes the next frame, but in the named calls.
     fn take(&mut self) -> Result<Option<Vec<u8>>, PortError>
@@ -78,20 +77,19 @@ impl Port for MemPort {
         ensures none { (result ≡ Ok None) ↔ (length self.old.left ≡ 0) }
         ensures taken { AddsFrames (Some self.old.taken) (Some self.new.taken) (frames_of_take result) }
         ensures answered { AddsFrames (Some self.old.answered) (Some self.new.answered) [] }
-        ensures cause { HasCause PortError.Failed self.old.faults self.new.faults result }
+        ensures cause { HasCause PortError.Failed self.old.calls.faults self.new.calls.faults result }
 
         ensures next { IfOk result (λ frame. option_map (λ f. f.items) frame ≡ slice_get self.old.left 0) }
         ensures exactly { IsErrOf result PortError.Failed ↔ IsTrue (take_fails self.old) }
         ensures counted { self.new ≡ after_take self.old result }
     {
-        let call = self.calls;
-        self.calls = call.saturating_add(1);
+        let call = self.calls.count();
         if self.taken == self.frames.len() {
             return Ok(None);
         }
         if is_named(&self.fails, call) {
             let _lost = self.frames.remove(self.taken);
-            self.faults = self.faults.saturating_add(1);
+            self.calls.fail();
             return Err(PortError::Failed);
         }
         match copied(&self.frames[self.taken]) {
@@ -111,15 +109,14 @@ impl Port for MemPort {
         ensures left { length self.new.left ≡ length self.old.left }
         ensures taken { AddsFrames (Some self.old.taken) (Some self.new.taken) [] }
         ensures answered { AddsFrames (Some self.old.answered) (Some self.new.answered) (frames_of_answer frame.now result) }
-        ensures cause { HasCause PortError.Failed self.old.faults self.new.faults result }
+        ensures cause { HasCause PortError.Failed self.old.calls.faults self.new.calls.faults result }
 
         ensures exactly { IsErrOf result PortError.Failed ↔ IsTrue (is_named_call self.old) }
         ensures counted { self.new ≡ after_answer self.old frame.now result }
     {
-        let call = self.calls;
-        self.calls = call.saturating_add(1);
+        let call = self.calls.count();
         if is_named(&self.fails, call) {
-            self.faults = self.faults.saturating_add(1);
+            self.calls.fail();
             return Err(PortError::Failed);
         }
         push_copy(&mut self.answered, frame)?;

@@ -75,3 +75,34 @@ fn a_named_save_leaves_the_old_image_or_the_new(rt: HostRuntime) -> Result<(), F
     assert_eq!(rt; keeper.image(b"none"), None);
     Ok(())
 }
+
+#[test]
+fn refusals_have_texts(rt: HostRuntime) -> Result<(), Fail> {
+    let alloc = rt.alloc();
+    assert_eq!(rt; Failed.to_string(alloc)?.as_str(), "the outside failed");
+    assert_eq!(rt;
+        SinkError::Failed.to_string(alloc)?.as_str(),
+        "the write failed"
+    );
+    assert_eq!(rt;
+        SinkError::Memory.to_string(alloc)?.as_str(),
+        "out of memory"
+    );
+    assert_eq!(rt;
+        PortError::Failed.to_string(alloc)?.as_str(),
+        "the connection failed"
+    );
+    assert_eq!(rt;
+        PortError::Memory.to_string(alloc)?.as_str(),
+        "out of memory"
+    );
+    assert_eq!(rt;
+        KeepError::Failed.to_string(alloc)?.as_str(),
+        "the keeper failed"
+    );
+    assert_eq!(rt;
+        KeepError::Memory.to_string(alloc)?.as_str(),
+        "out of memory"
+    );
+    Ok(())
+}

@@ -46,11 +46,6 @@ abbrev pub FirstLine : List ℕ → Option (List ℕ) → Type 0
 FirstLine bytes None = parts bytes ≡ bytes ∷ []
 FirstLine bytes (Some line) = BeginsWithLine bytes line
 
--- the bytes behind such a line, and all of them where there is none
-abbrev pub bytes_behind : Option (List ℕ) → List ℕ → List ℕ
-bytes_behind None bytes = bytes
-bytes_behind (Some line) bytes = drop (length line + 1) bytes
-
 -- of the input these lines are behind, and the lines of these bytes are still to come
 abbrev pub IsCutUpTo : List ℕ → List (List ℕ) → List ℕ → Type 0
 IsCutUpTo input behind bytes = parts input ≡ behind ++ parts bytes

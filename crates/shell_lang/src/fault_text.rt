@@ -11,8 +11,12 @@ use std::alloc::AllocError;
 use vol_tree::{PathError, TreeError};
 
 /// Adds the words of a refusal.
+///
+/// # Errors
+///
+/// Want of memory; a part may have been added then.
 #[tactic(auto, using(std::proofs::Common::append_assoc))]
-pub(crate) fn put_fault_text(out: &mut Vec<u8>, fault: &Fault) -> Result<(), AllocError>
+pub fn put_fault_text(out: &mut Vec<u8>, fault: &Fault) -> Result<(), AllocError>
     ensures { OnOk result (out.new.items ≡ out.old.items ++ fault_text fault.now) }
 {
     out.extend_from_slice(fault_name(fault))?;

@@ -13,6 +13,7 @@ mod words;
 
 pub use answer::{Answer, Child, Children, Fault, has_no_memory};
 pub use command::{put_content, read_line};
+pub use fault_text::put_fault_text;
 pub use laws::{
     bad_words_are_refused, inputs_are_cut_alike_in_pieces, inputs_are_cut_at_line_ends,
     lines_have_one_reading, read_words_are_spelled, spelled_words_are_read,
@@ -20,6 +21,7 @@ pub use laws::{
 pub use line::{Line, LineError};
 pub use lines::LineBuffer;
 pub use text::text_of;
+pub use value::{put_decimal, put_number, put_path};
 
 #[cfg(test)]
 mod tests;

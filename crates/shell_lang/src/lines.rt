@@ -1,12 +1,11 @@
 //! The bytes of an input, cut into lines.
 
-ghost use Rattle.std.specs.Prelude.{◌≡◌, ◌+◌, ◌≤◌, ℕ, List, [], ◌++◌, drop, length, position, IfOk, OnOk, OnErr};
+ghost use Rattle.std.specs.Prelude.{◌≡◌, ◌≤◌, ℕ, List, [], ◌++◌, drop, length, position, OnOk, OnErr};
 ghost use Rattle.std.specs.Option.{option_copied};
-ghost use Rattle.shell_lang.specs.Lines.{is_line_end, FirstLine, bytes_behind};
+ghost use Rattle.shell_lang.specs.Lines.{is_line_end, FirstLine};
 
 use std::alloc::{AllocError, Global};
 use std::marker::Model;
-use vol_tree::Content;
 
 /// The bytes of an input that no line was cut from yet.
 #[derive(Debug, Drop)]
@@ -65,27 +64,6 @@ impl LineBuffer {
             Some(end) => Some(&bytes[..end]),
             None => None,
         }
-    }
-
-    /// Takes the first line that has its end, without the end; `None` where there is none. It moves none of the bytes
-    /// behind it.
-    ///
-    /// # Errors
-    ///
-    /// Want of memory for the line, which stays then.
-    pub fn take_line(&mut self) -> Result<Option<Content>, AllocError>
-        ensures ok { IfOk result (λ line. FirstLine self.old line) }
-        ensures left { IfOk result (λ line. self.new ≡ bytes_behind line self.old) }
-        ensures err { OnErr result (self.new ≡ self.old) }
-    {
-        let alloc = *self.bytes.allocator();
-        let Some(line) = self.first_line() else {
-            return Ok(None);
-        };
-        let count = line.len() + 1;
-        let line = Content::of(alloc, line)?;
-        self.pass(count);
-        Ok(Some(line))
     }
 
     /// Drops so many bytes from the front, as a line and its end. It moves none of the others.

@@ -23,6 +23,14 @@ fn lines_are_read(rt: HostRuntime) -> Result<(), Fail> {
 }
 
 #[test]
+fn a_quoted_text_is_one_word(rt: HostRuntime) -> Result<(), Fail> {
+    let put = read_line(rt.alloc(), b"put a 'b c'")?;
+    assert!(rt; matches!(&put, Line::Put(path, _) if path.bytes() == b"a".as_slice()));
+    assert!(rt; matches!(&put, Line::Put(_, text) if text.bytes() == b"b c".as_slice()));
+    Ok(())
+}
+
+#[test]
 fn lines_are_refused(rt: HostRuntime) -> Result<(), Fail> {
     let alloc = rt.alloc();
     let rows: [(&[u8], &[u8]); 15] = [
@@ -175,11 +183,14 @@ fn lines_are_cut(rt: HostRuntime) -> Result<(), Fail> {
     let alloc = rt.alloc();
     let mut buffer = LineBuffer::new(alloc);
     buffer.add(b"a\n\nb")?;
-    assert!(rt; matches!(buffer.take_line()?, Some(line) if line.bytes() == b"a".as_slice()));
-    assert!(rt; matches!(buffer.take_line()?, Some(line) if line.bytes() == b"".as_slice()));
-    assert!(rt; matches!(buffer.take_line()?, None));
+    assert!(rt; matches!(buffer.first_line(), Some(line) if line == b"a".as_slice()));
+    buffer.pass(2);
+    assert!(rt; matches!(buffer.first_line(), Some(line) if line == b"".as_slice()));
+    buffer.pass(1);
+    assert!(rt; buffer.first_line().is_none());
     buffer.add(b"c\nd")?;
-    assert!(rt; matches!(buffer.take_line()?, Some(line) if line.bytes() == b"bc".as_slice()));
+    assert!(rt; matches!(buffer.first_line(), Some(line) if line == b"bc".as_slice()));
+    buffer.pass(3);
     assert_eq!(rt; buffer.bytes(), b"d".as_slice());
     Ok(())
 }
@@ -189,5 +200,55 @@ fn puts_have_a_line_end(rt: HostRuntime) -> Result<(), Fail> {
     let alloc = rt.alloc();
     let content = put_content(alloc, &Content::of(alloc, b"x y")?)?;
     assert_eq!(rt; content.bytes(), b"x y\n".as_slice());
+    Ok(())
+}
+
+/// A folder of this name.
+fn folder(alloc: Global, name: &[u8]) -> Result<Child, Fail> {
+    Ok(Child {
+        name: Content::of(alloc, name)?,
+        folder: true,
+    })
+}
+
+#[test]
+fn a_child_is_copied(rt: HostRuntime) -> Result<(), Fail> {
+    let child = folder(rt.alloc(), b"hi")?;
+    let copied = child.copy();
+    drop(child);
+    let Ok(copied) = copied else {
+        return Err(Fail::from("want of memory"));
+    };
+    assert!(rt; copied.folder);
+    assert_eq!(rt; copied.name.bytes(), b"hi".as_slice());
+    Ok(())
+}
+
+#[test]
+fn children_are_copied(rt: HostRuntime) -> Result<(), Fail> {
+    let mut children = Children::new(rt.alloc());
+    children.push(folder(rt.alloc(), b"hi")?)?;
+    let copied = children.copy();
+    drop(children);
+    let Ok(copied) = copied else {
+        return Err(Fail::from("want of memory"));
+    };
+    assert_eq!(rt; copied.len(), 1);
+    assert!(rt; matches!(copied.get(0), Some(child) if child.name.bytes() == b"hi".as_slice()));
+    Ok(())
+}
+
+#[test]
+fn refusals_have_texts(rt: HostRuntime) -> Result<(), Fail> {
+    let rows = [
+        (LineError::BadWord(3), "word 3 breaks the rule of words"),
+        (LineError::OpenQuote, "a quoted word is not closed"),
+        (LineError::UnknownWord, "no such command"),
+        (LineError::WrongCount(2), "2 words follow the command"),
+        (LineError::Memory, "out of memory"),
+    ];
+    for (refusal, text) in &rows {
+        assert_eq!(rt; refusal.to_string(rt.alloc())?.as_str(), *text);
+    }
     Ok(())
 }

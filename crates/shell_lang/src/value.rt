@@ -7,7 +7,11 @@ use std::alloc::AllocError;
 use vol_tree::Path;
 
 /// Adds the number in decimal.
-pub(crate) fn put_decimal(out: &mut Vec<u8>, n: u64) -> Result<(), AllocError>
+///
+/// # Errors
+///
+/// Want of memory; a part may have been added then.
+pub fn put_decimal(out: &mut Vec<u8>, n: u64) -> Result<(), AllocError>
     ensures { OnOk result (out.new.items ≡ out.old.items ++ decimal n) }
 {
     let alloc = *out.allocator();
@@ -16,8 +20,12 @@ pub(crate) fn put_decimal(out: &mut Vec<u8>, n: u64) -> Result<(), AllocError>
 }
 
 /// Adds a space and the number.
+///
+/// # Errors
+///
+/// Want of memory; a part may have been added then.
 #[tactic(auto, using(std::proofs::Common::append_assoc), unfolding(crate::specs::Faults::number))]
-pub(crate) fn put_number(out: &mut Vec<u8>, n: u64) -> Result<(), AllocError>
+pub fn put_number(out: &mut Vec<u8>, n: u64) -> Result<(), AllocError>
     ensures { OnOk result (out.new.items ≡ out.old.items ++ number n) }
 {
     out.push(b' ')?;
@@ -25,9 +33,13 @@ pub(crate) fn put_number(out: &mut Vec<u8>, n: u64) -> Result<(), AllocError>
     Ok(())
 }
 
-/// Adds a space and the path.
+/// Adds a space and the path, the root as `/`.
+///
+/// # Errors
+///
+/// Want of memory; a part may have been added then.
 #[tactic(auto, using(std::proofs::Common::append_assoc), unfolding(crate::specs::Faults::path))]
-pub(crate) fn put_path(out: &mut Vec<u8>, path: &Path) -> Result<(), AllocError>
+pub fn put_path(out: &mut Vec<u8>, path: &Path) -> Result<(), AllocError>
     ensures { OnOk result (out.new.items ≡ out.old.items ++ path_value path.now) }
 {
     out.push(b' ')?;

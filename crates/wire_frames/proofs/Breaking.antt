@@ -14,13 +14,11 @@ use Rattle.vol_tree.specs.declared.node.Effect.{Effect}
 use Rattle.vol_tree.specs.declared.node.TreeError.TheVariants.{NoParent, Exists, Missing, IsFolder, NotEmpty, VersionTop}
 use Rattle.file_paths.specs.Path.{FilePath, IsPath}
 use Rattle.vol_tree.specs.Effects.{touched_all, distinct}
-use Rattle.file_paths.specs.Spelling.{path}
-use Rattle.vol_tree.specs.Spelling.{effects, EffectsFit}
-use Rattle.file_paths.specs.Reading.{path_at}
-use Rattle.vol_tree.specs.Reading.{effects_at, bases_at, rows_at}
-use Rattle.file_paths.proofs.Parts.{path_codec}
-use Rattle.tree_laws.proofs.Parts.{effects_codec}
-use Rattle.file_paths.proofs.Sizes.{eight_digits}
+use Rattle.vol_tree.specs.Spelling.{path, effects, EffectsFit}
+use Rattle.vol_tree.specs.Reading.{path_at, effects_at, bases_at, rows_at}
+use Rattle.vol_tree.proofs.Parts.{path_codec, effects_codec}
+use Rattle.vol_tree.proofs.Breaking.{eight_bytes}
+use Rattle.wire_frames.specs.declared.message.TheConstants.{MAX_FRAME}
 use Rattle.wire_frames.specs.declared.message.Message.{Message}
 use Rattle.wire_frames.specs.declared.message.Message.TheVariants as messages
 use Rattle.wire_frames.specs.declared.message.Kind.{Kind}
@@ -38,7 +36,7 @@ use Rattle.wire_frames.proofs.CutFrames.{fails_again}
 -- ---- from what stands behind the client to the frame
 
 -- what is refused behind the client is refused in the frame
-frame_refused : (k : Kind) (c n : ℕ) (behind : List ℕ) (offset place : ℕ) → client_rule k c ≡ true → length behind ≤ 67108849 → IsRefused (message_at k c) (digits w64 n ++ behind) offset → 7 + offset ≡ place
+frame_refused : (k : Kind) (c n : ℕ) (behind : List ℕ) (offset place : ℕ) → client_rule k c ≡ true → 15 + length behind ≤ MAX_FRAME → IsRefused (message_at k c) (digits w64 n ++ behind) offset → 7 + offset ≡ place
     → frame_of (framed k c n behind) ≡ Err (BadField place)
 unfolding digits
 frame_refused k c n behind offset place takes short refused e =

@@ -5,3 +5,4 @@ pub mod Frames
 pub mod HeaderLaws
 pub mod CutFrames
 pub mod Breaking
+pub mod Echoing

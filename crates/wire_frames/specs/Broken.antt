@@ -12,6 +12,7 @@ use Rattle.vol_tree.specs.Spelling.{effects, EffectsFit}
 use Rattle.file_paths.specs.Reading.{path_at}
 use Rattle.vol_tree.specs.Reading.{effects_at, bases_at, rows_at}
 use Rattle.wire_frames.specs.FaultReading.{unfit_fault_at, full_fault_at}
+use Rattle.wire_frames.specs.declared.message.TheConstants.{MAX_FRAME}
 use Rattle.wire_frames.specs.declared.message.Message.{Message}
 use Rattle.wire_frames.specs.declared.message.Kind.{Kind}
 use Rattle.wire_frames.specs.declared.message.Kind.TheVariants.{Store, Stale, Unfit, Gap, Snapshot, Full, Malformed}
@@ -27,12 +28,12 @@ framed kind client number behind =
 -- A message of this kind and number whose body begins so is refused at this place of its frame, whatever follows. The
 -- body begins at byte 15.
 abbrev pub IsRefusedAt : Kind → ℕ → List ℕ → ℕ → Type 0
-IsRefusedAt kind number text place = (client : ℕ) (behind : List ℕ) → client_rule kind client ≡ true → number_rule kind number ≡ true → number < 2 ^ 64 → length (text ++ behind) ≤ 67108849
+IsRefusedAt kind number text place = (client : ℕ) (behind : List ℕ) → client_rule kind client ≡ true → number_rule kind number ≡ true → number < 2 ^ 64 → 15 + length (text ++ behind) ≤ MAX_FRAME
     → frame_of (framed kind client number (text ++ behind)) ≡ Err (BadField place)
 
 -- a number that the kind does not have: at the number
 abbrev pub BrokenNumbers : Type 0
-BrokenNumbers = (kind : Kind) (client number : ℕ) (behind : List ℕ) → client_rule kind client ≡ true → number_rule kind number ≡ false → number < 2 ^ 64 → length behind ≤ 67108849
+BrokenNumbers = (kind : Kind) (client number : ℕ) (behind : List ℕ) → client_rule kind client ≡ true → number_rule kind number ≡ false → number < 2 ^ 64 → 15 + length behind ≤ MAX_FRAME
     → frame_of (framed kind client number behind) ≡ Err (BadField 7)
 
 pub record BrokenBodies : Type 0 where
@@ -68,5 +69,5 @@ pub record BrokenFaults : Type 0 where
 
 -- bytes behind the last field of a valid message: at the first of them
 abbrev pub LeftBytes : Type 0
-LeftBytes = (m : Message) (left : List ℕ) → IsValid m → 1 ≤ length left → length (frame m) + length left ≤ 67108864
+LeftBytes = (m : Message) (left : List ℕ) → IsValid m → 1 ≤ length left → length (frame m) + length left ≤ MAX_FRAME
     → frame_of (framed (kind m) (client_of m) (number_of m) (body m ++ left)) ≡ Err (Trailing (length (frame m)))

@@ -8,6 +8,7 @@ use Rattle.vol_tree.specs.Effects.{touched_all, distinct}
 use Rattle.file_paths.specs.Spelling.{path}
 use Rattle.vol_tree.specs.Spelling.{effects, bases, rows, EffectsFit, AreBasesOf}
 use Rattle.wire_frames.specs.Fault.{tree_fault, UnfitFits, FullFits}
+use Rattle.wire_frames.specs.declared.message.TheConstants.{CLIENTS}
 use Rattle.wire_frames.specs.declared.message.Message.{Message}
 use Rattle.wire_frames.specs.declared.message.Message.TheVariants as messages
 use Rattle.wire_frames.specs.declared.message.Kind.{Kind}
@@ -85,10 +86,10 @@ frame m = digits w32 (length (payload m)) ++ payload m
 
 -- ---- which messages are valid
 
--- a message has a client from 1 to 64, but for Malformed, which has none
+-- a message has a client from 1 to the greatest, but for Malformed, which has none
 abbrev pub client_rule : Kind → ℕ → Bool
 client_rule Malformed client = client == 0
-client_rule _ client = nat_le 1 client && nat_le client 64
+client_rule _ client = nat_le 1 client && nat_le client CLIENTS
 
 -- entries are numbered from 1; a Pull may come before the first
 abbrev pub number_rule : Kind → ℕ → Bool
@@ -109,7 +110,8 @@ BodyFits (messages.Full client number index fault) = (index < 2 ^ 32) × FullFit
 BodyFits (messages.Gap client number last) = (last < 2 ^ 64) × (nat_le (last + 2) number ≡ true)
 BodyFits (messages.Snapshot client number last rs) = (last < 2 ^ 64) × IsTree rs
 BodyFits (messages.Malformed code offset) = (code < 2 ^ 8) × ((nat_le 1 code && nat_le code 7) ≡ true) × (offset < 2 ^ 32) × (offset_rule code offset ≡ true)
-BodyFits _ = Unit {0}
+BodyFits (messages.Pull client number) = Unit {0}
+BodyFits (messages.Accepted client number) = Unit {0}
 
 -- the message keeps all rules, so that it has a frame
 pub record IsValid (m : Message) : Type 0 where
@@ -124,15 +126,42 @@ Spells m bytes = IsValid m × (bytes ≡ frame m)
 
 -- ---- which replies answer a request
 
-abbrev pub MayAnswer : Kind → Kind → Type 0
-MayAnswer Store Accepted = Unit {0}
-MayAnswer Store Stale = Unit {0}
-MayAnswer Store Unfit = Unit {0}
-MayAnswer Store Gap = Unit {0}
-MayAnswer Store Full = Unit {0}
-MayAnswer Pull Snapshot = Unit {0}
-MayAnswer _ _ = ⊥
+-- what a Store may be answered by
+abbrev pub AnswersStore : Message → Type 0
+AnswersStore (messages.Store client number es bs) = ⊥
+AnswersStore (messages.Pull client number) = ⊥
+AnswersStore (messages.Accepted client number) = Unit {0}
+AnswersStore (messages.Stale client number p theirs ours) = Unit {0}
+AnswersStore (messages.Unfit client number index fault) = Unit {0}
+AnswersStore (messages.Gap client number last) = Unit {0}
+AnswersStore (messages.Snapshot client number last rs) = ⊥
+AnswersStore (messages.Full client number index fault) = Unit {0}
+AnswersStore (messages.Malformed code offset) = ⊥
 
--- the kinds fit, and client and number are equal
+-- what a Pull may be answered by
+abbrev pub AnswersPull : Message → Type 0
+AnswersPull (messages.Store client number es bs) = ⊥
+AnswersPull (messages.Pull client number) = ⊥
+AnswersPull (messages.Accepted client number) = ⊥
+AnswersPull (messages.Stale client number p theirs ours) = ⊥
+AnswersPull (messages.Unfit client number index fault) = ⊥
+AnswersPull (messages.Gap client number last) = ⊥
+AnswersPull (messages.Snapshot client number last rs) = Unit {0}
+AnswersPull (messages.Full client number index fault) = ⊥
+AnswersPull (messages.Malformed code offset) = ⊥
+
+-- what each message may be answered by: a reply by nothing
+abbrev pub MayAnswer : Message → Message → Type 0
+MayAnswer (messages.Store client number es bs) reply = AnswersStore reply
+MayAnswer (messages.Pull client number) reply = AnswersPull reply
+MayAnswer (messages.Accepted client number) reply = ⊥
+MayAnswer (messages.Stale client number p theirs ours) reply = ⊥
+MayAnswer (messages.Unfit client number index fault) reply = ⊥
+MayAnswer (messages.Gap client number last) reply = ⊥
+MayAnswer (messages.Snapshot client number last rs) reply = ⊥
+MayAnswer (messages.Full client number index fault) reply = ⊥
+MayAnswer (messages.Malformed code offset) reply = ⊥
+
+-- the reply may answer the request, and is of its client and its number
 abbrev pub Echoes : Message → Message → Type 0
-Echoes request reply = MayAnswer (kind request) (kind reply) × (client_of request ≡ client_of reply) × (number_of request ≡ number_of reply)
+Echoes request reply = MayAnswer request reply × (client_of request ≡ client_of reply) × (number_of request ≡ number_of reply)

@@ -1,4 +1,4 @@
--- Which frames are refused, and why: the refusals of a header, and what is left over.
+-- Which frames are refused, and why: the refusals of a header, and what is left over. Which replies answer a request.
 use Rattle.std.specs.Prelude.{◌≡◌, ◌≢◌, ◌↔◌, ℕ, ◌+◌, ◌-◌, ◌≤◌, ◌<◌, ◌++◌, false, true, List, length, take, drop, slice_index, Err}
 use Rattle.std.specs.Int.{w32}
 use Rattle.byte_fields.specs.Field.{digits}
@@ -6,8 +6,9 @@ use Rattle.byte_fields.specs.Codec.{IsBytes}
 use Rattle.byte_fields.specs.Cuts.{start_of}
 use Rattle.wire_frames.specs.declared.message.Message.{Message}
 use Rattle.wire_frames.specs.declared.message.Kind.{Kind}
+use Rattle.wire_frames.specs.declared.message.Kind.TheVariants.{Store, Pull, Accepted, Stale, Unfit, Gap, Snapshot, Full}
 use Rattle.wire_frames.specs.declared.message.FrameError.TheVariants.{BadLength, BadVersion, BadKind, BadClient, BadField, Trailing}
-use Rattle.wire_frames.specs.Frame.{frame_version, code_of, client_rule, frame, IsValid}
+use Rattle.wire_frames.specs.Frame.{frame_version, kind, client_of, number_of, code_of, client_rule, frame, IsValid, Echoes}
 use Rattle.wire_frames.specs.Fields.{message_fields}
 use Rattle.wire_frames.specs.Reading.{is_sized, frame_of}
 
@@ -46,3 +47,18 @@ MessagesStandBeforeWhatIsLeft = (bytes : List ℕ) (place : ℕ) → IsBytes byt
 abbrev pub CutFramesNameTheField : Type 0
 CutFramesNameTheField = (message : Message) (end : ℕ) → IsValid message → 15 ≤ end → end < length (frame message)
     → frame_of (take end (digits w32 (end - 4) ++ drop 4 (frame message))) ≡ Err (BadField (7 + start_of (end - 7) (message_fields message)))
+
+-- the kinds of the replies to a request of each kind
+abbrev pub IsReplyKind : Kind → Kind → Type 0
+IsReplyKind Store Accepted = Unit {0}
+IsReplyKind Store Stale = Unit {0}
+IsReplyKind Store Unfit = Unit {0}
+IsReplyKind Store Gap = Unit {0}
+IsReplyKind Store Full = Unit {0}
+IsReplyKind Pull Snapshot = Unit {0}
+IsReplyKind _ _ = ⊥
+
+-- a reply answers a request exactly where its kind answers the request's, and it is of its client and its number
+abbrev pub KindsDecideReplies : Type 0
+KindsDecideReplies = (request reply : Message)
+    → Echoes request reply ↔ (IsReplyKind (kind request) (kind reply) × (client_of request ≡ client_of reply) × (number_of request ≡ number_of reply))

@@ -7,6 +7,7 @@ use Rattle.vol_tree.specs.Effects.{touched_all, distinct}
 use Rattle.file_paths.specs.Reading.{path_at}
 use Rattle.vol_tree.specs.Reading.{effects_at, bases_at, rows_at}
 use Rattle.wire_frames.specs.FaultReading.{unfit_fault_at, full_fault_at}
+use Rattle.wire_frames.specs.declared.message.TheConstants.{MAX_FRAME}
 use Rattle.wire_frames.specs.declared.message.Message.{Message}
 use Rattle.wire_frames.specs.declared.message.Message.TheVariants as messages
 use Rattle.wire_frames.specs.declared.message.Kind.{Kind}
@@ -93,10 +94,10 @@ of_kind (Some kind) bytes =
     let client = slice_index bytes 6 in
     if client_rule kind client then whole bytes (message_at kind client bytes 7) else Err BadClient
 
--- 15 bytes to 64 MiB, the first four of which count those behind them
+-- 15 bytes to the most that a frame has, the first four of which count those behind them
 abbrev pub is_sized : List ℕ → Bool
 is_sized bytes =
-    nat_le 15 (length bytes) && nat_le (length bytes) 67108864 && from_be_bytes w32 (take 4 bytes) + 4 == length bytes
+    nat_le 15 (length bytes) && nat_le (length bytes) MAX_FRAME && from_be_bytes w32 (take 4 bytes) + 4 == length bytes
 
 -- the message that the bytes spell, or the first refusal: of the length, the version, the kind, the client, a field,
 -- and what is left over

@@ -4,7 +4,7 @@ ghost use Rattle.std.specs.Prelude.{◌≡◌};
 ghost use Rattle.wire_frames.specs.Frame.{kind, client_of, number_of, code_of, client_rule, number_rule};
 ghost use Rattle.wire_frames.specs.Reading.{kind_of};
 
-use crate::message::{Kind, Message};
+use crate::message::{CLIENTS, Kind, Message};
 
 /// The version of the format, byte 4 of each frame.
 pub(crate) const FRAME_VERSION: u8 = 1;
@@ -51,7 +51,7 @@ impl Kind {
     {
         match self {
             Kind::Malformed => client == 0,
-            _ => client >= 1 && client <= 64,
+            _ => client >= 1 && client <= CLIENTS,
         }
     }
 
@@ -85,7 +85,7 @@ impl Message {
         }
     }
 
-    /// The number of the client, from 1 to 64; 0 for a `Malformed`.
+    /// The number of the client, from 1 to `CLIENTS`; 0 for a `Malformed`.
     pub fn client(&self) -> u8
         ensures { result ≡ client_of self.now }
     {

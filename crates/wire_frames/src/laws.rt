@@ -1,17 +1,24 @@
 //! What holds of frames: functions that do nothing, whose contracts are laws.
 
-ghost use Rattle.std.specs.Prelude.{◌≡◌, ℕ, List, ◌++◌};
+ghost use Rattle.std.specs.Prelude.{◌≡◌, ℕ, ◌≤◌, List, ◌++◌, length};
 ghost use Rattle.byte_fields.specs.Codec.{IsCodec};
+ghost use Rattle.wire_frames.specs.declared.message.TheConstants.{MAX_FRAME};
 ghost use Rattle.wire_frames.specs.declared.message.Message.{Message};
 ghost use Rattle.wire_frames.specs.Fault.{tree_fault, UnfitFits, FullFits};
 ghost use Rattle.wire_frames.specs.FaultReading.{unfit_fault_at, full_fault_at};
 ghost use Rattle.wire_frames.specs.Frame.{frame, IsValid};
 ghost use Rattle.wire_frames.specs.Broken.{BrokenNumbers, BrokenBodies, BrokenFaults, LeftBytes};
-ghost use Rattle.wire_frames.specs.Laws.{LengthIsFirst, VersionIsSecond, KindIsThird, ClientIsFourth, FieldsAreBehindTheClient, MessagesStandBeforeWhatIsLeft, CutFramesNameTheField};
+ghost use Rattle.wire_frames.specs.Laws.{LengthIsFirst, VersionIsSecond, KindIsThird, ClientIsFourth, FieldsAreBehindTheClient, MessagesStandBeforeWhatIsLeft, CutFramesNameTheField, KindsDecideReplies};
 
-/// States that, whatever follows it, a frame is the frame of one message.
+/// States that, whatever follows it, a frame is the frame of one message, and that no frame is longer than the most.
 pub fn frames_are_apart()
-    ensures { (m n : Message) (x y : List ℕ) → IsValid m → IsValid n → frame m ++ x ≡ frame n ++ y → (m ≡ n) × (x ≡ y) }
+    ensures apart { (m n : Message) (x y : List ℕ) → IsValid m → IsValid n → frame m ++ x ≡ frame n ++ y → (m ≡ n) × (x ≡ y) }
+    ensures small { (m : Message) → IsValid m → length (frame m) ≤ MAX_FRAME }
+{}
+
+/// States that kind, client and number decide whether a reply answers a request.
+pub fn kinds_decide_replies()
+    ensures { KindsDecideReplies }
 {}
 
 /// States that each refusal that a message tells has one spelling, and each spelling one refusal.

@@ -12,10 +12,10 @@ mod writing;
 
 pub use faults::{full_fault_at, spell_fault, unfit_fault_at};
 pub use laws::{
-    broken_rules_name_their_field, faults_are_spelled_once, frames_are_apart,
+    broken_rules_name_their_field, faults_are_spelled_once, frames_are_apart, kinds_decide_replies,
     refusals_name_the_first_fault,
 };
-pub use message::{FrameError, Kind, Message};
+pub use message::{CLIENTS, FrameError, Kind, MAX_FRAME, Message};
 pub use reading::read;
 pub use replies::echoes;
 pub use writing::write;

@@ -3,8 +3,14 @@
 use thiserror::Error;
 use vol_tree::{Bases, Effects, Path, Rows, TreeError};
 
+/// The most bytes that a frame has.
+pub const MAX_FRAME: usize = 67_108_864;
+
+/// The greatest number of a client; clients are numbered from 1.
+pub const CLIENTS: u8 = 64;
+
 /// A message. `Store` and `Pull` are requests of a client to the server, all others are replies. Each but `Malformed`
-/// is of one client, 1 to 64, and repeats the number of the request that it answers.
+/// is of one client, 1 to `CLIENTS`, and repeats the number of the request that it answers.
 #[derive(Debug, Drop)]
 pub enum Message {
     /// The client's entry of this number: its effects, and the versions that they rest on.

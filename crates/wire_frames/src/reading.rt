@@ -8,7 +8,7 @@ ghost use Rattle.wire_frames.specs.Reading.{store_at, stale_at, unfit_at, gap_at
 
 use crate::faults::{full_fault_at, unfit_fault_at};
 use crate::kind::FRAME_VERSION;
-use crate::message::{FrameError, Kind, Message};
+use crate::message::{FrameError, Kind, MAX_FRAME, Message};
 use byte_fields::{TakeError, u8_at, u32_at, u64_at};
 use std::alloc::Global;
 use vol_tree::{Bases, Effects, Path, Rows};
@@ -170,7 +170,7 @@ fn message_at(alloc: Global, bytes: &[u8], at: usize, kind: Kind, client: u8) ->
 fn is_sized(bytes: &[u8]) -> bool
     ensures { result ≡ is_sized bytes.now }
 {
-    if bytes.len() < 15 || bytes.len() > 67_108_864 {
+    if bytes.len() < 15 || bytes.len() > MAX_FRAME {
         return false;
     }
     let size = u32::from_be_bytes([bytes[0], bytes[1], bytes[2], bytes[3]]);
@@ -210,7 +210,7 @@ fn frame_of(alloc: Global, bytes: &[u8]) -> Result<Message, FrameError>
 
 /// The message whose frame the bytes are.
 ///
-/// Refuses, in this order: `BadLength` for fewer than 15 or more than 67,108,864 bytes or where the first four do not
+/// Refuses, in this order: `BadLength` for fewer than 15 or more than `MAX_FRAME` bytes or where the first four do not
 /// count the others, `BadVersion`, `BadKind`, `BadClient`, `BadField` at the first faulty field from byte 7 on, and
 /// `Trailing` where bytes are left after the last field. `Memory` may come in place of each answer.
 pub fn read(alloc: Global, bytes: &[u8]) -> Result<Message, FrameError>

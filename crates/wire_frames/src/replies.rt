@@ -1,21 +1,66 @@
 //! Which replies answer a request.
 
 ghost use Rattle.std.specs.Prelude.{◌≡◌, ◌↔◌, IsTrue};
-ghost use Rattle.wire_frames.specs.Frame.{Echoes};
+ghost use Rattle.wire_frames.specs.Frame.{AnswersStore, AnswersPull, MayAnswer, Echoes};
 
-use crate::message::{Kind, Message};
+use crate::message::Message;
 
-/// Whether the reply may answer the request: the kinds fit, and client and number are equal. It takes no memory.
+/// Whether the reply answers the request: it is one that may, of the same client and number. It takes no memory.
 pub fn echoes(request: &Message, reply: &Message) -> bool
     ensures { IsTrue result ↔ Echoes request.now reply.now }
 {
-    let kinds_fit = match request.kind() {
-        Kind::Store => matches!(
-            reply.kind(),
-            Kind::Accepted | Kind::Stale | Kind::Unfit | Kind::Gap | Kind::Full
-        ),
-        Kind::Pull => matches!(reply.kind(), Kind::Snapshot),
-        _ => false,
-    };
-    kinds_fit && request.client() == reply.client() && request.number() == reply.number()
+    may_answer(request, reply)
+        && request.client() == reply.client()
+        && request.number() == reply.number()
+}
+
+/// Whether a message may be answered by another, whatever their clients and numbers.
+fn may_answer(request: &Message, reply: &Message) -> bool
+    ensures { IsTrue result ↔ MayAnswer request.now reply.now }
+{
+    match request {
+        Message::Store { .. } => answers_store(reply),
+        Message::Pull { .. } => answers_pull(reply),
+        Message::Accepted { .. }
+        | Message::Stale { .. }
+        | Message::Unfit { .. }
+        | Message::Gap { .. }
+        | Message::Snapshot { .. }
+        | Message::Full { .. }
+        | Message::Malformed { .. } => false,
+    }
+}
+
+/// Whether a `Store` may be answered by this.
+fn answers_store(reply: &Message) -> bool
+    ensures { IsTrue result ↔ AnswersStore reply.now }
+{
+    match reply {
+        Message::Accepted { .. }
+        | Message::Stale { .. }
+        | Message::Unfit { .. }
+        | Message::Gap { .. }
+        | Message::Full { .. } => true,
+        Message::Store { .. }
+        | Message::Pull { .. }
+        | Message::Snapshot { .. }
+        | Message::Malformed { .. } => false,
+    }
+}
+
+/// Whether a `Pull` may be answered by this.
+fn answers_pull(reply: &Message) -> bool
+    ensures { IsTrue result ↔ AnswersPull reply.now }
+{
+    match reply {
+        Message::Snapshot { .. } => true,
+        Message::Store { .. }
+        | Message::Pull { .. }
+        | Message::Accepted { .. }
+        | Message::Stale { .. }
+        | Message::Unfit { .. }
+        | Message::Gap { .. }
+        | Message::Full { .. }
+        | Message::Malformed { .. } => false,
+    }
 }

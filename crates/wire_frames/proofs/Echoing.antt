@@ -1,0 +1,30 @@
+-- Kind, client and number decide whether a reply answers a request.
+use Rattle.wire_frames.specs.declared.message.Message.TheVariants as messages
+use Rattle.wire_frames.specs.Laws.{KindsDecideReplies}
+
+pub kinds_decide : KindsDecideReplies
+kinds_decide (messages.Store c n es bs) (messages.Store d k es' bs') = (λ echo. echo, λ echo. echo)
+kinds_decide (messages.Store c n es bs) (messages.Pull d k) = (λ echo. echo, λ echo. echo)
+kinds_decide (messages.Store c n es bs) (messages.Accepted d k) = (λ echo. echo, λ echo. echo)
+kinds_decide (messages.Store c n es bs) (messages.Stale d k p' theirs' ours') = (λ echo. echo, λ echo. echo)
+kinds_decide (messages.Store c n es bs) (messages.Unfit d k i' f') = (λ echo. echo, λ echo. echo)
+kinds_decide (messages.Store c n es bs) (messages.Gap d k last') = (λ echo. echo, λ echo. echo)
+kinds_decide (messages.Store c n es bs) (messages.Snapshot d k last' rs') = (λ echo. echo, λ echo. echo)
+kinds_decide (messages.Store c n es bs) (messages.Full d k i' f') = (λ echo. echo, λ echo. echo)
+kinds_decide (messages.Store c n es bs) (messages.Malformed code' offset') = (λ echo. echo, λ echo. echo)
+kinds_decide (messages.Pull c n) (messages.Store d k es' bs') = (λ echo. echo, λ echo. echo)
+kinds_decide (messages.Pull c n) (messages.Pull d k) = (λ echo. echo, λ echo. echo)
+kinds_decide (messages.Pull c n) (messages.Accepted d k) = (λ echo. echo, λ echo. echo)
+kinds_decide (messages.Pull c n) (messages.Stale d k p' theirs' ours') = (λ echo. echo, λ echo. echo)
+kinds_decide (messages.Pull c n) (messages.Unfit d k i' f') = (λ echo. echo, λ echo. echo)
+kinds_decide (messages.Pull c n) (messages.Gap d k last') = (λ echo. echo, λ echo. echo)
+kinds_decide (messages.Pull c n) (messages.Snapshot d k last' rs') = (λ echo. echo, λ echo. echo)
+kinds_decide (messages.Pull c n) (messages.Full d k i' f') = (λ echo. echo, λ echo. echo)
+kinds_decide (messages.Pull c n) (messages.Malformed code' offset') = (λ echo. echo, λ echo. echo)
+kinds_decide (messages.Accepted c n) reply = (λ echo. absurd echo.0, λ echo. absurd echo.0)
+kinds_decide (messages.Stale c n p theirs ours) reply = (λ echo. absurd echo.0, λ echo. absurd echo.0)
+kinds_decide (messages.Unfit c n i f) reply = (λ echo. absurd echo.0, λ echo. absurd echo.0)
+kinds_decide (messages.Gap c n last) reply = (λ echo. absurd echo.0, λ echo. absurd echo.0)
+kinds_decide (messages.Snapshot c n last rs) reply = (λ echo. absurd echo.0, λ echo. absurd echo.0)
+kinds_decide (messages.Full c n i f) reply = (λ echo. absurd echo.0, λ echo. absurd echo.0)
+kinds_decide (messages.Malformed code offset) reply = (λ echo. absurd echo.0, λ echo. absurd echo.0)
