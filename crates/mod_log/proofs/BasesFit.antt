@@ -8,10 +8,10 @@ use Rattle.vol_tree.specs.Tree.{Volume, row_at, version_at, IsRow, IsTree, IsLeg
 use Rattle.vol_tree.specs.Inside.{is_at}
 use Rattle.vol_tree.specs.Behind.{IsIn}
 use Rattle.vol_tree.specs.Spelling.{EffectFits, BaseFits, EffectsFit}
-use Rattle.vol_tree.specs.declared.tree.Row.{Row}
-use Rattle.vol_tree.specs.declared.tree.Effect.{Effect}
-use Rattle.vol_tree.specs.declared.tree.Effect.TheVariants.{Make, Put, Remove, Move}
-use Rattle.vol_tree.specs.declared.tree.Base.{Base}
+use Rattle.vol_tree.specs.declared.node.Row.{Row}
+use Rattle.vol_tree.specs.declared.node.Effect.{Effect}
+use Rattle.vol_tree.specs.declared.node.Effect.TheVariants.{Make, Put, Remove, Move}
+use Rattle.vol_tree.specs.declared.node.Base.{Base}
 use Rattle.vol_tree.proofs.Distinct.{in_distinct}
 use Rattle.vol_tree.proofs.Undoing.{find_among}
 

@@ -10,8 +10,9 @@ use Rattle.rs_parity.specs.Spelling.{SketchFits}
 use Rattle.rs_parity.specs.declared.sketch.Sketch.{Sketch}
 use Rattle.rs_parity.proofs.Spelled.{sketch_codec}
 use Rattle.vol_tree.specs.Spelling.{effects, bases}
-use Rattle.vol_tree.proofs.Parts.{path_codec, effects_codec}
-use Rattle.vol_tree.proofs.Few.{bases_of}
+use Rattle.file_paths.proofs.Parts.{path_codec}
+use Rattle.tree_laws.proofs.Parts.{effects_codec}
+use Rattle.tree_laws.proofs.Few.{bases_of}
 use Rattle.mod_log.specs.declared.log.Entry.{Entry}
 use Rattle.mod_log.specs.declared.sketched.SketchEffect.{SketchEffect}
 use Rattle.mod_log.specs.declared.sketched.SketchEffect.TheVariants.{Make, Put, Remove, Move}

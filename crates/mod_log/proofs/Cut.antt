@@ -10,13 +10,16 @@ use Rattle.rs_parity.specs.Spelling.{sketch_spelling}
 use Rattle.rs_parity.specs.Fields.{sketch_fields}
 use Rattle.rs_parity.proofs.Cut.{sketch_cut}
 use Rattle.vol_tree.specs.Effects.{touched_all, distinct}
-use Rattle.vol_tree.specs.Spelling.{path, effects, bases, EffectsFit, AreBasesOf}
-use Rattle.vol_tree.specs.Fields.{path_fields, effects_fields, bases_fields}
+use Rattle.file_paths.specs.Spelling.{path}
+use Rattle.vol_tree.specs.Spelling.{effects, bases, EffectsFit, AreBasesOf}
+use Rattle.file_paths.specs.Fields.{path_fields}
+use Rattle.vol_tree.specs.Fields.{effects_fields, bases_fields}
 use Rattle.vol_tree.specs.Reading.{bases_at}
-use Rattle.vol_tree.specs.declared.tree.Effect.{Effect}
-use Rattle.vol_tree.proofs.Parts.{path_codec, effects_codec}
-use Rattle.vol_tree.proofs.CutParts.{path_cut, effects_cut, bases_cut}
-use Rattle.vol_tree.proofs.Few.{touched_few}
+use Rattle.vol_tree.specs.declared.node.Effect.{Effect}
+use Rattle.file_paths.proofs.Parts.{path_codec, path_cut}
+use Rattle.tree_laws.proofs.Parts.{effects_codec}
+use Rattle.tree_laws.proofs.CutParts.{effects_cut, bases_cut}
+use Rattle.tree_laws.proofs.Few.{touched_few}
 use Rattle.mod_log.specs.declared.log.Entry.{Entry}
 use Rattle.mod_log.specs.declared.sketched.SketchEffect.{SketchEffect}
 use Rattle.mod_log.specs.declared.sketched.SketchEffect.TheVariants.{Make, Put, Remove, Move}

@@ -8,13 +8,13 @@ use Rattle.rs_parity.specs.Sketches.{IsSketch, Distinct}
 use Rattle.rs_parity.specs.declared.sketch.Sketch.{Sketch}
 use Rattle.rs_parity.proofs.Spelled.{sketches_fit_each}
 use Rattle.rs_parity.proofs.Unique.{one_sketch_each}
-use Rattle.vol_tree.specs.Path.{FilePath}
+use Rattle.file_paths.specs.Path.{FilePath}
 use Rattle.vol_tree.specs.Behind.{IsIn}
 use Rattle.vol_tree.specs.Tree.{touched_paths}
 use Rattle.vol_tree.specs.Effects.{content_size}
 use Rattle.vol_tree.specs.Spelling.{EffectFits}
-use Rattle.vol_tree.specs.declared.tree.Effect.{Effect}
-use Rattle.vol_tree.specs.declared.tree.Effect.TheVariants.{Make, Put, Remove, Move}
+use Rattle.vol_tree.specs.declared.node.Effect.{Effect}
+use Rattle.vol_tree.specs.declared.node.Effect.TheVariants.{Make, Put, Remove, Move}
 use Rattle.mod_log.specs.Sketched.{sketch_paths, sketched_size, IsSketchedAs, AreSketchedAs, Fills, AllFill, Writes, SketchesAreFilled, FillingsAreEqual, FillingsTouchAlike, OneSketchList}
 use Rattle.mod_log.specs.Spelling.{SketchEffectFits, FillingsFit, SketchesOfEffectsFit}
 use Rattle.mod_log.specs.declared.sketched.SketchEffect.{SketchEffect}

@@ -5,11 +5,13 @@ use Rattle.std.specs.List.{flat_map, AllByRecursion}
 use Rattle.byte_fields.specs.Field.{digits}
 use Rattle.byte_fields.specs.Broken.{IsRefused}
 use Rattle.rs_parity.specs.Spelling.{sketch_at}
-use Rattle.vol_tree.specs.Path.{FilePath, IsPath}
+use Rattle.file_paths.specs.Path.{FilePath, IsPath}
 use Rattle.vol_tree.specs.Effects.{touched_all, distinct}
-use Rattle.vol_tree.specs.Spelling.{path, effects, EffectsFit}
-use Rattle.vol_tree.specs.Reading.{path_at, effects_at, bases_at}
-use Rattle.vol_tree.specs.declared.tree.Effect.{Effect}
+use Rattle.file_paths.specs.Spelling.{path}
+use Rattle.vol_tree.specs.Spelling.{effects, EffectsFit}
+use Rattle.file_paths.specs.Reading.{path_at}
+use Rattle.vol_tree.specs.Reading.{effects_at, bases_at}
+use Rattle.vol_tree.specs.declared.node.Effect.{Effect}
 use Rattle.mod_log.specs.Log.{made_by}
 use Rattle.mod_log.specs.Sketched.{sketched_sizes}
 use Rattle.mod_log.specs.Spelling.{sketch_effect, SketchEffectFits}

@@ -5,7 +5,8 @@ use Rattle.byte_fields.specs.Field.{Reader, ◌>>=◌, one, two, ruled, tagged_a
 use Rattle.rs_parity.specs.Spelling.{sketch_at}
 use Rattle.vol_tree.specs.Effects.{touched_all, distinct}
 use Rattle.vol_tree.specs.Spelling.{EffectsFit, AreBasesOf}
-use Rattle.vol_tree.specs.Reading.{path_at, effects_at, bases_at}
+use Rattle.file_paths.specs.Reading.{path_at}
+use Rattle.vol_tree.specs.Reading.{effects_at, bases_at}
 use Rattle.mod_log.specs.Sketched.{sketched_size}
 use Rattle.mod_log.specs.declared.log.Entry.{Entry}
 use Rattle.mod_log.specs.declared.sketched.SketchEffect.{SketchEffect}

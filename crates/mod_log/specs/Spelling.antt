@@ -4,9 +4,10 @@ use Rattle.std.specs.Int.{w32}
 use Rattle.std.specs.List.{flat_map, AllByRecursion}
 use Rattle.byte_fields.specs.Field.{digits}
 use Rattle.rs_parity.specs.Spelling.{sketch_spelling, SketchFits}
-use Rattle.vol_tree.specs.Path.{IsPath}
-use Rattle.vol_tree.specs.Spelling.{path, EffectsFit}
-use Rattle.vol_tree.specs.declared.tree.Effect.{Effect}
+use Rattle.file_paths.specs.Path.{IsPath}
+use Rattle.file_paths.specs.Spelling.{path}
+use Rattle.vol_tree.specs.Spelling.{EffectsFit}
+use Rattle.vol_tree.specs.declared.node.Effect.{Effect}
 use Rattle.mod_log.specs.Sketched.{sketched_size, sketched_sizes, AreSketchedAs, AllFill}
 use Rattle.mod_log.specs.declared.sketched.SketchEffect.{SketchEffect}
 use Rattle.mod_log.specs.declared.sketched.SketchEffect.TheVariants.{Make, Put, Remove, Move}

@@ -2,7 +2,7 @@
 
 ghost use Rattle.std.specs.Prelude.{◌≡◌, ◌++◌, ◌<◌, ◌^◌, length, OnOk};
 ghost use Rattle.byte_fields.specs.Field.{Gives, one, two};
-ghost use Rattle.vol_tree.specs.Reading.{path_at};
+ghost use Rattle.file_paths.specs.Reading.{path_at};
 ghost use Rattle.mod_log.specs.Spelling.{sketch_effect, sketch_effects};
 ghost use Rattle.mod_log.specs.Reading.{sketch_put_at, sketch_effect_at, sketch_room_after, sketch_effects_within};
 ghost use Rattle.mod_log.specs.declared.sketched.SketchEffect.TheVariants.{Make, Remove, Move};

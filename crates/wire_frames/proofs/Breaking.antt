@@ -14,10 +14,13 @@ use Rattle.vol_tree.specs.declared.node.Effect.{Effect}
 use Rattle.vol_tree.specs.declared.node.TreeError.TheVariants.{NoParent, Exists, Missing, IsFolder, NotEmpty, VersionTop}
 use Rattle.file_paths.specs.Path.{FilePath, IsPath}
 use Rattle.vol_tree.specs.Effects.{touched_all, distinct}
-use Rattle.vol_tree.specs.Spelling.{path, effects, EffectsFit}
-use Rattle.vol_tree.specs.Reading.{path_at, effects_at, bases_at, rows_at}
-use Rattle.vol_tree.proofs.Parts.{path_codec, effects_codec}
-use Rattle.vol_tree.proofs.Breaking.{eight_bytes}
+use Rattle.file_paths.specs.Spelling.{path}
+use Rattle.vol_tree.specs.Spelling.{effects, EffectsFit}
+use Rattle.file_paths.specs.Reading.{path_at}
+use Rattle.vol_tree.specs.Reading.{effects_at, bases_at, rows_at}
+use Rattle.file_paths.proofs.Parts.{path_codec}
+use Rattle.tree_laws.proofs.Parts.{effects_codec}
+use Rattle.tree_laws.proofs.Breaking.{eight_bytes}
 use Rattle.wire_frames.specs.declared.message.TheConstants.{MAX_FRAME}
 use Rattle.wire_frames.specs.declared.message.Message.{Message}
 use Rattle.wire_frames.specs.declared.message.Message.TheVariants as messages
