@@ -9,7 +9,7 @@ use Rattle.file_paths.specs.Path.{FilePath, IsPath, is_name, is_name_byte, is_do
 use Rattle.vol_tree.specs.Tree.{Volume, IsRow, is_child, is_root, children}
 use Rattle.vol_tree.specs.declared.node.Row.{Row}
 use Rattle.file_paths.proofs.PathTexts.{text_of_path_read}
-use Rattle.vol_tree.proofs.Behind.{is_same_path-eq}
+use Rattle.file_paths.proofs.Order.{tied_path}
 
 -- ---- a name in a folder
 
@@ -54,7 +54,7 @@ path_is_split path is =
 
 child_path : (folder : FilePath) (row : Row) → IsRow row → is_child folder row ≡ true → IsPath (folder ++ last_name row.path ∷ [])
 child_path folder row is child =
-    let same : folder_of row.path ≡ folder = is_same_path-eq (folder_of row.path) folder (second_so (is_some row.node) (is_same_path (folder_of row.path) folder) child) in
+    let same : folder_of row.path ≡ folder = tied_path (folder_of row.path) folder (second_so (is_some row.node) (is_same_path (folder_of row.path) folder) child) in
     subst IsPath (sym (ap (λ (front : FilePath). front ++ last_name row.path ∷ []) (sym same) ∙ path_is_split row.path is.below_root)) is.is_path
 
 path_added : (folder : FilePath) (row : Row) (rest : List Row) (b : Bool) → is_child folder row ≡ b → IsRow row → AllByRecursion (λ (name : List ℕ). IsPath (folder ++ name ∷ [])) (map (λ (r : Row). last_name r.path) rest)

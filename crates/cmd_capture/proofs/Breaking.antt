@@ -5,12 +5,13 @@ use Rattle.std.specs.List.{flat_map, list_all, AllByRecursion}
 use Rattle.std.proofs.lemmas.Bool.{le-leb, ne_eqb}
 use Rattle.std.proofs.lemmas.List.{drop-take}
 use Rattle.std.proofs.Math.Seq.{take-append-add}
-use Rattle.byte_fields.specs.Field.{Reader, digits, ruled, none, one, number_at, span_at, each_at, limited, tagged_at, of_kind}
+use Rattle.byte_fields.specs.Field.{Reader, digits, ruled, none, one, number_at, span_at, each_at, limited, tagged_at, of_kind, passed}
 use Rattle.byte_fields.specs.Codec.{Stands, IsCodec}
 use Rattle.byte_fields.specs.Cuts.{start_of}
-use Rattle.byte_fields.specs.Broken.{IsRead, IsRefused, passed}
+use Rattle.byte_fields.specs.Broken.{IsRead, IsRefused}
 use Rattle.byte_fields.proofs.Codec.{u8_codec, u16_codec, u32_codec, span_codec, ruled_codec}
-use Rattle.byte_fields.proofs.Breaking.{read_again, refused_there, refused_text, rule_refused, first_refused, later_refused, tagged_refused, kind_refused, second_fails, four_bytes, items_refused, each_read}
+use Rattle.byte_fields.proofs.Breaking.{read_again, refused_there, refused_text, rule_refused, first_refused, later_refused, tagged_refused, kind_refused, second_fails, items_refused, each_read}
+use Rattle.byte_fields.proofs.Facts.{four_bytes}
 use Rattle.file_paths.specs.Path.{FilePath, IsPath}
 use Rattle.file_paths.specs.Spelling.{path, content}
 use Rattle.file_paths.specs.Reading.{path_at, content_at}

@@ -9,7 +9,8 @@ use Rattle.byte_fields.specs.Field.{Reader, ◌>>=◌, digits, one, limited}
 use Rattle.byte_fields.specs.Codec.{Stands, IsCodec}
 use Rattle.byte_fields.specs.Cuts.{start_of, IsCut}
 use Rattle.byte_fields.proofs.Codec.{u8_codec, u16_codec, u32_codec, ruled_codec, stands_first, stands_second}
-use Rattle.byte_fields.proofs.Cutting.{sum_more, sum_both, then_cut, span_cut, u8_cut, u16_cut, u32_cut, ruled_cut, cut_for, one_cut, tagged_cut, each_cut, counted_cut}
+use Rattle.byte_fields.proofs.Facts.{sum_more}
+use Rattle.byte_fields.proofs.Cutting.{sum_both, then_cut, span_cut, u8_cut, u16_cut, u32_cut, ruled_cut, cut_for, one_cut, tagged_cut, each_cut, counted_cut}
 use Rattle.file_paths.specs.Path.{FilePath, IsPath}
 use Rattle.file_paths.specs.Spelling.{path, content}
 use Rattle.file_paths.specs.Fields.{path_fields, content_fields}

@@ -4,10 +4,11 @@ use Rattle.std.specs.Int.{w8, w32}
 use Rattle.std.specs.List.{flat_map, AllByRecursion}
 use Rattle.std.proofs.lemmas.Bool.{le-leb, ne_eqb}
 use Rattle.std.proofs.lemmas.List.Sums.{sum_by-cons}
-use Rattle.byte_fields.specs.Field.{digits, number_at, none, one, two, each_at}
-use Rattle.byte_fields.specs.Broken.{IsRefused, passed}
+use Rattle.byte_fields.specs.Field.{digits, number_at, none, one, two, each_at, passed}
+use Rattle.byte_fields.specs.Broken.{IsRefused}
 use Rattle.byte_fields.proofs.Codec.{u8_codec}
-use Rattle.byte_fields.proofs.Breaking.{read_again, refused_there, rule_refused, first_refused, later_refused, tagged_refused, kind_refused, above, second_fails, count_refused, counted_refused, items_refused, each_read}
+use Rattle.byte_fields.proofs.Breaking.{read_again, refused_there, rule_refused, first_refused, later_refused, tagged_refused, kind_refused, second_fails, count_refused, counted_refused, items_refused, each_read}
+use Rattle.byte_fields.proofs.Facts.{le_fails}
 use Rattle.rs_parity.specs.Spelling.{sketch_at}
 use Rattle.rs_parity.proofs.Cut.{len_refused}
 use Rattle.file_paths.specs.Path.{FilePath, IsPath}
@@ -128,7 +129,7 @@ room_left room (e ∷ es) = room_left (room - sketched_size e) es ∙ omega (ari
 
 wrong_count : (count most : ℕ) → (count ≡ 0) ⊎ (most < count) → (leb 1 count && leb count most) ≡ false
 wrong_count count most (inl e) = rw e refl
-wrong_count count most (inr lt) = second_fails (leb 1 count) (leb count most) (above count most lt)
+wrong_count count most (inr lt) = second_fails (leb 1 count) (leb count most) (le_fails count most lt)
 
 right_count : (count most before : ℕ) → before < count → count ≤ most → (leb 1 count && leb count most) ≡ true
 right_count count most before some few = rw (le-leb 1 count (omega arith), le-leb count most few) refl

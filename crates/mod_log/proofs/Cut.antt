@@ -5,7 +5,8 @@ use Rattle.std.proofs.lemmas.Bool.{le-leb}
 use Rattle.byte_fields.specs.Codec.{Stands}
 use Rattle.byte_fields.specs.Cuts.{start_of, IsCut}
 use Rattle.byte_fields.proofs.Codec.{u32_codec, ruled_codec, stands_second}
-use Rattle.byte_fields.proofs.Cutting.{sum_more, sum_both, u8_cut, u32_cut, ruled_cut, cut_for, one_cut, two_cut, three_cut, tagged_cut, each_cut, counted_cut}
+use Rattle.byte_fields.proofs.Facts.{sum_more}
+use Rattle.byte_fields.proofs.Cutting.{sum_both, u8_cut, u32_cut, ruled_cut, cut_for, one_cut, two_cut, three_cut, tagged_cut, each_cut, counted_cut}
 use Rattle.rs_parity.specs.Spelling.{sketch_spelling}
 use Rattle.rs_parity.specs.Fields.{sketch_fields}
 use Rattle.rs_parity.proofs.Cut.{sketch_cut}

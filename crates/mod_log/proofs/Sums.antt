@@ -8,7 +8,7 @@ use Rattle.std.proofs.lemmas.Grind.{flat_map-append}
 use Rattle.vol_tree.specs.declared.node.Effect.{Effect}
 use Rattle.vol_tree.specs.declared.node.Base.{Base}
 use Rattle.vol_tree.specs.Spelling.{effect, effects, base, bases}
-use Rattle.file_paths.proofs.Sizes.{four_digits}
+use Rattle.byte_fields.proofs.Facts.{four_bytes}
 use Rattle.std.specs.Int.{w32}
 use Rattle.byte_fields.specs.Field.{digits}
 use Rattle.mod_log.specs.declared.log.Entry.{Entry}
@@ -26,8 +26,8 @@ entry_length es bs = omega (
   length-append (effects es) (bases bs),
   length-append (digits w32 (length es)) (flat_map effect es),
   length-append (digits w32 (length bs)) (flat_map base bs),
-  four_digits (length es),
-  four_digits (length bs),
+  four_bytes (length es),
+  four_bytes (length bs),
   length-flat_map effect es,
   length-flat_map base bs,
 )

@@ -6,8 +6,9 @@ use Rattle.byte_fields.specs.Field.{digits, number_at, span_at, ruled, two}
 use Rattle.byte_fields.specs.Broken.{IsRefused}
 use Rattle.byte_fields.specs.Cuts.{start_of, IsCut}
 use Rattle.byte_fields.proofs.Codec.{span_codec, u16_codec, u32_codec}
-use Rattle.byte_fields.proofs.Cutting.{sum_more, span_cut, u16_cut, u32_cut, ruled_cut, cut_for, three_cut, each_cut}
-use Rattle.byte_fields.proofs.Breaking.{read_again, first_refused, rule_refused, above}
+use Rattle.byte_fields.proofs.Facts.{sum_more, le_fails}
+use Rattle.byte_fields.proofs.Cutting.{span_cut, u16_cut, u32_cut, ruled_cut, cut_for, three_cut, each_cut}
+use Rattle.byte_fields.proofs.Breaking.{read_again, first_refused, rule_refused}
 use Rattle.rs_parity.specs.Blocks.{blocks_in, IsCheck}
 use Rattle.rs_parity.specs.Spelling.{parity_spelling, sketch_spelling, SketchFits, parity_at, parities_at, sketch_at}
 use Rattle.rs_parity.specs.Fields.{parity_fields, sketch_fields}
@@ -63,7 +64,7 @@ module _ (room : ℕ) where
   unfolding sketch_at
   len_refused len small large =
       first_refused (ruled (within room) (number_at w32)) (λ n. two (span_at 32) (λ print. parities_at (blocks_in n)) (sketch_of_parts n)) (digits w32 len) 0
-      (rule_refused (number_at w32) (within room) (digits w32 len) len (read_again u32_codec len small) (above len (min room 8388608) (elim large [ inl h ↦ omega arith | inr h ↦ omega arith ])))
+      (rule_refused (number_at w32) (within room) (digits w32 len) len (read_again u32_codec len small) (le_fails len (min room 8388608) (elim large [ inl h ↦ omega arith | inr h ↦ omega arith ])))
 
 pub broken_sketches : BrokenSketches
 broken_sketches = record { len_is_large = len_refused }

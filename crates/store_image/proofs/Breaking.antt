@@ -11,7 +11,8 @@ use Rattle.byte_fields.specs.Numbers.{as_u32}
 use Rattle.byte_fields.specs.Codec.{Stands}
 use Rattle.byte_fields.specs.Broken.{IsRefused}
 use Rattle.byte_fields.proofs.Codec.{u8_codec, u64_codec, span_codec, ruled_codec}
-use Rattle.byte_fields.proofs.Breaking.{read_again, refused_there, rule_refused, ruled_refused, first_refused, later_refused, tagged_refused, kind_refused, above, second_fails}
+use Rattle.byte_fields.proofs.Breaking.{read_again, refused_there, rule_refused, ruled_refused, first_refused, later_refused, tagged_refused, kind_refused, second_fails}
+use Rattle.byte_fields.proofs.Facts.{le_fails, eight_bytes}
 use Rattle.vol_tree.specs.declared.node.Base.{Base}
 use Rattle.file_paths.specs.Path.{FilePath, is_same_path}
 use Rattle.vol_tree.specs.Tree.{Volume, IsTree, apply}
@@ -22,7 +23,6 @@ use Rattle.vol_tree.specs.Reading.{effect_at, rows_at}
 use Rattle.file_paths.proofs.Parts.{path_codec}
 use Rattle.tree_laws.proofs.Parts.{effect_codec, rows_codec}
 use Rattle.file_paths.proofs.Order.{tied_path, path_tied}
-use Rattle.file_paths.proofs.Sizes.{eight_digits}
 use Rattle.mod_log.specs.Log.{Log, new_log_of}
 use Rattle.store_image.specs.declared.image.ImageError.TheVariants.{BadImage}
 use Rattle.store_image.specs.Reading.{growing_effect_at, known_base_at, next_entry_at, entries_at, log_at, marked, client_mark, client_body_at, client_versions, client_at, numbers_at, server_mark, server_body_at, server_versions, server_at}
@@ -90,7 +90,7 @@ module _ {A : Type 0} (mark : List ℕ) (four : length mark ≡ 4) (read : Reade
 
 wrong_client : (client : ℕ) → (client ≡ 0) ⊎ (64 < client) → (leb 1 client && leb client 64) ≡ false
 wrong_client client (inl e) = rw e refl
-wrong_client client (inr lt) = second_fails (leb 1 client) (leb client 64) (above client 64 lt)
+wrong_client client (inr lt) = second_fails (leb 1 client) (leb client 64) (le_fails client 64 lt)
 
 client_number_refused : (text : List ℕ) → IsRefused (ruled (λ n. leb 1 n && leb n 64) (number_at w8)) text 0 → IsRefused client_body_at text 0
 unfolding client_body_at
@@ -109,7 +109,7 @@ module _ (client acked : ℕ) (some : 1 ≤ client) (few : client ≤ 64) (small
   client_rows : (text : List ℕ) (offset : ℕ) → IsRefused rows_at text offset → IsRefused client_at (client_mark ++ (1 ∷ client ∷ (digits w64 acked ++ text))) (14 + offset)
   unfolding log_at
   client_rows text offset refused =
-      refused_there client_at (client_mark ++ (1 ∷ client ∷ (digits w64 acked ++ text))) (6 + (length (digits w64 acked) + offset)) (14 + offset) (omega (arith, eight_digits acked))
+      refused_there client_at (client_mark ++ (1 ∷ client ∷ (digits w64 acked ++ text))) (6 + (length (digits w64 acked) + offset)) (14 + offset) (omega (arith, eight_bytes acked))
       (log_refused client (digits w64 acked ++ text) (length (digits w64 acked) + offset) some few
       (later_refused (number_at w64) (λ n bytes at. rows_at bytes at >>= λ base. entries_at (new_log_of n base.0) bytes base.1 >>= λ pending. Ok (made_log n base.0 pending.0, pending.1)) (digits w64 acked) text acked offset (read_again u64_codec acked small)
       (first_refused rows_at (λ base bytes at. entries_at (new_log_of acked base) bytes at >>= λ pending. Ok (made_log acked base pending.0, pending.1)) text offset refused)))
@@ -117,7 +117,7 @@ module _ (client acked : ℕ) (some : 1 ≤ client) (few : client ≤ 64) (small
   client_entries : (base : Volume) (text : List ℕ) (offset : ℕ) → IsTree base → IsRefused (entries_at (new_log_of acked base)) text offset → IsRefused client_at (client_mark ++ (1 ∷ client ∷ (digits w64 acked ++ (rows base ++ text)))) (14 + (length (rows base) + offset))
   unfolding log_at
   client_entries base text offset tree refused =
-      refused_there client_at (client_mark ++ (1 ∷ client ∷ (digits w64 acked ++ (rows base ++ text)))) (6 + (length (digits w64 acked) + (length (rows base) + offset))) (14 + (length (rows base) + offset)) (omega (arith, eight_digits acked))
+      refused_there client_at (client_mark ++ (1 ∷ client ∷ (digits w64 acked ++ (rows base ++ text)))) (6 + (length (digits w64 acked) + (length (rows base) + offset))) (14 + (length (rows base) + offset)) (omega (arith, eight_bytes acked))
       (log_refused client (digits w64 acked ++ (rows base ++ text)) (length (digits w64 acked) + (length (rows base) + offset)) some few
       (later_refused (number_at w64) (λ n bytes at. rows_at bytes at >>= λ v. entries_at (new_log_of n v.0) bytes v.1 >>= λ pending. Ok (made_log n v.0 pending.0, pending.1)) (digits w64 acked) (rows base ++ text) acked (length (rows base) + offset) (read_again u64_codec acked small)
       (later_refused rows_at (λ v bytes at. entries_at (new_log_of acked v) bytes at >>= λ pending. Ok (made_log acked v pending.0, pending.1)) (rows base) text base offset (read_again rows_codec base tree)

@@ -5,13 +5,14 @@ use Rattle.std.specs.List.{flat_map}
 use Rattle.std.proofs.lemmas.Bool.{le-leb}
 use Rattle.std.proofs.lemmas.List.{drop-take}
 use Rattle.std.proofs.Math.Seq.{take-append-add}
-use Rattle.byte_fields.specs.Field.{Reader, ◌>>=◌, digits, limited, each_at}
+use Rattle.byte_fields.specs.Field.{Reader, ◌>>=◌, digits, limited, each_at, passed}
 use Rattle.byte_fields.specs.Codec.{Stands}
 use Rattle.byte_fields.specs.Cuts.{start_of}
-use Rattle.byte_fields.specs.Broken.{IsRefused, passed}
+use Rattle.byte_fields.specs.Broken.{IsRefused}
 use Rattle.byte_fields.proofs.Codec.{bind_err, never_err}
 use Rattle.byte_fields.proofs.Cutting.{each_cut}
-use Rattle.byte_fields.proofs.Breaking.{above, second_fails, count_refused, counted_refused, items_refused, each_read}
+use Rattle.byte_fields.proofs.Facts.{le_fails}
+use Rattle.byte_fields.proofs.Breaking.{second_fails, count_refused, counted_refused, items_refused, each_read}
 use Rattle.vol_tree.specs.Tree.{Volume, IsTree}
 use Rattle.mod_log.specs.declared.log.Entry.{Entry}
 use Rattle.mod_log.specs.Log.{Log, entry, AreEntriesOf, IsLog, new_log_of}
@@ -63,9 +64,9 @@ first_fails true b e = absurd (true≢false e)
 first_fails false b e = refl
 
 wrong_count : (acked count : ℕ) → acked < 2 ^ 64 → (1024 < count) ⊎ (18446744073709551615 < acked + count) → is_count acked count ≡ false
-wrong_count acked count small (inl many) = first_fails (leb count 1024) (leb count (18446744073709551615 - acked)) (above count 1024 many)
+wrong_count acked count small (inl many) = first_fails (leb count 1024) (leb count (18446744073709551615 - acked)) (le_fails count 1024 many)
 wrong_count acked count small (inr past) =
-    second_fails (leb count 1024) (leb count (18446744073709551615 - acked)) (above count (18446744073709551615 - acked) (omega arith))
+    second_fails (leb count 1024) (leb count (18446744073709551615 - acked)) (le_fails count (18446744073709551615 - acked) (omega arith))
 
 may_follow : (acked count : ℕ) → MayFollow acked count → is_count acked count ≡ true
 may_follow acked count may = rw (le-leb count 1024 may.few, le-leb count (18446744073709551615 - acked) (omega (arith, may.last))) refl

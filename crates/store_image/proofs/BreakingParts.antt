@@ -6,9 +6,10 @@ use Rattle.std.proofs.lemmas.Bool.{le-leb, eq-eqb, ne_eqb}
 use Rattle.std.specs.Result.{is_ok}
 use Rattle.std.proofs.lemmas.List.{take_all}
 use Rattle.std.proofs.lemmas.List.Sums.{sum_by-cons}
-use Rattle.byte_fields.specs.Field.{Reader, ◌>>=◌, digits, ruled, number_at, each_at}
-use Rattle.byte_fields.specs.Broken.{IsRefused, passed, EachIsRead}
-use Rattle.byte_fields.proofs.Breaking.{read_again, refused_there, ruled_refused, first_refused, later_refused, above, second_fails, count_refused, counted_refused, items_refused, each_read}
+use Rattle.byte_fields.specs.Field.{Reader, ◌>>=◌, digits, ruled, number_at, each_at, passed}
+use Rattle.byte_fields.specs.Broken.{IsRefused, EachIsRead}
+use Rattle.byte_fields.proofs.Breaking.{read_again, refused_there, ruled_refused, first_refused, later_refused, second_fails, count_refused, counted_refused, items_refused, each_read}
+use Rattle.byte_fields.proofs.Facts.{le_fails}
 use Rattle.vol_tree.specs.declared.node.Effect.{Effect}
 use Rattle.vol_tree.specs.declared.node.Base.{Base}
 use Rattle.vol_tree.specs.Tree.{Volume, IsTree, apply, changed}
@@ -36,7 +37,7 @@ grown_passed growing (e ∷ es) =
 
 wrong_effects : (count : ℕ) → (count ≡ 0) ⊎ (4096 < count) → (leb 1 count && leb count 4096) ≡ false
 wrong_effects count (inl e) = rw e refl
-wrong_effects count (inr lt) = second_fails (leb 1 count) (leb count 4096) (above count 4096 lt)
+wrong_effects count (inr lt) = second_fails (leb 1 count) (leb count 4096) (le_fails count 4096 lt)
 
 right_effects : (count : ℕ) → 1 ≤ count → count ≤ 4096 → (leb 1 count && leb count 4096) ≡ true
 right_effects count some few = rw (le-leb 1 count some, le-leb count 4096 few) refl

@@ -9,7 +9,8 @@ use Rattle.std.proofs.lemmas.Slice.Eq.{bytes_eq-Decides}
 use Rattle.byte_fields.specs.Field.{Reader, digits, ruled, limited, number_at, tagged_at, EachFits}
 use Rattle.byte_fields.specs.Cuts.{start_of, IsCut}
 use Rattle.byte_fields.proofs.Codec.{u32_codec, u64_codec, span_codec, ruled_codec, stands_first, stands_second}
-use Rattle.byte_fields.proofs.Cutting.{sum_more, sum_both, then_cut, span_cut, ruled_cut, cut_for, u8_cut, u32_cut, u64_cut, two_cut, three_cut, tagged_cut, each_cut, counted_cut}
+use Rattle.byte_fields.proofs.Facts.{sum_more}
+use Rattle.byte_fields.proofs.Cutting.{sum_both, then_cut, span_cut, ruled_cut, cut_for, u8_cut, u32_cut, u64_cut, two_cut, three_cut, tagged_cut, each_cut, counted_cut}
 use Rattle.file_paths.specs.Path.{is_same_path}
 use Rattle.vol_tree.specs.declared.node.Base.{Base}
 use Rattle.vol_tree.specs.Tree.{Volume, IsTree, apply}

@@ -5,7 +5,7 @@ use Rattle.std.specs.List.{flat_map}
 use Rattle.std.proofs.lemmas.List.Concat.{flat_map-cons}
 use Rattle.byte_fields.specs.Field.{digits}
 use Rattle.vol_tree.specs.Spelling.{rows}
-use Rattle.file_paths.proofs.Sizes.{four_digits, eight_digits}
+use Rattle.byte_fields.proofs.Facts.{four_bytes, eight_bytes}
 use Rattle.vol_tree.proofs.Sizes.{rows_size}
 use Rattle.mod_log.specs.Log.{Log, entry, IsLog}
 use Rattle.store_image.specs.declared.image.ClientImage.{ClientImage}
@@ -21,8 +21,8 @@ log_size l is =
       length-append (digits w64 l.acked) (rows l.base ++ entries l.pending),
       length-append (rows l.base) (entries l.pending),
       length-append (digits w32 (length l.pending)) (flat_map entry l.pending),
-      eight_digits l.acked,
-      four_digits (length l.pending),
+      eight_bytes l.acked,
+      four_bytes (length l.pending),
       rows_size l.base is.base_is,
       is.small,
     )
@@ -32,7 +32,7 @@ client_size image fits = omega (arith, log_size image.log fits.log)
 
 pub numbers_size : (last : List ℕ) → length (numbers last) ≡ 8 * length last
 numbers_size [] = refl
-numbers_size (n ∷ last) = omega (arith, ap length (flat_map-cons (digits w64) n last), length-append (digits w64 n) (numbers last), eight_digits n, numbers_size last)
+numbers_size (n ∷ last) = omega (arith, ap length (flat_map-cons (digits w64) n last), length-append (digits w64 n) (numbers last), eight_bytes n, numbers_size last)
 
 pub server_size : (image : ServerImage) → ServerFits image → length (server image) ≤ MAX_SERVER_IMAGE
 server_size image fits = omega (arith, length-append (numbers image.last) (rows image.tree), numbers_size image.last, fits.count, rows_size image.tree fits.tree)

@@ -8,10 +8,10 @@ use Rattle.std.specs.declared.cmp.Ordering.TheVariants.{Less}
 use Rattle.std.proofs.lemmas.Bool.{le-leb, eq-eqb, ne_eqb}
 use Rattle.std.proofs.lemmas.List.{append-nil}
 use Rattle.std.proofs.lemmas.List.Sums.{sum_by-cons}
-use Rattle.byte_fields.specs.Field.{digits, ruled, mapped, none, one, two, number_at, span_at, each_at}
-use Rattle.byte_fields.specs.Broken.{IsRefused, passed, EachIsRead}
+use Rattle.byte_fields.specs.Field.{digits, ruled, mapped, none, one, two, number_at, span_at, each_at, passed}
+use Rattle.byte_fields.specs.Broken.{IsRefused, EachIsRead}
 use Rattle.byte_fields.proofs.Codec.{u16_codec, u32_codec, u64_codec, span_codec}
-use Rattle.byte_fields.proofs.Breaking.{read_again, refused_there, rule_refused, meaning_refused, ruled_refused, first_refused, later_refused, tagged_refused, kind_refused, above, second_fails, count_refused, counted_refused, items_refused, each_read}
+use Rattle.byte_fields.proofs.Breaking.{read_again, refused_there, rule_refused, meaning_refused, ruled_refused, first_refused, later_refused, tagged_refused, kind_refused, second_fails, count_refused, counted_refused, items_refused, each_read}
 use Rattle.vol_tree.specs.declared.node.Effect.{Effect}
 use Rattle.vol_tree.specs.declared.node.Effect.TheVariants.{Make, Put, Remove, Move}
 use Rattle.vol_tree.specs.declared.node.Base.{Base}
@@ -30,7 +30,7 @@ use Rattle.tree_laws.specs.Broken.{BrokenEffects, BrokenEffectLists, BrokenBases
 use Rattle.file_paths.proofs.Parts.{path_codec, length_refused}
 use Rattle.tree_laws.proofs.Parts.{effect_codec, rooms_again, first_base_fits, first_base_codec, path_part, version_part, NextFits, next_row_codec, rows_again}
 use Rattle.file_paths.proofs.Order.{tied_path, is_less}
-use Rattle.file_paths.proofs.Sizes.{eight_digits}
+use Rattle.byte_fields.proofs.Facts.{le_fails, eight_bytes}
 
 large_refused : (room size : ℕ) → size < 2 ^ 32 → (8388608 < size) ⊎ (room < size) → IsRefused (content_at (min 8388608 room)) (digits w32 size) 0
 large_refused room size small large = length_refused (min 8388608 room) size (elim large [ inl h ↦ omega arith | inr h ↦ omega arith ]) small
@@ -97,7 +97,7 @@ room_left room (e ∷ es) = room_left (room - content_size e) es ∙ omega (arit
 
 wrong_count : (count most : ℕ) → (count ≡ 0) ⊎ (most < count) → (leb 1 count && leb count most) ≡ false
 wrong_count count most (inl e) = rw e refl
-wrong_count count most (inr lt) = second_fails (leb 1 count) (leb count most) (above count most lt)
+wrong_count count most (inr lt) = second_fails (leb 1 count) (leb count most) (le_fails count most lt)
 
 right_count : (count most before : ℕ) → before < count → count ≤ most → (leb 1 count && leb count most) ≡ true
 right_count count most before some few = rw (le-leb 1 count (omega arith), le-leb count most few) refl
@@ -242,7 +242,7 @@ file_refused room size small large =
 node_there : (before : Volume) (p : FilePath) (version kind : ℕ) → IsNext before p version → kind < 2 ^ 8 → (2 < kind) ⊎ ((is_folder before (folder_of p) ≡ false) × (1 ≤ kind))
     → IsRefused (next_row_at before) (path p ++ (digits w64 version ++ kind ∷ [])) (length (path p) + 8)
 node_there before p version kind next byte none =
-    refused_there (next_row_at before) (path p ++ (digits w64 version ++ kind ∷ [])) (length (path p) + (length (digits w64 version) + 0)) (length (path p) + 8) (omega (arith, eight_digits version))
+    refused_there (next_row_at before) (path p ++ (digits w64 version ++ kind ∷ [])) (length (path p) + (length (digits w64 version) + 0)) (length (path p) + 8) (omega (arith, eight_bytes version))
     (node_refused before p version (kind ∷ []) 0 next (node_kind_refused (is_folder before (folder_of p)) (room_beside before) kind byte none))
 
 pub broken_rows : BrokenRows
@@ -259,7 +259,7 @@ broken_rows = record {
   kind_is_none = λ before p version kind next large byte. node_there before p version kind next byte (inl large);
   parent_is_no_folder = λ before p version kind next orphan some byte. node_there before p version kind next byte (inr (orphan, some));
   content_is_large = λ before p version size next folder tree small large.
-      refused_there (next_row_at before) (path p ++ (digits w64 version ++ (2 ∷ digits w32 size))) (length (path p) + (length (digits w64 version) + (1 + 0))) (length (path p) + 9) (omega (arith, eight_digits version))
+      refused_there (next_row_at before) (path p ++ (digits w64 version ++ (2 ∷ digits w32 size))) (length (path p) + (length (digits w64 version) + (1 + 0))) (length (path p) + 9) (omega (arith, eight_bytes version))
       (node_refused before p version (2 ∷ digits w32 size) (1 + 0) next
       (subst (λ (in_folder : Bool). IsRefused (standing_at in_folder (room_beside before)) (2 ∷ digits w32 size) (1 + 0)) (sym folder) (file_refused (room_beside before) size small (past before size tree large))));
 }
@@ -271,7 +271,7 @@ broken_rows = record {
 pub broken_row_lists : BrokenRowLists
 unfolding rows_at
 broken_row_lists = record {
-  count_is_large = λ count large small. count_refused (λ n. leb n 16384) (λ n. each_at next_row_at with_next n []) count small (above count 16384 large);
+  count_is_large = λ count large small. count_refused (λ n. leb n 16384) (λ n. each_at next_row_at with_next n []) count small (le_fails count 16384 large);
   row_is_refused = λ before count text offset tree some few refused.
       counted_refused (λ n. leb n 16384) (λ n. each_at next_row_at with_next n []) count (omega arith) (le-leb count 16384 few) (flat_map row before ++ text) (length (flat_map row before) + offset)
       (items_refused next_row_at with_next row [] before count text offset (each_read next_row_at with_next row NextFits next_row_codec [] before (rows_again [] before tree)) some

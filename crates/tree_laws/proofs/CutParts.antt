@@ -8,7 +8,8 @@ use Rattle.byte_fields.specs.Field.{ruled, number_at, digits}
 use Rattle.byte_fields.specs.Codec.{Stands}
 use Rattle.byte_fields.specs.Cuts.{start_of, IsCut}
 use Rattle.byte_fields.proofs.Codec.{u16_codec, u32_codec, ruled_codec, stands_second}
-use Rattle.byte_fields.proofs.Cutting.{sum_more, sum_both, span_cut, u16_cut, u32_cut, u64_cut, ruled_cut, mapped_cut, cut_for, one_cut, two_cut, three_cut, tagged_cut, each_cut, counted_cut}
+use Rattle.byte_fields.proofs.Facts.{sum_more}
+use Rattle.byte_fields.proofs.Cutting.{sum_both, span_cut, u16_cut, u32_cut, u64_cut, ruled_cut, mapped_cut, cut_for, one_cut, two_cut, three_cut, tagged_cut, each_cut, counted_cut}
 use Rattle.vol_tree.specs.declared.node.Effect.{Effect}
 use Rattle.vol_tree.specs.declared.node.Effect.TheVariants.{Make, Put, Remove, Move}
 use Rattle.vol_tree.specs.declared.node.Base.{Base}

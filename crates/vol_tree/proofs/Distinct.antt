@@ -8,8 +8,8 @@ use Rattle.file_paths.specs.Path.{FilePath, is_same_path}
 use Rattle.vol_tree.specs.Effects.{distinct}
 use Rattle.vol_tree.specs.Behind.{IsIn, NoneTwice}
 use Rattle.vol_tree.specs.Inside.{add_new}
-use Rattle.file_paths.proofs.Order.{same_place}
-use Rattle.vol_tree.proofs.Behind.{is_same_path-eq, same_names}
+use Rattle.file_paths.proofs.Order.{same_place, tied_path}
+use Rattle.vol_tree.proofs.Behind.{same_names}
 
 -- ---- tests of paths
 
@@ -30,7 +30,7 @@ same_test p q = by (pointwise bytes_eq p q) (is_same_path p q) refl refl
     by true true e g = refl
     by false false e g = refl
     by true false e g = absurd (false_is_apart p q g (same_names p q e))
-    by false true e g = absurd (true≢false (sym (equal (is_same_path-eq p q g)) ∙ e))
+    by false true e g = absurd (true≢false (sym (equal (tied_path p q g)) ∙ e))
 
 -- ---- one path less
 
@@ -80,7 +80,7 @@ new_is_apart : (known : List FilePath) (path other : FilePath) → is_new known 
 new_is_apart known path other old new = by (is_same_path other path) refl
   where
     by : (b : Bool) → is_same_path other path ≡ b → not b ≡ true
-    by true e = absurd (true≢false (sym new ∙ ap (is_new known) (is_same_path-eq other path e) ∙ old))
+    by true e = absurd (true≢false (sym new ∙ ap (is_new known) (tied_path other path e) ∙ old))
     by false e = refl
 
 new_behind : (known : List FilePath) (path other : FilePath) → is_new (known ++ path ∷ []) other ≡ (is_new known other && not (is_same_path other path))
@@ -162,7 +162,7 @@ distinct_in (p ∷ paths) path (inl same) = inl same
 distinct_in (p ∷ paths) path (inr among) = by (is_same_path path p) refl (distinct_in paths path among)
   where
     by : (b : Bool) → is_same_path path p ≡ b → IsIn path (distinct paths) → (path ≡ p) ⊎ IsIn path (but p (distinct paths))
-    by true e among = inl (is_same_path-eq path p e)
+    by true e among = inl (tied_path path p e)
     by false e among = inr (filter_in (λ other. not (is_same_path other p)) (distinct paths) path among (ap not e))
 
 filter_append : (f : FilePath → Bool) (xs ys : List FilePath) → filter f (xs ++ ys) ≡ filter f xs ++ filter f ys

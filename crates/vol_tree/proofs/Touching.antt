@@ -9,12 +9,12 @@ use Rattle.vol_tree.specs.Tree.{Volume, IsTree, version_at, node_at, with_conten
 use Rattle.vol_tree.specs.Behind.{IsIn}
 use Rattle.vol_tree.proofs.Trees.{can_move, moved_apart, undone_change, node_touched, node_untouched}
 use Rattle.vol_tree.proofs.Behind.{applied-changed, version-touched, version-apart, same_volume}
-use Rattle.vol_tree.proofs.Distinct.{is_same_path-refl}
+use Rattle.file_paths.proofs.Order.{own_path}
 
 -- ---- one touched path
 
 version_here : (v : Volume) (path : FilePath) (now : Option Node) → version_at (touched v path now) path ≡ version_at v path + 1
-version_here v path now = version-touched v path now path ∙ ap (λ b. cond b (version_at v path + 1) (version_at v path)) (is_same_path-refl path)
+version_here v path now = version-touched v path now path ∙ ap (λ b. cond b (version_at v path + 1) (version_at v path)) (own_path path)
 
 -- the paths of a move that applies are two
 pub two_paths : (rows new : Volume) (p q : FilePath) → apply (Move p q) rows ≡ Ok new → p ≡ q → ⊥

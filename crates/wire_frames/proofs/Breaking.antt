@@ -9,7 +9,8 @@ use Rattle.byte_fields.specs.Field.{digits, ruled, none, one, two, number_at}
 use Rattle.byte_fields.specs.Codec.{Stands}
 use Rattle.byte_fields.specs.Broken.{IsRefused}
 use Rattle.byte_fields.proofs.Codec.{u8_codec, u32_codec, u64_codec, ruled_codec}
-use Rattle.byte_fields.proofs.Breaking.{read_again, refused_there, refused_text, refused_before, rule_refused, first_refused, later_refused, tagged_refused, kind_refused, above, second_fails, four_bytes}
+use Rattle.byte_fields.proofs.Breaking.{read_again, refused_there, refused_text, refused_before, rule_refused, first_refused, later_refused, tagged_refused, kind_refused, second_fails}
+use Rattle.byte_fields.proofs.Facts.{le_fails, four_bytes}
 use Rattle.vol_tree.specs.declared.node.Effect.{Effect}
 use Rattle.vol_tree.specs.declared.node.TreeError.TheVariants.{NoParent, Exists, Missing, IsFolder, NotEmpty, VersionTop}
 use Rattle.file_paths.specs.Path.{FilePath, IsPath}
@@ -113,7 +114,7 @@ module _ (c n : ℕ) where
   unfolding gap_at
   last_refused last small near =
       first_refused (ruled (λ x. leb (x + 2) n) (number_at w64)) (λ x. none (messages.Gap c n x)) (digits w64 last) 0
-      (rule_refused (number_at w64) (λ x. leb (x + 2) n) (digits w64 last) last (read_again u64_codec last small) (above (last + 2) n (omega arith)))
+      (rule_refused (number_at w64) (λ x. leb (x + 2) n) (digits w64 last) last (read_again u64_codec last small) (le_fails (last + 2) n (omega arith)))
 
   rows_refused : (last : ℕ) (text : List ℕ) (offset : ℕ) → last < 2 ^ 64 → IsRefused rows_at text offset → IsRefused (snapshot_at c n) (digits w64 last ++ text) (length (digits w64 last) + offset)
   unfolding snapshot_at
@@ -123,7 +124,7 @@ module _ (c n : ℕ) where
 
 wrong_code : (code : ℕ) → (code ≡ 0) ⊎ (7 < code) → (leb 1 code && leb code 7) ≡ false
 wrong_code code (inl e) = rw e refl
-wrong_code code (inr lt) = second_fails (leb 1 code) (leb code 7) (above code 7 lt)
+wrong_code code (inr lt) = second_fails (leb 1 code) (leb code 7) (le_fails code 7 lt)
 
 code_refused : (code : ℕ) → code < 2 ^ 8 → (code ≡ 0) ⊎ (7 < code) → IsRefused malformed_at (code ∷ []) 0
 unfolding malformed_at

@@ -9,7 +9,8 @@ use Rattle.byte_fields.specs.Field.{digits}
 use Rattle.byte_fields.specs.Codec.{Stands}
 use Rattle.byte_fields.specs.Cuts.{start_of, IsCut}
 use Rattle.byte_fields.proofs.Codec.{u32_codec, u64_codec, stands_first, stands_second}
-use Rattle.byte_fields.proofs.Cutting.{sum_more, sum_both, u8_cut, u32_cut, u64_cut, ruled_cut, one_cut, two_cut, three_cut, tagged_cut, then_cut}
+use Rattle.byte_fields.proofs.Facts.{sum_more}
+use Rattle.byte_fields.proofs.Cutting.{sum_both, u8_cut, u32_cut, u64_cut, ruled_cut, one_cut, two_cut, three_cut, tagged_cut, then_cut}
 use Rattle.vol_tree.specs.declared.node.TreeError.{TreeError}
 use Rattle.vol_tree.specs.declared.node.TreeError.TheVariants.{RootFixed, NoParent, Exists, Missing, IsFolder, NotEmpty, RowsFull, FileTooLarge, TreeFull, VersionTop, Memory}
 use Rattle.file_paths.specs.Spelling.{path}
