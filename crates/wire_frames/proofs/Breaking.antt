@@ -1,5 +1,5 @@
 -- The laws of frames that break a rule.
-use Rattle.std.proofs.Common.{◌≡◌, ◌≢◌, ◌⊎◌, ℕ, ◌+◌, ◌^◌, ◌<◌, ◌≤◌, Bool, true, false, ◌&&◌, ◌||◌, not, leb, eqb, List, [], ◌∷◌, ◌++◌, length, take, drop, get_or, Ok, Err, inl, inr, refl, sym, ap, subst, ◌∙◌, arith, lit<, length-append, append_assoc}
+use Rattle.std.proofs.Common.{◌≡◌, ◌≢◌, ◌⊎◌, ℕ, ◌+◌, ◌^◌, ◌<◌, ◌≤◌, true, false, ◌&&◌, not, leb, eqb, List, [], ◌∷◌, ◌++◌, length, drop, get_or, Ok, Err, inl, inr, refl, sym, ap, ◌∙◌, arith, lit<, length-append}
 use Rattle.std.specs.Int.{w8, w32, w64}
 use Rattle.std.proofs.lemmas.Bool.{le-leb, eq-eqb, ne_eqb}
 use Rattle.std.proofs.lemmas.List.{append-nil, drop_at}
@@ -8,12 +8,11 @@ use Rattle.std.proofs.lemmas.Nat.{from_be_bytes-to_be_bytes_4}
 use Rattle.byte_fields.specs.Field.{digits, ruled, none, one, two, number_at}
 use Rattle.byte_fields.specs.Codec.{Stands}
 use Rattle.byte_fields.specs.Broken.{IsRefused}
-use Rattle.byte_fields.proofs.Codec.{u8_codec, u32_codec, u64_codec, ruled_codec}
-use Rattle.byte_fields.proofs.Breaking.{read_again, refused_there, refused_text, refused_before, rule_refused, first_refused, later_refused, tagged_refused, kind_refused, second_fails}
-use Rattle.byte_fields.proofs.Facts.{le_fails, four_bytes}
-use Rattle.vol_tree.specs.declared.node.Effect.{Effect}
-use Rattle.vol_tree.specs.declared.node.TreeError.TheVariants.{NoParent, Exists, Missing, IsFolder, NotEmpty, VersionTop}
-use Rattle.file_paths.specs.Path.{FilePath, IsPath}
+use Rattle.byte_fields.proofs.Codec.{u8_codec, u32_codec, u64_codec}
+use Rattle.byte_fields.proofs.Breaking.{read_again, refused_before, rule_refused, first_refused, later_refused, tagged_refused, kind_refused, above, second_fails, four_bytes}
+use Rattle.vol_tree.specs.declared.tree.Effect.{Effect}
+use Rattle.vol_tree.specs.declared.tree.TreeError.TheVariants.{NoParent, Exists, Missing, IsFolder, NotEmpty, VersionTop}
+use Rattle.vol_tree.specs.Path.{FilePath, IsPath}
 use Rattle.vol_tree.specs.Effects.{touched_all, distinct}
 use Rattle.file_paths.specs.Spelling.{path}
 use Rattle.vol_tree.specs.Spelling.{effects, EffectsFit}
@@ -27,10 +26,9 @@ use Rattle.wire_frames.specs.declared.message.Message.{Message}
 use Rattle.wire_frames.specs.declared.message.Message.TheVariants as messages
 use Rattle.wire_frames.specs.declared.message.Kind.{Kind}
 use Rattle.wire_frames.specs.declared.message.Kind.TheVariants.{Store, Stale, Unfit, Gap, Snapshot, Full, Malformed}
-use Rattle.wire_frames.specs.declared.message.FrameError.{FrameError}
 use Rattle.wire_frames.specs.declared.message.FrameError.TheVariants.{BadField, Trailing}
 use Rattle.wire_frames.specs.FaultReading.{unfit_kinds, full_kinds, unfit_fault_at, full_fault_at}
-use Rattle.wire_frames.specs.Frame.{frame_version, kind, client_of, number_of, code_of, client_rule, number_rule, offset_rule, body, frame, IsValid}
+use Rattle.wire_frames.specs.Frame.{frame_version, kind, client_of, number_of, code_of, client_rule, number_rule, offset_rule, body, frame}
 use Rattle.wire_frames.specs.Reading.{store_at, stale_at, unfit_at, full_at, snapshot_at, gap_at, malformed_at, body_at, message_at, is_sized, frame_of}
 use Rattle.wire_frames.specs.Broken.{framed, IsRefusedAt, BrokenNumbers, BrokenBodies, BrokenFaults, LeftBytes}
 use Rattle.wire_frames.proofs.Messages.{tail, number_codec, refusal, message_again}
