@@ -181,3 +181,21 @@ fn refuses_the_first_faulty_field(rt: HostRuntime) -> Result<(), Fail> {
     );
     Ok(())
 }
+
+#[test]
+fn refusals_say_what_was_counted(rt: HostRuntime) -> Result<(), Fail> {
+    let alloc = rt.alloc();
+    let large = LogError::EntryTooLarge {
+        effects: 4097,
+        bytes: 6,
+    };
+    let full = LogError::LogFull {
+        entries: 1024,
+        bytes: 34850,
+    };
+    let text = large.to_string(alloc)?;
+    assert_eq!(rt; text.as_str(), "an entry of 4097 effects with 6 bytes");
+    let text = full.to_string(alloc)?;
+    assert_eq!(rt; text.as_str(), "1024 entries and 34850 bytes in the log");
+    Ok(())
+}
