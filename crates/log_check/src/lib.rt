@@ -1,7 +1,5 @@
-//! Tests of the log at its limits, of the bytes of an entry, and of sketched effects.
+//! Tests of the log at its limits, and of the bytes of an entry.
 #![tactic(auto)]
 
-#[cfg(test)]
-mod sketches;
 #[cfg(test)]
 mod tests;

@@ -182,26 +182,20 @@ fn refuses_the_first_faulty_field(rt: HostRuntime) -> Result<(), Fail> {
     Ok(())
 }
 
-/// The paths that a move from "a" to "b" touches.
-fn moved(alloc: Global) -> Result<Paths, Fail> {
-    let mut effects = Effects::new(alloc);
-    effects.push(Effect::Move(Path::read(alloc, b"a")?, Path::read(alloc, b"b")?))?;
-    let touched = effects.touched();
-    drop(effects);
-    Ok(touched?)
-}
-
 #[test]
-fn copies_the_touched_paths(rt: HostRuntime) -> Result<(), Fail> {
+fn refusals_say_what_was_counted(rt: HostRuntime) -> Result<(), Fail> {
     let alloc = rt.alloc();
-    let touched = moved(alloc)?;
-    let copied = touched.copy();
-    drop(touched);
-    let Ok(copied) = copied else {
-        return Err(Fail::from("want of memory"));
+    let large = LogError::EntryTooLarge {
+        effects: 4097,
+        bytes: 6,
     };
-    assert_eq!(rt; copied.len(), 2);
-    assert!(rt; matches!(copied.get(0), Some(path) if path.text()?.bytes() == b"a".as_slice()));
-    assert!(rt; matches!(copied.get(1), Some(path) if path.text()?.bytes() == b"b".as_slice()));
+    let full = LogError::LogFull {
+        entries: 1024,
+        bytes: 34850,
+    };
+    let text = large.to_string(alloc)?;
+    assert_eq!(rt; text.as_str(), "an entry of 4097 effects with 6 bytes");
+    let text = full.to_string(alloc)?;
+    assert_eq!(rt; text.as_str(), "1024 entries and 34850 bytes in the log");
     Ok(())
 }

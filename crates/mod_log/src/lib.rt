@@ -19,4 +19,6 @@ pub use spelling_laws::{
 };
 
 #[cfg(test)]
+mod sketch_tests;
+#[cfg(test)]
 mod tests;
