@@ -1,5 +1,5 @@
 -- What was appended before a call failed: a front of the spelling.
-use Rattle.std.proofs.Common.{◌≡◌, ℕ, suc, ◌<◌, List, [], ◌∷◌, ◌++◌, length, take, drop, get_or, refl, sym, ap, subst, ◌∙◌, append_assoc, Result, Ok, Err, OnErr}
+use Rattle.std.proofs.Common.{◌≡◌, ℕ, zero, suc, ◌<◌, arith, List, [], ◌∷◌, ◌++◌, length, take, drop, get_or, refl, sym, ap, subst, ◌∙◌, append_assoc, Result, Ok, Err, OnErr}
 use Rattle.std.specs.List.{flat_map}
 use Rattle.std.proofs.lemmas.List.{append-nil, take-append-drop}
 use Rattle.std.proofs.Math.Seq.{drop-cons}
@@ -39,6 +39,12 @@ front_before old new a b whole = front_first old new a b (front_all old new a wh
 pub front_same : (old new a b : List ℕ) → a ≡ b → IsFront old new a → IsFront old new b
 front_same old new a b e f = subst (IsFront old new) e f
 
+-- within a list the default does not matter
+read_within : {A : Type 0} (xs : List A) (i : ℕ) (d e : A) → i < length xs → get_or xs i d ≡ get_or xs i e
+read_within [] i d e lt = absurd (omega arith)
+read_within (x ∷ xs) zero d e lt = refl
+read_within (x ∷ xs) (suc i) d e lt = let less : i < length xs = omega arith in read_within xs i d e less
+
 module _ {A : Type 0} (spelling : A → List ℕ) where
   -- a front of the first item
   pub front_of_item : (old new : List ℕ) (x : A) (xs : List A) → IsFront old new (spelling x) → IsFront old new (flat_map spelling (x ∷ xs))
@@ -54,6 +60,10 @@ module _ {A : Type 0} (spelling : A → List ℕ) where
   front_at old middle new xs i x lt here whole f =
       let parts : take i xs ++ x ∷ drop (suc i) xs ≡ xs = ap (λ (y : A). take i xs ++ y ∷ drop (suc i) xs) here ∙ ap (λ (ys : List A). take i xs ++ ys) (sym (drop-cons xs i x lt)) ∙ take-append-drop i xs in
       front_same old new _ _ (ap (flat_map spelling) parts) (front_among old middle new (take i xs) x (drop (suc i) xs) whole f)
+
+  -- the same, where the item is read with some default
+  pub front_index : (old middle new : List ℕ) (xs : List A) (i : ℕ) (d : A) → i < length xs → middle ≡ old ++ flat_map spelling (take i xs) → IsFront middle new (spelling (get_or xs i d)) → IsFront old new (flat_map spelling xs)
+  front_index old middle new xs i d lt whole f = front_at old middle new xs i (get_or xs i d) lt (read_within xs i d (get_or xs i d) lt) whole f
 
 -- what is said of an error holds of any result
 pub on_error : {A E P : Type 0} (r : Result A E) → P → OnErr r P

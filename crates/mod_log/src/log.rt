@@ -3,6 +3,7 @@ ghost use Rattle.std.specs.Prelude.{◌≡◌, ◌≢◌, ℕ, ◌+◌, ◌<◌,
 ghost use Rattle.std.specs.List.{sum_by};
 ghost use Rattle.std.specs.Option.{option_copied};
 ghost use Rattle.byte_fields.specs.Numbers.{as_u64};
+ghost use Rattle.byte_fields.specs.Field.{IsFront};
 ghost use Rattle.vol_tree.specs.Effects.{base_of as bases_of, contents_size as contents_total};
 ghost use Rattle.vol_tree.specs.Spelling.{EffectsFit};
 ghost use Rattle.file_paths.specs.Refusals.{when, unless_refused};
@@ -87,9 +88,15 @@ impl TryCopy for Entry {
 
 impl Entry {
     /// Appends the spelling, which has no number: a byte 0, the effects and the base list.
+    ///
+    /// # Errors
+    ///
+    /// `AllocError` where memory runs out. A front of the spelling is then appended.
+    #[tactic(auto, using(byte_fields::proofs::Fronts::front_none, byte_fields::proofs::Fronts::front_first, byte_fields::proofs::Fronts::front_second, byte_fields::proofs::Fronts::front_before, byte_fields::proofs::Fronts::front_third, byte_fields::proofs::Fronts::front_behind_kind))]
     pub fn spell(value: &Entry, out: &mut Vec<u8>) -> Result<(), AllocError>
         requires { EffectsFit value.now.effects }
-        ensures { OnOk result (out.new.items ≡ out.old.items ++ spelled value.now) }
+        ensures ok { OnOk result (out.new.items ≡ out.old.items ++ spelled value.now) }
+        ensures err { OnErr result (IsFront out.old.items out.new.items (spelled value.now)) }
     {
         out.push(0)?;
         Effects::spell(&value.effects, out)?;

@@ -52,8 +52,6 @@ impl SketchEffect {
 #[derive(Debug, Drop)]
 pub struct SketchEffects {
     items: List<SketchEffect>,
-    /// Where the touched paths take their memory.
-    alloc: Global,
 }
 
 impl Model for SketchEffects {
@@ -72,7 +70,6 @@ impl SketchEffects {
     {
         SketchEffects {
             items: List::new(alloc),
-            alloc,
         }
     }
 
@@ -81,10 +78,8 @@ impl SketchEffects {
         requires { length items.items < 2 ^ 32 }
         ensures { result ≡ items.items }
     {
-        let alloc = *items.allocator();
         SketchEffects {
             items: List::from_vec(items),
-            alloc,
         }
     }
 
@@ -131,17 +126,14 @@ impl SketchEffects {
         ensures { IfOk result (λ copied. copied ≡ self.now) }
     {
         let items = self.items.copy()?;
-        Ok(SketchEffects {
-            items,
-            alloc: self.alloc,
-        })
+        Ok(SketchEffects { items })
     }
 
     /// The paths that they touch, each once, in the order of their first touch.
     pub fn touched(&self) -> Result<Paths, AllocError>
         ensures { IfOk result (λ paths. paths ≡ distinct (sketches_touch self.now)) }
     {
-        let mut paths = Paths::new(self.alloc);
+        let mut paths = Paths::new(self.items.allocator());
         for effect in self.items.as_slice() {
             add_touched(&mut paths, effect)?;
         }

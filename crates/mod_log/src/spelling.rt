@@ -1,7 +1,7 @@
 //! Spelling sketched effects in bytes, and taking them from the bytes.
 
-ghost use Rattle.std.specs.Prelude.{◌≡◌, ◌++◌, ◌<◌, ◌^◌, length, OnOk};
-ghost use Rattle.byte_fields.specs.Field.{Gives, one, two};
+ghost use Rattle.std.specs.Prelude.{◌≡◌, ◌++◌, ◌<◌, ◌^◌, length, OnOk, OnErr};
+ghost use Rattle.byte_fields.specs.Field.{Gives, IsFront, one, two};
 ghost use Rattle.file_paths.specs.Reading.{path_at};
 ghost use Rattle.mod_log.specs.Spelling.{sketch_effect, sketch_effects};
 ghost use Rattle.mod_log.specs.Reading.{sketch_put_at, sketch_effect_at, sketch_room_after, sketch_effects_within};
@@ -15,8 +15,14 @@ use vol_tree::Path;
 
 impl SketchEffect {
     /// Appends the spelling: a byte for the kind, and the paths and the sketch.
+    ///
+    /// # Errors
+    ///
+    /// `AllocError` where memory runs out. A front of the spelling is then appended.
+    #[tactic(auto, using(byte_fields::proofs::Fronts::front_none, byte_fields::proofs::Fronts::front_all, byte_fields::proofs::Fronts::front_first, byte_fields::proofs::Fronts::front_before, byte_fields::proofs::Fronts::front_second, byte_fields::proofs::Fronts::front_behind_kind))]
     pub fn spell(value: &SketchEffect, out: &mut Vec<u8>) -> Result<(), AllocError>
-        ensures { OnOk result (out.new.items ≡ out.old.items ++ sketch_effect value.now) }
+        ensures ok { OnOk result (out.new.items ≡ out.old.items ++ sketch_effect value.now) }
+        ensures err { OnErr result (IsFront out.old.items out.new.items (sketch_effect value.now)) }
     {
         match value {
             SketchEffect::Make(path) => {
@@ -123,20 +129,24 @@ impl Item<u32> for SketchEffect {
         alloc: Global,
         bytes: &[u8],
         at: usize,
-        room: &u32,
+        room: &mut u32,
     ) -> Result<(SketchEffect, usize), TakeError> {
-        SketchEffect::take_within(alloc, bytes, at, *room)
-    }
-
-    fn passed(&self, room: u32) -> u32 {
-        room.saturating_sub(self.content_size())
+        let (effect, next) = SketchEffect::take_within(alloc, bytes, at, *room)?;
+        *room = room.saturating_sub(effect.content_size());
+        Ok((effect, next))
     }
 }
 
 impl SketchEffects {
     /// Appends the spelling: four bytes for the number of sketched effects, and the sketched effects.
+    ///
+    /// # Errors
+    ///
+    /// `AllocError` where memory runs out. A front of the spelling is then appended.
+    #[tactic(auto, using(byte_fields::proofs::Fronts::front_none, byte_fields::proofs::Fronts::front_all, byte_fields::proofs::Fronts::front_first, byte_fields::proofs::Fronts::front_before, byte_fields::proofs::Fronts::front_second, byte_fields::proofs::Fronts::front_behind_kind))]
     pub fn spell(value: &SketchEffects, out: &mut Vec<u8>) -> Result<(), AllocError>
-        ensures { OnOk result (out.new.items ≡ out.old.items ++ sketch_effects value.now) }
+        ensures ok { OnOk result (out.new.items ≡ out.old.items ++ sketch_effects value.now) }
+        ensures err { OnErr result (IsFront out.old.items out.new.items (sketch_effects value.now)) }
     {
         let items = value.as_slice();
         put_u32(out, value.len() as u32)?;
@@ -165,7 +175,8 @@ impl SketchEffects {
         if count < 1 || count > most {
             return Err(TakeError::At(at));
         }
-        let (items, next) = take_each::<u32, SketchEffect>(alloc, bytes, start, count, room)?;
+        let mut left = room;
+        let (items, next) = take_each::<u32, SketchEffect>(alloc, bytes, start, count, &mut left)?;
         Ok((SketchEffects::from_vec(items), next))
     }
 }

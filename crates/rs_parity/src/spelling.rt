@@ -1,8 +1,8 @@
 //! Spelling a sketch in bytes, and taking it from them.
 
-ghost use Rattle.std.specs.Prelude.{◌≡◌, ◌++◌, List, ℕ, IfOk, OnOk};
+ghost use Rattle.std.specs.Prelude.{◌≡◌, ◌++◌, List, ℕ, IfOk, OnOk, OnErr};
 ghost use Rattle.std.specs.List.{flat_map};
-ghost use Rattle.byte_fields.specs.Field.{Gives};
+ghost use Rattle.byte_fields.specs.Field.{Gives, IsFront};
 ghost use Rattle.rs_parity.specs.Spelling.{parity_spelling, sketch_spelling, SketchFits, parity_at, parities_at, sketch_at};
 
 use crate::encoder::PARITY;
@@ -16,13 +16,19 @@ const MAX_LEN: u32 = 8_388_608;
 
 impl Sketch {
     /// Appends the sketch's bytes: four of the length, the print, and two for each symbol of each parity, the high byte first.
-    #[tactic(auto, unfolding(crate::specs::Spelling::sketch_spelling))]
+    ///
+    /// # Errors
+    ///
+    /// `AllocError` where memory runs out. A front of the spelling is then appended.
+    #[tactic(auto, unfolding(crate::specs::Spelling::sketch_spelling), using(byte_fields::proofs::Fronts::front_none, byte_fields::proofs::Fronts::front_before, byte_fields::proofs::Fronts::front_third))]
     pub fn spell(value: &Sketch, out: &mut Vec<u8>) -> Result<(), AllocError>
-        ensures { OnOk result (out.new.items ≡ out.old.items ++ sketch_spelling value.now) }
+        ensures ok { OnOk result (out.new.items ≡ out.old.items ++ sketch_spelling value.now) }
+        ensures err { OnErr result (IsFront out.old.items out.new.items (sketch_spelling value.now)) }
     {
         put_u32(out, value.len)?;
         out.extend_from_slice(&value.print)?;
-        put_parities(out, value.parities.as_slice())
+        put_parities(out, value.parities.as_slice())?;
+        Ok(())
     }
 
     /// The sketch at the place, and the place after it.
@@ -71,7 +77,8 @@ impl Sketch {
 /// Appends two bytes for each symbol.
 #[tactic(auto, unfolding(crate::specs::Spelling::parity_spelling))]
 fn put_parity(out: &mut Vec<u8>, parity: &[u16; PARITY]) -> Result<(), AllocError>
-    ensures { OnOk result (out.new.items ≡ out.old.items ++ parity_spelling parity.now) }
+    ensures ok { OnOk result (out.new.items ≡ out.old.items ++ parity_spelling parity.now) }
+    ensures err { OnErr result (IsFront out.old.items out.new.items (parity_spelling parity.now)) }
 {
     for symbol in parity {
         put_u16(out, *symbol)?;
@@ -81,7 +88,8 @@ fn put_parity(out: &mut Vec<u8>, parity: &[u16; PARITY]) -> Result<(), AllocErro
 
 /// Appends the bytes of each parity, in order.
 fn put_parities(out: &mut Vec<u8>, parities: &[[u16; PARITY]]) -> Result<(), AllocError>
-    ensures { OnOk result (out.new.items ≡ out.old.items ++ flat_map parity_spelling parities.now) }
+    ensures ok { OnOk result (out.new.items ≡ out.old.items ++ flat_map parity_spelling parities.now) }
+    ensures err { OnErr result (IsFront out.old.items out.new.items (flat_map parity_spelling parities.now)) }
 {
     for parity in parities {
         put_parity(out, parity)?;
