@@ -1,19 +1,19 @@
 -- The rows that were read are in order, and what room they leave.
-use Rattle.std.proofs.Common.{◌≡◌, ℕ, ◌+◌, ◌-◌, ◌<◌, Bool, true, false, ◌&&◌, not, leb, List, [], ◌∷◌, ◌++◌, length, Ok, refl, sym, ap, subst, ◌∙◌, arith, take, get_or}
+use Rattle.std.proofs.Common.{◌≡◌, ℕ, ◌+◌, ◌-◌, ◌<◌, Bool, true, false, ◌&&◌, not, leb, List, [], ◌∷◌, ◌++◌, length, Ok, refl, sym, ap, subst, ◌∙◌, arith, take, get_or, append_assoc}
 use Rattle.std.specs.Int.{w64}
 use Rattle.std.specs.List.{AllByRecursion, list_all}
-use Rattle.std.proofs.lemmas.List.{take_more, take_all}
+use Rattle.std.proofs.lemmas.List.{take_more, take_all, append-nil}
 use Rattle.std.specs.Cmp.{first_so, second_so}
 use Rattle.std.specs.Ordering.{is_lt}
 use Rattle.std.specs.declared.cmp.Ordering.{Ordering}
 use Rattle.std.specs.declared.cmp.Ordering.TheVariants.{Less}
-use Rattle.byte_fields.specs.Field.{ruled, number_at}
+use Rattle.byte_fields.specs.Field.{ruled, number_at, passed}
 use Rattle.byte_fields.proofs.Codec.{bind_ok, kept_ok, ok_is}
 use Rattle.file_paths.specs.Path.{FilePath, path_cmp, folder_of}
 use Rattle.vol_tree.specs.declared.node.Row.{Row}
 use Rattle.vol_tree.specs.Tree.{Volume, AreInOrder, is_root, is_folder, node_size}
 use Rattle.file_paths.specs.Reading.{path_at}
-use Rattle.vol_tree.specs.Reading.{may_stand, standing_at, room_beside, next_row_at}
+use Rattle.vol_tree.specs.Reading.{may_stand, standing_at, room_beside, next_row_at, with_next}
 use Rattle.file_paths.proofs.Order.{paths_total, same_place, is_less}
 use Rattle.vol_tree.proofs.Ordered.{order_join, size_append}
 
@@ -44,6 +44,11 @@ order_with_next before bytes at r next e order =
 -- what room one row more leaves
 pub room_with_next : (before : Volume) (r : Row) → room_beside (before ++ r ∷ []) ≡ room_beside before - node_size r.node
 room_with_next before r = omega (arith, size_append before (r ∷ []))
+
+-- the rows that were taken are those that were read
+pub rows_passed : (before rows : Volume) → passed with_next before rows ≡ before ++ rows
+rows_passed before [] = sym (append-nil before)
+rows_passed before (r ∷ rows) = rows_passed (before ++ r ∷ []) rows ∙ append_assoc before (r ∷ []) rows
 
 -- ---- a path above the last row's is above all
 

@@ -8,7 +8,8 @@ use Rattle.file_paths.specs.Path.{FilePath, path_cmp, is_same_path, folder_of}
 use Rattle.file_paths.specs.Limits.{max_file}
 use Rattle.vol_tree.specs.Limits.{max_rows, max_files}
 use Rattle.vol_tree.specs.declared.node.Row.{Row}
-use Rattle.vol_tree.specs.Tree.{Volume, row_at, rows_below, rows_above, is_root, is_folder, node_size, total_size, undone, CanUndo}
+use Rattle.vol_tree.specs.Reading.{room_beside}
+use Rattle.vol_tree.specs.Tree.{Volume, AreInOrder, row_at, rows_below, rows_above, is_root, is_folder, node_size, total_size, undone, CanUndo}
 
 -- whether it is the row of the path
 abbrev pub is_at : FilePath → Row → Bool
@@ -44,3 +45,8 @@ add_new known path = cond (list_any (pointwise bytes_eq path) known) known (know
 -- one more undo, of the step from the old rows to the new
 abbrev pub IsPushed : List (List Row) → List (List Row) → Volume → Volume → Type 0
 IsPushed old new before after = (undo : List Row) × (new ≡ old ++ undo ∷ []) × (undone undo after ≡ before) × CanUndo undo after
+
+-- the rows are in order, and leave so much room for contents
+pub record LeaveRoom (rows : Volume) (room : ℕ) : Type 0 where
+  pub in_order : AreInOrder rows
+  pub left : room ≡ room_beside rows

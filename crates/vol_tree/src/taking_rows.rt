@@ -9,9 +9,10 @@ use crate::limits::{MAX_FILES, MAX_ROWS};
 use crate::lists::Rows;
 use crate::node::{Node, Row, size_of};
 use crate::rows::{is_behind, is_folder_at};
-use byte_fields::{TakeError, u8_at, u32_at, u64_at};
+use byte_fields::{TakeError, Taken, take_all, u8_at, u32_at, u64_at};
 use file_paths::{Content, MAX_FILE, Path};
 use std::alloc::Global;
+use std::marker::Model;
 
 impl Rows {
     /// Takes a tree's rows at the place, and gives the place after them.
@@ -40,16 +41,55 @@ fn rows_from(
 ) -> Result<(Rows, usize), TakeError>
     ensures { Gives result (each_at next_row_at with_next count [] bytes.now start) }
 {
-    let mut rows = Rows::new(alloc);
-    let mut at = start;
-    let mut room = MAX_FILES;
-    for _ in 0..count {
-        let (row, next) = next_row_at(alloc, bytes, at, rows.as_slice(), room)?;
-        room = room.saturating_sub(size_of(&row.node) as usize);
-        rows.push(row)?;
-        at = next;
+    let mut taken = RowsTaken {
+        rows: Rows::new(alloc),
+        room: MAX_FILES,
+    };
+    let next = take_all::<Row, RowsTaken>(alloc, bytes, start, count, &mut taken)?;
+    Ok((taken.into_rows(), next))
+}
+
+/// The rows that were taken so far, and how many bytes of content may follow.
+#[derive(Drop)]
+struct RowsTaken {
+    rows: Rows,
+    room: usize,
+}
+
+impl Model for RowsTaken {
+    ghost use Rattle.std.specs.Prelude.{List};
+    ghost use Rattle.vol_tree.specs.declared.node.Row.{Row};
+    ghost use Rattle.vol_tree.specs.Inside.{LeaveRoom};
+
+    ghost Value = { List Row };
+
+    ghost view = { λ taken. taken.rows };
+
+    ghost invariant = { λ taken. LeaveRoom taken.rows taken.room };
+}
+
+impl RowsTaken {
+    /// The rows. It takes no memory.
+    fn into_rows(self) -> Rows
+        ensures { result ≡ self }
+    {
+        let RowsTaken { rows, room: _ } = self;
+        rows
     }
-    Ok((rows, at))
+}
+
+impl Taken<Row> for RowsTaken {
+    ghost item_at = { next_row_at };
+
+    ghost after = { with_next };
+
+    fn take_next(&mut self, alloc: Global, bytes: &[u8], at: usize) -> Result<usize, TakeError> {
+        let (row, next) = next_row_at(alloc, bytes, at, self.rows.as_slice(), self.room)?;
+        let size = size_of(&row.node) as usize;
+        self.rows.push(row)?;
+        self.room = self.room.saturating_sub(size);
+        Ok(next)
+    }
 }
 
 /// The row behind these, which leave so much room for contents.
