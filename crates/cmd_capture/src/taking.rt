@@ -142,13 +142,9 @@ impl Item<Argument> for Content {
         alloc: Global,
         bytes: &[u8],
         at: usize,
-        _state: &Argument,
+        _state: &mut Argument,
     ) -> Result<(Content, usize), TakeError> {
         text_at(alloc, bytes, at)
-    }
-
-    fn passed(&self, state: Argument) -> Argument {
-        state
     }
 }
 
@@ -161,13 +157,9 @@ impl Item<Input> for Path {
         alloc: Global,
         bytes: &[u8],
         at: usize,
-        _state: &Input,
+        _state: &mut Input,
     ) -> Result<(Path, usize), TakeError> {
         Path::take(alloc, bytes, at)
-    }
-
-    fn passed(&self, state: Input) -> Input {
-        state
     }
 }
 
@@ -180,13 +172,9 @@ impl Item<Pattern> for Content {
         alloc: Global,
         bytes: &[u8],
         at: usize,
-        _state: &Pattern,
+        _state: &mut Pattern,
     ) -> Result<(Content, usize), TakeError> {
         template_at(alloc, bytes, at)
-    }
-
-    fn passed(&self, state: Pattern) -> Pattern {
-        state
     }
 }
 
@@ -199,13 +187,9 @@ impl Item<InJob> for JobRow {
         alloc: Global,
         bytes: &[u8],
         at: usize,
-        _state: &InJob,
+        _state: &mut InJob,
     ) -> Result<(JobRow, usize), TakeError> {
         JobRow::take(alloc, bytes, at)
-    }
-
-    fn passed(&self, state: InJob) -> InJob {
-        state
     }
 }
 
@@ -219,7 +203,7 @@ fn args_at(alloc: Global, bytes: &[u8], at: usize) -> Result<(Words, usize), Tak
         bytes,
         start,
         count as u32,
-        Argument,
+        &mut Argument,
     )?;
     Ok((Words::from_vec(items), next))
 }
@@ -229,7 +213,7 @@ fn inputs_at(alloc: Global, bytes: &[u8], at: usize) -> Result<(Paths, usize), T
     ensures { Gives result (counted_at path_at bytes.now at) }
 {
     let (count, start) = u16_at(bytes, at)?;
-    let (items, next) = take_each::<Input, Path>(alloc, bytes, start, count as u32, Input)?;
+    let (items, next) = take_each::<Input, Path>(alloc, bytes, start, count as u32, &mut Input)?;
     Ok((Paths::from_vec(items), next))
 }
 
@@ -238,7 +222,7 @@ fn templates_at(alloc: Global, bytes: &[u8], at: usize) -> Result<(Templates, us
     ensures { Gives result (counted_at template_at bytes.now at) }
 {
     let (count, start) = u16_at(bytes, at)?;
-    let (items, next) = take_each::<Pattern, Content>(alloc, bytes, start, count as u32, Pattern)?;
+    let (items, next) = take_each::<Pattern, Content>(alloc, bytes, start, count as u32, &mut Pattern)?;
     Ok((Templates::from_vec(items), next))
 }
 
@@ -328,7 +312,7 @@ fn job_rows_at(alloc: Global, bytes: &[u8], at: usize) -> Result<(JobRows, usize
     ensures { Gives result (job_rows_at bytes.now at) }
 {
     let (count, start) = u32_at(bytes, at)?;
-    let (items, next) = take_each::<InJob, JobRow>(alloc, bytes, start, count, InJob)?;
+    let (items, next) = take_each::<InJob, JobRow>(alloc, bytes, start, count, &mut InJob)?;
     Ok((JobRows::from_vec(items), next))
 }
 

@@ -28,6 +28,7 @@ use Rattle.vol_tree.specs.Reading.{make_at, put_at, remove_at, move_at, effect_k
 use Rattle.file_paths.specs.Broken.{BrokenTexts, BrokenLengths}
 use Rattle.tree_laws.specs.Broken.{BrokenEffects, BrokenEffectLists, BrokenBases, IsNext, BrokenRows, BrokenRowLists}
 use Rattle.file_paths.proofs.Parts.{path_codec, length_refused}
+use Rattle.vol_tree.proofs.RowsTaken.{rows_passed}
 use Rattle.tree_laws.proofs.Parts.{effect_codec, rooms_again, first_base_fits, first_base_codec, path_part, version_part, NextFits, next_row_codec, rows_again}
 use Rattle.file_paths.proofs.Order.{tied_path, is_less}
 use Rattle.byte_fields.proofs.Facts.{le_fails, eight_bytes}
@@ -187,10 +188,6 @@ not_low o differ = by (is_lt o) refl
     by : (b : Bool) → is_lt o ≡ b → b ≡ false
     by false e = refl
     by true e = absurd (differ (is_less o e))
-
-rows_passed : (before rs : Volume) → passed with_next before rs ≡ before ++ rs
-rows_passed before [] = sym (append-nil before)
-rows_passed before (r ∷ rs) = rows_passed (before ++ r ∷ []) rs ∙ append_assoc before (r ∷ []) rs
 
 module _ (before : Volume) where
   path_refused : (text : List ℕ) (offset : ℕ) → IsRefused (ruled (may_stand before) path_at) text offset → IsRefused (next_row_at before) text offset
