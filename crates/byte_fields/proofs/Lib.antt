@@ -4,3 +4,4 @@ pub mod Codec
 pub mod Cutting
 pub mod Breaking
 pub mod Fronts
+pub mod Tails
