@@ -1,17 +1,15 @@
 -- The laws of records to the end of the bytes, of which the last may be torn.
-use Rattle.std.proofs.Common.{◌≡◌, ◌⊎◌, ℕ, zero, suc, ◌+◌, ◌-◌, ◌^◌, ◌<◌, ◌≤◌, Bool, true, false, cond, eqb, leb, List, [], ◌∷◌, ◌++◌, length, take, drop, Result, Ok, Err, refl, sym, ap, subst, ◌∙◌, arith, inl, inr, append_assoc, length-append, length-take}
+use Rattle.std.proofs.Common.{◌≡◌, ◌⊎◌, ℕ, zero, suc, ◌+◌, ◌-◌, ◌^◌, ◌<◌, ◌≤◌, Bool, true, false, cond, eqb, leb, List, [], ◌∷◌, ◌++◌, length, take, drop, Result, Ok, Err, refl, sym, ap, subst, ◌∙◌, arith, inl, inr, append_assoc, length-append}
 use Rattle.std.specs.Int.{Width, w32, byte_len, from_be_bytes}
-use Rattle.std.specs.List.{flat_map}
 use Rattle.std.proofs.lemmas.Bool.{cases_lt}
 use Rattle.std.proofs.lemmas.List.Concat.{flat_map-cons}
 use Rattle.byte_fields.specs.Field.{Reader, ◌>>=◌, digits, span_at, number_at, limited, passed, EachFits}
-use Rattle.byte_fields.specs.Codec.{Stands, IsBytes, IsFault, IsCodec}
+use Rattle.byte_fields.specs.Codec.{Stands, IsBytes, IsCodec}
 use Rattle.byte_fields.specs.Broken.{IsRead, IsRefused}
 use Rattle.byte_fields.specs.Records.{framed, frame_at, is_torn, framed_at, records_at, EachIsFramed, all_framed, WholeRecordsAreRead, TornRecordsAreLeft, OnlyRecordsAreRead, FaultyRecordsAreRefused, LeftBytesAreRefused}
 use Rattle.byte_fields.proofs.Facts.{le_of, le_fails, eq_of, eq_fails, eq_itself, four_bytes, stands_before}
-use Rattle.byte_fields.proofs.Codec.{bind_ok, bind_err, kept_ok, ok_is, failed, never_err, span_codec, u32_codec, limited_codec, stands_none, stands_both, stands_first, stands_second, later_fault}
+use Rattle.byte_fields.proofs.Codec.{bind_ok, kept_ok, ok_is, failed, span_codec, u32_codec, limited_codec, stands_none, stands_both, stands_first, stands_second}
 use Rattle.byte_fields.proofs.Cutting.{again_cut, span_cut, u32_cut}
-use Rattle.byte_fields.proofs.Breaking.{refused_there, refused_text}
 
 -- ---- where fields end
 
@@ -149,8 +147,8 @@ module _ {S A : Type 0} (item : S → Reader A) (after : S → A → S) (spellin
   records_refused : (before : List A) (most : ℕ) (state : S) (text : List ℕ) (offset : ℕ) → length before < most → EachIsFramed item after spelling state before → length text < 2 ^ 32
       → IsRefused (framed_at (item (passed after state before))) (framed text) offset → IsRefused (records_at item after most state) (all_framed spelling before ++ framed text) (length (all_framed spelling before) + offset)
   unfolding records_at
-  records_refused [] zero state text offset lt each small refused = absurd (omega arith)
-  records_refused (x ∷ xs) zero state text offset lt each small refused = absurd (omega arith)
+  records_refused [] zero state text offset lt each small refused bytes at next stands = absurd (omega arith)
+  records_refused (x ∷ xs) zero state text offset lt each small refused bytes at next stands = absurd (omega arith)
   records_refused [] (suc most) state text offset lt each small refused bytes at next stands =
       rw (whole_is_not_torn bytes at text next stands small, refused bytes at next stands) (ap (failed (List A × ℕ)) (omega arith))
   records_refused (x ∷ xs) (suc most) state text offset lt each small refused bytes at next stands =
