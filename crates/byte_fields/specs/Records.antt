@@ -31,7 +31,12 @@ framed_at read bytes at = do
 -- the whole records from the place on, so many at most; a torn one ends them
 unfoldable pub records_at : {S A : Type 0} → (S → Reader A) → (S → A → S) → ℕ → S → Reader (List A)
 records_at item after zero state bytes at = Ok ([], at)
-records_at item after (suc most) state bytes at = if is_torn bytes at then Ok ([], at) else (framed_at (item state) bytes at >>= λ first. records_at item after most (after state first.0) bytes first.1 >>= λ others. Ok (first.0 ∷ others.0, others.1))
+records_at item after (suc most) state bytes at =
+    if is_torn bytes at then Ok ([], at)
+    else (do
+      first ← framed_at (item state) bytes at
+      others ← records_at item after most (after state first.0) bytes first.1
+      Ok (first.0 ∷ others.0, others.1))
 
 -- the whole records from the place on, and where the torn one begins; there are no more records than bytes
 abbrev pub until_end : {S A : Type 0} → (S → Reader A) → (S → A → S) → S → Reader (List A)
