@@ -1,6 +1,5 @@
 use Rattle.std.proofs.Common.{◌≡◌, ◌∙◌, true, false, sym}
 use Rattle.std.proofs.lemmas.Result.{err_from_is_err_and}
-use Rattle.byte_fields.specs.Records.{is_torn}
 use Rattle.byte_fields.proofs.Loop.{records_go_on, records_break_off, records_are_taken}
 use Rattle.byte_fields.proofs.records.take_until_end.Goals as goal
 
