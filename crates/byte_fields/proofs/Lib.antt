@@ -5,3 +5,4 @@ pub mod Cutting
 pub mod Breaking
 pub mod Fronts
 pub mod Tails
+pub mod Torn

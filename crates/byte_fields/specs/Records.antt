@@ -1,5 +1,5 @@
 -- Records to the end of the bytes. Each stands behind the number of its bytes, and the last one may be torn.
-use Rattle.std.specs.Prelude.{◌≡◌, ℕ, zero, suc, ◌+◌, ◌^◌, ◌<◌, ◌≤◌, ◌==◌, Bool, true, List, [], ◌∷◌, ◌++◌, length, take, Ok, Err, is_err, if◌then◌else◌}
+use Rattle.std.specs.Prelude.{◌≡◌, ℕ, zero, suc, ◌+◌, ◌^◌, ◌<◌, ◌≤◌, ◌==◌, Bool, true, List, [], ◌∷◌, ◌++◌, length, take, drop, Ok, Err, is_err, if◌then◌else◌}
 use Rattle.std.specs.Int.{w32}
 use Rattle.std.specs.List.{flat_map}
 use Rattle.byte_fields.specs.Field.{Reader, ◌>>=◌, digits, span_at, number_at, limited, passed, EachFits}
@@ -78,3 +78,10 @@ abbrev pub LeftBytesAreRefused : Type 0 → Type 0 → Type 0
 LeftBytesAreRefused S A = (item : S → Reader A) (after : S → A → S) (spelling : A → List ℕ) (state : S) (before : List A) (text left : List ℕ) (x : A)
     → EachIsFramed item after spelling state before → length (text ++ left) < 2 ^ 32 → IsRead (item (passed after state before)) text x → 0 < length left
     → IsRefused (until_end item after state) (all_framed spelling before ++ framed (text ++ left)) (length (all_framed spelling before) + (4 + length text))
+
+-- what is torn is the front of a record, and not the whole of it
+abbrev pub IsTornOf : List ℕ → ℕ → Type 0
+IsTornOf bytes at = (text : List ℕ) × (rest : List ℕ) × (length text < 2 ^ 32) × (0 < length rest) × (framed text ≡ drop at bytes ++ rest)
+
+abbrev pub OnlyFrontsAreTorn : Type 0
+OnlyFrontsAreTorn = (bytes : List ℕ) (at : ℕ) → IsBytes bytes → at ≤ length bytes → is_torn bytes at ≡ true → IsTornOf bytes at
