@@ -1,9 +1,9 @@
 -- What is torn is the front of a record.
-use Rattle.std.proofs.Common.{◌≡◌, ℕ, zero, suc, ◌+◌, ◌-◌, ◌^◌, ◌<◌, ◌≤◌, true, false, List, ◌++◌, length, take, drop, get_or, replicate, Ok, refl, sym, ap, subst, ◌∙◌, arith, inl, inr, append_assoc, length-append, length-take, length-drop}
+use Rattle.std.proofs.Common.{◌≡◌, ℕ, zero, suc, ◌+◌, ◌-◌, ◌^◌, ◌<◌, ◌≤◌, false, List, ◌++◌, length, take, drop, replicate, Ok, refl, sym, ap, subst, ◌∙◌, arith, inl, inr, append_assoc, length-append, length-take, length-drop}
 use Rattle.std.specs.Int.{w32, from_be_bytes}
 use Rattle.std.proofs.lemmas.Bool.{true≢false, cases_lt}
 use Rattle.std.proofs.lemmas.List.{drop-drop, take-append-drop, length-replicate}
-use Rattle.byte_fields.specs.Field.{◌>>=◌, digits, span_at, number_at}
+use Rattle.byte_fields.specs.Field.{digits, span_at, number_at}
 use Rattle.byte_fields.specs.Codec.{Stands, IsBytes}
 use Rattle.byte_fields.specs.Records.{framed, frame_at, is_torn, IsTornOf, OnlyFrontsAreTorn}
 use Rattle.byte_fields.proofs.Facts.{le_holds, bytes_taken, bytes_dropped, bytes_appended}
