@@ -5,7 +5,8 @@ ghost use Rattle.std.specs.Int.{w8, w16, w32, w64};
 ghost use Rattle.byte_fields.specs.Field.{span_at, number_at, digits};
 ghost use Rattle.byte_fields.specs.Codec.{IsCodec};
 ghost use Rattle.byte_fields.specs.Cuts.{IsCut};
-ghost use Rattle.byte_fields.specs.Records.{WholeRecordsAreRead, TornRecordsAreLeft, OnlyRecordsAreRead, FaultyRecordsAreRefused, LeftBytesAreRefused, OnlyFrontsAreTorn};
+ghost use Rattle.byte_fields.specs.Records.{WholeRecordsAreRead, TornRecordsAreLeft, OnlyRecordsAreRead};
+ghost use Rattle.byte_fields.specs.Records.{FaultyRecordsAreRefused, LeftBytesAreRefused, OnlyFrontsAreTorn};
 ghost use Rattle.byte_fields.specs.Broken.{RulesAreOfTheirField, MeaningsAreOfTheirField, LaterFieldsAreRefusedLater, ItemsAreRefusedInTheirPlace};
 
 /// One spelling for each span and each number, and one value for each spelling.

@@ -52,9 +52,9 @@ fn take_framed<T, S: Taken<T>>(
 
 /// Takes the records from the place `start` on into the state, and gives the place where the torn one begins.
 ///
-/// Each record stands behind the number of its bytes. Where the bytes end inside one, it is left and the rest with it:
-/// so it was appended when the appending was broken off. Where none is torn, the place is the end of the bytes. The
-/// state may be any after a refusal.
+/// Each record stands behind the number of its bytes, in four of them. Where the bytes end inside a record, its appending
+/// was broken off, and it is left. Where no record is torn, the place is the end of the bytes. The state may be any after
+/// a refusal.
 ///
 /// # Errors
 ///
