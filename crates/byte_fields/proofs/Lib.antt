@@ -4,3 +4,5 @@ pub mod Codec
 pub mod Cutting
 pub mod Breaking
 pub mod Fronts
+pub mod Tails
+pub mod Torn

@@ -3,3 +3,4 @@ pub mod Codec
 pub mod Numbers
 pub mod Cuts
 pub mod Broken
+pub mod Records

@@ -5,6 +5,8 @@ ghost use Rattle.std.specs.Int.{w8, w16, w32, w64};
 ghost use Rattle.byte_fields.specs.Field.{span_at, number_at, digits};
 ghost use Rattle.byte_fields.specs.Codec.{IsCodec};
 ghost use Rattle.byte_fields.specs.Cuts.{IsCut};
+ghost use Rattle.byte_fields.specs.Records.{WholeRecordsAreRead, TornRecordsAreLeft, OnlyRecordsAreRead};
+ghost use Rattle.byte_fields.specs.Records.{FaultyRecordsAreRefused, LeftBytesAreRefused, OnlyFrontsAreTorn};
 ghost use Rattle.byte_fields.specs.Broken.{RulesAreOfTheirField, MeaningsAreOfTheirField, LaterFieldsAreRefusedLater, ItemsAreRefusedInTheirPlace};
 
 /// One spelling for each span and each number, and one value for each spelling.
@@ -31,4 +33,16 @@ pub fn broken_rules_are_refused_at_their_field<S, A, B, E>()
     ensures meanings { MeaningsAreOfTheirField A B E }
     ensures later { LaterFieldsAreRefusedLater A B }
     ensures items { ItemsAreRefusedInTheirPlace S A }
+{}
+
+/// Records to the end of the bytes: whole ones are read, a torn one is left, and a faulty one is refused at its field.
+///
+/// What is torn is the front of a record, and not the whole of it.
+pub fn records_are_read_until_the_end<S, A>()
+    ensures whole { WholeRecordsAreRead S A }
+    ensures torn { TornRecordsAreLeft S A }
+    ensures only { OnlyRecordsAreRead S A }
+    ensures faulty { FaultyRecordsAreRefused S A }
+    ensures left { LeftBytesAreRefused S A }
+    ensures fronts { OnlyFrontsAreTorn }
 {}

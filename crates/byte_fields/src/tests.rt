@@ -5,8 +5,8 @@ ghost use Rattle.std.specs.Int.{w8, w16};
 ghost use Rattle.byte_fields.specs.Field.{digits, number_at, ruled};
 
 use crate::{
-    Item, Spelled, TakeError, Taken, put_each, put_u16, put_u32, put_u64, take_all, take_each,
-    u8_at, u16_at, u32_at,
+    Item, Spelled, TakeError, Taken, is_torn, put_each, put_u16, put_u32, put_u64, take_all,
+    take_each, take_until_end, u8_at, u16_at, u32_at,
 };
 use std::alloc::{AllocError, Global};
 use std::marker::Model;
@@ -107,6 +107,39 @@ fn items_are_taken_into_the_state(rt: HostRuntime) -> Result<(), TakeError> {
     let refused = take_all::<u8, Rising>(rt.alloc(), &[9, 3, 7, 1], 3, 1, &mut rising);
     assert_eq!(rt; refused, Err(TakeError::At(3)));
     Ok(())
+}
+
+#[test]
+fn records_are_taken_up_to_a_torn_one(rt: HostRuntime) -> Result<(), TakeError> {
+    let bytes = [9, 0, 0, 0, 1, 3, 0, 0, 0, 1, 7, 0, 0, 0, 2, 8];
+    for (end, torn, taken) in [(16, 11, 2), (13, 11, 2), (11, 11, 2), (10, 6, 1), (5, 1, 0)] {
+        let mut rising = Rising {
+            bytes: Vec::new(rt.alloc()),
+        };
+        let at = take_until_end::<u8, Rising>(rt.alloc(), &bytes[..end], 1, &mut rising)?;
+        assert_eq!(rt; at, torn);
+        assert_eq!(rt; is_torn(&bytes[..end], at), true);
+        assert_eq!(rt; rising.bytes.as_slice(), &[3, 7][..taken]);
+    }
+    Ok(())
+}
+
+#[test]
+fn whole_records_are_refused_where_they_are_faulty(rt: HostRuntime) {
+    let falls = [0, 0, 0, 1, 3, 0, 0, 0, 1, 3];
+    let leaves_a_byte = [0, 0, 0, 1, 3, 0, 0, 0, 2, 7, 8];
+    let has_no_byte = [0, 0, 0, 1, 3, 0, 0, 0, 0];
+    for (bytes, place) in [
+        (falls.as_slice(), 9),
+        (leaves_a_byte.as_slice(), 10),
+        (has_no_byte.as_slice(), 9),
+    ] {
+        let mut rising = Rising {
+            bytes: Vec::new(rt.alloc()),
+        };
+        let refused = take_until_end::<u8, Rising>(rt.alloc(), bytes, 0, &mut rising);
+        assert_eq!(rt; refused, Err(TakeError::At(place)));
+    }
 }
 
 #[test]
