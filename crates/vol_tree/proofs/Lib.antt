@@ -25,3 +25,4 @@ pub mod Pool
 pub mod Used
 pub mod Leading
 pub mod Spelled
+pub mod FaultKinds

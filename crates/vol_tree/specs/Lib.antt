@@ -7,4 +7,5 @@ pub mod Inside
 pub mod Spelling
 pub mod Reading
 pub mod Fields
+pub mod Fault
 pub mod Arena

@@ -4,6 +4,7 @@
 mod arena;
 mod counted;
 mod effects;
+mod faults;
 mod limits;
 mod lists;
 mod node;
@@ -24,6 +25,8 @@ pub use node::{Base, Effect, Node, Row, TreeError};
 pub use rows::RowsError;
 pub use tree::{Tree, Undo};
 
+#[cfg(test)]
+mod fault_tests;
 #[cfg(test)]
 mod spelling_tests;
 #[cfg(test)]
