@@ -16,6 +16,11 @@ pub none_is : (pending : List Entry) → None ≡ slice_get pending 0 → pendin
 none_is [] is = refl
 none_is (first ∷ entries) is = absurd (cc)
 
+-- where there is a first entry, some entry is pending
+pub first_pending : (pending : List Entry) (entry : Entry) → IsFirst entry pending → 1 ≤ length pending
+first_pending [] entry first = absurd first
+first_pending (next ∷ entries) entry first = omega arith
+
 pub first_some : (pending : List Entry) (entry : Entry) → IsFirst entry pending → pending ≢ []
 first_some [] entry first = absurd first
 first_some (e ∷ entries) entry first = λ none. absurd (cc)

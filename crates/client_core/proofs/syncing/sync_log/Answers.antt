@@ -15,7 +15,7 @@ use Rattle.client_core.specs.Goes.{Goes}
 use Rattle.client_core.specs.Honest.{IsTrueSync, IsComplete}
 use Rattle.client_core.specs.Inside.{Settled}
 use Rattle.client_core.proofs.Acknowledging.{some_none, some_more}
-use Rattle.client_core.proofs.Firsts.{first_is, none_is, first_some, first_number, store_valid, shorter}
+use Rattle.client_core.proofs.Firsts.{first_is, none_is, first_some, first_pending, first_number, store_valid, shorter}
 use Rattle.client_core.proofs.Syncs.{Acked, KeepsAcked, unkept_cause, acked_none, acked_more, keeps_none, keeps_now, keeps_more, keeps_cut, keeps_whole, sync_ends, sync_breaks, sync_unkept, sync_synced, goes_on, has_cause}
 use Rattle.client_core.proofs.Truths.{goes_in_step, end_is_true, end_is_complete, unkept_true, unkept_memory}
 use Rattle.client_core.proofs.syncing.sync_log.Goals as goal
@@ -182,7 +182,13 @@ returns-in-Some-end_by-clause-cause g c =
 pub acknowledge-requires-clause-next : goal.acknowledge-requires-clause-next
 acknowledge-requires-clause-next g c =
     let entry = c.in-Some.entry.now in
-    first_number c.loop-entry.log entry c.in-Some.ensures.log (first_is c.loop-entry.log.pending entry c.in-Some.ensures.entry)
+    omega (arith, first_number c.loop-entry.log entry c.in-Some.ensures.log (first_is c.loop-entry.log.pending entry c.in-Some.ensures.entry))
+
+pub acknowledge-requires-clause-pending : goal.acknowledge-requires-clause-pending
+acknowledge-requires-clause-pending g c =
+    let entry = c.in-Some.entry.now in
+    let first : IsFirst entry c.loop-entry.log.pending = first_is c.loop-entry.log.pending entry c.in-Some.ensures.entry in
+    omega (arith, first_number c.loop-entry.log entry c.in-Some.ensures.log first, first_pending c.loop-entry.log.pending entry first)
 
 pub loop-entry-smaller : goal.loop-entry-smaller
 loop-entry-smaller g c =
