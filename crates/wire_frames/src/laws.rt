@@ -4,10 +4,10 @@ ghost use Rattle.std.specs.Prelude.{◌≡◌, ℕ, ◌≤◌, List, ◌++◌, l
 ghost use Rattle.byte_fields.specs.Codec.{IsCodec};
 ghost use Rattle.wire_frames.specs.declared.message.TheConstants.{MAX_FRAME};
 ghost use Rattle.wire_frames.specs.declared.message.Message.{Message};
-ghost use Rattle.wire_frames.specs.Fault.{tree_fault, UnfitFits, FullFits};
-ghost use Rattle.wire_frames.specs.FaultReading.{unfit_fault_at, full_fault_at};
+ghost use Rattle.vol_tree.specs.Fault.{tree_fault};
+ghost use Rattle.wire_frames.specs.Fault.{UnfitFits, FullFits, unfit_fault_at, full_fault_at};
 ghost use Rattle.wire_frames.specs.Frame.{frame, IsValid};
-ghost use Rattle.wire_frames.specs.Broken.{BrokenNumbers, BrokenBodies, BrokenFaults, LeftBytes};
+ghost use Rattle.wire_frames.specs.Broken.{BrokenNumbers, BrokenBodies, LeftBytes};
 ghost use Rattle.wire_frames.specs.Laws.{LengthIsFirst, VersionIsSecond, KindIsThird, ClientIsFourth, FieldsAreBehindTheClient, MessagesStandBeforeWhatIsLeft, CutFramesNameTheField, KindsDecideReplies};
 
 /// States that, whatever follows it, a frame is the frame of one message, and that no frame is longer than the most.
@@ -39,11 +39,10 @@ pub fn refusals_name_the_first_fault()
     ensures cut { CutFramesNameTheField }
 {}
 
-/// States at which field a frame is refused whose number, body or told refusal breaks a rule, whatever follows, and at
+/// States at which field a frame is refused whose number or body breaks a rule, whatever follows, and at
 /// which byte a frame is that goes on behind its last field.
 pub fn broken_rules_name_their_field()
     ensures numbers { BrokenNumbers }
     ensures bodies { BrokenBodies }
-    ensures faults { BrokenFaults }
     ensures left { LeftBytes }
 {}
