@@ -2,10 +2,11 @@
 
 ghost use Rattle.std.specs.Prelude.{◌≡◌, ℕ, ◌≤◌, List, ◌++◌, length};
 ghost use Rattle.byte_fields.specs.Codec.{IsCodec};
+ghost use Rattle.tree_laws.specs.Broken.{BrokenFaults};
 ghost use Rattle.wire_frames.specs.declared.message.TheConstants.{MAX_FRAME};
 ghost use Rattle.wire_frames.specs.declared.message.Message.{Message};
 ghost use Rattle.vol_tree.specs.Fault.{tree_fault};
-ghost use Rattle.wire_frames.specs.Fault.{UnfitFits, FullFits, unfit_fault_at, full_fault_at};
+ghost use Rattle.wire_frames.specs.Fault.{UnfitFits, FullFits, unfit_numbers, full_numbers, unfit_fault_at, full_fault_at};
 ghost use Rattle.wire_frames.specs.Frame.{frame, IsValid};
 ghost use Rattle.wire_frames.specs.Broken.{BrokenNumbers, BrokenBodies, LeftBytes};
 ghost use Rattle.wire_frames.specs.Laws.{LengthIsFirst, VersionIsSecond, KindIsThird, ClientIsFourth, FieldsAreBehindTheClient, MessagesStandBeforeWhatIsLeft, CutFramesNameTheField, KindsDecideReplies};
@@ -39,10 +40,11 @@ pub fn refusals_name_the_first_fault()
     ensures cut { CutFramesNameTheField }
 {}
 
-/// States at which field a frame is refused whose number or body breaks a rule, whatever follows, and at
+/// States at which field a frame is refused whose number, body or told refusal breaks a rule, whatever follows, and at
 /// which byte a frame is that goes on behind its last field.
 pub fn broken_rules_name_their_field()
     ensures numbers { BrokenNumbers }
     ensures bodies { BrokenBodies }
+    ensures faults { BrokenFaults unfit_numbers × BrokenFaults full_numbers }
     ensures left { LeftBytes }
 {}
