@@ -3,3 +3,4 @@ pub mod Parts
 pub mod CutParts
 pub mod Breaking
 pub mod Few
+pub mod FaultLaws

@@ -18,6 +18,7 @@ use Rattle.vol_tree.specs.Behind.{IsIn}
 use Rattle.file_paths.specs.Spelling.{path}
 use Rattle.vol_tree.specs.Spelling.{effect, base, row, EffectFits, AreBasesOf}
 use Rattle.file_paths.specs.Reading.{path_at, content_at}
+use Rattle.vol_tree.specs.Fault.{is_one_of, fault_of}
 use Rattle.vol_tree.specs.Reading.{effect_at, effects_within, base_at, bases_at, may_stand, next_row_at, rows_at}
 
 -- ---- effects
@@ -89,3 +90,18 @@ pub record BrokenRowLists : Type 0 where
   -- a row that is refused: behind those before it, which are a tree
   pub row_is_refused : (before : Volume) (count : ℕ) (text : List ℕ) (offset : ℕ) → IsTree before → length before < count → count ≤ max_rows → IsRefused (next_row_at before) text offset
       → IsRefused rows_at (digits w32 count ++ (flat_map row before ++ text)) (4 + (length (flat_map row before) + offset))
+
+-- ---- refusals of effects
+
+-- the numbers of all refusals
+abbrev pub all_faults : List ℕ
+all_faults = 1 ∷ 2 ∷ 3 ∷ 4 ∷ 5 ∷ 6 ∷ 7 ∷ 8 ∷ 9 ∷ 10 ∷ []
+
+-- refusals of which only these numbers are allowed
+pub record BrokenFaults (numbers : List ℕ) : Type 0 where
+  -- a number that is none of them: at the number
+  pub number_is_none : (number : ℕ) → number < 2 ^ 8 → AllByRecursion (λ known. number ≢ known) numbers → IsRefused (fault_of numbers) (number ∷ []) 0
+  -- a path that is refused: behind the number
+  pub path_is_refused : (text : List ℕ) (offset : ℕ) → IsRefused path_at text offset → AllByRecursion (λ number. is_one_of numbers number ≡ true → IsRefused (fault_of numbers) (number ∷ text) (1 + offset)) (2 ∷ 3 ∷ 4 ∷ 5 ∷ 6 ∷ 10 ∷ [])
+  -- a child whose path is refused: behind the path of its folder
+  pub child_is_refused : (p : FilePath) (text : List ℕ) (offset : ℕ) → IsPath p → is_one_of numbers 6 ≡ true → IsRefused path_at text offset → IsRefused (fault_of numbers) (6 ∷ (path p ++ text)) (1 + (length (path p) + offset))

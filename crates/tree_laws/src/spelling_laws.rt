@@ -10,8 +10,9 @@ ghost use Rattle.vol_tree.specs.Spelling.{effect, effects, bases, rows, EffectFi
 ghost use Rattle.file_paths.specs.Fields.{path_fields, content_fields};
 ghost use Rattle.vol_tree.specs.Fields.{effect_fields, effects_fields, bases_fields, rows_fields};
 ghost use Rattle.file_paths.specs.Broken.{BrokenTexts, BrokenLengths};
-ghost use Rattle.tree_laws.specs.Broken.{BrokenEffects, BrokenEffectLists, BrokenBases, BrokenRows, BrokenRowLists};
+ghost use Rattle.tree_laws.specs.Broken.{BrokenEffects, BrokenEffectLists, BrokenBases, BrokenRows, BrokenRowLists, all_faults, BrokenFaults};
 ghost use Rattle.file_paths.specs.Reading.{path_at, content_at};
+ghost use Rattle.vol_tree.specs.Fault.{tree_fault, fault_fields, FaultFits, FaultFitsOf, fault_at, fault_of};
 ghost use Rattle.vol_tree.specs.Reading.{effect_at, effects_within, effects_at, bases_at, rows_at};
 
 /// States that each value has one spelling, and each spelling one value.
@@ -21,6 +22,9 @@ pub fn parts_are_spelled_once()
     ensures effects { IsCodec effects_at effects EffectsFit }
     ensures bases { (touched : List FilePath) → length touched < 2 ^ 32 → IsCodec (bases_at touched) bases (AreBasesOf touched) }
     ensures rows { IsCodec rows_at rows IsTree }
+    ensures fault { IsCodec fault_at tree_fault FaultFits }
+    ensures fault_of { (numbers : List ℕ) → IsCodec (fault_of numbers) tree_fault (FaultFitsOf numbers) }
+    ensures all_faults { fault_at ≡ fault_of all_faults }
 {}
 
 /// States that, where the bytes end inside a value, the field in which they end is the faulty one.
@@ -30,6 +34,8 @@ pub fn parts_end_with_their_bytes()
     ensures effects { IsCut effects_at effects effects_fields EffectsFit }
     ensures bases { (touched : List FilePath) → length touched < 2 ^ 32 → IsCut (bases_at touched) bases bases_fields (AreBasesOf touched) }
     ensures rows { IsCut rows_at rows rows_fields IsTree }
+    ensures fault { IsCut fault_at tree_fault fault_fields FaultFits }
+    ensures fault_of { (numbers : List ℕ) → IsCut (fault_of numbers) tree_fault fault_fields (FaultFitsOf numbers) }
 {}
 
 /// States at which field a part that breaks a rule is refused, whatever stands before and behind it.
@@ -39,4 +45,5 @@ pub fn broken_parts_are_refused_at_their_field()
     ensures bases { BrokenBases }
     ensures rows { BrokenRows }
     ensures row_lists { BrokenRowLists }
+    ensures faults { (numbers : List ℕ) → BrokenFaults numbers }
 {}

@@ -1,5 +1,5 @@
 -- The laws of frames that break a rule.
-use Rattle.std.proofs.Common.{◌≡◌, ◌≢◌, ◌⊎◌, ℕ, ◌+◌, ◌^◌, ◌<◌, ◌≤◌, true, false, ◌&&◌, not, leb, eqb, List, [], ◌∷◌, ◌++◌, length, drop, get_or, Ok, Err, inl, inr, refl, sym, ap, ◌∙◌, arith, lit<, length-append}
+use Rattle.std.proofs.Common.{◌≡◌, ◌≢◌, ◌⊎◌, ℕ, ◌+◌, ◌^◌, ◌<◌, ◌≤◌, true, false, ◌&&◌, not, leb, eqb, List, [], ◌∷◌, ◌++◌, length, drop, get_or, Ok, Err, inl, inr, refl, sym, ap, ◌∙◌, arith, length-append}
 use Rattle.std.specs.Int.{w8, w32, w64}
 use Rattle.std.proofs.lemmas.Bool.{le-leb, eq-eqb, ne_eqb}
 use Rattle.std.proofs.lemmas.List.{append-nil, drop_at}
@@ -9,10 +9,10 @@ use Rattle.byte_fields.specs.Field.{digits, ruled, none, one, two, number_at}
 use Rattle.byte_fields.specs.Codec.{Stands}
 use Rattle.byte_fields.specs.Broken.{IsRefused}
 use Rattle.byte_fields.proofs.Codec.{u8_codec, u32_codec, u64_codec}
-use Rattle.byte_fields.proofs.Breaking.{read_again, refused_before, rule_refused, first_refused, later_refused, tagged_refused, kind_refused, above, second_fails, four_bytes}
-use Rattle.vol_tree.specs.declared.tree.Effect.{Effect}
-use Rattle.vol_tree.specs.declared.tree.TreeError.TheVariants.{NoParent, Exists, Missing, IsFolder, NotEmpty, VersionTop}
-use Rattle.vol_tree.specs.Path.{FilePath, IsPath}
+use Rattle.byte_fields.proofs.Breaking.{read_again, refused_before, rule_refused, first_refused, later_refused, second_fails}
+use Rattle.byte_fields.proofs.Facts.{le_fails, four_bytes, eight_bytes}
+use Rattle.vol_tree.specs.declared.node.Effect.{Effect}
+use Rattle.file_paths.specs.Path.{FilePath, IsPath}
 use Rattle.vol_tree.specs.Effects.{touched_all, distinct}
 use Rattle.file_paths.specs.Spelling.{path}
 use Rattle.vol_tree.specs.Spelling.{effects, EffectsFit}
@@ -20,17 +20,16 @@ use Rattle.file_paths.specs.Reading.{path_at}
 use Rattle.vol_tree.specs.Reading.{effects_at, bases_at, rows_at}
 use Rattle.file_paths.proofs.Parts.{path_codec}
 use Rattle.tree_laws.proofs.Parts.{effects_codec}
-use Rattle.tree_laws.proofs.Breaking.{eight_bytes}
 use Rattle.wire_frames.specs.declared.message.TheConstants.{MAX_FRAME}
 use Rattle.wire_frames.specs.declared.message.Message.{Message}
 use Rattle.wire_frames.specs.declared.message.Message.TheVariants as messages
 use Rattle.wire_frames.specs.declared.message.Kind.{Kind}
 use Rattle.wire_frames.specs.declared.message.Kind.TheVariants.{Store, Stale, Unfit, Gap, Snapshot, Full, Malformed}
 use Rattle.wire_frames.specs.declared.message.FrameError.TheVariants.{BadField, Trailing}
-use Rattle.wire_frames.specs.FaultReading.{unfit_kinds, full_kinds, unfit_fault_at, full_fault_at}
+use Rattle.wire_frames.specs.Fault.{unfit_fault_at, full_fault_at}
 use Rattle.wire_frames.specs.Frame.{frame_version, kind, client_of, number_of, code_of, client_rule, number_rule, offset_rule, body, frame}
 use Rattle.wire_frames.specs.Reading.{store_at, stale_at, unfit_at, full_at, snapshot_at, gap_at, malformed_at, body_at, message_at, is_sized, frame_of}
-use Rattle.wire_frames.specs.Broken.{framed, IsRefusedAt, BrokenNumbers, BrokenBodies, BrokenFaults, LeftBytes}
+use Rattle.wire_frames.specs.Broken.{framed, IsRefusedAt, BrokenNumbers, BrokenBodies, LeftBytes}
 use Rattle.wire_frames.proofs.Messages.{tail, number_codec, refusal, message_again}
 use Rattle.wire_frames.proofs.Frames.{are_sized, kind_again}
 use Rattle.wire_frames.proofs.CutFrames.{fails_again}
@@ -64,7 +63,7 @@ body_refused k c n text offset small kept refused =
 inside : (k : Kind) (n : ℕ) (text : List ℕ) (offset place : ℕ) → 15 + offset ≡ place → ((c : ℕ) → IsRefused (body_at k c n) text offset) → IsRefusedAt k n text place
 inside k n text offset place e refused c behind takes kept small short =
     frame_refused k c n (text ++ behind) (length (digits w64 n) + offset) place takes short
-    (body_refused k c n (text ++ behind) offset small kept (refused_before (body_at k c n) text behind offset (refused c))) (omega (arith, eight_digits n))
+    (body_refused k c n (text ++ behind) offset small kept (refused_before (body_at k c n) text behind offset (refused c))) (omega (arith, eight_bytes n))
 
 pub broken_numbers : BrokenNumbers
 broken_numbers k c n behind takes broken small short =
@@ -148,50 +147,16 @@ broken_bodies = record {
       inside Store n (effects es ++ text) (length (effects es) + offset) (15 + length (effects es) + offset) (omega arith) (λ c. base_refused c n es text offset fits refused);
   path_is_refused = λ n text offset refused. inside Stale n text offset (15 + offset) refl (λ c. path_refused c n text offset refused);
   versions_are_equal = λ n p v is small.
-      inside Stale n (path p ++ (digits w64 v ++ digits w64 v)) (length (path p) + (length (digits w64 v) + 0)) (15 + length (path p) + 8) (omega (arith, eight_digits v)) (λ c. equal_refused c n p v is small);
+      inside Stale n (path p ++ (digits w64 v ++ digits w64 v)) (length (path p) + (length (digits w64 v) + 0)) (15 + length (path p) + 8) (omega (arith, eight_bytes v)) (λ c. equal_refused c n p v is small);
   unfit_is_refused = λ n index text offset small refused.
       inside Unfit n (digits w32 index ++ text) (length (digits w32 index) + offset) (19 + offset) (omega (arith, four_bytes index)) (λ c. unfit_refused c n index text offset small refused);
   full_is_refused = λ n index text offset small refused.
       inside Full n (digits w32 index ++ text) (length (digits w32 index) + offset) (19 + offset) (omega (arith, four_bytes index)) (λ c. full_refused c n index text offset small refused);
   last_is_near = λ n last small near. inside Gap n (digits w64 last) 0 15 refl (λ c. last_refused c n last small near);
   rows_are_refused = λ n last text offset small refused.
-      inside Snapshot n (digits w64 last ++ text) (length (digits w64 last) + offset) (23 + offset) (omega (arith, eight_digits last)) (λ c. rows_refused c n last text offset small refused);
+      inside Snapshot n (digits w64 last ++ text) (length (digits w64 last) + offset) (23 + offset) (omega (arith, eight_bytes last)) (λ c. rows_refused c n last text offset small refused);
   code_is_none = λ n code byte wrong. inside Malformed n (code ∷ []) 0 15 refl (λ c. code_refused code byte wrong);
   offset_is_told = λ n code offset low high not5 not6 some small. inside Malformed n (code ∷ digits w32 offset) (1 + 0) 16 refl (λ c. offset_refused code offset low high not5 not6 some small);
-}
-
--- ---- refusals of the volume
-
-pub broken_faults : BrokenFaults
-unfolding unfit_fault_at full_fault_at
-broken_faults = record {
-  unfit_number = λ number byte other.
-      kind_refused unfit_kinds number byte
-      (λ tag at bytes.
-      rw (ne_eqb number 1 other.0, ne_eqb number 2 other.1.0, ne_eqb number 3 other.1.1.0, ne_eqb number 4 other.1.1.1.0, ne_eqb number 5 other.1.1.1.1.0, ne_eqb number 6 other.1.1.1.1.1.0, ne_eqb number 8 other.1.1.1.1.1.1.0, ne_eqb number 10 other.1.1.1.1.1.1.1.0) refl);
-  full_number = λ number byte other. kind_refused full_kinds number byte (λ tag at bytes. rw (ne_eqb number 7 other.0, ne_eqb number 9 other.1.0) refl);
-  path_is_refused = λ text offset refused. (
-    tagged_refused unfit_kinds 2 (one path_at NoParent) text offset (lit< tt) (λ tag at bytes. refl) (first_refused path_at (λ p. none (NoParent p)) text offset refused),
-    (
-      tagged_refused unfit_kinds 3 (one path_at Exists) text offset (lit< tt) (λ tag at bytes. refl) (first_refused path_at (λ p. none (Exists p)) text offset refused),
-      (
-        tagged_refused unfit_kinds 4 (one path_at Missing) text offset (lit< tt) (λ tag at bytes. refl) (first_refused path_at (λ p. none (Missing p)) text offset refused),
-        (
-          tagged_refused unfit_kinds 5 (one path_at IsFolder) text offset (lit< tt) (λ tag at bytes. refl) (first_refused path_at (λ p. none (IsFolder p)) text offset refused),
-          (
-            tagged_refused unfit_kinds 6 (two path_at (λ _. path_at) NotEmpty) text offset (lit< tt) (λ tag at bytes. refl) (first_refused path_at (λ p. one path_at (NotEmpty p)) text offset refused),
-            (
-              tagged_refused unfit_kinds 10 (one path_at VersionTop) text offset (lit< tt) (λ tag at bytes. refl) (first_refused path_at (λ p. none (VersionTop p)) text offset refused),
-              tt,
-            ),
-          ),
-        ),
-      ),
-    ),
-  );
-  child_is_refused = λ p text offset is refused.
-      tagged_refused unfit_kinds 6 (two path_at (λ _. path_at) NotEmpty) (path p ++ text) (length (path p) + offset) (lit< tt) (λ tag at bytes. refl)
-      (later_refused path_at (λ q. one path_at (NotEmpty q)) (path p) text p offset (read_again path_codec p is) (first_refused path_at (λ q. none (NotEmpty p q)) text offset refused));
 }
 
 -- ---- what is left over

@@ -1,20 +1,14 @@
 -- A frame that is cut short: the field in which it ends is the faulty one.
-use Rattle.std.proofs.Common.{◌≡◌, ℕ, suc, ◌+◌, ◌-◌, ◌^◌, ◌<◌, ◌≤◌, true, ◌&&◌, not, leb, eqb, List, [], ◌∷◌, ◌++◌, length, get_or, take, drop, Err, refl, sym, ap, subst, ◌∙◌, arith, lit<, length-append, length-take}
-use Rattle.std.specs.Prelude.{sum}
+use Rattle.std.proofs.Common.{◌≡◌, ℕ, suc, ◌+◌, ◌-◌, ◌^◌, ◌<◌, ◌≤◌, true, ◌&&◌, not, leb, eqb, List, [], ◌++◌, length, get_or, take, drop, Err, refl, sym, ap, subst, ◌∙◌, arith, length-append, length-take}
 use Rattle.std.specs.Int.{w32, w64, from_be_bytes}
 use Rattle.std.proofs.lemmas.List.{drop_at, append-nil}
 use Rattle.std.proofs.Math.Seq.{drop-length}
 use Rattle.std.proofs.lemmas.Nat.{from_be_bytes-to_be_bytes_4}
 use Rattle.byte_fields.specs.Field.{digits}
 use Rattle.byte_fields.specs.Codec.{Stands}
-use Rattle.byte_fields.specs.Cuts.{start_of, IsCut}
+use Rattle.byte_fields.specs.Cuts.{start_of}
 use Rattle.byte_fields.proofs.Codec.{u32_codec, u64_codec, stands_first, stands_second}
-use Rattle.byte_fields.proofs.Facts.{sum_more}
-use Rattle.byte_fields.proofs.Cutting.{sum_both, u8_cut, u32_cut, u64_cut, ruled_cut, one_cut, two_cut, three_cut, tagged_cut, then_cut}
-use Rattle.vol_tree.specs.declared.node.TreeError.{TreeError}
-use Rattle.vol_tree.specs.declared.node.TreeError.TheVariants.{RootFixed, NoParent, Exists, Missing, IsFolder, NotEmpty, RowsFull, FileTooLarge, TreeFull, VersionTop, Memory}
-use Rattle.file_paths.specs.Spelling.{path}
-use Rattle.file_paths.specs.Fields.{path_fields}
+use Rattle.byte_fields.proofs.Cutting.{u8_cut, u32_cut, u64_cut, ruled_cut, one_cut, two_cut, three_cut, then_cut}
 use Rattle.vol_tree.specs.Effects.{touched_all, distinct}
 use Rattle.file_paths.proofs.Parts.{path_codec, path_cut}
 use Rattle.tree_laws.proofs.Parts.{effects_codec}
@@ -23,73 +17,15 @@ use Rattle.wire_frames.specs.declared.message.Message.{Message}
 use Rattle.wire_frames.specs.declared.message.Message.TheVariants as messages
 use Rattle.wire_frames.specs.declared.message.Kind.{Kind}
 use Rattle.wire_frames.specs.declared.message.FrameError.TheVariants.{BadField}
-use Rattle.wire_frames.specs.Fault.{tree_fault, UnfitFits, FullFits}
-use Rattle.wire_frames.specs.FaultReading.{unfit_kinds, full_kinds, unfit_fault_at, full_fault_at}
-use Rattle.wire_frames.specs.Fields.{fault_fields, body_fields, message_fields}
+use Rattle.wire_frames.specs.Fields.{body_fields, message_fields}
 use Rattle.wire_frames.specs.Frame.{kind, client_of, number_of, code_of, client_rule, number_rule, offset_rule, body, payload, frame, BodyFits}
 use Rattle.wire_frames.specs.Reading.{store_at, stale_at, unfit_at, full_at, snapshot_at, gap_at, malformed_at, body_at, message_at, is_sized, frame_of}
 use Rattle.wire_frames.specs.Laws.{CutFramesNameTheField}
 use Rattle.tree_laws.proofs.Few.{touched_few}
+use Rattle.wire_frames.proofs.FaultLaws.{unfit_cut, full_cut}
 use Rattle.wire_frames.proofs.Messages.{tail, number_codec, refusal}
 use Rattle.wire_frames.proofs.Frames.{are_sized, kind_again, four_digits}
 use Rattle.wire_frames.proofs.Sizes.{frame_small}
-
--- ---- refusals of the volume
-
-unfit_whole : (x : TreeError) → UnfitFits x → sum (fault_fields x) ≡ length (tree_fault x)
-unfit_whole RootFixed fits = refl
-unfit_whole (NoParent p) fits = omega (arith, sum_more 1 (path_fields p), path_cut.whole p fits)
-unfit_whole (Exists p) fits = omega (arith, sum_more 1 (path_fields p), path_cut.whole p fits)
-unfit_whole (Missing p) fits = omega (arith, sum_more 1 (path_fields p), path_cut.whole p fits)
-unfit_whole (IsFolder p) fits = omega (arith, sum_more 1 (path_fields p), path_cut.whole p fits)
-unfit_whole (NotEmpty p q) fits =
-    omega (arith, sum_more 1 (path_fields p ++ path_fields q), sum_both (path_fields p) (path_fields q), length-append (path p) (path q), path_cut.whole p fits.0, path_cut.whole q fits.1)
-unfit_whole (RowsFull n) fits = absurd fits
-unfit_whole (FileTooLarge n) fits = omega (arith, sum_more 1 (8 ∷ []), u64_cut.whole n fits)
-unfit_whole (TreeFull n) fits = absurd fits
-unfit_whole (VersionTop p) fits = omega (arith, sum_more 1 (path_fields p), path_cut.whole p fits)
-unfit_whole Memory fits = absurd fits
-
-unfit_ends : (bytes : List ℕ) (at : ℕ) (x : TreeError) (next end : ℕ) → Stands bytes at (tree_fault x) next → UnfitFits x → at ≤ end → end < next → unfit_fault_at (take end bytes) at ≡ Err (at + start_of (end - at) (fault_fields x))
-unfolding unfit_fault_at
-unfit_ends bytes at RootFixed next end stands fits le lt = tagged_cut unfit_kinds 1 (lit< tt) bytes at [] next end [] stands le (λ ge. absurd (omega (arith, stands.next_is)))
-unfit_ends bytes at (NoParent p) next end stands fits le lt =
-    tagged_cut unfit_kinds 2 (lit< tt) bytes at (path p) next end (path_fields p) stands le (λ ge. one_cut path_cut NoParent bytes (at + 1) p next end (stands_second bytes at (2 ∷ []) (path p) next stands) fits ge lt)
-unfit_ends bytes at (Exists p) next end stands fits le lt =
-    tagged_cut unfit_kinds 3 (lit< tt) bytes at (path p) next end (path_fields p) stands le (λ ge. one_cut path_cut Exists bytes (at + 1) p next end (stands_second bytes at (3 ∷ []) (path p) next stands) fits ge lt)
-unfit_ends bytes at (Missing p) next end stands fits le lt =
-    tagged_cut unfit_kinds 4 (lit< tt) bytes at (path p) next end (path_fields p) stands le (λ ge. one_cut path_cut Missing bytes (at + 1) p next end (stands_second bytes at (4 ∷ []) (path p) next stands) fits ge lt)
-unfit_ends bytes at (IsFolder p) next end stands fits le lt =
-    tagged_cut unfit_kinds 5 (lit< tt) bytes at (path p) next end (path_fields p) stands le (λ ge. one_cut path_cut IsFolder bytes (at + 1) p next end (stands_second bytes at (5 ∷ []) (path p) next stands) fits ge lt)
-unfit_ends bytes at (NotEmpty p q) next end stands fits le lt =
-    tagged_cut unfit_kinds 6 (lit< tt) bytes at (path p ++ path q) next end (path_fields p ++ path_fields q) stands le
-    (λ ge. two_cut path_codec path_cut (λ _ _. path_cut) NotEmpty bytes (at + 1) p q next end (stands_second bytes at (6 ∷ []) (path p ++ path q) next stands) fits.0 fits.1 ge lt)
-unfit_ends bytes at (RowsFull n) next end stands fits le lt = absurd fits
-unfit_ends bytes at (FileTooLarge n) next end stands fits le lt =
-    tagged_cut unfit_kinds 8 (lit< tt) bytes at (digits w64 n) next end (8 ∷ []) stands le (λ ge. one_cut u64_cut FileTooLarge bytes (at + 1) n next end (stands_second bytes at (8 ∷ []) (digits w64 n) next stands) fits ge lt)
-unfit_ends bytes at (TreeFull n) next end stands fits le lt = absurd fits
-unfit_ends bytes at (VersionTop p) next end stands fits le lt =
-    tagged_cut unfit_kinds 10 (lit< tt) bytes at (path p) next end (path_fields p) stands le (λ ge. one_cut path_cut VersionTop bytes (at + 1) p next end (stands_second bytes at (10 ∷ []) (path p) next stands) fits ge lt)
-unfit_ends bytes at Memory next end stands fits le lt = absurd fits
-
-pub unfit_cut : IsCut unfit_fault_at tree_fault fault_fields UnfitFits
-unfit_cut = record { whole = unfit_whole; cut = unfit_ends }
-
-full_whole : (x : TreeError) → FullFits x → sum (fault_fields x) ≡ length (tree_fault x)
-full_whole (RowsFull n) fits = omega (arith, sum_more 1 (4 ∷ []), u32_cut.whole n fits)
-full_whole (TreeFull n) fits = omega (arith, sum_more 1 (8 ∷ []), u64_cut.whole n fits)
-full_whole _ fits = absurd fits
-
-full_ends : (bytes : List ℕ) (at : ℕ) (x : TreeError) (next end : ℕ) → Stands bytes at (tree_fault x) next → FullFits x → at ≤ end → end < next → full_fault_at (take end bytes) at ≡ Err (at + start_of (end - at) (fault_fields x))
-unfolding full_fault_at
-full_ends bytes at (RowsFull n) next end stands fits le lt =
-    tagged_cut full_kinds 7 (lit< tt) bytes at (digits w32 n) next end (4 ∷ []) stands le (λ ge. one_cut u32_cut RowsFull bytes (at + 1) n next end (stands_second bytes at (7 ∷ []) (digits w32 n) next stands) fits ge lt)
-full_ends bytes at (TreeFull n) next end stands fits le lt =
-    tagged_cut full_kinds 9 (lit< tt) bytes at (digits w64 n) next end (8 ∷ []) stands le (λ ge. one_cut u64_cut TreeFull bytes (at + 1) n next end (stands_second bytes at (9 ∷ []) (digits w64 n) next stands) fits ge lt)
-full_ends bytes at _ next end stands fits le lt = absurd fits
-
-pub full_cut : IsCut full_fault_at tree_fault fault_fields FullFits
-full_cut = record { whole = full_whole; cut = full_ends }
 
 -- ---- bodies
 

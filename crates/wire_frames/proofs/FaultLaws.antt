@@ -1,69 +1,70 @@
--- The laws of tree faults.
-use Rattle.std.proofs.Common.{◌≡◌, ℕ, List, Ok, refl, lit<}
-use Rattle.std.specs.List.{AllByRecursion}
-use Rattle.byte_fields.specs.Field.{Reader}
-use Rattle.byte_fields.specs.Codec.{Stands, IsCodec}
-use Rattle.byte_fields.proofs.Codec.{IsBranch, branch0, branch1, branch2, tagged_found, tagged_fault, tagged_again0, tagged_again1, tagged_again2, u32_codec, u64_codec}
-use Rattle.file_paths.proofs.Parts.{path_codec}
+-- The laws of the refusals that an Unfit and a Full may tell.
+use Rattle.std.proofs.Common.{◌≢◌, refl, sym, true≢false}
+use Rattle.byte_fields.specs.Codec.{IsCodec}
+use Rattle.byte_fields.specs.Cuts.{IsCut}
+use Rattle.byte_fields.proofs.Codec.{codec_for}
+use Rattle.byte_fields.proofs.Cutting.{cut_for}
 use Rattle.vol_tree.specs.declared.node.TreeError.{TreeError}
 use Rattle.vol_tree.specs.declared.node.TreeError.TheVariants.{RootFixed, NoParent, Exists, Missing, IsFolder, NotEmpty, RowsFull, FileTooLarge, TreeFull, VersionTop, Memory}
-use Rattle.wire_frames.specs.Fault.{tree_fault, UnfitFits, FullFits}
-use Rattle.wire_frames.specs.FaultReading.{unfit_kinds, full_kinds, unfit_fault_at, full_fault_at}
+use Rattle.vol_tree.specs.Fault.{tree_fault, fault_fields, FaultFitsOf}
+use Rattle.tree_laws.proofs.FaultLaws.{fault_of_codec, fault_of_cut}
+use Rattle.wire_frames.specs.Fault.{unfit_numbers, full_numbers, UnfitFits, FullFits, unfit_fault_at, full_fault_at}
 
-unfit_branches : AllByRecursion (λ (k : ℕ × Reader TreeError). IsBranch tree_fault UnfitFits k.0 k.1) unfit_kinds
-unfit_branches = (
-  branch0 (lit< tt) RootFixed refl tt,
-  (
-    branch1 (lit< tt) path_codec NoParent (λ p. refl) (λ p fits. fits),
-    (
-      branch1 (lit< tt) path_codec Exists (λ p. refl) (λ p fits. fits),
-      (
-        branch1 (lit< tt) path_codec Missing (λ p. refl) (λ p fits. fits),
-        (
-          branch1 (lit< tt) path_codec IsFolder (λ p. refl) (λ p fits. fits),
-          (
-            branch2 (lit< tt) path_codec (λ _ _. path_codec) NotEmpty (λ p q. refl) (λ p q fits fits'. (fits, fits')),
-            (
-              branch1 (lit< tt) u64_codec FileTooLarge (λ n. refl) (λ n fits. fits),
-              (
-                branch1 (lit< tt) path_codec VersionTop (λ p. refl) (λ p fits. fits),
-                tt,
-              ),
-            ),
-          ),
-        ),
-      ),
-    ),
-  ),
-)
+-- ---- refusals that more room would not cure
 
-unfit_again : (bytes : List ℕ) (at : ℕ) (x : TreeError) (next : ℕ) → Stands bytes at (tree_fault x) next → UnfitFits x → unfit_fault_at bytes at ≡ Ok (x, next)
-unfolding unfit_fault_at
-unfit_again bytes at RootFixed next stands fits = tagged_again0 unfit_kinds 1 (lit< tt) RootFixed bytes at next refl stands
-unfit_again bytes at (NoParent p) next stands fits = tagged_again1 unfit_kinds 2 (lit< tt) path_codec NoParent bytes at p next refl stands fits
-unfit_again bytes at (Exists p) next stands fits = tagged_again1 unfit_kinds 3 (lit< tt) path_codec Exists bytes at p next refl stands fits
-unfit_again bytes at (Missing p) next stands fits = tagged_again1 unfit_kinds 4 (lit< tt) path_codec Missing bytes at p next refl stands fits
-unfit_again bytes at (IsFolder p) next stands fits = tagged_again1 unfit_kinds 5 (lit< tt) path_codec IsFolder bytes at p next refl stands fits
-unfit_again bytes at (NotEmpty p q) next stands fits = tagged_again2 unfit_kinds 6 (lit< tt) path_codec (λ _ _. path_codec) NotEmpty bytes at p q next refl stands fits.0 fits.1
-unfit_again bytes at (RowsFull n) next stands fits = absurd fits
-unfit_again bytes at (FileTooLarge n) next stands fits = tagged_again1 unfit_kinds 8 (lit< tt) u64_codec FileTooLarge bytes at n next refl stands fits
-unfit_again bytes at (TreeFull n) next stands fits = absurd fits
-unfit_again bytes at Memory next stands fits = absurd fits
-unfit_again bytes at (VersionTop p) next stands fits = tagged_again1 unfit_kinds 10 (lit< tt) path_codec VersionTop bytes at p next refl stands fits
+unfit_fits : (x : TreeError) → UnfitFits x → FaultFitsOf unfit_numbers x
+unfit_fits RootFixed fits = (fits, refl)
+unfit_fits (NoParent p) fits = (fits, refl)
+unfit_fits (Exists p) fits = (fits, refl)
+unfit_fits (Missing p) fits = (fits, refl)
+unfit_fits (IsFolder p) fits = (fits, refl)
+unfit_fits (NotEmpty p child) fits = (fits, refl)
+unfit_fits (FileTooLarge n) fits = (fits, refl)
+unfit_fits (VersionTop p) fits = (fits, refl)
+unfit_fits _ fits = absurd fits
+
+fits_unfit : (x : TreeError) → FaultFitsOf unfit_numbers x → UnfitFits x
+fits_unfit RootFixed fits = fits.0
+fits_unfit (NoParent p) fits = fits.0
+fits_unfit (Exists p) fits = fits.0
+fits_unfit (Missing p) fits = fits.0
+fits_unfit (IsFolder p) fits = fits.0
+fits_unfit (NotEmpty p child) fits = fits.0
+fits_unfit (RowsFull n) fits = absurd (true≢false (sym fits.1))
+fits_unfit (FileTooLarge n) fits = fits.0
+fits_unfit (TreeFull n) fits = absurd (true≢false (sym fits.1))
+fits_unfit (VersionTop p) fits = fits.0
+fits_unfit Memory fits = absurd fits.0
 
 pub unfit_codec : IsCodec unfit_fault_at tree_fault UnfitFits
-unfolding unfit_fault_at
-unfit_codec = record { found = tagged_found tree_fault UnfitFits unfit_kinds unfit_branches; fault = tagged_fault tree_fault UnfitFits unfit_kinds unfit_branches; again = unfit_again }
+unfit_codec = codec_for (fault_of_codec unfit_numbers) fits_unfit unfit_fits
 
-full_branches : AllByRecursion (λ (k : ℕ × Reader TreeError). IsBranch tree_fault FullFits k.0 k.1) full_kinds
-full_branches = (branch1 (lit< tt) u32_codec RowsFull (λ n. refl) (λ n fits. fits), (branch1 (lit< tt) u64_codec TreeFull (λ n. refl) (λ n fits. fits), tt))
+pub unfit_cut : IsCut unfit_fault_at tree_fault fault_fields UnfitFits
+unfit_cut = cut_for (fault_of_cut unfit_numbers) unfit_fits
 
-full_again : (bytes : List ℕ) (at : ℕ) (x : TreeError) (next : ℕ) → Stands bytes at (tree_fault x) next → FullFits x → full_fault_at bytes at ≡ Ok (x, next)
-unfolding full_fault_at
-full_again bytes at (RowsFull n) next stands fits = tagged_again1 full_kinds 7 (lit< tt) u32_codec RowsFull bytes at n next refl stands fits
-full_again bytes at (TreeFull n) next stands fits = tagged_again1 full_kinds 9 (lit< tt) u64_codec TreeFull bytes at n next refl stands fits
-full_again bytes at _ next stands fits = absurd fits
+pub unfit_is_spelled : (x : TreeError) → UnfitFits x → x ≢ Memory
+unfit_is_spelled Memory fits e = absurd fits
+unfit_is_spelled _ fits e = absurd cc
+
+-- ---- refusals for want of room
+
+full_fits : (x : TreeError) → FullFits x → FaultFitsOf full_numbers x
+full_fits (RowsFull n) fits = (fits, refl)
+full_fits (TreeFull n) fits = (fits, refl)
+full_fits _ fits = absurd fits
+
+fits_full : (x : TreeError) → FaultFitsOf full_numbers x → FullFits x
+fits_full (RowsFull n) fits = fits.0
+fits_full (TreeFull n) fits = fits.0
+fits_full Memory fits = absurd fits.0
+fits_full _ fits = absurd (true≢false (sym fits.1))
 
 pub full_codec : IsCodec full_fault_at tree_fault FullFits
-unfolding full_fault_at
-full_codec = record { found = tagged_found tree_fault FullFits full_kinds full_branches; fault = tagged_fault tree_fault FullFits full_kinds full_branches; again = full_again }
+full_codec = codec_for (fault_of_codec full_numbers) fits_full full_fits
+
+pub full_cut : IsCut full_fault_at tree_fault fault_fields FullFits
+full_cut = cut_for (fault_of_cut full_numbers) full_fits
+
+pub full_is_spelled : (x : TreeError) → FullFits x → x ≢ Memory
+full_is_spelled Memory fits e = absurd fits
+full_is_spelled _ fits e = absurd cc

@@ -10,7 +10,8 @@ use Rattle.vol_tree.specs.declared.node.TreeError.{TreeError}
 use Rattle.vol_tree.specs.declared.node.TreeError.TheVariants.{RootFixed, NoParent, Exists, Missing, IsFolder, NotEmpty, RowsFull, FileTooLarge, TreeFull, VersionTop}
 use Rattle.wire_frames.specs.declared.message.Message.{Message}
 use Rattle.wire_frames.specs.declared.message.Message.TheVariants as messages
-use Rattle.wire_frames.specs.Fault.{tree_fault, UnfitFits, FullFits}
+use Rattle.vol_tree.specs.Fault.{tree_fault}
+use Rattle.wire_frames.specs.Fault.{UnfitFits, FullFits}
 use Rattle.wire_frames.specs.Frame.{body, payload, frame, BodyFits, IsValid}
 use Rattle.tree_laws.proofs.Few.{few_bases}
 

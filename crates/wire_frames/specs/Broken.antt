@@ -1,7 +1,6 @@
 -- Frames that break a rule: the field that is refused, whatever stands behind it.
 use Rattle.std.specs.Prelude.{◌≡◌, ◌≢◌, ◌⊎◌, ℕ, ◌+◌, ◌^◌, ◌<◌, ◌≤◌, true, false, List, [], ◌∷◌, ◌++◌, length, Err}
 use Rattle.std.specs.Int.{w32, w64}
-use Rattle.std.specs.List.{AllByRecursion}
 use Rattle.byte_fields.specs.Field.{digits}
 use Rattle.byte_fields.specs.Broken.{IsRefused}
 use Rattle.vol_tree.specs.declared.node.Effect.{Effect}
@@ -11,7 +10,7 @@ use Rattle.file_paths.specs.Spelling.{path}
 use Rattle.vol_tree.specs.Spelling.{effects, EffectsFit}
 use Rattle.file_paths.specs.Reading.{path_at}
 use Rattle.vol_tree.specs.Reading.{effects_at, bases_at, rows_at}
-use Rattle.wire_frames.specs.FaultReading.{unfit_fault_at, full_fault_at}
+use Rattle.wire_frames.specs.Fault.{unfit_fault_at, full_fault_at}
 use Rattle.wire_frames.specs.declared.message.TheConstants.{MAX_FRAME}
 use Rattle.wire_frames.specs.declared.message.Message.{Message}
 use Rattle.wire_frames.specs.declared.message.Kind.{Kind}
@@ -56,16 +55,6 @@ pub record BrokenBodies : Type 0 where
   pub code_is_none : (number code : ℕ) → code < 2 ^ 8 → (code ≡ 0) ⊎ (7 < code) → IsRefusedAt Malformed number (code ∷ []) 15
   -- an offset beside a code that has none: at the offset
   pub offset_is_told : (number code offset : ℕ) → 1 ≤ code → code ≤ 7 → code ≢ 5 → code ≢ 6 → 1 ≤ offset → offset < 2 ^ 32 → IsRefusedAt Malformed number (code ∷ digits w32 offset) 16
-
-pub record BrokenFaults : Type 0 where
-  -- a number that tells no refusal, or one for want of room: at the number
-  pub unfit_number : (number : ℕ) → number < 2 ^ 8 → AllByRecursion (λ known. number ≢ known) (1 ∷ 2 ∷ 3 ∷ 4 ∷ 5 ∷ 6 ∷ 8 ∷ 10 ∷ []) → IsRefused unfit_fault_at (number ∷ []) 0
-  -- a number that tells no refusal for want of room: at the number
-  pub full_number : (number : ℕ) → number < 2 ^ 8 → AllByRecursion (λ known. number ≢ known) (7 ∷ 9 ∷ []) → IsRefused full_fault_at (number ∷ []) 0
-  -- a path that is refused: behind the number
-  pub path_is_refused : (text : List ℕ) (offset : ℕ) → IsRefused path_at text offset → AllByRecursion (λ number. IsRefused unfit_fault_at (number ∷ text) (1 + offset)) (2 ∷ 3 ∷ 4 ∷ 5 ∷ 6 ∷ 10 ∷ [])
-  -- a child whose path is refused: behind the path of its folder
-  pub child_is_refused : (p : FilePath) (text : List ℕ) (offset : ℕ) → IsPath p → IsRefused path_at text offset → IsRefused unfit_fault_at (6 ∷ (path p ++ text)) (1 + (length (path p) + offset))
 
 -- bytes behind the last field of a valid message: at the first of them
 abbrev pub LeftBytes : Type 0

@@ -1,25 +1,18 @@
--- Why a volume refused an effect, as an Unfit and a Full tell it.
-use Rattle.std.specs.Prelude.{ℕ, ◌<◌, ◌^◌, List, [], ◌∷◌, ◌++◌}
-use Rattle.std.specs.Int.{w32, w64}
-use Rattle.byte_fields.specs.Field.{digits}
+-- Which refusals of a volume an Unfit and a Full may tell.
+use Rattle.std.specs.Prelude.{ℕ, ◌<◌, ◌^◌, List, [], ◌∷◌}
+use Rattle.byte_fields.specs.Field.{Reader}
 use Rattle.file_paths.specs.Path.{IsPath}
-use Rattle.file_paths.specs.Spelling.{path}
 use Rattle.vol_tree.specs.declared.node.TreeError.{TreeError}
 use Rattle.vol_tree.specs.declared.node.TreeError.TheVariants.{RootFixed, NoParent, Exists, Missing, IsFolder, NotEmpty, RowsFull, FileTooLarge, TreeFull, VersionTop, Memory}
+use Rattle.vol_tree.specs.Fault.{fault_of}
 
--- the number of the refusal, and what it names; want of memory is never told
-abbrev pub tree_fault : TreeError → List ℕ
-tree_fault RootFixed = 1 ∷ []
-tree_fault (NoParent p) = 2 ∷ path p
-tree_fault (Exists p) = 3 ∷ path p
-tree_fault (Missing p) = 4 ∷ path p
-tree_fault (IsFolder p) = 5 ∷ path p
-tree_fault (NotEmpty p child) = 6 ∷ (path p ++ path child)
-tree_fault (RowsFull n) = 7 ∷ digits w32 n
-tree_fault (FileTooLarge n) = 8 ∷ digits w64 n
-tree_fault (TreeFull n) = 9 ∷ digits w64 n
-tree_fault (VersionTop p) = 10 ∷ path p
-tree_fault Memory = []
+-- the numbers of the refusals that more room would not cure
+abbrev pub unfit_numbers : List ℕ
+unfit_numbers = 1 ∷ 2 ∷ 3 ∷ 4 ∷ 5 ∷ 6 ∷ 8 ∷ 10 ∷ []
+
+-- the numbers of the refusals for want of room
+abbrev pub full_numbers : List ℕ
+full_numbers = 7 ∷ 9 ∷ []
 
 -- a refusal that more room would not cure
 abbrev pub UnfitFits : TreeError → Type 0
@@ -40,3 +33,11 @@ abbrev pub FullFits : TreeError → Type 0
 FullFits (RowsFull n) = n < 2 ^ 32
 FullFits (TreeFull n) = n < 2 ^ 64
 FullFits _ = ⊥
+
+-- reading a refusal that more room would not cure
+abbrev pub unfit_fault_at : Reader TreeError
+unfit_fault_at = fault_of unfit_numbers
+
+-- reading a refusal for want of room
+abbrev pub full_fault_at : Reader TreeError
+full_fault_at = fault_of full_numbers

@@ -2,24 +2,9 @@
 use Rattle.std.specs.Prelude.{ℕ, List, [], ◌∷◌, ◌++◌}
 use Rattle.file_paths.specs.Fields.{path_fields}
 use Rattle.vol_tree.specs.Fields.{effects_fields, bases_fields, rows_fields}
-use Rattle.vol_tree.specs.declared.node.TreeError.{TreeError}
-use Rattle.vol_tree.specs.declared.node.TreeError.TheVariants.{RootFixed, NoParent, Exists, Missing, IsFolder, NotEmpty, RowsFull, FileTooLarge, TreeFull, VersionTop, Memory}
+use Rattle.vol_tree.specs.Fault.{fault_fields}
 use Rattle.wire_frames.specs.declared.message.Message.{Message}
 use Rattle.wire_frames.specs.declared.message.Message.TheVariants as messages
-
--- the number of the refusal, and the fields of what it names
-abbrev pub fault_fields : TreeError → List ℕ
-fault_fields RootFixed = 1 ∷ []
-fault_fields (NoParent p) = 1 ∷ path_fields p
-fault_fields (Exists p) = 1 ∷ path_fields p
-fault_fields (Missing p) = 1 ∷ path_fields p
-fault_fields (IsFolder p) = 1 ∷ path_fields p
-fault_fields (NotEmpty p child) = 1 ∷ (path_fields p ++ path_fields child)
-fault_fields (RowsFull n) = 1 ∷ 4 ∷ []
-fault_fields (FileTooLarge n) = 1 ∷ 8 ∷ []
-fault_fields (TreeFull n) = 1 ∷ 8 ∷ []
-fault_fields (VersionTop p) = 1 ∷ path_fields p
-fault_fields Memory = []
 
 -- the fields of the body
 abbrev pub body_fields : Message → List ℕ

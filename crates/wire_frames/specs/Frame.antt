@@ -7,7 +7,8 @@ use Rattle.vol_tree.specs.Tree.{IsTree}
 use Rattle.vol_tree.specs.Effects.{touched_all, distinct}
 use Rattle.file_paths.specs.Spelling.{path}
 use Rattle.vol_tree.specs.Spelling.{effects, bases, rows, EffectsFit, AreBasesOf}
-use Rattle.wire_frames.specs.Fault.{tree_fault, UnfitFits, FullFits}
+use Rattle.vol_tree.specs.Fault.{tree_fault}
+use Rattle.wire_frames.specs.Fault.{UnfitFits, FullFits}
 use Rattle.wire_frames.specs.declared.message.TheConstants.{CLIENTS}
 use Rattle.wire_frames.specs.declared.message.Message.{Message}
 use Rattle.wire_frames.specs.declared.message.Message.TheVariants as messages

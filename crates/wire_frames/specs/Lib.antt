@@ -1,6 +1,5 @@
 pub mod Fault
 pub mod Frame
-pub mod FaultReading
 pub mod Reading
 pub mod Fields
 pub mod Laws

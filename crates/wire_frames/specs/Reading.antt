@@ -6,7 +6,7 @@ use Rattle.byte_fields.specs.Field.{Reader, Answers, none, two, ◌>>=◌, ruled
 use Rattle.vol_tree.specs.Effects.{touched_all, distinct}
 use Rattle.file_paths.specs.Reading.{path_at}
 use Rattle.vol_tree.specs.Reading.{effects_at, bases_at, rows_at}
-use Rattle.wire_frames.specs.FaultReading.{unfit_fault_at, full_fault_at}
+use Rattle.wire_frames.specs.Fault.{unfit_fault_at, full_fault_at}
 use Rattle.wire_frames.specs.declared.message.TheConstants.{MAX_FRAME}
 use Rattle.wire_frames.specs.declared.message.Message.{Message}
 use Rattle.wire_frames.specs.declared.message.Message.TheVariants as messages

@@ -2,12 +2,13 @@
 
 ghost use Rattle.std.specs.Prelude.{◌≡◌, ℕ, ◌≤◌, List, ◌++◌, length};
 ghost use Rattle.byte_fields.specs.Codec.{IsCodec};
+ghost use Rattle.tree_laws.specs.Broken.{BrokenFaults};
 ghost use Rattle.wire_frames.specs.declared.message.TheConstants.{MAX_FRAME};
 ghost use Rattle.wire_frames.specs.declared.message.Message.{Message};
-ghost use Rattle.wire_frames.specs.Fault.{tree_fault, UnfitFits, FullFits};
-ghost use Rattle.wire_frames.specs.FaultReading.{unfit_fault_at, full_fault_at};
+ghost use Rattle.vol_tree.specs.Fault.{tree_fault};
+ghost use Rattle.wire_frames.specs.Fault.{UnfitFits, FullFits, unfit_numbers, full_numbers, unfit_fault_at, full_fault_at};
 ghost use Rattle.wire_frames.specs.Frame.{frame, IsValid};
-ghost use Rattle.wire_frames.specs.Broken.{BrokenNumbers, BrokenBodies, BrokenFaults, LeftBytes};
+ghost use Rattle.wire_frames.specs.Broken.{BrokenNumbers, BrokenBodies, LeftBytes};
 ghost use Rattle.wire_frames.specs.Laws.{LengthIsFirst, VersionIsSecond, KindIsThird, ClientIsFourth, FieldsAreBehindTheClient, MessagesStandBeforeWhatIsLeft, CutFramesNameTheField, KindsDecideReplies};
 
 /// States that, whatever follows it, a frame is the frame of one message, and that no frame is longer than the most.
@@ -44,6 +45,6 @@ pub fn refusals_name_the_first_fault()
 pub fn broken_rules_name_their_field()
     ensures numbers { BrokenNumbers }
     ensures bodies { BrokenBodies }
-    ensures faults { BrokenFaults }
+    ensures faults { BrokenFaults unfit_numbers × BrokenFaults full_numbers }
     ensures left { LeftBytes }
 {}

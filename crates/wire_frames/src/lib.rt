@@ -10,7 +10,6 @@ mod reading;
 mod replies;
 mod writing;
 
-pub use faults::{full_fault_at, spell_fault, unfit_fault_at};
 pub use laws::{
     broken_rules_name_their_field, faults_are_spelled_once, frames_are_apart, kinds_decide_replies,
     refusals_name_the_first_fault,

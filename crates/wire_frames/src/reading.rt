@@ -6,12 +6,12 @@ ghost use Rattle.wire_frames.specs.declared.message.Message.{Message};
 ghost use Rattle.wire_frames.specs.Frame.{frame, IsValid, client_rule};
 ghost use Rattle.wire_frames.specs.Reading.{store_at, stale_at, unfit_at, gap_at, full_at, snapshot_at, malformed_at, body_at, message_at, is_sized, frame_of, GivesFrame};
 
-use crate::faults::{full_fault_at, unfit_fault_at};
+use crate::faults::{FULL_NUMBERS, UNFIT_NUMBERS};
 use crate::kind::FRAME_VERSION;
 use crate::message::{FrameError, Kind, MAX_FRAME, Message};
 use byte_fields::{TakeError, u8_at, u32_at, u64_at};
 use std::alloc::Global;
-use vol_tree::{Bases, Effects, Path, Rows};
+use vol_tree::{Bases, Effects, Path, Rows, TreeError};
 
 type Taken = Result<(Message, usize), TakeError>;
 
@@ -60,7 +60,7 @@ fn unfit_at(alloc: Global, bytes: &[u8], at: usize, client: u8, number: u64) -> 
     ensures { Gives result (unfit_at client number bytes.now at) }
 {
     let (index, fault_at) = u32_at(bytes, at)?;
-    let (fault, next) = unfit_fault_at(alloc, bytes, fault_at)?;
+    let (fault, next) = TreeError::take_one_of(alloc, bytes, fault_at, &UNFIT_NUMBERS)?;
     Ok((
         Message::Unfit {
             client,
@@ -90,11 +90,11 @@ fn snapshot_at(alloc: Global, bytes: &[u8], at: usize, client: u8, number: u64) 
 }
 
 #[tactic(auto, unfolding(crate::specs::Reading::full_at))]
-fn full_at(bytes: &[u8], at: usize, client: u8, number: u64) -> Taken
+fn full_at(alloc: Global, bytes: &[u8], at: usize, client: u8, number: u64) -> Taken
     ensures { Gives result (full_at client number bytes.now at) }
 {
     let (index, fault_at) = u32_at(bytes, at)?;
-    let (fault, next) = full_fault_at(bytes, fault_at)?;
+    let (fault, next) = TreeError::take_one_of(alloc, bytes, fault_at, &FULL_NUMBERS)?;
     Ok((
         Message::Full {
             client,
@@ -148,7 +148,7 @@ fn body_at(alloc: Global, bytes: &[u8], at: usize, kind: Kind, client: u8, numbe
         Kind::Accepted => Ok((Message::Accepted { client, number }, at)),
         Kind::Stale => stale_at(alloc, bytes, at, client, number),
         Kind::Unfit => unfit_at(alloc, bytes, at, client, number),
-        Kind::Full => full_at(bytes, at, client, number),
+        Kind::Full => full_at(alloc, bytes, at, client, number),
         Kind::Gap => gap_at(bytes, at, client, number),
         Kind::Snapshot => snapshot_at(alloc, bytes, at, client, number),
         Kind::Malformed => malformed_at(bytes, at),

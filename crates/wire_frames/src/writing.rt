@@ -3,14 +3,13 @@
 ghost use Rattle.std.specs.Prelude.{◌≡◌, ◌++◌, OnOk, IfOk};
 ghost use Rattle.wire_frames.specs.Frame.{frame, body, payload, BodyFits, IsValid};
 
-use crate::faults::spell_fault;
 use crate::kind::FRAME_VERSION;
 use crate::message::Message;
 use byte_fields::{put_u32, put_u64};
 use std::alloc::{AllocError, Global};
-use vol_tree::{Bases, Effects, Path, Rows};
+use vol_tree::{Bases, Effects, Path, Rows, TreeError};
 
-#[tactic(auto, using(std::proofs::Common::append_assoc))]
+#[tactic(auto, using(std::proofs::Common::append_assoc, crate::proofs::FaultLaws::unfit_is_spelled, crate::proofs::FaultLaws::full_is_spelled))]
 fn spell_body(message: &Message, out: &mut Vec<u8>) -> Result<(), AllocError>
     requires { BodyFits message.now }
     ensures { OnOk result (out.new.items ≡ out.old.items ++ body message.now) }
@@ -32,7 +31,7 @@ fn spell_body(message: &Message, out: &mut Vec<u8>) -> Result<(), AllocError>
         }
         Message::Unfit { index, fault, .. } | Message::Full { index, fault, .. } => {
             put_u32(out, *index)?;
-            spell_fault(fault, out)?;
+            TreeError::spell(fault, out)?;
         }
         Message::Gap { last, .. } => put_u64(out, *last)?,
         Message::Malformed { code, offset } => {
