@@ -1,23 +1,22 @@
 -- The laws of parts that break a rule.
-use Rattle.std.proofs.Common.{◌≡◌, ◌≢◌, ◌⊎◌, ℕ, ◌+◌, ◌-◌, ◌^◌, ◌<◌, ◌≤◌, min, Bool, true, false, ◌&&◌, not, leb, eqb, List, [], ◌∷◌, ◌++◌, length, map, Some, inl, inr, refl, sym, subst, ◌∙◌, arith, lit<, true≢false, append_assoc}
-use Rattle.std.specs.Int.{w16, w32, w64}
+use Rattle.std.proofs.Common.{◌≡◌, ◌≢◌, ◌⊎◌, ℕ, ◌+◌, ◌-◌, ◌^◌, ◌<◌, ◌≤◌, min, Bool, true, false, ◌&&◌, not, leb, eqb, List, [], ◌∷◌, ◌++◌, length, map, Some, Err, inl, inr, refl, sym, subst, ◌∙◌, arith, lit<}
+use Rattle.std.specs.Int.{w32, w64}
 use Rattle.std.specs.List.{flat_map, list_all, AllByRecursion}
 use Rattle.std.specs.Ordering.{is_lt}
 use Rattle.std.specs.declared.cmp.Ordering.{Ordering}
 use Rattle.std.specs.declared.cmp.Ordering.TheVariants.{Less}
 use Rattle.std.proofs.lemmas.Bool.{le-leb, eq-eqb, ne_eqb}
-use Rattle.std.proofs.lemmas.List.{append-nil}
 use Rattle.std.proofs.lemmas.List.Sums.{sum_by-cons}
-use Rattle.byte_fields.specs.Field.{digits, ruled, mapped, none, one, two, number_at, span_at, each_at, passed}
+use Rattle.byte_fields.specs.Field.{Reader, digits, ruled, none, one, two, number_at, tagged_at, of_kind, each_at, passed}
 use Rattle.byte_fields.specs.Broken.{IsRefused, EachIsRead}
-use Rattle.byte_fields.proofs.Codec.{u16_codec, u32_codec, u64_codec, span_codec}
-use Rattle.byte_fields.proofs.Breaking.{read_again, refused_there, rule_refused, meaning_refused, ruled_refused, first_refused, later_refused, tagged_refused, kind_refused, second_fails, count_refused, counted_refused, items_refused, each_read}
+use Rattle.byte_fields.proofs.Codec.{u64_codec}
+use Rattle.byte_fields.proofs.Breaking.{read_again, refused_there, rule_refused, ruled_refused, first_refused, later_refused, tagged_refused, kind_refused, second_fails, count_refused, counted_refused, items_refused, each_read}
 use Rattle.vol_tree.specs.declared.node.Effect.{Effect}
 use Rattle.vol_tree.specs.declared.node.Effect.TheVariants.{Make, Put, Remove, Move}
 use Rattle.vol_tree.specs.declared.node.Base.{Base}
 use Rattle.vol_tree.specs.declared.node.Row.{Row}
 use Rattle.vol_tree.specs.declared.node.Node.TheVariants.{File}
-use Rattle.file_paths.specs.Path.{FilePath, IsPath, path_of, path_cmp, is_same_path, folder_of}
+use Rattle.file_paths.specs.Path.{FilePath, IsPath, path_cmp, is_same_path, folder_of}
 use Rattle.vol_tree.specs.Tree.{Volume, IsTree, is_root, is_folder, total_size}
 use Rattle.vol_tree.specs.Effects.{content_size, contents_size}
 use Rattle.vol_tree.specs.Behind.{IsIn}
@@ -25,7 +24,6 @@ use Rattle.file_paths.specs.Spelling.{path}
 use Rattle.vol_tree.specs.Spelling.{effect, base, row, EffectFits, EffectFitsIn, AreBasesOf}
 use Rattle.file_paths.specs.Reading.{path_at, content_at}
 use Rattle.vol_tree.specs.Reading.{make_at, put_at, remove_at, move_at, effect_kinds, effect_at, room_after, effects_within, base_at, first_base_at, others_after, bases_at, may_stand, file_at, node_kinds, standing_at, room_beside, next_row_at, with_next, rows_at}
-use Rattle.file_paths.specs.Broken.{BrokenTexts, BrokenLengths}
 use Rattle.tree_laws.specs.Broken.{BrokenEffects, BrokenEffectLists, BrokenBases, IsNext, BrokenRows, BrokenRowLists}
 use Rattle.file_paths.proofs.Parts.{path_codec, length_refused}
 use Rattle.vol_tree.proofs.RowsTaken.{rows_passed}
@@ -65,16 +63,18 @@ module _ (room : ℕ) where
   content_refused p text offset is refused =
       later_refused path_at (λ q. one (content_at (min 8388608 room)) (Put q)) (path p) text p offset (read_again path_codec p is) (first_refused (content_at (min 8388608 room)) (λ c. none (Put p c)) text offset refused)
 
-not_one_to_four : (kind k : ℕ) → (kind ≡ 0) ⊎ (4 < kind) → 1 ≤ k → k ≤ 4 → eqb kind k ≡ false
-not_one_to_four kind k (inl e) low high = ne_eqb kind k (λ is. omega arith)
-not_one_to_four kind k (inr lt) low high = ne_eqb kind k (λ is. omega arith)
+-- a number that is none of the kinds
+pub unknown_kind : {A : Type 0} (kinds : List (ℕ × Reader A)) (kind : ℕ) → kind < 2 ^ 8 → AllByRecursion (λ known. kind ≢ known.0) kinds → IsRefused (tagged_at kinds) (kind ∷ []) 0
+unknown_kind {A} kinds kind byte none = kind_refused kinds kind byte (λ tag at bytes. by kinds none tag at bytes)
+  where
+    by : (rest : List (ℕ × Reader A)) → AllByRecursion (λ known. kind ≢ known.0) rest → (tag at : ℕ) (bytes : List ℕ) → of_kind rest tag kind bytes at ≡ Err tag
+    by [] all tag at bytes = refl
+    by (first ∷ others) all tag at bytes = rw (ne_eqb kind first.0 all.0) (by others all.1 tag at bytes)
 
 pub broken_effects : BrokenEffects
 unfolding effect_at
 broken_effects = record {
-  kind_is_none = λ room kind byte none.
-      kind_refused (effect_kinds room) kind byte
-      (λ tag at bytes. rw (not_one_to_four kind 1 none (omega arith) (omega arith), not_one_to_four kind 2 none (omega arith) (omega arith), not_one_to_four kind 3 none (omega arith) (omega arith), not_one_to_four kind 4 none (omega arith) (omega arith)) refl);
+  kind_is_none = λ room kind byte none. unknown_kind (effect_kinds room) kind byte none;
   path_is_none = λ room text offset refused. (
     tagged_refused (effect_kinds room) 1 make_at text offset (lit< tt) (λ tag at bytes. refl) (make_refused room text offset refused),
     (
@@ -218,17 +218,9 @@ module _ (before : Volume) where
       (read_again (version_part before) version (next.fits, le-leb 1 version next.touched))
       (first_refused (standing_at (is_folder before (folder_of p)) (room_beside before)) (λ n. none (record { path = p; version = version; node = n })) text offset refused))
 
-node_kind_refused : (in_folder : Bool) (room kind : ℕ) → kind < 2 ^ 8 → (2 < kind) ⊎ ((in_folder ≡ false) × (1 ≤ kind)) → IsRefused (standing_at in_folder room) (kind ∷ []) 0
+node_kind_refused : (in_folder : Bool) (room kind : ℕ) → kind < 2 ^ 8 → AllByRecursion (λ known. kind ≢ known.0) (node_kinds in_folder room) → IsRefused (standing_at in_folder room) (kind ∷ []) 0
 unfolding standing_at
-node_kind_refused false room kind byte none =
-    kind_refused (node_kinds false room) kind byte (λ tag at bytes. rw (ne_eqb kind 0 (some none)) refl)
-  where
-    some : (2 < kind) ⊎ ((false ≡ false) × (1 ≤ kind)) → kind ≢ 0
-    some (inl lt) e = omega arith
-    some (inr h) e = omega (arith, h.1)
-node_kind_refused true room kind byte (inl lt) =
-    kind_refused (node_kinds true room) kind byte (λ tag at bytes. rw (ne_eqb kind 0 (λ e. omega arith), ne_eqb kind 1 (λ e. omega arith), ne_eqb kind 2 (λ e. omega arith)) refl)
-node_kind_refused true room kind byte (inr h) = absurd (true≢false h.0)
+node_kind_refused in_folder room kind byte none = unknown_kind (node_kinds in_folder room) kind byte none
 
 file_refused : (room size : ℕ) → size < 2 ^ 32 → (8388608 < size) ⊎ (room < size) → IsRefused (standing_at true room) (2 ∷ digits w32 size) (1 + 0)
 unfolding standing_at file_at
@@ -236,7 +228,7 @@ file_refused room size small large =
     tagged_refused (node_kinds true room) 2 (file_at room) (digits w32 size) 0 (lit< tt) (λ tag at bytes. refl)
     (first_refused (content_at (min 8388608 room)) (λ c. none (Some (File c))) (digits w32 size) 0 (large_refused room size small large))
 
-node_there : (before : Volume) (p : FilePath) (version kind : ℕ) → IsNext before p version → kind < 2 ^ 8 → (2 < kind) ⊎ ((is_folder before (folder_of p) ≡ false) × (1 ≤ kind))
+node_there : (before : Volume) (p : FilePath) (version kind : ℕ) → IsNext before p version → kind < 2 ^ 8 → AllByRecursion (λ known. kind ≢ known.0) (node_kinds (is_folder before (folder_of p)) (room_beside before))
     → IsRefused (next_row_at before) (path p ++ (digits w64 version ++ kind ∷ [])) (length (path p) + 8)
 node_there before p version kind next byte none =
     refused_there (next_row_at before) (path p ++ (digits w64 version ++ kind ∷ [])) (length (path p) + (length (digits w64 version) + 0)) (length (path p) + 8) (omega (arith, eight_bytes version))
@@ -253,8 +245,8 @@ broken_rows = record {
   version_is_0 = λ before p is stands.
       refused_there (next_row_at before) (path p ++ digits w64 0) (length (path p) + 0) (length (path p)) (omega arith)
       (version_refused before p (digits w64 0) 0 is stands (rule_refused (number_at w64) (leb 1) (digits w64 0) 0 (read_again u64_codec 0 (lit< tt)) refl));
-  kind_is_none = λ before p version kind next large byte. node_there before p version kind next byte (inl large);
-  parent_is_no_folder = λ before p version kind next orphan some byte. node_there before p version kind next byte (inr (orphan, some));
+  kind_is_none = node_there;
+  parent_is_no_folder = λ before p version kind next orphan some byte. node_there before p version kind next byte (rw orphan (λ e. omega (arith, some), tt));
   content_is_large = λ before p version size next folder tree small large.
       refused_there (next_row_at before) (path p ++ (digits w64 version ++ (2 ∷ digits w32 size))) (length (path p) + (length (digits w64 version) + (1 + 0))) (length (path p) + 9) (omega (arith, eight_bytes version))
       (node_refused before p version (2 ∷ digits w32 size) (1 + 0) next

@@ -7,15 +7,15 @@ use Rattle.std.proofs.lemmas.List.{length-map}
 use Rattle.byte_fields.specs.Field.{ruled, number_at, digits}
 use Rattle.byte_fields.specs.Codec.{Stands}
 use Rattle.byte_fields.specs.Cuts.{start_of, IsCut}
-use Rattle.byte_fields.proofs.Codec.{u16_codec, u32_codec, ruled_codec, stands_second}
+use Rattle.byte_fields.proofs.Codec.{u32_codec, ruled_codec, stands_second}
 use Rattle.byte_fields.proofs.Facts.{sum_more}
-use Rattle.byte_fields.proofs.Cutting.{sum_both, span_cut, u16_cut, u32_cut, u64_cut, ruled_cut, mapped_cut, cut_for, one_cut, two_cut, three_cut, tagged_cut, each_cut, counted_cut}
+use Rattle.byte_fields.proofs.Cutting.{sum_both, u32_cut, u64_cut, ruled_cut, cut_for, one_cut, two_cut, three_cut, tagged_cut, each_cut, counted_cut}
 use Rattle.vol_tree.specs.declared.node.Effect.{Effect}
 use Rattle.vol_tree.specs.declared.node.Effect.TheVariants.{Make, Put, Remove, Move}
 use Rattle.vol_tree.specs.declared.node.Base.{Base}
 use Rattle.vol_tree.specs.declared.node.Node.{Node}
 use Rattle.vol_tree.specs.declared.node.Node.TheVariants.{Folder, File}
-use Rattle.file_paths.specs.Path.{FilePath, IsPath, path_text, path_of, is_same_path, folder_of}
+use Rattle.file_paths.specs.Path.{FilePath, IsPath, is_same_path, folder_of}
 use Rattle.vol_tree.specs.Tree.{Volume, IsTree, is_folder}
 use Rattle.file_paths.specs.Spelling.{path, content}
 use Rattle.vol_tree.specs.Spelling.{effect, effects, base, bases, node, row, rows, EffectFitsIn, EffectsFitWithin, EffectsFit, BaseFits, AreBasesOf}

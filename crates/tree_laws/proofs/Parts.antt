@@ -4,9 +4,7 @@ use Rattle.std.specs.Prelude.{nat_lt, nat_le}
 use Rattle.std.specs.List.{sum_by, AllByRecursion, list_all}
 use Rattle.std.specs.Cmp.{first_so, second_so}
 use Rattle.std.specs.Cmp.Derive.{both_true}
-use Rattle.std.specs.Ordering.{is_lt, is_eq}
-use Rattle.std.specs.declared.cmp.Ordering.{Ordering}
-use Rattle.std.specs.declared.cmp.Ordering.TheVariants.{Less, Equal, Greater}
+use Rattle.std.specs.Ordering.{is_lt}
 use Rattle.std.proofs.lemmas.Bool.Decides.{nat_tests}
 use Rattle.std.proofs.lemmas.Bool.{leb-true, le-leb, eqb-true, eq-eqb, and_parts}
 use Rattle.std.proofs.lemmas.List.{length-map, append-nil}
@@ -17,7 +15,7 @@ use Rattle.vol_tree.specs.declared.node.Base.{Base}
 use Rattle.vol_tree.specs.declared.node.Row.{Row}
 use Rattle.vol_tree.specs.declared.node.Node.{Node}
 use Rattle.vol_tree.specs.declared.node.Node.TheVariants.{Folder, File}
-use Rattle.file_paths.specs.Path.{FilePath, IsPath, path_text, path_cmp, is_same_path, folder_of}
+use Rattle.file_paths.specs.Path.{FilePath, IsPath, path_cmp, is_same_path, folder_of}
 use Rattle.vol_tree.specs.Tree.{Volume, IsRow, IsTree, is_root, is_folder, node_size, total_size}
 use Rattle.vol_tree.specs.Effects.{content_size}
 use Rattle.byte_fields.specs.Field.{Reader, EachFits, ruled, number_at, digits}
@@ -27,9 +25,8 @@ use Rattle.file_paths.specs.Spelling.{path, content}
 use Rattle.vol_tree.specs.Spelling.{effect, effects, base, bases, node, row, rows, EffectFits, EffectFitsIn, EffectsFitWithin, EffectsFit, BaseFits, AreBasesOf}
 use Rattle.file_paths.specs.Reading.{path_at, content_at}
 use Rattle.vol_tree.specs.Reading.{make_at, put_at, remove_at, move_at, effect_kinds, effect_at, room_after, effects_within, effects_at, base_at, first_base_at, others_after, bases_at, may_stand, file_at, node_kinds, standing_at, room_beside, next_row_at, with_next, rows_at}
-use Rattle.byte_fields.proofs.Codec.{IsBranch, span_codec, u16_codec, u32_codec, u64_codec, ruled_codec, mapped_codec, here_fault, place_is, found2, fault2, again2, found3, fault3, again3, each_codec, tagged_found, tagged_fault, tagged_again0, tagged_again1, tagged_again2, branch0, branch1, branch2, counted_codec, codec_for}
-use Rattle.file_paths.proofs.Order.{same_path, same_place, tied_path, path_tied}
-use Rattle.file_paths.proofs.PathTexts.{path_of_text, text_of_path_read}
+use Rattle.byte_fields.proofs.Codec.{IsBranch, u32_codec, u64_codec, ruled_codec, here_fault, place_is, found2, fault2, again2, found3, fault3, again3, each_codec, tagged_found, tagged_fault, tagged_again0, tagged_again1, tagged_again2, branch0, branch1, branch2, counted_codec, codec_for}
+use Rattle.file_paths.proofs.Order.{tied_path, path_tied}
 use Rattle.vol_tree.proofs.Appending.{tree_with_row, follows_in_tree}
 use Rattle.tree_laws.proofs.Fronts.{back_all, front_is_tree}
 use Rattle.file_paths.proofs.Parts.{path_codec, content_codec}

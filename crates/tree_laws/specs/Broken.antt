@@ -1,31 +1,30 @@
 -- Parts that break a rule: the field that is refused, whatever stands before and behind them.
-use Rattle.std.specs.Prelude.{◌≡◌, ◌≢◌, ◌⊎◌, ℕ, ◌+◌, ◌-◌, ◌^◌, ◌<◌, ◌≤◌, true, false, List, [], ◌∷◌, ◌++◌, length, Err}
-use Rattle.std.specs.Int.{w16, w32, w64}
+use Rattle.std.specs.Prelude.{◌≡◌, ◌≢◌, ◌⊎◌, ℕ, ◌+◌, ◌-◌, ◌^◌, ◌<◌, ◌≤◌, true, false, List, [], ◌∷◌, ◌++◌, length}
+use Rattle.std.specs.Int.{w32, w64}
 use Rattle.std.specs.List.{flat_map, AllByRecursion}
 use Rattle.std.specs.declared.cmp.Ordering.TheVariants.{Less}
 use Rattle.byte_fields.specs.Field.{digits}
 use Rattle.byte_fields.specs.Broken.{IsRefused}
-use Rattle.file_paths.specs.declared.path.PathError.{PathError}
 use Rattle.vol_tree.specs.declared.node.Effect.{Effect}
 use Rattle.vol_tree.specs.declared.node.Base.{Base}
 use Rattle.vol_tree.specs.declared.node.Row.{Row}
 use Rattle.file_paths.specs.Limits.{max_file}
 use Rattle.vol_tree.specs.Limits.{max_rows, max_files}
-use Rattle.file_paths.specs.Path.{FilePath, IsPath, path_of, path_cmp, folder_of}
+use Rattle.file_paths.specs.Path.{FilePath, IsPath, path_cmp, folder_of}
 use Rattle.vol_tree.specs.Tree.{Volume, IsTree, is_folder, total_size}
 use Rattle.vol_tree.specs.Effects.{contents_size}
 use Rattle.vol_tree.specs.Behind.{IsIn}
 use Rattle.file_paths.specs.Spelling.{path}
 use Rattle.vol_tree.specs.Spelling.{effect, base, row, EffectFits, AreBasesOf}
-use Rattle.file_paths.specs.Reading.{path_at, content_at}
+use Rattle.file_paths.specs.Reading.{path_at}
 use Rattle.vol_tree.specs.Fault.{is_one_of, fault_of}
-use Rattle.vol_tree.specs.Reading.{effect_at, effects_within, base_at, bases_at, may_stand, next_row_at, rows_at}
+use Rattle.vol_tree.specs.Reading.{effect_kinds, effect_at, effects_within, base_at, bases_at, may_stand, node_kinds, room_beside, next_row_at, rows_at}
 
 -- ---- effects
 
 pub record BrokenEffects : Type 0 where
-  -- another kind than 1 to 4: at the kind
-  pub kind_is_none : (room kind : ℕ) → kind < 2 ^ 8 → (kind ≡ 0) ⊎ (4 < kind) → IsRefused (effect_at room) (kind ∷ []) 0
+  -- a number that is no kind of effect: there
+  pub kind_is_none : (room kind : ℕ) → kind < 2 ^ 8 → AllByRecursion (λ known. kind ≢ known.0) (effect_kinds room) → IsRefused (effect_at room) (kind ∷ []) 0
   -- a path that is refused: behind the kind
   pub path_is_none : (room : ℕ) (text : List ℕ) (offset : ℕ) → IsRefused path_at text offset → AllByRecursion (λ kind. IsRefused (effect_at room) (kind ∷ text) (1 + offset)) (1 ∷ 2 ∷ 3 ∷ 4 ∷ [])
   -- the second path of a move: behind the first
@@ -75,8 +74,9 @@ pub record BrokenRows : Type 0 where
   pub path_is_not_above : (before : Volume) (r : Row) (p : FilePath) → IsIn r before → IsPath p → path_cmp r.path p ≢ Less → IsRefused (next_row_at before) (path p) 0
   -- version 0: at the version
   pub version_is_0 : (before : Volume) (p : FilePath) → IsPath p → may_stand before p ≡ true → IsRefused (next_row_at before) (path p ++ digits w64 0) (length (path p))
-  -- another kind of node than 0 to 2: at the kind
-  pub kind_is_none : (before : Volume) (p : FilePath) (version kind : ℕ) → IsNext before p version → 2 < kind → kind < 2 ^ 8 → IsRefused (next_row_at before) (path p ++ (digits w64 version ++ kind ∷ [])) (length (path p) + 8)
+  -- a number that is no kind of what may stand there: at the kind
+  pub kind_is_none : (before : Volume) (p : FilePath) (version kind : ℕ) → IsNext before p version → kind < 2 ^ 8 → AllByRecursion (λ known. kind ≢ known.0) (node_kinds (is_folder before (folder_of p)) (room_beside before))
+      → IsRefused (next_row_at before) (path p ++ (digits w64 version ++ kind ∷ [])) (length (path p) + 8)
   -- a node whose parent is no folder: at its kind
   pub parent_is_no_folder : (before : Volume) (p : FilePath) (version kind : ℕ) → IsNext before p version → is_folder before (folder_of p) ≡ false → 1 ≤ kind → kind < 2 ^ 8
       → IsRefused (next_row_at before) (path p ++ (digits w64 version ++ kind ∷ [])) (length (path p) + 8)

@@ -1,5 +1,5 @@
 -- What holds of trees and effects, in their own words.
-use Rattle.std.specs.Prelude.{◌≡◌, ◌⊎◌, ℕ, ◌+◌, ◌≤◌, List, [], ◌∷◌, ◌++◌, Some, None, Ok, Err}
+use Rattle.std.specs.Prelude.{◌≡◌, ◌⊎◌, ℕ, ◌+◌, ◌≤◌, List, ◌++◌, Some, None, Ok, Err}
 use Rattle.file_paths.specs.Path.{FilePath}
 use Rattle.vol_tree.specs.declared.node.Node.TheVariants.{Folder}
 use Rattle.vol_tree.specs.declared.node.Effect.{Effect}
