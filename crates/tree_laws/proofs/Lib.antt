@@ -3,3 +3,5 @@ pub mod Parts
 pub mod CutParts
 pub mod Breaking
 pub mod Few
+pub mod Inside
+pub mod InTurn
