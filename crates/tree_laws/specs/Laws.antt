@@ -1,11 +1,11 @@
 -- What holds of trees and effects, in their own words.
-use Rattle.std.specs.Prelude.{◌≡◌, ◌⊎◌, ℕ, ◌+◌, ◌≤◌, List, ◌++◌, Some, None, Ok, Err}
+use Rattle.std.specs.Prelude.{◌≡◌, ◌⊎◌, ℕ, ◌+◌, ◌≤◌, false, List, [], ◌∷◌, ◌++◌, length, Some, None, Ok, Err}
 use Rattle.file_paths.specs.Path.{FilePath}
 use Rattle.vol_tree.specs.declared.node.Node.TheVariants.{Folder}
 use Rattle.vol_tree.specs.declared.node.Effect.{Effect}
 use Rattle.vol_tree.specs.declared.node.Effect.TheVariants.{Make, Put, Remove, Move}
 use Rattle.vol_tree.specs.declared.node.TreeError.{TreeError}
-use Rattle.vol_tree.specs.Tree.{Volume, IsTree, IsLegalEffect, version_at, node_at, with_content, apply, touched_paths, kept_rows, undone}
+use Rattle.vol_tree.specs.Tree.{Volume, IsTree, IsLegalEffect, version_at, node_at, is_folder, children, with_content, apply, touched_paths, kept_rows, undone}
 use Rattle.vol_tree.specs.Effects.{apply_all, changed_all, touched_all, distinct}
 use Rattle.vol_tree.specs.Behind.{NoneTwice, IsBehind, IsAhead, AgreeAt, IsIn}
 
@@ -50,6 +50,39 @@ ApplyingKeepsTrees = (effect : Effect) (rows new : Volume) → IsTree rows → I
 -- what is kept of an applied effect puts the rows back
 abbrev pub UndoingRestores : Type 0
 UndoingRestores = (effect : Effect) (rows new : Volume) → IsTree rows → apply effect rows ≡ Ok new → undone (kept_rows effect rows) new ≡ rows
+
+-- what is no folder has no children
+abbrev pub FoldersAloneHaveChildren : Type 0
+FoldersAloneHaveChildren = (rows : Volume) (path : FilePath) → IsTree rows → is_folder rows path ≡ false → children rows path ≡ []
+
+-- no node stands at the root, which is a folder without one
+abbrev pub TheRootHasNoNode : Type 0
+TheRootHasNoNode = (rows : Volume) → IsTree rows → node_at rows [] ≡ None
+
+-- ---- lists of effects
+
+-- where none is refused, each changes what those before it have left
+abbrev pub ListsThatApplyChange : Type 0
+ListsThatApplyChange = (effects : List Effect) (rows new : Volume) → apply_all 0 effects rows ≡ Ok new → new ≡ changed_all effects rows
+
+-- all before the effect with this index apply, and what they leave refuses it for this cause
+pub record IsFirstRefused (effects : List Effect) (rows : Volume) (i : ℕ) (cause : TreeError) : Type 0 where
+  pub before : List Effect
+  pub effect : Effect
+  pub after : List Effect
+  pub are : effects ≡ before ++ effect ∷ after
+  pub index : length before ≡ i
+  pub left : Volume
+  pub applied : apply_all 0 before rows ≡ Ok left
+  pub refused : apply effect left ≡ Err cause
+
+-- a list is refused at the first effect that is, for its cause
+abbrev pub TheFirstRefusalStops : Type 0
+TheFirstRefusalStops = (effects : List Effect) (rows : Volume) (i : ℕ) (cause : TreeError) → IsFirstRefused effects rows i cause → apply_all 0 effects rows ≡ Err (i, cause)
+
+-- and for nothing else
+abbrev pub OnlyTheFirstRefusalStops : Type 0
+OnlyTheFirstRefusalStops = (effects : List Effect) (rows : Volume) (i : ℕ) (cause : TreeError) → apply_all 0 effects rows ≡ Err (i, cause) → IsFirstRefused effects rows i cause
 
 -- ---- distinct paths
 

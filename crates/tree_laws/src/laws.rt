@@ -1,5 +1,5 @@
 // What holds of trees and effects: functions that do nothing, whose contracts are laws.
-ghost use Rattle.tree_laws.specs.Laws.{EffectsCountTouches, EffectsLeaveTheRest, MakingGivesAFolder, PuttingGivesAFile, RemovingLeavesNothing, MovingCarriesTheNode, TreesAreWhatTheyHold, ApplyingKeepsTrees, UndoingRestores, DistinctPathsDiffer, DistinctPathsAreTheSame, DistinctPathsKeepTheirOrder, BehindIsAnOrder, EffectsLeadForward, EffectsKeepBehind, SomePathIsAheadOrNone, NoneAheadIsTheSame, RefusedWhereAhead};
+ghost use Rattle.tree_laws.specs.Laws.{EffectsCountTouches, EffectsLeaveTheRest, MakingGivesAFolder, PuttingGivesAFile, RemovingLeavesNothing, MovingCarriesTheNode, TreesAreWhatTheyHold, ApplyingKeepsTrees, UndoingRestores, FoldersAloneHaveChildren, TheRootHasNoNode, ListsThatApplyChange, TheFirstRefusalStops, OnlyTheFirstRefusalStops, DistinctPathsDiffer, DistinctPathsAreTheSame, DistinctPathsKeepTheirOrder, BehindIsAnOrder, EffectsLeadForward, EffectsKeepBehind, SomePathIsAheadOrNone, NoneAheadIsTheSame, RefusedWhereAhead};
 
 /// States what an applied effect does to each path, touched or not.
 pub fn effects_change_what_they_touch()
@@ -20,6 +20,19 @@ pub fn trees_are_what_they_hold()
 pub fn applying_keeps_trees()
     ensures keeps { ApplyingKeepsTrees }
     ensures undoes { UndoingRestores }
+{}
+
+/// States that what is no folder has no children, and that no node stands at the root.
+pub fn folders_alone_have_children()
+    ensures children { FoldersAloneHaveChildren }
+    ensures root { TheRootHasNoNode }
+{}
+
+/// States that each effect of a list meets what those before it have left, up to the first that is refused.
+pub fn lists_are_applied_in_order()
+    ensures applied { ListsThatApplyChange }
+    ensures refused { TheFirstRefusalStops }
+    ensures only { OnlyTheFirstRefusalStops }
 {}
 
 /// States that distinct paths are those of a list, each once, at its first place.
