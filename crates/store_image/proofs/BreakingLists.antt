@@ -17,7 +17,7 @@ use Rattle.vol_tree.specs.Tree.{Volume, IsTree}
 use Rattle.mod_log.specs.declared.log.Entry.{Entry}
 use Rattle.mod_log.specs.Log.{Log, entry, AreEntriesOf, IsLog, new_log_of}
 use Rattle.store_image.specs.Reading.{next_entry_at, with_entry, is_count, entries_at}
-use Rattle.store_image.specs.Fields.{entry_fields}
+use Rattle.mod_log.specs.Fields.{entry_fields}
 use Rattle.store_image.specs.Broken.{MayFollow, BrokenEntryLists}
 use Rattle.store_image.proofs.Entries.{NextFits, next_entry_codec, entries_again, first_number, made_log}
 use Rattle.store_image.proofs.Cuts.{next_entry_cut}

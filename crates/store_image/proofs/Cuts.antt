@@ -26,7 +26,8 @@ use Rattle.tree_laws.proofs.CutParts.{effect_cut, rows_cut}
 use Rattle.mod_log.specs.Log.{Log, entry, tree_of, AreEntriesOf, IsLog, new_log_of}
 use Rattle.store_image.specs.Reading.{Growing, growing_effect_at, grown, applied_effects_at, known_base_at, first_base_at, others_after, known_bases_at, next_entry_at, with_entry, is_count, entries_at, log_at, marked, client_mark, server_mark, client_body_at, client_at, numbers_at, server_body_at, server_at}
 use Rattle.store_image.specs.Spelling.{entries, log, client, ClientFits, numbers, server, ServerFits}
-use Rattle.store_image.specs.Fields.{entry_fields, entries_fields, log_fields, client_fields, numbers_fields, server_fields}
+use Rattle.mod_log.specs.Fields.{entry_fields}
+use Rattle.store_image.specs.Fields.{entries_fields, log_fields, client_fields, numbers_fields, server_fields}
 use Rattle.store_image.proofs.Growing.{GrowingFits, growing_codec, EffectsApply, start_of_entry, taken_again, applied_effects_codec}
 use Rattle.store_image.proofs.Bases.{made, IsKnown, IsFirst, first_base_codec, AreKnown, known_again}
 use Rattle.store_image.proofs.Entries.{next_number, made_entry, NextFits, few_known, origin_codec, next_entry_codec, entries_again, PendingFit, first_number, made_log}

@@ -22,7 +22,7 @@ use Rattle.mod_log.specs.Log.{Log, entry, tree_of, AreEntriesOf, IsLog, new_log_
 use Rattle.store_image.specs.declared.image.ImageError.TheVariants.{BadImage}
 use Rattle.store_image.specs.Reading.{Growing, growing_effect_at, known_base_at, next_entry_at, entries_at, client_mark, client_at, server_mark, server_at}
 use Rattle.store_image.specs.Spelling.{numbers}
-use Rattle.store_image.specs.Fields.{entry_fields}
+use Rattle.mod_log.specs.Fields.{entry_fields}
 use Rattle.store_image.specs.Image.{client_of, server_of}
 
 -- effects that the tree takes one after the other

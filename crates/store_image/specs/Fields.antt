@@ -1,15 +1,12 @@
 -- The fields of each image in their order, given by their numbers of bytes.
 use Rattle.std.specs.Prelude.{ℕ, List, [], ◌∷◌, ◌++◌}
 use Rattle.std.specs.List.{flat_map}
-use Rattle.vol_tree.specs.Fields.{effects_fields, bases_fields, rows_fields}
+use Rattle.vol_tree.specs.Fields.{rows_fields}
 use Rattle.mod_log.specs.declared.log.Entry.{Entry}
+use Rattle.mod_log.specs.Fields.{entry_fields}
 use Rattle.mod_log.specs.Log.{Log}
 use Rattle.store_image.specs.declared.image.ClientImage.{ClientImage}
 use Rattle.store_image.specs.declared.image.ServerImage.{ServerImage}
-
--- the origin, and the fields of the effects and the bases
-abbrev pub entry_fields : Entry → List ℕ
-entry_fields e = 1 ∷ (effects_fields e.effects ++ bases_fields e.base)
 
 -- the count, and the fields of the entries
 abbrev pub entries_fields : List Entry → List ℕ
