@@ -1,6 +1,6 @@
 -- The laws of refusals: one spelling for each, where bytes end inside one, and which are refused.
 use Rattle.std.proofs.Common.{◌≡◌, ◌≢◌, ℕ, ◌+◌, ◌-◌, ◌^◌, ◌<◌, ◌≤◌, Bool, true, false, cond, List, [], ◌∷◌, ◌++◌, length, take, Ok, Err, refl, sym, ap, ◌∙◌, arith, lit<, length-append}
-use Rattle.std.specs.Prelude.{◌==◌, sum}
+use Rattle.std.specs.Prelude.{sum}
 use Rattle.std.specs.Int.{w32, w64}
 use Rattle.std.specs.List.{AllByRecursion}
 use Rattle.byte_fields.specs.Field.{Reader, digits, none, one, two, of_kind}
@@ -11,7 +11,7 @@ use Rattle.byte_fields.proofs.Facts.{sum_more, eq_fails}
 use Rattle.byte_fields.proofs.Codec.{IsBranch, branch0, branch1, branch2, tagged_found, tagged_fault, tagged_again0, tagged_again1, tagged_again2, u32_codec, u64_codec, codec_for, stands_second}
 use Rattle.byte_fields.proofs.Cutting.{sum_both, u32_cut, u64_cut, cut_for, one_cut, two_cut, tagged_cut}
 use Rattle.byte_fields.proofs.Breaking.{read_again, first_refused, later_refused, tagged_refused, kind_refused}
-use Rattle.file_paths.specs.Path.{FilePath, IsPath}
+use Rattle.file_paths.specs.Path.{FilePath}
 use Rattle.file_paths.specs.Spelling.{path}
 use Rattle.file_paths.specs.Fields.{path_fields}
 use Rattle.file_paths.specs.Reading.{path_at}
