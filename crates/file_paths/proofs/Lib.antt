@@ -1,4 +1,5 @@
 pub mod PathLemmas
+pub mod Refusals
 pub mod PathTexts
 pub mod Order
 pub mod Parts

@@ -8,6 +8,7 @@ use Rattle.std.proofs.lemmas.List.Splits.{slice_split_first, slice_split_none, j
 use Rattle.std.proofs.lemmas.List.Sums.{fails_before_first, list_all-from_AllPass}
 use Rattle.std.specs.Cmp.{first_so, second_so}
 use Rattle.std.specs.Cmp.Derive.{both_true}
+use Rattle.byte_fields.proofs.Facts.{not_false_of}
 use Rattle.file_paths.specs.Inside.{joined_size}
 use Rattle.file_paths.specs.Path.{IsPath, is_name, path_text}
 
@@ -36,11 +37,7 @@ last_piece text front rest so_far h =
 -- pieces of which none is no name are names
 pub all_named : (all : List (List ℕ)) → position (λ piece. not (is_name piece)) all ≡ None → list_all is_name all ≡ true
 all_named all h =
-    list_all-from_AllPass is_name all (λ k d l. holds _ (fails_before_first (λ piece. not (is_name piece)) all k d (before_none (λ piece. not (is_name piece)) all k h l)))
-  where
-    holds : (b : Bool) → not b ≡ false → b ≡ true
-    holds true h = refl
-    holds false h = grind arith
+    list_all-from_AllPass is_name all (λ k d l. not_false_of _ (fails_before_first (λ piece. not (is_name piece)) all k d (before_none (λ piece. not (is_name piece)) all k h l)))
 
 -- the pieces of a text that is refused by no rule are a path
 pub pieces_are_path : (text : List ℕ) (all : List (List ℕ)) → all ≡ slice_split (λ b. b == 47) text → position (λ piece. not (is_name piece)) all ≡ None → length all ≤ 32 → length text ≤ 1024 → IsPath all

@@ -8,19 +8,8 @@ use Rattle.std.proofs.lemmas.List.Sums.{AllPass-from_list_all}
 use Rattle.std.proofs.lemmas.List.Splits.{slice_split_at, slice_split_none, join_with_byte-slice_split}
 use Rattle.byte_fields.proofs.Facts.{not_of, lt_fails, not_lt_of, none_mapped}
 use Rattle.file_paths.specs.Path.{FilePath, IsPath, is_name, is_name_byte, path_text, pieces, path_of}
-use Rattle.file_paths.specs.Refusals.{when, unless_refused}
-use Rattle.file_paths.specs.declared.path.PathError.{PathError}
 use Rattle.file_paths.proofs.PathLemmas.{pieces_are_path}
-
--- ---- a row of refusals that does not refuse
-
-not_first : {T E : Type 0} (o : Option E) (rest : List (Option E)) (value x : T) → unless_refused (o ∷ rest) value ≡ Ok x → (o ≡ None) × (unless_refused rest value ≡ Ok x)
-not_first None rest value x e = (refl, e)
-not_first (Some refusal) rest value x e = absurd cc
-
-pub not_when : {E : Type 0} (b : Bool) (refusal : E) → when b refusal ≡ None → b ≡ false
-not_when false refusal e = refl
-not_when true refusal e = absurd cc
+use Rattle.file_paths.proofs.Refusals.{not_first, value_unrefused, not_when}
 
 -- ---- the text of names, cut again
 
@@ -71,12 +60,9 @@ path_of_text text names e =
     let named = none_mapped _ (position (λ piece. not (is_name piece)) (pieces text)) a.0 in
     let shallow = not_lt_of 32 (length (pieces text)) (not_when _ _ b.0) in
     let short = not_lt_of 1024 (length text) (not_when _ _ c.0) in
-    let is : pieces text ≡ names = by c.1 in
+    let is : pieces text ≡ names = sym (value_unrefused [] (pieces text) names c.1) in
     subst (λ (p : FilePath). IsPath p × (path_text p ≡ text)) is (cut text named shallow short)
   where
-    by : {x y : FilePath} → unless_refused {T = FilePath} {E = PathError} [] x ≡ Ok y → x ≡ y
-    by e = cc
-
     cut : (t : List ℕ) → position (λ piece. not (is_name piece)) (pieces t) ≡ None → length (pieces t) ≤ 32 → length t ≤ 1024 → IsPath (pieces t) × (path_text (pieces t) ≡ t)
     cut [] named shallow short = (record { named = refl; shallow = omega arith; short = omega arith }, refl)
     cut (b ∷ bs) named shallow short = (pieces_are_path (b ∷ bs) (pieces (b ∷ bs)) refl named shallow short, join_with_byte-slice_split 47 (b ∷ bs))

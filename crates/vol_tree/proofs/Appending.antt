@@ -7,9 +7,9 @@ use Rattle.std.specs.Option.{option_or, option_and_then}
 use Rattle.std.specs.Cmp.{first_so, second_so}
 use Rattle.std.specs.Cmp.Derive.{both_true}
 use Rattle.std.proofs.lemmas.List.Folds.{find-append}
-use Rattle.std.proofs.lemmas.Bool.Decides.{nat_tests}
 use Rattle.std.specs.declared.cmp.Ordering.TheVariants.{Less}
 use Rattle.std.specs.Ordering.{is_lt, is_eq}
+use Rattle.byte_fields.proofs.Facts.{lt_holds, lt_of, le_holds, le_of, not_of, none_behind}
 use Rattle.file_paths.specs.Path.{path_cmp, folder_of, IsPath}
 use Rattle.vol_tree.specs.declared.node.Row.{Row}
 use Rattle.vol_tree.specs.Tree.{AreInOrder, IsRow, IsTree, row_at, node_at, is_root, is_folder, is_folder_node, node_size, total_size}
@@ -17,18 +17,6 @@ use Rattle.vol_tree.specs.Inside.{is_at, may_follow}
 use Rattle.vol_tree.proofs.Ordered.{all_append, all_map, order_join, find_none, is_at_equal, size_append}
 use Rattle.file_paths.proofs.Order.{same_place, is_less}
 use Rattle.vol_tree.proofs.Trees.{above_itself}
-
-le_true : (a b : ℕ) → nat_le a b ≡ true → a ≤ b
-le_true a b h = grind (arith, nat_tests)
-
-lt_true : (a b : ℕ) → nat_lt a b ≡ true → a < b
-lt_true a b h = grind (arith, nat_tests)
-
-true_le : (a b : ℕ) → a ≤ b → nat_le a b ≡ true
-true_le a b h = grind (arith, nat_tests)
-
-true_lt : (a b : ℕ) → a < b → nat_lt a b ≡ true
-true_lt a b h = grind (arith, nat_tests)
 
 all_before : (rows : List Row) (row : Row) → list_all (λ before. is_lt (path_cmp before.path row.path)) rows ≡ true → AllByRecursion (λ before. path_cmp before.path row.path ≡ Less) rows
 all_before [] row h = tt
@@ -75,19 +63,15 @@ tree_with_row rows row tree own h =
     let h3 = second_so (nat_le 1 row.version) _ h2 in
     let h4 = second_so (nat_le (node_size row.node) 8388608) _ h3 in
     let h5 = second_so (not (is_some row.node) || is_folder rows (folder_of row.path)) _ h4 in
-    let few = lt_true (length rows) 16384 (first_so _ _ h5) in
-    let small = le_true (total_size rows + node_size row.node) 33554432 (second_so (nat_lt (length rows) 16384) _ h5) in
+    let few = lt_of (length rows) 16384 (first_so _ _ h5) in
+    let small = le_of (total_size rows + node_size row.node) 33554432 (second_so (nat_lt (length rows) 16384) _ h5) in
     record {
       in_order = order_join row.path rows (row ∷ []) low (ap is_lt (same_place row.path), tt) tree.in_order (tt, tt);
-      each = all_append IsRow rows (row ∷ []) tree.each (record { is_path = own.is_path; below_root = is_false (is_root row.path) (first_so _ _ h1); touched = le_true 1 row.version (first_so _ _ h2); version_fits = own.version_fits; small = le_true (node_size row.node) 8388608 (first_so _ _ h3) }, tt);
+      each = all_append IsRow rows (row ∷ []) tree.each (record { is_path = own.is_path; below_root = not_of (is_root row.path) (first_so _ _ h1); touched = le_of 1 row.version (first_so _ _ h2); version_fits = own.version_fits; small = le_of (node_size row.node) 8388608 (first_so _ _ h3) }, tt);
       in_folders = in_folders_behind rows row tree (first_so _ _ h4);
       few = omega (arith, few, length-append rows (row ∷ []));
       small = omega (arith, small, size_append rows (row ∷ []));
     }
-  where
-    is_false : (b : Bool) → not b ≡ true → b ≡ false
-    is_false true h = absurd (true≢false (sym h))
-    is_false false h = refl
 
 all_last : (P : Row → Type 0) (rows : List Row) (row : Row) → AllByRecursion P (rows ++ row ∷ []) → P row
 all_last P [] row all = all.0
@@ -100,23 +84,16 @@ before_all (x ∷ xs) row order =
 
 -- a path that the last row is not at has the row that it had before
 row_unchanged : (rows : List Row) (row : Row) (q : List (List ℕ)) → is_at q row ≡ false → row_at (rows ++ row ∷ []) q ≡ row_at rows q
-row_unchanged rows row q e = find-append (is_at q) rows (row ∷ []) ∙ rw e (none (row_at rows q))
-  where
-    none : (o : Option Row) → option_or o None ≡ o
-    none None = refl
-    none (Some r) = refl
+row_unchanged rows row q e = find-append (is_at q) rows (row ∷ []) ∙ rw e (none_behind (row_at rows q))
 
 stands_in_folder : (rows : List Row) (row : Row) → IsTree (rows ++ row ∷ []) → is_some row.node ≡ true → is_folder rows (folder_of row.path) ≡ true
 stands_in_folder rows row whole some =
     ap (λ o. is_root (folder_of row.path) || is_folder_node (option_and_then (λ row. row.node) o)) (sym (row_unchanged rows row (folder_of row.path) (elsewhere (is_at (folder_of row.path) row) refl)))
     ∙ whole.in_folders row.path (ap is_some node ∙ some)
   where
-    root : is_root row.path ≡ false
-    root = (all_last IsRow rows row whole.each).below_root
-
     elsewhere : (b : Bool) → is_at (folder_of row.path) row ≡ b → b ≡ false
     elsewhere false e = refl
-    elsewhere true e = absurd (above_itself row.path root (sym (is_at_equal row (folder_of row.path) e)))
+    elsewhere true e = absurd (above_itself row.path (all_last IsRow rows row whole.each).below_root (sym (is_at_equal row (folder_of row.path) e)))
 
     node : node_at (rows ++ row ∷ []) row.path ≡ row.node
     node =
@@ -130,11 +107,11 @@ follows_in_tree rows row whole =
     let sound : IsRow row = all_last IsRow rows row whole.each in
     both_true (before_all rows row whole.in_order)
     (both_true (ap not sound.below_root)
-    (both_true (true_le 1 row.version sound.touched)
-    (both_true (true_le (node_size row.node) 8388608 sound.small)
+    (both_true (le_holds 1 row.version sound.touched)
+    (both_true (le_holds (node_size row.node) 8388608 sound.small)
     (both_true (in_one (is_some row.node) (is_folder rows (folder_of row.path)) (stands_in_folder rows row whole))
-    (both_true (true_lt (length rows) 16384 (omega (arith, whole.few, length-append rows (row ∷ []))))
-    (true_le (total_size rows + node_size row.node) 33554432 (omega (arith, whole.small, size_append rows (row ∷ [])))))))))
+    (both_true (lt_holds (length rows) 16384 (omega (arith, whole.few, length-append rows (row ∷ []))))
+    (le_holds (total_size rows + node_size row.node) 33554432 (omega (arith, whole.small, size_append rows (row ∷ [])))))))))
   where
     in_one : (a b : Bool) → (a ≡ true → b ≡ true) → (not a || b) ≡ true
     in_one true b h = h refl

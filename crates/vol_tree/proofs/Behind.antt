@@ -13,7 +13,6 @@ use Rattle.std.specs.declared.cmp.Ordering.TheVariants.{Less, Equal, Greater}
 use Rattle.std.specs.Ordering.{ordering_reverse, is_lt, is_eq}
 use Rattle.vol_tree.specs.Inside.{is_at}
 use Rattle.file_paths.specs.Path.{path_cmp, FilePath, is_same_path}
-use Rattle.file_paths.specs.Refusals.{unless_refused}
 use Rattle.vol_tree.specs.declared.node.Node.{Node}
 use Rattle.vol_tree.specs.declared.node.Row.{Row}
 use Rattle.vol_tree.specs.declared.node.Effect.{Effect}
@@ -22,19 +21,12 @@ use Rattle.vol_tree.specs.declared.node.TreeError.{TreeError}
 use Rattle.vol_tree.specs.Tree.{AreInOrder, IsRow, IsTree, row_at, version_at, node_at, with_row, touched, refusals, changed, apply, touched_paths, IsLegalEffect, Volume}
 use Rattle.vol_tree.specs.Effects.{changed_all, unless_refused_at, apply_all, touched_all, distinct, base_of, Conflict, first_conflict}
 use Rattle.vol_tree.specs.Behind.{IsBehind, IsAhead, AgreeAt, IsIn}
-use Rattle.file_paths.proofs.Order.{paths_total, same_path, same_place}
+use Rattle.file_paths.proofs.Order.{paths_total, same_path, same_place, tied_path}
+use Rattle.file_paths.proofs.Refusals.{value_unrefused}
 use Rattle.vol_tree.proofs.Places.{are_above, after_row}
 use Rattle.vol_tree.proofs.Ordered.{row_at-with_row, is_at_equal}
 use Rattle.vol_tree.proofs.Undoing.{find_passes, find_among}
 use Rattle.vol_tree.proofs.Trees.{row_untouched, changed_is_tree}
-
-is_equal : (o : Ordering) → is_eq o ≡ true → o ≡ Equal
-is_equal Equal e = refl
-is_equal Less e = absurd (true≢false (sym e))
-is_equal Greater e = absurd (true≢false (sym e))
-
-pub is_same_path-eq : (p q : FilePath) → is_same_path p q ≡ true → p ≡ q
-is_same_path-eq p q e = same_path p q (is_equal (path_cmp p q) e)
 
 abbrev pub version_of : Option Row → ℕ
 version_of row = unwrap_or (option_map (λ r. r.version) row) 0
@@ -60,7 +52,7 @@ row_at-touched volume path now other = by (path_cmp other path) refl
 
 -- by whether the other path is this one
 version_if : (volume : Volume) (path other : FilePath) (now : Option Node) (b : Bool) → is_same_path other path ≡ b → version_of (cond b (Some (record { path = path; version = version_at volume path + 1; node = now })) (row_at volume other)) ≡ cond b (version_at volume other + 1) (version_at volume other)
-version_if volume path other now true e = ap (λ p. version_at volume p + 1) (sym (is_same_path-eq other path e))
+version_if volume path other now true e = ap (λ p. version_at volume p + 1) (sym (tied_path other path e))
 version_if volume path other now false e = refl
 
 pub version-touched : (volume : Volume) (path : FilePath) (now : Option Node) (other : FilePath) → version_at (touched volume path now) other ≡ cond (is_same_path other path) (version_at volume other + 1) (version_at volume other)
@@ -202,7 +194,7 @@ AgreeAt-unfiltered x v path (p ∷ paths) here agree = by (is_same_path p path) 
   where
     by : (b : Bool) → is_same_path p path ≡ b → AgreeAt x v (cond (not b) (p ∷ filter (λ other. not (is_same_path other path)) paths) (filter (λ other. not (is_same_path other path)) paths))
         → (AgreeAt x v (filter (λ other. not (is_same_path other path)) paths) → AgreeAt x v paths) → AgreeAt x v (p ∷ paths)
-    by true e agree rest = (subst (λ q. version_at x q ≡ version_at v q) (sym (is_same_path-eq p path e)) here, rest agree)
+    by true e agree rest = (subst (λ q. version_at x q ≡ version_at v q) (sym (tied_path p path e)) here, rest agree)
     by false e agree rest = (agree.0, rest agree.1)
 
 AgreeAt-distinct : (x v : Volume) (paths : List FilePath) → AgreeAt x v (distinct paths) → AgreeAt x v paths
@@ -331,13 +323,8 @@ ahead_where_refused x v effects after cause behind tree_x tree_v applies refused
 
 -- ---- what applies is the changed_all, and leaves a tree
 
-applied-value : (all : List (Option TreeError)) (value after : Volume) → unless_refused all value ≡ Ok after → after ≡ value
-applied-value [] value after e = cc
-applied-value (None ∷ rest) value after e = applied-value rest value after e
-applied-value (Some refusal ∷ rest) value after e = absurd (cc)
-
 pub applied-changed : (effect : Effect) (v after : Volume) → apply effect v ≡ Ok after → after ≡ changed effect v
-applied-changed effect v after e = applied-value (refusals effect v) (changed effect v) after e
+applied-changed effect v after e = value_unrefused (refusals effect v) (changed effect v) after e
 
 pub applied-tree : (effect : Effect) (v after : Volume) → IsTree v → IsLegalEffect effect → apply effect v ≡ Ok after → IsTree after
 applied-tree effect v after tree legal e =
@@ -365,7 +352,7 @@ applied_all-tree (effect ∷ later) at v after tree legal e = by (apply effect v
 -- ---- a path that is not touched keeps its version
 
 version_apart_if : (b : Bool) (path other : FilePath) (n : ℕ) → is_same_path other path ≡ b → (other ≡ path → ⊥) → cond b (n + 1) n ≡ n
-version_apart_if true path other n e apart = absurd (apart (is_same_path-eq other path e))
+version_apart_if true path other n e apart = absurd (apart (tied_path other path e))
 version_apart_if false path other n e apart = refl
 
 pub version-apart : (v : Volume) (path : FilePath) (now : Option Node) (other : FilePath) → (other ≡ path → ⊥) → version_at (touched v path now) other ≡ version_at v other

@@ -11,10 +11,11 @@ use Rattle.vol_tree.specs.declared.node.Row.{Row}
 use Rattle.vol_tree.specs.Tree.{Volume, AreInOrder, row_at, version_at, node_at, node_size, total_size, rows_below, rows_above, with_row, without_row, touched, kept_row, restored, refusals, changed, apply}
 use Rattle.vol_tree.specs.Arena.{IsCounted, new_rows}
 use Rattle.vol_tree.proofs.Ordered.{all_append, all_filter, split_at_path, with_row_in_order, without_row_in_order, size_append, size-with_row, restored_row}
-use Rattle.vol_tree.proofs.Trees.{length-with_row, size_touched, none_refused, not_when}
+use Rattle.vol_tree.proofs.Trees.{length-with_row, size_touched}
 use Rattle.std.proofs.Common.{Ok}
 use Rattle.std.specs.Prelude.{nat_lt}
-use Rattle.std.proofs.lemmas.Bool.Decides.{nat_tests}
+use Rattle.byte_fields.proofs.Facts.{not_lt_of}
+use Rattle.file_paths.proofs.Refusals.{none_refused, not_when}
 use Rattle.vol_tree.specs.declared.node.Effect.TheVariants.{Put}
 use Rattle.vol_tree.proofs.Undoing.{find_among}
 
@@ -156,10 +157,7 @@ few_touch rows p node order few = omega (arith, length-with_row rows (record { p
 pub put_small : (rows : Volume) (p : FilePath) (content : List ℕ) → apply (Put p content) rows ≡ Ok (changed (Put p content) rows) → length content ≤ 8388608
 put_small rows p content h =
     let none = none_refused (refusals (Put p content) rows) _ _ h in
-    at_most (length content) 8388608 (not_when (nat_lt 8388608 (length content)) _ none.1.1.1.1.0)
-  where
-    at_most : (n limit : ℕ) → nat_lt limit n ≡ false → n ≤ limit
-    at_most n limit e = grind (arith, nat_tests)
+    not_lt_of 8388608 (length content) (not_when (nat_lt 8388608 (length content)) _ none.1.1.1.1.0)
 
 -- ---- putting back
 

@@ -3,21 +3,17 @@ use Rattle.std.proofs.Common.{◌≡◌, ◌⊎◌, inl, inr, Bool, true, false,
 use Rattle.std.specs.List.{fold, list_any}
 use Rattle.std.specs.Str.{bytes_eq}
 use Rattle.std.specs.Cmp.Lexicographic.{pointwise, lists_equiv, nat_list_eq_equiv}
-use Rattle.std.specs.Ordering.{is_eq}
 use Rattle.file_paths.specs.Path.{FilePath, is_same_path}
 use Rattle.vol_tree.specs.Effects.{distinct}
 use Rattle.vol_tree.specs.Behind.{IsIn, NoneTwice}
 use Rattle.vol_tree.specs.Inside.{add_new}
-use Rattle.file_paths.proofs.Order.{same_place, tied_path}
+use Rattle.file_paths.proofs.Order.{own_path, tied_path}
 use Rattle.vol_tree.proofs.Behind.{same_names}
 
 -- ---- tests of paths
 
-pub is_same_path-refl : (p : FilePath) → is_same_path p p ≡ true
-is_same_path-refl p = ap is_eq (same_place p)
-
 false_is_apart : (p q : FilePath) → is_same_path p q ≡ false → p ≡ q → ⊥
-false_is_apart p q differ same = true≢false (sym (is_same_path-refl p) ∙ ap (is_same_path p) same ∙ differ)
+false_is_apart p q differ same = true≢false (sym (own_path p) ∙ ap (is_same_path p) same ∙ differ)
 
 -- the test of equal names is that of equal paths
 pub same_test : (p q : FilePath) → pointwise bytes_eq p q ≡ is_same_path p q
@@ -147,7 +143,7 @@ none_twice_filter f (x ∷ xs) none = by (f x) (none_twice_filter f xs none.1)
 pub distinct_differ : (paths : List FilePath) → NoneTwice (distinct paths)
 distinct_differ [] = tt
 distinct_differ (path ∷ paths) = (
-  (λ among. true≢false (sym (in_filter (λ other. not (is_same_path other path)) (distinct paths) path among).1 ∙ ap not (is_same_path-refl path))),
+  (λ among. true≢false (sym (in_filter (λ other. not (is_same_path other path)) (distinct paths) path among).1 ∙ ap not (own_path path))),
   none_twice_filter (λ other. not (is_same_path other path)) (distinct paths) (distinct_differ paths),
 )
 

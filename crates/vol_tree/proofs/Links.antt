@@ -14,6 +14,7 @@ use Rattle.vol_tree.specs.declared.node.Node.{Node}
 use Rattle.vol_tree.specs.declared.node.Row.{Row}
 use Rattle.vol_tree.specs.Tree.{Volume, AreInOrder, row_at, with_row, without_row}
 use Rattle.vol_tree.specs.Arena.{Place, Places, no_place, place, name_cmp, child_named, slot_of, own_row, rows_of, AreAscending, AreLinked, IsArena, Grows}
+use Rattle.byte_fields.proofs.Facts.{tie_is_equal}
 use Rattle.file_paths.proofs.Order.{same_path, same_place}
 use Rattle.vol_tree.proofs.Slots.{same_name}
 use Rattle.vol_tree.proofs.Walk.{row_of, found_row, rows_in_order, same_itself}
@@ -125,11 +126,6 @@ module _ (old new : Places) (shape : SameShape old new) where
 
 -- ---- one more slot
 
-pub equal_from : (o : Ordering) → is_eq o ≡ true → o ≡ Equal
-equal_from Equal e = refl
-equal_from Less e = absurd (true≢false (sym e))
-equal_from Greater e = absurd (true≢false (sym e))
-
 module _ (old new : Places) (parent k : ℕ) (name : List ℕ) (j : ℕ) (arena : IsArena old) (grows : Grows old new parent k name j) (path : FilePath) (at : slot_of old 0 path ≡ Some parent) (none : child_named old (place old parent).children name ≡ None) where
   -- the new slot was none of the children
   pub none_is_new : (i : ℕ) → AllByRecursion (λ c. c ≡ j → ⊥) (place old i).children
@@ -210,7 +206,7 @@ module _ (old new : Places) (parent k : ℕ) (name : List ℕ) (j : ℕ) (arena 
 
       at_parent : i ≡ parent → (b : Bool) → is_eq (name_cmp name n) ≡ b → ((c : ℕ) → slot_of old 0 (p ++ n ∷ []) ≡ Some c → ((p ++ n ∷ []) ++ q ≡ path ++ name ∷ [] → ⊥) → slot_of new c q ≡ slot_of old c q) → slot_of new i (n ∷ q) ≡ slot_of old i (n ∷ q)
       at_parent same true named each =
-          let is : name ≡ n = same_name name n (equal_from (name_cmp name n) named) in
+          let is : name ≡ n = same_name name n (tie_is_equal (name_cmp name n) named) in
           let here : p ≡ path = arena.apart p path i e (at ∙ ap Some (sym same)) in
           let there : child_named new (place new i).children n ≡ Some j = subst (λ a. child_named new (place new i).children a ≡ Some j) is (ap (λ a. child_named new (place new a).children name) same ∙ new_child) in
           let before : child_named old (place old i).children n ≡ None = subst (λ a. child_named old (place old i).children a ≡ None) is (ap (λ a. child_named old (place old a).children name) same ∙ none) in

@@ -10,10 +10,11 @@ use Rattle.std.specs.declared.cmp.Ordering.{Ordering}
 use Rattle.std.specs.declared.cmp.Ordering.TheVariants.{Less, Equal, Greater}
 use Rattle.std.specs.Ordering.{ordering_reverse, is_lt, is_eq, is_gt}
 use Rattle.vol_tree.specs.Inside.{is_at}
+use Rattle.byte_fields.proofs.Facts.{none_behind}
 use Rattle.file_paths.specs.Path.{path_cmp}
 use Rattle.vol_tree.specs.declared.node.Row.{Row}
 use Rattle.vol_tree.specs.Tree.{AreInOrder, row_at, rows_below, rows_above, with_row, without_row, restored, total_size, node_size, node_at}
-use Rattle.file_paths.proofs.Order.{paths_total, same_path, same_place, below_trans, is_less}
+use Rattle.file_paths.proofs.Order.{paths_total, same_path, same_place, below_trans, is_less, tied_path}
 use Rattle.vol_tree.proofs.Places.{are_above, after_row}
 
 -- ---- facts of each row
@@ -132,12 +133,7 @@ find_filter t f (x ∷ xs) passes = by (t x) (f x) refl refl (find_filter t f xs
     by false false e g rest = simp (e, g) rest
 
 pub is_at_equal : (row : Row) (p : List (List ℕ)) → is_at p row ≡ true → row.path ≡ p
-is_at_equal row p h = same_path row.path p (is_equal (path_cmp row.path p) h)
-  where
-    is_equal : (o : Ordering) → is_eq o ≡ true → o ≡ Equal
-    is_equal Equal e = refl
-    is_equal Less e = absurd (true≢false (sym e))
-    is_equal Greater e = absurd (true≢false (sym e))
+is_at_equal row p h = tied_path row.path p h
 
 -- rows that are all on one side of a path are not at it
 not_at_below : (rows : List Row) (p : List (List ℕ)) → AllByRecursion (λ row. is_at p row ≡ false) (rows_below rows p)
@@ -147,10 +143,6 @@ pub row_at-with_row : (rows : List Row) (new : Row) → row_at (with_row rows ne
 row_at-with_row rows new =
     find-append (is_at new.path) (rows_below rows new.path) (new ∷ rows_above rows new.path)
     ∙ rw (find_none (is_at new.path) (rows_below rows new.path) (not_at_below rows new.path), same_place new.path) refl
-
-no_more : (o : Option Row) → option_or o None ≡ o
-no_more None = refl
-no_more (Some x) = refl
 
 -- where rows lie on the other side of p than q does, q is not among them
 other_side : (p q : List (List ℕ)) (o o' : Ordering) → (o ≡ o' → ⊥) → path_cmp q p ≡ o → (row : Row) → path_cmp row.path p ≡ o' → is_at q row ≡ false
@@ -176,7 +168,7 @@ row_at-other rows new q other =
         let below = find_filter (is_at q) (λ row. is_lt (path_cmp row.path new.path)) rows (λ row h. ap is_lt (at_q row Less e h)) in
         let above = find_none (is_at q) (rows_above rows new.path) (all_map (λ row g. other_side new.path q Less Greater (λ same. cc) e row g) (rows_above rows new.path) (all_above rows new.path)) in
         let here : is_at q new ≡ false = ap is_eq (paths_total.antisymm new.path q ∙ ap ordering_reverse e) in
-        rw (below, here, above) (no_more (row_at rows q))
+        rw (below, here, above) (none_behind (row_at rows q))
     by Greater e =
         let above = find_filter (is_at q) (λ row. is_gt (path_cmp row.path new.path)) rows (λ row h. ap is_gt (at_q row Greater e h)) in
         let below = find_none (is_at q) (rows_below rows new.path) (all_map (λ row g. other_side new.path q Greater Less (λ same. cc) e row g) (rows_below rows new.path) (all_below rows new.path)) in

@@ -10,6 +10,7 @@ use Rattle.std.proofs.lemmas.List.Edits.{length-remove, get_or-remove_below, get
 use Rattle.std.proofs.lemmas.List.Folds.{find-append}
 use Rattle.std.specs.declared.cmp.Ordering.TheVariants.{Less, Equal, Greater}
 use Rattle.std.specs.Ordering.{ordering_reverse, is_eq}
+use Rattle.byte_fields.proofs.Facts.{tie_is_equal}
 use Rattle.file_paths.specs.Path.{FilePath, IsPath}
 use Rattle.vol_tree.specs.declared.node.Row.{Row}
 use Rattle.vol_tree.specs.Tree.{Volume, row_at}
@@ -17,9 +18,13 @@ use Rattle.vol_tree.specs.Arena.{Place, Places, no_place, place, name_cmp, child
 use Rattle.vol_tree.proofs.Slots.{read_place, names_total, same_name, name_at, ascending_at, none_at}
 use Rattle.vol_tree.proofs.Walk.{row_of, found_row, rows_in_order}
 use Rattle.vol_tree.proofs.Behind.{same_rows}
-use Rattle.vol_tree.proofs.Links.{same_or_not, all_at, same_child, same_ascending, one_further, equal_from}
+use Rattle.vol_tree.proofs.Links.{same_or_not, all_at, same_child, same_ascending, one_further}
 
 -- ---- order
+
+-- the slots about the one at a place
+pub split_at : (cs : List ℕ) (k : ℕ) → k < length cs → cs ≡ take k cs ++ get_or cs k 0 ∷ drop (suc k) cs
+split_at cs k within = sym (take-append-drop k cs) ∙ ap (λ back. take k cs ++ back) (drop-cons cs k 0 within)
 
 pub without_one : (P : ℕ → Type 0) (front back : List ℕ) (j : ℕ) → AllByRecursion P (front ++ j ∷ back) → AllByRecursion P (front ++ back)
 without_one P [] back j all = all.1
@@ -35,7 +40,7 @@ module _ (old new : Places) (parent k : ℕ) (name : List ℕ) (arena : IsArena 
   all_names cs = all_at (λ c. (place new c).name ≡ (place old c).name) cs (λ m l. shrinks.names (get_or cs m 0))
 
   split : (place old parent).children ≡ take k (place old parent).children ++ get_or (place old parent).children k 0 ∷ drop (suc k) (place old parent).children
-  split = sym (take-append-drop k (place old parent).children) ∙ ap (λ back. take k (place old parent).children ++ back) (drop-cons (place old parent).children k 0 found.within)
+  split = split_at (place old parent).children k found.within
 
   -- another name is found as before
   other_child : (n : List ℕ) → is_eq (name_cmp name n) ≡ false → child_named new (remove (place old parent).children k) n ≡ child_named old (place old parent).children n
@@ -84,7 +89,7 @@ module _ (old new : Places) (parent k : ℕ) (name : List ℕ) (arena : IsArena 
 
       at_parent : i ≡ parent → (b : Bool) → is_eq (name_cmp name n) ≡ b → ((c : ℕ) → slot_of old 0 (p ++ n ∷ []) ≡ Some c → ((p ++ n ∷ []) ++ q ≡ path ++ name ∷ [] → ⊥) → slot_of new c q ≡ slot_of old c q) → slot_of new i (n ∷ q) ≡ slot_of old i (n ∷ q)
       at_parent same true named each =
-          let is : name ≡ n = same_name name n (equal_from (name_cmp name n) named) in
+          let is : name ≡ n = same_name name n (tie_is_equal (name_cmp name n) named) in
           let here : p ≡ path = arena.apart p path i e (at ∙ ap Some (sym same)) in
           let now : child_named new (place new i).children n ≡ None = subst (λ a. child_named new (place new i).children a ≡ None) is (ap (λ a. child_named new (place new a).children name) same ∙ ap (λ cs. child_named new cs name) shrinks.linked ∙ no_child) in
           let before : child_named old (place old i).children n ≡ Some (get_or (place old parent).children k 0) = subst (λ a. child_named old (place old i).children a ≡ Some (get_or (place old parent).children k 0)) is (ap (λ a. child_named old (place old a).children name) same ∙ found.found) in

@@ -10,34 +10,21 @@ use Rattle.std.specs.declared.cmp.Ordering.{Ordering}
 use Rattle.std.specs.declared.cmp.Ordering.TheVariants.{Less, Equal, Greater}
 use Rattle.vol_tree.specs.Inside.{is_at}
 use Rattle.file_paths.specs.Path.{path_cmp, folder_of, IsPath, is_same_path}
-use Rattle.file_paths.specs.Refusals.{when, unless_refused}
 use Rattle.vol_tree.specs.declared.node.Node.{Node}
 use Rattle.vol_tree.specs.declared.node.Node.TheVariants.{Folder, File}
 use Rattle.vol_tree.specs.declared.node.Row.{Row}
 use Rattle.vol_tree.specs.declared.node.Effect.{Effect}
 use Rattle.vol_tree.specs.declared.node.Effect.TheVariants.{Make, Put, Remove, Move}
 use Rattle.vol_tree.specs.Tree.{AreInOrder, IsRow, IsTree, row_at, node_at, version_at, is_root, is_folder, is_folder_node, node_size, total_size, has_no_room, is_at_top, size_with, is_child, rows_below, rows_above, with_row, touched, touched_paths, kept_row, kept_rows, restored, undone, CanUndo, refusals, changed, apply, IsLegalEffect}
+use Rattle.byte_fields.proofs.Facts.{not_lt_of, not_false_of, or_false_of, or_true, none_mapped}
 use Rattle.file_paths.proofs.Order.{same_path, same_place}
+pub use Rattle.file_paths.proofs.Refusals.{none_refused, not_when}
 use Rattle.vol_tree.proofs.Ordered.{all_append, all_filter, all_map, split_at_path, with_row_in_order, row_at-with_row, row_at-other, size-with_row, is_at_equal}
 use Rattle.vol_tree.proofs.Undoing.{undo_touched, find_passes, find_among}
 use Rattle.std.specs.Cmp.Derive.{both_true}
 use Rattle.std.specs.Ordering.{is_eq}
-use Rattle.vol_tree.specs.declared.node.TreeError.TheVariants.{NotEmpty}
 
 -- ---- what is not refused
-
-pub none_refused : {T E : Type 0} (all : List (Option E)) (value v : T) → unless_refused all value ≡ Ok v → AllByRecursion (λ refusal. refusal ≡ None) all
-none_refused [] value v h = tt
-none_refused (None ∷ rest) value v h = (refl, none_refused rest value v h)
-none_refused (Some e ∷ rest) value v h = absurd (cc)
-
-pub not_when : {E : Type 0} (b : Bool) (e : E) → when b e ≡ None → b ≡ false
-not_when true e h = absurd (cc)
-not_when false e h = refl
-
-not_false : (b : Bool) → not b ≡ false → b ≡ true
-not_false true h = refl
-not_false false h = absurd (true≢false h)
 
 -- no touched path is at the last version
 pub below_top : (effect : Effect) (rows : List Row) → apply effect rows ≡ Ok (changed effect rows) → AllByRecursion (λ p. is_at_top rows p ≡ false) (touched_paths effect)
@@ -70,10 +57,6 @@ above_itself (n ∷ ns) root same = omega (arith, length-take (length (n ∷ ns)
 
 abbrev AreInFolders : List Row → Type 0
 AreInFolders rows = (path : List (List ℕ)) → IsTrue (is_some (node_at rows path)) → IsTrue (is_folder rows (folder_of path))
-
-or_true : (a b : Bool) → b ≡ true → (a || b) ≡ true
-or_true true b h = refl
-or_true false b h = h
 
 -- a touched path keeps the rule on folders, where it stands in one and still holds what stands in it
 in_folders_touched : (rows : List Row) (p : List (List ℕ)) (node : Option Node) → AreInFolders rows → is_root p ≡ false → (IsTrue (is_some node) → IsTrue (is_folder rows (folder_of p))) → ((path : List (List ℕ)) → IsTrue (is_some (node_at rows path)) → folder_of path ≡ p → IsTrue (is_folder_node node)) → AreInFolders (touched rows p node)
@@ -171,22 +154,19 @@ made_is_tree rows p tree legal h =
     let root = not_when (is_root p) _ none.0 in
     let size = size_touched rows p (Some Folder) tree.in_order in
     touched_is_tree rows p (Some Folder) tree (record { is_path = legal; below_top = (below_top (Make p) rows h).0 }) root (omega arith) (not_when (has_no_room rows p) _ none.1.1.1.0) (omega (arith, size, tree.small))
-    (in_folders_touched rows p (Some Folder) tree.in_folders root (λ _. not_false (is_folder rows (folder_of p)) (not_when (not (is_folder rows (folder_of p))) _ none.1.0)) (λ path some same. refl))
+    (in_folders_touched rows p (Some Folder) tree.in_folders root (λ _. not_false_of (is_folder rows (folder_of p)) (not_when (not (is_folder rows (folder_of p))) _ none.1.0)) (λ path some same. refl))
 
 put_is_tree : (rows : List Row) (p : List (List ℕ)) (content : List ℕ) → IsTree rows → IsPath p → apply (Put p content) rows ≡ Ok (changed (Put p content) rows) → IsTree (changed (Put p content) rows)
 put_is_tree rows p content tree legal h =
     let none = none_refused (refusals (Put p content) rows) _ _ h in
     let root = not_when (is_root p) _ none.0 in
     let size = size_touched rows p (Some (File content)) tree.in_order in
-    let short : length content ≤ 8388608 = at_most (length content) 8388608 (not_when (nat_lt 8388608 (length content)) _ none.1.1.1.1.0) in
-    let total : size_with rows p content ≤ 33554432 = at_most (size_with rows p content) 33554432 (not_when (nat_lt 33554432 (size_with rows p content)) _ none.1.1.1.1.1.0) in
+    let short : length content ≤ 8388608 = not_lt_of 8388608 (length content) (not_when (nat_lt 8388608 (length content)) _ none.1.1.1.1.0) in
+    let total : size_with rows p content ≤ 33554432 = not_lt_of 33554432 (size_with rows p content) (not_when (nat_lt 33554432 (size_with rows p content)) _ none.1.1.1.1.1.0) in
     touched_is_tree rows p (Some (File content)) tree (record { is_path = legal; below_top = (below_top (Put p content) rows h).0 }) root short (not_when (has_no_room rows p) _ none.1.1.1.0) (omega (arith, size, total))
     (in_folders_touched rows p (Some (File content)) tree.in_folders root
-    (λ _. not_false (is_folder rows (folder_of p)) (not_when (not (is_folder rows (folder_of p))) _ none.1.0))
+    (λ _. not_false_of (is_folder rows (folder_of p)) (not_when (not (is_folder rows (folder_of p))) _ none.1.0))
     (λ path some same. absurd (nothing_within rows p tree.in_folders (not_when (is_folder rows p) _ none.1.1.0) path some same)))
-  where
-    at_most : (n limit : ℕ) → nat_lt limit n ≡ false → n ≤ limit
-    at_most n limit e = grind (arith, nat_tests)
 
 -- what has a node has a row
 pub has_row : (rows : List Row) (p : List (List ℕ)) → is_some (node_at rows p) ≡ true → is_some (row_at rows p) ≡ true
@@ -223,14 +203,10 @@ removed_is_tree rows p tree legal h =
     let none = none_refused (refusals (Remove p) rows) _ _ h in
     let root = not_when (is_root p) _ none.0 in
     let size = size_touched rows p None tree.in_order in
-    let there = not_false (is_some (node_at rows p)) (not_when (not (is_some (node_at rows p))) _ none.1.0) in
-    let childless = not_mapped (find (is_child p) rows) none.1.1.0 in
+    let there = not_false_of (is_some (node_at rows p)) (not_when (not (is_some (node_at rows p))) _ none.1.0) in
+    let childless = none_mapped _ (find (is_child p) rows) none.1.1.0 in
     touched_is_tree rows p None tree (record { is_path = legal; below_top = (below_top (Remove p) rows h).0 }) root (omega arith) (room_of_row rows p (has_row rows p there)) (omega (arith, size, tree.small))
     (in_folders_touched rows p None tree.in_folders root (λ h. absurd (true≢false (sym h))) (λ path some same. absurd (no_child rows p childless path some same)))
-  where
-    not_mapped : (o : Option Row) → option_map (λ child. NotEmpty p child.path) o ≡ None → o ≡ None
-    not_mapped None h = refl
-    not_mapped (Some row) h = absurd (cc)
 
 -- the paths of a move differ, since one has a node and the other has none
 pub moved_apart : (rows : List Row) (p q : List (List ℕ)) → is_some (node_at rows p) ≡ true → is_some (node_at rows q) ≡ false → p ≡ q → ⊥
@@ -257,20 +233,16 @@ pub record CanMove (rows : List Row) (p q : List (List ℕ)) : Type 0 where
   pub no_folder : is_folder rows p ≡ false
   pub room : has_no_room rows q ≡ false
 
-neither : (a b : Bool) → (a || b) ≡ false → (a ≡ false) × (b ≡ false)
-neither true b h = absurd (true≢false h)
-neither false b h = (refl, h)
-
 pub can_move : (rows : List Row) (p q : List (List ℕ)) → apply (Move p q) rows ≡ Ok (changed (Move p q) rows) → CanMove rows p q
 can_move rows p q h =
     let none = none_refused (refusals (Move p q) rows) _ _ h in
-    let roots = neither (is_root p) (is_root q) (not_when (is_root p || is_root q) _ none.0) in
+    let roots = or_false_of (is_root p) (is_root q) (not_when (is_root p || is_root q) _ none.0) in
     record {
       from_below_root = roots.0;
       to_below_root = roots.1;
-      into_folder = not_false (is_folder rows (folder_of q)) (not_when (not (is_folder rows (folder_of q))) _ none.1.0);
+      into_folder = not_false_of (is_folder rows (folder_of q)) (not_when (not (is_folder rows (folder_of q))) _ none.1.0);
       free = not_when (is_some (node_at rows q)) _ none.1.1.0;
-      there = not_false (is_some (node_at rows p)) (not_when (not (is_some (node_at rows p))) _ none.1.1.1.0);
+      there = not_false_of (is_some (node_at rows p)) (not_when (not (is_some (node_at rows p))) _ none.1.1.1.0);
       no_folder = not_when (is_folder rows p) _ none.1.1.1.1.0;
       room = not_when (has_no_room rows q) _ none.1.1.1.1.1.0;
     }

@@ -12,9 +12,9 @@ use Rattle.vol_tree.specs.Arena.{Place, Places, no_place, place, slot_of, AreLin
 use Rattle.vol_tree.proofs.Slots.{read_place}
 use Rattle.vol_tree.proofs.Links.{SameShape, shape_slot, slot_of-append, one_further}
 use Rattle.vol_tree.proofs.Grown.{with_one, no_slots}
-use Rattle.vol_tree.proofs.Shrunk.{without_one, child_within, shrinks_at, shrunk_at}
+use Rattle.vol_tree.proofs.Shrunk.{without_one, split_at, child_within, shrinks_at, shrunk_at}
 use Rattle.vol_tree.proofs.Pool.{all_to, all_with, but_last, not_none, same_some, no_pool, same_pool, written_pool, dropped_pool}
-use Rattle.vol_tree.proofs.Written.{written_slot}
+use Rattle.vol_tree.proofs.Written.{written_here, written_elsewhere, written_shape, written_slot}
 
 -- what holds of a slot in another
 abbrev pub IsUsed : Places → Option ℕ → ℕ → Type 0
@@ -95,31 +95,19 @@ used_shrunk old new free capacity parent k index shrinks pool used i = all_with 
         all (λ e. not_none i (pool.owner c) (ap pool.owner (some_same (get_or (place old parent).children k 0) c e) ∙ gone_free.unowned) owned)
         (sym (shrinks.versions c) ∙ idle.0, sym (shrinks.others c below) ∙ idle.1)
 
-    split : (place old parent).children ≡ take k (place old parent).children ++ get_or (place old parent).children k 0 ∷ drop (suc k) (place old parent).children
-    split = sym (take-append-drop k (place old parent).children) ∙ ap (λ back. take k (place old parent).children ++ back) (drop-cons (place old parent).children k 0 index)
-
     rest : AllByRecursion (IsUsed old (Some (get_or (place old parent).children k 0))) (place new i).children
     rest = elim (cases_eq i parent) [
       | inl same ↦ subst (λ a. AllByRecursion (IsUsed old (Some (get_or (place old parent).children k 0))) (place new a).children) (sym same)
           (subst (AllByRecursion (IsUsed old (Some (get_or (place old parent).children k 0)))) (sym shrinks.linked)
-          (without_one (IsUsed old (Some (get_or (place old parent).children k 0))) (take k (place old parent).children) (drop (suc k) (place old parent).children) (get_or (place old parent).children k 0) (subst (AllByRecursion (IsUsed old (Some (get_or (place old parent).children k 0)))) split (used parent))))
+          (without_one (IsUsed old (Some (get_or (place old parent).children k 0))) (take k (place old parent).children) (drop (suc k) (place old parent).children) (get_or (place old parent).children k 0) (subst (AllByRecursion (IsUsed old (Some (get_or (place old parent).children k 0)))) (split_at (place old parent).children k index) (used parent))))
       | inr other ↦ subst (AllByRecursion (IsUsed old (Some (get_or (place old parent).children k 0)))) (sym (shrinks.others i other)) (used i)
     ]
 
 -- ---- one slot written
 
 module _ (slots : Places) (i version : ℕ) (node : Option Node) (within : i < length slots) where
-  here : place (written slots i version node) i ≡ record { name = (place slots i).name; version = version; node = node; children = (place slots i).children }
-  here = get_or-set_same slots i (record { name = (place slots i).name; version = version; node = node; children = (place slots i).children }) no_place within
-
-  elsewhere : (k : ℕ) → (k ≡ i → ⊥) → place (written slots i version node) k ≡ place slots k
-  elsewhere k other = get_or-set_other slots i k (record { name = (place slots i).name; version = version; node = node; children = (place slots i).children }) no_place other
-
   same_children : (k : ℕ) → (place (written slots i version node) k).children ≡ (place slots k).children
-  same_children k = elim (cases_eq k i) [
-    | inl same ↦ subst (λ a. (place (written slots i version node) a).children ≡ (place slots a).children) (sym same) (ap (λ (x : Place). x.children) here)
-    | inr other ↦ ap (λ (x : Place). x.children) (elsewhere k other)
-  ]
+  same_children k = (written_shape slots i version node within).children k
 
   -- a slot that stands for a row then is not idle
   pub used_written : (version ≡ 0 → ⊥) → AreUsed slots (Some i) → AreUsed (written slots i version node) None
@@ -127,8 +115,8 @@ module _ (slots : Places) (i version : ℕ) (node : Option Node) (within : i < l
     where
       step : (c : ℕ) → IsUsed slots (Some i) c → IsUsed (written slots i version node) None c
       step c all none idle = elim (cases_eq c i) [
-        | inl same ↦ some (sym (ap (λ (x : Place). x.version) (ap (place (written slots i version node)) same ∙ here)) ∙ idle.0)
-        | inr other ↦ all (λ e. other (some_same i c e)) (subst IsIdle (elsewhere c other) idle)
+        | inl same ↦ some (sym (ap (λ (x : Place). x.version) (ap (place (written slots i version node)) same ∙ written_here slots i version node within)) ∙ idle.0)
+        | inr other ↦ all (λ e. other (some_same i c e)) (subst IsIdle (written_elsewhere slots i version node within c other) idle)
       ]
 
   -- and no other becomes idle
@@ -138,7 +126,7 @@ module _ (slots : Places) (i version : ℕ) (node : Option Node) (within : i < l
       step : (c : ℕ) → IsUsed slots None c → IsUsed (written slots i version node) (Some i) c
       step c all exempt idle = elim (cases_eq c i) [
         | inl same ↦ exempt (ap Some (sym same))
-        | inr other ↦ all (λ e. absurd (cc)) (subst IsIdle (elsewhere c other) idle)
+        | inr other ↦ all (λ e. absurd (cc)) (subst IsIdle (written_elsewhere slots i version node within c other) idle)
       ]
 
 -- ---- what calls leave

@@ -10,6 +10,7 @@ use Rattle.std.proofs.lemmas.Cmp.{tied_itself}
 use Rattle.std.specs.declared.cmp.Ordering.{Ordering}
 use Rattle.std.specs.declared.cmp.Ordering.TheVariants.{Less, Equal, Greater}
 use Rattle.std.specs.Ordering.{ordering_reverse, is_eq, ordering_then}
+use Rattle.byte_fields.proofs.Facts.{none_behind}
 use Rattle.vol_tree.specs.Inside.{is_at}
 use Rattle.file_paths.specs.Path.{FilePath, path_cmp, is_same_path}
 use Rattle.vol_tree.specs.declared.node.Row.{Row}
@@ -43,10 +44,6 @@ pub record Extends (p path : FilePath) : Type 0 where
 
 shorter : (p : FilePath) (n : List ℕ) (path : FilePath) → Extends (p ++ n ∷ []) path → Extends p path
 shorter p n path longer = record { rest = n ∷ longer.rest; is = longer.is ∙ append_assoc p (n ∷ []) longer.rest }
-
-no_more : (o : Option Row) → option_or o None ≡ o
-no_more None = refl
-no_more (Some row) = refl
 
 own_is_at : (p : FilePath) (slot : Place) → row_at (option_to_list (own_row p slot)) p ≡ own_row p slot
 own_is_at p slot = by (slot.version == 0) refl
@@ -162,7 +159,7 @@ module _ (slots : Places) (linked : AreLinked slots) where
       by Equal e rest =
           let same = same_name (place slots c).name n e in
           let none = none_above (rows_in slots levels p cs) ((p ++ n ∷ []) ++ q) (all_map (λ row less. ap (λ m. path_cmp ((p ++ m ∷ []) ++ q) row.path) (sym same) ∙ less q) (rows_in slots levels p cs) (above_child slots levels p (place slots c).name cs ascending.0)) in
-          rw (none, e) (no_more (row_at (rows_from levels slots (p ++ (place slots c).name ∷ []) c) ((p ++ n ∷ []) ++ q)))
+          rw (none, e) (none_behind (row_at (rows_from levels slots (p ++ (place slots c).name ∷ []) c) ((p ++ n ∷ []) ++ q)))
 
   -- a path from a slot down finds the row of its own slot, if it has one and is within the levels
   pub found : (levels : ℕ) (p : FilePath) (i : ℕ) (q : FilePath) → (slot_of slots i q ≡ None) ⊎ (length q < levels) → row_at (rows_from levels slots p i) (p ++ q) ≡ row_of slots (p ++ q) (slot_of slots i q)
@@ -171,7 +168,7 @@ module _ (slots : Places) (linked : AreLinked slots) where
   found (suc levels) p i [] reach =
       rw append-nil (
       find-append (is_at p) (option_to_list (own_row p (place slots i))) (rows_in slots levels p (place slots i).children)
-      ∙ rw (own_is_at p (place slots i), none_above (rows_in slots levels p (place slots i).children) p (above_path slots levels p (place slots i).children)) (no_more (own_row p (place slots i)))
+      ∙ rw (own_is_at p (place slots i), none_above (rows_in slots levels p (place slots i).children) p (above_path slots levels p (place slots i).children)) (none_behind (own_row p (place slots i)))
       )
   found (suc levels) p i (n ∷ q) reach =
       rw (← append_assoc p (n ∷ []) q) (

@@ -47,39 +47,39 @@ without_other rows p q other =
 -- ---- one slot written
 
 module _ (slots : Places) (i version : ℕ) (node : Option Node) (within : i < length slots) where
-  here : place (written slots i version node) i ≡ record { name = (place slots i).name; version = version; node = node; children = (place slots i).children }
-  here = get_or-set_same slots i (record { name = (place slots i).name; version = version; node = node; children = (place slots i).children }) no_place within
+  pub written_here : place (written slots i version node) i ≡ record { name = (place slots i).name; version = version; node = node; children = (place slots i).children }
+  written_here = get_or-set_same slots i (record { name = (place slots i).name; version = version; node = node; children = (place slots i).children }) no_place within
 
-  elsewhere : (k : ℕ) → (k ≡ i → ⊥) → place (written slots i version node) k ≡ place slots k
-  elsewhere k other = get_or-set_other slots i k (record { name = (place slots i).name; version = version; node = node; children = (place slots i).children }) no_place other
+  pub written_elsewhere : (k : ℕ) → (k ≡ i → ⊥) → place (written slots i version node) k ≡ place slots k
+  written_elsewhere k other = get_or-set_other slots i k (record { name = (place slots i).name; version = version; node = node; children = (place slots i).children }) no_place other
 
-  shape : SameShape slots (written slots i version node)
-  shape = record {
+  pub written_shape : SameShape slots (written slots i version node)
+  written_shape = record {
     names = λ k. elim (cases_eq k i) [
-      | inl same ↦ subst (λ a. (place (written slots i version node) a).name ≡ (place slots a).name) (sym same) (ap (λ (x : Place). x.name) here)
-      | inr other ↦ ap (λ (x : Place). x.name) (elsewhere k other)
+      | inl same ↦ subst (λ a. (place (written slots i version node) a).name ≡ (place slots a).name) (sym same) (ap (λ (x : Place). x.name) written_here)
+      | inr other ↦ ap (λ (x : Place). x.name) (written_elsewhere k other)
     ];
     children = λ k. elim (cases_eq k i) [
-      | inl same ↦ subst (λ a. (place (written slots i version node) a).children ≡ (place slots a).children) (sym same) (ap (λ (x : Place). x.children) here)
-      | inr other ↦ ap (λ (x : Place). x.children) (elsewhere k other)
+      | inl same ↦ subst (λ a. (place (written slots i version node) a).children ≡ (place slots a).children) (sym same) (ap (λ (x : Place). x.children) written_here)
+      | inr other ↦ ap (λ (x : Place). x.children) (written_elsewhere k other)
     ];
   }
 
   pub written_slot : (q : FilePath) → slot_of (written slots i version node) 0 q ≡ slot_of slots 0 q
-  written_slot q = shape_slot slots (written slots i version node) shape q 0
+  written_slot q = shape_slot slots (written slots i version node) written_shape q 0
 
   pub written_arena : IsArena slots → (i ≡ 0 → ⊥) → (version ≡ 0 → node ≡ None) → IsArena (written slots i version node)
   written_arena arena below_root bare =
-      shape_arena slots (written slots i version node) shape (omega (arith, length-set slots i (record { name = (place slots i).name; version = version; node = node; children = (place slots i).children }))) arena
-      (ap (λ (x : Place). x.version) (elsewhere 0 (λ z. below_root (sym z))) ∙ arena.root)
+      shape_arena slots (written slots i version node) written_shape (omega (arith, length-set slots i (record { name = (place slots i).name; version = version; node = node; children = (place slots i).children }))) arena
+      (ap (λ (x : Place). x.version) (written_elsewhere 0 (λ z. below_root (sym z))) ∙ arena.root)
       (λ k. elim (cases_eq k i) [
-        | inl same ↦ subst (λ a. (place (written slots i version node) a).version ≡ 0 → (place (written slots i version node) a).node ≡ None) (sym same) (rw here bare)
-        | inr other ↦ rw (elsewhere k other) (arena.bare k)
+        | inl same ↦ subst (λ a. (place (written slots i version node) a).version ≡ 0 → (place (written slots i version node) a).node ≡ None) (sym same) (rw written_here bare)
+        | inr other ↦ rw (written_elsewhere k other) (arena.bare k)
       ])
 
   module _ (arena : IsArena slots) (path : FilePath) (at : slot_of slots 0 path ≡ Some i) (below_root : i ≡ 0 → ⊥) (bare : version ≡ 0 → node ≡ None) where
     row_here : row_at (rows_of (written slots i version node)) path ≡ own_row path (record { name = (place slots i).name; version = version; node = node; children = (place slots i).children })
-    row_here = found_row (written slots i version node) path (written_arena arena below_root bare) ∙ rw (written_slot path, at, here) refl
+    row_here = found_row (written slots i version node) path (written_arena arena below_root bare) ∙ rw (written_slot path, at, written_here) refl
 
     row_elsewhere : (q : FilePath) → (q ≡ path → ⊥) → row_at (rows_of (written slots i version node)) q ≡ row_at (rows_of slots) q
     row_elsewhere q other =
@@ -88,7 +88,7 @@ module _ (slots : Places) (i version : ℕ) (node : Option Node) (within : i < l
       where
         by : (o : Option ℕ) → slot_of slots 0 q ≡ o → row_of (written slots i version node) q o ≡ row_of slots q o
         by None e = refl
-        by (Some k) e = ap (own_row q) (elsewhere k (λ same. other (arena.apart q path i (e ∙ ap Some same) at)))
+        by (Some k) e = ap (own_row q) (written_elsewhere k (λ same. other (arena.apart q path i (e ∙ ap Some same) at)))
 
     -- a written row is with the others
     pub written_rows : (version ≡ 0 → ⊥) → rows_of (written slots i version node) ≡ with_row (rows_of slots) (record { path = path; version = version; node = node })
