@@ -1,5 +1,5 @@
 -- A tree with one more row behind it.
-use Rattle.std.proofs.Common.{◌≡◌, ℕ, ◌+◌, ◌<◌, ◌≤◌, Bool, true, false, ◌||◌, not, List, [], ◌∷◌, ◌++◌, length, find, Option, Some, None, IsTrue, is_some, arith, refl, sym, ap, ◌∙◌, subst, true≢false, length-append, cond, take, get_or}
+use Rattle.std.proofs.Common.{◌≡◌, ℕ, ◌+◌, ◌<◌, Bool, true, false, ◌||◌, not, List, [], ◌∷◌, ◌++◌, length, find, Option, Some, None, IsTrue, is_some, arith, refl, sym, ap, ◌∙◌, subst, true≢false, length-append, cond, take, get_or}
 use Rattle.std.proofs.lemmas.List.{take_more}
 use Rattle.std.specs.Prelude.{nat_lt, nat_le, ◌^◌}
 use Rattle.std.specs.List.{AllByRecursion, list_all}

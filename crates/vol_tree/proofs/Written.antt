@@ -1,10 +1,7 @@
 -- A slot of which version and node are written: the rules stay, and the rows but for its own.
-use Rattle.std.proofs.Common.{◌≡◌, ℕ, zero, suc, ◌+◌, ◌<◌, ◌≤◌, ◌==◌, Bool, true, false, cond, List, [], ◌∷◌, ◌++◌, length, get_or, set, find, Option, Some, None, inl, inr, arith, refl, sym, ap, ◌∙◌, subst}
-use Rattle.std.specs.Prelude.{◌⊎◌}
-use Rattle.std.specs.List.{AllByRecursion}
-use Rattle.std.specs.Option.{option_or}
+use Rattle.std.proofs.Common.{◌≡◌, ℕ, ◌<◌, ◌==◌, Bool, true, false, ◌∷◌, length, get_or, set, find, Option, Some, None, inl, inr, arith, refl, sym, ap, ◌∙◌, subst}
 use Rattle.std.proofs.lemmas.Bool.{cases_eq, eqb-true}
-use Rattle.std.proofs.lemmas.List.{length-set, get_or-set_same, get_or-set_other, get_or_past}
+use Rattle.std.proofs.lemmas.List.{length-set, get_or-set_same, get_or-set_other}
 use Rattle.std.proofs.lemmas.List.Folds.{find-append}
 use Rattle.std.specs.declared.cmp.Ordering.{Ordering}
 use Rattle.std.specs.declared.cmp.Ordering.TheVariants.{Less, Equal, Greater}
@@ -13,7 +10,7 @@ use Rattle.vol_tree.specs.Inside.{is_at}
 use Rattle.file_paths.specs.Path.{FilePath, path_cmp}
 use Rattle.vol_tree.specs.declared.node.Node.{Node}
 use Rattle.vol_tree.specs.declared.node.Row.{Row}
-use Rattle.vol_tree.specs.Tree.{Volume, AreInOrder, row_at, rows_below, rows_above, with_row, without_row}
+use Rattle.vol_tree.specs.Tree.{Volume, row_at, rows_below, rows_above, with_row, without_row}
 use Rattle.vol_tree.specs.Arena.{Place, Places, no_place, place, slot_of, own_row, rows_of, IsArena, written}
 use Rattle.file_paths.proofs.Order.{same_path}
 use Rattle.vol_tree.proofs.Ordered.{all_map, all_below, all_above, find_none, row_at-with_row, row_at-other, with_row_in_order, without_row_in_order}
