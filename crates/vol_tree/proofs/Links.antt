@@ -12,7 +12,7 @@ use Rattle.std.specs.Ordering.{is_eq}
 use Rattle.file_paths.specs.Path.{FilePath, path_cmp}
 use Rattle.vol_tree.specs.Arena.{Place, Places, place, name_cmp, child_named, slot_of, AreAscending, AreLinked, IsArena, Grows}
 use Rattle.byte_fields.proofs.Facts.{tie_is_equal}
-use Rattle.file_paths.proofs.Order.{same_path, same_place}
+use Rattle.file_paths.proofs.Order.{same_path, paths_differ}
 use Rattle.vol_tree.proofs.Slots.{same_name}
 use Rattle.vol_tree.proofs.Walk.{same_itself}
 
@@ -21,13 +21,10 @@ use Rattle.vol_tree.proofs.Walk.{same_itself}
 pub same_or_not : (p q : FilePath) → (p ≡ q) ⊎ (p ≡ q → ⊥)
 same_or_not p q = by (path_cmp p q) refl
   where
-    differ : (o : Ordering) → path_cmp p q ≡ o → (o ≡ Equal → ⊥) → p ≡ q → ⊥
-    differ o e unlike same = unlike (sym e ∙ ap (λ a. path_cmp a q) same ∙ same_place q)
-
     by : (o : Ordering) → path_cmp p q ≡ o → (p ≡ q) ⊎ (p ≡ q → ⊥)
     by Equal e = inl (same_path p q e)
-    by Less e = inr (differ Less e (λ l. absurd (cc)))
-    by Greater e = inr (differ Greater e (λ l. absurd (cc)))
+    by Less e = inr (paths_differ p q Less e (λ l. absurd (cc)))
+    by Greater e = inr (paths_differ p q Greater e (λ l. absurd (cc)))
 
 pub slot_of-append : (slots : Places) (p q : FilePath) (i : ℕ) → slot_of slots i (p ++ q) ≡ option_and_then (λ k. slot_of slots k q) (slot_of slots i p)
 slot_of-append slots [] q i = refl
