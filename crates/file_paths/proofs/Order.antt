@@ -32,6 +32,10 @@ path_tied a b e = subst (λ (p : FilePath). is_same_path a p ≡ true) e (ap is_
 pub own_path : (a : FilePath) → is_same_path a a ≡ true
 own_path a = ap is_eq (same_place a)
 
+-- paths that compare other than as equal are two
+pub paths_differ : (a b : FilePath) (o : Ordering) → path_cmp a b ≡ o → (o ≡ Equal → ⊥) → a ≡ b → ⊥
+paths_differ a b o e unlike same = unlike (sym e ∙ ap (λ p. path_cmp p b) same ∙ same_place b)
+
 -- other paths do not tie
 pub paths_apart : (known other : FilePath) → (other ≡ known → ⊥) → is_same_path known other ≡ false
 paths_apart known other differ = by (is_same_path known other) refl

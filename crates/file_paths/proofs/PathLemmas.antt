@@ -1,5 +1,5 @@
 -- The pieces of a text, from the place of its first `/`, and when they are a path.
-use Rattle.std.proofs.Common.{◌≡◌, ℕ, ◌+◌, ◌<◌, ◌≤◌, ◌==◌, List, [], ◌∷◌, ◌++◌, length, take, drop, Bool, true, false, not, Some, None, arith, sym, ap, ◌∙◌, append_assoc, refl, zero, suc, append-nil, ◌-◌, length-append}
+use Rattle.std.proofs.Common.{◌≡◌, ℕ, ◌+◌, ◌<◌, ◌≤◌, ◌==◌, List, [], ◌∷◌, ◌++◌, length, take, drop, Bool, true, not, Some, None, arith, sym, ap, ◌∙◌, append_assoc, refl, zero, suc, append-nil, ◌-◌, length-append}
 use Rattle.std.proofs.lemmas.List.{length-take, take_all}
 use Rattle.std.proofs.lemmas.List.Sums.{sum_by-append}
 use Rattle.std.specs.List.{position, flat_map, position_or_len, slice_split, list_all}

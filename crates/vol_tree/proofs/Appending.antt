@@ -1,5 +1,5 @@
 -- A tree with one more row behind it.
-use Rattle.std.proofs.Common.{◌≡◌, ℕ, ◌+◌, ◌<◌, ◌≤◌, Bool, true, false, ◌||◌, not, List, [], ◌∷◌, ◌++◌, length, find, Option, Some, None, IsTrue, is_some, arith, refl, sym, ap, ◌∙◌, subst, true≢false, length-append, cond, take, get_or}
+use Rattle.std.proofs.Common.{◌≡◌, ℕ, ◌+◌, ◌<◌, Bool, true, false, ◌||◌, not, List, [], ◌∷◌, ◌++◌, length, find, Option, Some, None, IsTrue, is_some, arith, refl, sym, ap, ◌∙◌, subst, true≢false, length-append, cond, take, get_or}
 use Rattle.std.proofs.lemmas.List.{take_more}
 use Rattle.std.specs.Prelude.{nat_lt, nat_le, ◌^◌}
 use Rattle.std.specs.List.{AllByRecursion, list_all}
@@ -9,7 +9,7 @@ use Rattle.std.specs.Cmp.Derive.{both_true}
 use Rattle.std.proofs.lemmas.List.Folds.{find-append}
 use Rattle.std.specs.declared.cmp.Ordering.TheVariants.{Less}
 use Rattle.std.specs.Ordering.{is_lt, is_eq}
-use Rattle.byte_fields.proofs.Facts.{lt_holds, lt_of, le_holds, le_of, not_of, none_behind}
+use Rattle.byte_fields.proofs.Facts.{lt_holds, lt_of, le_holds, le_of, not_of, not_true, none_behind}
 use Rattle.file_paths.specs.Path.{path_cmp, folder_of, IsPath}
 use Rattle.vol_tree.specs.declared.node.Row.{Row}
 use Rattle.vol_tree.specs.Tree.{AreInOrder, IsRow, IsTree, row_at, node_at, is_root, is_folder, is_folder_node, node_size, total_size}
@@ -88,12 +88,11 @@ row_unchanged rows row q e = find-append (is_at q) rows (row ∷ []) ∙ rw e (n
 
 stands_in_folder : (rows : List Row) (row : Row) → IsTree (rows ++ row ∷ []) → is_some row.node ≡ true → is_folder rows (folder_of row.path) ≡ true
 stands_in_folder rows row whole some =
-    ap (λ o. is_root (folder_of row.path) || is_folder_node (option_and_then (λ row. row.node) o)) (sym (row_unchanged rows row (folder_of row.path) (elsewhere (is_at (folder_of row.path) row) refl)))
+    ap (λ o. is_root (folder_of row.path) || is_folder_node (option_and_then (λ row. row.node) o)) (sym (row_unchanged rows row (folder_of row.path) elsewhere))
     ∙ whole.in_folders row.path (ap is_some node ∙ some)
   where
-    elsewhere : (b : Bool) → is_at (folder_of row.path) row ≡ b → b ≡ false
-    elsewhere false e = refl
-    elsewhere true e = absurd (above_itself row.path (all_last IsRow rows row whole.each).below_root (sym (is_at_equal row (folder_of row.path) e)))
+    elsewhere : is_at (folder_of row.path) row ≡ false
+    elsewhere = not_true _ (λ e. above_itself row.path (all_last IsRow rows row whole.each).below_root (sym (is_at_equal row (folder_of row.path) e)))
 
     node : node_at (rows ++ row ∷ []) row.path ≡ row.node
     node =

@@ -21,7 +21,7 @@ use Rattle.vol_tree.specs.declared.node.TreeError.{TreeError}
 use Rattle.vol_tree.specs.Tree.{AreInOrder, IsRow, IsTree, row_at, version_at, node_at, with_row, touched, refusals, changed, apply, touched_paths, IsLegalEffect, Volume}
 use Rattle.vol_tree.specs.Effects.{changed_all, unless_refused_at, apply_all, touched_all, distinct, base_of, Conflict, first_conflict}
 use Rattle.vol_tree.specs.Behind.{IsBehind, IsAhead, AgreeAt, IsIn}
-use Rattle.file_paths.proofs.Order.{paths_total, same_path, same_place, tied_path}
+use Rattle.file_paths.proofs.Order.{paths_total, same_path, same_place, tied_path, paths_differ, paths_apart}
 use Rattle.file_paths.proofs.Refusals.{value_unrefused}
 use Rattle.vol_tree.proofs.Places.{are_above, after_row}
 use Rattle.vol_tree.proofs.Ordered.{row_at-with_row, is_at_equal}
@@ -42,13 +42,10 @@ row_at-touched volume path now other = by (path_cmp other path) refl
     new : Row
     new = record { path = path; version = version_at volume path + 1; node = now }
 
-    differ : (o : Ordering) → path_cmp other path ≡ o → (o ≡ Equal → ⊥) → other ≡ path → ⊥
-    differ o e unlike same = unlike (sym e ∙ ap (λ b. path_cmp b path) same ∙ same_place path)
-
     by : (o : Ordering) → path_cmp other path ≡ o → row_at (touched volume path now) other ≡ cond (is_eq o) (Some new) (row_at volume other)
     by Equal e = ap (row_at (with_row volume new)) (same_path other path e) ∙ row_at-with_row volume new
-    by Less e = row_untouched volume path now other (differ Less e (λ l. cc))
-    by Greater e = row_untouched volume path now other (differ Greater e (λ l. cc))
+    by Less e = row_untouched volume path now other (paths_differ other path Less e (λ l. cc))
+    by Greater e = row_untouched volume path now other (paths_differ other path Greater e (λ l. cc))
 
 -- by whether the other path is this one
 version_if : (volume : Volume) (path other : FilePath) (now : Option Node) (b : Bool) → is_same_path other path ≡ b → version_of (cond b (Some (record { path = path; version = version_at volume path + 1; node = now })) (row_at volume other)) ≡ cond b (version_at volume other + 1) (version_at volume other)
@@ -351,12 +348,8 @@ applied_all-tree (effect ∷ later) at v after tree legal e = by (apply effect v
 
 -- ---- a path that is not touched keeps its version
 
-version_apart_if : (b : Bool) (path other : FilePath) (n : ℕ) → is_same_path other path ≡ b → (other ≡ path → ⊥) → cond b (n + 1) n ≡ n
-version_apart_if true path other n e apart = absurd (apart (tied_path other path e))
-version_apart_if false path other n e apart = refl
-
 pub version-apart : (v : Volume) (path : FilePath) (now : Option Node) (other : FilePath) → (other ≡ path → ⊥) → version_at (touched v path now) other ≡ version_at v other
-version-apart v path now other apart = version-touched v path now other ∙ version_apart_if _ path other _ refl apart
+version-apart v path now other apart = version-touched v path now other ∙ ap (λ b. cond b (version_at v other + 1) (version_at v other)) (paths_apart other path (λ same. apart (sym same)))
 
 version-change_apart : (effect : Effect) (v : Volume) (path : FilePath) → (IsIn path (touched_paths effect) → ⊥) → version_at (changed effect v) path ≡ version_at v path
 version-change_apart (Make p) v path apart = version-apart v p _ path (λ e. apart (inl e))

@@ -1,22 +1,19 @@
 -- One more slot keeps the rules and the rows.
-use Rattle.std.proofs.Common.{◌≡◌, ℕ, zero, suc, ◌+◌, ◌-◌, ◌<◌, ◌≤◌, ◌==◌, Bool, true, false, cond, List, [], ◌∷◌, ◌++◌, length, get_or, set, take, drop, Option, Some, None, inl, inr, arith, refl, sym, ap, ◌∙◌, subst}
+use Rattle.std.proofs.Common.{◌≡◌, ℕ, zero, suc, ◌+◌, ◌-◌, ◌<◌, ◌≤◌, List, [], ◌∷◌, ◌++◌, length, get_or, take, drop, Option, Some, None, inl, inr, arith, refl, sym, ap, ◌∙◌, subst}
 use Rattle.std.specs.Prelude.{◌⊎◌, Result, Ok, Err, IfOk, OnOk}
 use Rattle.std.specs.List.{AllByRecursion, insert}
 use Rattle.std.proofs.lemmas.Bool.{cases_eq, cases_lt}
 use Rattle.std.proofs.lemmas.List.{length-take, length-drop, get_or-take, get_or-drop, take-append-drop, take_more}
 use Rattle.std.proofs.lemmas.List.Edits.{length-insert, get_or-insert_below, get_or-insert_at, get_or-insert_above}
-use Rattle.std.specs.declared.cmp.Ordering.{Ordering}
-use Rattle.std.specs.declared.cmp.Ordering.TheVariants.{Less, Equal, Greater}
+use Rattle.std.specs.declared.cmp.Ordering.TheVariants.{Less}
 use Rattle.std.specs.Ordering.{ordering_reverse}
 use Rattle.file_paths.specs.Path.{FilePath, IsPath}
-use Rattle.vol_tree.specs.declared.node.Row.{Row}
-use Rattle.vol_tree.specs.Tree.{Volume, AreInOrder, row_at}
 use Rattle.vol_tree.specs.Arena.{Place, Places, no_place, place, name_cmp, child_named, slot_of, own_row, rows_of, AreAscending, AreLinked, IsArena, IsFound, IsMissing, Grows, IsEntered}
 use Rattle.file_paths.proofs.PathLemmas.{front_is_path}
 use Rattle.vol_tree.proofs.Slots.{names_total}
 use Rattle.vol_tree.proofs.Walk.{row_of, found_row, rows_in_order}
 use Rattle.vol_tree.proofs.Behind.{same_rows}
-use Rattle.vol_tree.proofs.Links.{SameShape, shape_slot, shape_arena, same_or_not, all_at, same_ascending, none_is_new, kept_name, kept_names, reached, grown_path, grown_at, one_further}
+use Rattle.vol_tree.proofs.Links.{SameShape, shape_slot, shape_arena, same_or_not, all_at, same_ascending, none_is_new, kept_name, kept_names, reached, KeepsSlots, grown_keeps, grown_at, one_further}
 
 -- ---- order
 
@@ -110,21 +107,15 @@ module _ (old new : Places) (parent k : ℕ) (name : List ℕ) (j : ℕ) (arena 
 
   -- ---- the paths
 
-  target : FilePath
-  target = path ++ name ∷ []
-
-  here_new : slot_of new 0 (path ++ name ∷ []) ≡ Some j
-  here_new = grown_at old new parent k name j arena grows path at none
-
-  kept_path : (p : FilePath) → (p ≡ path ++ name ∷ [] → ⊥) → slot_of new 0 p ≡ slot_of old 0 p
-  kept_path p other = grown_path old new parent k name j arena grows path at none p other
+  keeps : KeepsSlots old new path name parent
+  keeps = grown_keeps old new parent k name j arena grows path at none
 
   -- another path does not have the new slot
   other_slot : (p : FilePath) (i : ℕ) → (p ≡ path ++ name ∷ [] → ⊥) → slot_of new 0 p ≡ Some i → i ≡ j → ⊥
-  other_slot p i other e = reached old new parent k name j arena grows path at none p i (sym (kept_path p other) ∙ e)
+  other_slot p i other e = reached old new parent k name j arena grows path at none p i (sym (keeps.others p other) ∙ e)
 
   new_slot : (i : ℕ) → slot_of new 0 (path ++ name ∷ []) ≡ Some i → i ≡ j
-  new_slot i e = let both = sym e ∙ here_new in cc
+  new_slot i e = let both = sym e ∙ grown_at old new parent k name j arena grows path at none in cc
 
   grown_apart : (p q : FilePath) (i : ℕ) → slot_of new 0 p ≡ Some i → slot_of new 0 q ≡ Some i → p ≡ q
   grown_apart p q i e f = elim (same_or_not p (path ++ name ∷ [])) [
@@ -134,7 +125,7 @@ module _ (old new : Places) (parent k : ℕ) (name : List ℕ) (j : ℕ) (arena 
     ]
     | inr not_p ↦ elim (same_or_not q (path ++ name ∷ [])) [
       | inl at_q ↦ absurd (other_slot p i not_p e (new_slot i (ap (slot_of new 0) (sym at_q) ∙ f)))
-      | inr not_q ↦ arena.apart p q i (sym (kept_path p not_p) ∙ e) (sym (kept_path q not_q) ∙ f)
+      | inr not_q ↦ arena.apart p q i (sym (keeps.others p not_p) ∙ e) (sym (keeps.others q not_q) ∙ f)
     ]
   ]
 
@@ -144,7 +135,7 @@ module _ (old new : Places) (parent k : ℕ) (name : List ℕ) (j : ℕ) (arena 
     apart = grown_apart;
     paths = λ p i e. elim (same_or_not p (path ++ name ∷ [])) [
       | inl same ↦ subst IsPath (sym same) legal
-      | inr other ↦ arena.paths p i (sym (kept_path p other) ∙ e)
+      | inr other ↦ arena.paths p i (sym (keeps.others p other) ∙ e)
     ];
     root = elim (cases_eq 0 parent) [
       | inl same ↦ subst (λ i. (place old i).version ≡ 0 → (place new i).version ≡ 0) (sym same) (λ z. ap (λ (x : Place). x.version) grows.linked ∙ z) arena.root
@@ -169,11 +160,11 @@ module _ (old new : Places) (parent k : ℕ) (name : List ℕ) (j : ℕ) (arena 
       same_rows (rows_of new) (rows_of old) (rows_in_order new after.linked) (rows_in_order old arena.linked)
       (λ p. found_row new p after ∙ elim (same_or_not p (path ++ name ∷ [])) [
         | inl same ↦ subst (λ a. row_of new a (slot_of new 0 a) ≡ row_of old a (slot_of old 0 a)) (sym same) (at_new (one_further old path name parent at ∙ none))
-        | inr other ↦ ap (row_of new p) (kept_path p other) ∙ elsewhere p (slot_of old 0 p) refl
+        | inr other ↦ ap (row_of new p) (keeps.others p other) ∙ elsewhere p (slot_of old 0 p) refl
       ] ∙ sym (found_row old p arena))
     where
       at_new : slot_of old 0 (path ++ name ∷ []) ≡ None → row_of new (path ++ name ∷ []) (slot_of new 0 (path ++ name ∷ [])) ≡ row_of old (path ++ name ∷ []) (slot_of old 0 (path ++ name ∷ []))
-      at_new free = rw (here_new, free, grows.fresh) refl
+      at_new free = rw (grown_at old new parent k name j arena grows path at none, free, grows.fresh) refl
 
       elsewhere : (p : FilePath) (o : Option ℕ) → slot_of old 0 p ≡ o → row_of new p o ≡ row_of old p o
       elsewhere p None e = refl

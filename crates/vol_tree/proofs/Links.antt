@@ -1,36 +1,30 @@
 -- Slots of which one is written, added or taken away: which slot each path has then.
-use Rattle.std.proofs.Common.{◌≡◌, ℕ, zero, suc, ◌+◌, ◌<◌, ◌≤◌, ◌==◌, Bool, true, false, cond, List, [], ◌∷◌, ◌++◌, length, get_or, set, take, drop, find, Option, Some, None, inl, inr, arith, refl, sym, ap, ◌∙◌, subst, true≢false}
+use Rattle.std.proofs.Common.{◌≡◌, ℕ, zero, suc, ◌+◌, ◌<◌, ◌≤◌, Bool, true, false, List, [], ◌∷◌, ◌++◌, length, get_or, take, drop, find, Option, Some, None, inl, inr, arith, refl, sym, ap, ◌∙◌, subst}
 use Rattle.std.specs.Prelude.{◌⊎◌}
-use Rattle.std.specs.List.{AllByRecursion, insert, remove}
+use Rattle.std.specs.List.{AllByRecursion}
 use Rattle.std.specs.Option.{option_or, option_and_then}
 use Rattle.std.proofs.lemmas.Bool.{cases_eq}
-use Rattle.std.proofs.lemmas.List.{append_assoc, length-append, length-set, get_or-set_same, get_or-set_other, take-append-drop}
+use Rattle.std.proofs.lemmas.List.{append_assoc, length-append, take-append-drop}
 use Rattle.std.proofs.lemmas.List.Folds.{find-append}
 use Rattle.std.specs.declared.cmp.Ordering.{Ordering}
 use Rattle.std.specs.declared.cmp.Ordering.TheVariants.{Less, Equal, Greater}
 use Rattle.std.specs.Ordering.{is_eq}
-use Rattle.file_paths.specs.Path.{FilePath, IsPath, path_cmp}
-use Rattle.vol_tree.specs.declared.node.Node.{Node}
-use Rattle.vol_tree.specs.declared.node.Row.{Row}
-use Rattle.vol_tree.specs.Tree.{Volume, AreInOrder, row_at, with_row, without_row}
-use Rattle.vol_tree.specs.Arena.{Place, Places, no_place, place, name_cmp, child_named, slot_of, own_row, rows_of, AreAscending, AreLinked, IsArena, Grows}
+use Rattle.file_paths.specs.Path.{FilePath, path_cmp}
+use Rattle.vol_tree.specs.Arena.{Place, Places, place, name_cmp, child_named, slot_of, AreAscending, AreLinked, IsArena, Grows}
 use Rattle.byte_fields.proofs.Facts.{tie_is_equal}
-use Rattle.file_paths.proofs.Order.{same_path, same_place}
+use Rattle.file_paths.proofs.Order.{same_path, paths_differ}
 use Rattle.vol_tree.proofs.Slots.{same_name}
-use Rattle.vol_tree.proofs.Walk.{row_of, found_row, rows_in_order, same_itself}
+use Rattle.vol_tree.proofs.Walk.{same_itself}
 
 -- ---- paths and slots
 
 pub same_or_not : (p q : FilePath) → (p ≡ q) ⊎ (p ≡ q → ⊥)
 same_or_not p q = by (path_cmp p q) refl
   where
-    differ : (o : Ordering) → path_cmp p q ≡ o → (o ≡ Equal → ⊥) → p ≡ q → ⊥
-    differ o e unlike same = unlike (sym e ∙ ap (λ a. path_cmp a q) same ∙ same_place q)
-
     by : (o : Ordering) → path_cmp p q ≡ o → (p ≡ q) ⊎ (p ≡ q → ⊥)
     by Equal e = inl (same_path p q e)
-    by Less e = inr (differ Less e (λ l. absurd (cc)))
-    by Greater e = inr (differ Greater e (λ l. absurd (cc)))
+    by Less e = inr (paths_differ p q Less e (λ l. absurd (cc)))
+    by Greater e = inr (paths_differ p q Greater e (λ l. absurd (cc)))
 
 pub slot_of-append : (slots : Places) (p q : FilePath) (i : ℕ) → slot_of slots i (p ++ q) ≡ option_and_then (λ k. slot_of slots k q) (slot_of slots i p)
 slot_of-append slots [] q i = refl
@@ -86,6 +80,9 @@ same_ascending old new (c ∷ cs) all order = (each cs all.1 order.0, same_ascen
     each [] same less = tt
     each (d ∷ ds) same less = (rw (all.0, same.0) less.0, each ds same.1 less.1)
 
+pub all_names : (old new : Places) → ((c : ℕ) → (place new c).name ≡ (place old c).name) → (cs : List ℕ) → AllByRecursion (λ c. (place new c).name ≡ (place old c).name) cs
+all_names old new names cs = all_at (λ c. (place new c).name ≡ (place old c).name) cs (λ m l. names (get_or cs m 0))
+
 -- ---- slots that differ in versions and nodes alone
 
 pub record SameShape (old new : Places) : Type 0 where
@@ -93,13 +90,10 @@ pub record SameShape (old new : Places) : Type 0 where
   pub children : (i : ℕ) → (place new i).children ≡ (place old i).children
 
 module _ (old new : Places) (shape : SameShape old new) where
-  all_names : (cs : List ℕ) → AllByRecursion (λ c. (place new c).name ≡ (place old c).name) cs
-  all_names cs = all_at (λ c. (place new c).name ≡ (place old c).name) cs (λ m l. shape.names (get_or cs m 0))
-
   pub shape_slot : (q : FilePath) (i : ℕ) → slot_of new i q ≡ slot_of old i q
   shape_slot [] i = refl
   shape_slot (n ∷ q) i =
-      rw (shape.children i, same_child old new (place old i).children n (all_names (place old i).children)) (onward (child_named old (place old i).children n) (λ c. shape_slot q c))
+      rw (shape.children i, same_child old new (place old i).children n (all_names old new shape.names (place old i).children)) (onward (child_named old (place old i).children n) (λ c. shape_slot q c))
     where
       onward : (o : Option ℕ) → ((c : ℕ) → slot_of new c q ≡ slot_of old c q) → option_and_then (λ c. slot_of new c q) o ≡ option_and_then (λ c. slot_of old c q) o
       onward None each = refl
@@ -111,7 +105,7 @@ module _ (old new : Places) (shape : SameShape old new) where
         let here : k < length (place old i).children = rw (← shape.children i) l in
         let inside = linked.within i k here in
         rw (shape.children i) (omega arith);
-    ascending = λ i. rw (shape.children i) (same_ascending old new (place old i).children (all_names (place old i).children) (linked.ascending i));
+    ascending = λ i. rw (shape.children i) (same_ascending old new (place old i).children (all_names old new shape.names (place old i).children) (linked.ascending i));
     few = λ i. rw (shape.children i) (linked.few i);
   }
 
@@ -122,6 +116,54 @@ module _ (old new : Places) (shape : SameShape old new) where
     paths = λ p i e. arena.paths p i (sym (shape_slot p 0) ∙ e);
     root = root;
     bare = bare;
+  }
+
+-- ---- slots that differ in one child of one parent
+
+-- the children with other names are found as before, and the one with this name has none in it
+pub record AreAlike (old new : Places) (parent : ℕ) (name : List ℕ) : Type 0 where
+  pub elsewhere : (p : FilePath) (i : ℕ) → slot_of old 0 p ≡ Some i → (i ≡ parent → ⊥) → (n : List ℕ) → child_named new (place new i).children n ≡ child_named old (place old i).children n
+  pub other_names : (n : List ℕ) → is_eq (name_cmp name n) ≡ false → child_named new (place new parent).children n ≡ child_named old (place old parent).children n
+  pub deeper : (m : List ℕ) (q : FilePath) → slot_of new parent (name ∷ m ∷ q) ≡ slot_of old parent (name ∷ m ∷ q)
+
+-- each path but the child's keeps its slot
+pub record KeepsSlots (old new : Places) (path : FilePath) (name : List ℕ) (parent : ℕ) : Type 0 where
+  pub others : (p : FilePath) → (p ≡ path ++ name ∷ [] → ⊥) → slot_of new 0 p ≡ slot_of old 0 p
+  pub above : slot_of new 0 path ≡ Some parent
+
+module _ (old new : Places) (parent : ℕ) (name : List ℕ) (arena : IsArena old) (alike : AreAlike old new parent name) (path : FilePath) (at : slot_of old 0 path ≡ Some parent) where
+  other_slot : (q p : FilePath) (i : ℕ) → slot_of old 0 p ≡ Some i → (p ++ q ≡ path ++ name ∷ [] → ⊥) → slot_of new i q ≡ slot_of old i q
+  other_slot [] p i e other = refl
+  other_slot (n ∷ q) p i e other =
+      elim (cases_eq i parent) [
+        | inl same ↦ at_parent same (is_eq (name_cmp name n)) refl (λ c. other_slot q (p ++ n ∷ []) c)
+        | inr apart ↦ onward (λ c. other_slot q (p ++ n ∷ []) c) (alike.elsewhere p i e apart n)
+      ]
+    where
+      further : (p ++ n ∷ []) ++ q ≡ path ++ name ∷ [] → ⊥
+      further same = other (sym (append_assoc p (n ∷ []) q) ∙ same)
+
+      onward : ((c : ℕ) → slot_of old 0 (p ++ n ∷ []) ≡ Some c → ((p ++ n ∷ []) ++ q ≡ path ++ name ∷ [] → ⊥) → slot_of new c q ≡ slot_of old c q) → child_named new (place new i).children n ≡ child_named old (place old i).children n → slot_of new i (n ∷ q) ≡ slot_of old i (n ∷ q)
+      onward each kept = ap (option_and_then (λ c. slot_of new c q)) kept ∙ by (child_named old (place old i).children n) refl
+        where
+          by : (o : Option ℕ) → child_named old (place old i).children n ≡ o → option_and_then (λ c. slot_of new c q) o ≡ option_and_then (λ c. slot_of old c q) o
+          by None f = refl
+          by (Some c) f = each c (one_further old p n i e ∙ f) further
+
+      deeper : (q : FilePath) → (p ++ n ∷ q ≡ path ++ name ∷ [] → ⊥) → p ≡ path → name ≡ n → slot_of new parent (n ∷ q) ≡ slot_of old parent (n ∷ q)
+      deeper [] other here is = absurd (other (ap (λ a. a ++ n ∷ []) here ∙ ap (λ a. path ++ a ∷ []) (sym is)))
+      deeper (m ∷ q) other here is = subst (λ a. slot_of new parent (a ∷ m ∷ q) ≡ slot_of old parent (a ∷ m ∷ q)) is (alike.deeper m q)
+
+      at_parent : i ≡ parent → (b : Bool) → is_eq (name_cmp name n) ≡ b → ((c : ℕ) → slot_of old 0 (p ++ n ∷ []) ≡ Some c → ((p ++ n ∷ []) ++ q ≡ path ++ name ∷ [] → ⊥) → slot_of new c q ≡ slot_of old c q) → slot_of new i (n ∷ q) ≡ slot_of old i (n ∷ q)
+      at_parent same true named each =
+          let here : p ≡ path = arena.apart p path i e (at ∙ ap Some (sym same)) in
+          subst (λ a. slot_of new a (n ∷ q) ≡ slot_of old a (n ∷ q)) (sym same) (deeper q other here (same_name name n (tie_is_equal (name_cmp name n) named)))
+      at_parent same false named each = onward each (subst (λ a. child_named new (place new a).children n ≡ child_named old (place old a).children n) (sym same) (alike.other_names n named))
+
+  pub keeps_slots : KeepsSlots old new path name parent
+  keeps_slots = record {
+    others = λ p other. other_slot p [] 0 refl other;
+    above = other_slot path [] 0 refl (λ same. omega (arith, ap length same, length-append path (name ∷ []))) ∙ at;
   }
 
 -- ---- one more slot
@@ -180,51 +222,20 @@ module _ (old new : Places) (parent k : ℕ) (name : List ℕ) (j : ℕ) (arena 
       front_none None b e = refl
       front_none (Some x) b e = absurd (cc)
 
-  -- each path but the new one keeps its slot
-  pub grown_other : (q p : FilePath) (i : ℕ) → slot_of old 0 p ≡ Some i → (p ++ q ≡ path ++ name ∷ [] → ⊥) → slot_of new i q ≡ slot_of old i q
-  grown_other [] p i e other = refl
-  grown_other (n ∷ q) p i e other =
-      elim (cases_eq i parent) [
-        | inl same ↦ at_parent same (is_eq (name_cmp name n)) refl (λ c. grown_other q (p ++ n ∷ []) c)
-        | inr apart ↦
-            let kept = grows.others i (reached p i e) apart in
-            ap (λ (x : Place). option_and_then (λ c. slot_of new c q) (child_named new x.children n)) kept
-            ∙ ap (option_and_then (λ c. slot_of new c q)) (kept_child n (place old i).children (none_is_new i))
-            ∙ onward (λ c. grown_other q (p ++ n ∷ []) c) (child_named old (place old i).children n) refl
-      ]
+  alike : AreAlike old new parent name
+  alike = record {
+    elsewhere = λ p i e apart n. ap (λ (x : Place). child_named new x.children n) (grows.others i (reached p i e) apart) ∙ kept_child n (place old i).children (none_is_new i);
+    other_names = other_child;
+    deeper = λ m q. ap (option_and_then (λ c. slot_of new c (m ∷ q))) new_child ∙ leaf m q ∙ sym (ap (option_and_then (λ c. slot_of old c (m ∷ q))) none);
+  }
     where
-      further : (p ++ n ∷ []) ++ q ≡ path ++ name ∷ [] → ⊥
-      further same = other (sym (append_assoc p (n ∷ []) q) ∙ same)
+      leaf : (m : List ℕ) (q : FilePath) → slot_of new j (m ∷ q) ≡ None
+      leaf m q = rw grows.fresh refl
 
-      onward : ((c : ℕ) → slot_of old 0 (p ++ n ∷ []) ≡ Some c → ((p ++ n ∷ []) ++ q ≡ path ++ name ∷ [] → ⊥) → slot_of new c q ≡ slot_of old c q) → (o : Option ℕ) → child_named old (place old i).children n ≡ o → option_and_then (λ c. slot_of new c q) o ≡ option_and_then (λ c. slot_of old c q) o
-      onward each None f = refl
-      onward each (Some c) f = each c (one_further old p n i e ∙ f) further
-
-      deeper : (q : FilePath) → (p ++ n ∷ q ≡ path ++ n ∷ [] → ⊥) → p ≡ path → slot_of new j q ≡ None
-      deeper [] other here = absurd (other (ap (λ a. a ++ n ∷ []) here))
-      deeper (m ∷ q) other here = rw grows.fresh refl
-
-      at_parent : i ≡ parent → (b : Bool) → is_eq (name_cmp name n) ≡ b → ((c : ℕ) → slot_of old 0 (p ++ n ∷ []) ≡ Some c → ((p ++ n ∷ []) ++ q ≡ path ++ name ∷ [] → ⊥) → slot_of new c q ≡ slot_of old c q) → slot_of new i (n ∷ q) ≡ slot_of old i (n ∷ q)
-      at_parent same true named each =
-          let is : name ≡ n = same_name name n (tie_is_equal (name_cmp name n) named) in
-          let here : p ≡ path = arena.apart p path i e (at ∙ ap Some (sym same)) in
-          let there : child_named new (place new i).children n ≡ Some j = subst (λ a. child_named new (place new i).children a ≡ Some j) is (ap (λ a. child_named new (place new a).children name) same ∙ new_child) in
-          let before : child_named old (place old i).children n ≡ None = subst (λ a. child_named old (place old i).children a ≡ None) is (ap (λ a. child_named old (place old a).children name) same ∙ none) in
-          let deep : slot_of new j q ≡ None = deeper q (subst (λ a. p ++ n ∷ q ≡ path ++ a ∷ [] → ⊥) is other) here in
-          ap (option_and_then (λ c. slot_of new c q)) there ∙ deep ∙ sym (ap (option_and_then (λ c. slot_of old c q)) before)
-      at_parent same false named each =
-          let found : child_named new (place new i).children n ≡ child_named old (place old i).children n = subst (λ a. child_named new (place new a).children n ≡ child_named old (place old a).children n) (sym same) (other_child n named) in
-          ap (option_and_then (λ c. slot_of new c q)) found ∙ onward each (child_named old (place old i).children n) refl
-
-  not_itself : path ≡ path ++ name ∷ [] → ⊥
-  not_itself same = omega (arith, ap length same, length-append path (name ∷ []))
-
-  pub parent_kept : slot_of new 0 path ≡ Some parent
-  parent_kept = grown_other path [] 0 refl not_itself ∙ at
+  -- each path but the new one keeps its slot
+  pub grown_keeps : KeepsSlots old new path name parent
+  grown_keeps = keeps_slots old new parent name arena alike path at
 
   -- and the new one has the new slot
   pub grown_at : slot_of new 0 (path ++ name ∷ []) ≡ Some j
-  grown_at = one_further new path name parent parent_kept ∙ new_child
-
-  pub grown_path : (p : FilePath) → (p ≡ path ++ name ∷ [] → ⊥) → slot_of new 0 p ≡ slot_of old 0 p
-  grown_path p other = grown_other p [] 0 refl other
+  grown_at = one_further new path name parent grown_keeps.above ∙ new_child

@@ -1,24 +1,20 @@
 -- A slot taken away from its parent: the rules and the rows stay, where it stood for no row and had no slots in it.
-use Rattle.std.proofs.Common.{◌≡◌, ℕ, zero, suc, ◌+◌, ◌-◌, ◌<◌, ◌≤◌, Bool, true, false, List, [], ◌∷◌, ◌++◌, length, get_or, set, take, drop, Option, Some, None, inl, inr, arith, refl, sym, ap, ◌∙◌, subst}
-use Rattle.std.specs.Prelude.{◌⊎◌}
+use Rattle.std.proofs.Common.{◌≡◌, ℕ, suc, ◌+◌, ◌-◌, ◌<◌, false, List, [], ◌∷◌, ◌++◌, length, get_or, set, take, drop, Option, Some, None, inl, inr, arith, refl, sym, ap, ◌∙◌, subst}
 use Rattle.std.specs.List.{AllByRecursion, remove}
-use Rattle.std.specs.Option.{option_or, option_and_then}
+use Rattle.std.specs.Option.{option_and_then}
 use Rattle.std.proofs.lemmas.Bool.{cases_eq, cases_lt}
-use Rattle.std.proofs.lemmas.List.{append_assoc, length-append, length-set, take-append-drop, get_or-set_same, get_or-set_other, get_or_past}
+use Rattle.std.proofs.lemmas.List.{length-set, take-append-drop, get_or-set_same, get_or-set_other, get_or_past}
 use Rattle.std.proofs.Common.{drop-cons}
 use Rattle.std.proofs.lemmas.List.Edits.{length-remove, get_or-remove_below, get_or-remove_above}
 use Rattle.std.proofs.lemmas.List.Folds.{find-append}
-use Rattle.std.specs.declared.cmp.Ordering.TheVariants.{Less, Equal, Greater}
+use Rattle.std.specs.declared.cmp.Ordering.TheVariants.{Less, Greater}
 use Rattle.std.specs.Ordering.{ordering_reverse, is_eq}
-use Rattle.byte_fields.proofs.Facts.{tie_is_equal}
-use Rattle.file_paths.specs.Path.{FilePath, IsPath}
-use Rattle.vol_tree.specs.declared.node.Row.{Row}
-use Rattle.vol_tree.specs.Tree.{Volume, row_at}
-use Rattle.vol_tree.specs.Arena.{Place, Places, no_place, place, name_cmp, child_named, slot_of, own_row, rows_of, AreAscending, AreLinked, IsArena, IsFound, Shrinks}
-use Rattle.vol_tree.proofs.Slots.{read_place, names_total, same_name, name_at, ascending_at, none_at}
+use Rattle.file_paths.specs.Path.{FilePath}
+use Rattle.vol_tree.specs.Arena.{Place, Places, no_place, place, name_cmp, child_named, slot_of, own_row, rows_of, AreAscending, IsArena, IsFound, Shrinks}
+use Rattle.vol_tree.proofs.Slots.{read_place, names_total, name_at, ascending_at, none_at}
 use Rattle.vol_tree.proofs.Walk.{row_of, found_row, rows_in_order}
 use Rattle.vol_tree.proofs.Behind.{same_rows}
-use Rattle.vol_tree.proofs.Links.{same_or_not, all_at, same_child, same_ascending, one_further}
+use Rattle.vol_tree.proofs.Links.{same_or_not, all_names, same_child, same_ascending, AreAlike, KeepsSlots, keeps_slots, one_further}
 
 -- ---- order
 
@@ -36,9 +32,6 @@ ascending_without slots (c ∷ front) back j order =
     (without_one (λ d. name_cmp (place slots c).name (place slots d).name ≡ Less) front back j order.0, ascending_without slots front back j order.1)
 
 module _ (old new : Places) (parent k : ℕ) (name : List ℕ) (arena : IsArena old) (shrinks : Shrinks old new parent k) (path : FilePath) (at : slot_of old 0 path ≡ Some parent) (found : IsFound old (place old parent).children name k) where
-  all_names : (cs : List ℕ) → AllByRecursion (λ c. (place new c).name ≡ (place old c).name) cs
-  all_names cs = all_at (λ c. (place new c).name ≡ (place old c).name) cs (λ m l. shrinks.names (get_or cs m 0))
-
   split : (place old parent).children ≡ take k (place old parent).children ++ get_or (place old parent).children k 0 ∷ drop (suc k) (place old parent).children
   split = split_at (place old parent).children k found.within
 
@@ -48,14 +41,14 @@ module _ (old new : Places) (parent k : ℕ) (name : List ℕ) (arena : IsArena 
       let cs : List ℕ = (place old parent).children in
       let head : is_eq (name_cmp (place old (get_or cs k 0)).name n) ≡ false = ap (λ a. is_eq (name_cmp a n)) found.named ∙ differ in
       let whole = ap (λ l. child_named old l n) split ∙ find-append (λ c. is_eq (name_cmp (place old c).name n)) (take k cs) (get_or cs k 0 ∷ drop (suc k) cs) ∙ rw head refl in
-      same_child old new (remove cs k) n (all_names (remove cs k))
+      same_child old new (remove cs k) n (all_names old new shrinks.names (remove cs k))
       ∙ find-append (λ c. is_eq (name_cmp (place old c).name n)) (take k cs) (drop (suc k) cs) ∙ sym whole
 
   -- and this one no more
   no_child : child_named new (remove (place old parent).children k) name ≡ None
   no_child =
       let cs : List ℕ = (place old parent).children in
-      same_child old new (remove cs k) name (all_names (remove cs k))
+      same_child old new (remove cs k) name (all_names old new shrinks.names (remove cs k))
       ∙ none_at old (remove cs k) name k
       (λ j before. ap (λ c. name_cmp (place old c).name name) (get_or-remove_below cs k 0 j before found.within) ∙ (subst (λ n. name_cmp (name_at old cs j) n ≡ Less) found.named (ascending_at old cs j k (arena.linked.ascending parent) before found.within)))
       (λ j after inside.
@@ -63,60 +56,32 @@ module _ (old new : Places) (parent k : ℕ) (name : List ℕ) (arena : IsArena 
       let above = ascending_at old cs k (j + 1) (arena.linked.ascending parent) (omega arith) there in
       ap (λ c. name_cmp (place old c).name name) (get_or-remove_above cs k 0 j after found.within) ∙ (subst (λ n. name_cmp (name_at old cs (j + 1)) n ≡ Greater) found.named (names_total.antisymm (name_at old cs (j + 1)) (name_at old cs k) ∙ ap ordering_reverse above)))
 
-  -- each path but the one taken away keeps its slot
-  shrunk_other : (q p : FilePath) (i : ℕ) → slot_of old 0 p ≡ Some i → (p ++ q ≡ path ++ name ∷ [] → ⊥) → slot_of new i q ≡ slot_of old i q
-  shrunk_other [] p i e other = refl
-  shrunk_other (n ∷ q) p i e other =
-      elim (cases_eq i parent) [
-        | inl same ↦ at_parent same (is_eq (name_cmp name n)) refl (λ c. shrunk_other q (p ++ n ∷ []) c)
-        | inr apart ↦
-            ap (λ cs. option_and_then (λ c. slot_of new c q) (child_named new cs n)) (shrinks.others i apart)
-            ∙ ap (option_and_then (λ c. slot_of new c q)) (same_child old new (place old i).children n (all_names (place old i).children))
-            ∙ onward (λ c. shrunk_other q (p ++ n ∷ []) c) (child_named old (place old i).children n) refl
-      ]
+  alike : AreAlike old new parent name
+  alike = record {
+    elsewhere = λ p i e apart n. ap (λ cs. child_named new cs n) (shrinks.others i apart) ∙ same_child old new (place old i).children n (all_names old new shrinks.names (place old i).children);
+    other_names = λ n differ. ap (λ cs. child_named new cs n) shrinks.linked ∙ other_child n differ;
+    deeper = λ m q.
+        ap (λ cs. option_and_then (λ c. slot_of new c (m ∷ q)) (child_named new cs name)) shrinks.linked
+        ∙ ap (option_and_then (λ c. slot_of new c (m ∷ q))) no_child
+        ∙ sym (ap (option_and_then (λ c. slot_of old c (m ∷ q))) found.found ∙ leaf m q);
+  }
     where
-      further : (p ++ n ∷ []) ++ q ≡ path ++ name ∷ [] → ⊥
-      further same = other (sym (append_assoc p (n ∷ []) q) ∙ same)
-
-      onward : ((c : ℕ) → slot_of old 0 (p ++ n ∷ []) ≡ Some c → ((p ++ n ∷ []) ++ q ≡ path ++ name ∷ [] → ⊥) → slot_of new c q ≡ slot_of old c q) → (o : Option ℕ) → child_named old (place old i).children n ≡ o → option_and_then (λ c. slot_of new c q) o ≡ option_and_then (λ c. slot_of old c q) o
-      onward each None f = refl
-      onward each (Some c) f = each c (one_further old p n i e ∙ f) further
-
       -- nothing was below the slot that is taken away
-      deeper : (q : FilePath) → (p ++ n ∷ q ≡ path ++ n ∷ [] → ⊥) → p ≡ path → slot_of old (get_or (place old parent).children k 0) q ≡ None
-      deeper [] other here = absurd (other (ap (λ a. a ++ n ∷ []) here))
-      deeper (m ∷ q) other here = rw shrinks.leaf refl
+      leaf : (m : List ℕ) (q : FilePath) → slot_of old (get_or (place old parent).children k 0) (m ∷ q) ≡ None
+      leaf m q = rw shrinks.leaf refl
 
-      at_parent : i ≡ parent → (b : Bool) → is_eq (name_cmp name n) ≡ b → ((c : ℕ) → slot_of old 0 (p ++ n ∷ []) ≡ Some c → ((p ++ n ∷ []) ++ q ≡ path ++ name ∷ [] → ⊥) → slot_of new c q ≡ slot_of old c q) → slot_of new i (n ∷ q) ≡ slot_of old i (n ∷ q)
-      at_parent same true named each =
-          let is : name ≡ n = same_name name n (tie_is_equal (name_cmp name n) named) in
-          let here : p ≡ path = arena.apart p path i e (at ∙ ap Some (sym same)) in
-          let now : child_named new (place new i).children n ≡ None = subst (λ a. child_named new (place new i).children a ≡ None) is (ap (λ a. child_named new (place new a).children name) same ∙ ap (λ cs. child_named new cs name) shrinks.linked ∙ no_child) in
-          let before : child_named old (place old i).children n ≡ Some (get_or (place old parent).children k 0) = subst (λ a. child_named old (place old i).children a ≡ Some (get_or (place old parent).children k 0)) is (ap (λ a. child_named old (place old a).children name) same ∙ found.found) in
-          let deep = deeper q (subst (λ a. p ++ n ∷ q ≡ path ++ a ∷ [] → ⊥) is other) here in
-          ap (option_and_then (λ c. slot_of new c q)) now ∙ sym (ap (option_and_then (λ c. slot_of old c q)) before ∙ deep)
-      at_parent same false named each =
-          let kept : child_named new (place new i).children n ≡ child_named old (place old i).children n = subst (λ a. child_named new (place new a).children n ≡ child_named old (place old a).children n) (sym same) (ap (λ cs. child_named new cs n) shrinks.linked ∙ other_child n named) in
-          ap (option_and_then (λ c. slot_of new c q)) kept ∙ onward each (child_named old (place old i).children n) refl
-
-  kept_path : (p : FilePath) → (p ≡ path ++ name ∷ [] → ⊥) → slot_of new 0 p ≡ slot_of old 0 p
-  kept_path p other = shrunk_other p [] 0 refl other
-
-  not_itself : path ≡ path ++ name ∷ [] → ⊥
-  not_itself same = omega (arith, ap length same, length-append path (name ∷ []))
-
-  -- the slot above it is where it was
-  pub shrunk_at : slot_of new 0 path ≡ Some parent
-  shrunk_at = kept_path path not_itself ∙ at
+  -- each path but the one taken away keeps its slot
+  pub shrunk_keeps : KeepsSlots old new path name parent
+  shrunk_keeps = keeps_slots old new parent name arena alike path at
 
   gone : slot_of new 0 (path ++ name ∷ []) ≡ None
-  gone = one_further new path name parent shrunk_at ∙ ap (λ cs. child_named new cs name) shrinks.linked ∙ no_child
+  gone = one_further new path name parent shrunk_keeps.above ∙ ap (λ cs. child_named new cs name) shrinks.linked ∙ no_child
 
   -- a path that has a slot had it before
   had : (p : FilePath) (i : ℕ) → slot_of new 0 p ≡ Some i → slot_of old 0 p ≡ Some i
   had p i e = elim (same_or_not p (path ++ name ∷ [])) [
     | inl same ↦ absurd (let none = sym (ap (slot_of new 0) same ∙ gone) ∙ e in cc)
-    | inr other ↦ sym (kept_path p other) ∙ e
+    | inr other ↦ sym (shrunk_keeps.others p other) ∙ e
   ]
 
   -- a fact of the children that holds of the parent and of all others
@@ -140,8 +105,8 @@ module _ (old new : Places) (parent k : ℕ) (name : List ℕ) (arena : IsArena 
     linked = record {
       within = by_children (λ cs. (m : ℕ) → m < length cs → get_or cs m 0 < length new) removed_within (λ i m l. let inside = arena.linked.within i m l in omega (arith, inside, shrinks.same_length));
       ascending = by_children (AreAscending new)
-          (same_ascending old new (remove (place old parent).children k) (all_names (remove (place old parent).children k)) (ascending_without old (take k (place old parent).children) (drop (suc k) (place old parent).children) (get_or (place old parent).children k 0) (subst (AreAscending old) split (arena.linked.ascending parent))))
-          (λ i. same_ascending old new (place old i).children (all_names (place old i).children) (arena.linked.ascending i));
+          (same_ascending old new (remove (place old parent).children k) (all_names old new shrinks.names (remove (place old parent).children k)) (ascending_without old (take k (place old parent).children) (drop (suc k) (place old parent).children) (get_or (place old parent).children k 0) (subst (AreAscending old) split (arena.linked.ascending parent))))
+          (λ i. same_ascending old new (place old i).children (all_names old new shrinks.names (place old i).children) (arena.linked.ascending i));
       few = by_children (λ cs. length cs < 65536) (let long = length-remove (place old parent).children k found.within in omega (arith, long, arena.linked.few parent)) arena.linked.few;
     };
     apart = λ p q i e f. arena.apart p q i (had p i e) (had q i f);
@@ -158,7 +123,7 @@ module _ (old new : Places) (parent k : ℕ) (name : List ℕ) (arena : IsArena 
       same_rows (rows_of new) (rows_of old) (rows_in_order new shrunk_arena.linked) (rows_in_order old arena.linked)
       (λ p. found_row new p shrunk_arena ∙ elim (same_or_not p (path ++ name ∷ [])) [
         | inl same ↦ subst (λ a. row_of new a (slot_of new 0 a) ≡ row_of old a (slot_of old 0 a)) (sym same) (rw (gone, one_further old path name parent at ∙ found.found) (sym (no_own (path ++ name ∷ []))))
-        | inr other ↦ ap (row_of new p) (kept_path p other) ∙ by p (slot_of old 0 p)
+        | inr other ↦ ap (row_of new p) (shrunk_keeps.others p other) ∙ by p (slot_of old 0 p)
       ] ∙ sym (found_row old p arena))
     where
       no_own : (p : FilePath) → own_row p (place old (get_or (place old parent).children k 0)) ≡ None

@@ -17,7 +17,7 @@ use Rattle.vol_tree.specs.declared.node.Effect.{Effect}
 use Rattle.vol_tree.specs.declared.node.Effect.TheVariants.{Make, Put, Remove, Move}
 use Rattle.vol_tree.specs.Tree.{AreInOrder, IsRow, IsTree, row_at, node_at, version_at, is_root, is_folder, is_folder_node, node_size, total_size, has_no_room, is_at_top, size_with, is_child, rows_below, rows_above, with_row, touched, touched_paths, kept_row, kept_rows, restored, undone, CanUndo, refusals, changed, apply, IsLegalEffect}
 use Rattle.byte_fields.proofs.Facts.{not_lt_of, not_false_of, or_false_of, or_true, none_mapped}
-use Rattle.file_paths.proofs.Order.{same_path, same_place}
+use Rattle.file_paths.proofs.Order.{same_path, same_place, paths_differ}
 pub use Rattle.file_paths.proofs.Refusals.{none_refused, not_when}
 use Rattle.vol_tree.proofs.Ordered.{all_append, all_filter, all_map, split_at_path, with_row_in_order, row_at-with_row, row_at-other, size-with_row, is_at_equal}
 use Rattle.vol_tree.proofs.Undoing.{undo_touched, find_passes, find_among}
@@ -62,9 +62,6 @@ AreInFolders rows = (path : List (List ℕ)) → IsTrue (is_some (node_at rows p
 in_folders_touched : (rows : List Row) (p : List (List ℕ)) (node : Option Node) → AreInFolders rows → is_root p ≡ false → (IsTrue (is_some node) → IsTrue (is_folder rows (folder_of p))) → ((path : List (List ℕ)) → IsTrue (is_some (node_at rows path)) → folder_of path ≡ p → IsTrue (is_folder_node node)) → AreInFolders (touched rows p node)
 in_folders_touched rows p node folders root up down path some = by (path_cmp path p) refl
   where
-    differ : (a : List (List ℕ)) (o : Ordering) → path_cmp a p ≡ o → (o ≡ Equal → ⊥) → a ≡ p → ⊥
-    differ a o e unlike same = unlike (sym e ∙ ap (λ b. path_cmp b p) same ∙ same_place p)
-
     at_p : path ≡ p → IsTrue (is_folder (touched rows p node) (folder_of path))
     at_p same =
         let here : IsTrue (is_some node) = ap is_some (sym (node_touched rows p node) ∙ ap (node_at (touched rows p node)) (sym same)) ∙ some in
@@ -74,16 +71,16 @@ in_folders_touched rows p node folders root up down path some = by (path_cmp pat
     elsewhere other o e =
         let there : IsTrue (is_some (node_at rows path)) = ap is_some (sym (node_untouched rows p node path other)) ∙ some in
         elim o as (λ o. path_cmp (folder_of path) p ≡ o → IsTrue (is_folder (touched rows p node) (folder_of path))) [
-          | Less ↦ λ e. folder_untouched rows p node (folder_of path) (differ (folder_of path) Less e (λ l. cc)) ∙ folders path there
-          | Greater ↦ λ e. folder_untouched rows p node (folder_of path) (differ (folder_of path) Greater e (λ l. cc)) ∙ folders path there
+          | Less ↦ λ e. folder_untouched rows p node (folder_of path) (paths_differ (folder_of path) p Less e (λ l. cc)) ∙ folders path there
+          | Greater ↦ λ e. folder_untouched rows p node (folder_of path) (paths_differ (folder_of path) p Greater e (λ l. cc)) ∙ folders path there
           | Equal ↦ λ e.
               let same = same_path (folder_of path) p e in
               ap (is_folder (touched rows p node)) same ∙ or_true (is_root p) (is_folder_node (node_at (touched rows p node) p)) (ap is_folder_node (node_touched rows p node) ∙ down path there same)
         ] e
 
     by : (o : Ordering) → path_cmp path p ≡ o → IsTrue (is_folder (touched rows p node) (folder_of path))
-    by Less e = elsewhere (differ path Less e (λ l. cc)) (path_cmp (folder_of path) p) refl
-    by Greater e = elsewhere (differ path Greater e (λ l. cc)) (path_cmp (folder_of path) p) refl
+    by Less e = elsewhere (paths_differ path p Less e (λ l. cc)) (path_cmp (folder_of path) p) refl
+    by Greater e = elsewhere (paths_differ path p Greater e (λ l. cc)) (path_cmp (folder_of path) p) refl
     by Equal e = at_p (same_path path p e)
 
 -- the version of a path with this row

@@ -1,19 +1,18 @@
 -- No slot stays that stands for no row and has none below it.
-use Rattle.std.proofs.Common.{◌≡◌, ◌≢◌, ℕ, zero, suc, ◌+◌, ◌-◌, ◌<◌, ◌≤◌, Bool, true, false, List, [], ◌∷◌, ◌++◌, length, get_or, set, take, drop, Option, Some, None, Result, Ok, Err, IfOk, inl, inr, arith, refl, sym, ap, ◌∙◌, subst, drop-cons}
-use Rattle.std.specs.Prelude.{◌⊎◌}
+use Rattle.std.proofs.Common.{◌≡◌, ◌≢◌, ℕ, suc, ◌+◌, ◌-◌, ◌<◌, ◌≤◌, List, [], ◌∷◌, ◌++◌, length, get_or, set, take, drop, Option, Some, None, Result, Ok, Err, IfOk, inl, inr, arith, refl, sym, ap, ◌∙◌, subst}
 use Rattle.std.specs.List.{AllByRecursion, insert, remove}
 use Rattle.std.specs.Option.{option_and_then}
 use Rattle.std.proofs.lemmas.Bool.{cases_eq}
-use Rattle.std.proofs.lemmas.List.{get_or-set_same, get_or-set_other, take-append-drop, take_more, take_all}
+use Rattle.std.proofs.lemmas.List.{take-append-drop, take_more, take_all}
 use Rattle.std.proofs.lemmas.List.Edits.{length-insert}
 use Rattle.file_paths.specs.Path.{FilePath}
 use Rattle.vol_tree.specs.declared.node.Node.{Node}
-use Rattle.vol_tree.specs.Arena.{Place, Places, no_place, place, slot_of, AreLinked, IsArena, IsFree, IsPool, IsIdle, AreUsed, IsFound, IsMissing, IsEntered, IsKept, Pads, Grows, Shrinks, written}
+use Rattle.vol_tree.specs.Arena.{Place, Places, place, slot_of, IsArena, IsFree, IsPool, IsIdle, AreUsed, IsFound, IsMissing, IsEntered, IsKept, Pads, Grows, Shrinks, written}
 use Rattle.vol_tree.proofs.Slots.{read_place}
 use Rattle.vol_tree.proofs.Links.{SameShape, shape_slot, slot_of-append, one_further}
 use Rattle.vol_tree.proofs.Grown.{with_one, no_slots}
-use Rattle.vol_tree.proofs.Shrunk.{without_one, split_at, child_within, shrinks_at, shrunk_at}
-use Rattle.vol_tree.proofs.Pool.{all_to, all_with, but_last, not_none, same_some, no_pool, same_pool, written_pool, dropped_pool}
+use Rattle.vol_tree.proofs.Shrunk.{without_one, split_at, child_within, shrinks_at, shrunk_keeps}
+use Rattle.vol_tree.proofs.Pool.{all_to, all_with, but_last, not_none, no_pool, same_pool, written_pool, dropped_pool}
 use Rattle.vol_tree.proofs.Written.{written_here, written_elsewhere, written_shape, written_slot}
 
 -- what holds of a slot in another
@@ -174,7 +173,7 @@ dropped_used slots free capacity i k c name x y z arena pool path at found read 
     let after = (dropped_pool slots free capacity i k c x y z arena.linked pool within found.within read is child read_child leaf).1 in
     let after_pool = subst (λ a. IsPool (set slots i x) (free ++ a ∷ []) capacity) child after in
     let before = subst (AreUsed slots) (one_further slots path name i at ∙ found.found) used in
-    used_at (set slots i x) path i (shrunk_at slots (set slots i x) i k name arena shrinks path at found) (used_shrunk slots (set slots i x) free capacity i k found.within shrinks after_pool before)
+    used_at (set slots i x) path i (shrunk_keeps slots (set slots i x) i k name arena shrinks path at found).above (used_shrunk slots (set slots i x) free capacity i k found.within shrinks after_pool before)
 
 -- one name less of a path
 pub used_front : (slots : Places) (path : FilePath) (depth : ℕ) (name : List ℕ) → depth - 1 < length path → 0 < depth → name ≡ get_or path (depth - 1) name → AreUsed slots (slot_of slots 0 (take depth path)) → AreUsed slots (slot_of slots 0 (take (depth - 1) path ++ name ∷ []))

@@ -1,5 +1,5 @@
 -- The rows of slots, and what each path finds among them.
-use Rattle.std.proofs.Common.{◌≡◌, ℕ, zero, suc, ◌+◌, ◌<◌, ◌==◌, Bool, true, false, cond, List, [], ◌∷◌, ◌++◌, length, find, Option, Some, None, inl, inr, arith, refl, sym, ap, ◌∙◌, subst, true≢false}
+use Rattle.std.proofs.Common.{◌≡◌, ℕ, zero, suc, ◌+◌, ◌<◌, ◌==◌, Bool, true, false, cond, List, [], ◌∷◌, ◌++◌, length, find, Option, Some, None, inl, inr, arith, refl, sym, ap, ◌∙◌, subst}
 use Rattle.std.specs.Prelude.{◌⊎◌, option_map, unwrap_or}
 use Rattle.std.specs.List.{AllByRecursion, flat_map}
 use Rattle.std.specs.Option.{option_or, option_to_list, option_and_then}
@@ -9,10 +9,10 @@ use Rattle.std.proofs.lemmas.Bool.{eqb-true}
 use Rattle.std.proofs.lemmas.Cmp.{tied_itself}
 use Rattle.std.specs.declared.cmp.Ordering.{Ordering}
 use Rattle.std.specs.declared.cmp.Ordering.TheVariants.{Less, Equal, Greater}
-use Rattle.std.specs.Ordering.{ordering_reverse, is_eq, ordering_then}
+use Rattle.std.specs.Ordering.{ordering_reverse, is_eq}
 use Rattle.byte_fields.proofs.Facts.{none_behind}
 use Rattle.vol_tree.specs.Inside.{is_at}
-use Rattle.file_paths.specs.Path.{FilePath, path_cmp, is_same_path}
+use Rattle.file_paths.specs.Path.{FilePath, path_cmp}
 use Rattle.vol_tree.specs.declared.node.Row.{Row}
 use Rattle.vol_tree.specs.Tree.{Volume, AreInOrder, row_at, version_at, node_at}
 use Rattle.vol_tree.specs.Arena.{Place, Places, place, name_cmp, child_named, slot_of, own_row, rows_from, rows_of, AreAscending, AreLinked, IsArena}

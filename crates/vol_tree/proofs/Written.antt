@@ -1,35 +1,22 @@
 -- A slot of which version and node are written: the rules stay, and the rows but for its own.
-use Rattle.std.proofs.Common.{◌≡◌, ℕ, zero, suc, ◌+◌, ◌<◌, ◌≤◌, ◌==◌, Bool, true, false, cond, List, [], ◌∷◌, ◌++◌, length, get_or, set, find, Option, Some, None, inl, inr, arith, refl, sym, ap, ◌∙◌, subst}
-use Rattle.std.specs.Prelude.{◌⊎◌}
-use Rattle.std.specs.List.{AllByRecursion}
-use Rattle.std.specs.Option.{option_or}
+use Rattle.std.proofs.Common.{◌≡◌, ℕ, ◌<◌, ◌==◌, Bool, true, false, ◌∷◌, length, get_or, set, find, Option, Some, None, inl, inr, arith, refl, sym, ap, ◌∙◌, subst}
 use Rattle.std.proofs.lemmas.Bool.{cases_eq, eqb-true}
-use Rattle.std.proofs.lemmas.List.{length-set, get_or-set_same, get_or-set_other, get_or_past}
+use Rattle.std.proofs.lemmas.List.{length-set, get_or-set_same, get_or-set_other}
 use Rattle.std.proofs.lemmas.List.Folds.{find-append}
-use Rattle.std.specs.declared.cmp.Ordering.{Ordering}
-use Rattle.std.specs.declared.cmp.Ordering.TheVariants.{Less, Equal, Greater}
 use Rattle.std.specs.Ordering.{is_eq}
 use Rattle.vol_tree.specs.Inside.{is_at}
-use Rattle.file_paths.specs.Path.{FilePath, path_cmp}
+use Rattle.file_paths.specs.Path.{FilePath}
 use Rattle.vol_tree.specs.declared.node.Node.{Node}
 use Rattle.vol_tree.specs.declared.node.Row.{Row}
-use Rattle.vol_tree.specs.Tree.{Volume, AreInOrder, row_at, rows_below, rows_above, with_row, without_row}
+use Rattle.vol_tree.specs.Tree.{Volume, row_at, rows_below, rows_above, with_row, without_row}
 use Rattle.vol_tree.specs.Arena.{Place, Places, no_place, place, slot_of, own_row, rows_of, IsArena, written}
-use Rattle.file_paths.proofs.Order.{same_path}
+use Rattle.file_paths.proofs.Order.{paths_apart}
 use Rattle.vol_tree.proofs.Ordered.{all_map, all_below, all_above, find_none, row_at-with_row, row_at-other, with_row_in_order, without_row_in_order}
 use Rattle.vol_tree.proofs.Walk.{row_of, found_row, rows_in_order}
 use Rattle.vol_tree.proofs.Behind.{same_rows}
 use Rattle.vol_tree.proofs.Links.{SameShape, same_or_not, shape_slot, shape_arena}
 
 -- ---- rows without one
-
-apart_at : (p : FilePath) (q : FilePath) → (q ≡ p → ⊥) → is_eq (path_cmp p q) ≡ false
-apart_at p q other = by (path_cmp p q) refl
-  where
-    by : (o : Ordering) → path_cmp p q ≡ o → is_eq o ≡ false
-    by Less e = refl
-    by Greater e = refl
-    by Equal e = absurd (other (sym (same_path p q e)))
 
 pub without_here : (rows : Volume) (p : FilePath) → row_at (without_row rows p) p ≡ None
 without_here rows p =
@@ -41,7 +28,7 @@ without_other rows p q other =
     let new : Row = record { path = p; version = 0; node = None } in
     let both = find-append (is_at q) (rows_below rows p) (new ∷ rows_above rows p) in
     find-append (is_at q) (rows_below rows p) (rows_above rows p)
-    ∙ sym (both ∙ rw (apart_at p q other) refl)
+    ∙ sym (both ∙ rw (paths_apart p q other) refl)
     ∙ row_at-other rows new q other
 
 -- ---- one slot written
