@@ -222,7 +222,13 @@ fn templates_at(alloc: Global, bytes: &[u8], at: usize) -> Result<(Templates, us
     ensures { Gives result (counted_at template_at bytes.now at) }
 {
     let (count, start) = u16_at(bytes, at)?;
-    let (items, next) = take_each::<Pattern, Content>(alloc, bytes, start, count as u32, &mut Pattern)?;
+    let (items, next) = take_each::<Pattern, Content>(
+        alloc,
+        bytes,
+        start,
+        count as u32,
+        &mut Pattern,
+    )?;
     Ok((Templates::from_vec(items), next))
 }
 
