@@ -26,8 +26,6 @@ pub use rows::RowsError;
 pub use tree::{Tree, Undo};
 
 #[cfg(test)]
-mod fault_tests;
-#[cfg(test)]
 mod spelling_tests;
 #[cfg(test)]
 mod tests;

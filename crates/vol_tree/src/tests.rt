@@ -1,100 +1,142 @@
+//! Calls of the tree, with ample memory. Each owned value ends in the function that made it, so that the tests hold
+//! numbers and truths alone.
+
 use super::*;
-use bytes::Bytes;
-use std::alloc::Global;
+use std::alloc::{AllocError, Global};
+use std::rt::HostRuntime;
 use std::test::Fail;
 
-fn path(alloc: Global, text: &[u8]) -> Result<Path, Fail> {
-    Ok(Path::read(alloc, text)?)
-}
-
-fn row(alloc: Global, text: &[u8], version: u64, bytes: Option<&[u8]>) -> Result<Row, Fail> {
-    let node = match bytes {
-        Some(bytes) => Some(Node::File(Content::of(alloc, bytes)?)),
-        None => None,
-    };
-    Ok(Row {
-        path: path(alloc, text)?,
-        version,
-        node,
-    })
-}
-
-fn rows_of(alloc: Global, first: Row) -> Result<Rows, Fail> {
+/// Rows of these paths and versions, each a file without content.
+fn rows_of(alloc: Global, of: &[(&[u8], u64)]) -> Result<Rows, Fail> {
     let mut rows = Rows::new(alloc);
-    rows.push(first)?;
+    for (text, version) in of {
+        let path = Path::read(alloc, text)?;
+        let content = Content::of(alloc, b"")?;
+        rows.push(Row {
+            path,
+            version: *version,
+            node: Some(Node::File(content)),
+        })?;
+    }
     Ok(rows)
 }
 
-#[test]
-fn takes_rows(rt: HostRuntime) -> Result<(), Fail> {
-    let alloc = rt.alloc();
-    let rows = rows_of(alloc, row(alloc, b"a", 1, Some(b"x"))?)?;
-    let tree = Tree::from_rows(alloc, rows)?;
-    let rows = tree.rows()?;
-    assert_eq!(rt; rows.len(), 1);
-    let names = tree.children(&Path::root(alloc))?;
-    assert_eq!(rt; names.len(), 1);
-    let copied = tree.copy()?;
-    assert_eq!(rt; copied.version(&path(alloc, b"a")?), 1);
-    Ok(())
+/// The first row that breaks a rule of trees.
+fn bad_row(alloc: Global, rows: Rows) -> Option<RowsError> {
+    match Tree::from_rows(alloc, rows) {
+        Ok(tree) => {
+            drop(tree);
+            None
+        }
+        Err(refused) => Some(refused),
+    }
 }
 
 #[test]
 fn refuses_rows(rt: HostRuntime) -> Result<(), Fail> {
     let alloc = rt.alloc();
-    let never = rows_of(alloc, row(alloc, b"a", 0, Some(b"x"))?)?;
-    assert!(rt; matches!(Tree::from_rows(alloc, never), Err(RowsError::BadRow(0))));
-    let alone = rows_of(alloc, row(alloc, b"d/x", 1, Some(b"x"))?)?;
-    assert!(rt; matches!(Tree::from_rows(alloc, alone), Err(RowsError::BadRow(0))));
-    let mut turned = rows_of(alloc, row(alloc, b"b", 1, None)?)?;
-    turned.push(row(alloc, b"a", 1, None)?)?;
-    assert!(rt; matches!(Tree::from_rows(alloc, turned), Err(RowsError::BadRow(1))));
+    let never = bad_row(alloc, rows_of(alloc, &[(b"a", 0)])?);
+    assert!(rt; matches!(never, Some(RowsError::BadRow(0))));
+    let alone = bad_row(alloc, rows_of(alloc, &[(b"d/x", 1)])?);
+    assert!(rt; matches!(alone, Some(RowsError::BadRow(0))));
+    let turned = bad_row(alloc, rows_of(alloc, &[(b"b", 1), (b"a", 1)])?);
+    assert!(rt; matches!(turned, Some(RowsError::BadRow(1))));
     Ok(())
 }
 
+/// How many rows there are.
+fn count_of(rows: Rows) -> usize {
+    let count = rows.len();
+    drop(rows);
+    count
+}
+
+/// How many names there are.
+fn names_in(names: Names) -> usize {
+    let count = names.len();
+    drop(names);
+    count
+}
+
+/// How many rows a tree has.
+fn rows_in(tree: Tree) -> u32 {
+    let count = tree.count();
+    drop(tree);
+    count
+}
+
+/// A tree of one file.
+fn small_tree(alloc: Global) -> Result<Tree, Fail> {
+    Ok(Tree::from_rows(alloc, rows_of(alloc, &[(b"a", 1)])?)?)
+}
+
+/// The numbers of rows, of names in the root, and of rows of a copy.
+fn counts(alloc: Global) -> Result<(usize, usize, u32), Fail> {
+    let tree = small_tree(alloc)?;
+    let rows = tree.rows();
+    let names = tree.children(&Path::root(alloc));
+    let copied = tree.copy();
+    drop(tree);
+    let rows = rows.map(count_of);
+    let names = names.map(names_in);
+    let copied = copied.map(rows_in);
+    Ok((rows?, names?, copied?))
+}
+
 #[test]
-fn applies_and_undoes(rt: HostRuntime) -> Result<(), Fail> {
-    let alloc = rt.alloc();
-    let mut tree = Tree::new(alloc);
-    let d = path(alloc, b"d")?;
-    let undo = tree.apply(&Effect::Make(d.copy()?))?;
-    assert_eq!(rt; tree.version(&d), 1);
-    assert!(rt; tree.is_folder(&d));
-    tree.undo(undo);
-    assert_eq!(rt; tree.count(), 0);
+fn lends_rows_names_and_copies(rt: HostRuntime) -> Result<(), Fail> {
+    assert_eq!(rt; counts(rt.alloc())?, (1, 1, 1));
     Ok(())
+}
+
+/// Effects that make the folders of these texts.
+fn makes(alloc: Global, texts: &[&[u8]]) -> Result<Effects, Fail> {
+    let mut effects = Effects::new(alloc);
+    for text in texts {
+        let path = Path::read(alloc, text)?;
+        effects.push(Effect::Make(path))?;
+    }
+    Ok(effects)
+}
+
+/// How many rows there are once the effects are applied, and once they are undone again.
+fn applied(alloc: Global, effects: Effects) -> Result<(u32, u32), ApplyAllError> {
+    let mut tree = Tree::new(alloc);
+    let undos = apply_all(&mut tree, &effects);
+    drop(effects);
+    let made = tree.count();
+    let done = undos.map(|undos| undo_all(&mut tree, undos));
+    let left = rows_in(tree);
+    done?;
+    Ok((made, left))
 }
 
 #[test]
 fn applies_all_or_none(rt: HostRuntime) -> Result<(), Fail> {
     let alloc = rt.alloc();
-    let mut tree = Tree::new(alloc);
-    let mut effects = Effects::new(alloc);
-    effects.push(Effect::Make(path(alloc, b"d")?))?;
-    let undos = apply_all(&mut tree, &effects)?;
-    assert_eq!(rt; tree.count(), 1);
-    undo_all(&mut tree, undos);
-    effects.push(Effect::Make(path(alloc, b"e/x")?))?;
-    assert!(rt;
-        matches!(
-            apply_all(&mut tree, &effects),
-            Err(ApplyAllError::At(1, TreeError::NoParent(_)))
-        )
-    );
-    assert_eq!(rt; tree.count(), 0);
+    assert!(rt; matches!(applied(alloc, makes(alloc, &[b"d", b"d/e"])?), Ok((2, 0))));
+    let refused = applied(alloc, makes(alloc, &[b"d", b"e/x"])?);
+    assert!(rt; matches!(refused, Err(ApplyAllError::At(1, TreeError::NoParent(_)))));
     Ok(())
+}
+
+/// How many paths a move and a making of its target touch.
+fn touched(alloc: Global) -> Result<usize, Fail> {
+    let mut effects = makes(alloc, &[b"b"])?;
+    let from = Path::read(alloc, b"a")?;
+    let to = Path::read(alloc, b"b")?;
+    let pushed = effects.push(Effect::Move(from, to));
+    let paths = effects.touched();
+    drop(effects);
+    pushed?;
+    let paths = paths?;
+    let count = paths.len();
+    drop(paths);
+    Ok(count)
 }
 
 #[test]
 fn lists_touched_paths(rt: HostRuntime) -> Result<(), Fail> {
-    let alloc = rt.alloc();
-    let (a, b) = (path(alloc, b"a")?, path(alloc, b"b")?);
-    let mut effects = Effects::new(alloc);
-    effects.push(Effect::Move(a.copy()?, b.copy()?))?;
-    effects.push(Effect::Put(b.copy()?, Content::of(alloc, b"x")?))?;
-    let touched = effects.touched()?;
-    assert_eq!(rt; touched.len(), 2);
-    assert!(rt; touched.get(0) == Some(&a));
-    assert!(rt; touched.get(1) == Some(&b));
+    assert_eq!(rt; touched(rt.alloc())?, 2);
     Ok(())
 }
