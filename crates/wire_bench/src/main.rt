@@ -100,12 +100,25 @@ fn time_reading(rt: &HostRuntime, frame: &[u8], turns: u32) -> Result<u128, anyh
     Ok(start.elapsed(rt)?.as_nanos())
 }
 
-/// The bytes and the nanoseconds of so many writings of a frame's message.
+/// The bytes and the nanoseconds of so many writings of a message.
+fn time_message(
+    rt: &HostRuntime,
+    message: &Message,
+    turns: u32,
+) -> Result<(u64, u128), anyhow::Error>
+    requires { IsValid message.now }
+{
+    let start = Instant::now(rt)?;
+    let written = write_often(rt.alloc(), message, turns)?;
+    Ok((written, start.elapsed(rt)?.as_nanos()))
+}
+
+/// The same of a frame's message, which is let go by a call.
 fn time_writing(rt: &HostRuntime, frame: &[u8], turns: u32) -> Result<(u64, u128), anyhow::Error> {
     let message = read(rt.alloc(), frame)?;
-    let start = Instant::now(rt)?;
-    let written = write_often(rt.alloc(), &message, turns)?;
-    Ok((written, start.elapsed(rt)?.as_nanos()))
+    let timed = time_message(rt, &message, turns);
+    drop(message);
+    timed
 }
 
 /// Reads and writes a frame so often, and prints how long both took.
