@@ -1,12 +1,12 @@
 -- The laws of values that break a rule.
-use Rattle.std.proofs.Common.{◌≡◌, ℕ, zero, suc, ◌+◌, ◌^◌, ◌<◌, Bool, true, false, ◌&&◌, List, [], ◌∷◌, ◌++◌, length, Err, refl, sym, ap, subst, ◌∙◌, arith, append_assoc, length-append}
+use Rattle.std.proofs.Common.{◌≡◌, ◌≢◌, ℕ, zero, suc, ◌+◌, ◌^◌, ◌<◌, Bool, true, false, ◌&&◌, List, [], ◌∷◌, ◌++◌, length, Err, refl, sym, ap, subst, ◌∙◌, arith, append_assoc, length-append}
 use Rattle.std.specs.Int.{w32}
-use Rattle.std.specs.List.{flat_map}
+use Rattle.std.specs.List.{flat_map, AllByRecursion}
 use Rattle.std.proofs.lemmas.List.Concat.{flat_map-cons}
 use Rattle.byte_fields.specs.Field.{Reader, ◌>>=◌, ruled, mapped, number_at, digits, tagged_at, of_kind, each_at, EachFits}
 use Rattle.byte_fields.specs.Codec.{IsCodec}
 use Rattle.byte_fields.specs.Broken.{IsRead, IsRefused, EachIsRead, RulesAreOfTheirField, MeaningsAreOfTheirField, LaterFieldsAreRefusedLater, ItemsAreRefusedInTheirPlace}
-use Rattle.byte_fields.proofs.Facts.{four_bytes}
+use Rattle.byte_fields.proofs.Facts.{four_bytes, eq_fails}
 use Rattle.byte_fields.proofs.Codec.{failed, stands_first, stands_second, u8_codec, u32_codec, ruled_codec, counted}
 
 -- what fits is read from its spelling
@@ -58,6 +58,14 @@ tagged_refused {A} kinds kind read text offset byte is refused bytes at next sta
 pub kind_refused : {A : Type 0} (kinds : List (ℕ × Reader A)) (kind : ℕ) → kind < 2 ^ 8 → ((tag at : ℕ) (bytes : List ℕ) → of_kind kinds tag kind bytes at ≡ Err tag) → IsRefused (tagged_at kinds) (kind ∷ []) 0
 kind_refused {A} kinds kind byte is bytes at next stands =
     rw (u8_codec.again bytes at kind (at + 1) (stands_first bytes at (kind ∷ []) [] next stands) byte, is at (at + 1) bytes) (ap (failed (A × ℕ)) (omega arith))
+
+-- a number that is none of the kinds
+pub unknown_kind : {A : Type 0} (kinds : List (ℕ × Reader A)) (kind : ℕ) → kind < 2 ^ 8 → AllByRecursion (λ known. kind ≢ known.0) kinds → IsRefused (tagged_at kinds) (kind ∷ []) 0
+unknown_kind {A} kinds kind byte none = kind_refused kinds kind byte (λ tag at bytes. by kinds none tag at bytes)
+  where
+    by : (rest : List (ℕ × Reader A)) → AllByRecursion (λ known. kind ≢ known.0) rest → (tag at : ℕ) (bytes : List ℕ) → of_kind rest tag kind bytes at ≡ Err tag
+    by [] all tag at bytes = refl
+    by (first ∷ others) all tag at bytes = rw (eq_fails kind first.0 all.0) (by others all.1 tag at bytes)
 
 -- ---- rules of numbers
 

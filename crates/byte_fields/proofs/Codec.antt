@@ -153,6 +153,16 @@ wide64 = record {
 IsBytes-span : (bytes : List ℕ) (at : ℕ) (text : List ℕ) (next : ℕ) → IsBytes bytes → Stands bytes at text next → IsBytes text
 IsBytes-span bytes at text next fits stands = subst IsBytes (stands_taken bytes at text next stands) (bytes_taken (length text) (drop at bytes) (bytes_dropped at bytes fits))
 
+-- so many bytes as a value of their own
+pub byte_span_codec : (count : ℕ) → IsCodec (span_at count) (λ text. text) (λ text. (length text ≡ count) × IsBytes text)
+byte_span_codec count = record {
+  found = λ bytes at text next fits le e.
+      let here = (span_codec count).found bytes at text next fits le e in
+      (here.0, (here.1, IsBytes-span bytes at text next fits here.0));
+  again = λ bytes at text next stands fits. (span_codec count).again bytes at text next stands fits.0;
+  fault = (span_codec count).fault;
+}
+
 number_codec : (w : Width) (limit : ℕ) → IsWide w limit → IsCodec (number_at w) (to_be_bytes w) (λ n. n < limit)
 unfolding number_at
 number_codec w limit wide = record {

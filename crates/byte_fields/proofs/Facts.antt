@@ -2,13 +2,14 @@
 use Rattle.std.proofs.Common.{◌≡◌, ℕ, zero, suc, ◌+◌, ◌-◌, ◌%◌, ◌<◌, ◌≤◌, Bool, true, false, not, ◌&&◌, ◌||◌, cond, List, [], ◌∷◌, ◌++◌, length, take, drop, inl, inr, refl, sym, ap, subst, ◌∙◌, arith, length-take}
 use Rattle.std.specs.Prelude.{nat_lt, nat_le, ◌==◌, sum, Option, Some, None}
 use Rattle.std.specs.Int.{w16, w32, w64}
-use Rattle.std.specs.List.{filter, AllByRecursion}
+use Rattle.std.specs.List.{filter, flat_map, AllByRecursion}
 use Rattle.std.specs.Option.{option_map, option_or}
 use Rattle.std.specs.Ordering.{is_eq}
 use Rattle.std.specs.declared.cmp.Ordering.{Ordering}
 use Rattle.std.specs.declared.cmp.Ordering.TheVariants.{Less, Equal, Greater}
 use Rattle.std.proofs.lemmas.Bool.{true≢false, cases_lt, lt-ltb, le-ltb, ltb-true, ltb-false, le-leb, lt-leb, leb-true, leb-false, eq-eqb, ne_eqb, eqb-true, not-true, not-false, and_from, and_parts, or_parts, or_right}
 use Rattle.std.proofs.lemmas.List.{drop-take, get_or-drop, get_or-take, get_or_past, get_or_append_left, get_or-append_right}
+use Rattle.std.proofs.lemmas.List.Concat.{flat_map-cons}
 use Rattle.std.proofs.lemmas.List.Sums.{sum_by-cons}
 use Rattle.std.proofs.lemmas.Nat.{mod_below}
 use Rattle.std.proofs.Math.Seq.{take-append-add}
@@ -140,6 +141,19 @@ bytes_appended front back fits fits' i =
       | inl lt ↦ rw (get_or_append_left front back 0 i lt) (fits i)
       | inr le ↦ rw (get_or-append_right front back (length front) i 0 refl le) (fits' (i - length front))
     ]
+
+pub no_bytes : IsBytes []
+no_bytes i = omega arith
+
+pub byte_before : (b : ℕ) (bytes : List ℕ) → b < 256 → IsBytes bytes → IsBytes (b ∷ bytes)
+byte_before b bytes low fits zero = low
+byte_before b bytes low fits (suc i) = fits i
+
+-- what is spelled in bytes item by item is bytes
+pub bytes_of_each : {A : Type 0} {Fits : A → Type 0} (spelling : A → List ℕ) → ((x : A) → Fits x → IsBytes (spelling x)) → (xs : List A) → AllByRecursion Fits xs → IsBytes (flat_map spelling xs)
+bytes_of_each spelling each [] fits = no_bytes
+bytes_of_each spelling each (x ∷ xs) fits =
+    subst IsBytes (sym (flat_map-cons spelling x xs)) (bytes_appended (spelling x) (flat_map spelling xs) (each x fits.0) (bytes_of_each spelling each xs fits.1))
 
 -- each is a byte
 each_byte : (bytes : List ℕ) → AllByRecursion (λ b. b < 256) bytes → IsBytes bytes

@@ -3,5 +3,6 @@ pub mod Refusals
 pub mod PathTexts
 pub mod Order
 pub mod Parts
+pub mod SpelledBytes
 pub mod Sizes
 pub mod Loops

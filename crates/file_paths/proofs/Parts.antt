@@ -6,12 +6,12 @@ use Rattle.std.proofs.lemmas.Bool.{leb-true, le-leb}
 use Rattle.byte_fields.specs.Field.{digits, ruled, mapped, number_at, span_at}
 use Rattle.byte_fields.specs.Codec.{IsCodec}
 use Rattle.byte_fields.specs.Cuts.{IsCut}
-use Rattle.byte_fields.proofs.Codec.{span_codec, u16_codec, u32_codec, ruled_codec, mapped_codec, codec_for, counted_codec}
+use Rattle.byte_fields.proofs.Codec.{span_codec, byte_span_codec, u16_codec, u32_codec, ruled_codec, mapped_codec, codec_for, counted_codec}
 use Rattle.byte_fields.proofs.Cutting.{span_cut, u16_cut, u32_cut, ruled_cut, mapped_cut, cut_for, counted_cut}
 use Rattle.byte_fields.proofs.Facts.{le_fails}
 use Rattle.byte_fields.proofs.Breaking.{read_again, rule_refused, meaning_refused, first_refused, later_refused}
 use Rattle.file_paths.specs.Path.{FilePath, IsPath, path_of, path_text}
-use Rattle.file_paths.specs.Spelling.{path, content}
+use Rattle.file_paths.specs.Spelling.{path, content, ContentFits}
 use Rattle.file_paths.specs.Reading.{path_at, content_at}
 use Rattle.file_paths.specs.Fields.{path_fields, content_fields}
 use Rattle.file_paths.specs.Broken.{BrokenTexts, BrokenLengths}
@@ -26,12 +26,12 @@ path_codec =
     (λ p fits. fits.1.1)
     (λ p fits. (omega (arith, fits.short), (refl, fits)))
 
-pub content_codec : (limit : ℕ) → limit < 2 ^ 32 → IsCodec (content_at limit) content (λ c. length c ≤ limit)
+pub content_codec : (limit : ℕ) → limit < 2 ^ 32 → IsCodec (content_at limit) content (ContentFits limit)
 unfolding content_at
 content_codec limit lt =
-    codec_for (counted_codec length (ruled_codec (λ n. leb n limit) u32_codec) (λ n fits. span_codec n) (λ n t len. len))
-    (λ c fits. leb-true (length c) limit fits.0.1)
-    (λ c le. ((omega arith, le-leb (length c) limit le), refl))
+    codec_for (counted_codec length (ruled_codec (λ n. leb n limit) u32_codec) (λ n fits. byte_span_codec n) (λ n t fits. fits.0))
+    (λ c fits. (leb-true (length c) limit fits.0.1, fits.1.1))
+    (λ c fits. ((omega (arith, fits.0, lt), le-leb (length c) limit fits.0), (refl, fits.1)))
 
 -- ---- bytes that end too early
 
@@ -41,11 +41,11 @@ path_cut =
     cut_for (counted_cut (λ (p : FilePath). length (path_text p)) u16_codec u16_cut (λ n lt. mapped_cut (span_cut n) path_of path_text IsPath))
     (λ p fits. (omega (arith, fits.short), (refl, fits)))
 
-pub content_cut : (limit : ℕ) → limit < 2 ^ 32 → IsCut (content_at limit) content content_fields (λ c. length c ≤ limit)
+pub content_cut : (limit : ℕ) → limit < 2 ^ 32 → IsCut (content_at limit) content content_fields (ContentFits limit)
 unfolding content_at
 content_cut limit lt =
     cut_for (counted_cut length (ruled_codec (λ n. leb n limit) u32_codec) (ruled_cut u32_cut (λ n. leb n limit)) (λ n fits. span_cut n))
-    (λ c le. ((omega arith, le-leb (length c) limit le), refl))
+    (λ c fits. ((omega (arith, fits.0, lt), le-leb (length c) limit fits.0), refl))
 
 -- ---- values that break a rule
 

@@ -1,6 +1,6 @@
 -- A path has one text, and a text at most one path.
 use Rattle.std.proofs.Common.{◌≡◌, ℕ, ◌<◌, ◌≤◌, true, false, not, ◌&&◌, List, [], ◌∷◌, length, get_or, None, Ok, arith, refl, sym, ap, ◌∙◌, subst, true≢false}
-use Rattle.std.specs.Prelude.{nat_le, ◌==◌}
+use Rattle.std.specs.Prelude.{nat_lt, nat_le, ◌==◌}
 use Rattle.std.specs.List.{list_all, slice_split, position, prefix_len}
 use Rattle.std.specs.Cmp.{first_so, second_so}
 use Rattle.std.proofs.lemmas.List.Sums.{AllPass-from_list_all}
@@ -13,9 +13,10 @@ use Rattle.file_paths.proofs.Refusals.{not_first, value_unrefused, not_when}
 -- ---- the text of names, cut again
 
 no_slash : (name : List ℕ) → list_all is_name_byte name ≡ true → (k d : ℕ) → k < length name → (get_or name k d == 47) ≡ false
-no_slash name h k d lt = not_of (get_or name k d == 47) (first_so _ _ (AllPass-from_list_all is_name_byte name h k d lt))
+no_slash name h k d lt =
+    not_of (get_or name k d == 47) (second_so (nat_lt (get_or name k d) 256) _ (first_so _ _ (AllPass-from_list_all is_name_byte name h k d lt)))
 
-name_bytes : (name : List ℕ) → is_name name ≡ true → list_all is_name_byte name ≡ true
+pub name_bytes : (name : List ℕ) → is_name name ≡ true → list_all is_name_byte name ≡ true
 name_bytes name h =
     second_so (nat_le 1 (length name) && nat_le (length name) 255) _ (first_so _ _ h)
 

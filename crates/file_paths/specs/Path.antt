@@ -16,9 +16,9 @@ use Rattle.file_paths.specs.declared.path.PathError.TheVariants.{BadName, TooDee
 abbrev pub FilePath : Type 0
 FilePath = List (List ℕ)
 
--- neither `/` nor zero
+-- a byte, neither `/` nor zero
 abbrev pub is_name_byte : ℕ → Bool
-is_name_byte b = not (b == 47) && not (b == 0)
+is_name_byte b = nat_lt b 256 && not (b == 47) && not (b == 0)
 
 -- `.` or `..`
 abbrev pub is_dots : List ℕ → Bool

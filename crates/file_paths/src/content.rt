@@ -7,6 +7,7 @@ ghost use Rattle.std.specs.Cmp.Lexicographic.{slice_cmp, nat_list_eq_equiv, nat_
 ghost use Rattle.std.specs.Hash as fed;
 ghost use Rattle.std.specs.Hash.{same_Alike};
 ghost use Rattle.std.proofs.Common.{rules};
+ghost use Rattle.byte_fields.specs.Codec.{IsBytes};
 
 use crate::list::TryCopy;
 use bytes::Bytes;
@@ -51,9 +52,12 @@ impl Content {
 
     /// Lends the bytes.
     pub fn bytes(&self) -> &[u8]
-        ensures { result.now ≡ self.now }
+        ensures value { result.now ≡ self.now }
+        ensures bytes { IsBytes self.now }
     {
-        self.buffer.as_slice()
+        let bytes = self.buffer.as_slice();
+        are_bytes(bytes);
+        bytes
     }
 
     /// No bytes. It takes no memory.
@@ -88,6 +92,11 @@ impl Content {
         })
     }
 }
+
+/// States what the type of a slice says of its numbers. It takes no time.
+fn are_bytes(bytes: &[u8])
+    ensures { IsBytes bytes.now }
+{}
 
 impl TryCopy for Content {
     fn copy(&self) -> Result<Content, AllocError> {
