@@ -7,26 +7,26 @@ use Rattle.std.specs.declared.cmp.Ordering.{Ordering}
 use Rattle.std.specs.declared.cmp.Ordering.TheVariants.{Less}
 use Rattle.std.proofs.lemmas.Bool.{le-leb, eq-eqb, ne_eqb}
 use Rattle.std.proofs.lemmas.List.Sums.{sum_by-cons}
-use Rattle.byte_fields.specs.Field.{Reader, digits, ruled, none, one, two, number_at, tagged_at, of_kind, each_at, passed}
+use Rattle.byte_fields.specs.Field.{digits, ruled, none, one, two, number_at, each_at, passed}
 use Rattle.byte_fields.specs.Broken.{IsRefused, EachIsRead}
 use Rattle.byte_fields.proofs.Codec.{u64_codec}
-use Rattle.byte_fields.proofs.Breaking.{read_again, refused_there, rule_refused, ruled_refused, first_refused, later_refused, tagged_refused, kind_refused, second_fails, count_refused, counted_refused, items_refused, each_read}
-use Rattle.vol_tree.specs.declared.node.Effect.{Effect}
-use Rattle.vol_tree.specs.declared.node.Effect.TheVariants.{Make, Put, Remove, Move}
-use Rattle.vol_tree.specs.declared.node.Base.{Base}
-use Rattle.vol_tree.specs.declared.node.Row.{Row}
-use Rattle.vol_tree.specs.declared.node.Node.TheVariants.{File}
+use Rattle.byte_fields.proofs.Breaking.{read_again, refused_there, rule_refused, ruled_refused, first_refused, later_refused, tagged_refused, unknown_kind, second_fails, count_refused, counted_refused, items_refused, each_read}
+use Rattle.tree_values.specs.declared.node.Effect.{Effect}
+use Rattle.tree_values.specs.declared.node.Effect.TheVariants.{Make, Put, Remove, Move}
+use Rattle.tree_values.specs.declared.node.Base.{Base}
+use Rattle.tree_values.specs.declared.node.Row.{Row}
+use Rattle.tree_values.specs.declared.node.Node.TheVariants.{File}
 use Rattle.file_paths.specs.Path.{FilePath, IsPath, path_cmp, is_same_path, folder_of}
-use Rattle.vol_tree.specs.Tree.{Volume, IsTree, is_root, is_folder, total_size}
-use Rattle.vol_tree.specs.Effects.{content_size, contents_size}
-use Rattle.vol_tree.specs.Behind.{IsIn}
+use Rattle.tree_values.specs.Tree.{Volume, IsTree, is_root, is_folder, total_size}
+use Rattle.tree_values.specs.Effects.{content_size, contents_size}
+use Rattle.tree_values.specs.Lists.{IsIn}
 use Rattle.file_paths.specs.Spelling.{path}
-use Rattle.vol_tree.specs.Spelling.{effect, base, row, EffectFits, EffectFitsIn, AreBasesOf}
+use Rattle.tree_values.specs.Spelling.{effect, base, row, EffectFits, EffectFitsIn, AreBasesOf}
 use Rattle.file_paths.specs.Reading.{path_at, content_at}
-use Rattle.vol_tree.specs.Reading.{make_at, put_at, remove_at, move_at, effect_kinds, effect_at, room_after, effects_within, base_at, first_base_at, others_after, bases_at, may_stand, file_at, node_kinds, standing_at, room_beside, next_row_at, with_next, rows_at}
+use Rattle.tree_values.specs.Reading.{make_at, put_at, remove_at, move_at, effect_kinds, effect_at, room_after, effects_within, base_at, first_base_at, others_after, bases_at, may_stand, file_at, node_kinds, standing_at, room_beside, next_row_at, with_next, rows_at}
 use Rattle.tree_laws.specs.Broken.{BrokenEffects, BrokenEffectLists, BrokenBases, IsNext, BrokenRows, BrokenRowLists}
 use Rattle.file_paths.proofs.Parts.{path_codec, length_refused}
-use Rattle.vol_tree.proofs.RowsTaken.{rows_passed}
+use Rattle.tree_values.proofs.RowsTaken.{rows_passed}
 use Rattle.tree_laws.proofs.Parts.{effect_codec, rooms_again, first_base_fits, first_base_codec, path_part, version_part, NextFits, next_row_codec, rows_again}
 use Rattle.file_paths.proofs.Order.{tied_path, is_less}
 use Rattle.byte_fields.proofs.Facts.{le_fails, eight_bytes}
@@ -62,14 +62,6 @@ module _ (room : ℕ) where
   unfolding put_at
   content_refused p text offset is refused =
       later_refused path_at (λ q. one (content_at (min 8388608 room)) (Put q)) (path p) text p offset (read_again path_codec p is) (first_refused (content_at (min 8388608 room)) (λ c. none (Put p c)) text offset refused)
-
--- a number that is none of the kinds
-pub unknown_kind : {A : Type 0} (kinds : List (ℕ × Reader A)) (kind : ℕ) → kind < 2 ^ 8 → AllByRecursion (λ known. kind ≢ known.0) kinds → IsRefused (tagged_at kinds) (kind ∷ []) 0
-unknown_kind {A} kinds kind byte none = kind_refused kinds kind byte (λ tag at bytes. by kinds none tag at bytes)
-  where
-    by : (rest : List (ℕ × Reader A)) → AllByRecursion (λ known. kind ≢ known.0) rest → (tag at : ℕ) (bytes : List ℕ) → of_kind rest tag kind bytes at ≡ Err tag
-    by [] all tag at bytes = refl
-    by (first ∷ others) all tag at bytes = rw (ne_eqb kind first.0 all.0) (by others all.1 tag at bytes)
 
 pub broken_effects : BrokenEffects
 unfolding effect_at

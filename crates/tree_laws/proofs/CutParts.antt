@@ -10,24 +10,24 @@ use Rattle.byte_fields.specs.Cuts.{start_of, IsCut}
 use Rattle.byte_fields.proofs.Codec.{u32_codec, ruled_codec, stands_second}
 use Rattle.byte_fields.proofs.Facts.{sum_more}
 use Rattle.byte_fields.proofs.Cutting.{sum_both, u32_cut, u64_cut, ruled_cut, cut_for, one_cut, two_cut, three_cut, tagged_cut, each_cut, counted_cut}
-use Rattle.vol_tree.specs.declared.node.Effect.{Effect}
-use Rattle.vol_tree.specs.declared.node.Effect.TheVariants.{Make, Put, Remove, Move}
-use Rattle.vol_tree.specs.declared.node.Base.{Base}
-use Rattle.vol_tree.specs.declared.node.Node.{Node}
-use Rattle.vol_tree.specs.declared.node.Node.TheVariants.{Folder, File}
+use Rattle.tree_values.specs.declared.node.Effect.{Effect}
+use Rattle.tree_values.specs.declared.node.Effect.TheVariants.{Make, Put, Remove, Move}
+use Rattle.tree_values.specs.declared.node.Base.{Base}
+use Rattle.tree_values.specs.declared.node.Node.{Node}
+use Rattle.tree_values.specs.declared.node.Node.TheVariants.{Folder, File}
 use Rattle.file_paths.specs.Path.{FilePath, IsPath, is_same_path, folder_of}
-use Rattle.vol_tree.specs.Tree.{Volume, IsTree, is_folder}
-use Rattle.file_paths.specs.Spelling.{path, content}
-use Rattle.vol_tree.specs.Spelling.{effect, effects, base, bases, node, row, rows, EffectFitsIn, EffectsFitWithin, EffectsFit, BaseFits, AreBasesOf}
+use Rattle.tree_values.specs.Tree.{Volume, IsTree, is_folder}
+use Rattle.file_paths.specs.Spelling.{path, content, ContentFits}
+use Rattle.tree_values.specs.Spelling.{effect, effects, base, bases, node, row, rows, EffectFitsIn, EffectsFitWithin, EffectsFit, BaseFits, AreBasesOf}
 use Rattle.file_paths.specs.Fields.{path_fields, content_fields}
-use Rattle.vol_tree.specs.Fields.{effect_fields, effects_fields, base_fields, bases_fields, node_fields, row_fields, rows_fields}
+use Rattle.tree_values.specs.Fields.{effect_fields, effects_fields, base_fields, bases_fields, node_fields, row_fields, rows_fields}
 use Rattle.file_paths.specs.Reading.{path_at, content_at}
-use Rattle.vol_tree.specs.Reading.{make_at, put_at, remove_at, move_at, effect_kinds, effect_at, room_after, effects_within, effects_at, base_at, first_base_at, others_after, bases_at, may_stand, file_at, node_kinds, standing_at, room_beside, next_row_at, with_next, rows_at}
+use Rattle.tree_values.specs.Reading.{make_at, put_at, remove_at, move_at, effect_kinds, effect_at, room_after, effects_within, effects_at, base_at, first_base_at, others_after, bases_at, may_stand, file_at, node_kinds, standing_at, room_beside, next_row_at, with_next, rows_at}
 use Rattle.file_paths.proofs.Parts.{path_codec, path_cut, content_cut}
 use Rattle.tree_laws.proofs.Parts.{effect_codec, rooms_again, first_base_fits, first_base_codec, bases_again, NodeFits, NextFits, path_part, version_part, next_row_codec, rows_again}
 use Rattle.file_paths.proofs.Order.{path_tied}
 
-put_cut : (room : ℕ) → IsCut (content_at (min 8388608 room)) content content_fields (λ c. length c ≤ min 8388608 room)
+put_cut : (room : ℕ) → IsCut (content_at (min 8388608 room)) content content_fields (ContentFits (min 8388608 room))
 put_cut room = content_cut (min 8388608 room) (omega arith)
 
 -- ---- effects
@@ -35,7 +35,7 @@ put_cut room = content_cut (min 8388608 room) (omega arith)
 effect_whole : (room : ℕ) (x : Effect) → EffectFitsIn room x → sum (effect_fields x) ≡ length (effect x)
 effect_whole room (Make p) fits = omega (arith, sum_more 1 (path_fields p), path_cut.whole p fits.0.0)
 effect_whole room (Put p c) fits =
-    omega (arith, sum_more 1 (path_fields p ++ content_fields c), sum_both (path_fields p) (content_fields c), length-append (path p) (content c), path_cut.whole p fits.0.0, (put_cut room).whole c (omega (arith, fits.0.1, fits.1)))
+    omega (arith, sum_more 1 (path_fields p ++ content_fields c), sum_both (path_fields p) (content_fields c), length-append (path p) (content c), path_cut.whole p fits.0.0.0, (put_cut room).whole c (omega (arith, fits.0.1, fits.1), fits.0.0.1))
 effect_whole room (Remove p) fits = omega (arith, sum_more 1 (path_fields p), path_cut.whole p fits.0.0)
 effect_whole room (Move p q) fits =
     omega (arith, sum_more 1 (path_fields p ++ path_fields q), sum_both (path_fields p) (path_fields q), length-append (path p) (path q), path_cut.whole p fits.0.0.0, path_cut.whole q fits.0.0.1)
@@ -46,7 +46,7 @@ effect_ends room bytes at (Make p) next end stands fits le lt =
     tagged_cut (effect_kinds room) 1 (lit< tt) bytes at (path p) next end (path_fields p) stands le (λ ge. one_cut path_cut Make bytes (at + 1) p next end (stands_second bytes at (1 ∷ []) (path p) next stands) fits.0.0 ge lt)
 effect_ends room bytes at (Put p c) next end stands fits le lt =
     tagged_cut (effect_kinds room) 2 (lit< tt) bytes at (path p ++ content c) next end (path_fields p ++ content_fields c) stands le
-    (λ ge. two_cut path_codec path_cut (λ _ _. put_cut room) Put bytes (at + 1) p c next end (stands_second bytes at (2 ∷ []) (path p ++ content c) next stands) fits.0.0 (omega (arith, fits.0.1, fits.1)) ge lt)
+    (λ ge. two_cut path_codec path_cut (λ _ _. put_cut room) Put bytes (at + 1) p c next end (stands_second bytes at (2 ∷ []) (path p ++ content c) next stands) fits.0.0.0 (omega (arith, fits.0.1, fits.1), fits.0.0.1) ge lt)
 effect_ends room bytes at (Remove p) next end stands fits le lt =
     tagged_cut (effect_kinds room) 3 (lit< tt) bytes at (path p) next end (path_fields p) stands le (λ ge. one_cut path_cut Remove bytes (at + 1) p next end (stands_second bytes at (3 ∷ []) (path p) next stands) fits.0.0 ge lt)
 effect_ends room bytes at (Move p q) next end stands fits le lt =

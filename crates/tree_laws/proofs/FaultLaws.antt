@@ -16,10 +16,10 @@ use Rattle.file_paths.specs.Spelling.{path}
 use Rattle.file_paths.specs.Fields.{path_fields}
 use Rattle.file_paths.specs.Reading.{path_at}
 use Rattle.file_paths.proofs.Parts.{path_codec, path_cut}
-use Rattle.vol_tree.specs.declared.node.TreeError.{TreeError}
-use Rattle.vol_tree.specs.declared.node.TreeError.TheVariants.{RootFixed, NoParent, Exists, Missing, IsFolder, NotEmpty, RowsFull, FileTooLarge, TreeFull, VersionTop, Memory}
-use Rattle.vol_tree.specs.Fault.{tree_fault, fault_number, fault_fields, FaultFits, fault_kinds, fault_at, is_one_of, kinds_of, fault_of, FaultFitsOf}
-use Rattle.vol_tree.proofs.FaultKinds.{kept, of_kept_kind}
+use Rattle.tree_values.specs.declared.node.TreeError.{TreeError}
+use Rattle.tree_values.specs.declared.node.TreeError.TheVariants.{RootFixed, NoParent, Exists, Missing, IsFolder, NotEmpty, RowsFull, FileTooLarge, TreeFull, VersionTop, Memory}
+use Rattle.tree_values.specs.Fault.{tree_fault, fault_number, fault_fields, FaultFits, fault_kinds, fault_at, is_one_of, kinds_of, fault_of, FaultFitsOf}
+use Rattle.tree_values.proofs.FaultKinds.{kept, of_kept_kind}
 use Rattle.tree_laws.specs.Broken.{all_faults, BrokenFaults}
 
 -- ---- each kind

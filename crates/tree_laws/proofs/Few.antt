@@ -4,14 +4,14 @@ use Rattle.std.specs.List.{flat_map, filter}
 use Rattle.std.proofs.lemmas.List.{length-map}
 use Rattle.std.proofs.lemmas.List.Concat.{flat_map-cons}
 use Rattle.byte_fields.specs.Codec.{IsCodec}
-use Rattle.vol_tree.specs.declared.node.Effect.{Effect}
-use Rattle.vol_tree.specs.declared.node.Effect.TheVariants.{Make, Put, Remove, Move}
-use Rattle.vol_tree.specs.declared.node.Base.{Base}
+use Rattle.tree_values.specs.declared.node.Effect.{Effect}
+use Rattle.tree_values.specs.declared.node.Effect.TheVariants.{Make, Put, Remove, Move}
+use Rattle.tree_values.specs.declared.node.Base.{Base}
 use Rattle.file_paths.specs.Path.{FilePath, is_same_path}
-use Rattle.vol_tree.specs.Tree.{touched_paths}
-use Rattle.vol_tree.specs.Effects.{touched_all, distinct}
-use Rattle.vol_tree.specs.Spelling.{bases, EffectsFit, AreBasesOf}
-use Rattle.vol_tree.specs.Reading.{bases_at}
+use Rattle.tree_values.specs.Tree.{touched_paths}
+use Rattle.tree_values.specs.Effects.{touched_all, distinct}
+use Rattle.tree_values.specs.Spelling.{bases, EffectsFit, AreBasesOf}
+use Rattle.tree_values.specs.Reading.{bases_at}
 use Rattle.tree_laws.proofs.Parts.{bases_codec}
 
 kept_length : {A : Type 0} (f : A → Bool) (xs : List A) → length (filter f xs) ≤ length xs

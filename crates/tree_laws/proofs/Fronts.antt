@@ -8,11 +8,11 @@ use Rattle.std.specs.declared.cmp.Ordering.TheVariants.{Less, Equal, Greater}
 use Rattle.std.specs.Ordering.{ordering_reverse, nat_cmp}
 use Rattle.std.specs.Cmp.Lexicographic.{slice_cmp, nat_list_cmp_total}
 use Rattle.file_paths.specs.Path.{FilePath, path_cmp, folder_of}
-use Rattle.vol_tree.specs.declared.node.Row.{Row}
-use Rattle.vol_tree.specs.Tree.{Volume, AreInOrder, IsRow, IsTree, row_at, node_at, is_root, is_folder, is_folder_node}
-use Rattle.vol_tree.specs.Inside.{is_at}
+use Rattle.tree_values.specs.declared.node.Row.{Row}
+use Rattle.tree_values.specs.Tree.{Volume, AreInOrder, IsRow, IsTree, row_at, node_at, is_root, is_folder, is_folder_node}
+use Rattle.tree_values.specs.Inside.{is_at}
 use Rattle.file_paths.proofs.Order.{paths_total}
-use Rattle.vol_tree.proofs.Ordered.{all_map, find_none, is_at_equal, size_append}
+use Rattle.tree_values.proofs.Ordered.{all_map, find_none, is_at_equal, size_append}
 
 -- a folder is before what it has
 folder_before : (first : List ℕ) (rest : FilePath) → path_cmp (folder_of (first ∷ rest)) (first ∷ rest) ≡ Less

@@ -1,9 +1,9 @@
 -- Effects that are applied one after the other, up to the first that is refused.
 use Rattle.std.proofs.Common.{◌≡◌, ℕ, ◌+◌, List, [], ◌∷◌, ◌++◌, length, Result, Ok, Err, refl, ap, subst, ◌∙◌, arith}
-use Rattle.vol_tree.specs.declared.node.Effect.{Effect}
-use Rattle.vol_tree.specs.declared.node.TreeError.{TreeError}
-use Rattle.vol_tree.specs.Tree.{Volume, apply}
-use Rattle.vol_tree.specs.Effects.{unless_refused_at, apply_all}
+use Rattle.tree_values.specs.declared.node.Effect.{Effect}
+use Rattle.tree_values.specs.declared.node.TreeError.{TreeError}
+use Rattle.tree_values.specs.Tree.{Volume, apply}
+use Rattle.tree_values.specs.Effects.{unless_refused_at, apply_all}
 use Rattle.tree_laws.specs.Laws.{IsFirstRefused}
 
 -- what applies does so from any index on

@@ -5,12 +5,12 @@ use Rattle.std.specs.Option.{option_and_then}
 use Rattle.std.specs.Cmp.{first_so, second_so}
 use Rattle.std.specs.declared.cmp.Ordering.TheVariants.{Less}
 use Rattle.file_paths.specs.Path.{FilePath, path_cmp, folder_of, last_name}
-use Rattle.vol_tree.specs.Inside.{is_at}
-use Rattle.vol_tree.specs.declared.node.Row.{Row}
-use Rattle.vol_tree.specs.Tree.{Volume, AreInOrder, IsRow, IsTree, row_at, node_at, is_root, is_folder, is_child, children}
+use Rattle.tree_values.specs.Inside.{is_at}
+use Rattle.tree_values.specs.declared.node.Row.{Row}
+use Rattle.tree_values.specs.Tree.{Volume, AreInOrder, IsRow, IsTree, row_at, node_at, is_root, is_folder, is_child, children}
 use Rattle.file_paths.proofs.Order.{own_path, tied_path}
-use Rattle.vol_tree.proofs.Ordered.{all_map, filter_none, is_at_equal}
-use Rattle.vol_tree.proofs.Undoing.{find_passes, find_among}
+use Rattle.tree_values.proofs.Ordered.{all_map, filter_none, is_at_equal}
+use Rattle.tree_values.proofs.Undoing.{find_passes, find_among}
 
 abbrev IsFound : Volume → Row → Type 0
 IsFound rows row = row_at rows row.path ≡ Some row

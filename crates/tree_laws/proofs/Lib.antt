@@ -1,6 +1,7 @@
 pub mod Fronts
 pub mod Parts
 pub mod CutParts
+pub mod SpelledBytes
 pub mod Breaking
 pub mod Few
 pub mod FaultLaws

@@ -9,30 +9,31 @@ use Rattle.std.proofs.lemmas.Bool.Decides.{nat_tests}
 use Rattle.std.proofs.lemmas.Bool.{leb-true, le-leb, eqb-true, eq-eqb, and_parts}
 use Rattle.std.proofs.lemmas.List.{length-map, append-nil}
 use Rattle.std.proofs.lemmas.List.Sums.{sum_by-cons}
-use Rattle.vol_tree.specs.declared.node.Effect.{Effect}
-use Rattle.vol_tree.specs.declared.node.Effect.TheVariants.{Make, Put, Remove, Move}
-use Rattle.vol_tree.specs.declared.node.Base.{Base}
-use Rattle.vol_tree.specs.declared.node.Row.{Row}
-use Rattle.vol_tree.specs.declared.node.Node.{Node}
-use Rattle.vol_tree.specs.declared.node.Node.TheVariants.{Folder, File}
+use Rattle.tree_values.specs.declared.node.Effect.{Effect}
+use Rattle.tree_values.specs.declared.node.Effect.TheVariants.{Make, Put, Remove, Move}
+use Rattle.tree_values.specs.declared.node.Base.{Base}
+use Rattle.tree_values.specs.declared.node.Row.{Row}
+use Rattle.tree_values.specs.declared.node.Node.{Node}
+use Rattle.tree_values.specs.declared.node.Node.TheVariants.{Folder, File}
 use Rattle.file_paths.specs.Path.{FilePath, IsPath, path_cmp, is_same_path, folder_of}
-use Rattle.vol_tree.specs.Tree.{Volume, IsRow, IsTree, is_root, is_folder, node_size, total_size}
-use Rattle.vol_tree.specs.Effects.{content_size}
+use Rattle.tree_values.specs.Tree.{Volume, IsRow, IsTree, is_root, is_folder, node_size, file_bytes, total_size}
+use Rattle.tree_values.specs.Effects.{content_size}
 use Rattle.byte_fields.specs.Field.{Reader, EachFits, ruled, number_at, digits}
 use Rattle.std.specs.Int.{w64}
-use Rattle.byte_fields.specs.Codec.{Stands, IsCodec}
-use Rattle.file_paths.specs.Spelling.{path, content}
-use Rattle.vol_tree.specs.Spelling.{effect, effects, base, bases, node, row, rows, EffectFits, EffectFitsIn, EffectsFitWithin, EffectsFit, BaseFits, AreBasesOf}
+use Rattle.byte_fields.specs.Codec.{Stands, IsBytes, IsCodec}
+use Rattle.file_paths.specs.Spelling.{path, content, ContentFits}
+use Rattle.tree_values.specs.Spelling.{effect, effects, base, bases, node, row, rows, EffectFits, EffectFitsIn, EffectsFitWithin, EffectsFit, BaseFits, AreBasesOf}
 use Rattle.file_paths.specs.Reading.{path_at, content_at}
-use Rattle.vol_tree.specs.Reading.{make_at, put_at, remove_at, move_at, effect_kinds, effect_at, room_after, effects_within, effects_at, base_at, first_base_at, others_after, bases_at, may_stand, file_at, node_kinds, standing_at, room_beside, next_row_at, with_next, rows_at}
+use Rattle.tree_values.specs.Reading.{make_at, put_at, remove_at, move_at, effect_kinds, effect_at, room_after, effects_within, effects_at, base_at, first_base_at, others_after, bases_at, may_stand, file_at, node_kinds, standing_at, room_beside, next_row_at, with_next, rows_at}
 use Rattle.byte_fields.proofs.Codec.{IsBranch, u32_codec, u64_codec, ruled_codec, here_fault, place_is, found2, fault2, again2, found3, fault3, again3, each_codec, tagged_found, tagged_fault, tagged_again0, tagged_again1, tagged_again2, branch0, branch1, branch2, counted_codec, codec_for}
+use Rattle.byte_fields.proofs.Facts.{no_bytes}
 use Rattle.file_paths.proofs.Order.{tied_path, path_tied}
-use Rattle.vol_tree.proofs.Appending.{tree_with_row, follows_in_tree}
+use Rattle.tree_values.proofs.Appending.{tree_with_row, follows_in_tree}
 use Rattle.tree_laws.proofs.Fronts.{back_all, front_is_tree}
 use Rattle.file_paths.proofs.Parts.{path_codec, content_codec}
 
 -- a content of a file, where there is so much room
-pub put_content : (room : ℕ) → IsCodec (content_at (min 8388608 room)) content (λ c. length c ≤ min 8388608 room)
+pub put_content : (room : ℕ) → IsCodec (content_at (min 8388608 room)) content (ContentFits (min 8388608 room))
 put_content room = content_codec (min 8388608 room) (omega arith)
 
 -- ---- effects
@@ -41,7 +42,7 @@ effect_again : (room : ℕ) (bytes : List ℕ) (at : ℕ) (x : Effect) (next : �
 unfolding effect_at make_at put_at remove_at move_at
 effect_again room bytes at (Make p) next stands fits = tagged_again1 (effect_kinds room) 1 (lit< tt) path_codec Make bytes at p next refl stands fits.0.0
 effect_again room bytes at (Put p c) next stands fits =
-    tagged_again2 (effect_kinds room) 2 (lit< tt) path_codec (λ _ _. put_content room) Put bytes at p c next refl stands fits.0.0 (omega (arith, fits.0.1, fits.1))
+    tagged_again2 (effect_kinds room) 2 (lit< tt) path_codec (λ _ _. put_content room) Put bytes at p c next refl stands fits.0.0.0 (omega (arith, fits.0.1, fits.1), fits.0.0.1)
 effect_again room bytes at (Remove p) next stands fits = tagged_again1 (effect_kinds room) 3 (lit< tt) path_codec Remove bytes at p next refl stands fits.0.0
 effect_again room bytes at (Move p q) next stands fits =
     tagged_again2 (effect_kinds room) 4 (lit< tt) path_codec (λ _ _. path_codec) Move bytes at p q next refl stands fits.0.0.0 fits.0.0.1
@@ -51,7 +52,7 @@ unfolding make_at put_at remove_at move_at
 effect_branches room = (
   branch1 (lit< tt) path_codec Make (λ p. refl) (λ p fits. ((fits, omega arith), omega arith)),
   (
-    branch2 (lit< tt) path_codec (λ _ _. put_content room) Put (λ p c. refl) (λ p c fits le. ((fits, omega (arith, le)), omega (arith, le))),
+    branch2 (lit< tt) path_codec (λ _ _. put_content room) Put (λ p c. refl) (λ p c fits fits'. (((fits, fits'.1), omega (arith, fits'.0)), omega (arith, fits'.0))),
     (
       branch1 (lit< tt) path_codec Remove (λ p. refl) (λ p fits. ((fits, omega arith), omega arith)),
       (
@@ -156,7 +157,7 @@ bases_codec touched lt =
 unfoldable pub NodeFits : Bool → ℕ → Option Node → Type 0
 NodeFits in_folder room None = Unit {0}
 NodeFits in_folder room (Some Folder) = in_folder ≡ true
-NodeFits in_folder room (Some (File c)) = (in_folder ≡ true) × (length c ≤ min 8388608 room)
+NodeFits in_folder room (Some (File c)) = (in_folder ≡ true) × ContentFits (min 8388608 room) c
 
 none_branch : (in_folder : Bool) (room : ℕ) → IsBranch node (NodeFits in_folder room) 0 (λ bytes at. Ok (None, at))
 unfolding NodeFits
@@ -167,7 +168,7 @@ unfolding NodeFits file_at
 node_branches false room = (none_branch false room, tt)
 node_branches true room = (
   none_branch true room,
-  (branch0 (lit< tt) (Some Folder) refl refl, (branch1 (lit< tt) (put_content room) (λ c. Some (File c)) (λ c. refl) (λ c le. (refl, le)), tt)),
+  (branch0 (lit< tt) (Some Folder) refl refl, (branch1 (lit< tt) (put_content room) (λ c. Some (File c)) (λ c. refl) (λ c fits. (refl, fits)), tt)),
 )
 
 node_again : (in_folder : Bool) (room : ℕ) (bytes : List ℕ) (at : ℕ) (x : Option Node) (next : ℕ) → Stands bytes at (node x) next → NodeFits in_folder room x → standing_at in_folder room bytes at ≡ Ok (x, next)
@@ -231,10 +232,16 @@ le_is a b h = leb-true a b h
 -- a row that is read behind a tree leaves one
 next_is_tree : (before : Volume) (r : Row) → IsTree before → length before < 16384 → NextFits before r → IsTree (before ++ r ∷ [])
 unfolding NodeFits
-next_is_tree before r tree few fits = tree_with_row before r tree (record { is_path = fits.is_path; version_fits = fits.version_fits }) (follows r.node fits.node_fits)
+next_is_tree before r tree few fits =
+    tree_with_row before r tree (record { is_path = fits.is_path; version_fits = fits.version_fits; bytes = of_bytes r.node fits.node_fits }) (follows r.node fits.node_fits)
   where
     low : list_all (λ other. is_lt (path_cmp other.path r.path)) before ≡ true
     low = second_so (not (is_root r.path)) _ fits.stands
+
+    of_bytes : (n : Option Node) → NodeFits (is_folder before (folder_of r.path)) (room_beside before) n → IsBytes (file_bytes n)
+    of_bytes None f = no_bytes
+    of_bytes (Some Folder) f = no_bytes
+    of_bytes (Some (File c)) f = f.1.1
 
     room : nat_lt (length before) 16384 ≡ true
     room = lt_is (length before) 16384 few
@@ -247,7 +254,7 @@ next_is_tree before r tree few fits = tree_with_row before r tree (record { is_p
     follows (Some Folder) f =
         both_true low (both_true (first_so _ _ fits.stands) (both_true fits.touched (both_true refl (both_true f (both_true room (le-leb _ _ (omega (arith, tree.small))))))))
     follows (Some (File c)) f =
-        both_true low (both_true (first_so _ _ fits.stands) (both_true fits.touched (both_true (le-leb (length c) 8388608 (omega (arith, f.1))) (both_true f.0 (both_true room (le-leb _ _ (small_beside (length c) (total_size before) f.1 tree.small)))))))
+        both_true low (both_true (first_so _ _ fits.stands) (both_true fits.touched (both_true (le-leb (length c) 8388608 (omega (arith, f.1.0))) (both_true f.0 (both_true room (le-leb _ _ (small_beside (length c) (total_size before) f.1.0 tree.small)))))))
 
 -- a tree's last row is one that is read there
 next_fits : (before : Volume) (r : Row) → IsTree (before ++ r ∷ []) → NextFits before r
@@ -268,14 +275,14 @@ next_fits before r whole =
       stands = both_true top low;
       version_fits = sound.version_fits;
       touched = first_so _ _ h2;
-      node_fits = stands r.node (first_so _ _ h3) (first_so _ _ h4) h6;
+      node_fits = stands r.node sound.bytes (first_so _ _ h3) (first_so _ _ h4) h6;
     }
   where
-    stands : (n : Option Node) → nat_le (node_size n) 8388608 ≡ true → (not (is_some n) || is_folder before (folder_of r.path)) ≡ true → nat_le (total_size before + node_size n) 33554432 ≡ true
+    stands : (n : Option Node) → IsBytes (file_bytes n) → nat_le (node_size n) 8388608 ≡ true → (not (is_some n) || is_folder before (folder_of r.path)) ≡ true → nat_le (total_size before + node_size n) 33554432 ≡ true
         → NodeFits (is_folder before (folder_of r.path)) (room_beside before) n
-    stands None small here all = tt
-    stands (Some Folder) small here all = here
-    stands (Some (File c)) small here all = (here, omega (arith, le_is (length c) 8388608 small, le_is (total_size before + length c) 33554432 all))
+    stands None bytes small here all = tt
+    stands (Some Folder) bytes small here all = here
+    stands (Some (File c)) bytes small here all = (here, (omega (arith, le_is (length c) 8388608 small, le_is (total_size before + length c) 33554432 all), bytes))
 
 rows_found : (before rs : Volume) → IsTree before → length before + length rs ≤ 16384 → EachFits NextFits with_next before rs → IsTree (before ++ rs)
 rows_found before [] tree few fits = rw (append-nil before) tree

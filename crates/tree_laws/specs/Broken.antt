@@ -5,20 +5,20 @@ use Rattle.std.specs.List.{flat_map, AllByRecursion}
 use Rattle.std.specs.declared.cmp.Ordering.TheVariants.{Less}
 use Rattle.byte_fields.specs.Field.{digits}
 use Rattle.byte_fields.specs.Broken.{IsRefused}
-use Rattle.vol_tree.specs.declared.node.Effect.{Effect}
-use Rattle.vol_tree.specs.declared.node.Base.{Base}
-use Rattle.vol_tree.specs.declared.node.Row.{Row}
+use Rattle.tree_values.specs.declared.node.Effect.{Effect}
+use Rattle.tree_values.specs.declared.node.Base.{Base}
+use Rattle.tree_values.specs.declared.node.Row.{Row}
 use Rattle.file_paths.specs.Limits.{max_file}
-use Rattle.vol_tree.specs.Limits.{max_rows, max_files}
+use Rattle.tree_values.specs.Limits.{max_rows, max_files}
 use Rattle.file_paths.specs.Path.{FilePath, IsPath, path_cmp, folder_of}
-use Rattle.vol_tree.specs.Tree.{Volume, IsTree, is_folder, total_size}
-use Rattle.vol_tree.specs.Effects.{contents_size}
-use Rattle.vol_tree.specs.Behind.{IsIn}
+use Rattle.tree_values.specs.Tree.{Volume, IsTree, is_folder, total_size}
+use Rattle.tree_values.specs.Effects.{contents_size}
+use Rattle.tree_values.specs.Lists.{IsIn}
 use Rattle.file_paths.specs.Spelling.{path}
-use Rattle.vol_tree.specs.Spelling.{effect, base, row, EffectFits, AreBasesOf}
+use Rattle.tree_values.specs.Spelling.{effect, base, row, EffectFits, AreBasesOf}
 use Rattle.file_paths.specs.Reading.{path_at}
-use Rattle.vol_tree.specs.Fault.{is_one_of, fault_of}
-use Rattle.vol_tree.specs.Reading.{effect_kinds, effect_at, effects_within, base_at, bases_at, may_stand, node_kinds, room_beside, next_row_at, rows_at}
+use Rattle.tree_values.specs.Fault.{is_one_of, fault_of}
+use Rattle.tree_values.specs.Reading.{effect_kinds, effect_at, effects_within, base_at, bases_at, may_stand, node_kinds, room_beside, next_row_at, rows_at}
 
 -- ---- effects
 

@@ -1,13 +1,14 @@
 -- What holds of trees and effects, in their own words.
 use Rattle.std.specs.Prelude.{◌≡◌, ◌⊎◌, ℕ, ◌+◌, ◌≤◌, false, List, [], ◌∷◌, ◌++◌, length, Some, None, Ok, Err}
 use Rattle.file_paths.specs.Path.{FilePath}
-use Rattle.vol_tree.specs.declared.node.Node.TheVariants.{Folder}
-use Rattle.vol_tree.specs.declared.node.Effect.{Effect}
-use Rattle.vol_tree.specs.declared.node.Effect.TheVariants.{Make, Put, Remove, Move}
-use Rattle.vol_tree.specs.declared.node.TreeError.{TreeError}
-use Rattle.vol_tree.specs.Tree.{Volume, IsTree, IsLegalEffect, version_at, node_at, is_folder, children, with_content, apply, touched_paths, kept_rows, undone}
-use Rattle.vol_tree.specs.Effects.{apply_all, changed_all, touched_all, distinct}
-use Rattle.vol_tree.specs.Behind.{NoneTwice, IsBehind, IsAhead, AgreeAt, IsIn}
+use Rattle.tree_values.specs.declared.node.Node.TheVariants.{Folder}
+use Rattle.tree_values.specs.declared.node.Effect.{Effect}
+use Rattle.tree_values.specs.declared.node.Effect.TheVariants.{Make, Put, Remove, Move}
+use Rattle.tree_values.specs.declared.node.TreeError.{TreeError}
+use Rattle.tree_values.specs.Tree.{Volume, IsTree, IsLegalEffect, version_at, node_at, is_folder, children, with_content, apply, touched_paths, kept_rows, undone}
+use Rattle.tree_values.specs.Effects.{apply_all, changed_all, touched_all, distinct}
+use Rattle.tree_values.specs.Lists.{NoneTwice, IsIn}
+use Rattle.vol_tree.specs.Behind.{IsBehind, IsAhead, AgreeAt}
 
 -- ---- what an applied effect does to each path
 

@@ -11,5 +11,6 @@ pub use laws::{
     trees_behind,
 };
 pub use spelling_laws::{
-    broken_parts_are_refused_at_their_field, parts_are_spelled_once, parts_end_with_their_bytes,
+    broken_parts_are_refused_at_their_field, parts_are_spelled_in_bytes, parts_are_spelled_once,
+    parts_end_with_their_bytes,
 };

@@ -1,19 +1,22 @@
 //! What is read is spelled so, and what is spelled so is read.
 
 ghost use Rattle.std.specs.Prelude.{◌≡◌, ◌<◌, ◌≤◌, ◌^◌, ℕ, List, Ok, length};
-ghost use Rattle.byte_fields.specs.Codec.{IsCodec};
+ghost use Rattle.byte_fields.specs.Codec.{IsBytes, IsCodec};
 ghost use Rattle.byte_fields.specs.Cuts.{IsCut};
 ghost use Rattle.file_paths.specs.Path.{FilePath, IsPath, path_of, path_text};
-ghost use Rattle.vol_tree.specs.Tree.{IsTree};
+ghost use Rattle.tree_values.specs.declared.node.Effect.{Effect};
+ghost use Rattle.tree_values.specs.declared.node.Base.{Base};
+ghost use Rattle.tree_values.specs.declared.node.TreeError.{TreeError};
+ghost use Rattle.tree_values.specs.Tree.{Volume, IsTree};
 ghost use Rattle.file_paths.specs.Spelling.{path, content};
-ghost use Rattle.vol_tree.specs.Spelling.{effect, effects, bases, rows, EffectFitsIn, EffectsFitWithin, EffectsFit, AreBasesOf};
+ghost use Rattle.tree_values.specs.Spelling.{effect, effects, bases, rows, EffectFitsIn, EffectsFitWithin, EffectsFit, AreBasesOf};
 ghost use Rattle.file_paths.specs.Fields.{path_fields, content_fields};
-ghost use Rattle.vol_tree.specs.Fields.{effect_fields, effects_fields, bases_fields, rows_fields};
+ghost use Rattle.tree_values.specs.Fields.{effect_fields, effects_fields, bases_fields, rows_fields};
 ghost use Rattle.file_paths.specs.Broken.{BrokenTexts, BrokenLengths};
 ghost use Rattle.tree_laws.specs.Broken.{BrokenEffects, BrokenEffectLists, BrokenBases, BrokenRows, BrokenRowLists, all_faults, BrokenFaults};
 ghost use Rattle.file_paths.specs.Reading.{path_at, content_at};
-ghost use Rattle.vol_tree.specs.Fault.{tree_fault, fault_fields, FaultFits, FaultFitsOf, fault_at, fault_of};
-ghost use Rattle.vol_tree.specs.Reading.{effect_at, effects_within, effects_at, bases_at, rows_at};
+ghost use Rattle.tree_values.specs.Fault.{tree_fault, fault_fields, FaultFits, FaultFitsOf, fault_at, fault_of};
+ghost use Rattle.tree_values.specs.Reading.{effect_at, effects_within, effects_at, bases_at, rows_at};
 
 /// States that each value has one spelling, and each spelling one value.
 pub fn parts_are_spelled_once()
@@ -25,6 +28,14 @@ pub fn parts_are_spelled_once()
     ensures fault { IsCodec fault_at tree_fault FaultFits }
     ensures fault_of { (numbers : List ℕ) → IsCodec (fault_of numbers) tree_fault (FaultFitsOf numbers) }
     ensures all_faults { fault_at ≡ fault_of all_faults }
+{}
+
+/// States that values that have a spelling are spelled in bytes.
+pub fn parts_are_spelled_in_bytes()
+    ensures effects { (most room : ℕ) (es : List Effect) → EffectsFitWithin most room es → IsBytes (effects es) }
+    ensures bases { (touched : List FilePath) (bs : List Base) → AreBasesOf touched bs → IsBytes (bases bs) }
+    ensures rows { (rs : Volume) → IsTree rs → IsBytes (rows rs) }
+    ensures faults { (fault : TreeError) → FaultFits fault → IsBytes (tree_fault fault) }
 {}
 
 /// States that, where the bytes end inside a value, the field in which they end is the faulty one.

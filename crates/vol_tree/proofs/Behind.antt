@@ -2,30 +2,27 @@
 use Rattle.std.proofs.Common.{filter, not, ◌≡◌, ◌≢◌, ◌⊎◌, inl, inr, ℕ, ◌+◌, ◌<◌, ◌≤◌, Bool, true, false, cond, List, [], ◌∷◌, ◌++◌, map, Option, Some, None, option_map, unwrap_or, Result, Ok, Err, refl, sym, ◌∙◌, ap, subst, arith, ⊎_elim, eqb-true, true≢false}
 use Rattle.std.specs.Prelude.{◌==◌}
 use Rattle.std.specs.List.{AllByRecursion}
-use Rattle.std.specs.Str.{bytes_eq}
-use Rattle.std.specs.Cmp.Lexicographic.{pointwise}
-use Rattle.std.proofs.lemmas.Slice.Eq.{bytes_eq-Decides, slice_eq-Decides}
 use Rattle.std.specs.Option.{option_and_then}
 use Rattle.std.proofs.lemmas.Bool.{eqb-false}
 use native.Mathlib.Decide.{dec_le}
 use Rattle.std.specs.declared.cmp.Ordering.{Ordering}
 use Rattle.std.specs.declared.cmp.Ordering.TheVariants.{Less, Equal, Greater}
-use Rattle.std.specs.Ordering.{ordering_reverse, is_lt, is_eq}
-use Rattle.vol_tree.specs.Inside.{is_at}
+use Rattle.std.specs.Ordering.{is_eq}
+use Rattle.tree_values.specs.Inside.{is_at}
 use Rattle.file_paths.specs.Path.{path_cmp, FilePath, is_same_path}
-use Rattle.vol_tree.specs.declared.node.Node.{Node}
-use Rattle.vol_tree.specs.declared.node.Row.{Row}
-use Rattle.vol_tree.specs.declared.node.Effect.{Effect}
-use Rattle.vol_tree.specs.declared.node.Effect.TheVariants.{Make, Put, Remove, Move}
-use Rattle.vol_tree.specs.declared.node.TreeError.{TreeError}
-use Rattle.vol_tree.specs.Tree.{AreInOrder, IsRow, IsTree, row_at, version_at, node_at, with_row, touched, refusals, changed, apply, touched_paths, IsLegalEffect, Volume}
-use Rattle.vol_tree.specs.Effects.{changed_all, unless_refused_at, apply_all, touched_all, distinct, base_of, Conflict, first_conflict}
-use Rattle.vol_tree.specs.Behind.{IsBehind, IsAhead, AgreeAt, IsIn}
-use Rattle.file_paths.proofs.Order.{paths_total, same_path, same_place, tied_path, paths_differ, paths_apart}
+use Rattle.tree_values.specs.declared.node.Node.{Node}
+use Rattle.tree_values.specs.declared.node.Row.{Row}
+use Rattle.tree_values.specs.declared.node.Effect.{Effect}
+use Rattle.tree_values.specs.declared.node.Effect.TheVariants.{Make, Put, Remove, Move}
+use Rattle.tree_values.specs.declared.node.TreeError.{TreeError}
+use Rattle.tree_values.specs.Tree.{IsRow, IsTree, row_at, version_at, node_at, with_row, touched, refusals, changed, apply, touched_paths, IsLegalEffect, Volume}
+use Rattle.tree_values.specs.Effects.{changed_all, unless_refused_at, apply_all, touched_all, distinct, base_of, Conflict, first_conflict}
+use Rattle.vol_tree.specs.Behind.{IsBehind, IsAhead, AgreeAt}
+use Rattle.tree_values.specs.Lists.{IsIn}
+use Rattle.file_paths.proofs.Order.{same_path, tied_path, paths_differ, paths_apart}
 use Rattle.file_paths.proofs.Refusals.{value_unrefused}
-use Rattle.vol_tree.proofs.Places.{are_above, after_row}
-use Rattle.vol_tree.proofs.Ordered.{row_at-with_row, is_at_equal}
-use Rattle.vol_tree.proofs.Undoing.{find_passes, find_among}
+use Rattle.tree_values.proofs.Ordered.{row_at-with_row, is_at_equal, same_rows}
+use Rattle.tree_values.proofs.Undoing.{find_passes, find_among}
 use Rattle.vol_tree.proofs.Trees.{row_untouched, changed_is_tree}
 
 abbrev pub version_of : Option Row → ℕ
@@ -181,9 +178,6 @@ AgreeAt-no_conflict x v (path ∷ paths) e =
     let parts = conflict_if (version_at v path == version_at x path) _ _ e in
     (sym (eqb-true _ _ parts.0), AgreeAt-no_conflict x v paths parts.1)
 
-pub same_names : (p q : FilePath) → pointwise bytes_eq p q ≡ true → p ≡ q
-same_names p q e = (slice_eq-Decides bytes_eq-Decides p q _ refl).0 e
-
 -- what agrees at a path and at all others agrees at all
 AgreeAt-unfiltered : (x v : Volume) (path : FilePath) (paths : List FilePath) → version_at x path ≡ version_at v path → AgreeAt x v (filter (λ other. not (is_same_path other path)) paths) → AgreeAt x v paths
 AgreeAt-unfiltered x v path [] here agree = tt
@@ -221,45 +215,6 @@ pub ahead_at_conflict : (x v : Volume) (effects : List Effect) (c : Conflict) �
 ahead_at_conflict x v effects c behind e = ahead_at x v _ c behind e
 
 -- ---- trees with equal versions and nodes are equal
-
-above_first : (path : FilePath) (row : Row) (rows : Volume) → AllByRecursion (λ next. path_cmp row.path next.path ≡ Less) rows → is_lt (path_cmp row.path path) ≡ false → row_at rows path ≡ None
-above_first path row rows order not_below = (are_above path rows (after_row path row rows not_below order)).none_there
-
-before_first : (path : FilePath) (row : Row) (rows : Volume) → AllByRecursion (λ next. path_cmp row.path next.path ≡ Less) rows → path_cmp row.path path ≡ Greater → row_at (row ∷ rows) path ≡ None
-before_first path row rows order e = rw e (above_first path row rows order (ap is_lt e))
-
-at_first : (row : Row) (rows : Volume) → row_at (row ∷ rows) row.path ≡ Some row
-at_first row rows = rw (same_place row.path) refl
-
--- of two lists with one first row, the others have the same rows
-others_same : (x : Row) (xs ys : Volume) (path : FilePath) → AreInOrder (x ∷ xs) → AreInOrder (x ∷ ys) → row_at (x ∷ xs) path ≡ row_at (x ∷ ys) path → row_at xs path ≡ row_at ys path
-others_same x xs ys path order_x order_y same = by (path_cmp x.path path) refl same
-  where
-    by : (o : Ordering) → path_cmp x.path path ≡ o → cond (is_eq o) (Some x) (row_at xs path) ≡ cond (is_eq o) (Some x) (row_at ys path) → row_at xs path ≡ row_at ys path
-    by Less e same = same
-    by Greater e same = same
-    by Equal e same = above_first path x xs order_x.0 (ap is_lt e) ∙ sym (above_first path x ys order_y.0 (ap is_lt e))
-
--- rows in order that have the same row at each path are the same rows
-pub same_rows : (a b : Volume) → AreInOrder a → AreInOrder b → ((path : FilePath) → row_at a path ≡ row_at b path) → a ≡ b
-same_rows [] [] order_a order_b same = refl
-same_rows [] (y ∷ ys) order_a order_b same = let some = same y.path ∙ at_first y ys in absurd (cc)
-same_rows (x ∷ xs) [] order_a order_b same = let some = sym (same x.path) ∙ at_first x xs in absurd (cc)
-same_rows (x ∷ xs) (y ∷ ys) order_a order_b same =
-    by (path_cmp y.path x.path) refl (λ tails. same_rows xs ys order_a.1 order_b.1 tails)
-  where
-    tails_same : x ≡ y → (path : FilePath) → row_at xs path ≡ row_at ys path
-    tails_same heads path = others_same x xs ys path order_a
-        (subst (λ r. AreInOrder (r ∷ ys)) (sym heads) order_b)
-        (subst (λ r. row_at (x ∷ xs) path ≡ row_at (r ∷ ys) path) (sym heads) (same path))
-
-    by : (o : Ordering) → path_cmp y.path x.path ≡ o → (((path : FilePath) → row_at xs path ≡ row_at ys path) → xs ≡ ys) → x ∷ xs ≡ y ∷ ys
-    by Greater e tails = let some = sym (at_first x xs) ∙ same x.path ∙ before_first x.path y ys order_b.0 e in absurd (cc)
-    by Less e tails = let some = sym (at_first y ys) ∙ sym (same y.path) ∙ before_first y.path x xs order_a.0 (paths_total.antisymm x.path y.path ∙ ap ordering_reverse e) in absurd (cc)
-    by Equal e tails =
-        let found : Some x ≡ Some y = sym (at_first x xs) ∙ same x.path ∙ rw e refl in
-        let heads : x ≡ y = cc (found) in
-        λ i. heads i ∷ tails (tails_same heads) i
 
 -- a row of a tree counts at least one effect, and stands at its path
 pub counted : (rows : Volume) (path : FilePath) → IsTree rows → version_at rows path ≡ 0 → row_at rows path ≡ None

@@ -2,14 +2,15 @@
 use Rattle.std.proofs.Common.{◌≡◌, ◌≢◌, ℕ, suc, ◌+◌, ◌<◌, List, [], ◌∷◌, ◌++◌, length, take, drop, get_or, Result, Ok, Err, refl, sym, ap, ◌∙◌, subst, arith, drop-cons}
 use Rattle.std.specs.List.{AllByRecursion}
 use Rattle.std.proofs.lemmas.List.{length-take-le, take_more, take-append-drop}
-use Rattle.vol_tree.specs.declared.node.Effect.{Effect}
-use Rattle.vol_tree.specs.declared.node.TreeError.{TreeError}
-use Rattle.vol_tree.specs.declared.node.TreeError.TheVariants.{Memory as TreeMemory}
+use Rattle.tree_values.specs.declared.node.Effect.{Effect}
+use Rattle.tree_values.specs.declared.node.TreeError.{TreeError}
+use Rattle.tree_values.specs.declared.node.TreeError.TheVariants.{Memory as TreeMemory}
 use Rattle.vol_tree.specs.declared.effects.ApplyAllError.{ApplyAllError}
 use Rattle.vol_tree.specs.declared.effects.ApplyAllError.TheVariants.{At, Memory}
-use Rattle.vol_tree.specs.Effects.{unless_refused_at, apply_all, IsAllRefusal}
-use Rattle.vol_tree.specs.declared.node.Row.{Row}
-use Rattle.vol_tree.specs.Tree.{Volume, apply, undone, CanUndo}
+use Rattle.tree_values.specs.Effects.{unless_refused_at, apply_all}
+use Rattle.vol_tree.specs.Applying.{IsAllRefusal}
+use Rattle.tree_values.specs.declared.node.Row.{Row}
+use Rattle.tree_values.specs.Tree.{Volume, apply, undone, CanUndo}
 use Rattle.vol_tree.specs.Undos.{undone_all, CanUndoAll}
 use Rattle.vol_tree.specs.Inside.{IsPushed}
 

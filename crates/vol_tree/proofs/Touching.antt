@@ -1,12 +1,12 @@
 -- The laws of trees and effects, from what is proved of their rows.
 use Rattle.std.proofs.Common.{◌≡◌, inl, inr, ℕ, ◌+◌, cond, List, [], ◌∷◌, Option, Some, None, Ok, sym, ap, ◌∙◌, subst, arith}
 use Rattle.file_paths.specs.Path.{FilePath}
-use Rattle.vol_tree.specs.declared.node.Node.{Node}
-use Rattle.vol_tree.specs.declared.node.Node.TheVariants.{Folder}
-use Rattle.vol_tree.specs.declared.node.Effect.{Effect}
-use Rattle.vol_tree.specs.declared.node.Effect.TheVariants.{Make, Put, Remove, Move}
-use Rattle.vol_tree.specs.Tree.{Volume, IsTree, version_at, node_at, with_content, touched, changed, apply, touched_paths, kept_rows, undone}
-use Rattle.vol_tree.specs.Behind.{IsIn}
+use Rattle.tree_values.specs.declared.node.Node.{Node}
+use Rattle.tree_values.specs.declared.node.Node.TheVariants.{Folder}
+use Rattle.tree_values.specs.declared.node.Effect.{Effect}
+use Rattle.tree_values.specs.declared.node.Effect.TheVariants.{Make, Put, Remove, Move}
+use Rattle.tree_values.specs.Tree.{Volume, IsTree, version_at, node_at, with_content, touched, changed, apply, touched_paths, kept_rows, undone}
+use Rattle.tree_values.specs.Lists.{IsIn}
 use Rattle.vol_tree.proofs.Trees.{can_move, moved_apart, undone_change, node_touched, node_untouched}
 use Rattle.vol_tree.proofs.Behind.{applied-changed, version-touched, version-apart, same_volume}
 use Rattle.file_paths.proofs.Order.{own_path}

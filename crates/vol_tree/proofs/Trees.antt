@@ -1,26 +1,26 @@
 -- An effect that is not refused leaves a tree, and what is kept of it puts the rows back.
-use Rattle.std.proofs.Common.{◌≡◌, ℕ, ◌+◌, ◌-◌, ◌≤◌, ◌<◌, Bool, true, false, ◌||◌, ◌==◌, not, List, [], ◌∷◌, ◌++◌, length, find, Option, Some, None, IsTrue, is_some, option_map, unwrap_or, Ok, arith, refl, sym, ap, ◌∙◌, subst, true≢false, length-append}
+use Rattle.std.proofs.Common.{◌≡◌, ℕ, ◌+◌, ◌-◌, ◌≤◌, ◌<◌, Bool, true, false, ◌||◌, ◌==◌, not, List, [], ◌∷◌, length, find, Option, Some, None, IsTrue, is_some, option_map, unwrap_or, Ok, arith, refl, sym, ap, ◌∙◌, subst, true≢false}
 use Rattle.std.specs.Prelude.{nat_lt, nat_le, ◌&&◌, ◌^◌}
 use Rattle.std.specs.List.{AllByRecursion}
 use Rattle.std.specs.Option.{option_to_list, option_and_then}
-use Rattle.std.proofs.lemmas.List.{length-take}
 use Rattle.std.proofs.lemmas.Bool.{eqb-false}
 use Rattle.std.proofs.lemmas.Bool.Decides.{nat_tests}
 use Rattle.std.specs.declared.cmp.Ordering.{Ordering}
 use Rattle.std.specs.declared.cmp.Ordering.TheVariants.{Less, Equal, Greater}
-use Rattle.vol_tree.specs.Inside.{is_at}
+use Rattle.tree_values.specs.Inside.{is_at}
+use Rattle.byte_fields.specs.Codec.{IsBytes}
 use Rattle.file_paths.specs.Path.{path_cmp, folder_of, IsPath, is_same_path}
-use Rattle.vol_tree.specs.declared.node.Node.{Node}
-use Rattle.vol_tree.specs.declared.node.Node.TheVariants.{Folder, File}
-use Rattle.vol_tree.specs.declared.node.Row.{Row}
-use Rattle.vol_tree.specs.declared.node.Effect.{Effect}
-use Rattle.vol_tree.specs.declared.node.Effect.TheVariants.{Make, Put, Remove, Move}
-use Rattle.vol_tree.specs.Tree.{AreInOrder, IsRow, IsTree, row_at, node_at, version_at, is_root, is_folder, is_folder_node, node_size, total_size, has_no_room, is_at_top, size_with, is_child, rows_below, rows_above, with_row, touched, touched_paths, kept_row, kept_rows, restored, undone, CanUndo, refusals, changed, apply, IsLegalEffect}
-use Rattle.byte_fields.proofs.Facts.{not_lt_of, not_false_of, or_false_of, or_true, none_mapped}
+use Rattle.tree_values.specs.declared.node.Node.{Node}
+use Rattle.tree_values.specs.declared.node.Node.TheVariants.{Folder, File}
+use Rattle.tree_values.specs.declared.node.Row.{Row}
+use Rattle.tree_values.specs.declared.node.Effect.{Effect}
+use Rattle.tree_values.specs.declared.node.Effect.TheVariants.{Make, Put, Remove, Move}
+use Rattle.tree_values.specs.Tree.{AreInOrder, IsRow, IsTree, row_at, node_at, version_at, is_root, is_folder, is_folder_node, node_size, file_bytes, total_size, has_no_room, is_at_top, size_with, is_child, rows_below, rows_above, touched, touched_paths, kept_row, kept_rows, restored, undone, CanUndo, refusals, changed, apply, IsLegalEffect}
+use Rattle.byte_fields.proofs.Facts.{no_bytes, not_lt_of, not_false_of, or_false_of, or_true, none_mapped}
 use Rattle.file_paths.proofs.Order.{same_path, same_place, paths_differ}
 pub use Rattle.file_paths.proofs.Refusals.{none_refused, not_when}
-use Rattle.vol_tree.proofs.Ordered.{all_append, all_filter, all_map, split_at_path, with_row_in_order, row_at-with_row, row_at-other, size-with_row, is_at_equal}
-use Rattle.vol_tree.proofs.Undoing.{undo_touched, find_passes, find_among}
+use Rattle.tree_values.proofs.Ordered.{all_append, all_filter, all_map, with_row_in_order, row_at-with_row, row_at-other, above_itself, length-with_row, size_touched, is_at_equal}
+use Rattle.tree_values.proofs.Undoing.{undo_touched, find_passes, find_among}
 use Rattle.std.specs.Cmp.Derive.{both_true}
 use Rattle.std.specs.Ordering.{is_eq}
 
@@ -50,10 +50,6 @@ node_untouched rows p node q other = ap (option_and_then (λ row. row.node)) (ro
 
 folder_untouched : (rows : List Row) (p : List (List ℕ)) (node : Option Node) (q : List (List ℕ)) → (q ≡ p → ⊥) → is_folder (touched rows p node) q ≡ is_folder rows q
 folder_untouched rows p node q other = ap (λ n. is_root q || is_folder_node n) (node_untouched rows p node q other)
-
-pub above_itself : (p : List (List ℕ)) → is_root p ≡ false → folder_of p ≡ p → ⊥
-above_itself [] root same = true≢false root
-above_itself (n ∷ ns) root same = omega (arith, length-take (length (n ∷ ns) - 1) (n ∷ ns), ap length same)
 
 abbrev AreInFolders : List Row → Type 0
 AreInFolders rows = (path : List (List ℕ)) → IsTrue (is_some (node_at rows path)) → IsTrue (is_folder rows (folder_of path))
@@ -100,14 +96,6 @@ next_version rows p each below = by (row_at rows p) refl below
 
 -- ---- counts
 
-pub length-with_row : (rows : List Row) (new : Row) → AreInOrder rows → length (with_row rows new) + length (option_to_list (row_at rows new.path)) ≡ length rows + 1
-length-with_row rows new order =
-    let whole = ap length (split_at_path rows new.path order) in
-    let parts = length-append (rows_below rows new.path ++ option_to_list (row_at rows new.path)) (rows_above rows new.path) in
-    let part = length-append (rows_below rows new.path) (option_to_list (row_at rows new.path)) in
-    let front = length-append (rows_below rows new.path) (new ∷ rows_above rows new.path) in
-    omega (arith, whole, parts, part, front)
-
 few_touched : (rows : List Row) (p : List (List ℕ)) (node : Option Node) → AreInOrder rows → length rows ≤ 16384 → has_no_room rows p ≡ false → length (touched rows p node) ≤ 16384
 few_touched rows p node order few room =
     by (row_at rows p) room (length-with_row rows (record { path = p; version = version_at rows p + 1; node = node }) order)
@@ -121,21 +109,18 @@ pub record CanRise (rows : List Row) (p : List (List ℕ)) : Type 0 where
   pub is_path : IsPath p
   pub below_top : is_at_top rows p ≡ false
 
-each_touched : (rows : List Row) (p : List (List ℕ)) (node : Option Node) → AllByRecursion IsRow rows → CanRise rows p → is_root p ≡ false → node_size node ≤ 8388608 → AllByRecursion IsRow (touched rows p node)
-each_touched rows p node each rise root small =
+each_touched : (rows : List Row) (p : List (List ℕ)) (node : Option Node) → AllByRecursion IsRow rows → CanRise rows p → is_root p ≡ false → node_size node ≤ 8388608 → IsBytes (file_bytes node) → AllByRecursion IsRow (touched rows p node)
+each_touched rows p node each rise root small bytes =
     all_append IsRow (rows_below rows p) (record { path = p; version = version_at rows p + 1; node = node } ∷ rows_above rows p)
     (all_filter IsRow _ rows each)
-    (record { is_path = rise.is_path; below_root = root; touched = omega arith; version_fits = next_version rows p each rise.below_top; small = small }, all_filter IsRow _ rows each)
-
-pub size_touched : (rows : List Row) (p : List (List ℕ)) (node : Option Node) → AreInOrder rows → total_size (touched rows p node) + node_size (node_at rows p) ≡ total_size rows + node_size node
-size_touched rows p node order = size-with_row rows (record { path = p; version = version_at rows p + 1; node = node }) order
+    (record { is_path = rise.is_path; below_root = root; touched = omega arith; version_fits = next_version rows p each rise.below_top; small = small; bytes = bytes }, all_filter IsRow _ rows each)
 
 -- ---- trees
 
-touched_is_tree : (rows : List Row) (p : List (List ℕ)) (node : Option Node) → IsTree rows → CanRise rows p → is_root p ≡ false → node_size node ≤ 8388608 → has_no_room rows p ≡ false → total_size (touched rows p node) ≤ 33554432 → AreInFolders (touched rows p node) → IsTree (touched rows p node)
-touched_is_tree rows p node tree rise root small room total folders = record {
+touched_is_tree : (rows : List Row) (p : List (List ℕ)) (node : Option Node) → IsTree rows → CanRise rows p → is_root p ≡ false → node_size node ≤ 8388608 → IsBytes (file_bytes node) → has_no_room rows p ≡ false → total_size (touched rows p node) ≤ 33554432 → AreInFolders (touched rows p node) → IsTree (touched rows p node)
+touched_is_tree rows p node tree rise root small bytes room total folders = record {
   in_order = with_row_in_order rows _ tree.in_order;
-  each = each_touched rows p node tree.each rise root small;
+  each = each_touched rows p node tree.each rise root small bytes;
   in_folders = folders;
   few = few_touched rows p node tree.in_order tree.few room;
   small = total;
@@ -150,17 +135,17 @@ made_is_tree rows p tree legal h =
     let none = none_refused (refusals (Make p) rows) _ _ h in
     let root = not_when (is_root p) _ none.0 in
     let size = size_touched rows p (Some Folder) tree.in_order in
-    touched_is_tree rows p (Some Folder) tree (record { is_path = legal; below_top = (below_top (Make p) rows h).0 }) root (omega arith) (not_when (has_no_room rows p) _ none.1.1.1.0) (omega (arith, size, tree.small))
+    touched_is_tree rows p (Some Folder) tree (record { is_path = legal; below_top = (below_top (Make p) rows h).0 }) root (omega arith) no_bytes (not_when (has_no_room rows p) _ none.1.1.1.0) (omega (arith, size, tree.small))
     (in_folders_touched rows p (Some Folder) tree.in_folders root (λ _. not_false_of (is_folder rows (folder_of p)) (not_when (not (is_folder rows (folder_of p))) _ none.1.0)) (λ path some same. refl))
 
-put_is_tree : (rows : List Row) (p : List (List ℕ)) (content : List ℕ) → IsTree rows → IsPath p → apply (Put p content) rows ≡ Ok (changed (Put p content) rows) → IsTree (changed (Put p content) rows)
+put_is_tree : (rows : List Row) (p : List (List ℕ)) (content : List ℕ) → IsTree rows → IsLegalEffect (Put p content) → apply (Put p content) rows ≡ Ok (changed (Put p content) rows) → IsTree (changed (Put p content) rows)
 put_is_tree rows p content tree legal h =
     let none = none_refused (refusals (Put p content) rows) _ _ h in
     let root = not_when (is_root p) _ none.0 in
     let size = size_touched rows p (Some (File content)) tree.in_order in
     let short : length content ≤ 8388608 = not_lt_of 8388608 (length content) (not_when (nat_lt 8388608 (length content)) _ none.1.1.1.1.0) in
     let total : size_with rows p content ≤ 33554432 = not_lt_of 33554432 (size_with rows p content) (not_when (nat_lt 33554432 (size_with rows p content)) _ none.1.1.1.1.1.0) in
-    touched_is_tree rows p (Some (File content)) tree (record { is_path = legal; below_top = (below_top (Put p content) rows h).0 }) root short (not_when (has_no_room rows p) _ none.1.1.1.0) (omega (arith, size, total))
+    touched_is_tree rows p (Some (File content)) tree (record { is_path = legal.0; below_top = (below_top (Put p content) rows h).0 }) root short legal.1 (not_when (has_no_room rows p) _ none.1.1.1.0) (omega (arith, size, total))
     (in_folders_touched rows p (Some (File content)) tree.in_folders root
     (λ _. not_false_of (is_folder rows (folder_of p)) (not_when (not (is_folder rows (folder_of p))) _ none.1.0))
     (λ path some same. absurd (nothing_within rows p tree.in_folders (not_when (is_folder rows p) _ none.1.1.0) path some same)))
@@ -202,7 +187,7 @@ removed_is_tree rows p tree legal h =
     let size = size_touched rows p None tree.in_order in
     let there = not_false_of (is_some (node_at rows p)) (not_when (not (is_some (node_at rows p))) _ none.1.0) in
     let childless = none_mapped _ (find (is_child p) rows) none.1.1.0 in
-    touched_is_tree rows p None tree (record { is_path = legal; below_top = (below_top (Remove p) rows h).0 }) root (omega arith) (room_of_row rows p (has_row rows p there)) (omega (arith, size, tree.small))
+    touched_is_tree rows p None tree (record { is_path = legal; below_top = (below_top (Remove p) rows h).0 }) root (omega arith) no_bytes (room_of_row rows p (has_row rows p there)) (omega (arith, size, tree.small))
     (in_folders_touched rows p None tree.in_folders root (λ h. absurd (true≢false (sym h))) (λ path some same. absurd (no_child rows p childless path some same)))
 
 -- the paths of a move differ, since one has a node and the other has none
@@ -219,6 +204,14 @@ small_node rows p each = by (row_at rows p) refl
     by : (o : Option Row) → row_at rows p ≡ o → node_size (option_and_then (λ row. row.node) o) ≤ 8388608
     by None e = omega arith
     by (Some row) e = (find_among IsRow (is_at p) rows row each e).small
+
+-- what stands at a path of rows that are sound is bytes
+node_bytes : (rows : List Row) (p : List (List ℕ)) → AllByRecursion IsRow rows → IsBytes (file_bytes (node_at rows p))
+node_bytes rows p each = by (row_at rows p) refl
+  where
+    by : (o : Option Row) → row_at rows p ≡ o → IsBytes (file_bytes (option_and_then (λ row. row.node) o))
+    by None e = no_bytes
+    by (Some row) e = (find_among IsRow (is_at p) rows row each e).bytes
 
 -- what the refusals of a move leave
 pub record CanMove (rows : List Row) (p q : List (List ℕ)) : Type 0 where
@@ -262,7 +255,7 @@ moved_is_tree rows p q tree legal_p legal_q h =
     let middle : List Row = touched rows q (node_at rows p) in
     let order : AreInOrder (touched rows q (node_at rows p)) = with_row_in_order rows _ tree.in_order in
     let tops = below_top (Move p q) rows h in
-    let each = each_touched rows q (node_at rows p) tree.each (record { is_path = legal_q; below_top = tops.1.0 }) can.to_below_root (small_node rows p tree.each) in
+    let each = each_touched rows q (node_at rows p) tree.each (record { is_path = legal_q; below_top = tops.1.0 }) can.to_below_root (small_node rows p tree.each) (node_bytes rows p tree.each) in
     let few = few_touched rows q (node_at rows p) tree.in_order tree.few can.room in
     let size = size_touched rows q (node_at rows p) tree.in_order in
     let nothing = size_of_none (node_at rows q) can.free in
@@ -276,7 +269,7 @@ moved_is_tree rows p q tree legal_p legal_q h =
     record {
       in_order = with_row_in_order (touched rows q (node_at rows p)) _ order;
       each = each_touched (touched rows q (node_at rows p)) p None each
-          (record { is_path = legal_p; below_top = ap top (row_untouched rows q (node_at rows p) p apart) ∙ tops.0 }) can.from_below_root (omega arith);
+          (record { is_path = legal_p; below_top = ap top (row_untouched rows q (node_at rows p) p apart) ∙ tops.0 }) can.from_below_root (omega arith) no_bytes;
       in_folders = in_folders_touched (touched rows q (node_at rows p)) p None folders can.from_below_root (λ h. absurd (true≢false (sym h)))
           (λ path some same. absurd (nothing_within (touched rows q (node_at rows p)) p folders file path some same));
       few = few_touched (touched rows q (node_at rows p)) p None order few

@@ -1,7 +1,7 @@
 -- How two trees compare by the versions of their paths.
-use Rattle.std.specs.Prelude.{◌≡◌, ◌⊎◌, ◌<◌, ◌≤◌, List, [], ◌∷◌}
+use Rattle.std.specs.Prelude.{◌≡◌, ◌<◌, ◌≤◌, List, [], ◌∷◌}
 use Rattle.file_paths.specs.Path.{FilePath}
-use Rattle.vol_tree.specs.Tree.{Volume, version_at, node_at}
+use Rattle.tree_values.specs.Tree.{Volume, version_at, node_at}
 
 -- At each path the first tree's version is at most the second's, and where they are equal the nodes are.
 pub record IsBehind (older newer : Volume) : Type 0 where
@@ -16,13 +16,3 @@ IsAhead newer older = (path : FilePath) × (version_at older path < version_at n
 abbrev pub AgreeAt : Volume → Volume → List FilePath → Type 0
 AgreeAt x v [] = Unit {0}
 AgreeAt x v (path ∷ paths) = (version_at x path ≡ version_at v path) × AgreeAt x v paths
-
--- it is one of the list
-abbrev pub IsIn : {X : Type 0} → X → List X → Type 0
-IsIn x [] = ⊥
-IsIn x (y ∷ ys) = (x ≡ y) ⊎ IsIn x ys
-
--- no element equals a later one
-abbrev pub NoneTwice : List FilePath → Type 0
-NoneTwice [] = Unit {0}
-NoneTwice (path ∷ paths) = (IsIn path paths → ⊥) × NoneTwice paths

@@ -1,11 +1,4 @@
-pub mod Limits
-pub mod Tree
 pub mod Undos
-pub mod Effects
+pub mod Applying
 pub mod Behind
 pub mod Inside
-pub mod Spelling
-pub mod Reading
-pub mod Fields
-pub mod Fault
-pub mod Arena

@@ -1,7 +1,7 @@
 -- How several effects are undone.
 use Rattle.std.specs.Prelude.{List, [], ◌∷◌, ⊤}
-use Rattle.vol_tree.specs.declared.node.Row.{Row}
-use Rattle.vol_tree.specs.Tree.{Volume, undone, CanUndo}
+use Rattle.tree_values.specs.declared.node.Row.{Row}
+use Rattle.tree_values.specs.Tree.{Volume, undone, CanUndo}
 
 -- the rows once all is undone, the last first
 abbrev pub undone_all : List (List Row) → Volume → Volume

@@ -1,19 +1,15 @@
 //! Several effects in a row: what they touch, and how they are applied and undone together.
-ghost use Rattle.std.specs.Prelude.{◌≡◌, ◌≢◌, length, IfOk, IfErr, OnOk, OnErr, Ok, Err};
-ghost use Rattle.std.specs.List.{fold, list_any, AllByRecursion};
-ghost use Rattle.std.specs.Str.{bytes_eq};
-ghost use Rattle.std.specs.Cmp.Lexicographic.{pointwise};
-ghost use Rattle.vol_tree.specs.Inside.{add_new, IsPushed};
-ghost use Rattle.vol_tree.specs.Tree.{touched_paths, apply, IsLegalEffect};
-ghost use Rattle.vol_tree.specs.Effects.{touched_all, distinct, content_size, apply_all as applied_all, IsAllRefusal};
+ghost use Rattle.std.specs.Prelude.{◌≡◌, ◌≢◌, IfOk, IfErr, OnOk, OnErr, Ok, Err};
+ghost use Rattle.std.specs.List.{AllByRecursion};
+ghost use Rattle.vol_tree.specs.Inside.{IsPushed};
+ghost use Rattle.tree_values.specs.Tree.{apply, IsLegalEffect};
+ghost use Rattle.tree_values.specs.Effects.{apply_all as applied_all};
+ghost use Rattle.vol_tree.specs.Applying.{IsAllRefusal};
 ghost use Rattle.vol_tree.specs.Undos.{undone_all, CanUndoAll};
 
-use crate::lists::Effects;
-use crate::node::{Effect, TreeError};
 use crate::tree::{Tree, Undo};
-use file_paths::{Path, Paths};
-use std::alloc::AllocError;
 use thiserror::Error;
+use tree_values::{Effect, Effects, TreeError};
 
 /// Why several effects are not applied.
 #[derive(Debug, Drop, Error)]
@@ -23,31 +19,6 @@ pub enum ApplyAllError {
     At(u32, TreeError),
     #[error("out of memory")]
     Memory,
-}
-
-impl Effects {
-    /// The paths that the effects touch, each once, in the order of their first touch.
-    pub fn touched(&self) -> Result<Paths, AllocError>
-        ensures { IfOk result (λ paths. paths ≡ distinct (touched_all self.now)) }
-    {
-        let mut paths = Paths::new(self.allocator());
-        for effect in self.as_slice() {
-            add_touched(&mut paths, effect)?;
-        }
-        Ok(paths)
-    }
-}
-
-impl Effect {
-    /// The number of bytes of the content that it writes.
-    pub fn content_size(&self) -> u64
-        ensures { result ≡ content_size self.now }
-    {
-        match self {
-            Effect::Put(_, content) => content.bytes().len() as u64,
-            _ => 0,
-        }
-    }
 }
 
 /// Applies the effects in order, or none of them; gives the undo of each, in their order.
@@ -107,33 +78,4 @@ fn apply_one(tree: &mut Tree, undos: &mut Vec<Undo>, effect: &Effect) -> Result<
             Err(TreeError::Memory)
         }
     }
-}
-
-fn add_touched(paths: &mut Paths, effect: &Effect) -> Result<(), AllocError>
-    ensures { OnOk result (paths.new ≡ fold add_new paths.old (touched_paths effect.now)) }
-{
-    match effect {
-        Effect::Make(path) | Effect::Put(path, _) | Effect::Remove(path) => add_new(paths, path)?,
-        Effect::Move(from, to) => {
-            add_new(paths, from)?;
-            add_new(paths, to)?;
-        }
-    }
-    Ok(())
-}
-
-/// Adds a copy of the path, unless it is there.
-fn add_new(paths: &mut Paths, path: &Path) -> Result<(), AllocError>
-    ensures { OnOk result (paths.new ≡ add_new paths.old path.now) }
-{
-    if !contains(paths, path) {
-        paths.push(path.copy()?)?;
-    }
-    Ok(())
-}
-
-fn contains(paths: &Paths, path: &Path) -> bool
-    ensures { result ≡ list_any (pointwise bytes_eq path.now) paths.now }
-{
-    paths.as_slice().iter().any(|known| path == known)
 }

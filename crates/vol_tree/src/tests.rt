@@ -120,23 +120,24 @@ fn applies_all_or_none(rt: HostRuntime) -> Result<(), Fail> {
     Ok(())
 }
 
-/// How many paths a move and a making of its target touch.
-fn touched(alloc: Global) -> Result<usize, Fail> {
-    let mut effects = makes(alloc, &[b"b"])?;
-    let from = Path::read(alloc, b"a")?;
-    let to = Path::read(alloc, b"b")?;
-    let pushed = effects.push(Effect::Move(from, to));
-    let paths = effects.touched();
-    drop(effects);
-    pushed?;
-    let paths = paths?;
-    let count = paths.len();
-    drop(paths);
-    Ok(count)
+/// The spelling of the rows that these bytes spell, by a tree of them.
+fn rows_again(alloc: Global, bytes: &[u8]) -> Result<Vec<u8>, Fail> {
+    let (rows, _) = Rows::take(alloc, bytes, 0)?;
+    let tree = Tree::from_rows(alloc, rows)?;
+    let mut out = Vec::new(alloc);
+    let done = tree.spell_rows(&mut out);
+    drop(tree);
+    done?;
+    Ok(out)
 }
 
 #[test]
-fn lists_touched_paths(rt: HostRuntime) -> Result<(), Fail> {
-    assert_eq!(rt; touched(rt.alloc())?, 2);
+fn rows_of_a_tree_are_taken_and_spelled(rt: HostRuntime) -> Result<(), Fail> {
+    let alloc = rt.alloc();
+    let bytes = [
+        0, 0, 0, 1, 0, 1, b'a', 0, 0, 0, 0, 0, 0, 0, 1, 2, 0, 0, 0, 1, b'x',
+    ];
+    assert_eq!(rt; rows_again(alloc, &bytes)?.as_slice(), bytes.as_slice());
+    assert!(rt; matches!(Rows::take(alloc, &bytes[..20], 0), Err(TakeError::At(20))));
     Ok(())
 }

@@ -1,25 +1,23 @@
 //! The volume tree, which contracts see as the list of its rows in the order of their paths.
-ghost use Rattle.std.specs.Prelude.{◌≡◌, ◌≢◌, ℕ, ◌+◌, ◌*◌, ◌^◌, ◌<◌, ◌≤◌, List, [], ◌∷◌, ◌++◌, length, Some, None, IfOk, IfErr, OnOk, OnErr, IsTrue, IsSome, is_some, option_map, slice_get, IfSome, IfNone, false, find, ◌-◌, Ok, Err};
-ghost use Rattle.std.specs.List.{list_all};
-ghost use Rattle.std.specs.Ordering.{is_lt};
+ghost use Rattle.std.specs.Prelude.{◌≡◌, ◌≢◌, ◌+◌, ◌*◌, ◌<◌, ◌≤◌, List, [], ◌∷◌, ◌++◌, length, Some, None, IfOk, IfErr, OnOk, OnErr, is_some, option_map, slice_get, IfSome, find, ◌-◌, Ok, Err};
 ghost use Rattle.std.specs.Option.{option_copied, option_to_list};
-ghost use Rattle.vol_tree.specs.Inside.{StandsAt, BelongsAt, may_follow};
-ghost use Rattle.vol_tree.specs.declared.node.TreeError.TheVariants.{Memory};
-ghost use Rattle.vol_tree.specs.declared.node.Row.{Row};
-ghost use Rattle.vol_tree.specs.Tree.{IsTree, AreInOrder, row_at, version_at, node_at, is_folder, apply, touched, kept_row, restored, undone, CanUndo, changed, kept_rows, is_at_top, has_no_room, is_child, total_size, size_with, node_size, is_folder_node, children, IsRowsRefusal, IsLegalEffect};
-ghost use Rattle.file_paths.specs.Path.{IsPath, folder_of, path_cmp, is_same_path};
-ghost use Rattle.vol_tree.specs.Limits.{max_files};
-ghost use Rattle.vol_tree.specs.Spelling.{rows as spelled_rows};
+ghost use Rattle.tree_values.specs.declared.node.TreeError.TheVariants.{Memory};
+ghost use Rattle.tree_values.specs.declared.node.Row.{Row};
+ghost use Rattle.tree_values.specs.Tree.{IsTree, version_at, node_at, is_folder, apply, touched, undone, CanUndo, changed, kept_rows, has_no_room, is_child, total_size, node_size, children, IsRowsRefusal, IsLegalEffect};
+ghost use Rattle.byte_fields.specs.Codec.{IsBytes};
+ghost use Rattle.byte_fields.specs.Field.{IsFront};
+ghost use Rattle.file_paths.specs.Path.{IsPath};
+ghost use Rattle.tree_values.specs.Limits.{max_files};
+ghost use Rattle.tree_values.specs.Spelling.{rows as spelled_rows};
 
-use crate::counted::{Counted, size_at};
-use crate::limits::{MAX_FILES, MAX_ROWS};
-use crate::lists::Rows;
-use crate::node::{Effect, Node, Row, TreeError, copy_node, size_of};
-use crate::rows::{RowsError, first_bad};
 use byte_fields::put_u32;
 use file_paths::{Content, MAX_FILE, Names, Path, TryCopy};
 use std::alloc::{AllocError, Global};
 use std::marker::Model;
+use tree_slots::{Counted, size_at};
+use tree_values::{
+    Effect, MAX_FILES, MAX_ROWS, Node, Row, Rows, RowsError, TreeError, copy_node, size_of,
+};
 
 /// What an effect changed, as the rows from before; version 0 stands for no row.
 #[derive(Debug, Drop)]
@@ -90,7 +88,7 @@ impl Tree {
         ensures ok { IfOk result (λ tree. tree ≡ rows) }
         ensures err { IfErr result (IsRowsRefusal rows) }
     {
-        if let Some(i) = first_bad(rows.as_slice(), rows.len()) {
+        if let Some(i) = rows.first_bad() {
             return Err(RowsError::BadRow(i));
         }
         match Counted::from_rows(alloc, rows.as_slice()) {
@@ -161,13 +159,20 @@ impl Tree {
     }
 
     /// Appends the spelling of the rows, as `Rows::spell` does, and copies none of them.
+    ///
+    /// # Errors
+    ///
+    /// `AllocError` where memory runs out. A front of the spelling is then appended.
+    #[tactic(auto, using(byte_fields::proofs::Fronts::front_none, byte_fields::proofs::Fronts::front_first, byte_fields::proofs::Fronts::front_before, byte_fields::proofs::Fronts::front_second))]
     pub fn spell_rows(&self, out: &mut Vec<u8>) -> Result<(), AllocError>
         ensures rows { OnOk result (out.new.items ≡ out.old.items ++ spelled_rows self.now) }
+        ensures err { OnErr result (IsFront out.old.items out.new.items (spelled_rows self.now)) }
         ensures tree { IsTree self.now }
     {
         put_u32(out, self.count())?;
         let rows = &self.rows;
-        rows.arena().spell(out)
+        rows.arena().spell(out)?;
+        Ok(())
     }
 
     /// The names in a folder, in order; none where the path is no folder.
@@ -267,8 +272,10 @@ fn check_put(rows: &Counted, path: &Path, content: &Content) -> Result<(), TreeE
     ensures ok { OnOk result (apply (Effect.Put path.now content.now) rows.now ≡ Ok (changed (Effect.Put path.now content.now) rows.now)) }
     ensures err { IfErr result (λ e. e ≢ TreeError.Memory → apply (Effect.Put path.now content.now) rows.now ≡ Err e) }
     ensures path { IsPath path.now }
+    ensures bytes { IsBytes content.now }
 {
     let names = path.names();
+    let size = content.bytes().len() as u64;
     if names.is_empty() {
         return Err(TreeError::RootFixed);
     }
@@ -281,7 +288,6 @@ fn check_put(rows: &Counted, path: &Path, content: &Content) -> Result<(), TreeE
     if lacks_room(rows, names) {
         return Err(TreeError::RowsFull(MAX_ROWS as u32));
     }
-    let size = content.bytes().len() as u64;
     if size > MAX_FILE as u64 {
         return Err(TreeError::FileTooLarge(size));
     }

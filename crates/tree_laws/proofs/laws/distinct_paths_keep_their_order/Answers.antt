@@ -1,4 +1,4 @@
-use Rattle.vol_tree.proofs.Distinct.{distinct_differ, in_distinct, distinct_in, distinct_order}
+use Rattle.tree_values.proofs.Distinct.{distinct_differ, in_distinct, distinct_in, distinct_order}
 use Rattle.tree_laws.proofs.laws.distinct_paths_keep_their_order.Goals as goal
 
 pub returns-clause-differ : goal.returns-clause-differ

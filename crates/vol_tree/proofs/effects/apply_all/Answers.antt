@@ -1,7 +1,7 @@
 use Rattle.std.proofs.Common.{◌≡◌, ◌<◌, ◌≤◌, length, get_or, sym, ap, ◌∙◌, Ok, Err, arith, subst}
 use Rattle.std.specs.List.{AllByRecursion}
 use Rattle.std.proofs.lemmas.List.{take_all}
-use Rattle.vol_tree.specs.Tree.{IsLegalEffect}
+use Rattle.tree_values.specs.Tree.{IsLegalEffect}
 use Rattle.vol_tree.proofs.Steps.{undone_more, can_undo_more, apply_all-next, apply_all-refused, refusal_of, all_next}
 use Rattle.vol_tree.proofs.effects.apply_all.Goals as goal
 

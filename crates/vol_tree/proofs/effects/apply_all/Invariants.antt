@@ -1,7 +1,7 @@
 use Rattle.std.proofs.Common.{◌≡◌, take, Ok}
-use Rattle.vol_tree.specs.Effects.{apply_all}
+use Rattle.tree_values.specs.Effects.{apply_all}
 use Rattle.std.specs.List.{AllByRecursion}
-use Rattle.vol_tree.specs.Tree.{IsLegalEffect}
+use Rattle.tree_values.specs.Tree.{IsLegalEffect}
 use Rattle.vol_tree.specs.Undos.{undone_all, CanUndoAll}
 use Rattle.vol_tree.proofs.effects.apply_all.Given as goal
 

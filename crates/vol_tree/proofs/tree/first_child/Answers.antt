@@ -1,5 +1,5 @@
 use Rattle.std.proofs.Common.{◌≡◌}
-use Rattle.vol_tree.proofs.Children.{first_named}
+use Rattle.tree_values.proofs.Children.{first_named}
 use Rattle.vol_tree.proofs.tree.first_child.Goals as goal
 
 pub returns-clause-refusal : goal.returns-clause-refusal

@@ -1,7 +1,7 @@
 use Rattle.std.proofs.Common.{◌∙◌}
-use Rattle.vol_tree.specs.declared.node.Effect.TheVariants.{Move}
+use Rattle.tree_values.specs.declared.node.Effect.TheVariants.{Move}
 use Rattle.vol_tree.proofs.Trees.{between_of, below_top, small_node}
-use Rattle.vol_tree.proofs.Counts.{small_touch, few_touch}
+use Rattle.tree_slots.proofs.Counts.{small_touch, few_touch}
 use Rattle.vol_tree.proofs.tree.move_node.Goals as goal
 
 pub touch-requires-clause-below_top : goal.touch-requires-clause-below_top

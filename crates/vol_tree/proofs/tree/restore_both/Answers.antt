@@ -1,5 +1,5 @@
 use Rattle.std.proofs.Common.{arith}
-use Rattle.vol_tree.proofs.Counts.{restored_most}
+use Rattle.tree_slots.proofs.Counts.{restored_most}
 use Rattle.vol_tree.proofs.tree.restore_both.Goals as goal
 
 pub restore-requires-clause-small : goal.restore-requires-clause-small

@@ -1,5 +1,5 @@
 use Rattle.std.proofs.Common.{◌≡◌}
-use Rattle.vol_tree.proofs.Counts.{node_at_most}
+use Rattle.tree_slots.proofs.Counts.{node_at_most}
 use Rattle.vol_tree.proofs.tree.size_of_others.Goals as goal
 
 pub overflow_sub-result : goal.overflow_sub-result

@@ -1,0 +1,14 @@
+pub mod Slots
+pub mod Walk
+pub mod Links
+pub mod Grown
+pub mod Written
+pub mod Arenas
+pub mod Folders
+pub mod Counts
+pub mod Listing
+pub mod Shrunk
+pub mod Pool
+pub mod Used
+pub mod Leading
+pub mod Spelled

@@ -1,0 +1,9 @@
+pub mod Limits
+pub mod Tree
+pub mod Lists
+pub mod Effects
+pub mod Inside
+pub mod Spelling
+pub mod Reading
+pub mod Fields
+pub mod Fault

@@ -1,9 +1,0 @@
-use Rattle.vol_tree.proofs.Grown.{no_rows}
-use Rattle.vol_tree.proofs.Used.{nothing_kept}
-use Rattle.vol_tree.proofs.arena.Arena.new.Goals as goal
-
-pub invariant_of-result : goal.invariant_of-result
-invariant_of-result c = rw (c.new.ensures.items, c.new-2.ensures.items) (nothing_kept _)
-
-pub returns : goal.returns
-returns c = rw c.new.ensures.items no_rows
