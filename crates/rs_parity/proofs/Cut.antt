@@ -3,9 +3,10 @@ use Rattle.std.proofs.Common.{◌≡◌, ℕ, ◌+◌, ◌-◌, ◌<◌, ◌≤�
 use Rattle.std.specs.Int.{w16, w32}
 use Rattle.std.specs.List.{flat_map, AllByRecursion}
 use Rattle.byte_fields.specs.Field.{digits, number_at, span_at, ruled, two}
+use Rattle.byte_fields.specs.Codec.{IsBytes}
 use Rattle.byte_fields.specs.Broken.{IsRefused}
 use Rattle.byte_fields.specs.Cuts.{start_of, IsCut}
-use Rattle.byte_fields.proofs.Codec.{span_codec, u16_codec, u32_codec}
+use Rattle.byte_fields.proofs.Codec.{byte_span_codec, u16_codec, u32_codec}
 use Rattle.byte_fields.proofs.Facts.{sum_more, le_fails}
 use Rattle.byte_fields.proofs.Cutting.{span_cut, u16_cut, u32_cut, ruled_cut, cut_for, three_cut, each_cut}
 use Rattle.byte_fields.proofs.Breaking.{read_again, first_refused, rule_refused}
@@ -28,11 +29,11 @@ parities_cut count =
     cut_for (each_cut (λ (state : Unit {0}). parity_at) (λ state p. state) parity_spelling parity_fields (λ state p. IsCheck p) (λ state. parity_codec) (λ state. parity_cut) count tt)
     (λ ps all. (all.0, checks_to ps all.1))
 
-print_cut : IsCut (span_at 32) (λ text. text) (λ text. 32 ∷ []) (λ text. length text ≡ 32)
+print_cut : IsCut (span_at 32) (λ text. text) (λ text. 32 ∷ []) (λ text. (length text ≡ 32) × IsBytes text)
 print_cut = record {
-  whole = λ text fits. omega (arith, sum_more 32 [], fits);
+  whole = λ text fits. omega (arith, sum_more 32 [], fits.0);
   cut = λ bytes at text next end stands fits le lt.
-      subst (λ (n : ℕ). span_at 32 (take end bytes) at ≡ Err (at + start_of (end - at) (n ∷ []))) fits ((span_cut 32).cut bytes at text next end stands fits le lt);
+      subst (λ (n : ℕ). span_at 32 (take end bytes) at ≡ Err (at + start_of (end - at) (n ∷ []))) fits.0 ((span_cut 32).cut bytes at text next end stands fits.0 le lt);
 }
 
 module _ (room : ℕ) where
@@ -56,8 +57,8 @@ module _ (room : ℕ) where
           parities,
         );
     cut = λ bytes at sketch next end stands fits le lt.
-        three_cut (len_codec room) len_cut (λ len fit. span_codec 32) (λ len fit. print_cut) (λ len print fit fit'. parities_cut (blocks_in len)) sketch_of_parts bytes at sketch.len sketch.print sketch.parities next end stands
-        (len_fits room sketch fits) fits.print (fits.count, fits.checks) le lt;
+        three_cut (len_codec room) len_cut (λ len fit. byte_span_codec 32) (λ len fit. print_cut) (λ len print fit fit'. parities_cut (blocks_in len)) sketch_of_parts bytes at sketch.len sketch.print sketch.parities next end stands
+        (len_fits room sketch fits) (fits.print, fits.print_bytes) (fits.count, fits.checks) le lt;
   }
 
   pub len_refused : (len : ℕ) → len < 2 ^ 32 → (8388608 < len) ⊎ (room < len) → IsRefused (sketch_at room) (digits w32 len) 0

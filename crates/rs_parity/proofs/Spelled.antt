@@ -5,10 +5,12 @@ use Rattle.std.specs.List.{flat_map, AllByRecursion}
 use Rattle.std.proofs.lemmas.Bool.{leb-true, le-leb}
 use Rattle.byte_fields.specs.Field.{◌>>=◌, digits, number_at, span_at, ruled, each_at, EachFits}
 use Rattle.byte_fields.specs.Codec.{Stands, IsBytes, IsCodec}
-use Rattle.byte_fields.proofs.Codec.{span_codec, u16_codec, u32_codec, ruled_codec, codec_for, each_codec, found3, again3, fault3, bind_ok, kept_ok}
+use Rattle.byte_fields.proofs.Codec.{byte_span_codec, u16_codec, u32_codec, ruled_codec, codec_for, each_codec, found3, again3, fault3, bind_ok, kept_ok}
 use Rattle.byte_fields.proofs.Loop.{with_front, SoFar}
 use Rattle.rs_parity.specs.Blocks.{blocks_in, IsCheck}
+use Rattle.sha2.specs.Sha256.{sha256, digest_bytes, final_hash, initial_hash_256}
 use Rattle.sha2.proofs.Facts256.{length-sha256}
+use Rattle.byte_fields.proofs.Facts.{no_bytes, bytes_appended, four_are_bytes}
 use Rattle.rs_parity.specs.Weight.{HasElements}
 use Rattle.rs_parity.specs.Spelling.{parity_spelling, sketch_spelling, SketchFits, parity_at, parities_at, sketch_at, OneSpelling, SketchesFit}
 use Rattle.rs_parity.specs.declared.sketch.Sketch.{Sketch}
@@ -62,13 +64,13 @@ module _ (room : ℕ) where
   unfolding sketch_at sketch_spelling
   sketch_codec = record {
     found = λ bytes at sketch next fits le e.
-        let f = found3 len_codec (λ len fit. span_codec 32) (λ len print fit fit'. parities_codec (blocks_in len)) sketch_of_parts bytes at sketch next fits le e in
+        let f = found3 len_codec (λ len fit. byte_span_codec 32) (λ len print fit fit'. parities_codec (blocks_in len)) sketch_of_parts bytes at sketch next fits le e in
         subst (λ (s : Sketch). Stands bytes at (digits w32 s.len ++ (s.print ++ flat_map parity_spelling s.parities)) next × SketchFits room s) f.is
-        (f.stands, record { len = leb-true _ _ f.first_fits.1; print = f.second_fits; count = f.third_fits.0; checks = f.third_fits.1 });
+        (f.stands, record { len = leb-true _ _ f.first_fits.1; print = f.second_fits.0; print_bytes = f.second_fits.1; count = f.third_fits.0; checks = f.third_fits.1 });
     again = λ bytes at sketch next stands fits.
-        again3 len_codec (λ len fit. span_codec 32) (λ len print fit fit'. parities_codec (blocks_in len)) sketch_of_parts bytes at sketch.len sketch.print sketch.parities next stands
-        (len_fits sketch fits) fits.print (fits.count, fits.checks);
-    fault = fault3 len_codec (λ len fit. span_codec 32) (λ len print fit fit'. parities_codec (blocks_in len)) sketch_of_parts;
+        again3 len_codec (λ len fit. byte_span_codec 32) (λ len print fit fit'. parities_codec (blocks_in len)) sketch_of_parts bytes at sketch.len sketch.print sketch.parities next stands
+        (len_fits sketch fits) (fits.print, fits.print_bytes) (fits.count, fits.checks);
+    fault = fault3 len_codec (λ len fit. byte_span_codec 32) (λ len print fit fit'. parities_codec (blocks_in len)) sketch_of_parts;
   }
 
 -- a value that is read begins within the bytes
@@ -110,10 +112,21 @@ checks_each : (ps : List (List ℕ)) → ((i : ℕ) → i < length ps → IsChec
 checks_each [] each = tt
 checks_each (p ∷ ps) each = (each 0 (omega arith), checks_each ps (λ i h. each (suc i) (omega arith)))
 
+-- a digest is bytes
+digest_are_bytes : (h : List ℕ) (n : ℕ) → IsBytes (digest_bytes h n)
+unfolding digest_bytes digits
+digest_are_bytes h zero = no_bytes
+digest_are_bytes h (suc n) = bytes_appended (digest_bytes h n) (digits w32 (get_or h n 0)) (digest_are_bytes h n) (four_are_bytes (get_or h n 0))
+
+sha256_bytes : (content : List ℕ) → IsBytes (sha256 content)
+unfolding sha256
+sha256_bytes content = digest_are_bytes (final_hash initial_hash_256 content) 8
+
 pub sketches_fit_each : SketchesFit
 sketches_fit_each content sketch room is short = record {
   len = omega (arith, is.len);
   print = ap length is.print ∙ length-sha256 content;
+  print_bytes = subst IsBytes (sym is.print) (sha256_bytes content);
   count = is.parities.count ∙ ap blocks_in (sym is.len);
   checks = checks_each sketch.parities (λ i h. (is.parities.each i (omega (arith, is.parities.count))).check);
 }

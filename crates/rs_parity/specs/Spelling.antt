@@ -3,7 +3,7 @@ use Rattle.std.specs.Prelude.{◌≡◌, ℕ, ◌≤◌, nat_le, min, List, ◌+
 use Rattle.std.specs.Int.{w16, w32}
 use Rattle.std.specs.List.{flat_map, AllByRecursion}
 use Rattle.byte_fields.specs.Field.{Reader, digits, number_at, span_at, ruled, three, each_at}
-use Rattle.byte_fields.specs.Codec.{IsCodec}
+use Rattle.byte_fields.specs.Codec.{IsBytes, IsCodec}
 use Rattle.rs_parity.specs.Blocks.{blocks_in, IsCheck}
 use Rattle.rs_parity.specs.Sketches.{IsSketch}
 use Rattle.rs_parity.specs.declared.sketch.Sketch.{Sketch}
@@ -16,10 +16,11 @@ parity_spelling parity = flat_map (digits w16) parity
 unfoldable pub sketch_spelling : Sketch → List ℕ
 sketch_spelling sketch = digits w32 sketch.len ++ (sketch.print ++ flat_map parity_spelling sketch.parities)
 
--- a sketch as a content of at most so many bytes, and of at most 8,388,608, has it
+-- a sketch as a content of at most so many bytes, and of at most 8,388,608, has it: its print is 32 bytes
 pub record SketchFits (room : ℕ) (sketch : Sketch) : Type 0 where
   pub len : sketch.len ≤ min room 8388608
   pub print : length sketch.print ≡ 32
+  pub print_bytes : IsBytes sketch.print
   pub count : length sketch.parities ≡ blocks_in sketch.len
   pub checks : AllByRecursion IsCheck sketch.parities
 

@@ -9,7 +9,8 @@ use Rattle.std.specs.Int.{div_ceil}
 use borrow.Author.Count.{below_more}
 use Rattle.rs_parity.specs.Blocks.{block_of, block_count, blocks_in}
 use Rattle.rs_parity.specs.declared.sketch.Sketch.{Sketch}
-use Rattle.rs_repair.specs.Repair.{IsBytes, Repairs, OneRepair, NearContentsAreRepaired}
+use Rattle.byte_fields.specs.Codec.{IsBytes}
+use Rattle.rs_repair.specs.Repair.{Repairs, OneRepair, NearContentsAreRepaired}
 use Rattle.rs_repair.specs.Inside.{IsRepair}
 use Rattle.rs_repair.proofs.Unique.{one_repair_each}
 

@@ -8,7 +8,7 @@ use Rattle.rs_parity.specs.CodeWord.{symbols}
 use Rattle.rs_parity.specs.Weight.{differing}
 use Rattle.rs_parity.proofs.Sums.{zip_sum, length-zip, get_or-zip}
 use Rattle.rs_parity.proofs.Symbols.{get_or-symbols}
-use Rattle.rs_repair.specs.Repair.{IsBytes}
+use Rattle.byte_fields.specs.Codec.{IsBytes}
 use Rattle.rs_repair.specs.Inside.{symbol_bytes, IsDifference}
 
 -- one symbol more in a comparison

@@ -11,7 +11,7 @@ use Rattle.rs_parity.specs.Weight.{weight, HasElements}
 use Rattle.rs_parity.proofs.Sums.{sum-append, sum-zip, zip_sum, length-zip, get_or-zip}
 use Rattle.rs_parity.proofs.Symbols.{length-symbols}
 use Rattle.rs_parity.proofs.Distance.{weight-zip, weightless, sum_weightless, elements-zip, power_not_zero}
-use Rattle.rs_repair.specs.Repair.{IsBytes}
+use Rattle.byte_fields.specs.Codec.{IsBytes}
 use Rattle.rs_repair.specs.Inside.{IsRepair, pairing, IsMonicRow, value, AreSums, AreRoots, gap, error_of, without, IsErrorAt, AnnihilatesAll}
 use Rattle.rs_repair.proofs.Unique.{differing-append, symbols_elements, elements-append}
 use Rattle.rs_repair.proofs.Pairings.{annihilated_pairing, pairing-take}

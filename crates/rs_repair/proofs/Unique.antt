@@ -7,7 +7,7 @@ use Rattle.rs_parity.specs.Weight.{differing, HasElements}
 use Rattle.rs_parity.specs.Blocks.{IsParity}
 use Rattle.rs_parity.proofs.Distance.{code_words_apart}
 use Rattle.rs_parity.proofs.Symbols.{length-symbols, get_or-symbols}
-use Rattle.rs_repair.specs.Repair.{IsBytes}
+use Rattle.byte_fields.specs.Codec.{IsBytes}
 use Rattle.rs_repair.specs.Inside.{IsRepair}
 
 -- 0 where the numbers are equal, and else 1

@@ -5,7 +5,7 @@ use Rattle.gf_65536.specs.Field.{gf_mul, gf_pow}
 use Rattle.rs_parity.specs.CodeWord.{symbols, sum_at}
 use Rattle.rs_parity.specs.Weight.{differing}
 use Rattle.rs_parity.specs.Blocks.{IsParity}
-use Rattle.rs_repair.specs.Repair.{IsBytes}
+use Rattle.byte_fields.specs.Codec.{IsBytes}
 
 -- repaired has the block's length, differs from it in at most 16 symbols, and has the parity
 pub record IsRepair (block parity repaired : List ℕ) : Type 0 where

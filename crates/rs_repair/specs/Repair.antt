@@ -1,13 +1,11 @@
 -- What it means that a content is repaired by a sketch.
-use Rattle.std.specs.Prelude.{◌≡◌, ℕ, ◌<◌, ◌≤◌, List, length, slice_index}
+use Rattle.std.specs.Prelude.{◌≡◌, ℕ, ◌<◌, ◌≤◌, List, length}
+use Rattle.byte_fields.specs.Codec.{IsBytes}
 use Rattle.rs_parity.specs.CodeWord.{symbols}
 use Rattle.rs_parity.specs.Weight.{differing}
 use Rattle.rs_parity.specs.Blocks.{block_of, block_count, AreParities}
 use Rattle.rs_parity.specs.Sketches.{IsSketch}
 use Rattle.rs_parity.specs.declared.sketch.Sketch.{Sketch}
-
-abbrev pub IsBytes : List ℕ → Type 0
-IsBytes xs = (k : ℕ) → slice_index xs k < 256
 
 -- two contents of one length differ in at most 16 symbols of each block
 pub record AreNear (a b : List ℕ) : Type 0 where
