@@ -4,13 +4,13 @@ use Rattle.std.specs.Prelude.{nat_lt, nat_le}
 use Rattle.std.specs.List.{AllByRecursion}
 use Rattle.std.proofs.lemmas.Bool.Decides.{nat_tests}
 use Rattle.std.proofs.lemmas.Bool.{eqb-false}
-use Rattle.vol_tree.specs.declared.node.Effect.{Effect}
-use Rattle.vol_tree.specs.declared.node.Effect.TheVariants.{Make, Put, Remove, Move}
-use Rattle.vol_tree.specs.declared.node.TreeError.{TreeError}
+use Rattle.tree_values.specs.declared.node.Effect.{Effect}
+use Rattle.tree_values.specs.declared.node.Effect.TheVariants.{Make, Put, Remove, Move}
+use Rattle.tree_values.specs.declared.node.TreeError.{TreeError}
 use Rattle.file_paths.specs.Refusals.{unless_refused}
-use Rattle.vol_tree.specs.Tree.{Volume, refusals, changed, apply, IsLegalEffect}
-use Rattle.vol_tree.specs.Effects.{changed_all, unless_refused_at, apply_all, content_size, contents_size}
-use Rattle.vol_tree.specs.Spelling.{EffectFits, EffectsFit}
+use Rattle.tree_values.specs.Tree.{Volume, refusals, changed, apply, IsLegalEffect}
+use Rattle.tree_values.specs.Effects.{changed_all, unless_refused_at, apply_all, content_size, contents_size}
+use Rattle.tree_values.specs.Spelling.{EffectFits, EffectsFit}
 use Rattle.vol_tree.proofs.Trees.{none_refused, not_when}
 use Rattle.vol_tree.proofs.Behind.{applied-changes}
 use Rattle.mod_log.specs.declared.log.Entry.{Entry}

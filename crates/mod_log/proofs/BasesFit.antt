@@ -3,17 +3,17 @@ use Rattle.std.proofs.Common.{◌≡◌, inl, inr, ◌<◌, ◌^◌, List, [], �
 use Rattle.std.specs.Prelude.{unwrap_or, option_map}
 use Rattle.std.specs.List.{AllByRecursion}
 use Rattle.file_paths.specs.Path.{FilePath, IsPath}
-use Rattle.vol_tree.specs.Effects.{touched_all, distinct, base_of}
-use Rattle.vol_tree.specs.Tree.{Volume, row_at, version_at, IsRow, IsTree, IsLegalEffect, touched_paths}
-use Rattle.vol_tree.specs.Inside.{is_at}
-use Rattle.vol_tree.specs.Behind.{IsIn}
-use Rattle.vol_tree.specs.Spelling.{EffectFits, BaseFits, EffectsFit}
-use Rattle.vol_tree.specs.declared.node.Row.{Row}
-use Rattle.vol_tree.specs.declared.node.Effect.{Effect}
-use Rattle.vol_tree.specs.declared.node.Effect.TheVariants.{Make, Put, Remove, Move}
-use Rattle.vol_tree.specs.declared.node.Base.{Base}
-use Rattle.vol_tree.proofs.Distinct.{in_distinct}
-use Rattle.vol_tree.proofs.Undoing.{find_among}
+use Rattle.tree_values.specs.Effects.{touched_all, distinct, base_of}
+use Rattle.tree_values.specs.Tree.{Volume, row_at, version_at, IsRow, IsTree, IsLegalEffect, touched_paths}
+use Rattle.tree_values.specs.Inside.{is_at}
+use Rattle.tree_values.specs.Lists.{IsIn}
+use Rattle.tree_values.specs.Spelling.{EffectFits, BaseFits, EffectsFit}
+use Rattle.tree_values.specs.declared.node.Row.{Row}
+use Rattle.tree_values.specs.declared.node.Effect.{Effect}
+use Rattle.tree_values.specs.declared.node.Effect.TheVariants.{Make, Put, Remove, Move}
+use Rattle.tree_values.specs.declared.node.Base.{Base}
+use Rattle.tree_values.proofs.Distinct.{in_distinct}
+use Rattle.tree_values.proofs.Undoing.{find_among}
 
 version-small : (rows : Volume) (path : FilePath) → IsTree rows → version_at rows path < 2 ^ 64
 version-small rows path tree = by (row_at rows path) refl
@@ -28,7 +28,7 @@ all_paths (x ∷ xs) ys all more = (all.0, all_paths xs ys all.1 more)
 
 touched-legal : (effect : Effect) → IsLegalEffect effect → AllByRecursion IsPath (touched_paths effect)
 touched-legal (Make p) legal = (legal, tt)
-touched-legal (Put p content) legal = (legal, tt)
+touched-legal (Put p content) legal = (legal.0, tt)
 touched-legal (Remove p) legal = (legal, tt)
 touched-legal (Move p q) legal = (legal.0, (legal.1, tt))
 
@@ -46,7 +46,7 @@ all_of_each [] each = tt
 all_of_each (path ∷ paths) each = (each path (inl refl), all_of_each paths (λ other among. each other (inr among)))
 
 -- the versions of these paths
-abbrev versions_of : List FilePath → Volume → List Base
+abbrev pub versions_of : List FilePath → Volume → List Base
 versions_of paths rows = map (λ path. record { path = path; version = version_at rows path }) paths
 
 bases_fit : (paths : List FilePath) (rows : Volume) → IsTree rows → AllByRecursion IsPath paths → AllByRecursion BaseFits (versions_of paths rows)

@@ -7,18 +7,18 @@ use Rattle.std.proofs.lemmas.List.Sums.{sum_by-cons}
 use Rattle.byte_fields.specs.Field.{digits, number_at, none, one, two, each_at, passed}
 use Rattle.byte_fields.specs.Broken.{IsRefused}
 use Rattle.byte_fields.proofs.Codec.{u8_codec}
-use Rattle.byte_fields.proofs.Breaking.{read_again, refused_there, rule_refused, first_refused, later_refused, tagged_refused, kind_refused, second_fails, count_refused, counted_refused, items_refused, each_read}
+use Rattle.byte_fields.proofs.Breaking.{read_again, refused_there, rule_refused, first_refused, later_refused, tagged_refused, unknown_kind, second_fails, count_refused, counted_refused, items_refused, each_read}
 use Rattle.byte_fields.proofs.Facts.{le_fails}
 use Rattle.rs_parity.specs.Spelling.{sketch_at}
 use Rattle.rs_parity.proofs.Cut.{len_refused}
 use Rattle.file_paths.specs.Path.{FilePath, IsPath}
-use Rattle.vol_tree.specs.Effects.{touched_all, distinct}
+use Rattle.tree_values.specs.Effects.{touched_all, distinct}
 use Rattle.file_paths.specs.Spelling.{path}
-use Rattle.vol_tree.specs.Spelling.{effects, EffectsFit}
+use Rattle.tree_values.specs.Spelling.{effects, EffectsFit}
 use Rattle.file_paths.specs.Reading.{path_at}
-use Rattle.vol_tree.specs.Reading.{effects_at, bases_at}
-use Rattle.vol_tree.specs.declared.node.Effect.{Effect}
-use Rattle.vol_tree.specs.declared.node.Base.{Base}
+use Rattle.tree_values.specs.Reading.{effects_at, bases_at}
+use Rattle.tree_values.specs.declared.node.Effect.{Effect}
+use Rattle.tree_values.specs.declared.node.Base.{Base}
 use Rattle.file_paths.proofs.Parts.{path_codec}
 use Rattle.tree_laws.proofs.Parts.{effects_codec}
 use Rattle.mod_log.specs.declared.log.Entry.{Entry}
@@ -95,16 +95,10 @@ module _ (room : ℕ) where
       refused_there (sketch_effect_at room) (2 ∷ (path p ++ digits w32 len)) (1 + (length (path p) + 0)) (1 + length (path p)) (omega arith)
       (behind_put (path p ++ digits w32 len) (length (path p) + 0) (sketch_refused p (digits w32 len) 0 is (len_refused room len small large)))
 
-not_one_to_four : (kind k : ℕ) → (kind ≡ 0) ⊎ (4 < kind) → 1 ≤ k → k ≤ 4 → eqb kind k ≡ false
-not_one_to_four kind k (inl e) low high = ne_eqb kind k (λ is. omega arith)
-not_one_to_four kind k (inr lt) low high = ne_eqb kind k (λ is. omega arith)
-
 pub broken_sketch_effects : BrokenSketchEffects
 unfolding sketch_effect_at
 broken_sketch_effects = record {
-  kind_is_none = λ room kind byte none.
-      kind_refused (sketch_effect_kinds room) kind byte
-      (λ tag at bytes. rw (not_one_to_four kind 1 none (omega arith) (omega arith), not_one_to_four kind 2 none (omega arith) (omega arith), not_one_to_four kind 3 none (omega arith) (omega arith), not_one_to_four kind 4 none (omega arith) (omega arith)) refl);
+  kind_is_none = λ room kind byte none. unknown_kind (sketch_effect_kinds room) kind byte none;
   path_is_none = λ room text offset refused. (
     tagged_refused (sketch_effect_kinds room) 1 (one path_at Make) text offset (lit< tt) (λ tag at bytes. refl) (path_refused room Make text offset refused),
     (

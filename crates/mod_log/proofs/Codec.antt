@@ -9,7 +9,7 @@ use Rattle.byte_fields.proofs.Codec.{IsBranch, u8_codec, u32_codec, ruled_codec,
 use Rattle.rs_parity.specs.Spelling.{SketchFits}
 use Rattle.rs_parity.specs.declared.sketch.Sketch.{Sketch}
 use Rattle.rs_parity.proofs.Spelled.{sketch_codec}
-use Rattle.vol_tree.specs.Spelling.{effects, bases}
+use Rattle.tree_values.specs.Spelling.{effects, bases}
 use Rattle.file_paths.proofs.Parts.{path_codec}
 use Rattle.tree_laws.proofs.Parts.{effects_codec}
 use Rattle.tree_laws.proofs.Few.{bases_of}
@@ -45,10 +45,10 @@ entry_codec number = record {
 
 -- a sketch that fits where there is room for its content
 pub in_room : (room : ℕ) (sketch : Sketch) → SketchFits 8388608 sketch → sketch.len ≤ room → SketchFits room sketch
-in_room room sketch fits le = record { len = omega (arith, fits.len); print = fits.print; count = fits.count; checks = fits.checks }
+in_room room sketch fits le = record { len = omega (arith, fits.len); print = fits.print; print_bytes = fits.print_bytes; count = fits.count; checks = fits.checks }
 
 of_room : (room : ℕ) (sketch : Sketch) → SketchFits room sketch → SketchFits 8388608 sketch
-of_room room sketch fits = record { len = omega (arith, fits.len); print = fits.print; count = fits.count; checks = fits.checks }
+of_room room sketch fits = record { len = omega (arith, fits.len); print = fits.print; print_bytes = fits.print_bytes; count = fits.count; checks = fits.checks }
 
 module _ (room : ℕ) where
   effect_again : (bytes : List ℕ) (at : ℕ) (x : SketchEffect) (next : ℕ) → Stands bytes at (sketch_effect x) next → SketchEffectFitsIn room x → sketch_effect_at room bytes at ≡ Ok (x, next)

@@ -10,13 +10,13 @@ use Rattle.byte_fields.proofs.Cutting.{sum_both, u8_cut, u32_cut, ruled_cut, cut
 use Rattle.rs_parity.specs.Spelling.{sketch_spelling}
 use Rattle.rs_parity.specs.Fields.{sketch_fields}
 use Rattle.rs_parity.proofs.Cut.{sketch_cut}
-use Rattle.vol_tree.specs.Effects.{touched_all, distinct}
+use Rattle.tree_values.specs.Effects.{touched_all, distinct}
 use Rattle.file_paths.specs.Spelling.{path}
-use Rattle.vol_tree.specs.Spelling.{effects, bases, EffectsFit, AreBasesOf}
+use Rattle.tree_values.specs.Spelling.{effects, bases, EffectsFit, AreBasesOf}
 use Rattle.file_paths.specs.Fields.{path_fields}
-use Rattle.vol_tree.specs.Fields.{effects_fields, bases_fields}
-use Rattle.vol_tree.specs.Reading.{bases_at}
-use Rattle.vol_tree.specs.declared.node.Effect.{Effect}
+use Rattle.tree_values.specs.Fields.{effects_fields, bases_fields}
+use Rattle.tree_values.specs.Reading.{bases_at}
+use Rattle.tree_values.specs.declared.node.Effect.{Effect}
 use Rattle.file_paths.proofs.Parts.{path_codec, path_cut}
 use Rattle.tree_laws.proofs.Parts.{effects_codec}
 use Rattle.tree_laws.proofs.CutParts.{effects_cut, bases_cut}

@@ -3,10 +3,10 @@ use Rattle.std.proofs.Common.{◌≡◌, ℕ, zero, suc, ◌+◌, ◌-◌, ◌�
 use Rattle.std.specs.Prelude.{IfSome, slice_get}
 use Rattle.std.specs.List.{AllByRecursion}
 use Rattle.std.proofs.lemmas.List.{take-append-drop, length-drop}
-use Rattle.vol_tree.specs.declared.node.Effect.{Effect}
-use Rattle.vol_tree.specs.Tree.{Volume, IsTree, IsLegalEffect}
-use Rattle.vol_tree.specs.Effects.{changed_all}
-use Rattle.vol_tree.specs.Spelling.{EffectFits}
+use Rattle.tree_values.specs.declared.node.Effect.{Effect}
+use Rattle.tree_values.specs.Tree.{Volume, IsTree, IsLegalEffect}
+use Rattle.tree_values.specs.Effects.{changed_all}
+use Rattle.tree_values.specs.Spelling.{EffectFits}
 use Rattle.vol_tree.proofs.Behind.{applied_all-tree}
 use Rattle.mod_log.specs.declared.log.Entry.{Entry}
 use Rattle.mod_log.specs.Log.{Log, after, tree_of, tree_after, IsEntryOf, AreEntriesOf, IsLog, new_log_of, acknowledged, pulled}
@@ -21,7 +21,7 @@ legal_each [] fits = tt
 legal_each (e ∷ es) fits = (fits.0.0, legal_each es fits.1)
 
 -- an entry leads from a tree to a tree
-entry-tree : (number : ℕ) (v : Volume) (e : Entry) → IsTree v → IsEntryOf number v e → IsTree (changed_all e.effects v)
+pub entry-tree : (number : ℕ) (v : Volume) (e : Entry) → IsTree v → IsEntryOf number v e → IsTree (changed_all e.effects v)
 entry-tree number v e tree is = applied_all-tree e.effects 0 v (changed_all e.effects v) tree (legal_each e.effects is.fits.each) is.applies
 
 pub after-tree : (number : ℕ) (v : Volume) (entries : List Entry) (count : ℕ) → IsTree v → AreEntriesOf number v entries → IsTree (after (take count entries) v)

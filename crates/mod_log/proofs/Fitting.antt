@@ -2,10 +2,10 @@
 use Rattle.std.proofs.Common.{◌≡◌, ◌≢◌, ℕ, ◌+◌, ◌≤◌, ◌||◌, Bool, false, List, [], ◌∷◌, ◌++◌, length, None, Ok, refl, sym, ap, ◌∙◌, subst, arith, length-append}
 use Rattle.std.specs.Prelude.{nat_lt, nat_le, ◌==◌}
 use Rattle.std.proofs.lemmas.Bool.Decides.{nat_tests}
-use Rattle.vol_tree.specs.Tree.{Volume}
-use Rattle.vol_tree.specs.Effects.{changed_all, contents_size}
-use Rattle.vol_tree.specs.declared.node.Effect.{Effect}
-use Rattle.vol_tree.specs.Spelling.{EffectsFit}
+use Rattle.tree_values.specs.Tree.{Volume}
+use Rattle.tree_values.specs.Effects.{changed_all, contents_size}
+use Rattle.tree_values.specs.declared.node.Effect.{Effect}
+use Rattle.tree_values.specs.Spelling.{EffectsFit}
 use Rattle.mod_log.specs.declared.log.Entry.{Entry}
 use Rattle.mod_log.specs.Log.{Log, after, IsEntryOf, AreEntriesOf, IsLog, logged}
 use Rattle.mod_log.specs.Append.{next_entry, is_too_large, size_with, has_no_room, refused_effect, appended}

@@ -4,14 +4,15 @@ use Rattle.std.specs.List.{sum_by, flat_map}
 use Rattle.std.proofs.lemmas.List.{length-map, map-append}
 use Rattle.std.proofs.lemmas.List.Sums.{sum_by-cons}
 use Rattle.byte_fields.specs.Numbers.{as_u64}
-use Rattle.vol_tree.specs.declared.node.Effect.{Effect}
+use Rattle.tree_values.specs.declared.node.Effect.{Effect}
 use Rattle.file_paths.specs.Refusals.{when, unless_refused}
-use Rattle.vol_tree.specs.Tree.{Volume}
+use Rattle.tree_values.specs.Tree.{Volume}
 use Rattle.vol_tree.specs.declared.effects.ApplyAllError.{ApplyAllError}
 use Rattle.vol_tree.specs.declared.effects.ApplyAllError.TheVariants.{At, Memory as NoMemory}
-use Rattle.vol_tree.specs.Effects.{changed_all, apply_all, base_of, contents_size, IsAllRefusal}
+use Rattle.tree_values.specs.Effects.{changed_all, apply_all, base_of, contents_size}
+use Rattle.vol_tree.specs.Applying.{IsAllRefusal}
 use Rattle.vol_tree.specs.Undos.{undone_all, CanUndoAll}
-use Rattle.vol_tree.specs.Spelling.{EffectsFit}
+use Rattle.tree_values.specs.Spelling.{EffectsFit}
 use Rattle.vol_tree.proofs.Behind.{applied-changes}
 use Rattle.mod_log.specs.declared.log.Pending.{Pending}
 use Rattle.mod_log.specs.declared.log.LogError.{LogError}

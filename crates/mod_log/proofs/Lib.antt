@@ -5,6 +5,7 @@ pub mod Sums
 pub mod Codec
 pub mod Fitting
 pub mod BasesFit
+pub mod EntriesFit
 pub mod Sketches
 pub mod Cut
 pub mod Breaking

@@ -4,17 +4,18 @@ use Rattle.std.specs.List.{AllByRecursion}
 use Rattle.std.proofs.lemmas.List.Concat.{flat_map-cons}
 use Rattle.std.proofs.lemmas.List.Sums.{sum_by-cons}
 use Rattle.sha2.specs.Sha256.{sha256}
+use Rattle.byte_fields.specs.Codec.{IsBytes}
 use Rattle.rs_parity.specs.Sketches.{IsSketch, Distinct}
 use Rattle.rs_parity.specs.declared.sketch.Sketch.{Sketch}
 use Rattle.rs_parity.proofs.Spelled.{sketches_fit_each}
 use Rattle.rs_parity.proofs.Unique.{one_sketch_each}
 use Rattle.file_paths.specs.Path.{FilePath}
-use Rattle.vol_tree.specs.Behind.{IsIn}
-use Rattle.vol_tree.specs.Tree.{touched_paths}
-use Rattle.vol_tree.specs.Effects.{content_size}
-use Rattle.vol_tree.specs.Spelling.{EffectFits}
-use Rattle.vol_tree.specs.declared.node.Effect.{Effect}
-use Rattle.vol_tree.specs.declared.node.Effect.TheVariants.{Make, Put, Remove, Move}
+use Rattle.tree_values.specs.Lists.{IsIn}
+use Rattle.tree_values.specs.Tree.{touched_paths}
+use Rattle.tree_values.specs.Effects.{content_size}
+use Rattle.tree_values.specs.Spelling.{EffectFits}
+use Rattle.tree_values.specs.declared.node.Effect.{Effect}
+use Rattle.tree_values.specs.declared.node.Effect.TheVariants.{Make, Put, Remove, Move}
 use Rattle.mod_log.specs.Sketched.{sketch_paths, sketched_size, IsSketchedAs, AreSketchedAs, Fills, AllFill, Writes, SketchesAreFilled, FillingsAreEqual, FillingsTouchAlike, OneSketchList}
 use Rattle.mod_log.specs.Spelling.{SketchEffectFits, FillingsFit, SketchesOfEffectsFit}
 use Rattle.mod_log.specs.declared.sketched.SketchEffect.{SketchEffect}
@@ -73,13 +74,18 @@ Alike k e = (touched_paths e ≡ sketch_paths k) × (content_size e ≡ sketched
 filling_alike : (k : SketchEffect) (e : Effect) → Fills k e → Alike k e
 filling_alike = filled_kinds Alike (λ p. (refl, refl)) (λ p sketch content len print. (refl, len)) (λ p. (refl, refl)) (λ p to. (refl, refl))
 
-filling_fits : (k : SketchEffect) (e : Effect) → Fills k e → SketchEffectFits k → EffectFits e
+-- each content that the effects write is bytes
+abbrev WriteBytes : List Effect → Type 0
+WriteBytes es = (content : List ℕ) → Writes es content → IsBytes content
+
+filling_fits : (k : SketchEffect) (e : Effect) → Fills k e → SketchEffectFits k → WriteBytes (e ∷ []) → EffectFits e
 filling_fits =
-    filled_kinds (λ k e. SketchEffectFits k → EffectFits e) (λ p fits. (fits, omega arith)) (λ p sketch content len print fits. (fits.0, omega (arith, len, fits.1.len))) (λ p fits. (fits, omega arith)) (λ p to fits. (fits, omega arith))
+    filled_kinds (λ k e. SketchEffectFits k → WriteBytes (e ∷ []) → EffectFits e) (λ p fits bytes. (fits, omega arith)) (λ p sketch content len print fits bytes. ((fits.0, bytes content (p, inl refl)), omega (arith, len, fits.1.len)))
+    (λ p fits bytes. (fits, omega arith)) (λ p to fits bytes. (fits, omega arith))
 
 sketch_fits : (e : Effect) (k : SketchEffect) → IsSketchedAs e k → EffectFits e → SketchEffectFits k
 sketch_fits =
-    sketched_kinds (λ e k. EffectFits e → SketchEffectFits k) (λ p fits. fits.0) (λ p content sketch is fits. (fits.0, sketches_fit_each content sketch 8388608 is (omega (arith, fits.1)))) (λ p fits. fits.0) (λ p to fits. fits.0)
+    sketched_kinds (λ e k. EffectFits e → SketchEffectFits k) (λ p fits. fits.0) (λ p content sketch is fits. (fits.0.0, sketches_fit_each content sketch 8388608 is (omega (arith, fits.1)))) (λ p fits. fits.0) (λ p to fits. fits.0)
 
 filling_equal : (e : Effect) (k : SketchEffect) → IsSketchedAs e k → (other : Effect) → Fills k other → Distinct (Writes (e ∷ [])) (Writes (other ∷ [])) → other ≡ e
 filling_equal = sketched_kinds (λ e k. (other : Effect) → Fills k other → Distinct (Writes (e ∷ [])) (Writes (other ∷ [])) → other ≡ e) make put remove move
@@ -179,16 +185,18 @@ as_many (e ∷ es) (k ∷ ks) fill = omega (arith, as_many es ks fill.1)
 as_many [] (k ∷ ks) fill = absurd fill
 as_many (e ∷ es) [] fill = absurd fill
 
-all_fit : (es : List Effect) (ks : List SketchEffect) → AllFill ks es → AllByRecursion SketchEffectFits ks → AllByRecursion EffectFits es
-all_fit [] [] fill fits = tt
-all_fit (e ∷ es) (k ∷ ks) fill fits = (filling_fits k e fill.0 fits.0, all_fit es ks fill.1 fits.1)
-all_fit [] (k ∷ ks) fill fits = absurd fill
-all_fit (e ∷ es) [] fill fits = absurd fill
+all_fit : (es : List Effect) (ks : List SketchEffect) → AllFill ks es → AllByRecursion SketchEffectFits ks → WriteBytes es → AllByRecursion EffectFits es
+all_fit [] [] fill fits bytes = tt
+all_fit (e ∷ es) (k ∷ ks) fill fits bytes =
+    let first = filling_fits k e fill.0 fits.0 (λ content at. bytes content (at.0, in_front (Put at.0 content) e es at.1)) in
+    (first, all_fit es ks fill.1 fits.1 (λ content at. bytes content (at.0, inr at.1)))
+all_fit [] (k ∷ ks) fill fits bytes = absurd fill
+all_fit (e ∷ es) [] fill fits bytes = absurd fill
 
 pub fillings_fit : FillingsFit
-fillings_fit es ks fits fill =
+fillings_fit es ks fits fill bytes =
     let many = as_many es ks fill in
-    record { some = omega (arith, many, fits.some); few = omega (arith, many, fits.few); each = all_fit es ks fill fits.each; all_contents = omega (arith, (fillings_touch_alike es ks fill).1, fits.all_contents) }
+    record { some = omega (arith, many, fits.some); few = omega (arith, many, fits.few); each = all_fit es ks fill fits.each bytes; all_contents = omega (arith, (fillings_touch_alike es ks fill).1, fits.all_contents) }
 
 all_sketches_fit : (es : List Effect) (ks : List SketchEffect) → AreSketchedAs es ks → AllByRecursion EffectFits es → AllByRecursion SketchEffectFits ks
 all_sketches_fit [] [] are fits = tt

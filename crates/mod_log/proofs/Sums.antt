@@ -5,9 +5,9 @@ use Rattle.std.proofs.lemmas.List.{take_more, take-append-drop}
 use Rattle.std.proofs.lemmas.List.Sums.{sum_by-append}
 use Rattle.std.proofs.lemmas.List.Concat.{length-flat_map, flat_map-cons}
 use Rattle.std.proofs.lemmas.Grind.{flat_map-append}
-use Rattle.vol_tree.specs.declared.node.Effect.{Effect}
-use Rattle.vol_tree.specs.declared.node.Base.{Base}
-use Rattle.vol_tree.specs.Spelling.{effect, effects, base, bases}
+use Rattle.tree_values.specs.declared.node.Effect.{Effect}
+use Rattle.tree_values.specs.declared.node.Base.{Base}
+use Rattle.tree_values.specs.Spelling.{effect, effects, base, bases}
 use Rattle.byte_fields.proofs.Facts.{four_bytes}
 use Rattle.std.specs.Int.{w32}
 use Rattle.byte_fields.specs.Field.{digits}

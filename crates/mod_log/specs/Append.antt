@@ -3,13 +3,15 @@ use Rattle.std.specs.Prelude.{ℕ, ◌+◌, Bool, ◌||◌, nat_lt, nat_le, ◌=
 use Rattle.std.specs.List.{flat_map}
 use Rattle.byte_fields.specs.Numbers.{as_u64}
 use Rattle.file_paths.specs.Refusals.{when, unless_refused}
-use Rattle.vol_tree.specs.Tree.{Volume}
-use Rattle.vol_tree.specs.Effects.{apply_all, base_of, contents_size}
-use Rattle.vol_tree.specs.declared.node.Effect.{Effect}
-use Rattle.vol_tree.specs.declared.node.TreeError.{TreeError}
+use Rattle.tree_values.specs.Limits.{max_files, max_effects}
+use Rattle.tree_values.specs.Tree.{Volume}
+use Rattle.tree_values.specs.Effects.{apply_all, base_of, contents_size}
+use Rattle.tree_values.specs.declared.node.Effect.{Effect}
+use Rattle.tree_values.specs.declared.node.TreeError.{TreeError}
 use Rattle.mod_log.specs.declared.log.Entry.{Entry}
 use Rattle.mod_log.specs.declared.log.LogError.{LogError}
 use Rattle.mod_log.specs.declared.log.LogError.TheVariants.{EntryTooLarge, LogFull, LastNumber, Tree}
+use Rattle.mod_log.specs.Limits.{max_entries, max_log}
 use Rattle.mod_log.specs.Log.{Log, entry, tree_of, logged}
 
 -- the next entry: its number follows the last, and its base list has the versions of the log's tree
@@ -18,7 +20,7 @@ next_entry effects log = record { seq = log.acked + length log.pending + 1; effe
 
 -- more than 4,096 effects or 33,554,432 bytes of content
 abbrev pub is_too_large : List Effect → Bool
-is_too_large effects = nat_lt 4096 (length effects) || nat_lt 33554432 (contents_size effects)
+is_too_large effects = nat_lt max_effects (length effects) || nat_lt max_files (contents_size effects)
 
 -- the bytes of the spelled entries, this one behind them
 abbrev pub size_with : Entry → Log → ℕ
@@ -26,7 +28,7 @@ size_with next log = length (flat_map entry (log.pending ++ next ∷ []))
 
 -- 1,024 entries pending, or more than 67,108,864 spelled bytes with this entry
 abbrev pub has_no_room : Entry → Log → Bool
-has_no_room next log = nat_le 1024 (length log.pending) || nat_lt 67108864 (size_with next log)
+has_no_room next log = nat_le max_entries (length log.pending) || nat_lt max_log (size_with next log)
 
 -- whether the last entry has the greatest number
 abbrev pub is_at_last : Log → Bool

@@ -5,17 +5,18 @@ use Rattle.std.specs.List.{flat_map, AllByRecursion}
 use Rattle.byte_fields.specs.Field.{digits}
 use Rattle.byte_fields.specs.Broken.{IsRefused}
 use Rattle.rs_parity.specs.Spelling.{sketch_at}
+use Rattle.file_paths.specs.Limits.{max_file}
 use Rattle.file_paths.specs.Path.{FilePath, IsPath}
-use Rattle.vol_tree.specs.Effects.{touched_all, distinct}
+use Rattle.tree_values.specs.Effects.{touched_all, distinct}
 use Rattle.file_paths.specs.Spelling.{path}
-use Rattle.vol_tree.specs.Spelling.{effects, EffectsFit}
+use Rattle.tree_values.specs.Spelling.{effects, EffectsFit}
 use Rattle.file_paths.specs.Reading.{path_at}
-use Rattle.vol_tree.specs.Reading.{effects_at, bases_at}
-use Rattle.vol_tree.specs.declared.node.Effect.{Effect}
+use Rattle.tree_values.specs.Reading.{effects_at, bases_at}
+use Rattle.tree_values.specs.declared.node.Effect.{Effect}
 use Rattle.mod_log.specs.Log.{made_by}
 use Rattle.mod_log.specs.Sketched.{sketched_sizes}
 use Rattle.mod_log.specs.Spelling.{sketch_effect, SketchEffectFits}
-use Rattle.mod_log.specs.Reading.{entry_at, sketch_effect_at, sketch_effects_within}
+use Rattle.mod_log.specs.Reading.{entry_at, sketch_effect_kinds, sketch_effect_at, sketch_effects_within}
 use Rattle.mod_log.specs.declared.sketched.SketchEffect.{SketchEffect}
 
 pub record BrokenEntries : Type 0 where
@@ -28,8 +29,8 @@ pub record BrokenEntries : Type 0 where
       → IsRefused (entry_at number) (made_by ++ (effects es ++ text)) (1 + (length (effects es) + offset))
 
 pub record BrokenSketchEffects : Type 0 where
-  -- another kind than 1 to 4: at the kind
-  pub kind_is_none : (room kind : ℕ) → kind < 2 ^ 8 → (kind ≡ 0) ⊎ (4 < kind) → IsRefused (sketch_effect_at room) (kind ∷ []) 0
+  -- a number that is no kind of sketched effect: there
+  pub kind_is_none : (room kind : ℕ) → kind < 2 ^ 8 → AllByRecursion (λ known. kind ≢ known.0) (sketch_effect_kinds room) → IsRefused (sketch_effect_at room) (kind ∷ []) 0
   -- a path that is refused: behind the kind
   pub path_is_none : (room : ℕ) (text : List ℕ) (offset : ℕ) → IsRefused path_at text offset → AllByRecursion (λ kind. IsRefused (sketch_effect_at room) (kind ∷ text) (1 + offset)) (1 ∷ 2 ∷ 3 ∷ 4 ∷ [])
   -- the second path of a move: behind the first
@@ -37,7 +38,7 @@ pub record BrokenSketchEffects : Type 0 where
   -- a sketch that is refused: behind the path
   pub sketch_is_none : (room : ℕ) (p : FilePath) (text : List ℕ) (offset : ℕ) → IsPath p → IsRefused (sketch_at room) text offset → IsRefused (sketch_effect_at room) (2 ∷ (path p ++ text)) (1 + (length (path p) + offset))
   -- the sketch of a content of more than 8 MiB, or than there is room for: at its length
-  pub content_is_large : (room len : ℕ) (p : FilePath) → IsPath p → len < 2 ^ 32 → (8388608 < len) ⊎ (room < len) → IsRefused (sketch_effect_at room) (2 ∷ (path p ++ digits w32 len)) (1 + length (path p))
+  pub content_is_large : (room len : ℕ) (p : FilePath) → IsPath p → len < 2 ^ 32 → (max_file < len) ⊎ (room < len) → IsRefused (sketch_effect_at room) (2 ∷ (path p ++ digits w32 len)) (1 + length (path p))
 
 pub record BrokenSketchLists : Type 0 where
   -- no sketched effect, or too many: at the count

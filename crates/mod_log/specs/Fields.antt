@@ -3,7 +3,7 @@ use Rattle.std.specs.Prelude.{ℕ, List, ◌∷◌, ◌++◌}
 use Rattle.std.specs.List.{flat_map}
 use Rattle.rs_parity.specs.Fields.{sketch_fields}
 use Rattle.file_paths.specs.Fields.{path_fields}
-use Rattle.vol_tree.specs.Fields.{effects_fields, bases_fields}
+use Rattle.tree_values.specs.Fields.{effects_fields, bases_fields}
 use Rattle.mod_log.specs.declared.log.Entry.{Entry}
 use Rattle.mod_log.specs.declared.sketched.SketchEffect.{SketchEffect}
 use Rattle.mod_log.specs.declared.sketched.SketchEffect.TheVariants.{Make, Put, Remove, Move}

@@ -2,13 +2,13 @@
 use Rattle.std.specs.Prelude.{◌≡◌, ℕ, ◌+◌, List, [], ◌∷◌, length, ⊤, map, Option}
 use Rattle.std.specs.List.{flat_map}
 use Rattle.byte_fields.specs.Numbers.{as_u64}
-use Rattle.vol_tree.specs.declared.node.Effect.{Effect}
-use Rattle.vol_tree.specs.declared.node.Base.{Base}
+use Rattle.tree_values.specs.declared.node.Effect.{Effect}
+use Rattle.tree_values.specs.declared.node.Base.{Base}
 use Rattle.vol_tree.specs.declared.effects.ApplyAllError.{ApplyAllError}
 use Rattle.vol_tree.specs.declared.effects.ApplyAllError.TheVariants.{At, Memory as NoMemory}
 use Rattle.file_paths.specs.Refusals.{when}
-use Rattle.vol_tree.specs.Tree.{Volume}
-use Rattle.vol_tree.specs.Effects.{changed_all}
+use Rattle.tree_values.specs.Tree.{Volume}
+use Rattle.tree_values.specs.Effects.{changed_all}
 use Rattle.vol_tree.specs.Undos.{undone_all, CanUndoAll}
 use Rattle.mod_log.specs.declared.log.Entry.{Entry}
 use Rattle.mod_log.specs.declared.log.Pending.{Pending}

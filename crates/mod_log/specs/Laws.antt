@@ -1,11 +1,12 @@
 -- What logging, acknowledging and pulling leave, in their own words.
-use Rattle.std.specs.Prelude.{◌≡◌, ℕ, ◌+◌, ◌≤◌, List, [], length, Ok}
+use Rattle.std.specs.Prelude.{◌≡◌, ℕ, ◌+◌, ◌<◌, ◌≤◌, List, [], length, slice_index_or, Ok}
 use Rattle.std.specs.List.{AllByRecursion}
-use Rattle.vol_tree.specs.declared.node.Effect.{Effect}
-use Rattle.vol_tree.specs.Tree.{Volume, IsTree, IsLegalEffect}
-use Rattle.vol_tree.specs.Effects.{changed_all}
+use Rattle.tree_values.specs.declared.node.Effect.{Effect}
+use Rattle.tree_values.specs.Tree.{Volume, IsTree, IsLegalEffect}
+use Rattle.tree_values.specs.Effects.{changed_all}
 use Rattle.mod_log.specs.Log.{Log, tree_of, tree_after, IsLog, new_log_of, logged, acknowledged, pulled}
 use Rattle.mod_log.specs.Append.{next_entry, appended}
+use Rattle.mod_log.specs.Reading.{EntryFits}
 use Rattle.mod_log.specs.declared.log.Entry.{Entry}
 
 -- an appended entry is the last of a log that has all else as before, and its effects lead to the new tree
@@ -34,3 +35,7 @@ TreesAreLogs = (acked : ℕ) (base : Volume) → acked ≤ 18446744073709551615 
 -- the base and the tree after each entry are trees
 abbrev pub LogsHoldTrees : Type 0
 LogsHoldTrees = (log : Log) (count : ℕ) → IsLog log → IsTree (tree_after count log)
+
+-- each pending entry is one of its number, with the versions of just the paths that it touches
+abbrev pub PendingEntriesFit : Type 0
+PendingEntriesFit = (log : Log) (i : ℕ) (d : Entry) → IsLog log → i < length log.pending → EntryFits (log.acked + 1 + i) (slice_index_or log.pending i d)

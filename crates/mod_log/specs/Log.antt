@@ -1,9 +1,10 @@
 -- A client's log: the acknowledged number, the base volume and the pending entries.
 use Rattle.std.specs.Prelude.{◌≡◌, ℕ, ◌+◌, ◌-◌, ◌≤◌, List, [], ◌∷◌, ◌++◌, length, take, drop, Ok}
 use Rattle.std.specs.List.{flat_map}
-use Rattle.vol_tree.specs.Tree.{Volume, IsTree}
-use Rattle.vol_tree.specs.Effects.{changed_all, apply_all, base_of}
-use Rattle.vol_tree.specs.Spelling.{effects, bases, EffectsFit}
+use Rattle.tree_values.specs.Tree.{Volume, IsTree}
+use Rattle.tree_values.specs.Effects.{changed_all, apply_all, base_of}
+use Rattle.tree_values.specs.Spelling.{effects, bases, EffectsFit}
+use Rattle.mod_log.specs.Limits.{max_entries, max_log}
 use Rattle.mod_log.specs.declared.log.Entry.{Entry}
 
 -- Entry i of the pending ones, from 0, has number acked + 1 + i.
@@ -53,8 +54,8 @@ AreEntriesOf number volume (entry ∷ entries) = IsEntryOf number volume entry �
 pub record IsLog (log : Log) : Type 0 where
   pub base_is : IsTree log.base
   pub entries : AreEntriesOf (log.acked + 1) log.base log.pending
-  pub few : length log.pending ≤ 1024
-  pub small : length (flat_map entry log.pending) ≤ 67108864
+  pub few : length log.pending ≤ max_entries
+  pub small : length (flat_map entry log.pending) ≤ max_log
   pub last : log.acked + length log.pending ≤ 18446744073709551615
 
 -- ---- what a client does to its log

@@ -3,10 +3,10 @@ use Rattle.std.specs.Prelude.{◌≡◌, ℕ, ◌-◌, ◌==◌, ◌&&◌, nat_l
 use Rattle.std.specs.Int.{w8, w32}
 use Rattle.byte_fields.specs.Field.{Reader, ◌>>=◌, one, two, ruled, tagged_at, number_at, each_at}
 use Rattle.rs_parity.specs.Spelling.{sketch_at}
-use Rattle.vol_tree.specs.Effects.{touched_all, distinct}
-use Rattle.vol_tree.specs.Spelling.{EffectsFit, AreBasesOf}
+use Rattle.tree_values.specs.Effects.{touched_all, distinct}
+use Rattle.tree_values.specs.Spelling.{EffectsFit, AreBasesOf}
 use Rattle.file_paths.specs.Reading.{path_at}
-use Rattle.vol_tree.specs.Reading.{effects_at, bases_at}
+use Rattle.tree_values.specs.Reading.{effects_at, bases_at}
 use Rattle.mod_log.specs.Sketched.{sketched_size}
 use Rattle.mod_log.specs.declared.log.Entry.{Entry}
 use Rattle.mod_log.specs.declared.sketched.SketchEffect.{SketchEffect}

@@ -3,12 +3,15 @@ use Rattle.std.specs.Prelude.{ℕ, ◌≤◌, List, ◌∷◌, ◌++◌, length}
 use Rattle.std.specs.Int.{w32}
 use Rattle.std.specs.List.{flat_map, AllByRecursion}
 use Rattle.byte_fields.specs.Field.{digits}
+use Rattle.byte_fields.specs.Codec.{IsBytes}
 use Rattle.rs_parity.specs.Spelling.{sketch_spelling, SketchFits}
+use Rattle.file_paths.specs.Limits.{max_file}
 use Rattle.file_paths.specs.Path.{IsPath}
 use Rattle.file_paths.specs.Spelling.{path}
-use Rattle.vol_tree.specs.Spelling.{EffectsFit}
-use Rattle.vol_tree.specs.declared.node.Effect.{Effect}
-use Rattle.mod_log.specs.Sketched.{sketched_size, sketched_sizes, AreSketchedAs, AllFill}
+use Rattle.tree_values.specs.Limits.{max_files, max_effects}
+use Rattle.tree_values.specs.Spelling.{EffectsFit}
+use Rattle.tree_values.specs.declared.node.Effect.{Effect}
+use Rattle.mod_log.specs.Sketched.{sketched_size, sketched_sizes, AreSketchedAs, AllFill, Writes}
 use Rattle.mod_log.specs.declared.sketched.SketchEffect.{SketchEffect}
 use Rattle.mod_log.specs.declared.sketched.SketchEffect.TheVariants.{Make, Put, Remove, Move}
 
@@ -26,7 +29,7 @@ sketch_effects es = digits w32 (length es) ++ flat_map sketch_effect es
 -- a sketched effect with paths, and a sketch as a content of at most 8 MiB has it
 abbrev pub SketchEffectFits : SketchEffect → Type 0
 SketchEffectFits (Make p) = IsPath p
-SketchEffectFits (Put p sketch) = IsPath p × SketchFits 8388608 sketch
+SketchEffectFits (Put p sketch) = IsPath p × SketchFits max_file sketch
 SketchEffectFits (Remove p) = IsPath p
 SketchEffectFits (Move p q) = IsPath p × IsPath q
 
@@ -43,13 +46,13 @@ pub record SketchEffectsFitWithin (most room : ℕ) (es : List SketchEffect) : T
 
 -- 1 to 4,096 sketched effects with contents of at most 32 MiB together
 abbrev pub SketchEffectsFit : List SketchEffect → Type 0
-SketchEffectsFit = SketchEffectsFitWithin 4096 33554432
+SketchEffectsFit = SketchEffectsFitWithin max_effects max_files
 
 -- ---- laws
 
--- what fills sketches that fit, fits
+-- what fills sketches that fit with contents of bytes, fits
 abbrev pub FillingsFit : Type 0
-FillingsFit = (effects : List Effect) (sketched : List SketchEffect) → SketchEffectsFit sketched → AllFill sketched effects → EffectsFit effects
+FillingsFit = (effects : List Effect) (sketched : List SketchEffect) → SketchEffectsFit sketched → AllFill sketched effects → ((content : List ℕ) → Writes effects content → IsBytes content) → EffectsFit effects
 
 -- the sketches of effects that fit, fit
 abbrev pub SketchesOfEffectsFit : Type 0

@@ -1,9 +1,10 @@
 // What holds of logs and of sketched effects: functions that do nothing, whose contracts are laws.
 ghost use Rattle.mod_log.specs.Sketched.{SketchesAreFilled, FillingsAreEqual, FillingsTouchAlike, OneSketchList};
 ghost use Rattle.mod_log.specs.Spelling.{FillingsFit, SketchesOfEffectsFit};
-ghost use Rattle.mod_log.specs.Laws.{AppendingAddsAnEntry, EntriesThatFitAreAppended, AcknowledgingKeepsTheTree, PullingReplacesTheTree, TreesAreLogs, LogsHoldTrees};
+ghost use Rattle.mod_log.specs.Laws.{AppendingAddsAnEntry, EntriesThatFitAreAppended, AcknowledgingKeepsTheTree, PullingReplacesTheTree, TreesAreLogs, LogsHoldTrees, PendingEntriesFit};
 
-/// States what logging, acknowledging and pulling leave of a log and its tree.
+/// States what logging, acknowledging and pulling leave of a log and its tree, and that each pending entry has a
+/// spelling.
 pub fn logs_keep_their_trees()
     ensures appending { AppendingAddsAnEntry }
     ensures fitting { EntriesThatFitAreAppended }
@@ -11,6 +12,7 @@ pub fn logs_keep_their_trees()
     ensures pulling { PullingReplacesTheTree }
     ensures new { TreesAreLogs }
     ensures trees { LogsHoldTrees }
+    ensures entries { PendingEntriesFit }
 {}
 
 /// States what stands for effects that are sent without their contents, and which effects may stand for it.

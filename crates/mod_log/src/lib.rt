@@ -2,6 +2,7 @@
 #![tactic(auto)]
 
 mod laws;
+mod limits;
 mod log;
 mod sizes;
 mod sketched;
@@ -10,6 +11,7 @@ mod spelling_laws;
 mod taking;
 
 pub use laws::{logs_keep_their_trees, sketches_stand_for_contents};
+pub use limits::{MAX_ENTRIES, MAX_LOG};
 pub use log::{Entry, Log, LogError, base_of};
 pub use sketched::{SketchEffect, SketchEffects};
 pub use spelling_laws::{

@@ -4,20 +4,23 @@ ghost use Rattle.std.specs.List.{sum_by};
 ghost use Rattle.std.specs.Option.{option_copied};
 ghost use Rattle.byte_fields.specs.Numbers.{as_u64};
 ghost use Rattle.byte_fields.specs.Field.{IsFront};
-ghost use Rattle.vol_tree.specs.Effects.{base_of as bases_of, contents_size as contents_total};
-ghost use Rattle.vol_tree.specs.Spelling.{EffectsFit};
+ghost use Rattle.tree_values.specs.Effects.{base_of as bases_of, contents_size as contents_total};
+ghost use Rattle.tree_values.specs.Spelling.{EffectsFit};
 ghost use Rattle.file_paths.specs.Refusals.{when, unless_refused};
 ghost use Rattle.mod_log.specs.declared.log.LogError.TheVariants.{Memory, EntryTooLarge};
 ghost use Rattle.mod_log.specs.Log.{IsLog, IsEntryOf, tree_after, entry as spelled, new_log_of, acknowledged, pulled, tree_of};
+ghost use Rattle.mod_log.specs.Limits.{max_entries, max_log};
 ghost use Rattle.mod_log.specs.Append.{appended, is_too_large, has_no_room, is_at_last};
 ghost use Rattle.mod_log.specs.Inside.{entry_with, room_refusals, log_error, AreKept, entries_of, rolled_back as tree_before};
 
+use crate::limits::{MAX_ENTRIES, MAX_LOG};
 use crate::sizes::{contents_size, entry_size};
 use std::alloc::AllocError;
 use std::marker::Model;
 use thiserror::Error;
 use vol_tree::{
-    ApplyAllError, Base, Bases, Effects, Tree, TreeError, TryCopy, Undo, apply_all, undo_all,
+    ApplyAllError, Base, Bases, Effects, MAX_EFFECTS, MAX_FILES, Tree, TreeError, TryCopy, Undo,
+    apply_all, undo_all,
 };
 
 /// Effects that are applied or refused together, and the versions that they rest on.
@@ -274,7 +277,7 @@ fn check_size(effects: &Effects) -> Result<(), LogError>
 {
     let count = effects.len();
     let bytes = contents_size(effects.as_slice());
-    if count > 4096 || bytes > 33_554_432 {
+    if count > MAX_EFFECTS || bytes > MAX_FILES as u64 {
         return Err(LogError::EntryTooLarge {
             effects: count as u32,
             bytes,
@@ -346,7 +349,7 @@ fn push(pending: &mut Vec<Pending>, kept: Pending) -> Result<(), Pending>
 }
 
 fn is_full(count: usize, size: u64) -> bool
-    ensures { result ≡ (nat_le 1024 count || nat_lt 67108864 size) }
+    ensures { result ≡ (nat_le max_entries count || nat_lt max_log size) }
 {
-    count >= 1024 || size > 67_108_864
+    count >= MAX_ENTRIES || size > MAX_LOG as u64
 }

@@ -2,8 +2,8 @@
 ghost use Rattle.std.specs.Prelude.{◌≡◌, ◌++◌, length};
 ghost use Rattle.std.specs.List.{sum_by};
 ghost use Rattle.byte_fields.specs.Numbers.{as_u64};
-ghost use Rattle.vol_tree.specs.Effects.{contents_size as contents_total};
-ghost use Rattle.vol_tree.specs.Spelling.{effect, effects, base, bases};
+ghost use Rattle.tree_values.specs.Effects.{contents_size as contents_total};
+ghost use Rattle.tree_values.specs.Spelling.{effect, effects, base, bases};
 ghost use Rattle.mod_log.specs.Log.{made_by};
 
 use vol_tree::{Base, Bases, Effect, Effects};

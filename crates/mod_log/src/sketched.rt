@@ -5,8 +5,8 @@ ghost use Rattle.std.specs.List.{fold, list_any};
 ghost use Rattle.std.specs.Option.{option_copied};
 ghost use Rattle.std.specs.Str.{bytes_eq};
 ghost use Rattle.std.specs.Cmp.Lexicographic.{pointwise};
-ghost use Rattle.vol_tree.specs.Inside.{add_new};
-ghost use Rattle.vol_tree.specs.Effects.{distinct};
+ghost use Rattle.tree_values.specs.Inside.{add_new};
+ghost use Rattle.tree_values.specs.Effects.{distinct};
 ghost use Rattle.mod_log.specs.Sketched.{sketch_paths, sketches_touch, sketched_size};
 
 use rs_parity::Sketch;

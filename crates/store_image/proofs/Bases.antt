@@ -6,8 +6,8 @@ use Rattle.byte_fields.specs.Field.{EachFits}
 use Rattle.byte_fields.specs.Codec.{Stands, IsCodec}
 use Rattle.byte_fields.proofs.Codec.{u32_codec, u64_codec, ruled_codec, here_fault, place_is, found2, fault2, again2, each_codec, counted_codec, codec_for}
 use Rattle.file_paths.specs.Path.{FilePath, is_same_path}
-use Rattle.vol_tree.specs.declared.node.Base.{Base}
-use Rattle.vol_tree.specs.Spelling.{base, bases, BaseFits}
+use Rattle.tree_values.specs.declared.node.Base.{Base}
+use Rattle.tree_values.specs.Spelling.{base, bases, BaseFits}
 use Rattle.file_paths.proofs.Parts.{path_codec}
 use Rattle.file_paths.proofs.Order.{tied_path, path_tied}
 use Rattle.store_image.specs.Reading.{known_base_at, first_base_at, others_after, known_bases_at}

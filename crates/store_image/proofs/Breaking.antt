@@ -13,13 +13,13 @@ use Rattle.byte_fields.specs.Broken.{IsRefused}
 use Rattle.byte_fields.proofs.Codec.{u8_codec, u64_codec, span_codec, ruled_codec}
 use Rattle.byte_fields.proofs.Breaking.{read_again, refused_there, rule_refused, ruled_refused, first_refused, later_refused, tagged_refused, kind_refused, second_fails}
 use Rattle.byte_fields.proofs.Facts.{le_fails, eight_bytes}
-use Rattle.vol_tree.specs.declared.node.Base.{Base}
+use Rattle.tree_values.specs.declared.node.Base.{Base}
 use Rattle.file_paths.specs.Path.{FilePath, is_same_path}
-use Rattle.vol_tree.specs.Tree.{Volume, IsTree, apply}
+use Rattle.tree_values.specs.Tree.{Volume, IsTree, apply}
 use Rattle.file_paths.specs.Spelling.{path}
-use Rattle.vol_tree.specs.Spelling.{effect, rows}
+use Rattle.tree_values.specs.Spelling.{effect, rows}
 use Rattle.file_paths.specs.Reading.{path_at}
-use Rattle.vol_tree.specs.Reading.{effect_at, rows_at}
+use Rattle.tree_values.specs.Reading.{effect_at, rows_at}
 use Rattle.file_paths.proofs.Parts.{path_codec}
 use Rattle.tree_laws.proofs.Parts.{effect_codec, rows_codec}
 use Rattle.file_paths.proofs.Order.{tied_path, path_tied}

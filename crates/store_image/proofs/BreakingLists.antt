@@ -13,7 +13,7 @@ use Rattle.byte_fields.proofs.Codec.{bind_err, never_err}
 use Rattle.byte_fields.proofs.Cutting.{each_cut}
 use Rattle.byte_fields.proofs.Facts.{le_fails}
 use Rattle.byte_fields.proofs.Breaking.{second_fails, count_refused, counted_refused, items_refused, each_read}
-use Rattle.vol_tree.specs.Tree.{Volume, IsTree}
+use Rattle.tree_values.specs.Tree.{Volume, IsTree}
 use Rattle.mod_log.specs.declared.log.Entry.{Entry}
 use Rattle.mod_log.specs.Log.{Log, entry, AreEntriesOf, IsLog, new_log_of}
 use Rattle.store_image.specs.Reading.{next_entry_at, with_entry, is_count, entries_at}

@@ -10,12 +10,12 @@ use Rattle.byte_fields.specs.Field.{Reader, ◌>>=◌, digits, ruled, number_at,
 use Rattle.byte_fields.specs.Broken.{IsRefused, EachIsRead}
 use Rattle.byte_fields.proofs.Breaking.{read_again, refused_there, ruled_refused, first_refused, later_refused, second_fails, count_refused, counted_refused, items_refused, each_read}
 use Rattle.byte_fields.proofs.Facts.{le_fails}
-use Rattle.vol_tree.specs.declared.node.Effect.{Effect}
-use Rattle.vol_tree.specs.declared.node.Base.{Base}
-use Rattle.vol_tree.specs.Tree.{Volume, IsTree, apply, changed}
-use Rattle.vol_tree.specs.Effects.{content_size, contents_size, changed_all, base_of}
-use Rattle.vol_tree.specs.Spelling.{effect, effects, base, BaseFits}
-use Rattle.vol_tree.specs.Reading.{effect_at, room_after}
+use Rattle.tree_values.specs.declared.node.Effect.{Effect}
+use Rattle.tree_values.specs.declared.node.Base.{Base}
+use Rattle.tree_values.specs.Tree.{Volume, IsTree, apply, changed}
+use Rattle.tree_values.specs.Effects.{content_size, contents_size, changed_all, base_of}
+use Rattle.tree_values.specs.Spelling.{effect, effects, base, BaseFits}
+use Rattle.tree_values.specs.Reading.{effect_at, room_after}
 use Rattle.mod_log.specs.Log.{Log, after, tree_of, IsLog}
 use Rattle.mod_log.proofs.Entries.{holds_trees}
 use Rattle.mod_log.proofs.BasesFit.{base_of-fits}

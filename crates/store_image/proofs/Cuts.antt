@@ -12,13 +12,13 @@ use Rattle.byte_fields.proofs.Codec.{u32_codec, u64_codec, span_codec, ruled_cod
 use Rattle.byte_fields.proofs.Facts.{sum_more}
 use Rattle.byte_fields.proofs.Cutting.{sum_both, then_cut, span_cut, ruled_cut, cut_for, u8_cut, u32_cut, u64_cut, two_cut, three_cut, tagged_cut, each_cut, counted_cut}
 use Rattle.file_paths.specs.Path.{is_same_path}
-use Rattle.vol_tree.specs.declared.node.Base.{Base}
-use Rattle.vol_tree.specs.Tree.{Volume, IsTree, apply}
-use Rattle.vol_tree.specs.Effects.{base_of}
+use Rattle.tree_values.specs.declared.node.Base.{Base}
+use Rattle.tree_values.specs.Tree.{Volume, IsTree, apply}
+use Rattle.tree_values.specs.Effects.{base_of}
 use Rattle.file_paths.specs.Spelling.{path}
-use Rattle.vol_tree.specs.Spelling.{base, bases, effect, effects, rows}
+use Rattle.tree_values.specs.Spelling.{base, bases, effect, effects, rows}
 use Rattle.file_paths.specs.Fields.{path_fields}
-use Rattle.vol_tree.specs.Fields.{base_fields, bases_fields, effect_fields, effects_fields, rows_fields}
+use Rattle.tree_values.specs.Fields.{base_fields, bases_fields, effect_fields, effects_fields, rows_fields}
 use Rattle.file_paths.proofs.Parts.{path_codec, path_cut}
 use Rattle.file_paths.proofs.Order.{path_tied}
 use Rattle.tree_laws.proofs.Parts.{rows_codec}

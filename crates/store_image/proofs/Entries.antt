@@ -8,11 +8,11 @@ use Rattle.byte_fields.specs.Field.{EachFits, ruled, number_at}
 use Rattle.byte_fields.specs.Codec.{Stands, IsBytes, IsCodec}
 use Rattle.byte_fields.proofs.Codec.{u8_codec, u32_codec, u64_codec, ruled_codec, found3, again3, fault3, each_codec, counted_codec, limited_codec, codec_for}
 use Rattle.file_paths.specs.Path.{FilePath}
-use Rattle.vol_tree.specs.declared.node.Base.{Base}
-use Rattle.vol_tree.specs.declared.node.Effect.{Effect}
-use Rattle.vol_tree.specs.Tree.{Volume, IsTree, version_at}
-use Rattle.vol_tree.specs.Effects.{changed_all, base_of, touched_all, distinct}
-use Rattle.vol_tree.specs.Spelling.{effects, bases, BaseFits, EffectsFit}
+use Rattle.tree_values.specs.declared.node.Base.{Base}
+use Rattle.tree_values.specs.declared.node.Effect.{Effect}
+use Rattle.tree_values.specs.Tree.{Volume, IsTree, version_at}
+use Rattle.tree_values.specs.Effects.{changed_all, base_of, touched_all, distinct}
+use Rattle.tree_values.specs.Spelling.{effects, bases, BaseFits, EffectsFit}
 use Rattle.tree_laws.proofs.Few.{touched_few}
 use Rattle.tree_laws.proofs.Parts.{rows_codec}
 use Rattle.mod_log.specs.declared.log.Entry.{Entry}

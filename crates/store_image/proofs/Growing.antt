@@ -7,11 +7,11 @@ use Rattle.std.proofs.lemmas.List.Sums.{sum_by-cons}
 use Rattle.byte_fields.specs.Field.{EachFits}
 use Rattle.byte_fields.specs.Codec.{IsCodec}
 use Rattle.byte_fields.proofs.Codec.{u32_codec, ruled_codec, each_codec, counted_codec, codec_for}
-use Rattle.vol_tree.specs.declared.node.Effect.{Effect}
-use Rattle.vol_tree.specs.declared.node.TreeError.{TreeError}
-use Rattle.vol_tree.specs.Tree.{Volume, apply, changed}
-use Rattle.vol_tree.specs.Effects.{content_size, changed_all, apply_all, unless_refused_at}
-use Rattle.vol_tree.specs.Spelling.{effect, effects, EffectFits, EffectFitsIn, EffectsFit}
+use Rattle.tree_values.specs.declared.node.Effect.{Effect}
+use Rattle.tree_values.specs.declared.node.TreeError.{TreeError}
+use Rattle.tree_values.specs.Tree.{Volume, apply, changed}
+use Rattle.tree_values.specs.Effects.{content_size, changed_all, apply_all, unless_refused_at}
+use Rattle.tree_values.specs.Spelling.{effect, effects, EffectFits, EffectFitsIn, EffectsFit}
 use Rattle.tree_laws.proofs.Parts.{effect_codec}
 use Rattle.vol_tree.proofs.Behind.{applied-changed}
 use Rattle.store_image.specs.Reading.{Growing, growing_effect_at, grown, applied_effects_at}

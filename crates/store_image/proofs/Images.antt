@@ -8,8 +8,8 @@ use Rattle.std.proofs.lemmas.Slice.Eq.{bytes_eq-Decides}
 use Rattle.byte_fields.specs.Field.{Reader, EachFits, digits, ruled, number_at, span_at, tagged_at}
 use Rattle.byte_fields.specs.Codec.{Stands, IsCodec}
 use Rattle.byte_fields.proofs.Codec.{IsBranch, bind_ok, bind_err, span_codec, u8_codec, u64_codec, ruled_codec, found2, again2, fault2, each_codec, tagged_found, tagged_fault, tagged_again, codec_for, later_fault, stands_both, stands_first, stands_second}
-use Rattle.vol_tree.specs.Tree.{Volume}
-use Rattle.vol_tree.specs.Spelling.{rows}
+use Rattle.tree_values.specs.Tree.{Volume}
+use Rattle.tree_values.specs.Spelling.{rows}
 use Rattle.tree_laws.proofs.Parts.{rows_codec}
 use Rattle.mod_log.specs.Log.{Log}
 use Rattle.store_image.specs.declared.image.ClientImage.{ClientImage}

@@ -4,9 +4,9 @@ use Rattle.std.specs.Int.{w32, w64}
 use Rattle.std.specs.List.{flat_map}
 use Rattle.std.proofs.lemmas.List.Concat.{flat_map-cons}
 use Rattle.byte_fields.specs.Field.{digits}
-use Rattle.vol_tree.specs.Spelling.{rows}
+use Rattle.tree_values.specs.Spelling.{rows}
 use Rattle.byte_fields.proofs.Facts.{four_bytes, eight_bytes}
-use Rattle.vol_tree.proofs.Sizes.{rows_size}
+use Rattle.tree_values.proofs.Sizes.{rows_size}
 use Rattle.mod_log.specs.Log.{Log, entry, IsLog}
 use Rattle.store_image.specs.declared.image.ClientImage.{ClientImage}
 use Rattle.store_image.specs.declared.image.ServerImage.{ServerImage}

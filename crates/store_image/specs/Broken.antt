@@ -7,17 +7,19 @@ use Rattle.byte_fields.specs.Field.{digits}
 use Rattle.byte_fields.specs.Numbers.{as_u32}
 use Rattle.byte_fields.specs.Cuts.{start_of}
 use Rattle.byte_fields.specs.Broken.{IsRefused}
-use Rattle.vol_tree.specs.declared.node.Effect.{Effect}
-use Rattle.vol_tree.specs.declared.node.Base.{Base}
-use Rattle.vol_tree.specs.declared.node.TreeError.{TreeError}
+use Rattle.tree_values.specs.declared.node.Effect.{Effect}
+use Rattle.tree_values.specs.declared.node.Base.{Base}
+use Rattle.tree_values.specs.declared.node.TreeError.{TreeError}
 use Rattle.file_paths.specs.Path.{FilePath, IsPath}
-use Rattle.vol_tree.specs.Tree.{Volume, IsTree, apply}
-use Rattle.vol_tree.specs.Effects.{content_size, contents_size, changed_all, apply_all, base_of}
+use Rattle.tree_values.specs.Limits.{max_files, max_effects}
+use Rattle.tree_values.specs.Tree.{Volume, IsTree, apply}
+use Rattle.tree_values.specs.Effects.{content_size, contents_size, changed_all, apply_all, base_of}
 use Rattle.file_paths.specs.Spelling.{path}
-use Rattle.vol_tree.specs.Spelling.{effect, effects, base, rows, EffectFits}
+use Rattle.tree_values.specs.Spelling.{effect, effects, base, rows, EffectFits}
 use Rattle.file_paths.specs.Reading.{path_at}
-use Rattle.vol_tree.specs.Reading.{effect_at, rows_at}
+use Rattle.tree_values.specs.Reading.{effect_at, rows_at}
 use Rattle.mod_log.specs.declared.log.Entry.{Entry}
+use Rattle.mod_log.specs.Limits.{max_entries, max_log}
 use Rattle.mod_log.specs.Log.{Log, entry, tree_of, AreEntriesOf, IsLog, new_log_of}
 use Rattle.store_image.specs.declared.image.ImageError.TheVariants.{BadImage}
 use Rattle.store_image.specs.Reading.{Growing, growing_effect_at, known_base_at, next_entry_at, entries_at, client_mark, client_at, server_mark, server_at}
@@ -28,12 +30,12 @@ use Rattle.store_image.specs.Image.{client_of, server_of}
 -- effects that the tree takes one after the other
 pub record AreTaken (v : Volume) (es : List Effect) : Type 0 where
   pub each : AllByRecursion EffectFits es
-  pub small : contents_size es ≤ 33554432
+  pub small : contents_size es ≤ max_files
   pub applies : apply_all 0 es v ≡ Ok (changed_all es v)
 
 -- what stands behind effects that the tree takes: the tree after them, and the room that they leave
 abbrev pub growing_behind : List Effect → Volume → Growing
-growing_behind es v = record { tree = changed_all es v; room = 33554432 - contents_size es }
+growing_behind es v = record { tree = changed_all es v; room = max_files - contents_size es }
 
 pub record BrokenEntries : Type 0 where
   -- an effect that does not apply: at its first byte
@@ -49,32 +51,32 @@ pub record BrokenEntries : Type 0 where
   -- another first byte than 0: there
   pub origin_is_another : (log : Log) (origin : ℕ) → origin < 2 ^ 8 → origin ≢ 0 → IsRefused (next_entry_at log) (origin ∷ []) 0
   -- no effect, or more than 4,096: behind the first byte
-  pub effects_are_none : (log : Log) (count : ℕ) → count < 2 ^ 32 → (count ≡ 0) ⊎ (4096 < count) → IsRefused (next_entry_at log) (0 ∷ digits w32 count) 1
+  pub effects_are_none : (log : Log) (count : ℕ) → count < 2 ^ 32 → (count ≡ 0) ⊎ (max_effects < count) → IsRefused (next_entry_at log) (0 ∷ digits w32 count) 1
   -- an effect that is refused: behind those before it
-  pub effect_is_refused : (log : Log) (before : List Effect) (count : ℕ) (text : List ℕ) (offset : ℕ) → AreTaken (tree_of log) before → length before < count → count ≤ 4096 → IsRefused (growing_effect_at (growing_behind before (tree_of log))) text offset
+  pub effect_is_refused : (log : Log) (before : List Effect) (count : ℕ) (text : List ℕ) (offset : ℕ) → AreTaken (tree_of log) before → length before < count → count ≤ max_effects → IsRefused (growing_effect_at (growing_behind before (tree_of log))) text offset
       → IsRefused (next_entry_at log) (0 ∷ (digits w32 count ++ (flat_map effect before ++ text))) (1 + (4 + (length (flat_map effect before) + offset)))
   -- another number of bases than of touched paths: behind the effects
-  pub bases_are_others : (log : Log) (es : List Effect) (count : ℕ) → AreTaken (tree_of log) es → 1 ≤ length es → length es ≤ 4096 → count < 2 ^ 32 → count ≢ length (base_of es (tree_of log))
+  pub bases_are_others : (log : Log) (es : List Effect) (count : ℕ) → AreTaken (tree_of log) es → 1 ≤ length es → length es ≤ max_effects → count < 2 ^ 32 → count ≢ length (base_of es (tree_of log))
       → IsRefused (next_entry_at log) (0 ∷ (effects es ++ digits w32 count)) (1 + length (effects es))
   -- a base that is refused: behind those before it
-  pub base_is_refused : (log : Log) (es : List Effect) (before others : List Base) (known : Base) (text : List ℕ) (offset : ℕ) → IsLog log → AreTaken (tree_of log) es → 1 ≤ length es → length es ≤ 4096 → base_of es (tree_of log) ≡ before ++ known ∷ others
+  pub base_is_refused : (log : Log) (es : List Effect) (before others : List Base) (known : Base) (text : List ℕ) (offset : ℕ) → IsLog log → AreTaken (tree_of log) es → 1 ≤ length es → length es ≤ max_effects → base_of es (tree_of log) ≡ before ++ known ∷ others
       → IsRefused (known_base_at known) text offset
       → IsRefused (next_entry_at log) (0 ∷ (effects es ++ (digits w32 (length (before ++ known ∷ others)) ++ (flat_map base before ++ text)))) (1 + (length (effects es) + (4 + (length (flat_map base before) + offset))))
 
 -- as many entries may be pending behind this number
 pub record MayFollow (acked count : ℕ) : Type 0 where
-  pub few : count ≤ 1024
+  pub few : count ≤ max_entries
   pub last : acked + count ≤ 18446744073709551615
 
 pub record BrokenEntryLists : Type 0 where
   -- more than 1,024 entries, or than numbers are left: at the count
-  pub count_is_large : (log : Log) (count : ℕ) → log.acked < 2 ^ 64 → count < 2 ^ 32 → (1024 < count) ⊎ (18446744073709551615 < log.acked + count) → IsRefused (entries_at log) (digits w32 count) 0
+  pub count_is_large : (log : Log) (count : ℕ) → log.acked < 2 ^ 64 → count < 2 ^ 32 → (max_entries < count) ⊎ (18446744073709551615 < log.acked + count) → IsRefused (entries_at log) (digits w32 count) 0
   -- an entry that is refused within the first 64 MiB: behind those before it
-  pub entry_is_refused : (log : Log) (count : ℕ) (text : List ℕ) (offset : ℕ) → IsLog log → length log.pending < count → MayFollow log.acked count → length (flat_map entry log.pending ++ text) ≤ 67108864
+  pub entry_is_refused : (log : Log) (count : ℕ) (text : List ℕ) (offset : ℕ) → IsLog log → length log.pending < count → MayFollow log.acked count → length (flat_map entry log.pending ++ text) ≤ max_log
       → IsRefused (next_entry_at log) text offset → IsRefused (entries_at (new_log_of log.acked log.base)) (digits w32 count ++ (flat_map entry log.pending ++ text)) (4 + (length (flat_map entry log.pending) + offset))
   -- entries of more than 64 MiB together: at the field in which the 64 MiB end
-  pub entries_are_large : (acked : ℕ) (base : Volume) (es : List Entry) (count : ℕ) → IsTree base → AreEntriesOf (acked + 1) base es → length es ≤ count → MayFollow acked count → 67108864 < length (flat_map entry es)
-      → IsRefused (entries_at (new_log_of acked base)) (digits w32 count ++ flat_map entry es) (4 + start_of 67108864 (flat_map entry_fields es))
+  pub entries_are_large : (acked : ℕ) (base : Volume) (es : List Entry) (count : ℕ) → IsTree base → AreEntriesOf (acked + 1) base es → length es ≤ count → MayFollow acked count → max_log < length (flat_map entry es)
+      → IsRefused (entries_at (new_log_of acked base)) (digits w32 count ++ flat_map entry es) (4 + start_of max_log (flat_map entry_fields es))
 
 pub record BrokenImages : Type 0 where
   -- another mark: at the mark

@@ -1,7 +1,7 @@
 -- The fields of each image in their order, given by their numbers of bytes.
 use Rattle.std.specs.Prelude.{ℕ, List, [], ◌∷◌, ◌++◌}
 use Rattle.std.specs.List.{flat_map}
-use Rattle.vol_tree.specs.Fields.{rows_fields}
+use Rattle.tree_values.specs.Fields.{rows_fields}
 use Rattle.mod_log.specs.declared.log.Entry.{Entry}
 use Rattle.mod_log.specs.Fields.{entry_fields}
 use Rattle.mod_log.specs.Log.{Log}

@@ -6,13 +6,15 @@ use Rattle.std.specs.Str.{bytes_eq}
 use Rattle.std.specs.Result.{is_ok}
 use Rattle.byte_fields.specs.Field.{Reader, ◌>>=◌, ruled, limited, span_at, number_at, tagged_at, each_at}
 use Rattle.file_paths.specs.Path.{is_same_path}
-use Rattle.vol_tree.specs.Tree.{Volume, apply, changed}
-use Rattle.vol_tree.specs.Effects.{base_of}
+use Rattle.tree_values.specs.Limits.{max_files, max_effects}
+use Rattle.tree_values.specs.Tree.{Volume, apply, changed}
+use Rattle.tree_values.specs.Effects.{base_of}
 use Rattle.file_paths.specs.Reading.{path_at}
-use Rattle.vol_tree.specs.Reading.{effect_at, room_after, rows_at}
-use Rattle.vol_tree.specs.declared.node.Effect.{Effect}
-use Rattle.vol_tree.specs.declared.node.Base.{Base}
+use Rattle.tree_values.specs.Reading.{effect_at, room_after, rows_at}
+use Rattle.tree_values.specs.declared.node.Effect.{Effect}
+use Rattle.tree_values.specs.declared.node.Base.{Base}
 use Rattle.mod_log.specs.declared.log.Entry.{Entry}
+use Rattle.mod_log.specs.Limits.{max_entries, max_log}
 use Rattle.mod_log.specs.Log.{Log, tree_of, new_log_of, logged}
 use Rattle.store_image.specs.declared.image.ClientImage.{ClientImage}
 use Rattle.store_image.specs.declared.image.ServerImage.{ServerImage}
@@ -35,8 +37,8 @@ grown growing effect = record { tree = changed effect growing.tree; room = room_
 -- 1 to 4,096 effects with contents of at most 32 MiB together, each of which applies to the tree after those before it
 unfoldable pub applied_effects_at : Volume → Reader (List Effect)
 applied_effects_at tree bytes at = do
-  count ← ruled (λ n. nat_le 1 n && nat_le n 4096) (number_at w32) bytes at
-  each_at growing_effect_at grown count.0 (record { tree = tree; room = 33554432 }) bytes count.1
+  count ← ruled (λ n. nat_le 1 n && nat_le n max_effects) (number_at w32) bytes at
+  each_at growing_effect_at grown count.0 (record { tree = tree; room = max_files }) bytes count.1
 
 -- just this path and this version
 unfoldable pub known_base_at : Base → Reader Base
@@ -75,13 +77,13 @@ with_entry log entry = logged entry log
 
 -- whether so many entries may be pending behind the acknowledged number
 abbrev pub is_count : ℕ → ℕ → Bool
-is_count acked n = nat_le n 1024 && nat_le n (18446744073709551615 - acked)
+is_count acked n = nat_le n max_entries && nat_le n (18446744073709551615 - acked)
 
 -- the pending entries of a log with nothing pending yet, which are spelled in at most 64 MiB
 unfoldable pub entries_at : Log → Reader (List Entry)
 entries_at log bytes at = do
   count ← ruled (is_count log.acked) (number_at w32) bytes at
-  limited 67108864 (each_at next_entry_at with_entry count.0 log) bytes count.1
+  limited max_log (each_at next_entry_at with_entry count.0 log) bytes count.1
 
 -- the acknowledged number, the base and the pending entries
 unfoldable pub log_at : Reader Log

@@ -3,8 +3,8 @@ use Rattle.std.specs.Prelude.{◌≡◌, ℕ, ◌<◌, ◌≤◌, ◌^◌, List,
 use Rattle.std.specs.Int.{w32, w64}
 use Rattle.std.specs.List.{flat_map, AllByRecursion}
 use Rattle.byte_fields.specs.Field.{digits}
-use Rattle.vol_tree.specs.Tree.{IsTree}
-use Rattle.vol_tree.specs.Spelling.{rows}
+use Rattle.tree_values.specs.Tree.{IsTree}
+use Rattle.tree_values.specs.Spelling.{rows}
 use Rattle.mod_log.specs.declared.log.Entry.{Entry}
 use Rattle.mod_log.specs.Log.{Log, entry, IsLog}
 use Rattle.store_image.specs.declared.image.ClientImage.{ClientImage}

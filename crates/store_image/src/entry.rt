@@ -3,8 +3,9 @@
 ghost use Rattle.std.specs.Prelude.{◌≡◌, ◌≢◌, length, Ok, IfOk, IfErr, IfSome, OnOk, false};
 ghost use Rattle.std.specs.Result.{is_ok};
 ghost use Rattle.byte_fields.specs.Field.{Gives, Lends, place_of, each_at};
-ghost use Rattle.vol_tree.specs.Tree.{apply, changed};
-ghost use Rattle.vol_tree.specs.Effects.{base_of as bases_of, changed_all};
+ghost use Rattle.tree_values.specs.Limits.{max_files};
+ghost use Rattle.tree_values.specs.Tree.{apply, changed};
+ghost use Rattle.tree_values.specs.Effects.{base_of as bases_of, changed_all};
 ghost use Rattle.mod_log.specs.Log.{IsLog, tree_of, logged};
 ghost use Rattle.mod_log.specs.Append.{next_entry};
 ghost use Rattle.store_image.specs.Reading.{growing_effect_at, grown, applied_effects_at, known_base_at, first_base_at, others_after, known_bases_at, next_entry_at};
@@ -12,7 +13,7 @@ ghost use Rattle.store_image.specs.Reading.{growing_effect_at, grown, applied_ef
 use byte_fields::{TakeError, u8_at, u32_at, u64_at};
 use mod_log::{Log, LogError, base_of};
 use std::alloc::{AllocError, Global};
-use vol_tree::{Base, Bases, Effect, Effects, Path, Tree, TreeError};
+use vol_tree::{Base, Bases, Effect, Effects, MAX_EFFECTS, MAX_FILES, Path, Tree, TreeError};
 
 /// The fault that a refusal of the tree is, where the effect stands at the place.
 fn fault_of(refusal: TreeError, at: usize) -> TakeError
@@ -70,12 +71,12 @@ fn effects_from(
     count: u32,
     tree: &mut Tree,
 ) -> Result<(Effects, usize), TakeError>
-    ensures read { Gives result (each_at growing_effect_at grown count (record { tree = tree.old; room = 33554432 }) bytes.now start) }
+    ensures read { Gives result (each_at growing_effect_at grown count (record { tree = tree.old; room = max_files }) bytes.now start) }
     ensures applied { IfOk result (λ x. tree.new ≡ changed_all x.0 tree.old) }
 {
     let mut effects = Effects::new(alloc);
     let mut at = start;
-    let mut room = 33_554_432;
+    let mut room = MAX_FILES;
     for _ in 0..count {
         let (effect, next) = growing_effect(alloc, bytes, at, tree, room)?;
         room = room.saturating_sub(effect.content_size() as usize);
@@ -97,7 +98,7 @@ fn applied_effects(
     ensures applied { IfOk result (λ x. tree.new ≡ changed_all x.0 tree.old) }
 {
     let (count, start) = u32_at(bytes, at)?;
-    if count < 1 || count > 4096 {
+    if count < 1 || count > MAX_EFFECTS as u32 {
         return Err(TakeError::At(at));
     }
     effects_from(alloc, bytes, start, count, tree)

@@ -3,21 +3,21 @@
 ghost use Rattle.std.specs.Prelude.{◌≡◌};
 ghost use Rattle.store_image.specs.declared.image.ImageError.TheVariants.{Memory};
 
-use mod_log::Log;
+use mod_log::{Log, MAX_LOG};
 use std::alloc::AllocError;
 use thiserror::Error;
-use vol_tree::Tree;
+use vol_tree::{MAX_FILES, MAX_ROWS, Tree};
 
 /// The most bytes of the rows of a tree: their number, for each of 16,384 rows a path of 1,026 bytes, a version, a kind and a
 /// length, and 33,554,432 bytes of contents.
-const MAX_ROWS: usize = 4 + 16_384 * (1_026 + 8 + 1 + 4) + 33_554_432;
+const ROWS_SIZE: usize = 4 + MAX_ROWS * (1_026 + 8 + 1 + 4) + MAX_FILES;
 
 /// The most bytes of a client's image: a mark, a version, a client's number, an acknowledged number, rows, a number of entries
 /// and 67,108,864 bytes of entries.
-pub const MAX_CLIENT_IMAGE: usize = 4 + 1 + 1 + 8 + MAX_ROWS + 4 + 67_108_864;
+pub const MAX_CLIENT_IMAGE: usize = 4 + 1 + 1 + 8 + ROWS_SIZE + 4 + MAX_LOG;
 
 /// The most bytes of a server's image: a mark, a version, 64 numbers and rows.
-pub const MAX_SERVER_IMAGE: usize = 4 + 1 + 64 * 8 + MAX_ROWS;
+pub const MAX_SERVER_IMAGE: usize = 4 + 1 + 64 * 8 + ROWS_SIZE;
 
 /// The most bytes that a keeper has to load. No image is as long.
 pub const MAX_LOADED: usize = 134_217_728;

@@ -4,8 +4,9 @@ ghost use Rattle.std.specs.Prelude.{◌≡◌, ◌≢◌, ◌≤◌, ◌+◌, �
 ghost use Rattle.std.specs.Int.{w64};
 ghost use Rattle.std.specs.Str.{bytes_eq};
 ghost use Rattle.byte_fields.specs.Field.{Gives, Lends, Answers, place_of, number_at, each_at};
-ghost use Rattle.vol_tree.specs.Tree.{IsTree};
-ghost use Rattle.vol_tree.specs.Reading.{rows_at};
+ghost use Rattle.tree_values.specs.Tree.{IsTree};
+ghost use Rattle.tree_values.specs.Reading.{rows_at};
+ghost use Rattle.mod_log.specs.Limits.{max_entries, max_log};
 ghost use Rattle.mod_log.specs.Log.{Log, new_log_of};
 ghost use Rattle.store_image.specs.Reading.{next_entry_at, with_entry, entries_at, log_at, client_body_at, client_at, server_body_at, server_at};
 ghost use Rattle.store_image.specs.Image.{whole, client_of, server_of, GivesImage, IsKeptFor, IsKeptForServer};
@@ -14,7 +15,7 @@ ghost use Rattle.store_image.specs.declared.image.ServerImage.{ServerImage};
 use crate::entry::{log_entry, next_effects};
 use crate::image::{ClientImage, ImageError, ServerImage};
 use byte_fields::{TakeError, saturate_u32, span_at, u8_at, u32_at, u64_at};
-use mod_log::Log;
+use mod_log::{Log, MAX_ENTRIES, MAX_LOG};
 use std::alloc::{AllocError, Global};
 use vol_tree::{Rows, RowsError, Tree, TryCopy};
 
@@ -60,8 +61,8 @@ fn entries_from(
     ahead: &mut Tree,
 ) -> Result<(Log, usize), TakeError>
     requires within { start ≤ length bytes.now }
-    requires room { length bytes.now ≤ start + 67108864 }
-    requires few { count ≤ 1024 }
+    requires room { length bytes.now ≤ start + max_log }
+    requires few { count ≤ max_entries }
     requires numbers { first.acked + count ≤ 18446744073709551615 }
     requires nothing { first.pending ≡ [] }
     requires same { ahead.old ≡ first.base }
@@ -94,12 +95,12 @@ fn entries_at(
     ensures base { IfOk result (λ x. x.0.base ≡ base) }
 {
     let (count, start) = u32_at(bytes, at)?;
-    if count > 1024 || u64::from(count) > u64::MAX - acked {
+    if count > MAX_ENTRIES as u32 || u64::from(count) > u64::MAX - acked {
         return Err(TakeError::At(at));
     }
     let mut ahead = base.copy()?;
     let log = Log::new(acked, base);
-    let bytes = front(bytes, start, 67_108_864);
+    let bytes = front(bytes, start, MAX_LOG);
     entries_from(alloc, bytes, start, count, log, &mut ahead)
 }
 

@@ -3,7 +3,7 @@
 ghost use Rattle.std.specs.Prelude.{◌≡◌, ◌<◌, ◌≤◌, ◌^◌, ◌++◌, length, slice_get, IfOk, OnOk};
 ghost use Rattle.std.specs.List.{flat_map, AllByRecursion};
 ghost use Rattle.std.specs.Option.{option_to_list};
-ghost use Rattle.vol_tree.specs.Spelling.{rows};
+ghost use Rattle.tree_values.specs.Spelling.{rows};
 ghost use Rattle.mod_log.specs.Log.{entry};
 ghost use Rattle.store_image.specs.Spelling.{entries, log, numbers};
 ghost use Rattle.store_image.specs.Image.{IsKeptFor, IsKeptForServer};

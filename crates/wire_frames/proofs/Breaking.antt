@@ -11,16 +11,16 @@ use Rattle.byte_fields.specs.Broken.{IsRefused}
 use Rattle.byte_fields.proofs.Codec.{u8_codec, u32_codec, u64_codec}
 use Rattle.byte_fields.proofs.Breaking.{read_again, refused_before, rule_refused, first_refused, later_refused, second_fails}
 use Rattle.byte_fields.proofs.Facts.{le_fails, four_bytes, eight_bytes}
-use Rattle.vol_tree.specs.declared.node.Effect.{Effect}
+use Rattle.tree_values.specs.declared.node.Effect.{Effect}
 use Rattle.file_paths.specs.Path.{FilePath, IsPath}
-use Rattle.vol_tree.specs.Effects.{touched_all, distinct}
+use Rattle.tree_values.specs.Effects.{touched_all, distinct}
 use Rattle.file_paths.specs.Spelling.{path}
-use Rattle.vol_tree.specs.Spelling.{effects, EffectsFit}
+use Rattle.tree_values.specs.Spelling.{effects, EffectsFit}
 use Rattle.file_paths.specs.Reading.{path_at}
-use Rattle.vol_tree.specs.Reading.{effects_at, bases_at, rows_at}
+use Rattle.tree_values.specs.Reading.{effects_at, bases_at, rows_at}
 use Rattle.file_paths.proofs.Parts.{path_codec}
 use Rattle.tree_laws.proofs.Parts.{effects_codec}
-use Rattle.wire_frames.specs.declared.message.TheConstants.{MAX_FRAME}
+use Rattle.wire_frames.specs.Limits.{max_frame}
 use Rattle.wire_frames.specs.declared.message.Message.{Message}
 use Rattle.wire_frames.specs.declared.message.Message.TheVariants as messages
 use Rattle.wire_frames.specs.declared.message.Kind.{Kind}
@@ -37,7 +37,7 @@ use Rattle.wire_frames.proofs.CutFrames.{fails_again}
 -- ---- from what stands behind the client to the frame
 
 -- what is refused behind the client is refused in the frame
-frame_refused : (k : Kind) (c n : ℕ) (behind : List ℕ) (offset place : ℕ) → client_rule k c ≡ true → 15 + length behind ≤ MAX_FRAME → IsRefused (message_at k c) (digits w64 n ++ behind) offset → 7 + offset ≡ place
+frame_refused : (k : Kind) (c n : ℕ) (behind : List ℕ) (offset place : ℕ) → client_rule k c ≡ true → 15 + length behind ≤ max_frame → IsRefused (message_at k c) (digits w64 n ++ behind) offset → 7 + offset ≡ place
     → frame_of (framed k c n behind) ≡ Err (BadField place)
 unfolding digits
 frame_refused k c n behind offset place takes short refused e =

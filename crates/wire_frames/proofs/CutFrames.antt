@@ -9,7 +9,7 @@ use Rattle.byte_fields.specs.Codec.{Stands}
 use Rattle.byte_fields.specs.Cuts.{start_of}
 use Rattle.byte_fields.proofs.Codec.{u32_codec, u64_codec, stands_first, stands_second}
 use Rattle.byte_fields.proofs.Cutting.{u8_cut, u32_cut, u64_cut, ruled_cut, one_cut, two_cut, three_cut, then_cut}
-use Rattle.vol_tree.specs.Effects.{touched_all, distinct}
+use Rattle.tree_values.specs.Effects.{touched_all, distinct}
 use Rattle.file_paths.proofs.Parts.{path_codec, path_cut}
 use Rattle.tree_laws.proofs.Parts.{effects_codec}
 use Rattle.tree_laws.proofs.CutParts.{effects_cut, bases_cut, rows_cut}

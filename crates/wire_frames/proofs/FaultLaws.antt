@@ -4,15 +4,15 @@ use Rattle.byte_fields.specs.Codec.{IsCodec}
 use Rattle.byte_fields.specs.Cuts.{IsCut}
 use Rattle.byte_fields.proofs.Codec.{codec_for}
 use Rattle.byte_fields.proofs.Cutting.{cut_for}
-use Rattle.vol_tree.specs.declared.node.TreeError.{TreeError}
-use Rattle.vol_tree.specs.declared.node.TreeError.TheVariants.{RootFixed, NoParent, Exists, Missing, IsFolder, NotEmpty, RowsFull, FileTooLarge, TreeFull, VersionTop, Memory}
-use Rattle.vol_tree.specs.Fault.{tree_fault, fault_fields, FaultFitsOf}
+use Rattle.tree_values.specs.declared.node.TreeError.{TreeError}
+use Rattle.tree_values.specs.declared.node.TreeError.TheVariants.{RootFixed, NoParent, Exists, Missing, IsFolder, NotEmpty, RowsFull, FileTooLarge, TreeFull, VersionTop, Memory}
+use Rattle.tree_values.specs.Fault.{tree_fault, fault_fields, FaultFitsOf}
 use Rattle.tree_laws.proofs.FaultLaws.{fault_of_codec, fault_of_cut}
 use Rattle.wire_frames.specs.Fault.{unfit_numbers, full_numbers, UnfitFits, FullFits, unfit_fault_at, full_fault_at}
 
 -- ---- refusals that more room would not cure
 
-unfit_fits : (x : TreeError) → UnfitFits x → FaultFitsOf unfit_numbers x
+pub unfit_fits : (x : TreeError) → UnfitFits x → FaultFitsOf unfit_numbers x
 unfit_fits RootFixed fits = (fits, refl)
 unfit_fits (NoParent p) fits = (fits, refl)
 unfit_fits (Exists p) fits = (fits, refl)
@@ -48,7 +48,7 @@ unfit_is_spelled _ fits e = absurd cc
 
 -- ---- refusals for want of room
 
-full_fits : (x : TreeError) → FullFits x → FaultFitsOf full_numbers x
+pub full_fits : (x : TreeError) → FullFits x → FaultFitsOf full_numbers x
 full_fits (RowsFull n) fits = (fits, refl)
 full_fits (TreeFull n) fits = (fits, refl)
 full_fits _ fits = absurd fits

@@ -3,12 +3,13 @@ use Rattle.std.proofs.Common.{◌≡◌, ℕ, ◌+◌, ◌^◌, ◌<◌, ◌≤�
 use Rattle.std.specs.Int.{w32, from_be_bytes, to_be_bytes}
 use Rattle.std.specs.Prelude.{IfOk}
 use Rattle.std.specs.List.{find}
-use Rattle.std.proofs.lemmas.Bool.{leb-true, le-leb, eqb-true, eq-eqb, and_parts, and_from, cases_lt}
-use Rattle.std.proofs.lemmas.List.{take-append-drop, append-nil, get_or-take, get_or_past, take_at, drop_at}
+use Rattle.std.proofs.lemmas.Bool.{leb-true, le-leb, eqb-true, eq-eqb, and_parts, and_from}
+use Rattle.std.proofs.lemmas.List.{take-append-drop, append-nil, take_at, drop_at}
 use Rattle.std.proofs.Math.Seq.{drop-length}
 use Rattle.std.proofs.lemmas.Nat.{be_bytes_4, from_be_bytes-to_be_bytes_4}
 use Rattle.byte_fields.specs.Field.{digits}
 use Rattle.byte_fields.specs.Codec.{Stands, IsBytes}
+use Rattle.byte_fields.proofs.Facts.{bytes_taken}
 use Rattle.wire_frames.specs.declared.message.Message.{Message}
 use Rattle.wire_frames.specs.declared.message.Kind.{Kind}
 use Rattle.wire_frames.specs.declared.message.Kind.TheVariants.{Store, Pull, Accepted, Stale, Unfit, Gap, Snapshot, Full, Malformed}
@@ -76,13 +77,6 @@ header bytes low =
     let c : drop 6 bytes ≡ get_or bytes 6 0 ∷ drop 7 bytes = drop-cons bytes 6 0 (omega arith) in
     sym (take-append-drop 4 bytes) ∙ ap (λ (rest : List ℕ). take 4 bytes ++ rest) (a ∙ ap (λ (rest : List ℕ). get_or bytes 4 0 ∷ rest) (b ∙ ap (λ (rest : List ℕ). get_or bytes 5 0 ∷ rest) c))
 
-IsBytes-take : (n : ℕ) (bytes : List ℕ) → IsBytes bytes → IsBytes (take n bytes)
-IsBytes-take n bytes fits i =
-    elim (cases_lt i n) [
-      | inl lt ↦ rw (get_or-take n bytes i 0 lt) (fits i)
-      | inr le ↦ rw (get_or_past (take n bytes) i 0 (omega (arith, length-take n bytes))) (omega arith)
-    ]
-
 pub frame_found : (bytes : List ℕ) (m : Message) → IsBytes bytes → frame_of bytes ≡ Ok m → IsValid m × (bytes ≡ frame m)
 unfolding frame_of digits
 frame_found bytes m fits e =
@@ -98,7 +92,7 @@ frame_found bytes m fits e =
     let parts : bytes ≡ take 4 bytes ++ payload m = header bytes long.low ∙ ap (λ (x : List ℕ). take 4 bytes ++ x) after in
     let four : length (take 4 bytes) ≡ 4 = omega (arith, length-take 4 bytes, long.low) in
     let size : length (payload m) ≡ from_be_bytes w32 (take 4 bytes) = omega (arith, ap length parts, length-append (take 4 bytes) (payload m), four, long.told) in
-    let told : to_be_bytes w32 (length (payload m)) ≡ take 4 bytes = be_bytes_4 (take 4 bytes) (length (payload m)) four (IsBytes-take 4 bytes fits) size in
+    let told : to_be_bytes w32 (length (payload m)) ≡ take 4 bytes = be_bytes_4 (take 4 bytes) (length (payload m)) four (bytes_taken 4 bytes fits) size in
     let whole_frame : bytes ≡ frame m = parts ∙ ap (λ (x : List ℕ). x ++ payload m) (sym told) in (
       record {
         client_fits = rw (r.kind_is, r.client_is) k.2;

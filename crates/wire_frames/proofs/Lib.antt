@@ -2,6 +2,7 @@ pub mod FaultLaws
 pub mod Messages
 pub mod Sizes
 pub mod Frames
+pub mod FrameBytes
 pub mod HeaderLaws
 pub mod CutFrames
 pub mod Breaking

@@ -3,14 +3,14 @@ use Rattle.std.proofs.Common.{◌^◌, ◌<◌, ◌≤◌, ◌++◌, length, ari
 use Rattle.std.specs.Int.{w64}
 use Rattle.byte_fields.specs.Field.{digits}
 use Rattle.file_paths.specs.Spelling.{path}
-use Rattle.vol_tree.specs.Spelling.{effects, bases, rows}
+use Rattle.tree_values.specs.Spelling.{effects, bases, rows}
 use Rattle.file_paths.proofs.Sizes.{path_size}
-use Rattle.vol_tree.proofs.Sizes.{effects_size, bases_size, rows_size}
-use Rattle.vol_tree.specs.declared.node.TreeError.{TreeError}
-use Rattle.vol_tree.specs.declared.node.TreeError.TheVariants.{RootFixed, NoParent, Exists, Missing, IsFolder, NotEmpty, RowsFull, FileTooLarge, TreeFull, VersionTop}
+use Rattle.tree_values.proofs.Sizes.{effects_size, bases_size, rows_size}
+use Rattle.tree_values.specs.declared.node.TreeError.{TreeError}
+use Rattle.tree_values.specs.declared.node.TreeError.TheVariants.{RootFixed, NoParent, Exists, Missing, IsFolder, NotEmpty, RowsFull, FileTooLarge, TreeFull, VersionTop}
 use Rattle.wire_frames.specs.declared.message.Message.{Message}
 use Rattle.wire_frames.specs.declared.message.Message.TheVariants as messages
-use Rattle.vol_tree.specs.Fault.{tree_fault}
+use Rattle.tree_values.specs.Fault.{tree_fault}
 use Rattle.wire_frames.specs.Fault.{UnfitFits, FullFits}
 use Rattle.wire_frames.specs.Frame.{body, payload, frame, BodyFits, IsValid}
 use Rattle.tree_laws.proofs.Few.{few_bases}

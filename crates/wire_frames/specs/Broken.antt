@@ -3,15 +3,15 @@ use Rattle.std.specs.Prelude.{◌≡◌, ◌≢◌, ◌⊎◌, ℕ, ◌+◌, ◌
 use Rattle.std.specs.Int.{w32, w64}
 use Rattle.byte_fields.specs.Field.{digits}
 use Rattle.byte_fields.specs.Broken.{IsRefused}
-use Rattle.vol_tree.specs.declared.node.Effect.{Effect}
+use Rattle.tree_values.specs.declared.node.Effect.{Effect}
 use Rattle.file_paths.specs.Path.{FilePath, IsPath}
-use Rattle.vol_tree.specs.Effects.{touched_all, distinct}
+use Rattle.tree_values.specs.Effects.{touched_all, distinct}
 use Rattle.file_paths.specs.Spelling.{path}
-use Rattle.vol_tree.specs.Spelling.{effects, EffectsFit}
+use Rattle.tree_values.specs.Spelling.{effects, EffectsFit}
 use Rattle.file_paths.specs.Reading.{path_at}
-use Rattle.vol_tree.specs.Reading.{effects_at, bases_at, rows_at}
+use Rattle.tree_values.specs.Reading.{effects_at, bases_at, rows_at}
 use Rattle.wire_frames.specs.Fault.{unfit_fault_at, full_fault_at}
-use Rattle.wire_frames.specs.declared.message.TheConstants.{MAX_FRAME}
+use Rattle.wire_frames.specs.Limits.{max_frame}
 use Rattle.wire_frames.specs.declared.message.Message.{Message}
 use Rattle.wire_frames.specs.declared.message.Kind.{Kind}
 use Rattle.wire_frames.specs.declared.message.Kind.TheVariants.{Store, Stale, Unfit, Gap, Snapshot, Full, Malformed}
@@ -27,12 +27,12 @@ framed kind client number behind =
 -- A message of this kind and number whose body begins so is refused at this place of its frame, whatever follows. The
 -- body begins at byte 15.
 abbrev pub IsRefusedAt : Kind → ℕ → List ℕ → ℕ → Type 0
-IsRefusedAt kind number text place = (client : ℕ) (behind : List ℕ) → client_rule kind client ≡ true → number_rule kind number ≡ true → number < 2 ^ 64 → 15 + length (text ++ behind) ≤ MAX_FRAME
+IsRefusedAt kind number text place = (client : ℕ) (behind : List ℕ) → client_rule kind client ≡ true → number_rule kind number ≡ true → number < 2 ^ 64 → 15 + length (text ++ behind) ≤ max_frame
     → frame_of (framed kind client number (text ++ behind)) ≡ Err (BadField place)
 
 -- a number that the kind does not have: at the number
 abbrev pub BrokenNumbers : Type 0
-BrokenNumbers = (kind : Kind) (client number : ℕ) (behind : List ℕ) → client_rule kind client ≡ true → number_rule kind number ≡ false → number < 2 ^ 64 → 15 + length behind ≤ MAX_FRAME
+BrokenNumbers = (kind : Kind) (client number : ℕ) (behind : List ℕ) → client_rule kind client ≡ true → number_rule kind number ≡ false → number < 2 ^ 64 → 15 + length behind ≤ max_frame
     → frame_of (framed kind client number behind) ≡ Err (BadField 7)
 
 pub record BrokenBodies : Type 0 where
@@ -58,5 +58,5 @@ pub record BrokenBodies : Type 0 where
 
 -- bytes behind the last field of a valid message: at the first of them
 abbrev pub LeftBytes : Type 0
-LeftBytes = (m : Message) (left : List ℕ) → IsValid m → 1 ≤ length left → length (frame m) + length left ≤ MAX_FRAME
+LeftBytes = (m : Message) (left : List ℕ) → IsValid m → 1 ≤ length left → length (frame m) + length left ≤ max_frame
     → frame_of (framed (kind m) (client_of m) (number_of m) (body m ++ left)) ≡ Err (Trailing (length (frame m)))

@@ -1,8 +1,8 @@
 -- The fields of a message behind its client in their order, given by their numbers of bytes.
 use Rattle.std.specs.Prelude.{ℕ, List, [], ◌∷◌, ◌++◌}
 use Rattle.file_paths.specs.Fields.{path_fields}
-use Rattle.vol_tree.specs.Fields.{effects_fields, bases_fields, rows_fields}
-use Rattle.vol_tree.specs.Fault.{fault_fields}
+use Rattle.tree_values.specs.Fields.{effects_fields, bases_fields, rows_fields}
+use Rattle.tree_values.specs.Fault.{fault_fields}
 use Rattle.wire_frames.specs.declared.message.Message.{Message}
 use Rattle.wire_frames.specs.declared.message.Message.TheVariants as messages
 

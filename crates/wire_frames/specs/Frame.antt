@@ -3,13 +3,13 @@ use Rattle.std.specs.Prelude.{◌≡◌, ℕ, ◌+◌, ◌<◌, ◌^◌, nat_le,
 use Rattle.std.specs.Int.{w32, w64}
 use Rattle.byte_fields.specs.Field.{digits}
 use Rattle.file_paths.specs.Path.{IsPath}
-use Rattle.vol_tree.specs.Tree.{IsTree}
-use Rattle.vol_tree.specs.Effects.{touched_all, distinct}
+use Rattle.tree_values.specs.Tree.{IsTree}
+use Rattle.tree_values.specs.Effects.{touched_all, distinct}
 use Rattle.file_paths.specs.Spelling.{path}
-use Rattle.vol_tree.specs.Spelling.{effects, bases, rows, EffectsFit, AreBasesOf}
-use Rattle.vol_tree.specs.Fault.{tree_fault}
+use Rattle.tree_values.specs.Spelling.{effects, bases, rows, EffectsFit, AreBasesOf}
+use Rattle.tree_values.specs.Fault.{tree_fault}
 use Rattle.wire_frames.specs.Fault.{UnfitFits, FullFits}
-use Rattle.wire_frames.specs.declared.message.TheConstants.{CLIENTS}
+use Rattle.wire_frames.specs.Limits.{max_client}
 use Rattle.wire_frames.specs.declared.message.Message.{Message}
 use Rattle.wire_frames.specs.declared.message.Message.TheVariants as messages
 use Rattle.wire_frames.specs.declared.message.Kind.{Kind}
@@ -90,7 +90,7 @@ frame m = digits w32 (length (payload m)) ++ payload m
 -- a message has a client from 1 to the greatest, but for Malformed, which has none
 abbrev pub client_rule : Kind → ℕ → Bool
 client_rule Malformed client = client == 0
-client_rule _ client = nat_le 1 client && nat_le client CLIENTS
+client_rule _ client = nat_le 1 client && nat_le client max_client
 
 -- entries are numbered from 1; a Pull may come before the first
 abbrev pub number_rule : Kind → ℕ → Bool

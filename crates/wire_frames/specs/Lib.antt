@@ -1,5 +1,7 @@
+pub mod Limits
 pub mod Fault
 pub mod Frame
+pub mod Malformed
 pub mod Reading
 pub mod Fields
 pub mod Laws

@@ -3,11 +3,11 @@ use Rattle.std.specs.Prelude.{ℕ, ◌+◌, nat_le, ◌==◌, ◌&&◌, not, Boo
 use Rattle.std.specs.Int.{w8, w32, w64, from_be_bytes}
 use Rattle.std.specs.List.{find}
 use Rattle.byte_fields.specs.Field.{Reader, Answers, none, two, ◌>>=◌, ruled, number_at}
-use Rattle.vol_tree.specs.Effects.{touched_all, distinct}
+use Rattle.tree_values.specs.Effects.{touched_all, distinct}
 use Rattle.file_paths.specs.Reading.{path_at}
-use Rattle.vol_tree.specs.Reading.{effects_at, bases_at, rows_at}
+use Rattle.tree_values.specs.Reading.{effects_at, bases_at, rows_at}
 use Rattle.wire_frames.specs.Fault.{unfit_fault_at, full_fault_at}
-use Rattle.wire_frames.specs.declared.message.TheConstants.{MAX_FRAME}
+use Rattle.wire_frames.specs.Limits.{max_frame}
 use Rattle.wire_frames.specs.declared.message.Message.{Message}
 use Rattle.wire_frames.specs.declared.message.Message.TheVariants as messages
 use Rattle.wire_frames.specs.declared.message.Kind.{Kind}
@@ -97,7 +97,7 @@ of_kind (Some kind) bytes =
 -- 15 bytes to the most that a frame has, the first four of which count those behind them
 abbrev pub is_sized : List ℕ → Bool
 is_sized bytes =
-    nat_le 15 (length bytes) && nat_le (length bytes) MAX_FRAME && from_be_bytes w32 (take 4 bytes) + 4 == length bytes
+    nat_le 15 (length bytes) && nat_le (length bytes) max_frame && from_be_bytes w32 (take 4 bytes) + 4 == length bytes
 
 -- the message that the bytes spell, or the first refusal: of the length, the version, the kind, the client, a field,
 -- and what is left over

@@ -1,20 +1,22 @@
 //! What holds of frames: functions that do nothing, whose contracts are laws.
 
 ghost use Rattle.std.specs.Prelude.{◌≡◌, ℕ, ◌≤◌, List, ◌++◌, length};
-ghost use Rattle.byte_fields.specs.Codec.{IsCodec};
+ghost use Rattle.byte_fields.specs.Codec.{IsBytes, IsCodec};
 ghost use Rattle.tree_laws.specs.Broken.{BrokenFaults};
-ghost use Rattle.wire_frames.specs.declared.message.TheConstants.{MAX_FRAME};
+ghost use Rattle.wire_frames.specs.Limits.{max_frame};
 ghost use Rattle.wire_frames.specs.declared.message.Message.{Message};
-ghost use Rattle.vol_tree.specs.Fault.{tree_fault};
+ghost use Rattle.tree_values.specs.Fault.{tree_fault};
 ghost use Rattle.wire_frames.specs.Fault.{UnfitFits, FullFits, unfit_numbers, full_numbers, unfit_fault_at, full_fault_at};
 ghost use Rattle.wire_frames.specs.Frame.{frame, IsValid};
 ghost use Rattle.wire_frames.specs.Broken.{BrokenNumbers, BrokenBodies, LeftBytes};
 ghost use Rattle.wire_frames.specs.Laws.{LengthIsFirst, VersionIsSecond, KindIsThird, ClientIsFourth, FieldsAreBehindTheClient, MessagesStandBeforeWhatIsLeft, CutFramesNameTheField, KindsDecideReplies};
 
-/// States that, whatever follows it, a frame is the frame of one message, and that no frame is longer than the most.
+/// States that, whatever follows it, a frame is the frame of one message, that no frame is longer than the most, and
+/// that frames are bytes.
 pub fn frames_are_apart()
     ensures apart { (m n : Message) (x y : List ℕ) → IsValid m → IsValid n → frame m ++ x ≡ frame n ++ y → (m ≡ n) × (x ≡ y) }
-    ensures small { (m : Message) → IsValid m → length (frame m) ≤ MAX_FRAME }
+    ensures small { (m : Message) → IsValid m → length (frame m) ≤ max_frame }
+    ensures bytes { (m : Message) → IsValid m → IsBytes (frame m) }
 {}
 
 /// States that kind, client and number decide whether a reply answers a request.

@@ -7,6 +7,7 @@ mod kind;
 mod laws;
 mod message;
 mod reading;
+mod refused;
 mod replies;
 mod writing;
 
@@ -16,6 +17,7 @@ pub use laws::{
 };
 pub use message::{CLIENTS, FrameError, Kind, MAX_FRAME, Message};
 pub use reading::read;
+pub use refused::malformed;
 pub use replies::echoes;
 pub use writing::write;
 

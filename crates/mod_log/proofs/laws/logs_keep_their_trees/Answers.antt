@@ -1,6 +1,7 @@
 use Rattle.mod_log.proofs.Entries.{acknowledged_is_log, acknowledged_keeps, pulled_is_log, pulled_replaces, new_is_log, holds_trees}
 use Rattle.mod_log.proofs.Appending.{appended_adds}
 use Rattle.mod_log.proofs.Fitting.{fit_is_appended}
+use Rattle.mod_log.proofs.EntriesFit.{pending_fit}
 use Rattle.mod_log.proofs.laws.logs_keep_their_trees.Goals as goal
 
 pub returns-clause-appending : goal.returns-clause-appending
@@ -20,3 +21,6 @@ returns-clause-new c = new_is_log
 
 pub returns-clause-trees : goal.returns-clause-trees
 returns-clause-trees c = holds_trees
+
+pub returns-clause-entries : goal.returns-clause-entries
+returns-clause-entries c = pending_fit

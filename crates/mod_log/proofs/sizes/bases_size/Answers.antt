@@ -1,5 +1,5 @@
 use Rattle.std.proofs.Common.{length, arith}
-use Rattle.vol_tree.specs.Spelling.{base}
+use Rattle.tree_values.specs.Spelling.{base}
 use Rattle.mod_log.proofs.Sums.{sum_by-next}
 use Rattle.mod_log.proofs.sizes.bases_size.Goals as goal
 

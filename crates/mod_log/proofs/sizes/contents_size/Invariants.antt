@@ -1,7 +1,7 @@
 use Rattle.std.proofs.Common.{◌≡◌, take}
 use Rattle.std.specs.List.{sum_by}
 use Rattle.byte_fields.specs.Numbers.{as_u64}
-use Rattle.vol_tree.specs.Effects.{content_size}
+use Rattle.tree_values.specs.Effects.{content_size}
 use Rattle.mod_log.proofs.sizes.contents_size.Given as goal
 
 abbrev pub invariant-loop-effect : goal.invariant-loop-effect

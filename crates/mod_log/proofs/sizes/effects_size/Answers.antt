@@ -1,5 +1,5 @@
 use Rattle.std.proofs.Common.{length, arith}
-use Rattle.vol_tree.specs.Spelling.{effect}
+use Rattle.tree_values.specs.Spelling.{effect}
 use Rattle.mod_log.proofs.Sums.{sum_by-next}
 use Rattle.mod_log.proofs.sizes.effects_size.Goals as goal
 

@@ -1,7 +1,7 @@
 use Rattle.std.proofs.Common.{length, arith, ap, ◌∙◌}
 use Rattle.std.specs.List.{sum_by}
 use Rattle.byte_fields.specs.Numbers.{as_u64}
-use Rattle.vol_tree.specs.Spelling.{effect, base}
+use Rattle.tree_values.specs.Spelling.{effect, base}
 use Rattle.mod_log.proofs.Sums.{entry_length}
 use Rattle.mod_log.proofs.sizes.entry_size.Goals as goal
 

@@ -3,7 +3,7 @@ use Rattle.std.specs.Int.{w64}
 use Rattle.std.proofs.lemmas.Bool.{eq-eqb}
 use Rattle.byte_fields.specs.Field.{ruled, number_at}
 use Rattle.file_paths.specs.Path.{FilePath, is_same_path}
-use Rattle.vol_tree.specs.declared.node.Base.{Base}
+use Rattle.tree_values.specs.declared.node.Base.{Base}
 use Rattle.file_paths.specs.Reading.{path_at}
 use Rattle.file_paths.proofs.Order.{tied_path}
 use Rattle.store_image.specs.Reading.{known_base_at}

@@ -3,7 +3,7 @@ use Rattle.std.proofs.lemmas.List.{take_more, take_all}
 use Rattle.std.proofs.lemmas.Result.{err_from_is_err_and}
 use Rattle.byte_fields.specs.Field.{Fails}
 use Rattle.byte_fields.proofs.Loop.{goes_on, breaks_off, is_done}
-use Rattle.vol_tree.specs.declared.node.Base.{Base}
+use Rattle.tree_values.specs.declared.node.Base.{Base}
 use Rattle.store_image.specs.Reading.{first_base_at, others_after}
 use Rattle.store_image.proofs.entry.behind_each.Goals as goal
 

@@ -1,8 +1,8 @@
 use Rattle.std.proofs.Common.{◌≡◌, ◌∙◌, ◌-◌, sym, ap, arith}
 use Rattle.std.proofs.lemmas.Result.{err_from_is_err_and}
 use Rattle.byte_fields.proofs.Loop.{goes_on, breaks_off, is_done}
-use Rattle.vol_tree.specs.Tree.{changed}
-use Rattle.vol_tree.specs.Effects.{content_size}
+use Rattle.tree_values.specs.Tree.{changed}
+use Rattle.tree_values.specs.Effects.{content_size}
 use Rattle.store_image.specs.Reading.{growing_effect_at, grown}
 use Rattle.store_image.proofs.Growing.{changed_all-push}
 use Rattle.store_image.proofs.entry.effects_from.Goals as goal

@@ -1,7 +1,7 @@
 use Rattle.std.proofs.Common.{◌≡◌, ◌-◌}
 use Rattle.byte_fields.specs.Field.{each_at}
 use Rattle.byte_fields.proofs.Loop.{SoFar}
-use Rattle.vol_tree.specs.Effects.{changed_all}
+use Rattle.tree_values.specs.Effects.{changed_all}
 use Rattle.store_image.specs.Reading.{growing_effect_at, grown}
 use Rattle.store_image.proofs.entry.effects_from.Given as goal
 

@@ -1,7 +1,8 @@
 use Rattle.std.proofs.Common.{rules, ◌≡◌, ◌+◌, false, None, Err, Ok, sym, ap, ◌∙◌, subst, length}
 use Rattle.std.proofs.lemmas.Result.{err_from_is_err_and}
 use Rattle.file_paths.specs.Refusals.{unless_refused}
-use Rattle.vol_tree.specs.Effects.{apply_all, base_of, IsAllRefusal}
+use Rattle.tree_values.specs.Effects.{apply_all, base_of}
+use Rattle.vol_tree.specs.Applying.{IsAllRefusal}
 use Rattle.mod_log.specs.declared.log.Pending.{Pending}
 use Rattle.mod_log.specs.Log.{tree_of, IsLog, logged}
 use Rattle.mod_log.specs.Append.{next_entry, has_no_room, is_at_last, refused_effect}

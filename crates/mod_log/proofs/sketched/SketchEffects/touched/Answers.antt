@@ -1,8 +1,8 @@
 use Rattle.std.proofs.Common.{◌≤◌, ◌∙◌, ap, [], length, subst}
 use Rattle.std.specs.List.{fold}
 use Rattle.std.proofs.lemmas.List.{take_all}
-use Rattle.vol_tree.specs.Inside.{add_new}
-use Rattle.vol_tree.proofs.Distinct.{fold_is_distinct}
+use Rattle.tree_values.specs.Inside.{add_new}
+use Rattle.tree_values.proofs.Distinct.{fold_is_distinct}
 use Rattle.mod_log.specs.Sketched.{sketches_touch}
 use Rattle.mod_log.proofs.sketched.SketchEffects.touched.Goals as goal
 

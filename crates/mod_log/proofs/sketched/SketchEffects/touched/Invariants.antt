@@ -1,6 +1,6 @@
 use Rattle.std.proofs.Common.{◌≡◌, [], take}
 use Rattle.std.specs.List.{fold, flat_map}
-use Rattle.vol_tree.specs.Inside.{add_new}
+use Rattle.tree_values.specs.Inside.{add_new}
 use Rattle.mod_log.specs.Sketched.{sketch_paths}
 use Rattle.mod_log.proofs.sketched.SketchEffects.touched.Given as goal
 
