@@ -1,5 +1,5 @@
 -- What an object of the outside tells of its content, and what an answer of it means.
-use Rattle.std.specs.Prelude.{◌≡◌, ℕ, ◌+◌, ◌-◌, ◌≤◌, ◌^◌, min, List, [], ◌++◌, length, take, drop, Option, None, Some, Result, Ok, Err, IsErrOf}
+use Rattle.std.specs.Prelude.{◌≡◌, ℕ, ◌+◌, ◌-◌, ◌≤◌, ◌^◌, min, max, List, [], ◌++◌, length, take, drop, Option, None, Some, Result, Ok, Err, IsErrOf}
 
 -- an object that tells its content before a call tells it after the call, too, and the call relates the two; one that tells none goes on telling none
 abbrev pub Told : {A : Type 0} → Option A → Option A → (A → A → Type 0) → Type 0
@@ -14,6 +14,20 @@ RoseBy many before now = min (before + many) (2 ^ 64 - 1) ≤ now
 -- a count of faults rose, or stands at the end of its type
 abbrev pub Rose : ℕ → ℕ → Type 0
 Rose before now = RoseBy 1 before now
+
+-- a count after so many more, which stands still at the end of its type
+abbrev pub raised : ℕ → ℕ → ℕ
+raised many count = max count (min (count + many) (2 ^ 64 - 1))
+
+-- a count rises by one where this is so, and nowhere else; so it never falls
+pub record RisesWhere (is : Type 0) (before now : ℕ) : Type 0 where
+  pub later : before ≤ now
+  pub once : is → now ≡ raised 1 before
+  pub never : (is → ⊥) → now ≡ before
+
+-- the count of faults rises by one in a call that answers this fault, and in no other
+abbrev pub CountsFault : {T E : Type 0} → E → ℕ → ℕ → Result T E → Type 0
+CountsFault fault before now result = RisesWhere (IsErrOf result fault) before now
 
 -- the count of faults never falls, and this fault is answered only where the count rose in the call
 pub record HasCause {T E : Type 0} (fault : E) (before now : ℕ) (result : Result T E) : Type 0 where

@@ -1,5 +1,5 @@
 ghost use Rattle.std.specs.Prelude.{◌≡◌, ◌≤◌};
-ghost use Rattle.outside.specs.Outside.{Rose};
+ghost use Rattle.outside.specs.Outside.{raised};
 ghost use Rattle.outside.specs.Memory.{one_more};
 
 /// The calls that were made of an object in memory, and its faults. Each count stands still at its type's end.
@@ -31,7 +31,7 @@ impl Calls {
     pub(crate) fn fail(&mut self)
         ensures counted { self.new ≡ record self.old { faults = one_more self.old.faults } }
         ensures later { self.old.faults ≤ self.new.faults }
-        ensures rose { Rose self.old.faults self.new.faults }
+        ensures raised { self.new.faults ≡ raised 1 self.old.faults }
     {
         self.faults = self.faults.saturating_add(1);
     }

@@ -1,5 +1,5 @@
 ghost use Rattle.std.specs.Prelude.{ℕ, Option};
-ghost use Rattle.outside.specs.Outside.{Told, HasCause};
+ghost use Rattle.outside.specs.Outside.{Told, CountsFault};
 ghost use Rattle.outside.specs.Keeper.{Images, Loads, Saves};
 
 use crate::KeepError;
@@ -19,7 +19,7 @@ pub trait Keeper {
     /// `Failed` is counted. No load changes what is kept.
     fn load(&mut self, name: &[u8]) -> Result<Option<Vec<u8>>, KeepError>
         ensures images { Told (images self.old) (images self.new) (λ old new. Loads name.now result old new) }
-        ensures cause { HasCause KeepError.Failed (faults self.old) (faults self.new) result };
+        ensures cause { CountsFault KeepError.Failed (faults self.old) (faults self.new) result };
 
     /// Keeps the image under the name, in place of what is kept there.
     ///
@@ -29,5 +29,5 @@ pub trait Keeper {
     /// stays.
     fn save(&mut self, name: &[u8], image: &[u8]) -> Result<(), KeepError>
         ensures images { Told (images self.old) (images self.new) (λ old new. Saves name.now image.now result old new) }
-        ensures cause { HasCause KeepError.Failed (faults self.old) (faults self.new) result };
+        ensures cause { CountsFault KeepError.Failed (faults self.old) (faults self.new) result };
 }

@@ -1,7 +1,7 @@
 //! What a program reads from and writes to: traits with a written meaning, and objects in memory that meet them.
 //!
-//! An object may tell its content to contracts; a real stream tells none. Each has a count of faults, and a call
-//! answers `Failed` only where this count rose in the call. A count stands still at its type's end, which counts as risen.
+//! An object may tell its content to contracts; a real stream tells none. Each has a count of faults, which rises by one in
+//! a call that answers `Failed`, and in no other. A count stands still at its type's end.
 #![tactic(auto)]
 
 mod calls;

@@ -1,5 +1,5 @@
 ghost use Rattle.std.specs.Prelude.{◌≡◌, ◌↔◌, ◌<◌, ◌≤◌, [], drop, length, min, IsErr, IsErrOf, IsTrue, IfOk, Some};
-ghost use Rattle.outside.specs.Outside.{Told, Reads, Writes, HasCause};
+ghost use Rattle.outside.specs.Outside.{Told, Reads, Writes, CountsFault};
 ghost use Rattle.outside.specs.Memory.{InMemory, is_named, fails_now, after_call};
 
 use crate::calls::Calls;
@@ -55,7 +55,7 @@ impl Source for MemSource {
         requires { 0 < length buf.old }
         ensures within { IfOk result (λ count. count ≤ length buf.old) }
         ensures bytes { Told (Some self.old.bytes) (Some self.new.bytes) (λ old new. Reads old new buf.new result) }
-        ensures cause { HasCause (record {}) self.old.calls.faults self.new.calls.faults result }
+        ensures cause { CountsFault (record {}) self.old.calls.faults self.new.calls.faults result }
 
         ensures full { IfOk result (λ count. count ≡ min (length self.old.bytes) (length buf.old)) }
         ensures exactly { IsErr result ↔ IsTrue (fails_now self.old) }
@@ -118,7 +118,7 @@ impl Sink for MemSink {
         requires { 0 < length piece.now }
         ensures within { IfOk result (λ count. (0 < count) × (count ≤ length piece.now)) }
         ensures bytes { Told (Some self.old.bytes) (Some self.new.bytes) (λ old new. Writes old new piece.now result) }
-        ensures cause { HasCause SinkError.Failed self.old.calls.faults self.new.calls.faults result }
+        ensures cause { CountsFault SinkError.Failed self.old.calls.faults self.new.calls.faults result }
 
         ensures full { IfOk result (λ count. count ≡ length piece.now) }
         ensures exactly { IsErrOf result SinkError.Failed ↔ IsTrue (fails_now self.old) }

@@ -1,6 +1,6 @@
 ghost use Rattle.std.specs.Prelude.{◌≡◌, ◌↔◌, [], None, Some, option_map, position, OnOk, OnErr, IsErr, IsErrOf, IsTrue};
 ghost use Rattle.std.specs.Option.{option_copied};
-ghost use Rattle.outside.specs.Outside.{Told, HasCause};
+ghost use Rattle.outside.specs.Outside.{Told, CountsFault};
 ghost use Rattle.outside.specs.Keeper.{IsPut, Loads, Saves};
 ghost use Rattle.outside.specs.Memory.{after_call};
 ghost use Rattle.outside.specs.MemoryKeeper.{KeeperInMemory, has_name, images_of, fail_of, fails_now, has_failed, SavesAs};
@@ -86,7 +86,7 @@ impl Keeper for MemKeeper {
     /// Gives a copy of the image, but in the named calls.
     fn load(&mut self, name: &[u8]) -> Result<Option<Vec<u8>>, KeepError>
         ensures images { Told (Some (images_of self.old.slots)) (Some (images_of self.new.slots)) (λ old new. Loads name.now result old new) }
-        ensures cause { HasCause KeepError.Failed self.old.calls.faults self.new.calls.faults result }
+        ensures cause { CountsFault KeepError.Failed self.old.calls.faults self.new.calls.faults result }
 
         ensures exactly { IsErrOf result KeepError.Failed ↔ IsTrue (fails_now self.old) }
         ensures counted { self.new ≡ record self.old { calls = after_call (has_failed result) self.old.calls } }
@@ -105,7 +105,7 @@ impl Keeper for MemKeeper {
     /// Keeps a copy of the image, but in the named calls.
     fn save(&mut self, name: &[u8], image: &[u8]) -> Result<(), KeepError>
         ensures images { Told (Some (images_of self.old.slots)) (Some (images_of self.new.slots)) (λ old new. Saves name.now image.now result old new) }
-        ensures cause { HasCause KeepError.Failed self.old.calls.faults self.new.calls.faults result }
+        ensures cause { CountsFault KeepError.Failed self.old.calls.faults self.new.calls.faults result }
 
         ensures exactly { IsErrOf result KeepError.Failed → IsTrue (fails_now self.old) }
         // A named call fails, or memory ran out before the image that it leaves was there.

@@ -1,6 +1,6 @@
 ghost use Rattle.std.specs.Prelude.{◌≡◌, ◌-◌, ◌≤◌, ◌↔◌, [], Some, None, Ok, ◌∷◌, ◌++◌, drop, take, length, map, option_map, slice_get, IfOk, OnOk, OnErr, IsErrOf, IsTrue};
 ghost use Rattle.std.specs.Option.{option_copied};
-ghost use Rattle.outside.specs.Outside.{HasCause};
+ghost use Rattle.outside.specs.Outside.{CountsFault};
 ghost use Rattle.outside.specs.Port.{AddsFrames, frames_of_take, frames_of_answer};
 ghost use Rattle.outside.specs.MemoryPort.{PortInMemory, is_named_call, take_fails, after_take, after_answer};
 
@@ -77,7 +77,7 @@ impl Port for MemPort {
         ensures none { (result ≡ Ok None) ↔ (length self.old.left ≡ 0) }
         ensures taken { AddsFrames (Some self.old.taken) (Some self.new.taken) (frames_of_take result) }
         ensures answered { AddsFrames (Some self.old.answered) (Some self.new.answered) [] }
-        ensures cause { HasCause PortError.Failed self.old.calls.faults self.new.calls.faults result }
+        ensures cause { CountsFault PortError.Failed self.old.calls.faults self.new.calls.faults result }
 
         ensures next { IfOk result (λ frame. option_map (λ f. f.items) frame ≡ slice_get self.old.left 0) }
         ensures exactly { IsErrOf result PortError.Failed ↔ IsTrue (take_fails self.old) }
@@ -109,7 +109,7 @@ impl Port for MemPort {
         ensures left { length self.new.left ≡ length self.old.left }
         ensures taken { AddsFrames (Some self.old.taken) (Some self.new.taken) [] }
         ensures answered { AddsFrames (Some self.old.answered) (Some self.new.answered) (frames_of_answer frame.now result) }
-        ensures cause { HasCause PortError.Failed self.old.calls.faults self.new.calls.faults result }
+        ensures cause { CountsFault PortError.Failed self.old.calls.faults self.new.calls.faults result }
 
         ensures exactly { IsErrOf result PortError.Failed ↔ IsTrue (is_named_call self.old) }
         ensures counted { self.new ≡ after_answer self.old frame.now result }

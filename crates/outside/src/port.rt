@@ -1,5 +1,5 @@
 ghost use Rattle.std.specs.Prelude.{◌≡◌, ◌-◌, ◌↔◌, ℕ, List, [], Option, None, Ok};
-ghost use Rattle.outside.specs.Outside.{HasCause};
+ghost use Rattle.outside.specs.Outside.{CountsFault};
 ghost use Rattle.outside.specs.Port.{AddsFrames, frames_of_take, frames_of_answer};
 
 use crate::PortError;
@@ -29,7 +29,7 @@ pub trait Port {
         ensures none { (result ≡ Ok None) ↔ (left self.old ≡ 0) }
         ensures taken { AddsFrames (taken self.old) (taken self.new) (frames_of_take result) }
         ensures answered { AddsFrames (answered self.old) (answered self.new) [] }
-        ensures cause { HasCause PortError.Failed (faults self.old) (faults self.new) result };
+        ensures cause { CountsFault PortError.Failed (faults self.old) (faults self.new) result };
 
     /// Answers the connection whose frame was taken last.
     ///
@@ -40,5 +40,5 @@ pub trait Port {
         ensures left { left self.new ≡ left self.old }
         ensures taken { AddsFrames (taken self.old) (taken self.new) [] }
         ensures answered { AddsFrames (answered self.old) (answered self.new) (frames_of_answer frame.now result) }
-        ensures cause { HasCause PortError.Failed (faults self.old) (faults self.new) result };
+        ensures cause { CountsFault PortError.Failed (faults self.old) (faults self.new) result };
 }

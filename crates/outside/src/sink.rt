@@ -1,5 +1,5 @@
 ghost use Rattle.std.specs.Prelude.{List, ℕ, Option, ◌<◌, ◌≤◌, length, take, IfOk, OnOk, OnErr};
-ghost use Rattle.outside.specs.Outside.{Told, Writes, Adds, HasCause};
+ghost use Rattle.outside.specs.Outside.{Told, Writes, Adds, CountsFault};
 
 use crate::SinkError;
 
@@ -20,7 +20,7 @@ pub trait Sink {
         requires { 0 < length piece.now }
         ensures within { IfOk result (λ count. (0 < count) × (count ≤ length piece.now)) }
         ensures bytes { Told (written self.old) (written self.new) (λ old new. Writes old new piece.now result) }
-        ensures cause { HasCause SinkError.Failed (faults self.old) (faults self.new) result };
+        ensures cause { CountsFault SinkError.Failed (faults self.old) (faults self.new) result };
 }
 
 /// Writes the whole text.
@@ -31,7 +31,7 @@ pub trait Sink {
 pub fn write_all<O: Sink>(output: &mut O, text: &[u8]) -> Result<(), SinkError>
     ensures all { OnOk result (Adds (O.written output.old) (O.written output.new) text.now) }
     ensures front { OnErr result ((count : ℕ) × (count ≤ length text.now) × Adds (O.written output.old) (O.written output.new) (take count text.now)) }
-    ensures cause { HasCause SinkError.Failed (O.faults output.old) (O.faults output.new) result }
+    ensures cause { CountsFault SinkError.Failed (O.faults output.old) (O.faults output.new) result }
 {
     let mut rest = text;
     while !rest.is_empty() {

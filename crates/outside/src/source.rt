@@ -1,5 +1,5 @@
 ghost use Rattle.std.specs.Prelude.{List, ℕ, Option, ◌<◌, ◌≤◌, length, IfOk};
-ghost use Rattle.outside.specs.Outside.{Told, Reads, HasCause};
+ghost use Rattle.outside.specs.Outside.{Told, Reads, CountsFault};
 
 use crate::Failed;
 
@@ -20,5 +20,5 @@ pub trait Source {
         requires { 0 < length buf.old }
         ensures within { IfOk result (λ count. count ≤ length buf.old) }
         ensures bytes { Told (left self.old) (left self.new) (λ old new. Reads old new buf.new result) }
-        ensures cause { HasCause (record {}) (faults self.old) (faults self.new) result };
+        ensures cause { CountsFault (record {}) (faults self.old) (faults self.new) result };
 }

@@ -1,4 +1,4 @@
-use Rattle.std.proofs.Common.{arith}
+use Rattle.std.proofs.Common.{◌∙◌}
 use Rattle.outside.specs.declared.errors.SinkError.{SinkError}
 use Rattle.outside.proofs.Writing.{piece_written, front_written, on_err}
 use Rattle.outside.proofs.sink.write_all.Goals as goal
@@ -6,7 +6,7 @@ use Rattle.outside.proofs.sink.write_all.Goals as goal
 pub loop-rest-preserved : goal.loop-rest-preserved
 loop-rest-preserved g c = record {
   written = piece_written SinkError _ _ _ _ _ c.in_ok-count.count c.loop-rest.invariant.written c.in_ok-count.ensures.bytes;
-  later = omega (arith, c.write.ensures.cause.later, c.in_ok-count.ensures.cause.later);
+  faults = c.in_ok-count.ensures.cause.never (λ is. absurd (cc is)) ∙ c.loop-rest.invariant.faults;
 }
 
 pub returns-in_err-count-clause-front : goal.returns-in_err-count-clause-front
