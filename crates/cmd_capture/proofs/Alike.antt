@@ -17,6 +17,8 @@ module _ {S A : Type 0} (item : Reader A) where
   alike_from zero state bytes at = refl
   alike_from (suc n) state bytes at = by (item bytes at) (λ next. alike_from n state bytes next)
     where
-      by : (r : Result (A × ℕ) ℕ) → ((next : ℕ) → from_state n state bytes next ≡ alike_at item n bytes next) → (r >>= λ first. with_first first.0 (from_state n state bytes first.1)) ≡ (r >>= λ first. with_first first.0 (alike_at item n bytes first.1))
+      by : (r : Result (A × ℕ) ℕ) → ((next : ℕ) → from_state n state bytes next ≡ alike_at item n bytes next)
+          → (r >>= λ first. with_first first.0 (from_state n state bytes first.1))
+          ≡ (r >>= λ first. with_first first.0 (alike_at item n bytes first.1))
       by (Ok first) more = ap (with_first first.0) (more first.1)
       by (Err place) more = refl

@@ -5,3 +5,4 @@ pub mod Codec
 pub mod Captured
 pub mod Cutting
 pub mod Breaking
+pub mod Passing

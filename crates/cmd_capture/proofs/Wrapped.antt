@@ -1,6 +1,6 @@
 -- A number's low bytes are those of the number that wraps at the field's width.
-use Rattle.std.proofs.Common.{◌≡◌, ℕ, ◌%◌, arith, refl, ap}
-use Rattle.std.specs.Int.{w8, w16, w32, to_be_bytes}
+use Rattle.std.proofs.Common.{◌≡◌, ℕ, ◌%◌, arith}
+use Rattle.std.specs.Int.{w8, w16, w32}
 use Rattle.byte_fields.specs.Field.{digits}
 
 pub wrapped8 : (n : ℕ) → digits w8 (n % 256) ≡ digits w8 n

@@ -1,16 +1,20 @@
 -- A command from its words: options, `--`, the program and its arguments.
-use Rattle.std.specs.Prelude.{ℕ, ◌+◌, Bool, true, false, ◌||◌, ◌&&◌, not, ◌==◌, nat_lt, List, [], ◌∷◌, ◌++◌, length, take, drop, slice_index_or, Option, Some, None, is_some, option_map, option_and_then, unwrap_or, Result, Ok, Err, position, if◌then◌else◌}
+use Rattle.std.specs.Prelude.{◌≡◌, ℕ, ◌+◌, Bool, true, false, ◌||◌, ◌&&◌, not, ◌==◌, nat_lt, List, [], ◌∷◌, ◌++◌, length, take, drop}
+use Rattle.std.specs.Prelude.{slice_index_or, Option, Some, None, is_some, option_map, option_and_then, unwrap_or, Result, Ok, Err}
+use Rattle.std.specs.Prelude.{position, if◌then◌else◌}
 use Rattle.std.specs.List.{fold, filter_map}
 use Rattle.std.specs.Str.{bytes_eq}
 use Rattle.byte_fields.specs.Numbers.{as_u32, as_u64}
 use Rattle.file_paths.specs.Refusals.{when, unless_refused}
-use Rattle.file_paths.specs.Path.{FilePath, resolved}
+use Rattle.file_paths.specs.Path.{FilePath, IsPath, resolved}
 use Rattle.cmd_capture.specs.declared.command.Command.{Command}
 use Rattle.cmd_capture.specs.declared.capturing.CaptureError.{CaptureError}
-use Rattle.cmd_capture.specs.declared.capturing.CaptureError.TheVariants.{NoProgram, BadOption, BadInput, BadEnv, BadTemplate, NotAbsolute, ZeroByte, CommandTooLong}
+use Rattle.cmd_capture.specs.declared.capturing.CaptureError.TheVariants.{NoProgram, BadOption, BadInput, BadEnv, BadTemplate}
+use Rattle.cmd_capture.specs.declared.capturing.CaptureError.TheVariants.{NotAbsolute, ZeroByte, CommandTooLong}
+use Rattle.cmd_capture.specs.Limits.{max_command}
 use Rattle.cmd_capture.specs.Rules.{is_text, is_absolute, is_template}
 use Rattle.cmd_capture.specs.Environment.{set_pair}
-use Rattle.cmd_capture.specs.Spelling.{command}
+use Rattle.cmd_capture.specs.Spelling.{command, IsCommand}
 
 -- ---- the parts of the words
 
@@ -137,9 +141,15 @@ refusals words cwd =
     ∷ refusal_at BadOption (position is_unknown (options words))
     ∷ refusal_at BadInput (position (holds_behind in_mark (is_bad_path cwd)) (options words))
     ∷ text_refusals (options words) (program_words words)
-    ++ when (nat_lt 65536 (length (command (captured words cwd)))) (CommandTooLong (as_u64 (length (command (captured words cwd)))))
+    ++ when (nat_lt max_command (length (command (captured words cwd)))) (CommandTooLong (as_u64 (length (command (captured words cwd)))))
     ∷ []
 
 -- the command of the words, or the first refusal
 abbrev pub capture : List (List ℕ) → FilePath → Result Command CaptureError
 capture words cwd = unless_refused (refusals words cwd) (captured words cwd)
+
+-- ---- law
+
+-- what is captured has a spelling
+abbrev pub CapturedHaveASpelling : Type 0
+CapturedHaveASpelling = (words : List (List ℕ)) (cwd : FilePath) (c : Command) → IsPath cwd → capture words cwd ≡ Ok c → IsCommand c

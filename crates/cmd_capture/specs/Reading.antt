@@ -1,13 +1,15 @@
 -- Reading commands and jobs, with the place of the first faulty field.
-use Rattle.std.specs.Prelude.{◌≡◌, ℕ, Bool, ◌&&◌, not, nat_le, List, [], ◌∷◌, ◌++◌, Ok}
+use Rattle.std.specs.Prelude.{ℕ, Bool, ◌&&◌, not, nat_le, List, [], ◌∷◌, ◌++◌, Ok}
 use Rattle.std.specs.Int.{w8, w16, w32}
 use Rattle.byte_fields.specs.Field.{Reader, ◌>>=◌, ruled, none, tagged_at, span_at, number_at, each_at, limited}
+use Rattle.file_paths.specs.Limits.{max_file}
 use Rattle.file_paths.specs.Reading.{path_at, content_at}
-use Rattle.vol_tree.specs.declared.node.Node.{Node}
-use Rattle.vol_tree.specs.declared.node.Node.TheVariants.{Folder, File}
+use Rattle.tree_values.specs.declared.node.Node.{Node}
+use Rattle.tree_values.specs.declared.node.Node.TheVariants.{Folder, File}
 use Rattle.cmd_capture.specs.declared.command.Command.{Command}
 use Rattle.cmd_capture.specs.declared.job.Job.{Job}
 use Rattle.cmd_capture.specs.declared.job.JobRow.{JobRow}
+use Rattle.cmd_capture.specs.Limits.{max_command}
 use Rattle.cmd_capture.specs.Environment.{has_key}
 use Rattle.cmd_capture.specs.Rules.{is_text, is_program, is_key, is_pattern}
 
@@ -74,14 +76,14 @@ parts_at bytes at = do
 
 -- a command of at most 64 KiB; the first field that ends past them is faulty
 unfoldable pub command_at : Reader Command
-command_at = limited 65536 parts_at
+command_at = limited max_command parts_at
 
 -- ---- jobs
 
 -- a file
 unfoldable pub file_at : Reader Node
 file_at bytes at = do
-  content ← content_at 8388608 bytes at
+  content ← content_at max_file bytes at
   Ok (File content.0, content.1)
 
 -- each kind of node with what follows it

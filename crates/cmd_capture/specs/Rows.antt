@@ -1,11 +1,12 @@
 -- Rows of a job: what stands at a path, and which lists of raw rows are legal.
-use Rattle.std.specs.Prelude.{◌≡◌, ℕ, ◌<◌, Bool, true, false, not, ◌&&◌, ◌||◌, List, [], ◌∷◌, length, take, find, Option, Some, None, is_some, option_map, option_and_then, slice_get, if◌then◌else◌}
+use Rattle.std.specs.Prelude.{◌≡◌, ℕ, ◌<◌, Bool, true, false, not, ◌&&◌, ◌||◌, List, [], ◌∷◌, length, take, find, Option, Some, None}
+use Rattle.std.specs.Prelude.{is_some, option_map, option_and_then, slice_get, if◌then◌else◌}
 use Rattle.std.specs.List.{list_all, filter_map, AllByRecursion}
 use Rattle.std.specs.Ordering.{is_lt}
 use Rattle.std.specs.declared.cmp.Ordering.TheVariants.{Less}
 use Rattle.file_paths.specs.Path.{FilePath, IsPath, path_of, path_cmp, is_same_path, folder_of}
-use Rattle.vol_tree.specs.Tree.{is_root, is_folder_node}
-use Rattle.vol_tree.specs.declared.node.Node.{Node}
+use Rattle.tree_values.specs.Tree.{is_root, is_folder_node}
+use Rattle.tree_values.specs.declared.node.Node.{Node}
 use Rattle.cmd_capture.specs.Capture.{ok}
 use Rattle.cmd_capture.specs.declared.job.JobRow.{JobRow}
 use Rattle.cmd_capture.specs.declared.job.RawRow.{RawRow}

@@ -1,7 +1,8 @@
 -- What the parts of a command have to be.
-use Rattle.std.specs.Prelude.{◌≡◌, ℕ, Bool, true, ◌&&◌, ◌||◌, not, ◌==◌, nat_lt, nat_le, List, [], ◌∷◌, length, take, map, unwrap_or, position}
-use Rattle.std.specs.List.{list_all, list_any, IsDistinct, AllByRecursion}
+use Rattle.std.specs.Prelude.{◌≡◌, ℕ, Bool, true, ◌&&◌, not, ◌==◌, nat_lt, nat_le, List, [], ◌∷◌, length, take, map}
+use Rattle.std.specs.List.{list_all, IsDistinct, AllByRecursion}
 use Rattle.std.specs.Str.{bytes_eq}
+use Rattle.cmd_capture.specs.Limits.{max_template}
 
 -- a byte, and not zero
 abbrev pub is_text_byte : ℕ → Bool
@@ -37,7 +38,7 @@ is_pattern bytes = list_all is_pattern_byte bytes
 
 -- a template has 1 to 255 bytes
 abbrev pub is_template : List ℕ → Bool
-is_template bytes = nat_le 1 (length bytes) && (nat_le (length bytes) 255 && is_pattern bytes)
+is_template bytes = nat_le 1 (length bytes) && (nat_le (length bytes) max_template && is_pattern bytes)
 
 -- a key, and a text as its value
 abbrev pub IsVariable : List ℕ × List ℕ → Type 0

@@ -47,6 +47,10 @@ outcome_of (Fail ∷ answers) job = None
 
 -- the script after a run; where memory ran out it is as before
 abbrev pub after_run : InScript → List ℕ → Job → Result Outcome RunError → InScript
-after_run script work job (Ok outcome) = record { answers = drop 1 script.answers; runs = script.runs ++ record { work = work; job = job; outcome = outcome } ∷ []; faults = script.faults }
+after_run script work job (Ok outcome) = record {
+  answers = drop 1 script.answers;
+  runs = script.runs ++ record { work = work; job = job; outcome = outcome } ∷ [];
+  faults = script.faults;
+}
 after_run script work job (Err Failed) = record { answers = drop 1 script.answers; runs = script.runs; faults = one_more script.faults }
 after_run script work job (Err Memory) = script

@@ -1,17 +1,20 @@
 -- The one spelling of commands and jobs, and which of them have one. A count or a length that its field does not hold
 -- stands there as its low bytes; what fits has none such.
-use Rattle.std.specs.Prelude.{◌≡◌, ℕ, ◌<◌, ◌≤◌, ◌^◌, true, List, [], ◌∷◌, ◌++◌, length, Some}
+use Rattle.std.specs.Prelude.{◌≡◌, ℕ, ◌<◌, ◌≤◌, ◌^◌, true, List, ◌++◌, length, Some}
 use Rattle.std.specs.List.{flat_map, AllByRecursion}
 use Rattle.std.specs.Int.{w8, w16, w32}
 use Rattle.byte_fields.specs.Field.{digits}
+use Rattle.file_paths.specs.Limits.{max_file}
 use Rattle.file_paths.specs.Path.{IsPath}
-use Rattle.vol_tree.specs.Tree.{node_size}
+use Rattle.byte_fields.specs.Codec.{IsBytes}
+use Rattle.tree_values.specs.Tree.{node_size, file_bytes}
 use Rattle.file_paths.specs.Spelling.{path, content}
-use Rattle.vol_tree.specs.Spelling.{node as node_or_none}
-use Rattle.vol_tree.specs.declared.node.Node.{Node}
+use Rattle.tree_values.specs.Spelling.{node as node_or_none}
+use Rattle.tree_values.specs.declared.node.Node.{Node}
 use Rattle.cmd_capture.specs.declared.command.Command.{Command}
 use Rattle.cmd_capture.specs.declared.job.Job.{Job}
 use Rattle.cmd_capture.specs.declared.job.JobRow.{JobRow}
+use Rattle.cmd_capture.specs.Limits.{max_command}
 use Rattle.cmd_capture.specs.Rules.{is_text, is_program, is_template, AreVariables}
 
 -- ---- commands
@@ -58,7 +61,7 @@ pub record CountsFit (c : Command) : Type 0 where
 pub record IsCommand (c : Command) : Type 0 where
   pub parts : AreParts c
   -- the whole has at most 64 KiB
-  pub short : length (command c) ≤ 65536
+  pub short : length (command c) ≤ max_command
 
 -- ---- jobs
 
@@ -74,10 +77,11 @@ job_row row = path row.path ++ node row.node
 abbrev pub job : Job → List ℕ
 job j = command j.command ++ (digits w32 (length j.rows) ++ flat_map job_row j.rows)
 
--- a path, and no file of more than 8 MiB
+-- a path, and no file of more than 8 MiB or of other numbers than bytes
 pub record RowFits (row : JobRow) : Type 0 where
   pub is_path : IsPath row.path
-  pub small : node_size (Some row.node) ≤ 8388608
+  pub small : node_size (Some row.node) ≤ max_file
+  pub bytes : IsBytes (file_bytes (Some row.node))
 
 -- a job with a spelling
 pub record IsJob (j : Job) : Type 0 where

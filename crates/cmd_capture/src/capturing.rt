@@ -1,6 +1,7 @@
 //! A command from its words.
 
-ghost use Rattle.std.specs.Prelude.{◌≡◌, ◌≢◌, ◌+◌, ◌||◌, ◌==◌, true, false, [], Some, None, Ok, Err, length, slice_index_or, position, option_map, IfOk, IfErr, OnOk};
+ghost use Rattle.std.specs.Prelude.{◌≡◌, ◌≢◌, ◌+◌, ◌||◌, ◌==◌, true, false, [], Some, None, Ok, Err, length, slice_index_or, position};
+ghost use Rattle.std.specs.Prelude.{option_map, IfOk, IfErr, OnOk};
 ghost use Rattle.std.specs.List.{fold, filter_map};
 ghost use Rattle.std.specs.Option.{option_copied, option_to_list};
 ghost use Rattle.byte_fields.specs.Numbers.{as_u32};
@@ -13,6 +14,7 @@ ghost use Rattle.cmd_capture.specs.Capture.{capture, options, program_words};
 
 use crate::command::{Command, Templates, Words};
 use crate::environment::Env;
+use crate::limits::MAX_COMMAND;
 use crate::rules::{is_absolute, is_template, is_text};
 use byte_fields::saturate_u32;
 use std::alloc::{AllocError, Global};
@@ -43,7 +45,7 @@ pub enum CaptureError {
     /// The first word behind `--` that has a zero byte.
     #[error("word {0} has a zero byte")]
     ZeroByte(u32),
-    /// How many bytes the command's spelling has, which is more than 65,536.
+    /// How many bytes the command's spelling has, which is more than [`crate::MAX_COMMAND`].
     #[error("the command has {0} bytes")]
     CommandTooLong(u64),
     #[error("out of memory")]
@@ -178,7 +180,8 @@ fn bad_input(error: PathError, i: usize) -> CaptureError
 fn inputs_of(alloc: Global, cwd: &Path, options: &[Content]) -> Result<Paths, CaptureError>
     ensures good { OnOk result (position (rules.holds_behind rules.in_mark (rules.is_bad_path cwd.now)) options.now ≡ None) }
     ensures paths { IfOk result (λ paths. paths ≡ filter_map (rules.input_of cwd.now) options.now) }
-    ensures bad { IfErr result (λ e. e ≢ CaptureError.Memory → rules.refusal_at CaptureError.BadInput (position (rules.holds_behind rules.in_mark (rules.is_bad_path cwd.now)) options.now) ≡ Some e) }
+    ensures bad { IfErr result (λ e. e ≢ CaptureError.Memory
+        → rules.refusal_at CaptureError.BadInput (position (rules.holds_behind rules.in_mark (rules.is_bad_path cwd.now)) options.now) ≡ Some e) }
 {
     let mut inputs = Paths::new(alloc);
     for (i, word) in options.iter().enumerate() {
@@ -287,7 +290,14 @@ fn command_of(
     options: &[Content],
     inputs: Paths,
 ) -> Result<Command, AllocError>
-    ensures { IfOk result (λ c. c ≡ record { program = program.now; args = args.now; cwd = cwd.now; env = fold rules.set_variable [] (filter_map rules.variable_of options.now); inputs = inputs; templates = filter_map (rules.behind rules.tmp_mark) options.now }) }
+    ensures { IfOk result (λ c. c ≡ record {
+      program = program.now;
+      args = args.now;
+      cwd = cwd.now;
+      env = fold rules.set_variable [] (filter_map rules.variable_of options.now);
+      inputs = inputs;
+      templates = filter_map (rules.behind rules.tmp_mark) options.now;
+    }) }
 {
     Ok(Command {
         inputs,
@@ -337,7 +347,7 @@ fn captured(alloc: Global, words: &Words, cwd: &Path) -> Result<Command, Capture
     }
     let command = command_of(alloc, program, args, cwd, options, inputs)?;
     match spelled_size(alloc, &command) {
-        Ok(size) if size <= 65_536 => Ok(command),
+        Ok(size) if size <= MAX_COMMAND as u64 => Ok(command),
         Ok(size) => {
             drop(command);
             Err(CaptureError::CommandTooLong(size))

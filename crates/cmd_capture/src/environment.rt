@@ -1,17 +1,21 @@
-// Variables with their values, which contracts see as the list of pairs.
-ghost use Rattle.std.specs.Prelude.{◌≡◌, ◌<◌, ◌^◌, ℕ, List, [], ◌++◌, length, map, slice_get, option_map, OnOk, OnErr, IfOk};
-ghost use Rattle.std.specs.List.{IsDistinct};
-ghost use Rattle.std.specs.Str.{bytes_eq};
+//! Variables with their values, which contracts see as the list of pairs.
+#![tactic(auto, using(byte_fields::proofs::Fronts::front_none, byte_fields::proofs::Fronts::front_all, byte_fields::proofs::Fronts::front_first, byte_fields::proofs::Fronts::front_before, byte_fields::proofs::Fronts::front_second,))]
+
+ghost use Rattle.std.specs.Prelude.{◌≡◌, ◌≤◌, [], ◌++◌, length, slice_get, option_map, OnOk, OnErr};
+ghost use Rattle.std.specs.List.{flat_map};
+ghost use Rattle.byte_fields.specs.Field.{IsFront};
+ghost use Rattle.cmd_capture.specs.Limits.{max_variables};
 ghost use Rattle.cmd_capture.specs.Environment.{has_key, set_pair};
 ghost use Rattle.cmd_capture.specs.Spelling as spelling;
 
+use crate::limits::MAX_VARIABLES;
 use crate::spelling::{put_count16, put_text};
 use indexmap::IndexMap;
 use std::alloc::{AllocError, Global};
 use std::marker::Model;
 use vol_tree::{Content, TryCopy};
 
-/// Variables with their values, in the order in which they were first set: at most 4,294,967,295.
+/// Variables with their values, in the order in which they were first set: at most [`crate::MAX_VARIABLES`].
 #[derive(Debug, Drop)]
 pub struct Env {
     alloc: Global,
@@ -19,13 +23,14 @@ pub struct Env {
 }
 
 impl Model for Env {
-    ghost use Rattle.std.specs.Prelude.{ℕ, List, length, ◌<◌, ◌^◌};
+    ghost use Rattle.std.specs.Prelude.{ℕ, List, length, ◌≤◌};
+    ghost use Rattle.cmd_capture.specs.Limits.{max_variables};
 
     ghost Value = { List (List ℕ × List ℕ) };
 
     ghost view = { λ env. env.pairs.entries };
 
-    ghost invariant = { λ env. length env.pairs.entries < 2 ^ 32 };
+    ghost invariant = { λ env. length env.pairs.entries ≤ max_variables };
 }
 
 impl Env {
@@ -39,12 +44,12 @@ impl Env {
         }
     }
 
-    /// Replaces the value of the key in its place, or adds the pair last; a new key past 4,294,967,295 is refused.
+    /// Replaces the value of the key in its place, or adds the pair last; a new key past [`crate::MAX_VARIABLES`] is refused.
     pub fn set(&mut self, key: Content, value: Content) -> Result<(), AllocError>
         ensures set { OnOk result (self.new ≡ set_pair self.old key value) }
         ensures refused { OnErr result (self.new ≡ self.old) }
     {
-        if self.pairs.len() >= 4_294_967_295 && self.pairs.get(&key).is_none() {
+        if self.pairs.len() >= MAX_VARIABLES && self.pairs.get(&key).is_none() {
             return Err(AllocError);
         }
         self.pairs.insert(key, value)?;
@@ -71,7 +76,7 @@ impl Env {
     /// The number of variables.
     pub fn len(&self) -> usize
         ensures value { result ≡ length self.now }
-        ensures bound { result < 2 ^ 32 }
+        ensures bound { result ≤ max_variables }
     {
         self.pairs.len()
     }
@@ -83,18 +88,37 @@ impl Env {
         self.pairs.get_index(i)
     }
 
-    /// Adds the spelling of the pairs, in their order.
-    #[tactic(auto, using(std::proofs::Common::append_assoc))]
-    pub(crate) fn spell(&self, out: &mut Vec<u8>) -> Result<(), AllocError>
-        ensures { OnOk result (out.new.items ≡ out.old.items ++ spelling.counted spelling.variable self.now) }
+    /// Adds the key and the value of each pair, in their order.
+    #[tactic(auto)]
+    fn put_pairs(&self, out: &mut Vec<u8>) -> Result<(), AllocError>
+        ensures ok { OnOk result (out.new.items ≡ out.old.items ++ flat_map spelling.variable self.now) }
+        ensures err { OnErr result (IsFront out.old.items out.new.items (flat_map spelling.variable self.now)) }
     {
-        put_count16(out, self.pairs.len())?;
         for (key, value) in self.pairs.iter() {
-            put_text(out, key.bytes())?;
-            put_text(out, value.bytes())?;
+            put_variable(out, key, value)?;
         }
         Ok(())
     }
+
+    /// Adds the spelling of the pairs: their number, and the pairs.
+    pub(crate) fn spell(&self, out: &mut Vec<u8>) -> Result<(), AllocError>
+        ensures ok { OnOk result (out.new.items ≡ out.old.items ++ spelling.counted spelling.variable self.now) }
+        ensures err { OnErr result (IsFront out.old.items out.new.items (spelling.counted spelling.variable self.now)) }
+    {
+        put_count16(out, self.len())?;
+        self.put_pairs(out)?;
+        Ok(())
+    }
+}
+
+/// Adds the key and the value.
+fn put_variable(out: &mut Vec<u8>, key: &Content, value: &Content) -> Result<(), AllocError>
+    ensures ok { OnOk result (out.new.items ≡ out.old.items ++ spelling.variable (key.now, value.now)) }
+    ensures err { OnErr result (IsFront out.old.items out.new.items (spelling.variable (key.now, value.now))) }
+{
+    put_text(out, key.bytes())?;
+    put_text(out, value.bytes())?;
+    Ok(())
 }
 
 impl TryCopy for Env {

@@ -1,11 +1,8 @@
 //! What holds of commands and jobs: functions that do nothing, whose contracts are laws.
 
-ghost use Rattle.std.specs.Prelude.{◌≡◌, ℕ, List, Ok};
 ghost use Rattle.byte_fields.specs.Codec.{IsCodec};
 ghost use Rattle.byte_fields.specs.Cuts.{IsCut};
-ghost use Rattle.file_paths.specs.Path.{FilePath, IsPath};
-ghost use Rattle.cmd_capture.specs.declared.command.Command.{Command};
-ghost use Rattle.cmd_capture.specs.Capture.{capture};
+ghost use Rattle.cmd_capture.specs.Capture.{CapturedHaveASpelling};
 ghost use Rattle.cmd_capture.specs.Fields.{command_fields, job_row_fields, job_fields};
 ghost use Rattle.cmd_capture.specs.Reading.{command_at, job_row_at, job_at};
 ghost use Rattle.cmd_capture.specs.Broken.{BrokenParts, BrokenLists, BrokenCommands, LongCommands, BrokenJobRows, BrokenJobs};
@@ -37,5 +34,5 @@ pub fn broken_commands_are_refused_at_their_field()
 
 /// States that what is captured has a spelling.
 pub fn captured_commands_have_a_spelling()
-    ensures { (words : List (List ℕ)) (cwd : FilePath) (command : Command) → IsPath cwd → capture words cwd ≡ Ok command → IsCommand command }
+    ensures { CapturedHaveASpelling }
 {}

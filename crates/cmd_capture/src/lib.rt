@@ -6,6 +6,7 @@ mod command;
 mod environment;
 mod job;
 mod laws;
+mod limits;
 mod rules;
 mod runner;
 mod script;
@@ -20,8 +21,6 @@ pub use laws::{
     broken_commands_are_refused_at_their_field, captured_commands_have_a_spelling,
     commands_are_spelled_once, commands_end_with_their_bytes,
 };
+pub use limits::{MAX_COMMAND, MAX_TEMPLATE, MAX_VARIABLES};
 pub use runner::{Run, RunError, Runner};
 pub use script::{ScriptAnswer, ScriptRunner};
-
-#[cfg(test)]
-mod tests;

@@ -4,6 +4,8 @@ ghost use Rattle.std.specs.Prelude.{◌≡◌};
 ghost use Rattle.std.specs.List.{list_all};
 ghost use Rattle.cmd_capture.specs.Rules as rules;
 
+use crate::limits::MAX_TEMPLATE;
+
 fn is_text_byte(b: u8) -> bool
     ensures { result ≡ rules.is_text_byte b }
 {
@@ -67,5 +69,5 @@ pub(crate) fn is_pattern(bytes: &[u8]) -> bool
 pub(crate) fn is_template(bytes: &[u8]) -> bool
     ensures { result ≡ rules.is_template bytes.now }
 {
-    1 <= bytes.len() && bytes.len() <= 255 && is_pattern(bytes)
+    1 <= bytes.len() && bytes.len() <= MAX_TEMPLATE && is_pattern(bytes)
 }

@@ -62,7 +62,9 @@ impl ScriptRunner {
 
     /// Keeps the run that gave the outcome.
     fn tell(&mut self, work: &[u8], job: &Job, outcome: &Outcome) -> Result<(), RunError>
-        ensures ok { OnOk result (self.new ≡ record { answers = self.old.answers; runs = self.old.runs ++ record { work = work.now; job = job.now; outcome = outcome.now } ∷ []; faults = self.old.faults }) }
+        ensures ok { OnOk result (self.new ≡ record self.old {
+          runs = self.old.runs ++ record { work = work.now; job = job.now; outcome = outcome.now } ∷ [];
+        }) }
         ensures err { OnErr result (self.new ≡ self.old) }
         ensures cause { IfErr result (λ e. e ≡ RunError.Memory) }
     {

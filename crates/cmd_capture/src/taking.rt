@@ -5,11 +5,13 @@ ghost use Rattle.byte_fields.specs.Field.{Gives, each_at};
 ghost use Rattle.file_paths.specs.Reading.{path_at};
 ghost use Rattle.cmd_capture.specs.Environment.{has_key};
 ghost use Rattle.cmd_capture.specs.Rules.{is_text, is_program, is_key, is_pattern};
-ghost use Rattle.cmd_capture.specs.Reading.{bytes_at, text_at, template_at, is_new_key, variable_at, with_pair, variables_at, alike_at, counted_at, parts_at, command_at, file_at, node_at, job_row_at, job_rows_at, job_at};
+ghost use Rattle.cmd_capture.specs.Reading.{bytes_at, text_at, template_at, is_new_key, variable_at, with_pair, variables_at, alike_at};
+ghost use Rattle.cmd_capture.specs.Reading.{counted_at, parts_at, command_at, file_at, node_at, job_row_at, job_rows_at, job_at};
 
 use crate::command::{Command, Templates, Words};
 use crate::environment::Env;
 use crate::job::{Job, JobRow, JobRows};
+use crate::limits::MAX_COMMAND;
 use crate::rules::{is_key, is_pattern, is_program, is_text};
 use byte_fields::{Item, TakeError, span_at, take_each, u8_at, u16_at, u32_at};
 use std::alloc::Global;
@@ -263,7 +265,7 @@ impl Command {
     pub fn take(alloc: Global, bytes: &[u8], at: usize) -> Result<(Command, usize), TakeError>
         ensures { Gives result (command_at bytes.now at) }
     {
-        parts_at(alloc, front(bytes, at.saturating_add(65_536)), at)
+        parts_at(alloc, front(bytes, at.saturating_add(MAX_COMMAND)), at)
     }
 }
 

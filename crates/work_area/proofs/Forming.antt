@@ -1,21 +1,23 @@
 -- The rows of a job are in order, each in a folder of theirs or in the root, and the job has a spelling.
-use Rattle.std.proofs.Common.{◌≡◌, ◌⊎◌, ℕ, ◌-◌, ◌<◌, ◌≤◌, ◌^◌, min, Bool, true, false, ◌||◌, not, List, [], ◌∷◌, length, take, Option, Some, None, is_some, cond, refl, sym, ap, ◌∙◌, subst, true≢false, arith, inl, inr, length-take}
+use Rattle.std.proofs.Common.{◌≡◌, ◌-◌, ◌≤◌, Bool, true, false, ◌||◌, List, [], ◌∷◌, length, take, Option}
+use Rattle.std.proofs.Common.{Some, None, is_some, cond, refl, sym, ap, ◌∙◌, subst, true≢false, arith, inl, inr, length-take}
 use Rattle.std.specs.List.{list_any, filter_map, cons_option, AllByRecursion}
-use Rattle.std.specs.Str.{bytes_eq}
-use Rattle.std.specs.Cmp.Lexicographic.{pointwise, pointwise_decides, bytes_decides}
+use Rattle.std.specs.Cmp.Lexicographic.{pointwise_decides, bytes_decides}
 use Rattle.std.specs.declared.cmp.Ordering.TheVariants.{Less}
 use Rattle.std.proofs.lemmas.Bool.{cases_lt}
 use Rattle.std.proofs.lemmas.List.{take-take}
+use Rattle.byte_fields.proofs.Facts.{or_true}
+use Rattle.file_paths.specs.Limits.{max_file}
 use Rattle.file_paths.specs.Path.{FilePath, IsPath, path_cmp, folder_of}
-use Rattle.vol_tree.specs.Tree.{Volume, IsRow, IsTree, AreInOrder, is_root, is_folder, is_folder_node, node_at, node_size}
-use Rattle.vol_tree.specs.declared.node.Node.{Node}
-use Rattle.vol_tree.specs.declared.node.Row.{Row}
+use Rattle.byte_fields.specs.Codec.{IsBytes}
+use Rattle.tree_values.specs.Tree.{Volume, IsRow, IsTree, AreInOrder, is_root, is_folder, is_folder_node, node_at, node_size, file_bytes}
+use Rattle.tree_values.specs.declared.node.Node.{Node}
+use Rattle.tree_values.specs.declared.node.Row.{Row}
 use Rattle.cmd_capture.specs.declared.command.Command.{Command}
-use Rattle.cmd_capture.specs.declared.job.Job.{Job}
 use Rattle.cmd_capture.specs.declared.job.JobRow.{JobRow}
 use Rattle.cmd_capture.specs.Rows.{node_in, is_folder_in, AreInOrder as JobsInOrder, IsJobRow, AreJobRows}
 use Rattle.cmd_capture.specs.Spelling.{RowFits, IsCommand, IsJob}
-use Rattle.work_area.specs.Jobs.{is_within, roots, is_related, is_of_job, job_row, job_of}
+use Rattle.work_area.specs.Jobs.{is_within, roots, is_related, is_of_job, job_row}
 use Rattle.work_area.specs.Laws.{JobsHaveJobRows}
 use Rattle.work_area.proofs.Holding.{made_there, job_nodes, rows_are}
 
@@ -33,21 +35,21 @@ folder_len p = omega (arith, length-take (length p - 1) p)
 up_within : (r p : FilePath) → is_within r p ≡ true → is_within r (folder_of p) ≡ true
 up_within r p h =
     let fits : length p - 1 ≤ length p = omega arith in
-    within r (folder_of p) (ap (take (length p - 1)) (begins r p h) ∙ take-take (length p - 1) (length p) r fits ∙ ap (λ n. take n r) (sym (folder_len p)))
-
-or_true : (a b : Bool) → b ≡ true → (a || b) ≡ true
-or_true true b e = refl
-or_true false b e = e
+    within r (folder_of p)
+    (ap (take (length p - 1)) (begins r p h) ∙ take-take (length p - 1) (length p) r fits ∙ ap (λ n. take n r) (sym (folder_len p)))
 
 up_related : (p r : FilePath) → is_within p r ≡ true → is_related (folder_of p) r ≡ true
 up_related p r h =
     elim (cases_lt (length p - 1) (length r)) [
       | inl lt ↦
           let fits : length p - 1 ≤ length r = omega (arith, lt) in
-          let front : folder_of p ≡ take (length p - 1) r = sym (take-take (length p - 1) (length r) p fits) ∙ ap (take (length p - 1)) (sym (begins p r h)) in
-          or_true (is_within (folder_of p) r) (is_within r (folder_of p)) (within r (folder_of p) (front ∙ ap (λ n. take n r) (sym (folder_len p))))
+          let front : folder_of p ≡ take (length p - 1) r =
+          sym (take-take (length p - 1) (length r) p fits) ∙ ap (take (length p - 1)) (sym (begins p r h)) in
+          or_true (is_within (folder_of p) r) (is_within r (folder_of p))
+          (within r (folder_of p) (front ∙ ap (λ n. take n r) (sym (folder_len p))))
       | inr ge ↦
-          let there : is_within (folder_of p) r ≡ true = within (folder_of p) r (begins p r h ∙ sym (take-take (length r) (length p - 1) p ge)) in
+          let there : is_within (folder_of p) r ≡ true =
+          within (folder_of p) r (begins p r h ∙ sym (take-take (length r) (length p - 1) p ge)) in
           rw there refl
     ]
 
@@ -62,7 +64,9 @@ any_up : (p : FilePath) (rs : List FilePath) → list_any (is_related p) rs ≡ 
 any_up p [] h = h
 any_up p (r ∷ rs) h = by (is_related p r) refl h (any_up p rs)
   where
-    by : (b : Bool) → is_related p r ≡ b → (b || list_any (is_related p) rs) ≡ true → (list_any (is_related p) rs ≡ true → list_any (is_related (folder_of p)) rs ≡ true) → list_any (is_related (folder_of p)) (r ∷ rs) ≡ true
+    by : (b : Bool) → is_related p r ≡ b → (b || list_any (is_related p) rs) ≡ true
+        → (list_any (is_related p) rs ≡ true → list_any (is_related (folder_of p)) rs ≡ true)
+        → list_any (is_related (folder_of p)) (r ∷ rs) ≡ true
     by true e h more = rw (related_up p r e) refl
     by false e h more = or_true (is_related (folder_of p) r) (list_any (is_related (folder_of p)) rs) (more h)
 
@@ -77,11 +81,14 @@ of_job_up c p h = by (list_any (is_related p) (roots c)) refl h
 
 module _ (c : Command) where
   -- what holds of a row of the tree and its row of the job
-  all_made : (P : Row → Type 0) (Q : JobRow → Type 0) → ((row : Row) (r : JobRow) → P row → job_row c row ≡ Some r → Q r) → (rows : Volume) → AllByRecursion P rows → AllByRecursion Q (filter_map (job_row c) rows)
+  all_made : (P : Row → Type 0) (Q : JobRow → Type 0)
+      → ((row : Row) (r : JobRow) → P row → job_row c row ≡ Some r → Q r) → (rows : Volume) → AllByRecursion P rows
+      → AllByRecursion Q (filter_map (job_row c) rows)
   all_made P Q each [] all = tt
   all_made P Q each (row ∷ rows) all = by (job_row c row) refl (all_made P Q each rows all.1)
     where
-      by : (o : Option JobRow) → job_row c row ≡ o → AllByRecursion Q (filter_map (job_row c) rows) → AllByRecursion Q (cons_option o (filter_map (job_row c) rows))
+      by : (o : Option JobRow) → job_row c row ≡ o → AllByRecursion Q (filter_map (job_row c) rows)
+          → AllByRecursion Q (cons_option o (filter_map (job_row c) rows))
       by None e more = more
       by (Some r) e more = (each row r all.0 e, more)
 
@@ -89,17 +96,23 @@ module _ (c : Command) where
   in_order [] order = tt
   in_order (row ∷ rows) order = by (job_row c row) refl (in_order rows order.1)
     where
-      by : (o : Option JobRow) → job_row c row ≡ o → JobsInOrder (filter_map (job_row c) rows) → JobsInOrder (cons_option o (filter_map (job_row c) rows))
+      by : (o : Option JobRow) → job_row c row ≡ o → JobsInOrder (filter_map (job_row c) rows)
+          → JobsInOrder (cons_option o (filter_map (job_row c) rows))
       by None e more = more
       by (Some r) e more =
-          let here = (made_there c row r e).0 in
-          (all_made (λ next. path_cmp row.path next.path ≡ Less) (λ next. path_cmp r.path next.path ≡ Less) (λ other s less made. ap (λ p. path_cmp p s.path) here ∙ ap (path_cmp row.path) (made_there c other s made).0 ∙ less) rows order.0, more)
+          let here = (made_there c row r e).0 in (
+            all_made (λ next. path_cmp row.path next.path ≡ Less) (λ next. path_cmp r.path next.path ≡ Less)
+                (λ other s less made. ap (λ p. path_cmp p s.path) here ∙ ap (path_cmp row.path) (made_there c other s made).0
+                ∙ less) rows order.0,
+            more,
+          )
 
   few : (rows : Volume) → length (filter_map (job_row c) rows) ≤ length rows
   few [] = omega arith
   few (row ∷ rows) = by (job_row c row) (few rows)
     where
-      by : (o : Option JobRow) → length (filter_map (job_row c) rows) ≤ length rows → length (cons_option o (filter_map (job_row c) rows)) ≤ length (row ∷ rows)
+      by : (o : Option JobRow) → length (filter_map (job_row c) rows) ≤ length rows
+          → length (cons_option o (filter_map (job_row c) rows)) ≤ length (row ∷ rows)
       by None more = omega (arith, more)
       by (Some r) more = omega (arith, more)
 
@@ -111,7 +124,11 @@ module _ (c : Command) where
   row_fits : (row : Row) (r : JobRow) → IsRow row → job_row c row ≡ Some r → RowFits r
   row_fits row r is e =
       let there = made_there c row r e in
-      record { is_path = subst (λ p. IsPath p) (sym there.0) is.is_path; small = subst (λ n. node_size n ≤ 8388608) there.1 is.small }
+      record {
+        is_path = subst (λ p. IsPath p) (sym there.0) is.is_path;
+        small = subst (λ n. node_size n ≤ max_file) there.1 is.small;
+        bytes = subst (λ n. IsBytes (file_bytes n)) there.1 is.bytes;
+      }
 
   pub job_rows_formed : (tree : Volume) → IsTree tree → AreJobRows (filter_map (job_row c) tree)
   job_rows_formed tree is = record {
@@ -120,13 +137,18 @@ module _ (c : Command) where
     in_folders = λ path some. by path (is_of_job c path) refl some;
   }
     where
-      by : (path : FilePath) (b : Bool) → is_of_job c path ≡ b → is_some (node_in (filter_map (job_row c) tree) path) ≡ true → is_folder_in (filter_map (job_row c) tree) (folder_of path) ≡ true
+      by : (path : FilePath) (b : Bool) → is_of_job c path ≡ b
+          → is_some (node_in (filter_map (job_row c) tree) path) ≡ true
+          → is_folder_in (filter_map (job_row c) tree) (folder_of path) ≡ true
       by path false e some =
-          let none : node_in (filter_map (job_row c) tree) path ≡ None = job_nodes c tree is.in_order path ∙ ap (λ b. cond b (node_at tree path) None) e in
+          let none : node_in (filter_map (job_row c) tree) path ≡ None =
+          job_nodes c tree is.in_order path ∙ ap (λ b. cond b (node_at tree path) None) e in
           absurd (true≢false (sym some ∙ ap is_some none))
       by path true e some =
-          let here : node_in (filter_map (job_row c) tree) path ≡ node_at tree path = job_nodes c tree is.in_order path ∙ ap (λ b. cond b (node_at tree path) None) e in
-          let above : node_in (filter_map (job_row c) tree) (folder_of path) ≡ node_at tree (folder_of path) = job_nodes c tree is.in_order (folder_of path) ∙ ap (λ b. cond b (node_at tree (folder_of path)) None) (of_job_up c path e) in
+          let here : node_in (filter_map (job_row c) tree) path ≡ node_at tree path =
+          job_nodes c tree is.in_order path ∙ ap (λ b. cond b (node_at tree path) None) e in
+          let above : node_in (filter_map (job_row c) tree) (folder_of path) ≡ node_at tree (folder_of path) =
+          job_nodes c tree is.in_order (folder_of path) ∙ ap (λ b. cond b (node_at tree (folder_of path)) None) (of_job_up c path e) in
           ap (λ n. is_root (folder_of path) || is_folder_node n) above ∙ is.in_folders path (sym (ap is_some here) ∙ some)
 
   pub job_fits : (tree : Volume) → IsTree tree → IsCommand c → IsJob (record { command = c; rows = filter_map (job_row c) tree })

@@ -1,4 +1,3 @@
-pub mod Paths
 pub mod JobRows
 pub mod Filters
 pub mod Leading

@@ -1,49 +1,57 @@
 -- A change list that does not clash leaves what stands beside the job.
-use Rattle.std.proofs.Common.{◌≡◌, ℕ, suc, Bool, true, false, not, ◌&&◌, List, [], ◌∷◌, ◌++◌, reverse, find, Option, Some, None, is_some, option_map, position, cond, refl, sym, ap, ◌∙◌, subst, true≢false}
+use Rattle.std.proofs.Common.{◌≡◌, Bool, true, false, not, List, [], ◌∷◌, ◌++◌, reverse, find, Option, Some, None}
+use Rattle.std.proofs.Common.{is_some, option_map, position, cond, refl, sym, ap, ◌∙◌, subst, true≢false}
 use Rattle.std.specs.List.{filter_map, cons_option, flat_map, AllByRecursion}
 use Rattle.byte_fields.specs.Numbers.{as_u32}
+use Rattle.byte_fields.proofs.Facts.{none_mapped}
 use Rattle.file_paths.specs.Path.{FilePath}
-use Rattle.vol_tree.specs.Tree.{Volume, version_at, node_at}
-use Rattle.vol_tree.specs.declared.node.Node.{Node}
-use Rattle.vol_tree.specs.declared.node.Node.TheVariants.{Folder, File}
-use Rattle.vol_tree.specs.declared.node.Effect.{Effect}
+use Rattle.file_paths.proofs.Order.{tied_path}
+use Rattle.tree_values.specs.Tree.{Volume, version_at, node_at}
+use Rattle.tree_values.specs.declared.node.Node.{Node}
+use Rattle.tree_values.specs.declared.node.Node.TheVariants.{Folder, File}
+use Rattle.tree_values.specs.declared.node.Effect.{Effect}
 use Rattle.cmd_capture.specs.declared.job.JobRow.{JobRow}
 use Rattle.cmd_capture.specs.Rows.{is_at, node_in}
 use Rattle.cmd_capture.proofs.Captured.{none_passes}
-use Rattle.work_area.specs.Changes.{has_content, is_new, removal_of, making_of, makings_of, making, made, changes, has_row, is_taken, clashes}
+use Rattle.work_area.specs.Changes.{has_content, is_new, removal_of, makings_of, making, made, changes, has_row, is_taken}
+use Rattle.work_area.specs.Changes.{clashes}
 use Rattle.work_area.specs.Laws.{NoClashSparesTheRest}
-use Rattle.work_area.proofs.Paths.{same_path}
 use Rattle.work_area.proofs.Leading.{makings_found}
 use Rattle.work_area.proofs.Applying.{leaves}
 use Rattle.work_area.proofs.Searching.{any_is_found}
-
-no_index : (f : ℕ → ℕ) (o : Option ℕ) → option_map f o ≡ None → o ≡ None
-no_index f None h = refl
-no_index f (Some i) h = absurd cc
 
 behind : (P : Effect → Type 0) (xs ys : List Effect) → AllByRecursion P (xs ++ ys) → AllByRecursion P ys
 behind P [] ys all = all
 behind P (x ∷ xs) ys all = behind P xs ys all.1
 
 -- what holds of all effects holds of that of each row that passes
-each_row : (P : Effect → Type 0) (test : JobRow → Bool) (effect : JobRow → Effect) (rows : List JobRow) → AllByRecursion P (filter_map (λ row. cond (test row) (Some (effect row)) None) rows) → AllByRecursion (λ row. test row ≡ true → P (effect row)) rows
+each_row : (P : Effect → Type 0) (test : JobRow → Bool) (effect : JobRow → Effect) (rows : List JobRow)
+    → AllByRecursion P (filter_map (λ row. cond (test row) (Some (effect row)) None) rows)
+    → AllByRecursion (λ row. test row ≡ true → P (effect row)) rows
 each_row P test effect [] all = tt
 each_row P test effect (row ∷ rows) all = by (test row) refl all (each_row P test effect rows)
   where
-    by : (b : Bool) → test row ≡ b → AllByRecursion P (cons_option (cond b (Some (effect row)) None) (filter_map (λ row. cond (test row) (Some (effect row)) None) rows))
-        → (AllByRecursion P (filter_map (λ row. cond (test row) (Some (effect row)) None) rows) → AllByRecursion (λ row. test row ≡ true → P (effect row)) rows) → AllByRecursion (λ row. test row ≡ true → P (effect row)) (row ∷ rows)
+    by : (b : Bool) → test row ≡ b
+        → AllByRecursion P (cons_option (cond b (Some (effect row)) None)
+        (filter_map (λ row. cond (test row) (Some (effect row)) None) rows))
+        → (AllByRecursion P (filter_map (λ row. cond (test row) (Some (effect row)) None) rows)
+        → AllByRecursion (λ row. test row ≡ true → P (effect row)) rows)
+        → AllByRecursion (λ row. test row ≡ true → P (effect row)) (row ∷ rows)
     by true e all more = ((λ is. all.0), more all.1)
     by false e all more = ((λ is. absurd (true≢false (sym is ∙ e))), more all)
 
 -- what holds of each row holds of that at the path
-at_the_path : (Q : FilePath → Node → Type 0) (rows : List JobRow) (path : FilePath) (n : Node) → AllByRecursion (λ row. Q row.path row.node) rows → node_in rows path ≡ Some n → Q path n
+at_the_path : (Q : FilePath → Node → Type 0) (rows : List JobRow) (path : FilePath) (n : Node)
+    → AllByRecursion (λ row. Q row.path row.node) rows → node_in rows path ≡ Some n → Q path n
 at_the_path Q [] path n all h = absurd cc
 at_the_path Q (row ∷ rows) path n all h = by (is_at path row) refl h (at_the_path Q rows path n all.1)
   where
-    by : (b : Bool) → is_at path row ≡ b → option_map (λ row. row.node) (cond b (Some row) (find (is_at path) rows)) ≡ Some n → (node_in rows path ≡ Some n → Q path n) → Q path n
+    by : (b : Bool) → is_at path row ≡ b
+        → option_map (λ row. row.node) (cond b (Some row) (find (is_at path) rows)) ≡ Some n
+        → (node_in rows path ≡ Some n → Q path n) → Q path n
     by true e h more =
         let node : row.node ≡ n = cc in
-        subst (λ m. Q path m) node (subst (λ p. Q p row.node) (same_path row.path path e) all.0)
+        subst (λ m. Q path m) node (subst (λ p. Q p row.node) (tied_path row.path path e) all.0)
     by false e h more = more h
 
 no_row : (job : List JobRow) (path : FilePath) → has_row job path ≡ false → node_in job path ≡ None
@@ -69,15 +77,20 @@ spared job after old new are_job are_after clear applied path beside stands = by
     -- no effect that makes a new row clashes
     no_making_clashes : AllByRecursion (λ row. is_new job row ≡ true → clashes old job (made row.path row.node) ≡ false) after
     no_making_clashes =
-        let all = none_passes (clashes old job) (changes job after) (no_index as_u32 (position (clashes old job) (changes job after)) clear) in
-        let makings = behind (λ e. clashes old job e ≡ false) (filter_map (removal_of after) (reverse job)) (flat_map (makings_of job) after) all in
-        each_row (λ e. clashes old job e ≡ false) (is_new job) making after (subst (AllByRecursion (λ e. clashes old job e ≡ false)) (makings_found job after) makings)
+        let all =
+        none_passes (clashes old job) (changes job after) (none_mapped as_u32 (position (clashes old job) (changes job after)) clear) in
+        let makings =
+        behind (λ e. clashes old job e ≡ false) (filter_map (removal_of after) (reverse job)) (flat_map (makings_of job) after) all in
+        each_row (λ e. clashes old job e ≡ false) (is_new job) making after
+        (subst (AllByRecursion (λ e. clashes old job e ≡ false)) (makings_found job after) makings)
 
     by : (o : Option Node) → node_in after path ≡ o → (version_at new path ≡ version_at old path) × (node_at new path ≡ node_at old path)
     by None e = leaves job after old new are_job are_after applied path (none_there ∙ sym e)
     by (Some n) e =
         let at : not (has_content n (node_in job path)) ≡ true → clashes old job (made path n) ≡ false =
-        at_the_path (λ p m. not (has_content m (node_in job p)) ≡ true → clashes old job (made p m) ≡ false) after path n no_making_clashes e in
-        let clashing : clashes old job (made path n) ≡ false = at (ap (λ (o : Option Node). not (has_content n o)) none_there ∙ never_there n) in
+        at_the_path
+        (λ p m. not (has_content m (node_in job p)) ≡ true → clashes old job (made p m) ≡ false) after path n no_making_clashes e in
+        let clashing : clashes old job (made path n) ≡ false =
+        at (ap (λ (o : Option Node). not (has_content n o)) none_there ∙ never_there n) in
         let taken : is_taken old job path ≡ true = rw (stands, beside) refl in
         absurd (true≢false (sym taken ∙ sym (makes_there old job path n) ∙ clashing))

@@ -1,33 +1,36 @@
 -- Rows that stay have no change list.
-use Rattle.std.proofs.Common.{◌≡◌, ℕ, Bool, true, false, not, List, [], ◌∷◌, ◌++◌, reverse, Option, Some, None, cond, refl, sym, ap, ◌∙◌, subst, true≢false}
-use Rattle.std.specs.List.{filter_map, cons_option, AllByRecursion}
-use Rattle.std.specs.Str.{bytes_eq}
-use Rattle.std.specs.Cmp.Lexicographic.{pointwise, pointwise_decides, bytes_decides}
+use Rattle.std.proofs.Common.{◌≡◌, Bool, true, false, not, List, [], ◌∷◌, ◌++◌, reverse, Some, None, cond, refl, sym, ap}
+use Rattle.std.proofs.Common.{◌∙◌, subst, true≢false}
+use Rattle.std.specs.List.{filter_map, AllByRecursion}
+use Rattle.std.specs.Cmp.Lexicographic.{bytes_decides}
 use Rattle.std.proofs.lemmas.List.{reverse-append}
-use Rattle.vol_tree.specs.declared.node.Node.{Node}
-use Rattle.vol_tree.specs.declared.node.Node.TheVariants.{Folder, File}
-use Rattle.vol_tree.specs.declared.node.Effect.{Effect}
-use Rattle.vol_tree.specs.declared.node.Effect.TheVariants.{Remove}
+use Rattle.tree_values.specs.declared.node.Node.{Node}
+use Rattle.tree_values.specs.declared.node.Node.TheVariants.{Folder, File}
+use Rattle.tree_values.specs.declared.node.Effect.{Effect}
+use Rattle.tree_values.specs.declared.node.Effect.TheVariants.{Remove}
 use Rattle.cmd_capture.specs.declared.job.JobRow.{JobRow}
 use Rattle.cmd_capture.specs.Rows.{is_at, node_in}
-use Rattle.std.specs.List.{flat_map}
-use Rattle.work_area.specs.Changes.{has_kind, has_content, is_gone, is_new, removal_of, making_of, makings_of, making, changes}
-use Rattle.work_area.proofs.Paths.{own_path, same_path}
+use Rattle.work_area.specs.Changes.{has_kind, has_content, is_gone, is_new, removal_of, making_of, making, changes}
+use Rattle.file_paths.proofs.Order.{own_path, tied_path}
 use Rattle.work_area.proofs.JobRows.{AreDistinct}
 use Rattle.work_area.proofs.Leading.{makings_found}
 
-none_found : (g : JobRow → Bool) (e : JobRow → Effect) (rows : List JobRow) → AllByRecursion (λ row. g row ≡ false) rows → filter_map (λ row. cond (g row) (Some (e row)) None) rows ≡ []
+none_found : (g : JobRow → Bool) (e : JobRow → Effect) (rows : List JobRow)
+    → AllByRecursion (λ row. g row ≡ false) rows → filter_map (λ row. cond (g row) (Some (e row)) None) rows ≡ []
 none_found g e [] all = refl
 none_found g e (row ∷ rows) all = rw all.0 (none_found g e rows all.1)
 
-all_append : (g : JobRow → Bool) (xs ys : List JobRow) → AllByRecursion (λ row. g row ≡ false) xs → AllByRecursion (λ row. g row ≡ false) ys → AllByRecursion (λ row. g row ≡ false) (xs ++ ys)
+all_append : (g : JobRow → Bool) (xs ys : List JobRow) → AllByRecursion (λ row. g row ≡ false) xs
+    → AllByRecursion (λ row. g row ≡ false) ys → AllByRecursion (λ row. g row ≡ false) (xs ++ ys)
 all_append g [] ys all more = more
 all_append g (x ∷ xs) ys all more = (all.0, all_append g xs ys all.1 more)
 
-all_reverse : (g : JobRow → Bool) (xs : List JobRow) → AllByRecursion (λ row. g row ≡ false) xs → AllByRecursion (λ row. g row ≡ false) (reverse xs)
+all_reverse : (g : JobRow → Bool) (xs : List JobRow) → AllByRecursion (λ row. g row ≡ false) xs
+    → AllByRecursion (λ row. g row ≡ false) (reverse xs)
 all_reverse g [] all = tt
 all_reverse g (x ∷ xs) all =
-    subst (AllByRecursion (λ row. g row ≡ false)) (sym (reverse-append (x ∷ []) xs)) (all_append g (reverse xs) (x ∷ []) (all_reverse g xs all.1) (all.0, tt))
+    subst (AllByRecursion (λ row. g row ≡ false)) (sym (reverse-append (x ∷ []) xs))
+    (all_append g (reverse xs) (x ∷ []) (all_reverse g xs all.1) (all.0, tt))
 
 at_itself : (row : JobRow) → is_at row.path row ≡ true
 at_itself row = own_path row.path
@@ -36,13 +39,16 @@ at_itself row = own_path row.path
 abbrev pub AreFound : List JobRow → List JobRow → Type 0
 AreFound all rows = AllByRecursion (λ row. node_in all row.path ≡ Some row.node) rows
 
-found_behind : (first : JobRow) (all rows : List JobRow) → AllByRecursion (λ other. is_at first.path other ≡ false) rows → AreFound all rows → AreFound (first ∷ all) rows
+found_behind : (first : JobRow) (all rows : List JobRow)
+    → AllByRecursion (λ other. is_at first.path other ≡ false) rows → AreFound all rows
+    → AreFound (first ∷ all) rows
 found_behind first all [] apart found = tt
 found_behind first all (row ∷ rows) apart found = (by (is_at row.path first) refl, found_behind first all rows apart.1 found.1)
   where
     by : (b : Bool) → is_at row.path first ≡ b → node_in (first ∷ all) row.path ≡ Some row.node
     by false e = rw e found.0
-    by true e = absurd (true≢false (sym (subst (λ p. is_at p row ≡ true) (sym (same_path first.path row.path e)) (own_path row.path)) ∙ apart.0))
+    by true e =
+        absurd (true≢false (sym (subst (λ p. is_at p row ≡ true) (sym (tied_path first.path row.path e)) (own_path row.path)) ∙ apart.0))
 
 pub are_found : (rows : List JobRow) → AreDistinct rows → AreFound rows rows
 are_found [] distinct = tt
@@ -68,5 +74,6 @@ pub nothing_changes : (rows : List JobRow) → AreDistinct rows → changes rows
 nothing_changes rows distinct =
     let found = are_found rows distinct in
     ap (λ es. filter_map (removal_of rows) (reverse rows) ++ es) (makings_found rows rows)
-    ∙ ap (λ l. l ++ filter_map (making_of rows) rows) (none_found (is_gone rows) (λ row. Remove row.path) (reverse rows) (all_reverse (is_gone rows) rows (none_gone rows rows found)))
+    ∙ ap (λ l. l ++ filter_map (making_of rows) rows)
+    (none_found (is_gone rows) (λ row. Remove row.path) (reverse rows) (all_reverse (is_gone rows) rows (none_gone rows rows found)))
     ∙ none_found (is_new rows) making rows (none_new rows rows found)

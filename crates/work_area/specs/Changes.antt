@@ -1,15 +1,16 @@
 -- How rows before a run become those after it, as effects, and which of these meet what the job did not have.
-use Rattle.std.specs.Prelude.{ℕ, Bool, true, false, not, ◌&&◌, List, [], ◌∷◌, ◌++◌, reverse, Option, Some, None, is_some, option_map, position, if◌then◌else◌}
+use Rattle.std.specs.Prelude.{ℕ, Bool, true, false, not, ◌&&◌, List, [], ◌∷◌, ◌++◌, reverse, Option, Some, None, is_some, option_map}
+use Rattle.std.specs.Prelude.{position, if◌then◌else◌}
 use Rattle.std.specs.List.{list_any, filter_map, flat_map}
 use Rattle.std.specs.Option.{option_to_list}
 use Rattle.std.specs.Str.{bytes_eq}
 use Rattle.byte_fields.specs.Numbers.{as_u32}
 use Rattle.file_paths.specs.Path.{FilePath}
-use Rattle.vol_tree.specs.Tree.{Volume, node_at, children}
-use Rattle.vol_tree.specs.declared.node.Node.{Node}
-use Rattle.vol_tree.specs.declared.node.Node.TheVariants.{Folder, File}
-use Rattle.vol_tree.specs.declared.node.Effect.{Effect}
-use Rattle.vol_tree.specs.declared.node.Effect.TheVariants.{Make, Put, Remove, Move}
+use Rattle.tree_values.specs.Tree.{Volume, node_at, children}
+use Rattle.tree_values.specs.declared.node.Node.{Node}
+use Rattle.tree_values.specs.declared.node.Node.TheVariants.{Folder, File}
+use Rattle.tree_values.specs.declared.node.Effect.{Effect}
+use Rattle.tree_values.specs.declared.node.Effect.TheVariants.{Make, Put, Remove, Move}
 use Rattle.cmd_capture.specs.declared.job.JobRow.{JobRow}
 use Rattle.cmd_capture.specs.Rows.{is_at, node_in}
 

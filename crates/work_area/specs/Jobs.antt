@@ -1,12 +1,12 @@
 -- The job of a command: the rows of its folder, of its inputs, of what lies below, and of the folders above.
-use Rattle.std.specs.Prelude.{ℕ, Bool, not, ◌&&◌, ◌||◌, List, [], ◌∷◌, Option, None, is_some, option_map, position, Result, if◌then◌else◌}
+use Rattle.std.specs.Prelude.{Bool, not, ◌&&◌, ◌||◌, List, [], ◌∷◌, Option, None, is_some, option_map, position, Result, if◌then◌else◌}
 use Rattle.std.specs.List.{list_any, filter_map, starts_with}
 use Rattle.std.specs.Str.{bytes_eq}
 use Rattle.byte_fields.specs.Numbers.{as_u32}
 use Rattle.file_paths.specs.Refusals.{when, unless_refused}
 use Rattle.file_paths.specs.Path.{FilePath}
-use Rattle.vol_tree.specs.Tree.{Volume, is_root, is_folder, node_at}
-use Rattle.vol_tree.specs.declared.node.Row.{Row}
+use Rattle.tree_values.specs.Tree.{Volume, is_root, is_folder, node_at}
+use Rattle.tree_values.specs.declared.node.Row.{Row}
 use Rattle.cmd_capture.specs.declared.command.Command.{Command}
 use Rattle.cmd_capture.specs.declared.job.Job.{Job}
 use Rattle.cmd_capture.specs.declared.job.JobRow.{JobRow}

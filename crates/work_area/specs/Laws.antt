@@ -1,18 +1,17 @@
 -- What holds of jobs and of change lists, in their own words.
-use Rattle.std.specs.Prelude.{◌≡◌, ◌≤◌, true, false, ℕ, List, [], ◌∷◌, ◌++◌, map, Some, None, is_some, Ok}
+use Rattle.std.specs.Prelude.{◌≡◌, true, false, List, [], ◌∷◌, ◌++◌, map, Some, None, is_some, Ok}
 use Rattle.std.specs.List.{AllByRecursion}
 use Rattle.std.specs.declared.cmp.Ordering.TheVariants.{Less}
 use Rattle.file_paths.specs.Path.{FilePath, path_cmp}
-use Rattle.vol_tree.specs.Tree.{Volume, IsTree, version_at, node_at}
-use Rattle.vol_tree.specs.Effects.{apply_all}
-use Rattle.vol_tree.specs.declared.node.Node.{Node}
-use Rattle.vol_tree.specs.declared.node.Effect.{Effect}
-use Rattle.vol_tree.specs.declared.node.Effect.TheVariants.{Remove}
+use Rattle.tree_values.specs.Tree.{Volume, IsTree, version_at, node_at}
+use Rattle.tree_values.specs.Effects.{apply_all}
+use Rattle.tree_values.specs.declared.node.Node.{Node}
+use Rattle.tree_values.specs.declared.node.Effect.{Effect}
+use Rattle.tree_values.specs.declared.node.Effect.TheVariants.{Remove}
 use Rattle.cmd_capture.specs.declared.command.Command.{Command}
 use Rattle.cmd_capture.specs.declared.job.Job.{Job}
 use Rattle.cmd_capture.specs.declared.job.JobRow.{JobRow}
-use Rattle.cmd_capture.specs.declared.job.RawRow.{RawRow}
-use Rattle.cmd_capture.specs.Rows.{AreInOrder, AreJobRows, AreLegal, IsFirstOdd, read_rows, node_in}
+use Rattle.cmd_capture.specs.Rows.{AreInOrder, AreJobRows, node_in}
 use Rattle.work_area.specs.Jobs.{is_of_job, job_of}
 use Rattle.work_area.specs.Changes.{has_kind, has_content, changes, making, has_row, clash}
 
@@ -25,20 +24,24 @@ JobsHaveJobRows = (tree : Volume) (command : Command) (job : Job) → IsTree tre
 -- at each path of the job its rows have the tree's node, and at no other path one
 abbrev pub JobsHoldTheTree : Type 0
 JobsHoldTheTree = (tree : Volume) (command : Command) (job : Job) → IsTree tree → job_of tree command ≡ Ok job → (path : FilePath)
-    → (is_of_job command path ≡ true → node_in job.rows path ≡ node_at tree path) × ((is_of_job command path ≡ true → ⊥) → node_in job.rows path ≡ None)
+    → (is_of_job command path ≡ true → node_in job.rows path ≡ node_at tree path)
+    × ((is_of_job command path ≡ true → ⊥) → node_in job.rows path ≡ None)
 
 -- ---- change lists
 
 -- A volume in which each path of the job has the node of `before` has that of `after` there, once the change list is
 -- applied.
 abbrev pub ChangesLead : Type 0
-ChangesLead = (before after : List JobRow) (old new : Volume) → AreJobRows before → AreJobRows after → apply_all 0 (changes before after) old ≡ Ok new
+ChangesLead = (before after : List JobRow) (old new : Volume) → AreJobRows before → AreJobRows after
+    → apply_all 0 (changes before after) old ≡ Ok new
     → (path : FilePath) → node_at old path ≡ node_in before path → node_at new path ≡ node_in after path
 
 -- a path at which both have one node, or none, keeps its version and its node in every volume
 abbrev pub ChangesLeaveTheRest : Type 0
-ChangesLeaveTheRest = (before after : List JobRow) (old new : Volume) → AreJobRows before → AreJobRows after → apply_all 0 (changes before after) old ≡ Ok new
-    → (path : FilePath) → node_in before path ≡ node_in after path → (version_at new path ≡ version_at old path) × (node_at new path ≡ node_at old path)
+ChangesLeaveTheRest = (before after : List JobRow) (old new : Volume) → AreJobRows before → AreJobRows after
+    → apply_all 0 (changes before after) old ≡ Ok new
+    → (path : FilePath) → node_in before path ≡ node_in after path
+    → (version_at new path ≡ version_at old path) × (node_at new path ≡ node_at old path)
 
 -- no effect where nothing changed
 abbrev pub NothingChanges : Type 0
@@ -73,11 +76,14 @@ pub record RemovesAndMakes (before after : List JobRow) (effects : List Effect) 
   pub new : AllByRecursion (IsNew before after) made
 
 abbrev pub ChangesAreInOrder : Type 0
-ChangesAreInOrder = (before after : List JobRow) → AreJobRows before → AreJobRows after → RemovesAndMakes before after (changes before after)
+ChangesAreInOrder = (before after : List JobRow) → AreJobRows before → AreJobRows after
+    → RemovesAndMakes before after (changes before after)
 
 -- ---- change lists that do not clash
 
 -- what stands beside the job keeps its version and its node
 abbrev pub NoClashSparesTheRest : Type 0
-NoClashSparesTheRest = (job after : List JobRow) (old new : Volume) → AreJobRows job → AreJobRows after → clash old job (changes job after) ≡ None → apply_all 0 (changes job after) old ≡ Ok new
-    → (path : FilePath) → has_row job path ≡ false → is_some (node_at old path) ≡ true → (version_at new path ≡ version_at old path) × (node_at new path ≡ node_at old path)
+NoClashSparesTheRest = (job after : List JobRow) (old new : Volume) → AreJobRows job → AreJobRows after
+    → clash old job (changes job after) ≡ None → apply_all 0 (changes job after) old ≡ Ok new
+    → (path : FilePath) → has_row job path ≡ false → is_some (node_at old path) ≡ true
+    → (version_at new path ≡ version_at old path) × (node_at new path ≡ node_at old path)

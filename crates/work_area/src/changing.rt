@@ -3,7 +3,7 @@
 ghost use Rattle.std.specs.Prelude.{◌≡◌, ◌++◌, ◌∷◌, [], not, reverse, position, find, IfOk, OnOk};
 ghost use Rattle.std.specs.List.{list_any, filter_map, flat_map};
 ghost use Rattle.std.specs.Option.{option_copied};
-ghost use Rattle.vol_tree.specs.Tree.{children};
+ghost use Rattle.tree_values.specs.Tree.{children};
 ghost use Rattle.file_paths.specs.Path.{path_cmp};
 ghost use Rattle.cmd_capture.specs.Rows.{is_at, AreInOrder, AreJobRows};
 ghost use Rattle.work_area.specs.Changes as rules;

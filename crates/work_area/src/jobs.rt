@@ -3,7 +3,7 @@
 ghost use Rattle.std.specs.Prelude.{◌≡◌, ◌≢◌, ◌||◌, Ok, Err, position, IfOk, IfErr};
 ghost use Rattle.std.specs.List.{list_any, filter_map};
 ghost use Rattle.file_paths.specs.Path.{IsPath};
-ghost use Rattle.vol_tree.specs.Tree.{IsTree};
+ghost use Rattle.tree_values.specs.Tree.{IsTree};
 ghost use Rattle.work_area.specs.declared.jobs.JobError.TheVariants.{Memory};
 ghost use Rattle.cmd_capture.specs.Spelling.{IsCommand, IsJob};
 ghost use Rattle.cmd_capture.specs.Rows.{AreJobRows};

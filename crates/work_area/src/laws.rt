@@ -1,6 +1,7 @@
 //! What holds of jobs and of change lists: functions that do nothing, whose contracts are laws.
 
-ghost use Rattle.work_area.specs.Laws.{JobsHaveJobRows, JobsHoldTheTree, ChangesLead, ChangesLeaveTheRest, NothingChanges, ChangesAreInOrder, NoClashSparesTheRest};
+ghost use Rattle.work_area.specs.Laws.{JobsHaveJobRows, JobsHoldTheTree, ChangesLead, ChangesLeaveTheRest, NothingChanges};
+ghost use Rattle.work_area.specs.Laws.{ChangesAreInOrder, NoClashSparesTheRest};
 
 /// States that the rows of a job are what the tree has at the job's paths.
 pub fn jobs_hold_the_tree()

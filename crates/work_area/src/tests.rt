@@ -288,17 +288,30 @@ fn first_of(alloc: Global, first: Effect, second: Effect) -> Result<Option<u32>,
     Ok(found)
 }
 
+/// The first of the removals of two paths that clashes.
+fn removed(alloc: Global, first: &[u8], second: &[u8]) -> Result<Option<u32>, Fail> {
+    let first = path(alloc, first)?;
+    let second = path(alloc, second)?;
+    first_of(alloc, Effect::Remove(first), Effect::Remove(second))
+}
+
+/// The first of the puts of `3` at two paths that clashes.
+fn written(alloc: Global, first: &[u8], second: &[u8]) -> Result<Option<u32>, Fail> {
+    let first = put(alloc, first, b"3")?;
+    match put(alloc, second, b"3") {
+        Ok(second) => first_of(alloc, first, second),
+        Err(error) => {
+            drop(first);
+            Err(error)
+        }
+    }
+}
+
 #[test]
 fn finds_clashes(rt: HostRuntime) -> Result<(), Fail> {
     let alloc = rt.alloc();
-    let removals = (
-        Effect::Remove(path(alloc, b"d/x")?),
-        Effect::Remove(path(alloc, b"d")?),
-    );
-    assert_eq!(rt; first_of(alloc, removals.0, removals.1)?, Some(1));
-    let puts = (put(alloc, b"d/x", b"3")?, put(alloc, b"d/z", b"3")?);
-    assert_eq!(rt; first_of(alloc, puts.0, puts.1)?, None);
-    let puts = (put(alloc, b"d/x", b"3")?, put(alloc, b"d/y", b"3")?);
-    assert_eq!(rt; first_of(alloc, puts.0, puts.1)?, Some(1));
+    assert_eq!(rt; removed(alloc, b"d/x", b"d")?, Some(1));
+    assert_eq!(rt; written(alloc, b"d/x", b"d/z")?, None);
+    assert_eq!(rt; written(alloc, b"d/x", b"d/y")?, Some(1));
     Ok(())
 }

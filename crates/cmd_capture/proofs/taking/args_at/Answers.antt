@@ -1,4 +1,4 @@
-use Rattle.std.proofs.Common.{◌≡◌, ◌∙◌, sym, ap, subst, Ok}
+use Rattle.std.proofs.Common.{◌∙◌, sym, subst}
 use Rattle.std.proofs.lemmas.Result.{err_from_is_err_and}
 use Rattle.byte_fields.specs.Field.{Fails}
 use Rattle.cmd_capture.specs.Reading.{alike_at, counted_at, text_at}
@@ -9,7 +9,9 @@ pub returns-in_err-items : goal.returns-in_err-items
 unfolding counted_at
 returns-in_err-items c =
     let p = err_from_is_err_and c.from_residual-in_err-items.result c.from_residual-in_err-items.ensures.1 in
-    let fault : Fails c.in_err-items.field-0.0 (alike_at text_at c.in_ok-count.count c.args.bytes.now c.in_ok-count.start) = subst (λ read. Fails c.in_err-items.field-0.0 read) (alike_from text_at c.in_ok-count.count _ c.args.bytes.now c.in_ok-count.start) c.in_err-items.ensures.exact in
+    let fault : Fails c.in_err-items.field-0.0 (alike_at text_at c.in_ok-count.count c.args.bytes.now c.in_ok-count.start) =
+    subst (λ read. Fails c.in_err-items.field-0.0 read)
+    (alike_from text_at c.in_ok-count.count _ c.args.bytes.now c.in_ok-count.start) c.in_err-items.ensures.exact in
     rw (p.1, p.2, c.in_ok-count.ensures) fault
 
 pub returns : goal.returns

@@ -1,6 +1,6 @@
 use Rattle.std.specs.Prelude.{◌≡◌, ◌++◌, ◌∷◌, [], not, false, take}
 use Rattle.std.specs.List.{list_any}
-use Rattle.vol_tree.specs.Tree.{children}
+use Rattle.tree_values.specs.Tree.{children}
 use Rattle.work_area.specs.Changes.{has_row}
 use Rattle.work_area.proofs.changing.has_foreign_child.Given as goal
 

@@ -11,4 +11,5 @@ is_some n h = grind (arith, nat_tests)
 pub returns-in-Some : goal.returns-in-Some
 returns-in-Some c =
     let h = c.in-Some.ensures.item in
-    c.is_lt.ensures ∙ ap is_lt c.cmp.ensures ∙ last_row_tells c.args.rows.now c.in-Some.last.now c.args.path.now c.requires (is_some (length c.args.rows.now) h.0) h.1
+    c.is_lt.ensures ∙ ap is_lt c.cmp.ensures
+    ∙ last_row_tells c.args.rows.now c.in-Some.last.now c.args.path.now c.requires (is_some (length c.args.rows.now) h.0) h.1
