@@ -1,8 +1,10 @@
 -- Cutting bytes into lines, piece by piece.
-use Rattle.std.proofs.Common.{◌≡◌, ℕ, ◌+◌, ◌<◌, List, [], ◌∷◌, ◌++◌, length, take, drop, Bool, true, false, Some, None, arith, refl, sym, ap, ◌∙◌, append_assoc, position, IsTrue}
+use Rattle.std.proofs.Common.{◌≡◌, ℕ, ◌+◌, ◌<◌, List, [], ◌∷◌, ◌++◌, length, take, drop, Bool, true, false, Some, None, arith, refl}
+use Rattle.std.proofs.Common.{sym, ap, ◌∙◌, append_assoc, position, IsTrue}
 use Rattle.std.specs.List.{onto_first, position_or_len, join_with_byte, list_all}
 use Rattle.std.proofs.lemmas.List.{length-take-le}
-use Rattle.std.proofs.lemmas.List.Splits.{slice_split-cons_yes, slice_split-cons_no, length-slice_split, slice_split_first, slice_split_none, join_with_byte-slice_split}
+use Rattle.std.proofs.lemmas.List.Splits.{slice_split-cons_yes, slice_split-cons_no, length-slice_split, slice_split_first}
+use Rattle.std.proofs.lemmas.List.Splits.{slice_split_none, join_with_byte-slice_split}
 use Rattle.std.proofs.lemmas.List.Sums.{fails_before_first}
 use Rattle.std.proofs.lemmas.Bool.Decides.{nat_tests}
 use Rattle.shell_lang.proofs.Splitting.{cut_lacks, joined_are_cut}
@@ -11,7 +13,8 @@ use Rattle.shell_lang.specs.Lines.{is_line_end, parts, but_last, last_part, whol
 -- ---- the first line
 
 -- where a byte ends a line, the first part ends there
-first_part : (text : List ℕ) (i : ℕ) → position is_line_end text ≡ Some i → (parts text ≡ take i text ∷ parts (drop (i + 1) text)) × (i < length text)
+first_part : (text : List ℕ) (i : ℕ) → position is_line_end text ≡ Some i
+    → (parts text ≡ take i text ∷ parts (drop (i + 1) text)) × (i < length text)
 first_part text i h = (grind (arith, nat_tests, slice_split_first is_line_end text 0), grind (arith, nat_tests))
 
 pub line_at_end : (text : List ℕ) (i : ℕ) → position is_line_end text ≡ Some i → BeginsWithLine text (take i text)
@@ -42,7 +45,8 @@ unfolding glue
 glue-cons [] more lt = absurd (omega (arith, lt))
 glue-cons (part ∷ later) more lt = refl
 
-glue-onto : (b : ℕ) (cut : List (List ℕ)) (more : List ℕ) → is_line_end b ≡ false → onto_first b (glue cut more) ≡ glue (onto_first b cut) more
+glue-onto : (b : ℕ) (cut : List (List ℕ)) (more : List ℕ) → is_line_end b ≡ false
+    → onto_first b (glue cut more) ≡ glue (onto_first b cut) more
 unfolding glue
 glue-onto b [] more e = sym (slice_split-cons_no is_line_end b more e)
 glue-onto b (part ∷ []) more e = sym (slice_split-cons_no is_line_end b (part ++ more) e)
@@ -51,7 +55,8 @@ glue-onto b (part ∷ next ∷ later) more e = refl
 some_part : (text : List ℕ) → 0 < length (parts text)
 some_part text = omega (arith, length-slice_split is_line_end text)
 
-glue_step : (b : ℕ) (bs more : List ℕ) (test : Bool) → is_line_end b ≡ test → parts (bs ++ more) ≡ glue (parts bs) more → parts (b ∷ bs ++ more) ≡ glue (parts (b ∷ bs)) more
+glue_step : (b : ℕ) (bs more : List ℕ) (test : Bool) → is_line_end b ≡ test
+    → parts (bs ++ more) ≡ glue (parts bs) more → parts (b ∷ bs ++ more) ≡ glue (parts (b ∷ bs)) more
 glue_step b bs more true e ih =
     slice_split-cons_yes is_line_end b (bs ++ more) e ∙ ap (λ cut. [] ∷ cut) ih
     ∙ glue-cons (parts bs) more (some_part bs)
@@ -72,7 +77,8 @@ glue-last (line ∷ []) last more = refl
 glue-last (line ∷ next ∷ later) last more = ap (λ cut. line ∷ cut) (glue-last (next ∷ later) last more)
 
 -- bytes behind a text go on with its last part
-parts-more : (text more : List ℕ) (lines : List (List ℕ)) (last : List ℕ) → parts text ≡ lines ++ last ∷ [] → parts (text ++ more) ≡ lines ++ parts (last ++ more)
+parts-more : (text more : List ℕ) (lines : List (List ℕ)) (last : List ℕ) → parts text ≡ lines ++ last ∷ []
+    → parts (text ++ more) ≡ lines ++ parts (last ++ more)
 parts-more text more lines last cut =
     parts-glue text more ∙ ap (λ all. glue all more) cut ∙ glue-last lines last more
 
@@ -91,7 +97,8 @@ pieces_are_cut_alike xs ys = parts-more xs ys (whole_lines xs) (unfinished xs) (
 -- ---- a reader in pieces
 
 -- a piece is added
-pub piece_added : (behind : List (List ℕ)) (text bytes piece : List ℕ) → IsCutUpTo text behind bytes → IsCutUpTo (text ++ piece) behind (bytes ++ piece)
+pub piece_added : (behind : List (List ℕ)) (text bytes piece : List ℕ) → IsCutUpTo text behind bytes
+    → IsCutUpTo (text ++ piece) behind (bytes ++ piece)
 piece_added behind text bytes piece so_far =
     let whole : parts text ≡ (behind ++ whole_lines bytes) ++ unfinished bytes ∷ [] =
     so_far ∙ ap (λ rest. behind ++ rest) (parts_are bytes) ∙ sym (append_assoc behind (whole_lines bytes) (unfinished bytes ∷ [])) in
@@ -100,11 +107,12 @@ piece_added behind text bytes piece so_far =
     ∙ ap (λ rest. behind ++ rest) (sym (pieces_are_cut_alike bytes piece))
 
 -- the first line of the bytes is taken
-pub line_taken : (behind : List (List ℕ)) (text bytes line : List ℕ) → IsCutUpTo text behind bytes → BeginsWithLine bytes line → IsCutUpTo text (behind ++ line ∷ []) (drop (length line + 1) bytes)
+pub line_taken : (behind : List (List ℕ)) (text bytes line : List ℕ) → IsCutUpTo text behind bytes
+    → BeginsWithLine bytes line → IsCutUpTo text (behind ++ line ∷ []) (drop (length line + 1) bytes)
 line_taken behind text bytes line so_far begins =
     so_far ∙ ap (λ rest. behind ++ rest) begins.cut ∙ sym (append_assoc behind (line ∷ []) (parts (drop (length line + 1) bytes)))
 
-but_last-append : (lines : List (List ℕ)) (last : List ℕ) → but_last (lines ++ last ∷ []) ≡ lines
+pub but_last-append : (lines : List (List ℕ)) (last : List ℕ) → but_last (lines ++ last ∷ []) ≡ lines
 but_last-append [] last = refl
 but_last-append (line ∷ []) last = refl
 but_last-append (line ∷ next ∷ more) last = ap (λ rest. line ∷ rest) (but_last-append (next ∷ more) last)
@@ -115,7 +123,8 @@ last_part-append (line ∷ []) last = refl
 last_part-append (line ∷ next ∷ more) last = last_part-append (next ∷ more) last
 
 -- no line is left in the bytes: those behind are the whole lines, and the bytes are what is behind the last line end
-pub all_lines_taken : (behind : List (List ℕ)) (text bytes : List ℕ) → IsCutUpTo text behind bytes → parts bytes ≡ bytes ∷ [] → (whole_lines text ≡ behind) × (unfinished text ≡ bytes)
+pub all_lines_taken : (behind : List (List ℕ)) (text bytes : List ℕ) → IsCutUpTo text behind bytes
+    → parts bytes ≡ bytes ∷ [] → (whole_lines text ≡ behind) × (unfinished text ≡ bytes)
 all_lines_taken behind text bytes so_far none =
     let cut : parts text ≡ behind ++ bytes ∷ [] = so_far ∙ ap (λ rest. behind ++ rest) none in
     (ap but_last cut ∙ but_last-append behind bytes, ap last_part cut ∙ last_part-append behind bytes)
@@ -125,7 +134,8 @@ all_lines_taken behind text bytes so_far none =
 pub parts_are_one_line_each : (input : List ℕ) → IsTrue (list_all is_one_line (parts input))
 parts_are_one_line_each input = cut_lacks 10 input
 
-pub joined_lines_are_found : (first : List ℕ) (more : List (List ℕ)) → IsTrue (list_all is_one_line (first ∷ more)) → parts (join_with_byte 10 (first ∷ more)) ≡ first ∷ more
+pub joined_lines_are_found : (first : List ℕ) (more : List (List ℕ)) → IsTrue (list_all is_one_line (first ∷ more))
+    → parts (join_with_byte 10 (first ∷ more)) ≡ first ∷ more
 joined_lines_are_found first more h = joined_are_cut 10 first more h
 
 pub joined_parts_are_the_input : (input : List ℕ) → join_with_byte 10 (parts input) ≡ input

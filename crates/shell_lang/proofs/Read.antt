@@ -1,5 +1,6 @@
 -- Whatever reads as words spells them.
-use Rattle.std.proofs.Common.{◌≡◌, ℕ, ◌+◌, ◌<◌, List, [], ◌∷◌, ◌++◌, length, take, map, Bool, true, false, not, ◌==◌, Option, Some, None, Result, Ok, Err, arith, refl, sym, ap, ◌∙◌, get_or, eqb-true}
+use Rattle.std.proofs.Common.{◌≡◌, ℕ, ◌+◌, ◌<◌, List, [], ◌∷◌, ◌++◌, length, take, map, Bool, true, false, not, ◌==◌, Option, Some}
+use Rattle.std.proofs.Common.{None, Result, Ok, Err, arith, refl, sym, ap, ◌∙◌, get_or, eqb-true}
 use Rattle.std.specs.Prelude.{◌&&◌, if◌then◌else◌, position, is_some, ⊤}
 use Rattle.std.specs.List.{onto_first, list_all, join_with_byte, AllByRecursion, position_or_len}
 use Rattle.std.specs.Cmp.{first_so, second_so}
@@ -9,6 +10,7 @@ use Rattle.std.proofs.lemmas.List.Sums.{fails_before_first, list_all-from_AllPas
 use Rattle.std.proofs.lemmas.List.Quantifiers.{position-Some}
 use Rattle.std.proofs.lemmas.Bool.Decides.{nat_tests}
 use Rattle.byte_fields.specs.Numbers.{as_u32}
+use Rattle.byte_fields.proofs.Facts.{not_of}
 use Rattle.shell_lang.specs.declared.line.LineError.{LineError}
 use Rattle.shell_lang.specs.declared.line.LineError.TheVariants.{BadWord, OpenQuote}
 use Rattle.shell_lang.specs.Words.{pieces_from, pieces, inside_after, is_quote, bare_word, closed_word, word_of, words_from}
@@ -44,9 +46,13 @@ join-pieces inside [] = refl
 join-pieces inside (b ∷ bs) =
     by (b == 32) inside refl (join-pieces inside bs) (join-pieces (inside_after inside b) bs)
   where
-    by : (space in_quotes : Bool) → (b == 32) ≡ space → join_with_byte 32 (pieces_from inside bs) ≡ bs → join_with_byte 32 (pieces_from (inside_after inside b) bs) ≡ bs → join_with_byte 32 (if space && not in_quotes then [] ∷ pieces_from inside bs else onto_first b (pieces_from (inside_after inside b) bs)) ≡ b ∷ bs
+    by : (space in_quotes : Bool) → (b == 32) ≡ space → join_with_byte 32 (pieces_from inside bs) ≡ bs
+        → join_with_byte 32 (pieces_from (inside_after inside b) bs) ≡ bs
+        → join_with_byte 32 (if space && not in_quotes then [] ∷ pieces_from inside bs else onto_first b
+        (pieces_from (inside_after inside b) bs)) ≡ b ∷ bs
     by true false is cut kept =
-        let same : b ≡ 32 = eqb-true b 32 is in join-space (pieces_from inside bs) (has-first inside bs) ∙ ap (λ rest. 32 ∷ rest) cut ∙ ap (λ first. first ∷ bs) (sym same)
+        let same : b ≡ 32 = eqb-true b 32 is in join-space (pieces_from inside bs) (has-first inside bs) ∙ ap (λ rest. 32 ∷ rest) cut
+        ∙ ap (λ first. first ∷ bs) (sym same)
     by true true is cut kept = join-first b (pieces_from (inside_after inside b) bs) ∙ ap (λ rest. b ∷ rest) kept
     by false true is cut kept = join-first b (pieces_from (inside_after inside b) bs) ∙ ap (λ rest. b ∷ rest) kept
     by false false is cut kept = join-first b (pieces_from (inside_after inside b) bs) ∙ ap (λ rest. b ∷ rest) kept
@@ -64,12 +70,12 @@ all-whole : (inside : Bool) (cut : List (List ℕ)) → inside ≡ false → Are
 all-whole inside [] e whole = tt
 all-whole inside (piece ∷ more) e whole = (rw e at whole.0, whole.1)
 
-whole-step : (inside : Bool) (b : ℕ) (bs : List ℕ) (kept : List (List ℕ)) (test : Bool) → ((b == 32) && not inside) ≡ test → 0 < length kept → AreWhole inside (pieces_from inside bs) → AreWhole (inside_after inside b) kept → AreWhole inside (if test then [] ∷ pieces_from inside bs else onto_first b kept)
-whole-step inside b bs kept true is some cut ih = (refl, all-whole inside (pieces_from inside bs) (outside inside (second_so (b == 32) (not inside) is)) cut)
-  where
-    outside : (x : Bool) → not x ≡ true → x ≡ false
-    outside true h = sym h
-    outside false h = refl
+whole-step : (inside : Bool) (b : ℕ) (bs : List ℕ) (kept : List (List ℕ)) (test : Bool)
+    → ((b == 32) && not inside) ≡ test → 0 < length kept → AreWhole inside (pieces_from inside bs)
+    → AreWhole (inside_after inside b) kept
+    → AreWhole inside (if test then [] ∷ pieces_from inside bs else onto_first b kept)
+whole-step inside b bs kept true is some cut ih =
+    (refl, all-whole inside (pieces_from inside bs) (not_of inside (second_so (b == 32) (not inside) is)) cut)
 whole-step inside b bs [] false is some cut ih = absurd (omega (arith, some))
 whole-step inside b bs (piece ∷ more) false is some cut ih =
     (rw is (ap (onto_first b) ih.0), ih.1)
@@ -77,7 +83,8 @@ whole-step inside b bs (piece ∷ more) false is some cut ih =
 whole : (inside : Bool) (text : List ℕ) → AreWhole inside (pieces_from inside text)
 whole inside [] = (refl, tt)
 whole inside (b ∷ bs) =
-    whole-step inside b bs (pieces_from (inside_after inside b) bs) ((b == 32) && not inside) refl (has-first (inside_after inside b) bs) (whole inside bs) (whole (inside_after inside b) bs)
+    whole-step inside b bs (pieces_from (inside_after inside b) bs) ((b == 32) && not inside) refl (has-first (inside_after inside b) bs)
+    (whole inside bs) (whole (inside_after inside b) bs)
 
 -- ---- one piece
 
@@ -93,9 +100,11 @@ behind-first b bs (piece ∷ more) some e = let same : piece ≡ bs = cc in let 
 
 bare-bytes : (piece : List ℕ) → list_all (λ b. not (is_quote b)) piece ≡ true → IsWhole piece → list_all is_bare_byte piece ≡ true
 bare-bytes [] h whole = refl
-bare-bytes (b ∷ bs) h whole = by (b == 32) refl (is_quote b) refl (first_so (not (is_quote b)) _ h) (bare-bytes bs (second_so (not (is_quote b)) _ h))
+bare-bytes (b ∷ bs) h whole =
+    by (b == 32) refl (is_quote b) refl (first_so (not (is_quote b)) _ h) (bare-bytes bs (second_so (not (is_quote b)) _ h))
   where
-    by : (space : Bool) → (b == 32) ≡ space → (quote : Bool) → is_quote b ≡ quote → not (is_quote b) ≡ true → (IsWhole bs → list_all is_bare_byte bs ≡ true) → list_all is_bare_byte (b ∷ bs) ≡ true
+    by : (space : Bool) → (b == 32) ≡ space → (quote : Bool) → is_quote b ≡ quote → not (is_quote b) ≡ true
+        → (IsWhole bs → list_all is_bare_byte bs ≡ true) → list_all is_bare_byte (b ∷ bs) ≡ true
     by true is quote q no_quote ih = let cut : [] ∷ pieces bs ≡ (b ∷ bs) ∷ [] = rw is at whole in absurd (cc)
     by false is true q no_quote ih = absurd (cc)
     by false is false q no_quote ih =
@@ -104,12 +113,14 @@ bare-bytes (b ∷ bs) h whole = by (b == 32) refl (is_quote b) refl (first_so (n
 
 no-quote : (piece : List ℕ) → position is_quote piece ≡ None → list_all (λ b. not (is_quote b)) piece ≡ true
 no-quote piece none =
-    list_all-from_AllPass (λ b. not (is_quote b)) piece (λ k d l. ap not (fails_before_first is_quote piece k d (before-none piece k none l)))
+    list_all-from_AllPass (λ b. not (is_quote b)) piece
+    (λ k d l. ap not (fails_before_first is_quote piece k d (before-none piece k none l)))
   where
     before-none : (text : List ℕ) (k : ℕ) → position is_quote text ≡ None → k < length text → k < position_or_len is_quote text
     before-none text k h l = grind (arith, nat_tests)
 
-quoted-inner : (inner : List ℕ) (k : ℕ) → position is_quote inner ≡ Some k → k + 1 ≡ length inner → (list_all (λ b. not (is_quote b)) (take k inner) ≡ true) × (take k inner ++ 39 ∷ [] ≡ inner)
+quoted-inner : (inner : List ℕ) (k : ℕ) → position is_quote inner ≡ Some k → k + 1 ≡ length inner
+    → (list_all (λ b. not (is_quote b)) (take k inner) ≡ true) × (take k inner ++ 39 ∷ [] ≡ inner)
 quoted-inner inner k at last =
     let here = position-Some is_quote inner k 0 at in
     let quote : get_or inner k 0 ≡ 39 = eqb-true (get_or inner k 0) 39 here.1 in (
@@ -124,22 +135,36 @@ one : (i : ℕ) (piece word : List ℕ) → IsWhole piece → word_of i piece �
 one i [] word is_whole read = absurd (cc)
 one i (b ∷ bs) word is_whole read = by (is_quote b) refl (position is_quote bs) refl
   where
-    bare : (found : Option ℕ) → position is_quote (b ∷ bs) ≡ found → (if is_some found then Err (BadWord (as_u32 i)) else Ok (b ∷ bs)) ≡ Ok word → IsSpelled (b ∷ bs) word
+    bare : (found : Option ℕ) → position is_quote (b ∷ bs) ≡ found
+        → (if is_some found then Err (BadWord (as_u32 i)) else Ok (b ∷ bs)) ≡ Ok word → IsSpelled (b ∷ bs) word
     bare None none read =
-        record { spelling = record { quoted = false; word = b ∷ bs }; can = bare-bytes (b ∷ bs) (no-quote (b ∷ bs) none) is_whole; of_word = cc; of_piece = refl }
+        record {
+          spelling = record { quoted = false; word = b ∷ bs };
+          can = bare-bytes (b ∷ bs) (no-quote (b ∷ bs) none) is_whole;
+          of_word = cc;
+          of_piece = refl;
+        }
     bare (Some k) at read = absurd (cc)
 
-    quoted : (k : ℕ) (last : Bool) → (k + 1 == length bs) ≡ last → position is_quote bs ≡ Some k → b ≡ 39 → (if last then Ok (take k bs) else Err (BadWord (as_u32 i))) ≡ Ok word → IsSpelled (b ∷ bs) word
+    quoted : (k : ℕ) (last : Bool) → (k + 1 == length bs) ≡ last → position is_quote bs ≡ Some k → b ≡ 39
+        → (if last then Ok (take k bs) else Err (BadWord (as_u32 i))) ≡ Ok word → IsSpelled (b ∷ bs) word
     quoted k true last at quote read =
         let inner = quoted-inner bs k at (eqb-true (k + 1) (length bs) last) in
-        record { spelling = record { quoted = true; word = take k bs }; can = inner.0; of_word = cc; of_piece = ap (λ rest. 39 ∷ rest) inner.1 ∙ ap (λ first. first ∷ bs) (sym quote) }
+        record {
+          spelling = record { quoted = true; word = take k bs };
+          can = inner.0;
+          of_word = cc;
+          of_piece = ap (λ rest. 39 ∷ rest) inner.1 ∙ ap (λ first. first ∷ bs) (sym quote);
+        }
     quoted k false last at quote read = absurd (cc)
 
     unquoted : (quote : Bool) (x y : Result (List ℕ) LineError) → quote ≡ false → (if quote then x else y) ≡ Ok word → y ≡ Ok word
     unquoted quote x y q read = rw q at read
 
     by : (quote : Bool) → is_quote b ≡ quote → (found : Option ℕ) → position is_quote bs ≡ found → IsSpelled (b ∷ bs) word
-    by false q found at = bare (position is_quote (b ∷ bs)) refl (unquoted (is_quote b) (closed_word i bs (position is_quote bs)) (bare_word i (b ∷ bs)) q read)
+    by false q found at =
+        bare (position is_quote (b ∷ bs)) refl
+        (unquoted (is_quote b) (closed_word i bs (position is_quote bs)) (bare_word i (b ∷ bs)) q read)
     by true q None at = let open_quote : Err OpenQuote ≡ Ok word = rw (q, at) at read in absurd (cc)
     by true q (Some k) at = quoted k (k + 1 == length bs) refl at (eqb-true b 39 q) (rw (q, at) at read)
 
@@ -155,7 +180,10 @@ each : (i : ℕ) (cut words : List (List ℕ)) → AllByRecursion IsWhole cut �
 each i [] words all read = record { spellings = []; can = refl; of_words = cc; of_pieces = refl }
 each i (piece ∷ more) words all read = by (word_of i piece) refl (words_from (i + 1) more) refl (λ rest e. each (i + 1) more rest all.1 e)
   where
-    by : (first : Result (List ℕ) LineError) → word_of i piece ≡ first → (later : Result (List (List ℕ)) LineError) → words_from (i + 1) more ≡ later → ((rest : List (List ℕ)) → words_from (i + 1) more ≡ Ok rest → AreSpelled more rest) → AreSpelled (piece ∷ more) words
+    by : (first : Result (List ℕ) LineError) → word_of i piece ≡ first → (later : Result (List (List ℕ)) LineError)
+        → words_from (i + 1) more ≡ later
+        → ((rest : List (List ℕ)) → words_from (i + 1) more ≡ Ok rest → AreSpelled more rest)
+        → AreSpelled (piece ∷ more) words
     by (Err e) first later l ih = let refused : Err e ≡ Ok words = rw first at read in absurd (cc)
     by (Ok word) first (Err e) l ih = let refused : Err e ≡ Ok words = rw (first, l) at read in absurd (cc)
     by (Ok word) first (Ok rest) l ih =
@@ -163,9 +191,19 @@ each i (piece ∷ more) words all read = by (word_of i piece) refl (words_from (
         let others = ih rest l in
         let whole_list : Ok (word ∷ rest) ≡ Ok words = rw (first, l) at read in
         let is : word ∷ rest ≡ words = cc in
-        record { spellings = this.spelling ∷ others.spellings; can = both_true this.can others.can; of_words = rw (this.of_word, others.of_words) is; of_pieces = rw (this.of_piece, others.of_pieces) refl }
+        record {
+          spellings = this.spelling ∷ others.spellings;
+          can = both_true this.can others.can;
+          of_words = rw (this.of_word, others.of_words) is;
+          of_pieces = rw (this.of_piece, others.of_pieces) refl;
+        }
 
 pub read_is_spelled : ReadIsSpelled
 read_is_spelled line words read =
     let found = each 0 (pieces line) words (all-whole false (pieces line) refl (whole false line)) read in
-    record { spellings = found.spellings; can = found.can; of_words = found.of_words; of_line = sym (ap (join_with_byte 32) found.of_pieces ∙ join-pieces false line) }
+    record {
+      spellings = found.spellings;
+      can = found.can;
+      of_words = found.of_words;
+      of_line = sym (ap (join_with_byte 32) found.of_pieces ∙ join-pieces false line);
+    }

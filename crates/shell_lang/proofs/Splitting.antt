@@ -2,18 +2,11 @@
 use Rattle.std.proofs.Common.{◌≡◌, ℕ, List, [], ◌∷◌, ◌++◌, Bool, true, false, not, ◌&&◌, ◌||◌, ◌==◌, arith, refl, ap, ◌∙◌}
 use Rattle.std.specs.List.{slice_split, onto_first, join_with_byte, list_any, list_all}
 use Rattle.std.proofs.lemmas.List.Splits.{slice_split-cons_yes, slice_split-cons_no}
-use Rattle.std.proofs.lemmas.Bool.Decides.{nat_tests}
-
-pub both : (a b : Bool) → (a && b) ≡ true → (a ≡ true) × (b ≡ true)
-both true b h = (refl, h)
-both false b h = absurd (cc h)
+use Rattle.byte_fields.proofs.Facts.{eq_itself, and_of}
 
 neither : (a b : Bool) → not (a || b) ≡ true → (a ≡ false) × (not b ≡ true)
 neither true b h = absurd (cc h)
 neither false b h = (refl, h)
-
-same_byte : (c : ℕ) → (c == c) ≡ true
-same_byte c = grind (arith, nat_tests)
 
 -- whether the bytes lack the byte
 abbrev pub lacks : ℕ → List ℕ → Bool
@@ -23,11 +16,13 @@ lacks c bytes = not (list_any (λ b. b == c) bytes)
 abbrev pub cut_at : ℕ → List ℕ → List (List ℕ)
 cut_at c bytes = slice_split (λ b. b == c) bytes
 
-onto_lacks : (c b : ℕ) (cut : List (List ℕ)) → (b == c) ≡ false → list_all (lacks c) cut ≡ true → list_all (lacks c) (onto_first b cut) ≡ true
+onto_lacks : (c b : ℕ) (cut : List (List ℕ)) → (b == c) ≡ false → list_all (lacks c) cut ≡ true
+    → list_all (lacks c) (onto_first b cut) ≡ true
 onto_lacks c b [] e h = rw e refl
 onto_lacks c b (part ∷ more) e h = rw e h
 
-cut_lacks_step : (c b : ℕ) (bs : List ℕ) (test : Bool) → (b == c) ≡ test → list_all (lacks c) (cut_at c bs) ≡ true → list_all (lacks c) (cut_at c (b ∷ bs)) ≡ true
+cut_lacks_step : (c b : ℕ) (bs : List ℕ) (test : Bool) → (b == c) ≡ test → list_all (lacks c) (cut_at c bs) ≡ true
+    → list_all (lacks c) (cut_at c (b ∷ bs)) ≡ true
 cut_lacks_step c b bs true e h = rw (slice_split-cons_yes (λ x. x == c) b bs e) h
 cut_lacks_step c b bs false e h = rw (slice_split-cons_no (λ x. x == c) b bs e) (onto_lacks c b (cut_at c bs) e h)
 
@@ -37,7 +32,7 @@ cut_lacks c [] = refl
 cut_lacks c (b ∷ bs) = cut_lacks_step c b bs (b == c) refl (cut_lacks c bs)
 
 first_found : (c : ℕ) (part rest : List ℕ) → lacks c part ≡ true → cut_at c (part ++ c ∷ rest) ≡ part ∷ cut_at c rest
-first_found c [] rest h = slice_split-cons_yes (λ x. x == c) c rest (same_byte c)
+first_found c [] rest h = slice_split-cons_yes (λ x. x == c) c rest (eq_itself c)
 first_found c (b ∷ bs) rest h =
     let tests : ((b == c) ≡ false) × (lacks c bs ≡ true) = neither (b == c) (list_any (λ x. x == c) bs) h in
     slice_split-cons_no (λ x. x == c) b (bs ++ c ∷ rest) tests.0 ∙ ap (onto_first b) (first_found c bs rest tests.1)
@@ -49,8 +44,10 @@ last_found c (b ∷ bs) h =
     slice_split-cons_no (λ x. x == c) b bs tests.0 ∙ ap (onto_first b) (last_found c bs tests.1)
 
 -- parts that lack the byte are found again once they are joined by it
-pub joined_are_cut : (c : ℕ) (first : List ℕ) (more : List (List ℕ)) → list_all (lacks c) (first ∷ more) ≡ true → cut_at c (join_with_byte c (first ∷ more)) ≡ first ∷ more
-joined_are_cut c first [] h = last_found c first (both (lacks c first) true h).0
+pub joined_are_cut : (c : ℕ) (first : List ℕ) (more : List (List ℕ)) → list_all (lacks c) (first ∷ more) ≡ true
+    → cut_at c (join_with_byte c (first ∷ more)) ≡ first ∷ more
+joined_are_cut c first [] h = last_found c first (and_of (lacks c first) true h).0
 joined_are_cut c first (next ∷ more) h =
-    let tests : (lacks c first ≡ true) × (list_all (lacks c) (next ∷ more) ≡ true) = both (lacks c first) (list_all (lacks c) (next ∷ more)) h in
+    let tests : (lacks c first ≡ true) × (list_all (lacks c) (next ∷ more) ≡ true) =
+    and_of (lacks c first) (list_all (lacks c) (next ∷ more)) h in
     first_found c first (join_with_byte c (next ∷ more)) tests.0 ∙ ap (λ rest. first ∷ rest) (joined_are_cut c next more tests.1)

@@ -50,6 +50,13 @@ FirstLine bytes (Some line) = BeginsWithLine bytes line
 abbrev pub IsCutUpTo : List ℕ → List (List ℕ) → List ℕ → Type 0
 IsCutUpTo input behind bytes = parts input ≡ behind ++ parts bytes
 
+-- what a buffer holds of an input
+pub record Buffered : Type 0 where
+  -- the bytes that no line was cut from
+  pub bytes : List ℕ
+  -- how many bytes of cut lines are still kept before them
+  pub passed : ℕ
+
 -- ---- laws
 
 -- whether no byte of it ends a line
@@ -67,7 +74,8 @@ PartsAreOneLineEach = (input : List ℕ) → IsTrue (list_all is_one_line (parts
 -- whatever pieces without a line end are joined by line ends, these are the parts
 abbrev pub JoinedLinesAreFound : Type 0
 JoinedLinesAreFound =
-    (first : List ℕ) (more : List (List ℕ)) → IsTrue (list_all is_one_line (first ∷ more)) → parts (join_with_byte 10 (first ∷ more)) ≡ first ∷ more
+    (first : List ℕ) (more : List (List ℕ)) → IsTrue (list_all is_one_line (first ∷ more))
+    → parts (join_with_byte 10 (first ∷ more)) ≡ first ∷ more
 
 -- an input that comes in two pieces: the whole lines of the first, and then the parts of what it left and the second
 abbrev pub PiecesAreCutAlike : Type 0

@@ -16,7 +16,8 @@ counted_on front (Err fault) = Err fault
 -- words that are spelled at the front, and a space behind them: the rest is read as a line, and its words count on
 abbrev pub FrontIsRead : Type 0
 FrontIsRead =
-    (first : Spelling) (more : List Spelling) (rest : List ℕ) → IsTrue (list_all can_spell (first ∷ more)) → words_of (spelled_line (first ∷ more) ++ 32 ∷ rest) ≡ counted_on (words_spelled (first ∷ more)) (words_of rest)
+    (first : Spelling) (more : List Spelling) (rest : List ℕ) → IsTrue (list_all can_spell (first ∷ more))
+    → words_of (spelled_line (first ∷ more) ++ 32 ∷ rest) ≡ counted_on (words_spelled (first ∷ more)) (words_of rest)
 
 -- a quote that no other closes
 abbrev pub OpenIsRefused : Type 0

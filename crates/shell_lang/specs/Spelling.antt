@@ -35,9 +35,11 @@ words_spelled spellings = map (λ s. s.word) spellings
 -- a line that spells words reads as these words
 abbrev pub SpelledIsRead : Type 0
 SpelledIsRead =
-    (first : Spelling) (more : List Spelling) → IsTrue (list_all can_spell (first ∷ more)) → words_of (spelled_line (first ∷ more)) ≡ Ok (words_spelled (first ∷ more))
+    (first : Spelling) (more : List Spelling) → IsTrue (list_all can_spell (first ∷ more))
+    → words_of (spelled_line (first ∷ more)) ≡ Ok (words_spelled (first ∷ more))
 
 -- a line spells no more than one list of words
 abbrev pub HasOneReading : Type 0
 HasOneReading =
-    (xs ys : List Spelling) → IsTrue (list_all can_spell xs) → IsTrue (list_all can_spell ys) → spelled_line xs ≡ spelled_line ys → words_spelled xs ≡ words_spelled ys
+    (xs ys : List Spelling) → IsTrue (list_all can_spell xs) → IsTrue (list_all can_spell ys)
+    → spelled_line xs ≡ spelled_line ys → words_spelled xs ≡ words_spelled ys

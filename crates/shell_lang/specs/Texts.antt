@@ -2,7 +2,7 @@
 use Rattle.std.specs.Prelude.{◌≢◌, ⊤, ℕ, List, [], ◌∷◌, ◌++◌, length, codes, decimal, flat_map, if◌then◌else◌}
 use Rattle.file_paths.specs.Path.{path_text}
 use Rattle.shell_lang.specs.Faults.{number, path, tree_fault_text, fault_text, IsShown}
-use Rattle.vol_tree.specs.declared.node.TreeError.TheVariants as trees
+use Rattle.tree_values.specs.declared.node.TreeError.TheVariants as trees
 use Rattle.shell_lang.specs.declared.answer.Child.{Child}
 use Rattle.shell_lang.specs.declared.answer.Answer.{Answer}
 use Rattle.shell_lang.specs.declared.answer.Answer.TheVariants as answers

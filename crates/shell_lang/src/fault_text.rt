@@ -1,7 +1,9 @@
 //! The texts of refusals.
 
 ghost use Rattle.std.specs.Prelude.{◌≡◌, ◌++◌, OnOk};
-ghost use Rattle.shell_lang.specs.Faults.{path_fault_name, path_fault_values, line_fault_name, line_fault_values, tree_fault_name, tree_fault_values, log_fault_name, log_fault_values, tree_fault_text, fault_name, fault_values, fault_text};
+ghost use Rattle.shell_lang.specs.Faults.{path_fault_name, path_fault_values, line_fault_name, line_fault_values, tree_fault_name};
+ghost use Rattle.shell_lang.specs.Faults.{tree_fault_values, log_fault_name, log_fault_values, tree_fault_text, fault_name};
+ghost use Rattle.shell_lang.specs.Faults.{fault_values, fault_text};
 
 use crate::answer::Fault;
 use crate::line::LineError;

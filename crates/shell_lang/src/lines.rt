@@ -1,13 +1,13 @@
 //! The bytes of an input, cut into lines.
 
-ghost use Rattle.std.specs.Prelude.{◌≡◌, ◌≤◌, ℕ, List, [], ◌++◌, drop, length, position, OnOk, OnErr};
+ghost use Rattle.std.specs.Prelude.{◌≡◌, ◌≤◌, ◌+◌, [], ◌++◌, drop, length, position, OnOk, OnErr};
 ghost use Rattle.std.specs.Option.{option_copied};
-ghost use Rattle.shell_lang.specs.Lines.{is_line_end, FirstLine};
+ghost use Rattle.shell_lang.specs.Lines.{is_line_end, FirstLine, Buffered};
 
 use std::alloc::{AllocError, Global};
 use std::marker::Model;
 
-/// The bytes of an input that no line was cut from yet.
+/// The bytes of an input that no line was cut from yet, behind those of cut lines that are kept until the next piece.
 #[derive(Debug, Drop)]
 pub struct LineBuffer {
     bytes: Vec<u8>,
@@ -15,9 +15,12 @@ pub struct LineBuffer {
 }
 
 impl Model for LineBuffer {
-    ghost Value = { List ℕ };
+    ghost use Rattle.std.specs.Prelude.{◌≤◌, drop, length};
+    ghost use Rattle.shell_lang.specs.Lines.{Buffered};
 
-    ghost view = { λ buffer. drop buffer.start buffer.bytes.items };
+    ghost Value = { Buffered };
+
+    ghost view = { λ buffer. record { bytes = drop buffer.start buffer.bytes.items; passed = buffer.start } };
 
     ghost invariant = { λ buffer. buffer.start ≤ length buffer.bytes.items };
 }
@@ -25,7 +28,7 @@ impl Model for LineBuffer {
 impl LineBuffer {
     /// No bytes. It takes no memory.
     pub fn new(alloc: Global) -> LineBuffer
-        ensures { result ≡ [] }
+        ensures { result ≡ record { bytes = []; passed = 0 } }
     {
         LineBuffer {
             bytes: Vec::new(alloc),
@@ -33,14 +36,15 @@ impl LineBuffer {
         }
     }
 
-    /// Adds the next piece of the input.
+    /// Adds the next piece of the input. Of the lines that were cut no byte is kept any more.
     ///
     /// # Errors
     ///
     /// Want of memory; the piece is not added then.
     pub fn add(&mut self, piece: &[u8]) -> Result<(), AllocError>
-        ensures ok { OnOk result (self.new ≡ self.old ++ piece.now) }
-        ensures err { OnErr result (self.new ≡ self.old) }
+        ensures ok { OnOk result (self.new.bytes ≡ self.old.bytes ++ piece.now) }
+        ensures err { OnErr result (self.new.bytes ≡ self.old.bytes) }
+        ensures passed { self.new.passed ≡ 0 }
     {
         self.compact();
         self.bytes.extend_from_slice(piece)
@@ -48,7 +52,7 @@ impl LineBuffer {
 
     /// Gives back the room of the lines that were cut.
     fn compact(&mut self)
-        ensures { self.new ≡ self.old }
+        ensures { self.new ≡ record { bytes = self.old.bytes; passed = 0 } }
     {
         self.bytes.drain(..self.start);
         self.start = 0;
@@ -57,7 +61,7 @@ impl LineBuffer {
     /// Lends the first line that has its end, without the end; `None` where there is none.
     #[tactic(auto, using(crate::proofs::Cutting::line_at_end, crate::proofs::Cutting::no_line))]
     pub fn first_line(&self) -> Option<&[u8]>
-        ensures { FirstLine self.now (option_copied result) }
+        ensures { FirstLine self.now.bytes (option_copied result) }
     {
         let bytes = self.bytes();
         match first_line_end(bytes) {
@@ -68,15 +72,15 @@ impl LineBuffer {
 
     /// Drops so many bytes from the front, as a line and its end. It moves none of the others.
     pub fn pass(&mut self, count: usize)
-        requires { count ≤ length self.old }
-        ensures { self.new ≡ drop count self.old }
+        requires { count ≤ length self.old.bytes }
+        ensures { self.new ≡ record { bytes = drop count self.old.bytes; passed = self.old.passed + count } }
     {
         self.start += count;
     }
 
     /// Lends the bytes. Once no line is left, they are what stands behind the last line end.
     pub fn bytes(&self) -> &[u8]
-        ensures { result.now ≡ self.now }
+        ensures { result.now ≡ self.now.bytes }
     {
         &self.bytes[self.start..]
     }

@@ -4,29 +4,55 @@ use std::alloc::Global;
 use std::test::Fail;
 use vol_tree::{Content, Path, PathError, TreeError, TryCopy};
 
-#[test]
-fn lines_are_read(rt: HostRuntime) -> Result<(), Fail> {
-    let alloc = rt.alloc();
-    assert!(rt; matches!(read_line(alloc, b"")?, Line::Empty));
-    let put = read_line(alloc, b"put 'a b' ''")?;
-    assert!(rt; matches!(&put, Line::Put(path, _) if path.bytes() == b"a b".as_slice()));
-    assert!(rt; matches!(&put, Line::Put(_, text) if text.bytes() == b"".as_slice()));
-    let moved = read_line(alloc, b"'mv' a b/c")?;
-    assert!(rt; matches!(&moved, Line::Move(from, _) if from.bytes() == b"a".as_slice()));
-    assert!(rt; matches!(&moved, Line::Move(_, to) if to.bytes() == b"b/c".as_slice()));
-    assert!(rt; matches!(read_line(alloc, b"ls")?, Line::List(None)));
-    let list = read_line(alloc, b"ls d")?;
-    assert!(rt; matches!(&list, Line::List(Some(path)) if path.bytes() == b"d".as_slice()));
-    assert!(rt; matches!(read_line(alloc, b"pull")?, Line::Pull));
-    assert!(rt; matches!(read_line(alloc, b"quit")?, Line::Quit));
-    Ok(())
+/// Whether the line puts this text at this path.
+fn puts(alloc: Global, line: &[u8], path: &[u8], text: &[u8]) -> Result<bool, Fail> {
+    let read = read_line(alloc, line)?;
+    let same = matches!(&read, Line::Put(p, t) if p.bytes() == path && t.bytes() == text);
+    drop(read);
+    Ok(same)
+}
+
+/// Whether the line moves what stands at the first path to the second.
+fn moves(alloc: Global, line: &[u8], from: &[u8], to: &[u8]) -> Result<bool, Fail> {
+    let read = read_line(alloc, line)?;
+    let same = matches!(&read, Line::Move(f, t) if f.bytes() == from && t.bytes() == to);
+    drop(read);
+    Ok(same)
+}
+
+/// Whether the line lists the folder at this path.
+fn lists(alloc: Global, line: &[u8], path: &[u8]) -> Result<bool, Fail> {
+    let read = read_line(alloc, line)?;
+    let same = matches!(&read, Line::List(Some(p)) if p.bytes() == path);
+    drop(read);
+    Ok(same)
+}
+
+/// A letter for a line without a path.
+fn letter(alloc: Global, line: &[u8]) -> Result<u8, Fail> {
+    let read = read_line(alloc, line)?;
+    let letter = match &read {
+        Line::Empty => b'e',
+        Line::List(None) => b'l',
+        Line::Pull => b'p',
+        Line::Quit => b'q',
+        _ => b'x',
+    };
+    drop(read);
+    Ok(letter)
 }
 
 #[test]
-fn a_quoted_text_is_one_word(rt: HostRuntime) -> Result<(), Fail> {
-    let put = read_line(rt.alloc(), b"put a 'b c'")?;
-    assert!(rt; matches!(&put, Line::Put(path, _) if path.bytes() == b"a".as_slice()));
-    assert!(rt; matches!(&put, Line::Put(_, text) if text.bytes() == b"b c".as_slice()));
+fn lines_are_read(rt: HostRuntime) -> Result<(), Fail> {
+    let alloc = rt.alloc();
+    assert!(rt; puts(alloc, b"put 'a b' ''", b"a b", b"")?);
+    assert!(rt; puts(alloc, b"put a 'b c'", b"a", b"b c")?);
+    assert!(rt; moves(alloc, b"'mv' a b/c", b"a", b"b/c")?);
+    assert!(rt; lists(alloc, b"ls d", b"d")?);
+    let rows: [(&[u8], u8); 4] = [(b"", b'e'), (b"ls", b'l'), (b"pull", b'p'), (b"quit", b'q')];
+    for (line, expected) in rows {
+        assert_eq!(rt; letter(alloc, line)?, expected);
+    }
     Ok(())
 }
 
@@ -73,108 +99,157 @@ fn refusal_of(alloc: Global, line: &[u8]) -> Result<Vec<u8>, Fail> {
     }
 }
 
+/// Whether the answer has this text.
+fn is_printed(alloc: Global, answer: Answer, text: &[u8]) -> Result<bool, Fail> {
+    if !has_no_memory(&answer) {
+        drop(answer);
+        return Ok(false);
+    }
+    let printed = text_of(alloc, &answer);
+    drop(answer);
+    Ok(printed?.as_slice() == text)
+}
+
+/// Whether the fault is printed so behind `refused`.
+fn is_refused(alloc: Global, fault: Fault, text: &[u8]) -> Result<bool, Fail> {
+    is_printed(alloc, Answer::Refused(fault), text)
+}
+
+/// The path d/x.
+fn path(alloc: Global) -> Result<Path, PathError> {
+    Path::read(alloc, b"d/x")
+}
+
+#[test]
+fn counts_are_printed(rt: HostRuntime) -> Result<(), Fail> {
+    let alloc = rt.alloc();
+    assert!(rt; is_printed(alloc, Answer::Logged { seq: 1 }, b"logged 1\n")?);
+    assert!(rt;
+        is_printed(
+            alloc,
+            Answer::Status {
+                acked: 7,
+                pending: 2
+            },
+            b"acknowledged 7 pending 2\n"
+        )?
+    );
+    assert!(rt;
+        is_printed(
+            alloc,
+            Answer::Synced(18_446_744_073_709_551_615),
+            b"synced 18446744073709551615\n"
+        )?
+    );
+    assert!(rt; is_printed(alloc, Answer::Unanswered { seq: 6 }, b"unanswered 6\n")?);
+    assert!(rt; is_printed(alloc, Answer::Behind { seq: 6, last: 3 }, b"behind 6 3\n")?);
+    assert!(rt; is_printed(alloc, Answer::Pulled(12), b"pulled 12\n")?);
+    assert!(rt; is_printed(alloc, Answer::OtherLast(8), b"other last 8\n")?);
+    assert!(rt; is_printed(alloc, Answer::PullUnanswered, b"unanswered\n")?);
+    Ok(())
+}
+
+/// Whether the content `hi` is printed with its length.
+fn a_content_is_printed(alloc: Global) -> Result<bool, Fail> {
+    let content = Content::of(alloc, b"hi")?;
+    is_printed(alloc, Answer::Text(content), b"2\nhi")
+}
+
+/// Whether a folder and a file are listed.
+fn children_are_printed(alloc: Global) -> Result<bool, Fail> {
+    let mut children = Children::new(alloc);
+    for folder in [true, false] {
+        let name = Content::of(alloc, b"hi")?;
+        children.push(Child { name, folder })?;
+    }
+    is_printed(alloc, Answer::Listing(children), b"2\nd hi\nf hi\n")
+}
+
+/// Whether a path that rests on another version is printed with both.
+fn versions_are_printed(alloc: Global) -> Result<bool, Fail> {
+    let path = path(alloc)?;
+    let (seq, theirs, ours) = (3, 2, 1);
+    is_printed(
+        alloc,
+        Answer::Stale {
+            seq,
+            path,
+            theirs,
+            ours,
+        },
+        b"stale 3 d/x 2 1\n",
+    )
+}
+
+/// Whether a path that the server has no newer version of is printed with both.
+fn older_versions_are_printed(alloc: Global) -> Result<bool, Fail> {
+    let path = path(alloc)?;
+    let (theirs, ours) = (1, 2);
+    is_printed(
+        alloc,
+        Answer::Older { path, theirs, ours },
+        b"older d/x 1 2\n",
+    )
+}
+
+/// Whether a refusal with two paths is printed, of which one is the root.
+fn a_full_volume_is_printed(alloc: Global) -> Result<bool, Fail> {
+    let fault = TreeError::NotEmpty(Path::root(alloc), path(alloc)?);
+    let (seq, index) = (5, 9);
+    is_printed(
+        alloc,
+        Answer::Full { seq, index, fault },
+        b"full 5 9 NotEmpty / d/x\n",
+    )
+}
+
 #[test]
 fn answers_are_printed(rt: HostRuntime) -> Result<(), Fail> {
     let alloc = rt.alloc();
-    let root = Path::root(alloc);
-    let path = Path::read(alloc, b"d/x")?;
-    let content = Content::of(alloc, b"hi")?;
-    let mut children = Children::new(alloc);
-    for folder in [true, false] {
-        let name = content.copy()?;
-        children.push(Child { name, folder })?;
-    }
-    let full = TreeError::NotEmpty(root.copy()?, path.copy()?);
-    let unfit = TreeError::FileTooLarge(8_388_609);
+    assert!(rt; a_content_is_printed(alloc)?);
+    assert!(rt; children_are_printed(alloc)?);
+    assert!(rt; is_printed(alloc, Answer::At(Path::root(alloc)), b"at /\n")?);
+    assert!(rt; is_printed(alloc, Answer::At(path(alloc)?), b"at /d/x\n")?);
+    assert!(rt; versions_are_printed(alloc)?);
+    assert!(rt; older_versions_are_printed(alloc)?);
+    assert!(rt; a_full_volume_is_printed(alloc)?);
+    let unfit = Answer::Unfit {
+        seq: 4,
+        index: 0,
+        fault: TreeError::FileTooLarge(8_388_609),
+    };
+    assert!(rt; is_printed(alloc, unfit, b"unfit 4 0 FileTooLarge 8388609\n")?);
+    Ok(())
+}
+
+#[test]
+fn refusals_are_printed(rt: HostRuntime) -> Result<(), Fail> {
+    let alloc = rt.alloc();
     let large = LogError::EntryTooLarge {
         effects: 4_097,
         bytes: 5,
     };
-    let nested = LogError::Tree(3, TreeError::Missing(path.copy()?));
-    let rows: [(Answer, &[u8]); 22] = [
-        (Answer::Logged { seq: 1 }, b"logged 1\n"),
-        (Answer::Text(content), b"2\nhi"),
-        (Answer::Listing(children), b"2\nd hi\nf hi\n"),
-        (Answer::At(root), b"at /\n"),
-        (Answer::At(path.copy()?), b"at /d/x\n"),
-        (
-            Answer::Status {
-                acked: 7,
-                pending: 2,
-            },
-            b"acknowledged 7 pending 2\n",
-        ),
-        (
-            Answer::Synced(18_446_744_073_709_551_615),
-            b"synced 18446744073709551615\n",
-        ),
-        (
-            Answer::Stale {
-                seq: 3,
-                path: path.copy()?,
-                theirs: 2,
-                ours: 1,
-            },
-            b"stale 3 d/x 2 1\n",
-        ),
-        (
-            Answer::Unfit {
-                seq: 4,
-                index: 0,
-                fault: unfit,
-            },
-            b"unfit 4 0 FileTooLarge 8388609\n",
-        ),
-        (
-            Answer::Full {
-                seq: 5,
-                index: 9,
-                fault: full,
-            },
-            b"full 5 9 NotEmpty / d/x\n",
-        ),
-        (Answer::Unanswered { seq: 6 }, b"unanswered 6\n"),
-        (Answer::Behind { seq: 6, last: 3 }, b"behind 6 3\n"),
-        (Answer::Pulled(12), b"pulled 12\n"),
-        (Answer::OtherLast(8), b"other last 8\n"),
-        (
-            Answer::Older {
-                path: path.copy()?,
-                theirs: 1,
-                ours: 2,
-            },
-            b"older d/x 1 2\n",
-        ),
-        (Answer::PullUnanswered, b"unanswered\n"),
-        (
-            Answer::Refused(Fault::Path(PathError::TooDeep(33))),
-            b"refused TooDeep 33\n",
-        ),
-        (
-            Answer::Refused(Fault::Tree(TreeError::RootFixed)),
-            b"refused RootFixed\n",
-        ),
-        (
-            Answer::Refused(Fault::Log(large)),
-            b"refused EntryTooLarge 4097 5\n",
-        ),
-        (
-            Answer::Refused(Fault::Log(nested)),
-            b"refused Missing d/x\n",
-        ),
-        (Answer::Refused(Fault::Pending(3)), b"refused Pending 3\n"),
-        (
-            Answer::Refused(Fault::NotFolder(path)),
-            b"refused NotFolder d/x\n",
-        ),
-    ];
-    for (answer, text) in &rows {
-        assert!(rt; has_no_memory(answer));
-        if has_no_memory(answer) {
-            assert_eq!(rt; text_of(alloc, answer)?.as_slice(), *text);
-        }
-    }
-    assert!(rt; !has_no_memory(&Answer::Refused(Fault::Line(LineError::Memory))));
+    assert!(rt;
+        is_refused(
+            alloc,
+            Fault::Path(PathError::TooDeep(33)),
+            b"refused TooDeep 33\n"
+        )?
+    );
+    assert!(rt;
+        is_refused(
+            alloc,
+            Fault::Tree(TreeError::RootFixed),
+            b"refused RootFixed\n"
+        )?
+    );
+    assert!(rt; is_refused(alloc, Fault::Log(large), b"refused EntryTooLarge 4097 5\n")?);
+    assert!(rt; is_refused(alloc, Fault::Pending(3), b"refused Pending 3\n")?);
+    let missing = LogError::Tree(3, TreeError::Missing(path(alloc)?));
+    assert!(rt; is_refused(alloc, Fault::Log(missing), b"refused Missing d/x\n")?);
+    let file = Fault::NotFolder(path(alloc)?);
+    assert!(rt; is_refused(alloc, file, b"refused NotFolder d/x\n")?);
+    assert!(rt; !is_refused(alloc, Fault::Line(LineError::Memory), b"refused\n")?);
     Ok(())
 }
 
