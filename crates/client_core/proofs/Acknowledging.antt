@@ -1,7 +1,7 @@
 -- Some of the pending entries, from the first on, are acknowledged.
 use Rattle.std.proofs.Common.{◌≡◌, ◌≢◌, ℕ, zero, suc, ◌+◌, ◌-◌, ◌≤◌, List, [], ◌∷◌, length, take, drop, refl, sym, ◌∙◌, ap, subst, arith, length-drop}
-use Rattle.vol_tree.specs.Tree.{Volume}
-use Rattle.vol_tree.specs.Effects.{changed_all}
+use Rattle.tree_values.specs.Tree.{Volume}
+use Rattle.tree_values.specs.Effects.{changed_all}
 use Rattle.mod_log.specs.declared.log.Entry.{Entry}
 use Rattle.mod_log.specs.Log.{Log, after, acknowledged}
 use Rattle.client_core.specs.Syncing.{acknowledged_first}

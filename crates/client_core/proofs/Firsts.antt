@@ -1,10 +1,11 @@
 -- The first pending entry: it has the next number, and its store may be sent.
-use Rattle.std.proofs.Common.{◌≡◌, ◌≢◌, ℕ, ◌+◌, ◌-◌, ◌<◌, ◌≤◌, List, [], ◌∷◌, length, drop, Some, None, slice_get, refl, sym, ◌∙◌, ap, arith}
-use Rattle.vol_tree.specs.Tree.{Volume}
+use Rattle.std.proofs.Common.{◌≡◌, ◌≢◌, inl, ℕ, ◌+◌, ◌-◌, ◌<◌, ◌≤◌, List, [], ◌∷◌, length, drop, Some, None, slice_get, refl, sym, ◌∙◌, ap, arith}
+use Rattle.tree_values.specs.Tree.{Volume}
+use Rattle.tree_values.specs.Lists.{IsIn}
 use Rattle.mod_log.specs.declared.log.Entry.{Entry}
 use Rattle.mod_log.specs.Log.{Log, IsLog, AreEntriesOf, acknowledged}
 use Rattle.wire_frames.specs.Frame.{IsValid}
-use Rattle.world_rules.specs.InStep.{MaySend, IsOfFirst}
+use Rattle.world_rules.specs.InStep.{MaySend}
 use Rattle.world_rules.proofs.Sending.{sent_valid}
 use Rattle.client_core.specs.Syncing.{IsFirst, store_of}
 
@@ -29,15 +30,15 @@ numbered : (number : ℕ) (base : Volume) (pending : List Entry) (entry : Entry)
 numbered number base [] entry are first = absurd first
 numbered number base (e ∷ entries) entry are first = ap (λ (x : Entry). x.seq) (sym first) ∙ are.0.numbered
 
-of_first : (pending : List Entry) (entry : Entry) → IsFirst entry pending → IsOfFirst pending entry.effects entry.base
-of_first [] entry first = absurd first
-of_first (e ∷ entries) entry first = (ap (λ (x : Entry). x.effects) (sym first), ap (λ (x : Entry). x.base) (sym first))
+first_in : (pending : List Entry) (entry : Entry) → IsFirst entry pending → IsIn entry pending
+first_in [] entry first = absurd first
+first_in (e ∷ entries) entry first = inl (sym first)
 
 pub first_number : (log : Log) (entry : Entry) → IsLog log → IsFirst entry log.pending → entry.seq ≡ log.acked + 1
 first_number log entry is first = numbered (log.acked + 1) log.base log.pending entry is.entries first
 
 pub may_send : (client : ℕ) (log : Log) (entry : Entry) → IsLog log → IsFirst entry log.pending → MaySend client log (store_of client entry)
-may_send client log entry is first = (refl, first_number log entry is first, of_first log.pending entry first)
+may_send client log entry is first = (refl, first_number log entry is first, (entry, first_in log.pending entry first, refl, refl, refl))
 
 pub store_valid : (client : ℕ) (log : Log) (entry : Entry) → 1 ≤ client → client ≤ 64 → IsLog log → IsFirst entry log.pending → IsValid (store_of client entry)
 store_valid client log entry low high is first = sent_valid client log.acked log.base log.pending (store_of client entry) low high is (may_send client log entry is first)

@@ -3,23 +3,21 @@ use Rattle.std.proofs.Common.{◌≡◌, ◌≢◌, ◌⊎◌, inl, inr, ⊎_eli
 use Rattle.std.proofs.lemmas.List.{append-nil}
 use Rattle.outside.specs.Outside.{Told, RoseBy}
 use Rattle.outside.specs.Keeper.{Images}
-use Rattle.vol_tree.specs.Behind.{IsIn}
+use Rattle.tree_values.specs.Lists.{IsIn}
 use Rattle.mod_log.specs.declared.log.Entry.{Entry}
 use Rattle.mod_log.specs.Log.{Log, IsLog, logged}
 use Rattle.wire_frames.specs.declared.message.Message.{Message}
-use Rattle.wire_frames.specs.declared.message.Message.TheVariants.{Accepted}
-use Rattle.world_rules.specs.declared.asking.Peer.{Peer}
 use Rattle.world_rules.specs.declared.asking.Ask.{Ask}
-use Rattle.world_rules.specs.declared.asking.Answer.TheVariants.{Reply}
 use Rattle.world_rules.specs.World.{World, Moved}
-use Rattle.world_rules.specs.Asking.{ask_of}
-use Rattle.world_rules.specs.InStep.{MaySend}
+use Rattle.world_rules.specs.Asking.{AnswersStand}
+use Rattle.world_rules.specs.Settling.{failed_asks}
+use Rattle.world_rules.specs.InStep.{MaySend, IsAcceptance}
 use Rattle.world_rules.specs.Run.{Runs, kept_at, Acknowledges, Logs, Saves}
 use Rattle.world_rules.proofs.Asks.{told_then}
 use Rattle.world_rules.proofs.Runs.{runs_none, runs_then, runs_once, moved_runs}
+use Rattle.world_rules.proofs.Settled.{failed-append}
 use Rattle.store_image.specs.Image.{Keeps}
-use Rattle.client_core.specs.Trace.{Trace, nothing, followed, asking, last_log, log_before_last, IsLastOrBefore}
-use Rattle.client_core.specs.Settling.{failures, settled, failed_asks}
+use Rattle.client_core.specs.Trace.{Trace, nothing, followed, asking, changing, logging, last_log, log_before_last, IsLastOrBefore}
 use Rattle.client_core.specs.Syncing.{acknowledged_first}
 use Rattle.client_core.specs.Keeping.{OthersStay, IsKept, Kept, Keeping, KeepsLog}
 use Rattle.client_core.specs.Goes.{Goes, stand}
@@ -34,20 +32,6 @@ followed-assoc a b c = λ i. record { asks = append_assoc a.asks b.asks c.asks i
 
 pub changed_so : (changes : List Log) (change : Log) (more : List Log) → changes ≡ change ∷ more → changes ≢ []
 changed_so changes change more is = λ none. absurd (cc (sym none ∙ is))
-
--- ---- the asks that failed
-
-pub failed-append : (xs ys : List Ask) → failed_asks (xs ++ ys) ≡ failed_asks xs + failed_asks ys
-failed-append [] ys = omega arith
-failed-append (x ∷ xs) ys = omega (arith, failed-append xs ys)
-
-module _ (to : Peer) (address : List ℕ) (request : Message) where
-  pub failed-failures : (n : ℕ) → failed_asks (failures to address request n) ≡ n
-  failed-failures zero = refl
-  failed-failures (suc n) = omega (arith, failed-failures n)
-
-  pub failed-settled : (n : ℕ) (reply : Message) → failed_asks (settled to address request n reply) ≡ n
-  failed-settled n reply = omega (arith, failed-append (failures to address request n) (ask_of to address request (Reply reply) ∷ []), failed-failures n)
 
 -- ---- what is kept
 
@@ -159,36 +143,41 @@ module _ (name : List ℕ) (client : ℕ) where
     rose = omega (arith, failed-append first.trace.asks second.trace.asks, first.rose, second.rose);
   }
 
-  -- the asks of a request that the kept log may send
+  -- the asks of a request that the kept log may send, whose answers stand
   pub goes_moved : (T : Trace → Type 0) (request : Message) (asks : List Ask) (s : Log) (i : Option Images) (t u : ℕ) (x y : World) → IsKept i name client s → MaySend client s request
-      → Moved request asks x y → RoseBy (failed_asks asks) t u → T (asking asks) → Goes client name T s s s i i t u x y
+      → Moved request asks x y × AnswersStand y asks → RoseBy (failed_asks asks) t u → T (asking asks) → Goes client name T s s s i i t u x y
   goes_moved T request asks s i t u x y keeps may moved rose turn = record {
     trace = asking asks;
     turn = turn;
-    runs = moved_runs client s request asks x y may moved;
+    runs = moved_runs client s request asks x y may moved.0 moved.1;
     keeping = keeping_none name client s i keeps;
     rose = rose;
   }
 
-  -- and the acknowledgement of the first pending entry on a reply that was sent
-  pub goes_acked : (T : Trace → Type 0) (request reply : Message) (asks : List Ask) (s : Log) (i : Option Images) (t u : ℕ) (x y : World) → IsKept i name client s → MaySend client s request
-      → Moved request asks x y → RoseBy (failed_asks asks) t u → s.pending ≢ [] → reply ≡ Accepted client (s.acked + 1) → IsIn reply y.packets
-      → T (record { asks = asks; entries = []; changes = acknowledged_first s ∷ [] }) → Goes client name T s (acknowledged_first s) s i i t u x y
-  goes_acked T request reply asks s i t u x y keeps may moved rose some is among turn = record {
-    trace = record { asks = asks; entries = []; changes = acknowledged_first s ∷ [] };
+  -- and a change of the log by one move, which is not kept yet
+  pub goes_changed : (T : Trace → Type 0) (request : Message) (asks : List Ask) (s next : Log) (i : Option Images) (t u : ℕ) (x y : World) → IsKept i name client s → MaySend client s request
+      → Moved request asks x y × AnswersStand y asks → RoseBy (failed_asks asks) t u → Runs client [] [] (kept_at s y) (stand next s y)
+      → T (followed (asking asks) (changing next)) → Goes client name T s next s i i t u x y
+  goes_changed T request asks s next i t u x y keeps may moved rose runs turn = record {
+    trace = followed (asking asks) (changing next);
     turn = turn;
-    runs = subst (λ (l : List Ask). Runs client [] l (kept_at s x) (stand (acknowledged_first s) s y)) (append-nil asks)
-        (runs_then client [] [] asks [] (kept_at s x) (kept_at s y) (stand (acknowledged_first s) s y) (moved_runs client s request asks x y may moved)
-        (runs_once client (kept_at s y) (Acknowledges reply) (some, is, among)));
-    keeping = keeping_unkept name client s (acknowledged_first s) i keeps;
-    rose = rose;
+    runs = runs_then client [] [] asks [] (kept_at s x) (kept_at s y) (stand next s y) (moved_runs client s request asks x y may moved.0 moved.1) runs;
+    keeping = keeping_unkept name client s next i keeps;
+    rose = omega (arith, failed-append asks [], rose);
   }
+
+  -- such as the acknowledgement of the first pending entry on a reply that was sent
+  pub goes_acked : (T : Trace → Type 0) (request reply : Message) (asks : List Ask) (s : Log) (i : Option Images) (t u : ℕ) (x y : World) → IsKept i name client s → MaySend client s request
+      → Moved request asks x y × AnswersStand y asks → RoseBy (failed_asks asks) t u → s.pending ≢ [] → IsAcceptance client (s.acked + 1) reply → IsIn reply y.packets
+      → T (followed (asking asks) (changing (acknowledged_first s))) → Goes client name T s (acknowledged_first s) s i i t u x y
+  goes_acked T request reply asks s i t u x y keeps may moved rose some is among turn =
+      goes_changed T request asks s (acknowledged_first s) i t u x y keeps may moved rose (runs_once client (kept_at s y) (Acknowledges reply) (some, is, among)) turn
 
   -- an entry that is logged, and not kept yet
   pub goes_logged : (T : Trace → Type 0) (entry : Entry) (s : Log) (i : Option Images) (t : ℕ) (w : World) → IsKept i name client s → IsLog (logged entry s)
-      → T (record { asks = []; entries = entry ∷ []; changes = logged entry s ∷ [] }) → Goes client name T s (logged entry s) s i i t t w w
+      → T (logging entry (logged entry s)) → Goes client name T s (logged entry s) s i i t t w w
   goes_logged T entry s i t w keeps log_is turn = record {
-    trace = record { asks = []; entries = entry ∷ []; changes = logged entry s ∷ [] };
+    trace = logging entry (logged entry s);
     turn = turn;
     runs = runs_once client (kept_at s w) (Logs entry) log_is;
     keeping = keeping_unkept name client s (logged entry s) i keeps;

@@ -1,10 +1,11 @@
 pub mod Acknowledging
+pub mod Counting
 pub mod Firsts
 pub mod Going
 pub mod Locals
 pub mod Olders
 pub mod Putting
 pub mod Pulls
-pub mod Settled
+pub mod Standing
 pub mod Syncs
 pub mod Truths

@@ -6,12 +6,12 @@ use Rattle.std.specs.declared.cmp.Ordering.{Ordering}
 use Rattle.std.specs.declared.cmp.Ordering.TheVariants.{Less, Equal, Greater}
 use Rattle.std.specs.Ordering.{ordering_reverse, is_lt, is_eq}
 use Rattle.file_paths.specs.Path.{FilePath, path_cmp}
-use Rattle.vol_tree.specs.Tree.{Volume, version_at, row_at, AreInOrder}
-use Rattle.vol_tree.specs.declared.node.Row.{Row}
+use Rattle.tree_values.specs.Tree.{Volume, version_at, row_at, AreInOrder}
+use Rattle.tree_values.specs.declared.node.Row.{Row}
 use Rattle.file_paths.proofs.Order.{paths_total, same_path, same_place}
-use Rattle.vol_tree.proofs.Places.{are_above, after_row}
+use Rattle.tree_values.proofs.Places.{are_above, after_row}
 use Rattle.vol_tree.proofs.Behind.{version_of}
-use Rattle.vol_tree.proofs.Undoing.{find_among}
+use Rattle.tree_values.proofs.Undoing.{find_among}
 use Rattle.client_core.specs.Pulling.{IsNowhereOlder, IsFirstOlder}
 use Rattle.client_core.specs.Inside.{is_lower, first_lower}
 

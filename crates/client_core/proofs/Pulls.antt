@@ -1,39 +1,42 @@
 -- What a pull makes of its settling.
-use Rattle.std.proofs.Common.{◌≡◌, ◌≢◌, ◌⊎◌, inl, inr, ℕ, ◌≤◌, List, [], ◌∷◌, length, Option, Some, None, IfSome, Result, Ok, Err, IfOk, refl, sym, ap, subst, arith, append-nil}
+use Rattle.std.proofs.Common.{◌≡◌, ◌≢◌, ◌⊎◌, inl, inr, ℕ, ◌≤◌, List, [], ◌∷◌, length, Option, Some, None, IfSome, Result, Ok, Err, IfOk, refl, sym, ap, subst, arith}
 use Rattle.std.specs.Prelude.{unwrap_or}
 use Rattle.std.specs.declared.alloc.AllocError.{AllocError}
 use Rattle.outside.specs.Outside.{Told, Rose}
 use Rattle.outside.specs.Keeper.{Images}
 use Rattle.outside.specs.declared.errors.KeepError.{KeepError}
 use Rattle.outside.specs.declared.errors.KeepError.TheVariants as keepers
-use Rattle.vol_tree.specs.Tree.{Volume, version_at, IsTree, AreInOrder}
-use Rattle.vol_tree.specs.Behind.{IsIn}
-use Rattle.vol_tree.specs.declared.node.Row.{Row}
+use Rattle.tree_values.specs.Tree.{Volume, version_at, IsTree, AreInOrder}
+use Rattle.tree_values.specs.declared.node.Row.{Row}
 use Rattle.mod_log.specs.declared.log.Entry.{Entry}
 use Rattle.mod_log.specs.Log.{Log, IsLog, pulled}
 use Rattle.wire_frames.specs.declared.message.Message.{Message}
 use Rattle.wire_frames.specs.declared.message.Message.TheVariants.{Store, Pull, Accepted, Stale, Unfit, Gap, Snapshot, Full, Malformed}
 use Rattle.wire_frames.specs.Frame.{IsValid, Echoes}
-use Rattle.world_rules.specs.declared.asking.Ask.{Ask}
 use Rattle.world_rules.specs.declared.asking.Answer.TheVariants.{Reply}
-use Rattle.world_rules.specs.World.{World}
+use Rattle.world_rules.specs.declared.asking.Peer.TheVariants.{Server}
+use Rattle.world_rules.specs.World.{World, Moved}
+use Rattle.world_rules.specs.Telling.{LinkTelling, ToldWorlds}
+use Rattle.world_rules.specs.Asking.{AnswersStand}
+use Rattle.world_rules.specs.Settling.{Settled, IsFreshReply}
 use Rattle.world_rules.specs.InStep.{InStep, MaySend}
-use Rattle.world_rules.specs.Run.{Runs, kept_at, Pulls}
-use Rattle.world_rules.proofs.Runs.{runs_then, runs_once, moved_runs, pulled_last, runs_in_step}
-use Rattle.world_rules.proofs.Asks.{told_as}
+use Rattle.world_rules.specs.Run.{kept_at, Pulls}
+use Rattle.world_rules.proofs.Runs.{runs_once}
+use Rattle.world_rules.proofs.Asks.{told_as, told_start}
 use Rattle.world_rules.proofs.Replying.{fresh_newer}
 use Rattle.world_rules.proofs.Sending.{sent_valid}
 use Rattle.client_core.specs.declared.route.Route.{Route}
 use Rattle.client_core.specs.declared.pulling.PullEnd.{PullEnd}
 use Rattle.client_core.specs.declared.pulling.PullEnd.TheVariants as ends
-use Rattle.client_core.specs.Trace.{Trace, asking}
-use Rattle.client_core.specs.Pulling.{pull_of, Meets, pull_changes, pulled_end, is_broken_pull, PullsSnapshot, PullAsks, PullEnds}
+use Rattle.client_core.specs.Trace.{Trace, followed, asking, changing}
+use Rattle.client_core.specs.Pulling.{pull_of, Meets, pull_change, pulled_end, is_broken_pull, PullsSnapshot, PullAsks, PullEnds}
 use Rattle.client_core.specs.Keeping.{IsKept, Keeping, KeepsLog}
-use Rattle.client_core.specs.Goes.{Goes, stand}
+use Rattle.client_core.specs.Goes.{Goes, Went}
 use Rattle.client_core.specs.Causes.{TakesRows, HasPullCause, PullKeeps}
-use Rattle.client_core.specs.Honest.{IsNotOtherLast, IsNotOlder}
-use Rattle.client_core.specs.Inside.{Settled, IsFreshReply, MeetsEnds, PullLeaves, first_lower, snapshot_of}
-use Rattle.client_core.proofs.Going.{changed_so, keeping_none, keeping_unkept, keeping_saved, goes_none, goes_as, goes_moved, goes_saved}
+use Rattle.client_core.specs.Honest.{IsNotOlder}
+use Rattle.client_core.specs.Inside.{MeetsEnds, PullLeaves, first_lower, snapshot_of}
+use Rattle.client_core.proofs.Going.{followed-nothing, changed_so, keeping_none, keeping_unkept, keeping_saved, goes_none, goes_as, goes_moved, goes_changed, goes_saved}
+use Rattle.client_core.proofs.Standing.{settled_stands}
 use Rattle.client_core.proofs.Olders.{nowhere_older, first_older}
 
 -- ---- nothing is pending
@@ -70,62 +73,64 @@ module _ (client : ℕ) (route : Route) (before : Log) (i : Option Images) (keep
   abbrev name : List ℕ
   name = route.image
 
-  -- entries are pending
-  pub pull_waits : (count : ℕ) → before.pending ≢ [] → count ≡ length before.pending → (t : ℕ) (w : World) → Goes client name (PullAsks client route before (ends.Pending count) before) before before before i i t t w w
-  pull_waits count some is t w = goes_none name client (PullAsks client route before (ends.Pending count) before) before i t w keeps (inl (some, is, refl, refl))
+  -- what a pull did over the link before it kept anything
+  abbrev Asks : PullEnd → Log → LinkTelling → LinkTelling → Type 0
+  Asks end after t u = ToldWorlds t u (λ x y. Goes client name (PullAsks client route before end after) before after before i i t.troubles u.troubles x y)
 
-  module _ (none : before.pending ≡ []) (t u : ℕ) (x y : World) where
+  -- entries are pending
+  pub pull_waits : (count : ℕ) → before.pending ≢ [] → count ≡ length before.pending → (t : LinkTelling) → Asks (ends.Pending count) before t t
+  pull_waits count some is t =
+      told_start t.world (λ x y. Goes client name (PullAsks client route before (ends.Pending count) before) before before before i i t.troubles t.troubles x y) (λ w. goes_none name client (PullAsks client route before (ends.Pending count) before) before i t.troubles w keeps (inl (some, is, refl, refl)))
+
+  module _ (none : before.pending ≡ []) (t u : LinkTelling) where
     abbrev request : Message
     request = pull_of client before
 
     abbrev Pulls_so : PullEnd → Log → Type 0
-    Pulls_so end after = Goes client name (PullAsks client route before end after) before after before i i t u x y
+    Pulls_so end after = Asks end after t u
+
+    -- the asks of a settling, which change nothing
+    asked : (end : PullEnd) (result : Result (Option Message) AllocError) (done : Settled Server route.server request t u result) → PullAsks client route before end before (asking done.asks) → Pulls_so end before
+    asked end result done turn = told_as t.world u.world (λ x y. Moved request done.asks x y × AnswersStand y done.asks)
+        (λ x y. Goes client name (PullAsks client route before end before) before before before i i t.troubles u.troubles x y) done.told
+        (λ x y moved. goes_moved name client (PullAsks client route before end before) request done.asks before i t.troubles u.troubles x y keeps (pull_sends client before none) moved done.rose turn)
 
     -- eight asks failed
-    pub pull_unanswered : Settled route.server request t u x y (Ok None) → Pulls_so ends.Unanswered before
-    pull_unanswered done =
-        goes_moved name client (PullAsks client route before ends.Unanswered before) request done.1.asks before i t u x y keeps (pull_sends client before none) done.1.moved done.1.rose
-        (inl (none, (done.1.asks, done.1.made_so, refl, refl)))
+    pub pull_unanswered : Settled Server route.server request t u (Ok None) → Pulls_so ends.Unanswered before
+    pull_unanswered done = asked ends.Unanswered (Ok None) done (inl (none, (done.asks, done.settling, refl, refl)))
 
     -- memory was wanted in the settling
-    pub pull_breaks : (e : AllocError) → Settled route.server request t u x y (Err e) → Pulls_so ends.Memory before
-    pull_breaks e done =
-        goes_moved name client (PullAsks client route before ends.Memory before) request done.asks before i t u x y keeps (pull_sends client before none) done.moved done.rose
-        (inr (refl, (done.asks, none, refl, done.made_so, refl)))
+    pub pull_breaks : (e : AllocError) → Settled Server route.server request t u (Err e) → Pulls_so ends.Memory before
+    pull_breaks e done = asked ends.Memory (Err e) done (inr (refl, (done.asks, none, refl, done.settling, refl)))
 
-    module _ (last : ℕ) (seen : Volume) (done : Settled route.server request t u x y (Ok (Some (Snapshot client before.acked last seen)))) where
-      abbrev asks : List Ask
-      asks = done.1.asks
-
-      snapshot : (end : PullEnd) (after : Log) (trace : Trace) → Meets before last seen end after → trace ≡ record { asks = asks; entries = []; changes = pull_changes end after } → PullsSnapshot client route before end after trace
-      snapshot end after trace met is = record { last = last; seen = seen; asks = asks; idle = none; settling = done.1.made_so; met = met; trace_is = is }
+    module _ (last : ℕ) (seen : Volume) (done : Settled Server route.server request t u (Ok (Some (Snapshot client before.acked last seen)))) where
+      snapshot : (end : PullEnd) (after : Log) (trace : Trace) → Meets before last seen end after → trace ≡ followed (asking done.asks) (pull_change end after) → PullsSnapshot client route before end after trace
+      snapshot end after trace met is = record { last = last; seen = seen; asks = done.asks; idle = none; settling = done.settling; met = met; trace_is = is }
 
       -- a pull that replaces the base
       replaces : (count : ℕ) → Meets before last seen (ends.Pulled count) (pulled seen before) → Pulls_so (ends.Pulled count) (pulled seen before)
       replaces count met =
           let after : Log = pulled seen before in
           let is_last : last ≡ before.acked = met.0 in
-          record {
-            trace = record { asks = asks; entries = []; changes = after ∷ [] };
-            turn = inl (snapshot (ends.Pulled count) after (record { asks = asks; entries = []; changes = after ∷ [] }) met refl);
-            runs = subst (λ (l : List Ask). Runs client [] l (kept_at before x) (stand after before y)) (append-nil asks)
-                (runs_then client [] [] asks [] (kept_at before x) (kept_at before y) (stand after before y) (moved_runs client before request asks x y (pull_sends client before none) done.1.moved)
-                (runs_once client (kept_at before y) (Pulls last seen) (none, is_last, done.0, met.1)));
-            keeping = keeping_unkept name client before after i keeps;
-            rose = done.1.rose;
-          }
+          told_as t.world u.world (λ x y. Moved request done.asks x y × AnswersStand y done.asks)
+          (λ x y. Goes client name (PullAsks client route before (ends.Pulled count) after) before after before i i t.troubles u.troubles x y) done.told
+          (λ x y moved.
+          let stands = settled_stands route.server request y (Some (Snapshot client before.acked last seen)) done.asks done.settling moved.1 in
+          goes_changed name client (PullAsks client route before (ends.Pulled count) after) request done.asks before after i t.troubles u.troubles x y keeps (pull_sends client before none) moved done.rose
+          (runs_once client (kept_at before y) (Pulls last seen) (none, is_last, stands.0, met.1))
+          (inl (snapshot (ends.Pulled count) after (followed (asking done.asks) (changing after)) met refl)))
 
       by_end : (end : PullEnd) (after : Log) → Meets before last seen end after → Pulls_so end after
       by_end (ends.Pulled count) after met =
           subst (Pulls_so (ends.Pulled count)) (sym met.3) (replaces count (subst (Meets before last seen (ends.Pulled count)) met.3 met))
       by_end (ends.OtherLast other acked) after met =
           subst (Pulls_so (ends.OtherLast other acked)) (sym met.3)
-          (goes_moved name client (PullAsks client route before (ends.OtherLast other acked) before) request asks before i t u x y keeps (pull_sends client before none) done.1.moved done.1.rose
-          (inl (snapshot (ends.OtherLast other acked) before (asking asks) (subst (Meets before last seen (ends.OtherLast other acked)) met.3 met) refl)))
+          (asked (ends.OtherLast other acked) (Ok (Some (Snapshot client before.acked last seen))) done
+          (inl (snapshot (ends.OtherLast other acked) before (asking done.asks) (subst (Meets before last seen (ends.OtherLast other acked)) met.3 met) (followed-nothing (asking done.asks)))))
       by_end (ends.Older path theirs ours) after met =
           subst (Pulls_so (ends.Older path theirs ours)) (sym met.4)
-          (goes_moved name client (PullAsks client route before (ends.Older path theirs ours) before) request asks before i t u x y keeps (pull_sends client before none) done.1.moved done.1.rose
-          (inl (snapshot (ends.Older path theirs ours) before (asking asks) (subst (Meets before last seen (ends.Older path theirs ours)) met.4 met) refl)))
+          (asked (ends.Older path theirs ours) (Ok (Some (Snapshot client before.acked last seen))) done
+          (inl (snapshot (ends.Older path theirs ours) before (asking done.asks) (subst (Meets before last seen (ends.Older path theirs ours)) met.4 met) (followed-nothing (asking done.asks)))))
       by_end (ends.Pending count) after met = absurd met
       by_end ends.Unanswered after met = absurd met
       by_end ends.KeepFault after met = absurd met
@@ -134,9 +139,9 @@ module _ (client : ℕ) (route : Route) (before : Log) (i : Option Images) (keep
       -- memory was wanted once the snapshot had come
       unread : Pulls_so ends.Memory before
       unread =
-          let made = done.1.made_so in
-          goes_moved name client (PullAsks client route before ends.Memory before) request asks before i t u x y keeps (pull_sends client before none) done.1.moved done.1.rose
-          (inr (refl, (asks, none, refl, (made.0, made.1, inr (Reply (Snapshot client before.acked last seen), made.4)), refl)))
+          let made = done.settling in
+          asked ends.Memory (Ok (Some (Snapshot client before.acked last seen))) done
+          (inr (refl, (done.asks, none, refl, (made.0, made.1, inr (Reply (Snapshot client before.acked last seen), made.4)), refl)))
 
       pub pull_met : (end : PullEnd) (after : Log) → MeetsEnds before last seen end after → Pulls_so end after
       pull_met end after (inl met) = by_end end after met
@@ -179,7 +184,7 @@ module _ (before : Log) (none : before.pending ≡ []) (last : ℕ) (seen : Volu
 
 module _ (client : ℕ) (route : Route) (before after : Log) (i l : Option Images) (t u : ℕ) where
   -- rows were taken, and the log was to be kept
-  pub pulled_kept : (x y : World) (count : ℕ) (r : Result (Unit {0}) KeepError) → Goes client route.image (PullAsks client route before (ends.Pulled count) after) before after before i i t u x y
+  pulled_kept : (x y : World) (count : ℕ) (r : Result (Unit {0}) KeepError) → Goes client route.image (PullAsks client route before (ends.Pulled count) after) before after before i i t u x y
       → Told i l (KeepsLog route.image client after r) → (kept : Log) × Goes client route.image (PullEnds client route before (pulled_end count r) after kept) before after kept i l t u x y
   pulled_kept x y count r goes save = by r (goes_saved route.image client (PullAsks client route before (ends.Pulled count) after) before after before i i l t u x y r goes (changed goes.trace goes.turn) save)
     where
@@ -209,6 +214,15 @@ module _ (client : ℕ) (route : Route) (before after : Log) (i l : Option Image
             (λ trace turn. inr (refl, inr (count, snapshot trace turn))),
       )
 
+-- and over the link
+pub pulled_went : (client : ℕ) (route : Route) (before after : Log) (i l : Option Images) (t u : LinkTelling) (count : ℕ) (r : Result (Unit {0}) KeepError) → Told i l (KeepsLog route.image client after r)
+    → ToldWorlds t u (λ x y. Goes client route.image (PullAsks client route before (ends.Pulled count) after) before after before i i t.troubles u.troubles x y)
+    → Went client route.image (PullEnds client route before (pulled_end count r) after) before after i l t u
+pulled_went client route before after i l t u count r save goes =
+    told_as t.world u.world (λ x y. Goes client route.image (PullAsks client route before (ends.Pulled count) after) before after before i i t.troubles u.troubles x y)
+    (λ x y. (kept : Log) × Goes client route.image (PullEnds client route before (pulled_end count r) after kept) before after kept i l t.troubles u.troubles x y) goes
+    (λ x y did. pulled_kept client route before after i l t.troubles u.troubles x y count r did save)
+
 -- ends that are no Pulled
 abbrev pub IsUnpulled : PullEnd → Type 0
 IsUnpulled (ends.Pulled count) = ⊥
@@ -225,7 +239,7 @@ module _ (before after : Log) where
   leaves_same ends.Memory other leaves = leaves
 
 -- a pull that changed nothing
-pub unpulled_kept : (client : ℕ) (route : Route) (before after : Log) (i : Option Images) (t u : ℕ) (x y : World) (end : PullEnd) → IsUnpulled end → PullLeaves end before after
+unpulled_kept : (client : ℕ) (route : Route) (before after : Log) (i : Option Images) (t u : ℕ) (x y : World) (end : PullEnd) → IsUnpulled end → PullLeaves end before after
     → Goes client route.image (PullAsks client route before end after) before after before i i t u x y → (kept : Log) × Goes client route.image (PullEnds client route before end after kept) before after kept i i t u x y
 unpulled_kept client route before after i t u x y end other leaves goes =
     (before, goes_as route.image client (PullAsks client route before end after) (PullEnds client route before end after before) before after before i i t u x y goes (λ trace turn. kept_so trace turn))
@@ -233,6 +247,14 @@ unpulled_kept client route before after i t u x y end other leaves goes =
     kept_so : (trace : Trace) → PullAsks client route before end after trace → PullEnds client route before end after before trace
     kept_so trace (inl turn) = inl (turn, sym (leaves_same before after end other leaves))
     kept_so trace (inr broken) = inr (ap is_broken_pull broken.0, inl broken.1)
+
+pub unpulled_went : (client : ℕ) (route : Route) (before after : Log) (i : Option Images) (t u : LinkTelling) (end : PullEnd) → IsUnpulled end → PullLeaves end before after
+    → ToldWorlds t u (λ x y. Goes client route.image (PullAsks client route before end after) before after before i i t.troubles u.troubles x y)
+    → Went client route.image (PullEnds client route before end after) before after i i t u
+unpulled_went client route before after i t u end other leaves goes =
+    told_as t.world u.world (λ x y. Goes client route.image (PullAsks client route before end after) before after before i i t.troubles u.troubles x y)
+    (λ x y. (kept : Log) × Goes client route.image (PullEnds client route before end after kept) before after kept i i t.troubles u.troubles x y) goes
+    (λ x y did. unpulled_kept client route before after i t.troubles u.troubles x y end other leaves did)
 
 -- what is kept behind a pull
 module _ (name : List ℕ) (client : ℕ) (before after : Log) (i l : Option Images) (keeps : IsKept i name client before) where
@@ -267,19 +289,6 @@ pulled_cause before after t u p q count (Err keepers.Memory) cause takes rose = 
 -- ---- what a pull meets from in step
 
 module _ (client : ℕ) (before : Log) (none : before.pending ≡ []) (last : ℕ) (seen : Volume) where
-  not_other : (world : World) → InStep client before world → IsIn (Snapshot client before.acked last seen) world.packets → (end : PullEnd) (after : Log) → MeetsEnds before last seen end after → IsNotOtherLast end
-  not_other world now among end after (inr broken) = λ other acked is. let memory = broken.0 in absurd (cc)
-  not_other world now among end after (inl met) = λ other acked is.
-      let same : Meets before last seen (ends.OtherLast other acked) after = subst (λ (e : PullEnd). Meets before last seen e after) is met in
-      absurd (same.0 (pulled_last client before world last seen now none among))
-
-  -- the settling leaves the log in step with the world
-  pub never_other : (address : List ℕ) (t u : ℕ) (x y : World) → Settled address (pull_of client before) t u x y (Ok (Some (Snapshot client before.acked last seen)))
-      → InStep client before x → (end : PullEnd) (after : Log) → MeetsEnds before last seen end after → IsNotOtherLast end
-  never_other address t u x y done now end after met =
-      not_other y (runs_in_step client [] done.1.asks (kept_at before x) (kept_at before y) now (moved_runs client before (pull_of client before) done.1.asks x y (pull_sends client before none) done.1.moved))
-      done.0 end after met
-
   pub never_older : (x y : World) → IsFreshReply (pull_of client before) x y (Snapshot client before.acked last seen) → InStep client before x → (end : PullEnd) (after : Log) → MeetsEnds before last seen end after → IsNotOlder end
   never_older x y fresh now end after (inr broken) = λ path theirs ours is. let memory = broken.0 in absurd (cc)
   never_older x y fresh now end after (inl met) = λ path theirs ours is.
@@ -316,24 +325,18 @@ found_none client acked (Some (Gap of number beyond)) told is = absurd told.1.0
 found_none client acked (Some (Full of number index fault)) told is = absurd told.1.0
 found_none client acked (Some (Malformed code offset)) told is = absurd told.1.0
 
-pulled_not_other : (count : ℕ) (r : Result (Unit {0}) KeepError) → IsNotOtherLast (pulled_end count r)
-pulled_not_other count (Ok done) = λ last acked is. absurd (cc)
-pulled_not_other count (Err keepers.Failed) = λ last acked is. absurd (cc)
-pulled_not_other count (Err keepers.Memory) = λ last acked is. absurd (cc)
-
 pulled_not_older : (count : ℕ) (r : Result (Unit {0}) KeepError) → IsNotOlder (pulled_end count r)
 pulled_not_older count (Ok done) = λ path theirs ours is. absurd (cc)
 pulled_not_older count (Err keepers.Failed) = λ path theirs ours is. absurd (cc)
 pulled_not_older count (Err keepers.Memory) = λ path theirs ours is. absurd (cc)
 
 -- over any link
-pub other_never : (client : ℕ) (before : Log) (w v : Option World) (P : World → World → Type 0) (count : ℕ) (r : Result (Unit {0}) KeepError) (end : PullEnd) → end ≡ pulled_end count r → Told w v P
-    → Told w v (λ x y. InStep client before x → IsNotOtherLast end)
-other_never client before w v P count r end is told = told_as w v P (λ x y. InStep client before x → IsNotOtherLast end) told (λ x y p now. subst IsNotOtherLast (sym is) (pulled_not_other count r))
+pub not_older : (client : ℕ) (before : Log) (w v : Option World) (P : World → World → Type 0) (end : PullEnd) → IsNotOlder end → Told w v P → Told w v (λ x y. InStep client before x → IsNotOlder end)
+not_older client before w v P end never told = told_as w v P (λ x y. InStep client before x → IsNotOlder end) told (λ x y p now. never)
 
 pub older_never : (client : ℕ) (before : Log) (w v : Option World) (P : World → World → Type 0) (count : ℕ) (r : Result (Unit {0}) KeepError) (end : PullEnd) → end ≡ pulled_end count r → Told w v P
     → Told w v (λ x y. InStep client before x → IsNotOlder end)
-older_never client before w v P count r end is told = told_as w v P (λ x y. InStep client before x → IsNotOlder end) told (λ x y p now. subst IsNotOlder (sym is) (pulled_not_older count r))
+older_never client before w v P count r end is told = not_older client before w v P end (subst IsNotOlder (sym is) (pulled_not_older count r)) told
 
 -- an end that is no Pulled
 pub unpulled : (end : PullEnd) → ((count : ℕ) → end ≡ ends.Pulled count → ⊥) → IsUnpulled end

@@ -1,5 +1,5 @@
 -- What a sync makes of the settlings of its entries.
-use Rattle.std.proofs.Common.{true, false, ◌≡◌, ◌≢◌, ◌⊎◌, inl, inr, ℕ, suc, ◌+◌, ◌≤◌, arith, List, [], ◌∷◌, ◌++◌, Option, Some, None, IfSome, Result, Ok, Err, IfOk, refl, sym, ap, subst}
+use Rattle.std.proofs.Common.{true, false, ◌≡◌, ◌≢◌, ◌⊎◌, inl, inr, ℕ, suc, ◌+◌, ◌≤◌, arith, List, [], ◌∷◌, ◌++◌, Option, Some, None, IfSome, Result, Ok, Err, IfOk, refl, sym, ◌∙◌, ap, subst}
 use Rattle.std.specs.declared.alloc.AllocError.{AllocError}
 use Rattle.outside.specs.Outside.{Told, RoseBy, Rose}
 use Rattle.outside.specs.Keeper.{Images}
@@ -9,19 +9,24 @@ use Rattle.mod_log.specs.declared.log.Entry.{Entry}
 use Rattle.mod_log.specs.Log.{Log, IsLog}
 use Rattle.wire_frames.specs.declared.message.Message.{Message}
 use Rattle.wire_frames.specs.declared.message.Message.TheVariants.{Store, Pull, Accepted, Stale, Unfit, Gap, Snapshot, Full, Malformed}
-use Rattle.wire_frames.specs.Frame.{IsValid, Echoes}
-use Rattle.world_rules.specs.World.{World}
+use Rattle.wire_frames.specs.Frame.{IsValid, Echoes, number_of}
+use Rattle.world_rules.specs.declared.asking.Peer.TheVariants.{Server}
+use Rattle.world_rules.specs.World.{World, Moved}
+use Rattle.world_rules.specs.Telling.{LinkTelling, ToldWorlds}
+use Rattle.world_rules.specs.Asking.{AnswersStand}
+use Rattle.world_rules.specs.Settling.{Settled}
+use Rattle.world_rules.proofs.Asks.{told_then, told_as, told_start}
 use Rattle.client_core.specs.declared.route.Route.{Route}
 use Rattle.client_core.specs.declared.syncing.SyncEnd.{SyncEnd}
 use Rattle.client_core.specs.declared.syncing.SyncEnd.TheVariants as ends
-use Rattle.client_core.specs.Trace.{Trace, followed, asking, last_log}
+use Rattle.client_core.specs.Trace.{Trace, followed, asking, changing, last_log}
 use Rattle.client_core.specs.Syncing.{store_of, IsFirst, Acknowledges, acknowledged_first, end_by, unkept_end, is_broken_sync, SyncEnds}
 use Rattle.client_core.specs.Keeping.{IsKept, Keeping, KeepsLog}
-use Rattle.client_core.specs.Goes.{Goes}
+use Rattle.client_core.specs.Goes.{Goes, Went}
 use Rattle.client_core.specs.Causes.{HasSyncCause, AcknowledgeFirsts, SyncKeeps}
-use Rattle.client_core.specs.Inside.{Settled}
 use Rattle.client_core.proofs.Going.{followed-nothing, changed_so, keeping_none, keeping_then, keeping_unkept, keeping_saved, kept_now, goes_none, goes_as, goes_then, goes_moved, goes_acked, goes_saved}
 use Rattle.client_core.proofs.Firsts.{first_number, first_some, may_send}
+use Rattle.client_core.proofs.Standing.{settled_stands}
 
 module _ (client : ℕ) (entry : Entry) where
   abbrev store : Message
@@ -41,8 +46,9 @@ module _ (client : ℕ) (entry : Entry) where
   goes_on (Some (Malformed code offset)) on told = absurd (cc)
 
   module _ (log : Log) (t v p q : ℕ) (end : SyncEnd) (some : log.pending ≢ []) (next : entry.seq ≡ log.acked + 1) where
-    refused : (reply : Message) (is : SyncEnd) → IsValid reply → end_by (log.acked + 1) (Some reply) ≡ Some is → (log.pending ≢ []) × ((m : Message) × IsValid m × (end_by (log.acked + 1) (Some m) ≡ Some is))
-    refused reply is valid by = (some, (reply, valid, by))
+    refused : (reply : Message) (is : SyncEnd) → IsValid reply → entry.seq ≡ number_of reply → end_by (log.acked + 1) (Some reply) ≡ Some is
+        → (log.pending ≢ []) × ((m : Message) × IsValid m × (number_of m ≡ log.acked + 1) × (end_by (log.acked + 1) (Some m) ≡ Some is))
+    refused reply is valid same by = (some, (reply, valid, sym same ∙ next, by))
 
     -- why a sync ends with this end
     pub has_cause : (reply : Option Message) → Some end ≡ end_by entry.seq reply → IfSome reply (λ m. IsValid m × Echoes store m) → (reply ≡ None → RoseBy 8 t v) → HasSyncCause end log t v p q
@@ -52,16 +58,16 @@ module _ (client : ℕ) (entry : Entry) where
     has_cause (Some (Accepted of number)) is told rose = absurd (cc)
     has_cause (Some (Stale of number path theirs ours)) is told rose =
         let same : ends.Stale (log.acked + 1) path theirs ours ≡ end = cc in
-        subst (λ (e : SyncEnd). HasSyncCause e log t v p q) same (refused (Stale of number path theirs ours) (ends.Stale (log.acked + 1) path theirs ours) told.0 refl)
+        subst (λ (e : SyncEnd). HasSyncCause e log t v p q) same (refused (Stale of number path theirs ours) (ends.Stale (log.acked + 1) path theirs ours) told.0 told.1.2 refl)
     has_cause (Some (Unfit of number index fault)) is told rose =
         let same : ends.Unfit (log.acked + 1) index fault ≡ end = cc in
-        subst (λ (e : SyncEnd). HasSyncCause e log t v p q) same (refused (Unfit of number index fault) (ends.Unfit (log.acked + 1) index fault) told.0 refl)
+        subst (λ (e : SyncEnd). HasSyncCause e log t v p q) same (refused (Unfit of number index fault) (ends.Unfit (log.acked + 1) index fault) told.0 told.1.2 refl)
     has_cause (Some (Full of number index fault)) is told rose =
         let same : ends.Full (log.acked + 1) index fault ≡ end = cc in
-        subst (λ (e : SyncEnd). HasSyncCause e log t v p q) same (refused (Full of number index fault) (ends.Full (log.acked + 1) index fault) told.0 refl)
+        subst (λ (e : SyncEnd). HasSyncCause e log t v p q) same (refused (Full of number index fault) (ends.Full (log.acked + 1) index fault) told.0 told.1.2 refl)
     has_cause (Some (Gap of number last)) is told rose =
         let same : ends.Behind (log.acked + 1) last ≡ end = cc in
-        subst (λ (e : SyncEnd). HasSyncCause e log t v p q) same (refused (Gap of number last) (ends.Behind (log.acked + 1) last) told.0 refl)
+        subst (λ (e : SyncEnd). HasSyncCause e log t v p q) same (refused (Gap of number last) (ends.Behind (log.acked + 1) last) told.0 told.1.2 refl)
     has_cause (Some (Store of number effects base)) is told rose = absurd told.1.0
     has_cause (Some (Pull of number)) is told rose = absurd told.1.0
     has_cause (Some (Snapshot of number last rows)) is told rose = absurd told.1.0
@@ -157,66 +163,104 @@ module _ (client : ℕ) (route : Route) (before : Log) where
   abbrev pub Acked : Log → Trace → Type 0
   Acked after trace = (count : ℕ) × Acknowledges client route count before after trace
 
-  pub acked_none : (i : Option Images) (t : ℕ) (w : World) → IsKept i name client before → Goes client name (Acked before) before before before i i t t w w
-  acked_none i t w keeps = goes_none name client (Acked before) before i t w keeps (0, (refl, refl))
+  -- and what it did over the link, each log being kept
+  abbrev pub WentSoFar : Log → Option Images → Option Images → LinkTelling → LinkTelling → Type 0
+  WentSoFar mid i j t u = ToldWorlds t u (λ x y. Goes client name (Acked mid) before mid mid i j t.troubles u.troubles x y)
 
-  module _ (mid : Log) (entry : Entry) (is : IsLog mid) (first : IsFirst entry mid.pending) (i j : Option Images) (keeps : IsKept j name client mid) (t u v : ℕ) (x y z : World)
-      (so_far : Goes client name (Acked mid) before mid mid i j t u x y) where
+  pub acked_none : (i : Option Images) (t : LinkTelling) → IsKept i name client before → WentSoFar before i i t t
+  acked_none i t keeps =
+      told_start t.world (λ x y. Goes client name (Acked before) before before before i i t.troubles t.troubles x y) (λ w. goes_none name client (Acked before) before i t.troubles w keeps (0, (refl, refl)))
+
+  -- nothing is pending
+  pub sync_synced : (mid : Log) (i j : Option Images) (t u : LinkTelling) → mid.pending ≡ [] → WentSoFar mid i j t u → Went client name (SyncEnds client route before (ends.Synced mid.acked) mid) before mid i j t u
+  sync_synced mid i j t u none so_far =
+      told_as t.world u.world (λ x y. Goes client name (Acked mid) before mid mid i j t.troubles u.troubles x y) _ so_far
+      (λ x y goes. (
+        mid,
+        goes_as name client (Acked mid) (SyncEnds client route before (ends.Synced mid.acked) mid mid) before mid mid i j t.troubles u.troubles x y goes
+            (λ m acked. inl ((acked.0, m, [], acked.1, inl (none, refl, refl), followed-nothing m), refl)),
+      ))
+
+  module _ (mid : Log) (entry : Entry) (is : IsLog mid) (first : IsFirst entry mid.pending) (i j : Option Images) (keeps : IsKept j name client mid) (t u v : LinkTelling) (so_far : WentSoFar mid i j t u) where
     abbrev acked : Log
     acked = acknowledged_first mid
 
-    -- the entry was acknowledged, and the log was to be kept
-    acked_saved : (l : Option Images) (r : Result (Unit {0}) KeepError) → Settled route.server (store_of client entry) u v y z (Ok (Some (Accepted client entry.seq))) → Told j l (KeepsLog name client acked r)
-        → (kept : Log) × Goes client name (Acked acked) before acked kept i l t v x z × IfOk r (λ done. kept ≡ acked)
-    acked_saved l r done save =
-        let asks = done.1.asks in
-        let here : Trace = record { asks = asks; entries = []; changes = acked ∷ [] } in
-        let last = goes_acked name client (λ (n : Trace). n ≡ here) (store_of client entry) (Accepted client entry.seq) asks mid j u v y z keeps (may_send client mid entry is first) done.1.moved done.1.rose
-        (first_some mid.pending entry first) (ap (λ (n : ℕ). Accepted client n) (first_number mid entry is first)) done.0 refl in
-        let saved = goes_saved name client (λ (n : Trace). n ≡ here) mid acked mid j j l u v y z r last (changed_so last.trace.changes acked [] (ap (λ (n : Trace). n.changes) last.turn)) save in (
-          saved.0,
-          goes_then name client (Acked mid) (λ (n : Trace). n ≡ here) (Acked acked) before mid acked saved.0 i j l t u v x y z so_far saved.1
-              (λ m n so ends. (suc so.0, (mid, m, entry, asks, so.1, record { first = first; settling = done.1.made_so }, refl, ap (followed m) ends))),
-          saved.2,
-        )
+    abbrev shipped : Message
+    shipped = store_of client entry
 
-    pub acked_more : (l : Option Images) (r : Result (Unit {0}) KeepError) → Settled route.server (store_of client entry) u v y z (Ok (Some (Accepted client entry.seq))) → Told j l (KeepsLog name client acked r)
-        → IfOk r (λ done. Goes client name (Acked acked) before acked acked i l t v x z)
-    acked_more l (Ok kept) done save =
-        let saved = acked_saved l (Ok kept) done save in
-        subst (λ (k : Log). Goes client name (Acked acked) before acked k i l t v x z) saved.2 saved.1
-    acked_more l (Err e) done save = tt
+    -- the settling comes to an end of the sync
+    pub sync_ends : (came : Option Message) (end : SyncEnd) → Settled Server route.server shipped u v (Ok came) → Some end ≡ end_by entry.seq came
+        → Went client name (SyncEnds client route before end mid) before mid i j t v
+    sync_ends came end done by =
+        told_then t.world u.world v.world (λ x y. Goes client name (Acked mid) before mid mid i j t.troubles u.troubles x y) (λ y z. Moved shipped done.asks y z × AnswersStand z done.asks) _ so_far done.told
+        (λ x y z goes moved.
+        let last = goes_moved name client (λ (n : Trace). n ≡ asking done.asks) shipped done.asks mid j u.troubles v.troubles y z keeps (may_send client mid entry is first) moved done.rose refl in (
+          mid,
+          goes_then name client (Acked mid) (λ (n : Trace). n ≡ asking done.asks) (SyncEnds client route before end mid mid) before mid mid mid i j j t.troubles u.troubles v.troubles x y z goes last
+              (λ m n acked is. inl ((acked.0, m, done.asks, acked.1, inr (record { entry = entry; first = first; came = came; settling = done.settling; end_is = sym by }), ap (followed m) is), refl)),
+        ))
 
-    pub sync_unkept : (l : Option Images) (e : KeepError) → Settled route.server (store_of client entry) u v y z (Ok (Some (Accepted client entry.seq))) → Told j l (KeepsLog {E = KeepError} name client acked (Err e))
-        → (kept : Log) × Goes client name (SyncEnds client route before (unkept_end e) acked kept) before acked kept i l t v x z
-    sync_unkept l e done save =
-        let saved = acked_saved l (Err e) done save in (
-          saved.0,
-          goes_as name client (Acked acked) (SyncEnds client route before (unkept_end e) acked saved.0) before acked saved.0 i l t v x z saved.1
-              (λ m acked. inr (broken e, (acked.0, m, [], acked.1, inl refl, followed-nothing m))),
-        )
-      where
-        broken : (e : KeepError) → is_broken_sync (unkept_end e) ≡ true
-        broken keepers.Failed = refl
-        broken keepers.Memory = refl
-
-    pub sync_ends : (reply : Option Message) (end : SyncEnd) → Settled route.server (store_of client entry) u v y z (Ok reply) → Some end ≡ end_by entry.seq reply
-        → Goes client name (SyncEnds client route before end mid mid) before mid mid i j t v x z
-    sync_ends reply end done by =
-        let asks = done.1.asks in
-        let last = goes_moved name client (λ (n : Trace). n ≡ asking asks) (store_of client entry) asks mid j u v y z keeps (may_send client mid entry is first) done.1.moved done.1.rose refl in
-        goes_then name client (Acked mid) (λ (n : Trace). n ≡ asking asks) (SyncEnds client route before end mid mid) before mid mid mid i j j t u v x y z so_far last
-        (λ m n acked ends. inl ((acked.0, m, asks, acked.1, inr (entry, reply, record { first = first; settling = done.1.made_so }, sym by), ap (followed m) ends), refl))
-
-    pub sync_breaks : (e : AllocError) → Settled route.server (store_of client entry) u v y z (Err e) → Goes client name (SyncEnds client route before ends.Memory mid mid) before mid mid i j t v x z
+    -- memory was wanted in it
+    pub sync_breaks : (e : AllocError) → Settled Server route.server shipped u v (Err e) → Went client name (SyncEnds client route before ends.Memory mid) before mid i j t v
     sync_breaks e done =
-        let asks = done.asks in
-        let last = goes_moved name client (λ (n : Trace). n ≡ asking asks) (store_of client entry) asks mid j u v y z keeps (may_send client mid entry is first) done.moved done.rose refl in
-        goes_then name client (Acked mid) (λ (n : Trace). n ≡ asking asks) (SyncEnds client route before ends.Memory mid mid) before mid mid mid i j j t u v x y z so_far last
-        (λ m n acked ends. inr (refl, (acked.0, m, asks, acked.1, inr (entry, first, done.made_so), ap (followed m) ends)))
+        told_then t.world u.world v.world (λ x y. Goes client name (Acked mid) before mid mid i j t.troubles u.troubles x y) (λ y z. Moved shipped done.asks y z × AnswersStand z done.asks) _ so_far done.told
+        (λ x y z goes moved.
+        let last = goes_moved name client (λ (n : Trace). n ≡ asking done.asks) shipped done.asks mid j u.troubles v.troubles y z keeps (may_send client mid entry is first) moved done.rose refl in (
+          mid,
+          goes_then name client (Acked mid) (λ (n : Trace). n ≡ asking done.asks) (SyncEnds client route before ends.Memory mid mid) before mid mid mid i j j t.troubles u.troubles v.troubles x y z goes last
+              (λ m n acked is. inr (refl, (acked.0, m, done.asks, acked.1, inr (entry, first, done.settling), ap (followed m) is))),
+        ))
 
-  pub sync_synced : (mid : Log) (i j : Option Images) (t u : ℕ) (x y : World) → mid.pending ≡ [] → Goes client name (Acked mid) before mid mid i j t u x y
-      → Goes client name (SyncEnds client route before (ends.Synced mid.acked) mid mid) before mid mid i j t u x y
-  sync_synced mid i j t u x y none so_far =
-      goes_as name client (Acked mid) (SyncEnds client route before (ends.Synced mid.acked) mid mid) before mid mid i j t u x y so_far
-      (λ m acked. inl ((acked.0, m, [], acked.1, inl (none, refl, refl), followed-nothing m), refl))
+    module _ (done : Settled Server route.server shipped u v (Ok (Some (Accepted client entry.seq)))) where
+      abbrev change : Trace
+      change = followed (asking done.asks) (changing acked)
+
+      -- the entry was acknowledged, and the log was to be kept
+      acked_saved : (l : Option Images) (r : Result (Unit {0}) KeepError) → Told j l (KeepsLog name client acked r) → (x y z : World) → Goes client name (Acked mid) before mid mid i j t.troubles u.troubles x y
+          → Moved shipped done.asks y z × AnswersStand z done.asks
+          → (kept : Log) × Goes client name (Acked acked) before acked kept i l t.troubles v.troubles x z × IfOk r (λ done. kept ≡ acked)
+      acked_saved l r save x y z goes moved =
+          let stands = settled_stands route.server shipped z (Some (Accepted client entry.seq)) done.asks done.settling moved.1 in
+          let last = goes_acked name client (λ (n : Trace). n ≡ change) shipped (Accepted client entry.seq) done.asks mid j u.troubles v.troubles y z keeps (may_send client mid entry is first) moved done.rose
+          (first_some mid.pending entry first) (refl, first_number mid entry is first) stands.0 refl in
+          let saved = goes_saved name client (λ (n : Trace). n ≡ change) mid acked mid j j l u.troubles v.troubles y z r last (changed_so last.trace.changes acked [] (ap (λ (n : Trace). n.changes) last.turn)) save in (
+            saved.0,
+            goes_then name client (Acked mid) (λ (n : Trace). n ≡ change) (Acked acked) before mid acked saved.0 i j l t.troubles u.troubles v.troubles x y z goes saved.1
+                (λ m n so ends. (
+                  suc so.0,
+                  (
+                    mid,
+                    m,
+                    done.asks,
+                    so.1,
+                    record { entry = entry; first = first; came = Some (Accepted client entry.seq); settling = done.settling; end_is = refl },
+                    refl,
+                    ap (followed m) ends,
+                  ),
+                )),
+            saved.2,
+          )
+
+      pub acked_more : (l : Option Images) (r : Result (Unit {0}) KeepError) → Told j l (KeepsLog name client acked r) → IfOk r (λ kept. WentSoFar acked i l t v)
+      acked_more l (Err e) save = tt
+      acked_more l (Ok kept) save =
+          told_then t.world u.world v.world (λ x y. Goes client name (Acked mid) before mid mid i j t.troubles u.troubles x y) (λ y z. Moved shipped done.asks y z × AnswersStand z done.asks)
+          (λ x z. Goes client name (Acked acked) before acked acked i l t.troubles v.troubles x z) so_far done.told
+          (λ x y z goes moved.
+          let saved = acked_saved l (Ok kept) save x y z goes moved in
+          subst (λ (k : Log). Goes client name (Acked acked) before acked k i l t.troubles v.troubles x z) saved.2 saved.1)
+
+      pub sync_unkept : (l : Option Images) (e : KeepError) → Told j l (KeepsLog {E = KeepError} name client acked (Err e))
+          → Went client name (SyncEnds client route before (unkept_end e) acked) before acked i l t v
+      sync_unkept l e save =
+          told_then t.world u.world v.world (λ x y. Goes client name (Acked mid) before mid mid i j t.troubles u.troubles x y) (λ y z. Moved shipped done.asks y z × AnswersStand z done.asks) _ so_far done.told
+          (λ x y z goes moved.
+          let saved = acked_saved l (Err e) save x y z goes moved in (
+            saved.0,
+            goes_as name client (Acked acked) (SyncEnds client route before (unkept_end e) acked saved.0) before acked saved.0 i l t.troubles v.troubles x z saved.1
+                (λ m acked. inr (broken e, (acked.0, m, [], acked.1, inl refl, followed-nothing m))),
+          ))
+        where
+          broken : (e : KeepError) → is_broken_sync (unkept_end e) ≡ true
+          broken keepers.Failed = refl
+          broken keepers.Memory = refl

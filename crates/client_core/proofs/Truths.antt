@@ -1,27 +1,40 @@
--- What the end of a sync tells a client that was in step.
-use Rattle.std.proofs.Common.{◌≡◌, ℕ, ◌+◌, ◌≤◌, List, Option, Some, None, IfSome, refl, sym, subst, arith}
-use Rattle.outside.specs.Outside.{RoseBy, Rose}
+-- What the ends of syncs and pulls tell a client that is in step.
+use Rattle.std.proofs.Common.{true, false, ◌≡◌, ◌⊎◌, inl, inr, ⊎_elim, ℕ, ◌+◌, ◌≤◌, List, [], ◌++◌, Option, Some, None, refl, sym, ap, subst, arith}
+use Rattle.outside.specs.Outside.{Rose}
 use Rattle.outside.specs.Keeper.{Images}
-use Rattle.outside.specs.declared.errors.KeepError.{KeepError}
-use Rattle.outside.specs.declared.errors.KeepError.TheVariants as keepers
-use Rattle.vol_tree.specs.Behind.{IsIn}
+use Rattle.tree_values.specs.Tree.{version_at}
+use Rattle.tree_values.specs.Lists.{IsIn}
 use Rattle.mod_log.specs.declared.log.Entry.{Entry}
-use Rattle.mod_log.specs.Log.{Log}
+use Rattle.mod_log.specs.Log.{Log, tree_at}
 use Rattle.wire_frames.specs.declared.message.Message.{Message}
 use Rattle.wire_frames.specs.declared.message.Message.TheVariants.{Store, Pull, Accepted, Stale, Unfit, Gap, Snapshot, Full, Malformed}
-use Rattle.wire_frames.specs.Frame.{IsValid, Echoes}
+use Rattle.wire_frames.specs.Frame.{client_of, Echoes}
+use Rattle.world_rules.specs.declared.asking.Peer.TheVariants.{Server}
+use Rattle.world_rules.specs.declared.asking.Ask.{Ask}
 use Rattle.world_rules.specs.World.{World}
+use Rattle.world_rules.specs.Telling.{LinkTelling, IsCalm}
+use Rattle.world_rules.specs.Asking.{AnswersStand}
+use Rattle.world_rules.specs.Settling.{IsSettling, failed_asks}
 use Rattle.world_rules.specs.InStep.{InStep}
-use Rattle.world_rules.specs.Run.{kept_at}
-use Rattle.world_rules.proofs.Runs.{runs_in_step}
+use Rattle.world_rules.specs.Run.{kept_at, taken_in}
+use Rattle.world_rules.proofs.Asks.{told_as, answers_front, answers_end}
+use Rattle.world_rules.proofs.Settled.{failed-append, failed-failures}
+use Rattle.world_rules.proofs.Runs.{runs_in_step, run_answers, lone_tree, pulled_last}
 use Rattle.world_rules.proofs.Replying.{no_gap, stale_ahead, refused_ahead}
+use Rattle.world_rules.proofs.Unrefused.{never_ahead}
 use Rattle.client_core.specs.declared.syncing.SyncEnd.{SyncEnd}
 use Rattle.client_core.specs.declared.syncing.SyncEnd.TheVariants as ends
-use Rattle.client_core.specs.Trace.{Trace}
-use Rattle.client_core.specs.Syncing.{store_of, end_by, unkept_end}
-use Rattle.client_core.specs.Goes.{Goes, stand}
-use Rattle.client_core.specs.Honest.{IsOvertaken, IsTrueSync, IsComplete}
-use Rattle.client_core.specs.Inside.{IsSent}
+use Rattle.client_core.specs.declared.route.Route.{Route}
+use Rattle.client_core.specs.declared.pulling.PullEnd.{PullEnd}
+use Rattle.client_core.specs.declared.pulling.PullEnd.TheVariants as pulls
+use Rattle.client_core.specs.Trace.{Trace, followed, asking}
+use Rattle.client_core.specs.Syncing.{store_of, end_by, EntryTurn, EndsSync, SyncTurn, SyncEnds, is_broken_sync}
+use Rattle.client_core.specs.Pulling.{pull_of, PullTurn, PullEnds, is_broken_pull}
+use Rattle.client_core.specs.Causes.{HasSyncCause}
+use Rattle.client_core.specs.Goes.{Goes, Went, stand}
+use Rattle.client_core.specs.Honest.{FromInStep, IsOvertaken, IsTrueSync, IsComplete, IsNotOtherLast}
+use Rattle.client_core.proofs.Firsts.{first_number}
+use Rattle.client_core.proofs.Standing.{settled_stands}
 
 -- what a client did keeps it in step
 pub goes_in_step : (client : ℕ) (name : List ℕ) (T : Trace → Type 0) (before after kept : Log) (i j : Option Images) (t u : ℕ) (x y : World) → Goes client name T before after kept i j t u x y
@@ -67,24 +80,198 @@ module _ (client : ℕ) (entry : Entry) (log : Log) (world : World) (next : entr
   overtaken (Snapshot of number last rows) end is among told = absurd told.0
   overtaken (Malformed code offset) end is among told = absurd told.0
 
-  pub end_is_true : (reply : Option Message) (end : SyncEnd) → Some end ≡ end_by entry.seq reply → IsSent reply world → IfSome reply (λ m. IsValid m × Echoes store m) → IsTrueSync end client log world
-  end_is_true None end is sent told =
-      let same : ends.Unanswered entry.seq ≡ end = cc in
-      subst (λ (e : SyncEnd). IsTrueSync e client log world) same tt
-  end_is_true (Some reply) end is sent told = true_end reply end is sent told.1
+-- ---- the turns of a sync, where their answers stand
 
-  pub end_is_complete : (t u : ℕ) → (Rose t u → ⊥) → (reply : Option Message) (end : SyncEnd) → Some end ≡ end_by entry.seq reply → IsSent reply world → IfSome reply (λ m. IsValid m × Echoes store m)
-      → (reply ≡ None → RoseBy 8 t u) → IsComplete end client log world
-  end_is_complete t u calm None end is sent told rose = absurd (calm (omega (arith, rose refl)))
-  end_is_complete t u calm (Some reply) end is sent told rose = λ none_ahead. absurd (none_ahead (overtaken reply end is sent told.1))
+module _ (client : ℕ) (route : Route) (log : Log) (end : SyncEnd) (asks : List Ask) (world : World) (turn : EntryTurn client route log (Some end) asks) (stand : AnswersStand world asks) (now : InStep client log world) where
+  next : turn.entry.seq ≡ log.acked + 1
+  next = first_number log turn.entry now.log_is turn.first
 
--- ---- a sync whose log could not be kept
+  pub turn_true : IsTrueSync end client log world
+  turn_true = by turn.came turn.settling turn.end_is
+    where
+      by : (came : Option Message) → IsSettling Server route.server (store_of client turn.entry) came asks → end_by turn.entry.seq came ≡ Some end → IsTrueSync end client log world
+      by None settling is =
+          let same : ends.Unanswered turn.entry.seq ≡ end = cc in
+          subst (λ (e : SyncEnd). IsTrueSync e client log world) same tt
+      by (Some reply) settling is =
+          let known = settled_stands route.server (store_of client turn.entry) world (Some reply) asks settling stand in
+          true_end client turn.entry log world next now reply end (sym is) known.0 known.2
 
-pub unkept_true : (client : ℕ) (log : Log) (world : World) (e : KeepError) (end : SyncEnd) → end ≡ unkept_end e → IsTrueSync end client log world
-unkept_true client log world keepers.Failed end is = subst (λ (e : SyncEnd). IsTrueSync e client log world) (sym is) tt
-unkept_true client log world keepers.Memory end is = subst (λ (e : SyncEnd). IsTrueSync e client log world) (sym is) tt
+  -- eight asks failed, or a path is ahead
+  pub turn_overtaken : (8 ≤ failed_asks asks → ⊥) → IsOvertaken client log world
+  turn_overtaken few = by turn.came turn.settling turn.end_is
+    where
+      by : (came : Option Message) → IsSettling Server route.server (store_of client turn.entry) came asks → end_by turn.entry.seq came ≡ Some end → IsOvertaken client log world
+      by None settling is = absurd (few (omega (arith, ap failed_asks settling, failed-failures Server route.server (store_of client turn.entry) 8)))
+      by (Some reply) settling is =
+          let known = settled_stands route.server (store_of client turn.entry) world (Some reply) asks settling stand in
+          overtaken client turn.entry log world next now reply end (sym is) known.0 known.2
+
+-- a settling came to no Gap
+module _ (client : ℕ) (number : ℕ) (log : Log) (world : World) (now : InStep client log world) (seq last : ℕ) where
+  no_behind : (reply : Message) → IsIn reply world.packets → client ≡ client_of reply → end_by number (Some reply) ≡ Some (ends.Behind seq last) → ⊥
+  no_behind (Gap of refused beyond) among mine is = no_gap client log world refused beyond now (subst (λ (c : ℕ). IsIn (Gap c refused beyond) world.packets) (sym mine) among)
+  no_behind (Accepted of accepted) among mine is = absurd (cc)
+  no_behind (Store of stored effects base) among mine is = absurd (cc)
+  no_behind (Pull of known) among mine is = absurd (cc)
+  no_behind (Stale of refused path theirs ours) among mine is = absurd (cc)
+  no_behind (Unfit of refused index fault) among mine is = absurd (cc)
+  no_behind (Full of refused index fault) among mine is = absurd (cc)
+  no_behind (Snapshot of known then rows) among mine is = absurd (cc)
+  no_behind (Malformed code offset) among mine is = absurd (cc)
+
+-- ---- a whole sync
+
+module _ (client : ℕ) (route : Route) (before after : Log) where
+  last_stand : (earlier trace : Trace) (last : List Ask) (world : World) → trace ≡ followed earlier (asking last) → AnswersStand world trace.asks → AnswersStand world last
+  last_stand earlier trace last world is stand = answers_end earlier.asks last world (subst (AnswersStand world) (ap (λ (t : Trace). t.asks) is) stand)
+
+  pub sync_behind : (log : Log) (seq last : ℕ) (trace : Trace) (world : World) → SyncTurn client route before (ends.Behind seq last) after trace → AnswersStand world trace.asks → InStep client log world → ⊥
+  sync_behind log seq last trace world turn stand now = by turn.4
+    where
+      asks : List Ask
+      asks = turn.2
+
+      stands : AnswersStand world asks
+      stands = last_stand turn.1 trace asks world turn.5 stand
+
+      of_turn : (entry : Entry) (came : Option Message) → IsSettling Server route.server (store_of client entry) came asks → end_by entry.seq came ≡ Some (ends.Behind seq last) → ⊥
+      of_turn entry None settling is = absurd (cc)
+      of_turn entry (Some reply) settling is =
+          let known = settled_stands route.server (store_of client entry) world (Some reply) asks settling stands in
+          no_behind client entry.seq log world now seq last reply known.0 known.2.1 is
+
+      by : EndsSync client route after (ends.Behind seq last) asks → ⊥
+      by (inl synced) = absurd (cc (synced.1))
+      by (inr turn) = of_turn turn.entry turn.came turn.settling turn.end_is
+
+  pub sync_true : (end : SyncEnd) (trace : Trace) (world : World) → SyncTurn client route before end after trace → AnswersStand world trace.asks → InStep client after world → IsTrueSync end client after world
+  sync_true end trace world turn stand now = by turn.4
+    where
+      by : EndsSync client route after end turn.2 → IsTrueSync end client after world
+      by (inl synced) = subst (λ (e : SyncEnd). IsTrueSync e client after world) (sym synced.1) tt
+      by (inr last) = turn_true client route after end turn.2 world last (last_stand turn.1 trace turn.2 world turn.5 stand) now
+
+  -- where fewer than eight asks failed, and no path is ahead
+  pub sync_complete : (end : SyncEnd) (trace : Trace) (world : World) → SyncTurn client route before end after trace → AnswersStand world trace.asks → InStep client after world
+      → (8 ≤ failed_asks trace.asks → ⊥) → (IsOvertaken client after world → ⊥) → (end ≡ ends.Synced after.acked) × (after.pending ≡ [])
+  sync_complete end trace world turn stand now few none_ahead = by turn.4
+    where
+      failed : failed_asks turn.2 ≤ failed_asks trace.asks
+      failed =
+          let is : failed_asks trace.asks ≡ failed_asks (turn.1.asks ++ turn.2) = ap (λ (t : Trace). failed_asks t.asks) turn.5 in
+          omega (arith, failed-append turn.1.asks turn.2, is)
+
+      by : EndsSync client route after end turn.2 → (end ≡ ends.Synced after.acked) × (after.pending ≡ [])
+      by (inl synced) = (synced.1, synced.0)
+      by (inr last) =
+          absurd (none_ahead (turn_overtaken client route after end turn.2 world last (last_stand turn.1 trace turn.2 world turn.5 stand) now (λ eight. few (omega (arith, eight, failed)))))
+
+-- a sync that was broken off tells nothing of the world
+broken_true : (client : ℕ) (log : Log) (world : World) (end : SyncEnd) → is_broken_sync end ≡ true → IsTrueSync end client log world
+broken_true client log world ends.KeepFault is = tt
+broken_true client log world ends.Memory is = tt
+broken_true client log world (ends.Synced number) is = absurd (cc)
+broken_true client log world (ends.Stale number path theirs ours) is = absurd (cc)
+broken_true client log world (ends.Unfit number index fault) is = absurd (cc)
+broken_true client log world (ends.Full number index fault) is = absurd (cc)
+broken_true client log world (ends.Unanswered number) is = absurd (cc)
+broken_true client log world (ends.Behind number last) is = absurd (cc)
 
 -- without a fault of the keeper memory was wanted
-pub unkept_memory : (e : KeepError) (end : SyncEnd) → end ≡ unkept_end e → (p m q : ℕ) → p ≤ m → (e ≡ keepers.Failed → Rose m q) → (Rose p q → ⊥) → end ≡ ends.Memory
-unkept_memory keepers.Failed end is p m q later rose sound = absurd (sound (omega (arith, later, rose refl)))
-unkept_memory keepers.Memory end is p m q later rose sound = is
+broken_memory : (end : SyncEnd) (after : Log) (t v p q : ℕ) → is_broken_sync end ≡ true → HasSyncCause end after t v p q → (Rose p q → ⊥) → end ≡ ends.Memory
+broken_memory ends.KeepFault after t v p q is cause sound = absurd (sound cause)
+broken_memory ends.Memory after t v p q is cause sound = refl
+broken_memory (ends.Synced number) after t v p q is cause sound = absurd (cc)
+broken_memory (ends.Stale number path theirs ours) after t v p q is cause sound = absurd (cc)
+broken_memory (ends.Unfit number index fault) after t v p q is cause sound = absurd (cc)
+broken_memory (ends.Full number index fault) after t v p q is cause sound = absurd (cc)
+broken_memory (ends.Unanswered number) after t v p q is cause sound = absurd (cc)
+broken_memory (ends.Behind number last) after t v p q is cause sound = absurd (cc)
+
+module _ (client : ℕ) (name : List ℕ) (route : Route) (before after : Log) (end : SyncEnd) (i j : Option Images) where
+  -- of what a client did
+  module _ (kept : Log) (t u : ℕ) (x y : World) (goes : Goes client name (SyncEnds client route before end after kept) before after kept i j t u x y) where
+    stands : AnswersStand y goes.trace.asks
+    stands = run_answers client goes.trace.entries goes.trace.asks (kept_at before x) (stand after kept y) goes.runs
+
+    few_failed : (Rose t u → ⊥) → 8 ≤ failed_asks goes.trace.asks → ⊥
+    few_failed calm eight = calm (omega (arith, goes.rose, eight))
+
+    goes_true : InStep client before x → IsTrueSync end client after y
+    goes_true now = by goes.turn
+      where
+        then : InStep client after y
+        then = goes_in_step client name (SyncEnds client route before end after kept) before after kept i j t u x y goes now
+
+        by : SyncEnds client route before end after kept goes.trace → IsTrueSync end client after y
+        by (inl turn) = sync_true client route before after end goes.trace y turn.0 stands then
+        by (inr broken) = broken_true client after y end broken.0
+
+    goes_complete : InStep client before x → (Rose t u → ⊥) → (IsOvertaken client after y → ⊥) → ((end ≡ ends.Synced after.acked) × (after.pending ≡ [])) ⊎ (is_broken_sync end ≡ true)
+    goes_complete now calm none_ahead = by goes.turn
+      where
+        then : InStep client after y
+        then = goes_in_step client name (SyncEnds client route before end after kept) before after kept i j t u x y goes now
+
+        by : SyncEnds client route before end after kept goes.trace → ((end ≡ ends.Synced after.acked) × (after.pending ≡ [])) ⊎ (is_broken_sync end ≡ true)
+        by (inl turn) = inl (sync_complete client route before after end goes.trace y turn.0 stands then (few_failed calm) none_ahead)
+        by (inr broken) = inr broken.0
+
+  -- over any link
+  module _ (t u : LinkTelling) (went : Went client name (SyncEnds client route before end after) before after i j t u) where
+    pub went_true : FromInStep client before t u (IsTrueSync end client after)
+    went_true = told_as t.world u.world _ _ went (λ x y goes. goes_true goes.0 t.troubles u.troubles x y goes.1)
+
+    pub went_complete : (p q : ℕ) → HasSyncCause end after t.troubles u.troubles p q → IsCalm t u → (Rose p q → ⊥) → FromInStep client before t u (IsComplete end client after)
+    went_complete p q cause calm sound = told_as t.world u.world _ _ went
+        (λ x y goes now none_ahead. ⊎_elim (λ all. inl all) (λ broken. inr (broken_memory end after t.troubles u.troubles p q broken cause sound)) (goes_complete goes.0 t.troubles u.troubles x y goes.1 now calm none_ahead))
+
+pub calm_complete : (client : ℕ) (route : Route) (name : List ℕ) (before after kept : Log) (end : SyncEnd) (images images_now : Option Images) (troubles later : ℕ) (old new : World)
+    → (goes : Goes client name (SyncEnds client route before end after kept) before after kept images images_now troubles later old new)
+    → InStep client before old → (Rose troubles later → ⊥)
+    → ((message : Message) → IsIn message (taken_in goes.runs.moves (kept_at before old)) → client_of message ≡ client)
+    → old.served.volume ≡ tree_at (old.served.last client) before
+    → ((end ≡ ends.Synced after.acked) × (after.pending ≡ [])) ⊎ (is_broken_sync end ≡ true)
+calm_complete client route name before after kept end images images_now troubles later old new goes now calm alone served =
+    goes_complete client name route before after end images images_now kept troubles later old new goes now calm
+    (never_ahead new.served.volume (tree_at (new.served.last client) after)
+    (lone_tree client goes.trace.entries goes.trace.asks (kept_at before old) (stand after kept new) now goes.runs alone served))
+
+-- ---- a pull
+
+module _ (client : ℕ) (route : Route) (before after : Log) where
+  pub pull_met_last : (end : PullEnd) (trace : Trace) (world : World) → PullTurn client route before end after trace → AnswersStand world trace.asks → InStep client before world → IsNotOtherLast end
+  pull_met_last (pulls.OtherLast other acked) trace world turn stand now last known is =
+      let asks : List Ask = turn.asks in
+      let stands : AnswersStand world asks = answers_front asks [] world (subst (AnswersStand world) (ap (λ (t : Trace). t.asks) turn.trace_is) stand) in
+      let sent = settled_stands route.server (pull_of client before) world (Some (Snapshot client before.acked turn.last turn.seen)) asks turn.settling stands in
+      absurd (turn.met.0 (pulled_last client before world turn.last turn.seen now turn.idle sent.0))
+  pull_met_last (pulls.Pulled count) trace world turn stand now last known is = absurd (cc)
+  pull_met_last (pulls.Pending count) trace world turn stand now last known is = absurd (cc)
+  pull_met_last (pulls.Older path theirs ours) trace world turn stand now last known is = absurd (cc)
+  pull_met_last pulls.Unanswered trace world turn stand now last known is = absurd (cc)
+  pull_met_last pulls.KeepFault trace world turn stand now last known is = absurd (cc)
+  pull_met_last pulls.Memory trace world turn stand now last known is = absurd (cc)
+
+  -- the log is as before but where rows were taken
+  unpulled_log : (other acked : ℕ) (trace : Trace) → PullTurn client route before (pulls.OtherLast other acked) after trace → after ≡ before
+  unpulled_log other acked trace turn = turn.met.3
+
+  goes_not_other : (name : List ℕ) (end : PullEnd) (kept : Log) (i j : Option Images) (t u : ℕ) (x y : World) → Goes client name (PullEnds client route before end after kept) before after kept i j t u x y
+      → InStep client before x → IsNotOtherLast end
+  goes_not_other name end kept i j t u x y goes now last acked is = by goes.turn
+    where
+      by : PullEnds client route before end after kept goes.trace → ⊥
+      by (inl turn) =
+          let met : PullTurn client route before (pulls.OtherLast last acked) after goes.trace = subst (λ (e : PullEnd). PullTurn client route before e after goes.trace) is turn.0 in
+          let later : InStep client after y = goes_in_step client name (PullEnds client route before end after kept) before after kept i j t u x y goes now in
+          pull_met_last (pulls.OtherLast last acked) goes.trace y met (run_answers client goes.trace.entries goes.trace.asks (kept_at before x) (stand after kept y) goes.runs)
+          (subst (λ (log : Log). InStep client log y) (unpulled_log last acked goes.trace met) later) last acked refl
+      by (inr broken) =
+          let quiet : is_broken_pull end ≡ false = ap is_broken_pull is in
+          absurd (cc (quiet, broken.0))
+
+  pub pull_not_other : (name : List ℕ) (end : PullEnd) (i j : Option Images) (t u : LinkTelling) → Went client name (PullEnds client route before end after) before after i j t u
+      → FromInStep client before t u (λ new. IsNotOtherLast end)
+  pull_not_other name end i j t u went = told_as t.world u.world _ _ went (λ x y goes now. goes_not_other name end goes.0 i j t.troubles u.troubles x y goes.1 now)

@@ -2,10 +2,10 @@
 use Rattle.std.specs.Prelude.{◌≡◌, ◌≢◌, ◌⊎◌, ℕ, ◌+◌, ◌≤◌, false, List, [], ◌∷◌, Option, Some, length}
 use Rattle.outside.specs.Outside.{RoseBy, Rose}
 use Rattle.outside.specs.Keeper.{Images}
-use Rattle.vol_tree.specs.Tree.{Volume, IsTree}
+use Rattle.tree_values.specs.Tree.{Volume, IsTree}
 use Rattle.mod_log.specs.Log.{Log, acknowledged, pulled}
 use Rattle.wire_frames.specs.declared.message.Message.{Message}
-use Rattle.wire_frames.specs.Frame.{IsValid}
+use Rattle.wire_frames.specs.Frame.{IsValid, number_of}
 use Rattle.client_core.specs.declared.syncing.SyncEnd.{SyncEnd}
 use Rattle.client_core.specs.declared.syncing.SyncEnd.TheVariants.{Synced, Unanswered, KeepFault, Memory}
 use Rattle.client_core.specs.declared.pulling.PullEnd.{PullEnd}
@@ -21,9 +21,9 @@ abbrev pub AcknowledgesSome : Log → Log → Type 0
 AcknowledgesSome before after =
     (number : ℕ) × (before.acked ≤ number) × (number ≤ before.acked + length before.pending) × (after ≡ acknowledged number before)
 
--- an entry is still pending, and a valid reply to it says why
-abbrev pub IsRefusal : Log → SyncEnd → Type 0
-IsRefusal after end = (after.pending ≢ []) × ((reply : Message) × IsValid reply × (end_by (after.acked + 1) (Some reply) ≡ Some end))
+-- an entry is still pending, and a valid reply to the first one says why
+abbrev pub RestsOnReply : Log → SyncEnd → Type 0
+RestsOnReply after end = (after.pending ≢ []) × ((reply : Message) × IsValid reply × (number_of reply ≡ after.acked + 1) × (end_by (after.acked + 1) (Some reply) ≡ Some end))
 
 -- Synced only where nothing is pending at the end, Unanswered only where the troubles rose by eight, and KeepFault only where the
 -- keeper's faults rose. Every end but Synced, KeepFault and Memory names the first pending entry.
@@ -32,7 +32,7 @@ HasSyncCause (Synced number) after troubles now faults faults_now = (after.pendi
 HasSyncCause (Unanswered number) after troubles now faults faults_now = (after.pending ≢ []) × (number ≡ after.acked + 1) × RoseBy 8 troubles now
 HasSyncCause KeepFault after troubles now faults faults_now = Rose faults faults_now
 HasSyncCause Memory after troubles now faults faults_now = Unit {0}
-HasSyncCause end after troubles now faults faults_now = IsRefusal after end
+HasSyncCause end after troubles now faults faults_now = RestsOnReply after end
 
 -- each change acknowledges the first pending entry
 abbrev pub AcknowledgeFirsts : Log → List Log → Type 0

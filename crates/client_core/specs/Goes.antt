@@ -2,15 +2,16 @@
 use Rattle.std.specs.Prelude.{◌≡◌, ◌≢◌, ℕ, ◌≤◌, List, Option}
 use Rattle.outside.specs.Outside.{RoseBy}
 use Rattle.outside.specs.Keeper.{Images}
-use Rattle.vol_tree.specs.Behind.{IsIn}
+use Rattle.tree_values.specs.Lists.{IsIn}
 use Rattle.mod_log.specs.Log.{Log}
 use Rattle.wire_frames.specs.declared.message.Message.{Message}
 use Rattle.wire_frames.specs.Frame.{client_of, IsValid}
 use Rattle.world_rules.specs.Served.{IsServed}
 use Rattle.world_rules.specs.World.{World}
+use Rattle.world_rules.specs.Telling.{LinkTelling, ToldWorlds}
+use Rattle.world_rules.specs.Settling.{failed_asks}
 use Rattle.world_rules.specs.Run.{Runs, State, kept_at}
 use Rattle.client_core.specs.Trace.{Trace}
-use Rattle.client_core.specs.Settling.{failed_asks}
 use Rattle.client_core.specs.Keeping.{Keeping}
 
 -- the client's log, what is kept of it, and the world at one moment
@@ -26,6 +27,11 @@ pub record Goes (client : ℕ) (name : List ℕ) (turns : Trace → Type 0) (bef
   pub runs : Runs client trace.entries trace.asks (kept_at before old) (stand after kept new)
   pub keeping : Keeping name client before after kept trace.changes images images_now
   pub rose : RoseBy (failed_asks trace.asks) troubles now
+
+-- Over a link that tells its world, a client did what these turns of what is kept at the end say.
+abbrev pub Went : ℕ → List ℕ → (Log → Trace → Type 0) → Log → Log → Option Images → Option Images → LinkTelling → LinkTelling → Type 0
+Went client name turns before after images images_now old new =
+    ToldWorlds old new (λ v w. (kept : Log) × Goes client name (turns kept) before after kept images images_now old.troubles new.troubles v w)
 
 -- A new client's world: its server has taken nothing of the client, and no message of the client was sent.
 pub record IsNew (client : ℕ) (world : World) : Type 0 where

@@ -1,14 +1,20 @@
 -- What the end of a sync or a pull means to a client that was in step with a world that is told.
 use Rattle.std.specs.Prelude.{◌≡◌, ◌≢◌, ◌⊎◌, ℕ, ◌<◌, []}
 use Rattle.file_paths.specs.Path.{FilePath}
-use Rattle.vol_tree.specs.Tree.{Volume, version_at}
+use Rattle.tree_values.specs.Tree.{Volume, version_at}
 use Rattle.vol_tree.specs.Behind.{IsAhead}
 use Rattle.mod_log.specs.Log.{Log, tree_at}
 use Rattle.world_rules.specs.World.{World}
+use Rattle.world_rules.specs.Telling.{LinkTelling, ToldWorlds}
+use Rattle.world_rules.specs.InStep.{InStep}
 use Rattle.client_core.specs.declared.syncing.SyncEnd.{SyncEnd}
 use Rattle.client_core.specs.declared.syncing.SyncEnd.TheVariants.{Stale, Unfit, Full, Behind, Synced, Memory}
 use Rattle.client_core.specs.declared.pulling.PullEnd.{PullEnd}
 use Rattle.client_core.specs.declared.pulling.PullEnd.TheVariants.{OtherLast, Older}
+
+-- where a client was in step with the world before, this holds of the world after
+abbrev pub FromInStep : ℕ → Log → LinkTelling → LinkTelling → (World → Type 0) → Type 0
+FromInStep client before old new claim = ToldWorlds old new (λ v w. InStep client before v → claim w)
 
 -- the client's tree after its last entry that the server took
 abbrev pub taken_tree : ℕ → Log → World → Volume

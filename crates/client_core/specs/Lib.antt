@@ -4,8 +4,8 @@ pub mod Goes
 pub mod Honest
 pub mod Inside
 pub mod Keeping
+pub mod Laws
 pub mod Logging
 pub mod Pulling
-pub mod Settling
 pub mod Syncing
 pub mod Trace

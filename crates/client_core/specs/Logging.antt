@@ -1,12 +1,12 @@
 -- One local effect: it is logged as an entry of its own, or refused.
 use Rattle.std.specs.Prelude.{◌≡◌, ◌⊎◌, ℕ, [], ◌∷◌, Result, Ok, Err}
-use Rattle.vol_tree.specs.declared.node.Effect.{Effect}
+use Rattle.tree_values.specs.declared.node.Effect.{Effect}
 use Rattle.mod_log.specs.declared.log.Entry.{Entry}
 use Rattle.mod_log.specs.declared.log.LogError.{LogError}
 use Rattle.mod_log.specs.declared.log.LogError.TheVariants.{Memory}
 use Rattle.mod_log.specs.Log.{Log}
 use Rattle.mod_log.specs.Append.{next_entry, appended}
-use Rattle.client_core.specs.Trace.{Trace, nothing}
+use Rattle.client_core.specs.Trace.{Trace, nothing, logging}
 
 -- the entry that an effect makes
 abbrev pub local_entry : Effect → Log → Entry
@@ -16,7 +16,7 @@ local_entry effect log = next_entry (effect ∷ []) log
 abbrev pub LocalTurn : Effect → Log → Result ℕ LogError → Log → Trace → Type 0
 LocalTurn effect before (Ok number) after trace =
     (appended (effect ∷ []) before ≡ Ok after) × (number ≡ (local_entry effect before).seq)
-    × (trace ≡ record { asks = []; entries = local_entry effect before ∷ []; changes = after ∷ [] })
+    × (trace ≡ logging (local_entry effect before) after)
 LocalTurn effect before (Err refusal) after trace = (appended (effect ∷ []) before ≡ Err refusal) × (after ≡ before) × (trace ≡ nothing)
 
 -- an effect that has its turn, or for which memory was wanted before it did anything

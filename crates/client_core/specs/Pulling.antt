@@ -4,17 +4,17 @@ use Rattle.std.specs.declared.cmp.Ordering.TheVariants.{Less}
 use Rattle.outside.specs.declared.errors.KeepError.{KeepError}
 use Rattle.outside.specs.declared.errors.KeepError.TheVariants as keepers
 use Rattle.file_paths.specs.Path.{FilePath, path_cmp}
-use Rattle.vol_tree.specs.Tree.{Volume, version_at}
+use Rattle.tree_values.specs.Tree.{Volume, version_at}
 use Rattle.mod_log.specs.Log.{Log, pulled}
 use Rattle.wire_frames.specs.declared.message.Message.{Message}
 use Rattle.wire_frames.specs.declared.message.Message.TheVariants.{Pull, Snapshot}
 use Rattle.world_rules.specs.declared.asking.Peer.TheVariants.{Server}
 use Rattle.world_rules.specs.declared.asking.Ask.{Ask}
+use Rattle.world_rules.specs.Settling.{IsSettling, BreaksSettling}
 use Rattle.client_core.specs.declared.route.Route.{Route}
 use Rattle.client_core.specs.declared.pulling.PullEnd.{PullEnd}
 use Rattle.client_core.specs.declared.pulling.PullEnd.TheVariants.{Pulled, Pending, OtherLast, Older, Unanswered, KeepFault, Memory}
-use Rattle.client_core.specs.Trace.{Trace, nothing, asking}
-use Rattle.client_core.specs.Settling.{IsSettling, BreaksSettling}
+use Rattle.client_core.specs.Trace.{Trace, nothing, followed, asking, changing}
 
 -- the client's pull, which tells the number that it knows to be accepted
 abbrev pub pull_of : ℕ → Log → Message
@@ -43,10 +43,10 @@ pulled_end count (Ok done) = Pulled count
 pulled_end count (Err keepers.Failed) = KeepFault
 pulled_end count (Err keepers.Memory) = Memory
 
--- the changes of the log by a pull
-abbrev pub pull_changes : PullEnd → Log → List Log
-pull_changes (Pulled count) after = after ∷ []
-pull_changes end after = []
+-- what a pull changes that ends so, with this log
+abbrev pub pull_change : PullEnd → Log → Trace
+pull_change (Pulled count) after = changing after
+pull_change end after = nothing
 
 -- the settling of the pull, and what the log makes of the snapshot that came
 pub record PullsSnapshot (client : ℕ) (route : Route) (before : Log) (end : PullEnd) (after : Log) (trace : Trace) : Type 0 where
@@ -56,7 +56,7 @@ pub record PullsSnapshot (client : ℕ) (route : Route) (before : Log) (end : Pu
   pub idle : before.pending ≡ []
   pub settling : IsSettling Server route.server (pull_of client before) (Some (Snapshot client before.acked last seen)) asks
   pub met : Meets before last seen end after
-  pub trace_is : trace ≡ record { asks = asks; entries = []; changes = pull_changes end after }
+  pub trace_is : trace ≡ followed (asking asks) (pull_change end after)
 
 -- Where entries are pending, nothing is asked. Else the pull is settled with the server: eight asks failed, or a snapshot came.
 abbrev pub PullTurn : ℕ → Route → Log → PullEnd → Log → Trace → Type 0

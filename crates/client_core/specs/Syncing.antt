@@ -8,11 +8,11 @@ use Rattle.wire_frames.specs.declared.message.Message.{Message}
 use Rattle.wire_frames.specs.declared.message.Message.TheVariants as messages
 use Rattle.world_rules.specs.declared.asking.Peer.TheVariants.{Server}
 use Rattle.world_rules.specs.declared.asking.Ask.{Ask}
+use Rattle.world_rules.specs.Settling.{IsSettling, BreaksSettling}
 use Rattle.client_core.specs.declared.route.Route.{Route}
 use Rattle.client_core.specs.declared.syncing.SyncEnd.{SyncEnd}
 use Rattle.client_core.specs.declared.syncing.SyncEnd.TheVariants.{Synced, Stale, Unfit, Full, Unanswered, Behind, KeepFault, Memory}
-use Rattle.client_core.specs.Trace.{Trace, nothing, followed, asking}
-use Rattle.client_core.specs.Settling.{IsSettling, BreaksSettling}
+use Rattle.client_core.specs.Trace.{Trace, nothing, followed, asking, changing}
 
 -- the store of an entry of this client
 abbrev pub store_of : ℕ → Entry → Message
@@ -42,25 +42,26 @@ abbrev pub unkept_end : KeepError → SyncEnd
 unkept_end keepers.Failed = KeepFault
 unkept_end keepers.Memory = Memory
 
--- the settling of the first pending entry's store with the server
-pub record SettlesFirst (client : ℕ) (route : Route) (log : Log) (entry : Entry) (reply : Option Message) (asks : List Ask) : Type 0 where
+-- The turn of the first pending entry: its store is settled with the server, and by what this came to the sync ends, or goes on.
+pub record EntryTurn (client : ℕ) (route : Route) (log : Log) (end : Option SyncEnd) (asks : List Ask) : Type 0 where
+  pub entry : Entry
   pub first : IsFirst entry log.pending
-  pub settling : IsSettling Server route.server (store_of client entry) reply asks
+  pub came : Option Message
+  pub settling : IsSettling Server route.server (store_of client entry) came asks
+  pub end_is : end_by entry.seq came ≡ end
 
--- so many entries are acknowledged, each on the reply that accepts the first pending one
+-- so many entries have their turn, each of which is accepted and acknowledged
 abbrev pub Acknowledges : ℕ → Route → ℕ → Log → Log → Trace → Type 0
 Acknowledges client route zero before after trace = (after ≡ before) × (trace ≡ nothing)
 Acknowledges client route (suc count) before after trace =
-    (middle : Log) × (earlier : Trace) × (entry : Entry) × (asks : List Ask) × Acknowledges client route count before middle earlier
-    × SettlesFirst client route middle entry (Some (messages.Accepted client entry.seq)) asks
-    × (after ≡ acknowledged_first middle)
-    × (trace ≡ followed earlier (record { asks = asks; entries = []; changes = after ∷ [] }))
+    (middle : Log) × (earlier : Trace) × (asks : List Ask) × Acknowledges client route count before middle earlier
+    × EntryTurn client route middle None asks × (after ≡ acknowledged_first middle)
+    × (trace ≡ followed earlier (followed (asking asks) (changing after)))
 
--- the last settling of a sync: none where nothing is pending, and else one that accepts no entry
+-- the last turn of a sync: none where nothing is pending, and else one that ends it
 abbrev pub EndsSync : ℕ → Route → Log → SyncEnd → List Ask → Type 0
 EndsSync client route after end asks =
-    ((after.pending ≡ []) × (end ≡ Synced after.acked) × (asks ≡ []))
-    ⊎ ((entry : Entry) × (reply : Option Message) × SettlesFirst client route after entry reply asks × (end_by entry.seq reply ≡ Some end))
+    ((after.pending ≡ []) × (end ≡ Synced after.acked) × (asks ≡ [])) ⊎ EntryTurn client route after (Some end) asks
 
 -- some entries are acknowledged, and then the sync ends
 abbrev pub SyncTurn : ℕ → Route → Log → SyncEnd → Log → Trace → Type 0

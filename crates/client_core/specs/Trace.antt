@@ -22,6 +22,14 @@ followed earlier later = record { asks = earlier.asks ++ later.asks; entries = e
 abbrev pub asking : List Ask → Trace
 asking asks = record { asks = asks; entries = []; changes = [] }
 
+-- a change of the log to this one
+abbrev pub changing : Log → Trace
+changing after = record { asks = []; entries = []; changes = after ∷ [] }
+
+-- an entry that is logged, and the log then
+abbrev pub logging : Entry → Log → Trace
+logging entry after = record { asks = []; entries = entry ∷ []; changes = after ∷ [] }
+
 -- ---- the logs that changes lead to
 
 -- the log after the last of these changes, and the one before them where there is none

@@ -1,6 +1,6 @@
 // Keeping a client under a name.
 ghost use Rattle.std.specs.Prelude.{◌≡◌, ◌≤◌};
-ghost use Rattle.outside.specs.Outside.{Told, HasCause};
+ghost use Rattle.outside.specs.Outside.{Told, CountsFault};
 ghost use Rattle.mod_log.specs.Log.{IsLog};
 ghost use Rattle.client_core.specs.Keeping.{KeepsLog};
 
@@ -18,7 +18,7 @@ pub(crate) fn keep_log<K: Keeper>(
     requires low { 1 ≤ client }
     requires high { client ≤ 64 }
     ensures kept { Told (K.images keeper.old) (K.images keeper.new) (KeepsLog name.now client log.now result) }
-    ensures cause { HasCause KeepError.Failed (K.faults keeper.old) (K.faults keeper.new) result }
+    ensures cause { CountsFault KeepError.Failed (K.faults keeper.old) (K.faults keeper.new) result }
 {
     let _acked = log.acked();
     let image = match write_client(client, log) {

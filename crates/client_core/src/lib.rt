@@ -3,12 +3,13 @@
 
 mod client;
 mod keeping;
+mod laws;
 mod pulling;
 mod route;
-mod settling;
 mod syncing;
 
 pub use client::Client;
+pub use laws::ends_are_true;
 pub use pulling::PullEnd;
 pub use route::Route;
 pub use syncing::SyncEnd;

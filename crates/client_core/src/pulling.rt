@@ -1,28 +1,28 @@
 // Pulling the server's rows.
-ghost use Rattle.std.specs.Prelude.{◌≡◌, ◌≢◌, ◌⊎◌, ℕ, ◌≤◌, [], Option, None, Ok, IfOk, IfSome};
+ghost use Rattle.std.specs.Prelude.{◌≡◌, ◌≢◌, ◌⊎◌, ℕ, ◌≤◌, [], Option, IfOk, IfSome};
 ghost use Rattle.std.specs.Option.{option_copied};
-ghost use Rattle.outside.specs.Outside.{Told, RoseBy, Rose};
+ghost use Rattle.outside.specs.Outside.{RisesWhere};
 ghost use Rattle.outside.specs.Keeper.{Images};
-ghost use Rattle.mod_log.specs.Log.{Log};
-ghost use Rattle.vol_tree.specs.Tree.{version_at, IsTree};
-ghost use Rattle.wire_frames.specs.Frame.{IsValid, Echoes};
-ghost use Rattle.world_rules.specs.InStep.{InStep};
+ghost use Rattle.tree_values.specs.Tree.{version_at, IsTree};
+ghost use Rattle.wire_frames.specs.Frame.{IsValid};
+ghost use Rattle.world_rules.specs.declared.asking.Peer.TheVariants.{Server};
+ghost use Rattle.world_rules.specs.Telling.{ToldWorlds, IsCalm};
+ghost use Rattle.world_rules.specs.Settling.{Settled, IsFreshReply};
 ghost use Rattle.client_core.specs.Pulling.{PullAsks, PullEnds, pulled_end};
-ghost use Rattle.client_core.specs.Goes.{Goes};
+ghost use Rattle.client_core.specs.Goes.{Goes, Went};
 ghost use Rattle.client_core.specs.Causes.{HasPullCause, PullKeeps};
 ghost use Rattle.client_core.specs.Keeping.{IsKept};
-ghost use Rattle.client_core.specs.Honest.{IsNotOtherLast, IsNotOlder};
-ghost use Rattle.client_core.specs.Inside.{Settled, IsFreshReply, first_lower, MeetsEnds, PullLeaves, snapshot_of};
+ghost use Rattle.client_core.specs.Honest.{FromInStep, IsNotOtherLast, IsNotOlder};
+ghost use Rattle.client_core.specs.Inside.{first_lower, MeetsEnds, PullLeaves, snapshot_of};
 
-use crate::Route;
 use crate::keeping::keep_log;
-use crate::settling::settle;
+use crate::{Client, Route};
 use mod_log::Log;
 use outside::{KeepError, Keeper};
 use std::alloc::{AllocError, Global};
 use vol_tree::{Path, Row, Rows, Tree, TryCopy};
 use wire_frames::Message;
-use world_rules::Link;
+use world_rules::{Link, Peer, settle};
 
 /// How a pull ends. Each end but `Pulled`, `KeepFault` and `Memory` leaves the log as before.
 #[derive(Debug, Drop)]
@@ -52,32 +52,45 @@ pub enum PullEnd {
     Memory,
 }
 
-/// Pulls, and keeps the log where it was changed.
-pub(crate) fn pull_and_keep<L: Link, K: Keeper>(
-    client: u8,
-    route: &Route,
-    log: &mut Log,
-    link: &mut L,
-    keeper: &mut K,
-) -> PullEnd
-    requires low { 1 ≤ client }
-    requires high { client ≤ 64 }
-    requires kept { IsKept (K.images keeper.old) route.now.image client log.old }
-    ensures world { Told (L.world link.old) (L.world link.new) (λ old new. (kept : Log) × Goes client route.now.image (PullEnds client route.now log.old result log.new kept) log.old log.new kept (K.images keeper.old) (K.images keeper.new) (L.troubles link.old) (L.troubles link.new) old new) }
-    ensures cause { HasPullCause result log.old log.new (L.troubles link.old) (L.troubles link.new) (K.faults keeper.old) (K.faults keeper.new) }
-    ensures keeps { PullKeeps route.now.image client log.old result log.new (K.images keeper.old) (K.images keeper.new) }
-    ensures waits { log.old.pending ≢ [] → link.new ≡ link.old }
-    ensures honest { Told (L.world link.old) (L.world link.new) (λ old new. InStep client log.old old → IsNotOtherLast result) }
-    ensures fresh { (Rose (L.troubles link.old) (L.troubles link.new) → ⊥) → Told (L.world link.old) (L.world link.new) (λ old new. InStep client log.old old → IsNotOlder result) }
-    ensures later { L.troubles link.old ≤ L.troubles link.new }
-    ensures faults { K.faults keeper.old ≤ K.faults keeper.new }
-{
-    match pull_log(client, route, log, link) {
-        PullEnd::Pulled(count) => {
-            let kept = keep_log(client, log, route.image.bytes(), keeper);
-            pulled_end(count, kept)
-        }
-        end => end,
+impl Client {
+    /// Asks the server for its rows, and takes them as base and tree, where nothing is pending, no entry was accepted that
+    /// is not acknowledged, and no version is lower than the client's. The client is kept then.
+    ///
+    /// Over a keeper that tells its images this very client is kept under the route's image, or nothing is and the client
+    /// is new.
+    pub fn pull<L: Link, K: Keeper>(
+        &mut self,
+        route: &Route,
+        link: &mut L,
+        keeper: &mut K,
+    ) -> PullEnd
+        requires { IsKept (K.images keeper.old) route.now.image self.old.number self.old.log }
+        ensures world { Went self.old.number route.now.image
+            (PullEnds self.old.number route.now self.old.log result self.new.log) self.old.log self.new.log
+            (K.images keeper.old) (K.images keeper.new) (L.tells link.old) (L.tells link.new) }
+        ensures cause { HasPullCause result self.old.log self.new.log
+            (L.tells link.old).troubles (L.tells link.new).troubles (K.faults keeper.old) (K.faults keeper.new) }
+        // what is kept is the client, or, where the pull was broken off, perhaps the client before it
+        ensures keeps { PullKeeps route.now.image self.old.number self.old.log result self.new.log
+            (K.images keeper.old) (K.images keeper.new) }
+        // where entries are pending, nothing is asked
+        ensures waits { self.old.log.pending ≢ [] → link.new ≡ link.old }
+        // to a client in step the server has no other last number
+        ensures honest { FromInStep self.old.number self.old.log (L.tells link.old) (L.tells link.new) (λ new. IsNotOtherLast result) }
+        // and without trouble no older rows
+        ensures fresh { IsCalm (L.tells link.old) (L.tells link.new)
+            → FromInStep self.old.number self.old.log (L.tells link.old) (L.tells link.new) (λ new. IsNotOlder result) }
+        ensures number { self.new.number ≡ self.old.number }
+        ensures later { (L.tells link.old).troubles ≤ (L.tells link.new).troubles }
+        // the keeper failed once where the pull ends so, and else never
+        ensures faults { RisesWhere (result ≡ PullEnd.KeepFault) (K.faults keeper.old) (K.faults keeper.new) }
+    {
+        let count = match pull_log(self.number, route, &mut self.log, link) {
+            PullEnd::Pulled(count) => count,
+            end => return end,
+        };
+        let kept = keep_log(self.number, &self.log, route.image.bytes(), keeper);
+        pulled_end(count, kept)
     }
 }
 
@@ -96,13 +109,17 @@ fn pulled_end(count: u32, kept: Result<(), KeepError>) -> PullEnd
 fn pull_log<L: Link>(client: u8, route: &Route, log: &mut Log, link: &mut L) -> PullEnd
     requires low { 1 ≤ client }
     requires high { client ≤ 64 }
-    ensures world { (images : Option Images) → IsKept images route.now.image client log.old → Told (L.world link.old) (L.world link.new) (λ old new. Goes client route.now.image (PullAsks client route.now log.old result log.new) log.old log.new log.old images images (L.troubles link.old) (L.troubles link.new) old new) }
-    ensures cause { (faults now : ℕ) → HasPullCause result log.old log.new (L.troubles link.old) (L.troubles link.new) faults now }
+    ensures world { (images : Option Images) → IsKept images route.now.image client log.old
+        → ToldWorlds (L.tells link.old) (L.tells link.new)
+        (λ old new. Goes client route.now.image (PullAsks client route.now log.old result log.new) log.old log.new log.old
+        images images (L.tells link.old).troubles (L.tells link.new).troubles old new) }
+    ensures cause { (faults now : ℕ)
+        → HasPullCause result log.old log.new (L.tells link.old).troubles (L.tells link.new).troubles faults now }
     ensures leaves { PullLeaves result log.old log.new }
     ensures waits { log.old.pending ≢ [] → link.new ≡ link.old }
-    ensures honest { Told (L.world link.old) (L.world link.new) (λ old new. InStep client log.old old → IsNotOtherLast result) }
-    ensures fresh { (Rose (L.troubles link.old) (L.troubles link.new) → ⊥) → Told (L.world link.old) (L.world link.new) (λ old new. InStep client log.old old → IsNotOlder result) }
-    ensures later { L.troubles link.old ≤ L.troubles link.new }
+    ensures fresh { IsCalm (L.tells link.old) (L.tells link.new)
+        → FromInStep client log.old (L.tells link.old) (L.tells link.new) (λ new. IsNotOlder result) }
+    ensures later { (L.tells link.old).troubles ≤ (L.tells link.new).troubles }
 {
     let pending = log.pending();
     if pending > 0 {
@@ -129,14 +146,14 @@ fn settle_pull<L: Link>(
     link: &mut L,
 ) -> Result<Option<Message>, AllocError>
     requires { IsValid (Message.Pull client number) }
-    ensures world { Told (L.world link.old) (L.world link.new) (λ old new. Settled route.now.server (Message.Pull client number) (L.troubles link.old) (L.troubles link.new) old new result) }
-    ensures direct { (Rose (L.troubles link.old) (L.troubles link.new) → ⊥) → Told (L.world link.old) (L.world link.new) (λ old new. IfOk result (λ reply. IfSome reply (IsFreshReply (Message.Pull client number) old new))) }
-    ensures reply { IfOk result (λ reply. IfSome reply (λ message. IsValid message × Echoes (Message.Pull client number) message)) }
-    ensures cause { result ≡ Ok None → RoseBy 8 (L.troubles link.old) (L.troubles link.new) }
-    ensures later { L.troubles link.old ≤ L.troubles link.new }
+    ensures settled { Settled Server route.now.server (Message.Pull client number) (L.tells link.old) (L.tells link.new) result }
+    ensures direct { IsCalm (L.tells link.old) (L.tells link.new)
+        → ToldWorlds (L.tells link.old) (L.tells link.new)
+        (λ old new. IfOk result (λ reply. IfSome reply (IsFreshReply (Message.Pull client number) old new))) }
+    ensures later { (L.tells link.old).troubles ≤ (L.tells link.new).troubles }
 {
     let pull = Message::Pull { client, number };
-    let settled = settle(alloc, route, &pull, link);
+    let settled = settle(alloc, link, Peer::Server, route.server.bytes(), &pull);
     drop(pull);
     settled
 }

@@ -1,25 +1,24 @@
 // Settling the pending entries with the server.
-ghost use Rattle.std.specs.Prelude.{◌≡◌, ◌≤◌, None, Some, Ok, IfOk, IfSome};
-ghost use Rattle.outside.specs.Outside.{Told, RoseBy, Rose};
-ghost use Rattle.wire_frames.specs.Frame.{IsValid, Echoes};
-ghost use Rattle.mod_log.specs.Log.{Log};
-ghost use Rattle.world_rules.specs.InStep.{InStep};
+ghost use Rattle.std.specs.Prelude.{◌≡◌, ◌⊎◌, ◌≤◌, [], IfOk};
+ghost use Rattle.outside.specs.Outside.{Rose, RisesWhere};
+ghost use Rattle.wire_frames.specs.Frame.{IsValid};
+ghost use Rattle.world_rules.specs.declared.asking.Peer.TheVariants.{Server};
+ghost use Rattle.world_rules.specs.Telling.{IsCalm};
+ghost use Rattle.world_rules.specs.Settling.{Settled};
 ghost use Rattle.client_core.specs.Syncing.{store_of, end_by, SyncEnds, unkept_end};
-ghost use Rattle.client_core.specs.Goes.{Goes};
+ghost use Rattle.client_core.specs.Goes.{Went};
 ghost use Rattle.client_core.specs.Causes.{HasSyncCause, AcknowledgesSome, SyncKeeps};
 ghost use Rattle.client_core.specs.Keeping.{IsKept};
-ghost use Rattle.client_core.specs.Honest.{IsTrueSync, IsComplete};
-ghost use Rattle.client_core.specs.Inside.{Settled};
+ghost use Rattle.client_core.specs.Honest.{FromInStep, IsTrueSync, IsComplete};
 
-use crate::Route;
 use crate::keeping::keep_log;
-use crate::settling::settle;
-use mod_log::{Entry, Log};
+use crate::{Client, Route};
+use mod_log::Entry;
 use outside::{KeepError, Keeper};
 use std::alloc::{AllocError, Global};
 use vol_tree::{Path, TreeError, TryCopy};
 use wire_frames::Message;
-use world_rules::Link;
+use world_rules::{Link, Peer, settle};
 
 /// How a sync ends. Each end but `Synced`, `KeepFault` and `Memory` leaves entry `seq` as the first pending one.
 #[derive(Debug, Drop)]
@@ -62,43 +61,62 @@ pub enum SyncEnd {
     Memory,
 }
 
-/// Settles the pending entries, the first one first, until none is left or one is not accepted. The log is kept after each
-/// acknowledgement, before the next request.
-pub(crate) fn sync_log<L: Link, K: Keeper>(
-    client: u8,
-    route: &Route,
-    log: &mut Log,
-    link: &mut L,
-    keeper: &mut K,
-) -> SyncEnd
-    requires low { 1 ≤ client }
-    requires high { client ≤ 64 }
-    requires kept { IsKept (K.images keeper.old) route.now.image client log.old }
-    ensures world { Told (L.world link.old) (L.world link.new) (λ old new. (kept : Log) × Goes client route.now.image (SyncEnds client route.now log.old result log.new kept) log.old log.new kept (K.images keeper.old) (K.images keeper.new) (L.troubles link.old) (L.troubles link.new) old new) }
-    ensures cause { HasSyncCause result log.new (L.troubles link.old) (L.troubles link.new) (K.faults keeper.old) (K.faults keeper.new) }
-    ensures log { AcknowledgesSome log.old log.new }
-    ensures keeps { SyncKeeps route.now.image client log.old result log.new (K.images keeper.old) (K.images keeper.new) }
-    ensures honest { Told (L.world link.old) (L.world link.new) (λ old new. InStep client log.old old → IsTrueSync result client log.new new) }
-    ensures complete { (Rose (L.troubles link.old) (L.troubles link.new) → ⊥) → (Rose (K.faults keeper.old) (K.faults keeper.new) → ⊥) → Told (L.world link.old) (L.world link.new) (λ old new. InStep client log.old old → IsComplete result client log.new new) }
-    ensures later { L.troubles link.old ≤ L.troubles link.new }
-    ensures faults { K.faults keeper.old ≤ K.faults keeper.new }
-{
-    let alloc = log.tree().allocator();
-    while let Some(entry) = log.entry(0) {
-        let number = entry.seq;
-        let reply = match settle_store(alloc, client, route, entry, link) {
-            Ok(reply) => reply,
-            Err(_refused) => return SyncEnd::Memory,
-        };
-        match end_by(number, reply) {
-            Some(end) => return end,
-            None => log.acknowledge(number),
+impl Client {
+    /// Settles the pending entries with the server, the first one first, until none is left or one is not accepted. The
+    /// client is kept after each acknowledgement, before the next request is sent.
+    ///
+    /// Over a keeper that tells its images this very client is kept under the route's image, or nothing is and the client
+    /// is new.
+    pub fn sync<L: Link, K: Keeper>(
+        &mut self,
+        route: &Route,
+        link: &mut L,
+        keeper: &mut K,
+    ) -> SyncEnd
+        requires { IsKept (K.images keeper.old) route.now.image self.old.number self.old.log }
+        ensures world { Went self.old.number route.now.image
+            (SyncEnds self.old.number route.now self.old.log result self.new.log) self.old.log self.new.log
+            (K.images keeper.old) (K.images keeper.new) (L.tells link.old) (L.tells link.new) }
+        ensures cause { HasSyncCause result self.new.log (L.tells link.old).troubles (L.tells link.new).troubles
+            (K.faults keeper.old) (K.faults keeper.new) }
+        ensures log { AcknowledgesSome self.old.log self.new.log }
+        // what is kept is the client, or, where the sync was broken off, perhaps the client before the last acknowledgement
+        ensures keeps { SyncKeeps route.now.image self.old.number self.old.log result self.new.log
+            (K.images keeper.old) (K.images keeper.new) }
+        // to a client in step the server is never behind, and a refusal shows what others wrote
+        ensures honest { FromInStep self.old.number self.old.log (L.tells link.old) (L.tells link.new)
+            (IsTrueSync result self.old.number self.new.log) }
+        // without trouble and faults, and where others wrote nothing newer, all is acknowledged
+        ensures complete { IsCalm (L.tells link.old) (L.tells link.new)
+            → (Rose (K.faults keeper.old) (K.faults keeper.new) → ⊥)
+            → FromInStep self.old.number self.old.log (L.tells link.old) (L.tells link.new)
+            (IsComplete result self.old.number self.new.log) }
+        // and where nothing is pending at the end and no keeping failed, that is how it ends, but for want of memory
+        ensures settled { self.new.log.pending ≡ [] → (Rose (K.faults keeper.old) (K.faults keeper.new) → ⊥)
+            → (result ≡ SyncEnd.Synced self.new.log.acked) ⊎ (result ≡ SyncEnd.Memory) }
+        ensures number { self.new.number ≡ self.old.number }
+        ensures later { (L.tells link.old).troubles ≤ (L.tells link.new).troubles }
+        // the keeper failed once where the sync ends so, and else never
+        ensures faults { RisesWhere (result ≡ SyncEnd.KeepFault) (K.faults keeper.old) (K.faults keeper.new) }
+    {
+        let client = self.number;
+        let alloc = self.log.tree().allocator();
+        while let Some(entry) = self.log.entry(0) {
+            let number = entry.seq;
+            let reply = match settle_store(alloc, client, route, entry, link) {
+                Ok(reply) => reply,
+                Err(_refused) => return SyncEnd::Memory,
+            };
+            match end_by(number, reply) {
+                Some(end) => return end,
+                None => self.log.acknowledge(number),
+            }
+            if let Err(refused) = keep_log(client, &self.log, route.image.bytes(), keeper) {
+                return unkept_end(refused);
+            }
         }
-        if let Err(refused) = keep_log(client, log, route.image.bytes(), keeper) {
-            return unkept_end(refused);
-        }
+        SyncEnd::Synced(self.log.acked())
     }
-    SyncEnd::Synced(log.acked())
 }
 
 /// How a sync ends whose log could not be kept.
@@ -120,13 +138,11 @@ fn settle_store<L: Link>(
     link: &mut L,
 ) -> Result<Option<Message>, AllocError>
     requires { IsValid (store_of client entry.now) }
-    ensures world { Told (L.world link.old) (L.world link.new) (λ old new. Settled route.now.server (store_of client entry.now) (L.troubles link.old) (L.troubles link.new) old new result) }
-    ensures reply { IfOk result (λ reply. IfSome reply (λ message. IsValid message × Echoes (store_of client entry.now) message)) }
-    ensures cause { result ≡ Ok None → RoseBy 8 (L.troubles link.old) (L.troubles link.new) }
-    ensures later { L.troubles link.old ≤ L.troubles link.new }
+    ensures settled { Settled Server route.now.server (store_of client entry.now) (L.tells link.old) (L.tells link.new) result }
+    ensures later { (L.tells link.old).troubles ≤ (L.tells link.new).troubles }
 {
     let store = store_of(client, entry)?;
-    let settled = settle(alloc, route, &store, link);
+    let settled = settle(alloc, link, Peer::Server, route.server.bytes(), &store);
     drop(store);
     settled
 }

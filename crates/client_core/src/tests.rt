@@ -34,9 +34,7 @@ struct Dead {
 }
 
 impl Link for Dead {
-    ghost world = { λ link. None };
-
-    ghost troubles = { λ link. link.troubles };
+    ghost tells = { λ link. record { world = None; troubles = link.troubles } };
 
     fn ask(&mut self, _to: Peer, _address: &[u8], _frame: &[u8]) -> Result<Vec<u8>, LinkError> {
         self.troubles = self.troubles.saturating_add(1);
@@ -52,9 +50,7 @@ struct Willing {
 }
 
 impl Link for Willing {
-    ghost world = { λ link. None };
-
-    ghost troubles = { λ link. 0 };
+    ghost tells = { λ link. record { world = None; troubles = 0 } };
 
     fn ask(&mut self, _to: Peer, _address: &[u8], frame: &[u8]) -> Result<Vec<u8>, LinkError> {
         let request = match read(self.alloc, frame) {

@@ -1,19 +1,15 @@
 -- How moves of the world and asks follow one another.
-use Rattle.std.proofs.Common.{◌≡◌, ◌≢◌, ◌⊎◌, inl, inr, ⊎_elim, ℕ, zero, suc, ◌+◌, ◌<◌, ◌≤◌, true, false, List, [], ◌∷◌, ◌++◌, Option, None, Some, Ok, Err, Vec, refl, sym, ◌∙◌, ap, subst, arith, append_assoc}
-use Rattle.std.specs.declared.alloc.Global.{Global}
-use Rattle.std.proofs.Math.ListN.{replicate, replicate-append-replicate}
+use Rattle.std.proofs.Common.{◌≡◌, ◌≢◌, ◌⊎◌, inl, inr, ⊎_elim, true, false, List, [], ◌∷◌, ◌++◌, Option, None, Some, refl, sym, ◌∙◌, ap, subst, append_assoc}
 use Rattle.std.proofs.lemmas.List.{append-nil}
-use Rattle.outside.specs.Outside.{Told, RoseBy, Rose}
-use Rattle.vol_tree.specs.Behind.{IsIn}
+use Rattle.outside.specs.Outside.{Told}
+use Rattle.tree_values.specs.Lists.{IsIn}
 use Rattle.vol_tree.proofs.Behind.{IsIn-left}
 use Rattle.wire_frames.specs.declared.message.Message.{Message}
-use Rattle.world_rules.specs.declared.asking.Peer.{Peer}
 use Rattle.world_rules.specs.declared.asking.Ask.{Ask}
+use Rattle.world_rules.specs.declared.asking.Answer.{Answer}
 use Rattle.world_rules.specs.declared.asking.Answer.TheVariants.{Reply, Failed, Memory}
-use Rattle.world_rules.specs.declared.link.LinkError.TheVariants.{Failed as LinkFailed, Memory as LinkMemory}
-use Rattle.world_rules.specs.declared.link.AskError.TheVariants.{Memory as AskMemory}
 use Rattle.world_rules.specs.World.{World, Step, Send, Deliver, Other, noted, happens, happen, IsAllowed, AreAllowed, Is, Moved}
-use Rattle.world_rules.specs.Asking.{ask_of, AsksOnce, Settles}
+use Rattle.world_rules.specs.Asking.{ReplyStands, AnswersStand}
 
 -- ---- what is among two lists in a row
 
@@ -129,38 +125,25 @@ told_as (Some x) (Some y) P Q p goes_on = goes_on x y p
 told_as (Some x) None P Q p goes_on = p
 told_as None b P Q p goes_on = p
 
--- without a rise of the troubles no ask has failed
-pub first_try : (n before between now : ℕ) → RoseBy n before between → between ≤ now → (Rose before now → ⊥) → n ≡ 0
-first_try zero before between now rose later calm = refl
-first_try (suc n) before between now rose later calm = absurd (calm (omega arith))
+-- ---- what was answered stays
 
--- ---- several asks
+pub answers_append : (xs ys : List Ask) (world : World) → AnswersStand world xs → AnswersStand world ys → AnswersStand world (xs ++ ys)
+answers_append [] ys world first second = second
+answers_append (x ∷ xs) ys world first second = (first.0, answers_append xs ys world first.1 second)
 
-module _ (to : Peer) (address : List ℕ) (r : Message) where
-  -- so many asks that failed
-  abbrev pub Failures : ℕ → World → World → Type 0
-  Failures n old new = Moved r (replicate n (ask_of to address r Failed)) old new
+pub answers_front : (xs ys : List Ask) (world : World) → AnswersStand world (xs ++ ys) → AnswersStand world xs
+answers_front [] ys world stand = tt
+answers_front (x ∷ xs) ys world stand = (stand.0, answers_front xs ys world stand.1)
 
-  pub fails : (n : ℕ) (a b c : World) → Failures n a b → AsksOnce to address r b c (Err LinkFailed) → Failures (n + 1) a c
-  fails n a b c so_far once =
-      let failed = ask_of to address r Failed in
-      subst (λ (m : List Ask). Moved r m a c) (replicate-append-replicate n 1 failed) (moved_then r (replicate n failed) (failed ∷ []) a b c so_far once)
+pub answers_end : (xs ys : List Ask) (world : World) → AnswersStand world (xs ++ ys) → AnswersStand world ys
+answers_end [] ys world stand = stand
+answers_end (x ∷ xs) ys world stand = answers_end xs ys world stand.1
 
-  pub replies : (n before now : ℕ) (frame : Vec ℕ Global) (a b c : World) → n < 8 → RoseBy n before now → Failures n a b
-      → AsksOnce to address r b c (Ok frame) → Settles to address r before now a c (Ok frame)
-  replies n before now frame a b c below rose so_far once =
-      let failed = ask_of to address r Failed in
-      (n, once.0, below, once.1, once.2, once.3, moved_then r (replicate n failed) (ask_of to address r (Reply once.0) ∷ []) a b c so_far once.4, rose)
+reply_stays : (request : Message) (answer : Answer) (old new : World) → ((message : Message) → IsIn message old.packets → IsIn message new.packets) → ReplyStands old request answer → ReplyStands new request answer
+reply_stays request (Reply reply) old new stay stands = (stay reply stands.0, stands.1)
+reply_stays request Failed old new stay stands = tt
+reply_stays request Memory old new stay stands = tt
 
-  pub breaks : (n before now : ℕ) (a b c : World) → n < 8 → RoseBy n before now → Failures n a b
-      → AsksOnce to address r b c (Err LinkMemory) → Settles to address r before now a c (Err AskMemory)
-  breaks n before now a b c below rose so_far once =
-      let failed = ask_of to address r Failed in (
-        n,
-        below,
-        ⊎_elim
-            (λ (with_ask : _). inl (moved_then r (replicate n failed) (ask_of to address r Memory ∷ []) a b c so_far with_ask))
-            (λ (without : _). inr (subst (λ (m : List Ask). Moved r m a c) (append-nil (replicate n failed)) (moved_then r (replicate n failed) [] a b c so_far without)))
-            once,
-        rose,
-      )
+pub answers_stay : (asks : List Ask) (old new : World) → ((message : Message) → IsIn message old.packets → IsIn message new.packets) → AnswersStand old asks → AnswersStand new asks
+answers_stay [] old new stay stand = tt
+answers_stay (ask ∷ asks) old new stay stand = (reply_stays ask.request ask.answer old new stay stand.0, answers_stay asks old new stay stand.1)

@@ -2,25 +2,25 @@
 use Rattle.std.proofs.Common.{◌≡◌, ℕ, ◌+◌, ◌-◌, ◌<◌, ◌≤◌, List, [], ◌∷◌, ◌++◌, length, take, drop, refl, sym, ◌∙◌, ap, subst, arith, length-append}
 use Rattle.std.specs.List.{flat_map}
 use Rattle.std.proofs.lemmas.List.{take-append-le}
-use Rattle.vol_tree.specs.Effects.{changed_all}
-use Rattle.vol_tree.specs.Tree.{Volume, version_at, IsTree}
-use Rattle.vol_tree.specs.Behind.{IsBehind, IsIn, IsAhead}
-use Rattle.vol_tree.specs.declared.node.Effect.{Effect}
-use Rattle.vol_tree.specs.declared.node.Base.{Base}
-use Rattle.vol_tree.proofs.Behind.{applied_all-tree, counted, node_of, IsTree-empty}
+use Rattle.tree_values.specs.Effects.{changed_all}
+use Rattle.tree_values.specs.Tree.{Volume, version_at, IsTree}
+use Rattle.vol_tree.specs.Behind.{IsBehind, IsAhead}
+use Rattle.tree_values.specs.Lists.{IsIn}
+use Rattle.tree_values.specs.declared.node.Effect.{Effect}
+use Rattle.tree_values.specs.declared.node.Base.{Base}
+use Rattle.vol_tree.proofs.Behind.{IsIn-left, applied_all-tree, counted, node_of, IsTree-empty}
 use Rattle.mod_log.specs.declared.log.Entry.{Entry}
 use Rattle.mod_log.specs.Log.{Log, entry as spelled, after, tree_at, IsLog, logged, acknowledged, new_log}
 use Rattle.wire_frames.specs.declared.message.Message.{Message}
 use Rattle.wire_frames.specs.declared.message.Message.TheVariants.{Store, Pull, Accepted, Stale, Unfit, Gap, Snapshot, Full, Malformed}
-use Rattle.world_rules.specs.InStep.{IsCurrent, IsOfFirst, IsFitting}
+use Rattle.world_rules.specs.InStep.{IsTakenUpTo, IsSendable, IsPendingAt, IsFitting}
 use Rattle.world_rules.proofs.Replies.{legal_effects}
 use Rattle.world_rules.proofs.Steps.{Agree, tree_at-acked, tree_at-next}
 
 -- ---- an entry is logged
 
-still_first : (pending : List Entry) (entry : Entry) (effects : List Effect) (base : List Base) → IsOfFirst pending effects base → IsOfFirst (pending ++ entry ∷ []) effects base
-still_first [] entry effects base is = absurd is
-still_first (first ∷ pending) entry effects base is = is
+still_pending : (log : Log) (entry : Entry) (number : ℕ) (effects : List Effect) (base : List Base) → IsPendingAt log number effects base → IsPendingAt (logged entry log) number effects base
+still_pending log entry number effects base is = (is.0, IsIn-left is.0 log.pending (entry ∷ []) is.1, is.2, is.3, is.4)
 
 module _ (client : ℕ) (log : Log) (last : ℕ) (volume : Volume) (packets : List Message) (now : Agree client log last volume packets) where
   pub tree_at-logged : (entry : Entry) → tree_at last (logged entry log) ≡ tree_at last log
@@ -28,16 +28,19 @@ module _ (client : ℕ) (log : Log) (last : ℕ) (volume : Volume) (packets : Li
       let within : last - log.acked ≤ length log.pending = omega (arith, now.not_higher.at_most_logged) in
       ap (λ es. after es log.base) (take-append-le (last - log.acked) log.pending (entry ∷ []) within)
 
-  current-logged : (entry : Entry) (number : ℕ) → IsCurrent log number → IsCurrent (logged entry log) number
-  current-logged entry number current = record { at_most_next = current.at_most_next; at_most_logged = omega (arith, current.at_most_logged, length-append log.pending (entry ∷ [])) }
+  taken-logged : (entry : Entry) → IsTakenUpTo (logged entry log) last
+  taken-logged entry = record { at_most_ahead = now.not_higher.at_most_ahead; at_most_logged = omega (arith, now.not_higher.at_most_logged, length-append log.pending (entry ∷ [])) }
+
+  sendable-logged : (entry : Entry) (number : ℕ) → IsSendable log number → IsSendable (logged entry log) number
+  sendable-logged entry number may = record { at_most_next = may.at_most_next; at_most_logged = omega (arith, may.at_most_logged, length-append log.pending (entry ∷ [])) }
 
   fitting-logged : (entry : Entry) (message : Message) → IsFitting log last volume message → IsFitting (logged entry log) last volume message
-  fitting-logged entry (Store of number effects base) fits = (current-logged entry number fits.0, λ above. still_first log.pending entry effects base (fits.1 above))
+  fitting-logged entry (Store of number effects base) fits = (sendable-logged entry number fits.0, λ above. still_pending log entry number effects base (fits.1 above))
   fitting-logged entry (Pull of number) fits = fits
   fitting-logged entry (Accepted of number) fits = fits
-  fitting-logged entry (Stale of number path theirs ours) fits = (current-logged entry number fits.0, λ e. subst (λ t. version_at t path < version_at volume path) (sym (tree_at-logged entry)) (fits.1 e))
-  fitting-logged entry (Unfit of number index cause) fits = (current-logged entry number fits.0, λ e. subst (IsAhead volume) (sym (tree_at-logged entry)) (fits.1 e))
-  fitting-logged entry (Full of number index cause) fits = (current-logged entry number fits.0, λ e. subst (IsAhead volume) (sym (tree_at-logged entry)) (fits.1 e))
+  fitting-logged entry (Stale of number path theirs ours) fits = (sendable-logged entry number fits.0, λ e. subst (λ t. version_at t path < version_at volume path) (sym (tree_at-logged entry)) (fits.1 e))
+  fitting-logged entry (Unfit of number index cause) fits = (sendable-logged entry number fits.0, λ e. subst (IsAhead volume) (sym (tree_at-logged entry)) (fits.1 e))
+  fitting-logged entry (Full of number index cause) fits = (sendable-logged entry number fits.0, λ e. subst (IsAhead volume) (sym (tree_at-logged entry)) (fits.1 e))
   fitting-logged entry (Gap of number beyond) fits = fits
   fitting-logged entry (Snapshot of number upto seen) fits = fits
   fitting-logged entry (Malformed code offset) fits = tt
@@ -45,7 +48,7 @@ module _ (client : ℕ) (log : Log) (last : ℕ) (volume : Volume) (packets : Li
   pub logged_agree : (entry : Entry) → IsLog (logged entry log) → Agree client (logged entry log) last volume packets
   logged_agree entry is = record {
     not_lower = now.not_lower;
-    not_higher = current-logged entry last now.not_higher;
+    not_higher = taken-logged entry;
     behind = subst (λ t. IsBehind t volume) (sym (tree_at-logged entry)) now.behind;
     fitting = λ message among own. fitting-logged entry message (now.fitting message among own);
     log_is = is;
@@ -87,30 +90,30 @@ module _ (client acked : ℕ) (tree : Volume) (entry : Entry) (entries : List En
   pub tree_at-acknowledged : last ≡ acked + 1 → tree_at last next_log ≡ tree_at last old_log
   tree_at-acknowledged is = tree_at-acked next_log last is ∙ sym (tree_at-next old_log last entry entries refl is)
 
-  current-acknowledged : (number : ℕ) → IsCurrent old_log number → IsCurrent next_log number
-  current-acknowledged number current = record { at_most_next = omega (arith, current.at_most_next); at_most_logged = omega (arith, current.at_most_next) }
+  sendable-acknowledged : (number : ℕ) → IsSendable old_log number → IsSendable next_log number
+  sendable-acknowledged number may = record { at_most_next = omega (arith, may.at_most_next); at_most_logged = omega (arith, may.at_most_next) }
 
   fitting-acknowledged : last ≡ acked + 1 → (message : Message) → IsFitting old_log last volume message → IsFitting next_log last volume message
-  fitting-acknowledged is (Store of number effects base) fits = (current-acknowledged number fits.0, λ above. absurd (omega (arith, fits.0.at_most_next)))
+  fitting-acknowledged is (Store of number effects base) fits = (sendable-acknowledged number fits.0, λ above. absurd (omega (arith, fits.0.at_most_next)))
   fitting-acknowledged is (Pull of number) fits = fits
   fitting-acknowledged is (Accepted of number) fits = fits
-  fitting-acknowledged is (Stale of number path theirs ours) fits = (current-acknowledged number fits.0, λ e. absurd (omega (arith, fits.0.at_most_next)))
-  fitting-acknowledged is (Unfit of number index cause) fits = (current-acknowledged number fits.0, λ e. absurd (omega (arith, fits.0.at_most_next)))
-  fitting-acknowledged is (Full of number index cause) fits = (current-acknowledged number fits.0, λ e. absurd (omega (arith, fits.0.at_most_next)))
+  fitting-acknowledged is (Stale of number path theirs ours) fits = (sendable-acknowledged number fits.0, λ e. absurd (omega (arith, fits.0.at_most_next)))
+  fitting-acknowledged is (Unfit of number index cause) fits = (sendable-acknowledged number fits.0, λ e. absurd (omega (arith, fits.0.at_most_next)))
+  fitting-acknowledged is (Full of number index cause) fits = (sendable-acknowledged number fits.0, λ e. absurd (omega (arith, fits.0.at_most_next)))
   fitting-acknowledged is (Gap of number beyond) fits = fits
   fitting-acknowledged is (Snapshot of number upto seen) fits = fits
   fitting-acknowledged is (Malformed code offset) fits = tt
 
   -- as an Accepted of the entry says
   pub is_next : Agree client old_log last volume packets → acked + 1 ≤ last → last ≡ acked + 1
-  is_next now at_least = omega (arith, now.not_higher.at_most_next)
+  is_next now at_least = omega (arith, now.not_higher.at_most_ahead)
 
   pub acknowledged_agree : acked + 1 ≤ last → Agree client old_log last volume packets → Agree client next_log last volume packets
   acknowledged_agree at_least now =
       let is = is_next now at_least in
       record {
         not_lower = at_least;
-        not_higher = current-acknowledged last now.not_higher;
+        not_higher = record { at_most_ahead = omega (arith, is); at_most_logged = omega (arith, is) };
         behind = subst (λ t. IsBehind t volume) (sym (tree_at-acknowledged is)) now.behind;
         fitting = λ message among own. fitting-acknowledged is message (now.fitting message among own);
         log_is = IsLog-settled acked tree entry entries now.log_is;
@@ -143,7 +146,7 @@ module _ (client acked : ℕ) (tree seen : Volume) (last : ℕ) (volume : Volume
       let is : last ≡ acked = omega (arith, now.not_lower, now.not_higher.at_most_logged) in
       record {
         not_lower = now.not_lower;
-        not_higher = record { at_most_next = now.not_higher.at_most_next; at_most_logged = now.not_higher.at_most_logged };
+        not_higher = record { at_most_ahead = now.not_higher.at_most_ahead; at_most_logged = now.not_higher.at_most_logged };
         behind = subst (λ t. IsBehind t volume) (sym (tree_at-acked renewed last is)) fits.2;
         fitting = λ message among own. fitting-pulled is message (now.fitting message among own);
         log_is = record { base_is = fits.3; entries = tt; few = now.log_is.few; small = now.log_is.small; last = now.log_is.last };

@@ -5,12 +5,12 @@ use Rattle.std.specs.List.{AllByRecursion}
 use Rattle.std.proofs.lemmas.Bool.Decides.{nat_tests}
 use native.Mathlib.Decide.{ℕ_discrete}
 use Rattle.file_paths.specs.Path.{FilePath}
-use Rattle.vol_tree.specs.Effects.{changed_all, apply_all, Conflict}
-use Rattle.vol_tree.specs.Tree.{version_at, IsTree, IsLegalEffect}
-use Rattle.vol_tree.specs.Behind.{IsIn}
-use Rattle.vol_tree.specs.declared.node.Effect.{Effect}
-use Rattle.vol_tree.specs.declared.node.Base.{Base}
-use Rattle.vol_tree.specs.declared.node.TreeError.{TreeError}
+use Rattle.tree_values.specs.Effects.{changed_all, apply_all, Conflict}
+use Rattle.tree_values.specs.Tree.{version_at, IsTree, IsLegalEffect}
+use Rattle.tree_values.specs.Lists.{IsIn}
+use Rattle.tree_values.specs.declared.node.Effect.{Effect}
+use Rattle.tree_values.specs.declared.node.Base.{Base}
+use Rattle.tree_values.specs.declared.node.TreeError.{TreeError}
 use Rattle.vol_tree.proofs.Behind.{IsBehind-refl, IsBehind-after, applied-changes, applied_all-tree, version-untouched}
 use Rattle.mod_log.specs.declared.log.Entry.{Entry}
 use Rattle.mod_log.specs.Log.{Log, tree_at}
@@ -262,7 +262,7 @@ delivery_steps client log world message false now for among =
 
 sent_fits : (client acked : ℕ) (tree : _) (pending : List Entry) (last : ℕ) (volume : _) (message : Message) → acked ≤ last
     → MaySend client (record { acked = acked; base = tree; pending = pending }) message → IsFitting (record { acked = acked; base = tree; pending = pending }) last volume message
-sent_fits client acked tree [] last volume (Store of number effects base) low may = absurd may.2
+sent_fits client acked tree [] last volume (Store of number effects base) low may = absurd may.2.1
 sent_fits client acked tree (entry ∷ entries) last volume (Store of number effects base) low may = (record { at_most_next = omega (arith, may.1); at_most_logged = omega (arith, may.1) }, λ above. may.2)
 sent_fits client acked tree pending last volume (Pull of number) low may = omega (arith, may.1)
 sent_fits client acked tree pending last volume (Accepted of number) low may = absurd may

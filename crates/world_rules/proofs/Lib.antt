@@ -1,4 +1,5 @@
 pub mod Asks
+pub mod Settled
 pub mod Replies
 pub mod Steps
 pub mod Sending
@@ -8,4 +9,5 @@ pub mod Runs
 pub mod Restarts
 pub mod Replay
 pub mod Replying
+pub mod Unrefused
 pub mod FirstPull

@@ -1,9 +1,12 @@
 -- The served state is always the opening one after the taken stores.
-use Rattle.std.proofs.Common.{◌≡◌, ℕ, List, [], ◌∷◌, ◌++◌, refl, sym, ◌∙◌, ap}
+use Rattle.std.proofs.Common.{◌≡◌, ℕ, List, [], ◌∷◌, ◌++◌, refl, sym, ◌∙◌, ap, subst}
 use Rattle.wire_frames.specs.declared.message.Message.{Message}
 use Rattle.wire_frames.specs.declared.message.Message.TheVariants.{Store, Pull}
 use Rattle.world_rules.specs.Served.{Served, Verdict, Repeated, Early, Outdated, Refused, Taken, verdict, served_after, state_after, taken_if, taken_of, replay}
+use Rattle.mod_log.specs.declared.log.Entry.{Entry}
+use Rattle.world_rules.specs.declared.asking.Ask.{Ask}
 use Rattle.world_rules.specs.World.{World, Step, Send, Deliver, Other, happens, happen, IsReplayed}
+use Rattle.world_rules.specs.Run.{State, Move, Network, Notes, Logs, Acknowledges, Pulls, Saves, moved, moved_by, Runs}
 
 replay-append : (xs ys : List Message) (served : Served) → replay (xs ++ ys) served ≡ replay ys (replay xs served)
 replay-append [] ys served = refl
@@ -33,3 +36,18 @@ step_replayed world (Other message) is = is
 pub steps_replayed : (steps : List Step) (world : World) → IsReplayed world → IsReplayed (happen steps world)
 steps_replayed [] world is = is
 steps_replayed (step ∷ steps) world is = steps_replayed steps (happens step world) (step_replayed world step is)
+
+move_replayed : (state : State) (move : Move) → IsReplayed state.world → IsReplayed (moved move state).world
+move_replayed state (Network step) is = step_replayed state.world step is
+move_replayed state (Notes ask) is = is
+move_replayed state (Logs entry) is = is
+move_replayed state (Acknowledges reply) is = is
+move_replayed state (Pulls last seen) is = is
+move_replayed state Saves is = is
+
+moves_replayed : (moves : List Move) (state : State) → IsReplayed state.world → IsReplayed (moved_by moves state).world
+moves_replayed [] state is = is
+moves_replayed (move ∷ moves) state is = moves_replayed moves (moved move state) (move_replayed state move is)
+
+pub run_replayed : (client : ℕ) (entries : List Entry) (made : List Ask) (old new : State) → Runs client entries made old new → IsReplayed old.world → IsReplayed new.world
+run_replayed client entries made old new runs is = subst (λ s. IsReplayed s.world) (sym runs.result) (moves_replayed runs.moves old is)

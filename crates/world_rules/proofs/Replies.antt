@@ -5,18 +5,18 @@ use Rattle.std.specs.List.{AllByRecursion}
 use Rattle.std.proofs.lemmas.Bool.Decides.{nat_tests}
 use Rattle.file_paths.specs.Path.{FilePath, IsPath, folder_of}
 use Rattle.file_paths.specs.Refusals.{when, unless_refused}
-use Rattle.vol_tree.specs.declared.node.Row.{Row}
-use Rattle.vol_tree.specs.declared.node.Base.{Base}
-use Rattle.vol_tree.specs.declared.node.Effect.{Effect}
-use Rattle.vol_tree.specs.declared.node.Effect.TheVariants.{Make, Put, Remove, Move}
-use Rattle.vol_tree.specs.declared.node.TreeError.{TreeError}
-use Rattle.vol_tree.specs.declared.node.TreeError.TheVariants.{NotEmpty}
-use Rattle.vol_tree.specs.Tree.{Volume, IsRow, IsTree, row_at, version_at, is_child, refusals, apply, changed, IsLegalEffect}
-use Rattle.vol_tree.specs.Effects.{apply_all, unless_refused_at, Conflict, first_conflict}
-use Rattle.vol_tree.specs.Inside.{is_at}
-use Rattle.vol_tree.specs.Spelling.{EffectFits, BaseFits}
+use Rattle.tree_values.specs.declared.node.Row.{Row}
+use Rattle.tree_values.specs.declared.node.Base.{Base}
+use Rattle.tree_values.specs.declared.node.Effect.{Effect}
+use Rattle.tree_values.specs.declared.node.Effect.TheVariants.{Make, Put, Remove, Move}
+use Rattle.tree_values.specs.declared.node.TreeError.{TreeError}
+use Rattle.tree_values.specs.declared.node.TreeError.TheVariants.{NotEmpty}
+use Rattle.tree_values.specs.Tree.{Volume, IsRow, IsTree, row_at, version_at, is_child, refusals, apply, changed, IsLegalEffect}
+use Rattle.tree_values.specs.Effects.{apply_all, unless_refused_at, Conflict, first_conflict}
+use Rattle.tree_values.specs.Inside.{is_at}
+use Rattle.tree_values.specs.Spelling.{EffectFits, BaseFits}
 use Rattle.file_paths.proofs.PathLemmas.{front_is_path}
-use Rattle.vol_tree.proofs.Undoing.{find_among}
+use Rattle.tree_values.proofs.Undoing.{find_among}
 use Rattle.vol_tree.proofs.Behind.{applied-tree, applied_all-tree}
 use Rattle.wire_frames.specs.Fault.{UnfitFits, FullFits}
 use Rattle.wire_frames.specs.Frame.{IsValid}
@@ -75,9 +75,9 @@ refusals-tell (Make p) rows fits tree = (
 refusals-tell (Put p content) rows fits tree = (
   tells_when _ _ (inr (refl, tt)),
   (
-    tells_when _ _ (inr (refl, folder-path p fits.0)),
+    tells_when _ _ (inr (refl, folder-path p fits.0.0)),
     (
-      tells_when _ _ (inr (refl, fits.0)),
+      tells_when _ _ (inr (refl, fits.0.0)),
       (
         tells_when _ _ (inl (refl, omega arith)),
         (
@@ -85,7 +85,7 @@ refusals-tell (Put p content) rows fits tree = (
           (
             tells_when _ _ (inl (refl, omega (arith, fits.1, tree.small))),
             (
-              tells_when _ _ (inr (refl, fits.0)),
+              tells_when _ _ (inr (refl, fits.0.0)),
               tt,
             ),
           ),

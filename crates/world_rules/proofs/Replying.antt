@@ -1,8 +1,9 @@
 -- What the replies say to a client in step.
 use Rattle.std.proofs.Common.{◌≡◌, ℕ, ◌+◌, ◌<◌, ◌≤◌, List, [], length, refl, ap, subst, arith}
 use Rattle.file_paths.specs.Path.{FilePath}
-use Rattle.vol_tree.specs.Tree.{Volume, version_at}
-use Rattle.vol_tree.specs.Behind.{IsIn, IsAhead}
+use Rattle.tree_values.specs.Tree.{Volume, version_at}
+use Rattle.tree_values.specs.Lists.{IsIn}
+use Rattle.vol_tree.specs.Behind.{IsAhead}
 use Rattle.mod_log.specs.Log.{Log, tree_at}
 use Rattle.wire_frames.specs.declared.message.Message.{Message}
 use Rattle.wire_frames.specs.declared.message.Message.TheVariants.{Store, Pull, Accepted, Stale, Unfit, Gap, Snapshot, Full, Malformed}
@@ -23,7 +24,7 @@ pub fresh_newer : (client : ℕ) (log : Log) (made : List Ask) (old new : World)
     → IsFresh (Pull client log.acked) (Snapshot client log.acked last seen) made old new → version_at log.base path ≤ version_at seen path
 fresh_newer client log made old new last seen path now none fresh =
     let then : InStep client log fresh.moment =
-    runs_in_step client [] [] (kept_at log old) (kept_at log fresh.moment) now (moved_runs client log (Pull client log.acked) [] old fresh.moment (refl, refl, none) fresh.before) in
+    runs_in_step client [] [] (kept_at log old) (kept_at log fresh.moment) now (moved_runs client log (Pull client log.acked) [] old fresh.moment (refl, refl, none) fresh.before tt) in
     let same : fresh.moment.served.volume ≡ seen = cc (fresh.is) in
     subst (λ v. version_at log.base path ≤ version_at v path) same (answered_newer client log fresh.moment path then none)
 

@@ -38,7 +38,7 @@ module _ (client : ℕ) where
       (runs_once client (restarted state) (Network step) (allowed_restarted state step may)) rest)
   unkept_later state (Notes ask) moves may rest =
       inl (runs_then client [] [] (ask ∷ []) (asks_in moves) (restarted state) (restarted (moved (Notes ask) state)) (restarted (moved_by moves (moved (Notes ask) state)))
-      (runs_once client (restarted state) (Notes ask) tt) rest)
+      (runs_once client (restarted state) (Notes ask) may) rest)
   unkept_later state (Logs entry) moves may rest = inl rest
   unkept_later state (Acknowledges reply) moves may rest = inl rest
   unkept_later state (Pulls last seen) moves may rest = inl rest

@@ -5,21 +5,23 @@ use Rattle.std.proofs.lemmas.Bool.Decides.{nat_tests}
 use Rattle.std.proofs.lemmas.List.{length-take-le, take-append-le, drop-append-le, drop_all}
 use Rattle.std.proofs.lemmas.List.Elements.{filter-append}
 use Rattle.file_paths.specs.Path.{FilePath}
-use Rattle.vol_tree.specs.Tree.{Volume, version_at, IsTree}
-use Rattle.vol_tree.specs.Effects.{changed_all}
-use Rattle.vol_tree.specs.Behind.{IsBehind, IsIn}
+use Rattle.tree_values.specs.Tree.{Volume, version_at, IsTree}
+use Rattle.tree_values.specs.Effects.{changed_all}
+use Rattle.vol_tree.specs.Behind.{IsBehind}
+use Rattle.tree_values.specs.Lists.{IsIn}
 use Rattle.vol_tree.proofs.Behind.{IsIn-left, IsIn-right, applied_all-tree, same_volume}
 use Rattle.mod_log.specs.declared.log.Entry.{Entry}
 use Rattle.mod_log.specs.Log.{Log, IsLog, AreEntriesOf, after, tree_at, acknowledged, pulled, new_log}
 use Rattle.wire_frames.specs.declared.message.Message.{Message}
-use Rattle.wire_frames.specs.declared.message.Message.TheVariants.{Store, Accepted, Snapshot}
+use Rattle.wire_frames.specs.declared.message.Message.TheVariants.{Store, Pull, Accepted, Stale, Unfit, Gap, Snapshot, Full, Malformed}
 use Rattle.wire_frames.specs.Frame.{client_of, IsValid}
 use Rattle.world_rules.specs.declared.asking.Ask.{Ask}
 use Rattle.world_rules.specs.Served.{IsServed}
 use Rattle.world_rules.specs.World.{World, Step, Send, Deliver, Other, happens, happen, noted, Is, IsAllowed, AreAllowed, Moved}
-use Rattle.world_rules.specs.InStep.{InStep, MaySend}
+use Rattle.world_rules.specs.Asking.{AnswersStand}
+use Rattle.world_rules.specs.InStep.{InStep, MaySend, IsAcceptance}
 use Rattle.world_rules.specs.Run.{State, kept_at, restarted, AreInStep, MaySendKept, Move, Network, Notes, Logs, Acknowledges, Pulls, Saves, moved, IsPossible, AllPossible, moved_by, entry_in, entries_in, ask_in, asks_in, taken_by, taken_in_move, taken_in, own, numbered, stores_between, Spares, IsSameAt, Runs}
-use Rattle.world_rules.proofs.Asks.{kept_packet, noted-none, noted-noted}
+use Rattle.world_rules.proofs.Asks.{kept_packet, noted-none, noted-noted, answers_stay, answers_append}
 use Rattle.world_rules.proofs.Replies.{legal_effects}
 use Rattle.world_rules.proofs.Steps.{Agree, tree_at-acked, TakesFirst}
 use Rattle.world_rules.proofs.Client.{logged_agree, tree_at-logged, acknowledged-next, acknowledged_agree, is_next, tree_at-acknowledged, pulled_agree, IsLog-new, new_behind}
@@ -34,8 +36,16 @@ acknowledged_pending client acked tree (entry ∷ entries) last volume packets s
     subst (λ log. Agree client log last volume packets) (sym (acknowledged-next acked tree entry entries)) (acknowledged_agree client acked tree entry entries last volume packets at_least now)
 
 -- what was accepted was taken
-pub accepted_at_most : (client : ℕ) (log : Log) (world : World) (number : ℕ) (reply : Message) → InStep client log world → reply ≡ Accepted client number → IsIn reply world.packets → number ≤ world.served.last client
-accepted_at_most client log world number reply now is among = now.fitting (Accepted client number) (subst (λ m. IsIn m world.packets) is among) refl
+pub accepted_at_most : (client : ℕ) (log : Log) (world : World) (number : ℕ) (reply : Message) → InStep client log world → IsAcceptance client number reply → IsIn reply world.packets → number ≤ world.served.last client
+accepted_at_most client log world number (Accepted of accepted) now is among = omega (arith, now.fitting (Accepted of accepted) among is.0, is.1)
+accepted_at_most client log world number (Store of accepted effects base) now is among = absurd is
+accepted_at_most client log world number (Pull of accepted) now is among = absurd is
+accepted_at_most client log world number (Stale of accepted path theirs ours) now is among = absurd is
+accepted_at_most client log world number (Unfit of accepted index fault) now is among = absurd is
+accepted_at_most client log world number (Gap of accepted beyond) now is among = absurd is
+accepted_at_most client log world number (Snapshot of accepted upto seen) now is among = absurd is
+accepted_at_most client log world number (Full of accepted index fault) now is among = absurd is
+accepted_at_most client log world number (Malformed code offset) now is among = absurd is
 
 pulled_idle : (client acked : ℕ) (tree : Volume) (pending : List Entry) (seen : Volume) (last : ℕ) (volume : Volume) (packets : List Message) (upto : ℕ) → pending ≡ [] → IsIn (Snapshot client acked upto seen) packets
     → Agree client (record { acked = acked; base = tree; pending = pending }) last volume packets → Agree client (record { acked = acked; base = seen; pending = pending }) last volume packets
@@ -49,7 +59,7 @@ same_world : (client : ℕ) (log next : Log) (world : World) → InStep client l
 same_world client log next world now agrees = in_step client next world now.about now.own_number now.valid now.served_is agrees
 
 -- what the kept log may send, the log in memory may send, and so may the kept one
-allowed_log : (client : ℕ) (state : State) (step : Step) → IsAllowed (MaySendKept client state) state.world step → IsAllowed (MaySend client state.log) state.world step
+pub allowed_log : (client : ℕ) (state : State) (step : Step) → IsAllowed (MaySendKept client state) state.world step → IsAllowed (MaySend client state.log) state.world step
 allowed_log client state (Send message) may = may.0
 allowed_log client state (Deliver message joins) may = may
 allowed_log client state (Other message) may = may
@@ -419,7 +429,7 @@ new_in_step client world about low high served_is none_taken others = record {
   about = about;
   own_number = (low, high);
   not_lower = omega arith;
-  not_higher = record { at_most_next = omega arith; at_most_logged = omega arith };
+  not_higher = record { at_most_ahead = omega arith; at_most_logged = omega arith };
   behind = subst (λ t. IsBehind t world.served.volume) (sym (tree_at-acked new_log (world.served.last client) none_taken)) (new_behind world.served.volume served_is.tree);
   fitting = λ message among own. absurd ((others message among).0 own);
   valid = λ message among. (others message among).1;
@@ -484,23 +494,24 @@ steps_run client log request (step ∷ steps) world may are =
     (runs_once client (kept_at log world) (Network step) (request_allowed client log request world step may are.0))
     (steps_run client log request steps (happens step world) may are.1)
 
-notes_run : (client : ℕ) (log : Log) (made : List Ask) (world : World) → Runs client [] made (kept_at log world) (kept_at log (noted made world))
-notes_run client log [] world =
+notes_run : (client : ℕ) (log : Log) (made : List Ask) (world : World) → AnswersStand world made → Runs client [] made (kept_at log world) (kept_at log (noted made world))
+notes_run client log [] world stand =
     subst (λ w. Runs client [] [] (kept_at log world) (kept_at log w)) (sym (noted-none world)) (runs_none client (kept_at log world))
-notes_run client log (ask ∷ made) world =
-    let rest = notes_run client log made (noted (ask ∷ []) world) in
+notes_run client log (ask ∷ made) world stand =
+    let rest = notes_run client log made (noted (ask ∷ []) world) (answers_stay made world (noted (ask ∷ []) world) (λ message among. among) stand.1) in
     subst (λ w. Runs client [] (ask ∷ made) (kept_at log world) (kept_at log w)) (noted-noted (ask ∷ []) made world)
     (runs_then client [] [] (ask ∷ []) made (kept_at log world) (kept_at log (noted (ask ∷ []) world)) (kept_at log (noted made (noted (ask ∷ []) world)))
-    (runs_once client (kept_at log world) (Notes ask) tt) rest)
+    (runs_once client (kept_at log world) (Notes ask) stand.0) rest)
 
--- while a request is asked that the kept log may send, the world goes on by possible moves
-pub moved_runs : (client : ℕ) (log : Log) (request : Message) (made : List Ask) (old new : World) → MaySend client log request → Moved request made old new
+-- while a request is asked that the kept log may send, and what is answered stands, the world goes on by possible moves
+pub moved_runs : (client : ℕ) (log : Log) (request : Message) (made : List Ask) (old new : World) → MaySend client log request → Moved request made old new → AnswersStand new made
     → Runs client [] made (kept_at log old) (kept_at log new)
-moved_runs client log request made old new may moves =
+moved_runs client log request made old new may moves stand =
     subst (λ w. Runs client [] made (kept_at log old) (kept_at log w)) (sym moves.result)
     (runs_then client [] [] [] made (kept_at log old) (kept_at log (happen moves.steps old)) (kept_at log (noted made (happen moves.steps old)))
     (steps_run client log request moves.steps old may moves.allowed)
-    (notes_run client log made (happen moves.steps old)))
+    (notes_run client log made (happen moves.steps old)
+    (answers_stay made (noted made (happen moves.steps old)) (happen moves.steps old) (λ message among. among) (subst (λ w. AnswersStand w made) moves.result stand))))
 
 -- ---- the world's list of taken stores grows by those of the run
 
@@ -564,3 +575,23 @@ packets_stay (move ∷ moves) state message among = packets_stay moves (moved mo
 
 pub run_packets : (client : ℕ) (entries : List Entry) (made : List Ask) (old new : State) (message : Message) → Runs client entries made old new → IsIn message old.world.packets → IsIn message new.world.packets
 run_packets client entries made old new message runs among = subst (λ s. IsIn message s.world.packets) (sym runs.result) (packets_stay runs.moves old message among)
+
+-- ---- what was answered stands
+
+module _ (client : ℕ) where
+  answer_in : (move : Move) (moves : List Move) (state : State) → IsPossible client state move → AnswersStand (moved_by moves (moved move state)).world (ask_in move)
+  answer_in (Notes ask) moves state may =
+      answers_stay (ask ∷ []) state.world (moved_by moves (moved (Notes ask) state)).world (λ message among. packets_stay moves (moved (Notes ask) state) message among) (may, tt)
+  answer_in (Network step) moves state may = tt
+  answer_in (Logs entry) moves state may = tt
+  answer_in (Acknowledges reply) moves state may = tt
+  answer_in (Pulls last seen) moves state may = tt
+  answer_in Saves moves state may = tt
+
+  answers_in : (moves : List Move) (state : State) → AllPossible client state moves → AnswersStand (moved_by moves state).world (asks_in moves)
+  answers_in [] state may = tt
+  answers_in (move ∷ moves) state may = answers_append (ask_in move) (asks_in moves) (moved_by moves (moved move state)).world (answer_in move moves state may.0) (answers_in moves (moved move state) may.1)
+
+  pub run_answers : (entries : List Entry) (made : List Ask) (old new : State) → Runs client entries made old new → AnswersStand new.world made
+  run_answers entries made old new runs =
+      subst (λ s. AnswersStand s.world made) (sym runs.result) (subst (AnswersStand (moved_by runs.moves old).world) runs.asks (answers_in runs.moves old runs.possible))

@@ -1,19 +1,20 @@
 -- What a client may send is valid.
-use Rattle.std.proofs.Common.{◌≡◌, inl, inr, ℕ, ◌+◌, ◌≤◌, true, List, [], ◌∷◌, ◌++◌, map, refl, sym, ap, subst, arith}
+use Rattle.std.proofs.Common.{◌≡◌, inl, inr, ℕ, ◌+◌, ◌≤◌, true, List, [], ◌∷◌, ◌++◌, length, map, refl, sym, ap, subst, arith}
 use Rattle.std.specs.Prelude.{nat_le, ◌&&◌}
 use Rattle.std.specs.List.{AllByRecursion}
 use Rattle.std.proofs.lemmas.Bool.Decides.{nat_tests}
 use Rattle.file_paths.specs.Path.{FilePath, IsPath}
-use Rattle.vol_tree.specs.Effects.{touched_all, distinct, base_of}
-use Rattle.vol_tree.specs.Tree.{Volume, version_at, IsTree, IsLegalEffect, touched_paths}
-use Rattle.vol_tree.specs.Behind.{IsIn}
-use Rattle.vol_tree.specs.Spelling.{BaseFits, EffectsFit, AreBasesOf}
-use Rattle.vol_tree.specs.declared.node.Effect.{Effect}
-use Rattle.vol_tree.specs.declared.node.Effect.TheVariants.{Make, Put, Remove, Move}
-use Rattle.vol_tree.specs.declared.node.Base.{Base}
-use Rattle.vol_tree.proofs.Distinct.{in_distinct}
+use Rattle.tree_values.specs.Effects.{touched_all, distinct, base_of, changed_all}
+use Rattle.tree_values.specs.Tree.{Volume, version_at, IsTree, IsLegalEffect, touched_paths}
+use Rattle.tree_values.specs.Lists.{IsIn}
+use Rattle.tree_values.specs.Spelling.{BaseFits, EffectsFit, AreBasesOf}
+use Rattle.tree_values.specs.declared.node.Effect.{Effect}
+use Rattle.tree_values.specs.declared.node.Effect.TheVariants.{Make, Put, Remove, Move}
+use Rattle.tree_values.specs.declared.node.Base.{Base}
+use Rattle.tree_values.proofs.Distinct.{in_distinct}
+use Rattle.vol_tree.proofs.Behind.{applied_all-tree}
 use Rattle.mod_log.specs.declared.log.Entry.{Entry}
-use Rattle.mod_log.specs.Log.{IsLog}
+use Rattle.mod_log.specs.Log.{Log, IsLog, IsEntryOf, AreEntriesOf}
 use Rattle.wire_frames.specs.declared.message.Message.{Message}
 use Rattle.wire_frames.specs.declared.message.Message.TheVariants.{Store, Pull, Accepted, Stale, Unfit, Gap, Snapshot, Full, Malformed}
 use Rattle.wire_frames.specs.Frame.{IsValid}
@@ -28,7 +29,7 @@ all_paths (x ∷ xs) ys all more = (all.0, all_paths xs ys all.1 more)
 
 touched-legal : (effect : Effect) → IsLegalEffect effect → AllByRecursion IsPath (touched_paths effect)
 touched-legal (Make p) legal = (legal, tt)
-touched-legal (Put p content) legal = (legal, tt)
+touched-legal (Put p content) legal = (legal.0, tt)
 touched-legal (Remove p) legal = (legal, tt)
 touched-legal (Move p q) legal = (legal.0, (legal.1, tt))
 
@@ -72,24 +73,35 @@ client_ok client low high = grind (arith, nat_tests)
 number_ok : (number : ℕ) → 1 ≤ number → nat_le 1 number ≡ true
 number_ok number low = grind (arith, nat_tests)
 
-store_valid : (client acked : ℕ) (tree : Volume) (entry : Entry) (entries : List Entry) → 1 ≤ client → client ≤ 64 → IsLog (record { acked = acked; base = tree; pending = entry ∷ entries })
-    → IsValid (Store client (acked + 1) entry.effects entry.base)
-store_valid client acked tree entry entries low high log_is = record {
-  client_fits = client_ok client low high;
-  number_fits = number_ok (acked + 1) (omega arith);
-  number_small = omega (arith, log_is.last);
-  body_fits = (
-    log_is.entries.0.fits,
-    subst (AreBasesOf (distinct (touched_all entry.effects))) (sym log_is.entries.0.based) (base_of-fits entry.effects tree log_is.entries.0.fits log_is.base_is),
-  );
-}
+module _ (client : ℕ) (low : 1 ≤ client) (high : client ≤ 64) where
+  store_valid : (number : ℕ) (tree : Volume) (entry : Entry) → 1 ≤ number → number ≤ 18446744073709551615 → IsTree tree → IsEntryOf number tree entry → IsValid (Store client number entry.effects entry.base)
+  store_valid number tree entry some small tree_is is = record {
+    client_fits = client_ok client low high;
+    number_fits = number_ok number some;
+    number_small = omega (arith, small);
+    body_fits = (is.fits, subst (AreBasesOf (distinct (touched_all entry.effects))) (sym is.based) (base_of-fits entry.effects tree is.fits tree_is));
+  }
+
+  -- of each of the entries
+  stores_valid : (number : ℕ) (tree : Volume) (entries : List Entry) (entry : Entry) → 1 ≤ number → number + length entries ≤ 18446744073709551616 → IsTree tree → AreEntriesOf number tree entries → IsIn entry entries
+      → IsValid (Store client entry.seq entry.effects entry.base)
+  stores_valid number tree [] entry some small tree_is are among = absurd among
+  stores_valid number tree (first ∷ entries) entry some small tree_is are (inl is) =
+      let valid = store_valid number tree first some (omega (arith, small)) tree_is are.0 in
+      subst (λ (e : Entry). IsValid (Store client e.seq e.effects e.base)) (sym is) (subst (λ (n : ℕ). IsValid (Store client n first.effects first.base)) (sym are.0.numbered) valid)
+  stores_valid number tree (first ∷ entries) entry some small tree_is are (inr among) =
+      stores_valid (number + 1) (changed_all first.effects tree) entries entry (omega arith) (omega (arith, small))
+      (applied_all-tree first.effects 0 tree (changed_all first.effects tree) tree_is (legal_effects first.effects are.0.fits.each) are.0.applies) are.1 among
+
+  pub pending_valid : (log : Log) (entry : Entry) → IsLog log → IsIn entry log.pending → IsValid (Store client entry.seq entry.effects entry.base)
+  pending_valid log entry log_is among = stores_valid (log.acked + 1) log.base log.pending entry (omega arith) (omega (arith, log_is.last)) log_is.base_is log_is.entries among
 
 pub sent_valid : (client acked : ℕ) (tree : Volume) (pending : List Entry) (message : Message) → 1 ≤ client → client ≤ 64 → IsLog (record { acked = acked; base = tree; pending = pending })
     → MaySend client (record { acked = acked; base = tree; pending = pending }) message → IsValid message
-sent_valid client acked tree [] (Store of number effects base) low high log_is may = absurd may.2
-sent_valid client acked tree (entry ∷ entries) (Store of number effects base) low high log_is may =
-    let same : Store client (acked + 1) entry.effects entry.base ≡ Store of number effects base = λ i. Store (sym may.0 i) (sym may.1 i) (sym may.2.0 i) (sym may.2.1 i) in
-    subst IsValid same (store_valid client acked tree entry entries low high log_is)
+sent_valid client acked tree pending (Store of number effects base) low high log_is may =
+    let at = may.2 in
+    let same : Store client at.0.seq at.0.effects at.0.base ≡ Store of number effects base = λ i. Store (sym may.0 i) (at.2 i) (sym at.3 i) (sym at.4 i) in
+    subst IsValid same (pending_valid client low high (record { acked = acked; base = tree; pending = pending }) at.0 log_is at.1)
 sent_valid client acked tree pending (Pull of number) low high log_is may = record {
   client_fits = subst (λ c. (nat_le 1 c && nat_le c 64) ≡ true) (sym may.0) (client_ok client low high);
   number_fits = refl;

@@ -4,27 +4,28 @@ use Rattle.std.specs.Prelude.{Option, Some, None, nat_lt, nat_le, if◌then◌el
 use Rattle.std.specs.List.{AllByRecursion}
 use Rattle.std.proofs.lemmas.Bool.Decides.{nat_tests}
 use Rattle.file_paths.specs.Path.{FilePath}
-use Rattle.vol_tree.specs.Effects.{changed_all, apply_all, base_of, Conflict, first_conflict}
-use Rattle.vol_tree.specs.Tree.{Volume, version_at, IsTree, IsLegalEffect}
-use Rattle.vol_tree.specs.Behind.{IsBehind, IsAhead, IsIn}
-use Rattle.vol_tree.specs.declared.node.Effect.{Effect}
-use Rattle.vol_tree.specs.declared.node.Base.{Base}
-use Rattle.vol_tree.specs.declared.node.TreeError.{TreeError}
+use Rattle.tree_values.specs.Effects.{changed_all, apply_all, base_of, Conflict, first_conflict}
+use Rattle.tree_values.specs.Tree.{Volume, version_at, IsTree, IsLegalEffect}
+use Rattle.vol_tree.specs.Behind.{IsBehind, IsAhead}
+use Rattle.tree_values.specs.Lists.{IsIn}
+use Rattle.tree_values.specs.declared.node.Effect.{Effect}
+use Rattle.tree_values.specs.declared.node.Base.{Base}
+use Rattle.tree_values.specs.declared.node.TreeError.{TreeError}
 use Rattle.vol_tree.proofs.Behind.{IsBehind-trans, IsBehind-changes, IsBehind-after, AgreeAt-touched, ahead_at_conflict, ahead_where_refused, applied-changes, applied_all-tree, lt-changes, same-changes}
 use Rattle.mod_log.specs.declared.log.Entry.{Entry}
-use Rattle.mod_log.specs.Log.{Log, after, tree_at, IsLog}
+use Rattle.mod_log.specs.Log.{Log, after, tree_at, IsLog, AreEntriesOf}
 use Rattle.wire_frames.specs.declared.message.Message.{Message}
 use Rattle.wire_frames.specs.declared.message.Message.TheVariants.{Store, Pull, Accepted, Stale, Unfit, Gap, Snapshot, Full, Malformed}
 use Rattle.wire_frames.specs.Frame.{client_of}
 use Rattle.world_rules.specs.Served.{Verdict, Taken, judged, is_want_of_room, reply, taken_if}
-use Rattle.world_rules.specs.InStep.{IsCurrent, IsFitting}
+use Rattle.world_rules.specs.InStep.{IsTakenUpTo, IsSendable, IsPendingAt, IsFitting}
 use Rattle.world_rules.proofs.Asks.{IsIn-push}
 use Rattle.world_rules.proofs.Replies.{legal_effects}
 
 -- what a log, the number last taken of its client, the served volume and the packets agree on
 pub record Agree (client : ℕ) (log : Log) (last : ℕ) (volume : Volume) (packets : List Message) : Type 0 where
   pub not_lower : log.acked ≤ last
-  pub not_higher : IsCurrent log last
+  pub not_higher : IsTakenUpTo log last
   pub behind : IsBehind (tree_at last log) volume
   pub fitting : (message : Message) → IsIn message packets → client_of message ≡ client → IsFitting log last volume message
   pub log_is : IsLog log
@@ -106,7 +107,7 @@ module _ (client : ℕ) (acked : ℕ) (tree : Volume) (entry : Entry) (entries :
   pub taken_first : (volume : Volume) (packets : List Message) → IsTree (changed_all entry.effects volume) → first_conflict entry.base volume ≡ None → Agree client log_of acked volume packets → Agree client log_of (acked + 1) (changed_all entry.effects volume) packets
   taken_first volume packets tree_after agrees now = record {
     not_lower = omega arith;
-    not_higher = record { at_most_next = omega arith; at_most_logged = omega arith };
+    not_higher = record { at_most_ahead = omega arith; at_most_logged = omega arith };
     behind = rw (tree_at-next log_of (acked + 1) entry entries refl refl)
         (IsBehind-changes entry.effects tree volume
         (subst (λ t. IsBehind t volume) (tree_at-acked log_of acked refl) now.behind)
@@ -155,8 +156,25 @@ module _ (client : ℕ) (acked : ℕ) (tree : Volume) where
   abbrev pub log_with : List Entry → Log
   log_with pending = record { acked = acked; base = tree; pending = pending }
 
+  -- entries have their numbers in order
+  numbers_above : (number : ℕ) (volume : Volume) (entries : List Entry) (entry : Entry) → AreEntriesOf number volume entries → IsIn entry entries → number ≤ entry.seq
+  numbers_above number volume [] entry are among = absurd among
+  numbers_above number volume (first ∷ entries) entry are (inl is) = omega (arith, ap (λ (e : Entry). e.seq) is, are.0.numbered)
+  numbers_above number volume (first ∷ entries) entry are (inr among) = omega (arith, numbers_above (number + 1) (changed_all first.effects volume) entries entry are.1 among)
+
+  -- the pending entry of the next number is the first
+  of_first : (first : Entry) (entries : List Entry) (number : ℕ) (effects : List Effect) (base : List Base) → IsLog (log_with (first ∷ entries)) → number ≡ acked + 1
+      → IsPendingAt (log_with (first ∷ entries)) number effects base → (effects ≡ first.effects) × (base ≡ first.base)
+  of_first first entries number effects base log_is next is = by is.1
+    where
+      by : IsIn is.0 (first ∷ entries) → (effects ≡ first.effects) × (base ≡ first.base)
+      by (inl same) = (is.3 ∙ ap (λ (e : Entry). e.effects) same, is.4 ∙ ap (λ (e : Entry). e.base) same)
+      by (inr among) =
+          let above = numbers_above (acked + 1 + 1) (changed_all first.effects tree) entries is.0 log_is.entries.1 among in
+          absurd (omega (arith, above, next, is.2))
+
   module _ (last : ℕ) (volume : Volume) (packets : List Message) (number : ℕ) (effects : List Effect) (base : List Base) where
-    refusal_fits : (pending : List Entry) (index : ℕ) (cause : TreeError) (full : Bool) → IsCurrent (log_with pending) number → IsAhead volume (tree_at last (log_with pending))
+    refusal_fits : (pending : List Entry) (index : ℕ) (cause : TreeError) (full : Bool) → IsSendable (log_with pending) number → IsAhead volume (tree_at last (log_with pending))
         → IsFitting (log_with pending) last volume (if full then Full client number index cause else Unfit client number index cause)
     refusal_fits pending index cause true current ahead = (current, λ e. ahead)
     refusal_fits pending index cause false current ahead = (current, λ e. ahead)
@@ -167,9 +185,9 @@ module _ (client : ℕ) (acked : ℕ) (tree : Volume) where
         → Judged client (log_with pending) last volume packets number (Store client number effects base) (judged repeated beyond conflict applied)
     own_store pending true beyond conflict applied a b c d now fits = record { state = now; fits = le_if number last a; taken = inl (refl, refl); same = λ path e. e }
     own_store pending false true conflict applied a b c d now fits = absurd (omega (arith, lt_if (last + 1) number b, fits.0.at_most_next, now.not_lower))
-    own_store [] false false conflict applied a b c d now fits = absurd (fits.1 (gt_if number last a))
+    own_store [] false false conflict applied a b c d now fits = absurd (fits.1 (gt_if number last a)).1
     own_store (entry ∷ entries) false false (Some conflict) applied a b c d now fits =
-        let is = fits.1 (gt_if number last a) in
+        let is = of_first entry entries number effects base now.log_is (omega (arith, gt_if number last a, fits.0.at_most_next, now.not_lower)) (fits.1 (gt_if number last a)) in
         let same : last ≡ acked = omega (arith, gt_if number last a, fits.0.at_most_next, now.not_lower) in
         let behind = subst (λ t. IsBehind t volume) (tree_at-acked (log_with (entry ∷ entries)) last same) now.behind in
         let found : first_conflict (base_of entry.effects tree) volume ≡ Some conflict = ap (λ k. first_conflict k volume) (sym (is.1 ∙ now.log_is.entries.0.based)) ∙ c in
@@ -181,7 +199,7 @@ module _ (client : ℕ) (acked : ℕ) (tree : Volume) where
           same = λ path e. e;
         }
     own_store (entry ∷ entries) false false None (Err cause) a b c d now fits =
-        let is = fits.1 (gt_if number last a) in
+        let is = of_first entry entries number effects base now.log_is (omega (arith, gt_if number last a, fits.0.at_most_next, now.not_lower)) (fits.1 (gt_if number last a)) in
         let same : last ≡ acked = omega (arith, gt_if number last a, fits.0.at_most_next, now.not_lower) in
         let at_base = tree_at-acked (log_with (entry ∷ entries)) last same in
         let behind = subst (λ t. IsBehind t volume) at_base now.behind in
@@ -194,7 +212,7 @@ module _ (client : ℕ) (acked : ℕ) (tree : Volume) where
           same = λ path e. e;
         }
     own_store (entry ∷ entries) false false None (Ok after) a b c d now fits =
-        let is = fits.1 (gt_if number last a) in
+        let is = of_first entry entries number effects base now.log_is (omega (arith, gt_if number last a, fits.0.at_most_next, now.not_lower)) (fits.1 (gt_if number last a)) in
         let same : last ≡ acked = omega (arith, gt_if number last a, fits.0.at_most_next, now.not_lower) in
         let next : number ≡ acked + 1 = omega (arith, gt_if number last a, fits.0.at_most_next, now.not_lower) in
         let agrees : first_conflict entry.base volume ≡ None = ap (λ k. first_conflict k volume) (sym is.1) ∙ c in

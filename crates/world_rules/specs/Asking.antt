@@ -1,9 +1,7 @@
--- What one ask does to the world, and what up to eight do.
-use Rattle.std.specs.Prelude.{◌⊎◌, ℕ, ◌<◌, List, [], ◌∷◌, ◌++◌, Result, Ok, Err, Vec}
+-- What one ask does to the world.
+use Rattle.std.specs.Prelude.{◌⊎◌, ℕ, List, [], ◌∷◌, Result, Ok, Err, Vec}
 use Rattle.std.specs.declared.alloc.Global.{Global}
-use Rattle.std.proofs.Math.ListN.{replicate}
-use Rattle.outside.specs.Outside.{RoseBy}
-use Rattle.vol_tree.specs.Behind.{IsIn}
+use Rattle.tree_values.specs.Lists.{IsIn}
 use Rattle.wire_frames.specs.declared.message.Message.{Message}
 use Rattle.wire_frames.specs.declared.message.Message.TheVariants.{Store, Pull}
 use Rattle.wire_frames.specs.Frame.{Spells, Echoes}
@@ -14,8 +12,6 @@ use Rattle.world_rules.specs.declared.asking.Answer.{Answer}
 use Rattle.world_rules.specs.declared.asking.Answer.TheVariants.{Reply, Failed, Memory}
 use Rattle.world_rules.specs.declared.link.LinkError.{LinkError}
 use Rattle.world_rules.specs.declared.link.LinkError.TheVariants.{Failed as LinkFailed, Memory as LinkMemory}
-use Rattle.world_rules.specs.declared.link.AskError.{AskError}
-use Rattle.world_rules.specs.declared.link.AskError.TheVariants.{Troubles, Memory as AskMemory}
 use Rattle.world_rules.specs.World.{World, Moved, IsFresh}
 
 -- a store and a pull are requests to the server; none goes to a surrogate yet
@@ -33,6 +29,21 @@ IsReplyTo request bytes = (reply : Message) × Spells reply bytes × Echoes requ
 abbrev pub ask_of : Peer → List ℕ → Message → Answer → Ask
 ask_of to address request answer = record { to = to; address = address; request = request; answer = answer }
 
+-- a reply that was answered was sent, and echoes its request
+abbrev pub ReplyStands : World → Message → Answer → Type 0
+ReplyStands world request (Reply reply) = IsIn reply world.packets × Echoes request reply
+ReplyStands world request Failed = Unit {0}
+ReplyStands world request Memory = Unit {0}
+
+-- what was answered to an ask stands in the world
+abbrev pub AnswerStands : World → Ask → Type 0
+AnswerStands world ask = ReplyStands world ask.request ask.answer
+
+-- what was answered to each of the asks does
+abbrev pub AnswersStand : World → List Ask → Type 0
+AnswersStand world [] = Unit {0}
+AnswersStand world (ask ∷ asks) = AnswerStands world ask × AnswersStand world asks
+
 -- what one ask does to the world; a reply that is answered stands in the packets
 abbrev pub AsksOnce : Peer → List ℕ → Message → World → World → Result (Vec ℕ Global) LinkError → Type 0
 AsksOnce to address request old new (Ok frame) =
@@ -47,18 +58,3 @@ abbrev pub IsDirect : {E : Type 0} → Peer → List ℕ → Message → World �
 IsDirect to address request old new (Ok frame) =
     (reply : Message) × Spells reply frame.items × IsFresh request reply (ask_of to address request (Reply reply) ∷ []) old new
 IsDirect to address request old new (Err error) = Unit {0}
-
--- A settling: each ask but the last failed, and it ends with the first that did not fail or with eight that failed.
--- The troubles rose from before to now, by at least one for each ask that failed.
-abbrev pub Settles : Peer → List ℕ → Message → ℕ → ℕ → World → World → Result (Vec ℕ Global) AskError → Type 0
-Settles to address request before now old new (Ok frame) =
-    (failed : ℕ) × (reply : Message) × (failed < 8) × Spells reply frame.items × Echoes request reply × IsIn reply new.packets
-    × Moved request (replicate failed (ask_of to address request Failed) ++ ask_of to address request (Reply reply) ∷ []) old new
-    × RoseBy failed before now
-Settles to address request before now old new (Err Troubles) =
-    Moved request (replicate 8 (ask_of to address request Failed)) old new × RoseBy 8 before now
-Settles to address request before now old new (Err AskMemory) =
-    (failed : ℕ) × (failed < 8)
-    × (Moved request (replicate failed (ask_of to address request Failed) ++ ask_of to address request Memory ∷ []) old new
-    ⊎ Moved request (replicate failed (ask_of to address request Failed)) old new)
-    × RoseBy failed before now

@@ -1,10 +1,11 @@
 -- When a client's log and the world fit together: the server is at most one entry ahead of what the client knows, and at no
 -- path behind what the client's tree was after that entry.
-use Rattle.std.specs.Prelude.{◌≡◌, ℕ, ◌+◌, ◌<◌, ◌≤◌, List, [], ◌∷◌, length}
-use Rattle.vol_tree.specs.Tree.{Volume, version_at, IsTree}
-use Rattle.vol_tree.specs.Behind.{IsBehind, IsIn, IsAhead}
-use Rattle.vol_tree.specs.declared.node.Effect.{Effect}
-use Rattle.vol_tree.specs.declared.node.Base.{Base}
+use Rattle.std.specs.Prelude.{◌≡◌, ℕ, ◌+◌, ◌<◌, ◌≤◌, List, [], length}
+use Rattle.tree_values.specs.Tree.{Volume, version_at, IsTree}
+use Rattle.vol_tree.specs.Behind.{IsBehind, IsAhead}
+use Rattle.tree_values.specs.Lists.{IsIn}
+use Rattle.tree_values.specs.declared.node.Effect.{Effect}
+use Rattle.tree_values.specs.declared.node.Base.{Base}
 use Rattle.mod_log.specs.declared.log.Entry.{Entry}
 use Rattle.mod_log.specs.Log.{Log, tree_at, IsLog}
 use Rattle.wire_frames.specs.declared.message.Message.{Message}
@@ -17,27 +18,31 @@ use Rattle.world_rules.specs.World.{World}
 abbrev pub ahead : ℕ
 ahead = 1
 
--- not above the entry that the client may have sent, and not above the last pending one
-pub record IsCurrent (log : Log) (number : ℕ) : Type 0 where
-  pub at_most_next : number ≤ log.acked + ahead
+-- The server may have taken the client's entries up to this number: so many above the acknowledged one, and none that is not logged.
+pub record IsTakenUpTo (log : Log) (number : ℕ) : Type 0 where
+  pub at_most_ahead : number ≤ log.acked + ahead
   pub at_most_logged : number ≤ log.acked + length log.pending
 
--- these are effects and base of the first of the entries
-abbrev pub IsOfFirst : List Entry → List Effect → List Base → Type 0
-IsOfFirst [] effects base = ⊥
-IsOfFirst (entry ∷ entries) effects base = (effects ≡ entry.effects) × (base ≡ entry.base)
+-- The client may have sent the entry of this number: it is at most the first pending one.
+pub record IsSendable (log : Log) (number : ℕ) : Type 0 where
+  pub at_most_next : number ≤ log.acked + 1
+  pub at_most_logged : number ≤ log.acked + length log.pending
+
+-- the pending entry of this number has these effects and this base
+abbrev pub IsPendingAt : Log → ℕ → List Effect → List Base → Type 0
+IsPendingAt log number effects base = (entry : Entry) × IsIn entry log.pending × (entry.seq ≡ number) × (effects ≡ entry.effects) × (base ≡ entry.base)
 
 -- What each message of the client may say, where `last` is the number last taken and `volume` is served. Each kind that
 -- a surrogate brings gets its line here and in `MaySend`.
 abbrev pub IsFitting : Log → ℕ → Volume → Message → Type 0
-IsFitting log last volume (Store client number effects base) = IsCurrent log number × (last < number → IsOfFirst log.pending effects base)
+IsFitting log last volume (Store client number effects base) = IsSendable log number × (last < number → IsPendingAt log number effects base)
 IsFitting log last volume (Pull client number) = number ≤ last
 IsFitting log last volume (Accepted client number) = number ≤ last
-IsFitting log last volume (Stale client number path theirs ours) = IsCurrent log number × (number ≡ log.acked + 1 → version_at (tree_at last log) path < version_at volume path)
-IsFitting log last volume (Unfit client number index fault) = IsCurrent log number × (number ≡ log.acked + 1 → IsAhead volume (tree_at last log))
+IsFitting log last volume (Stale client number path theirs ours) = IsSendable log number × (number ≡ log.acked + 1 → version_at (tree_at last log) path < version_at volume path)
+IsFitting log last volume (Unfit client number index fault) = IsSendable log number × (number ≡ log.acked + 1 → IsAhead volume (tree_at last log))
 IsFitting log last volume (Gap client number beyond) = ⊥
 IsFitting log last volume (Snapshot client number then seen) = (number ≤ then) × (then ≤ last) × IsBehind seen volume × IsTree seen
-IsFitting log last volume (Full client number index fault) = IsCurrent log number × (number ≡ log.acked + 1 → IsAhead volume (tree_at last log))
+IsFitting log last volume (Full client number index fault) = IsSendable log number × (number ≡ log.acked + 1 → IsAhead volume (tree_at last log))
 IsFitting log last volume (Malformed code offset) = Unit {0}
 
 -- a client's log is in step with the world about it
@@ -46,7 +51,7 @@ pub record InStep (client : ℕ) (log : Log) (world : World) : Type 0 where
   pub own_number : (1 ≤ client) × (client ≤ 64)
   -- the server took every acknowledged entry, and at most the next one
   pub not_lower : log.acked ≤ world.served.last client
-  pub not_higher : IsCurrent log (world.served.last client)
+  pub not_higher : IsTakenUpTo log (world.served.last client)
   -- where a version is that of the client's tree after the last taken entry, the node is, too; no version is lower
   pub behind : IsBehind (tree_at (world.served.last client) log) world.served.volume
   pub fitting : (message : Message) → IsIn message world.packets → client_of message ≡ client → IsFitting log (world.served.last client) world.served.volume message
@@ -56,9 +61,14 @@ pub record InStep (client : ℕ) (log : Log) (world : World) : Type 0 where
 
 -- The client ships its first pending entry, or pulls where nothing is pending.
 abbrev pub MaySend : ℕ → Log → Message → Type 0
-MaySend client log (Store of number effects base) = (of ≡ client) × (number ≡ log.acked + 1) × IsOfFirst log.pending effects base
+MaySend client log (Store of number effects base) = (of ≡ client) × (number ≡ log.acked + 1) × IsPendingAt log number effects base
 MaySend client log (Pull of number) = (of ≡ client) × (number ≡ log.acked) × (log.pending ≡ [])
 MaySend client log _ = ⊥
+
+-- the reply accepts the client's entry of this number
+abbrev pub IsAcceptance : ℕ → ℕ → Message → Type 0
+IsAcceptance client number (Accepted of accepted) = (of ≡ client) × (accepted ≡ number)
+IsAcceptance client number _ = ⊥
 
 -- the reply refuses the client's entry of this number
 abbrev pub IsRefusal : ℕ → ℕ → Message → Type 0

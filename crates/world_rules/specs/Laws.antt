@@ -1,16 +1,18 @@
 -- What holds of every run of a client in its world.
 use Rattle.std.specs.Prelude.{◌≡◌, ◌≢◌, ℕ, ◌+◌, ◌-◌, ◌<◌, ◌≤◌, List, [], ◌++◌, drop}
 use Rattle.file_paths.specs.Path.{FilePath}
-use Rattle.vol_tree.specs.Tree.{Volume, version_at}
-use Rattle.vol_tree.specs.Behind.{IsIn, IsAhead}
+use Rattle.tree_values.specs.Tree.{Volume, version_at}
+use Rattle.tree_values.specs.Lists.{IsIn}
+use Rattle.vol_tree.specs.Behind.{IsAhead}
 use Rattle.mod_log.specs.declared.log.Entry.{Entry}
-use Rattle.mod_log.specs.Log.{Log, tree_at, new_log}
+use Rattle.mod_log.specs.Log.{Log, tree_at, IsLog, new_log}
 use Rattle.wire_frames.specs.declared.message.Message.{Message}
-use Rattle.wire_frames.specs.declared.message.Message.TheVariants.{Pull, Accepted, Stale, Gap, Snapshot}
+use Rattle.wire_frames.specs.declared.message.Message.TheVariants.{Store, Pull, Accepted, Stale, Gap, Snapshot}
 use Rattle.wire_frames.specs.Frame.{client_of, IsValid}
 use Rattle.world_rules.specs.declared.asking.Ask.{Ask}
 use Rattle.world_rules.specs.Served.{IsServed}
 use Rattle.world_rules.specs.World.{World, Step, happen, IsReplayed, GoesOnAlone, Moved, IsFresh}
+use Rattle.world_rules.specs.Asking.{AnswersStand}
 use Rattle.world_rules.specs.InStep.{InStep, MaySend, IsRefusal}
 use Rattle.world_rules.specs.Run.{State, kept_at, restarted, AreInStep, Runs, taken_in, own, stores_between, Spares, IsSameAt}
 
@@ -30,10 +32,15 @@ NewClientsAreInStep = (client : ℕ) (world : World) → world.client ≡ client
     → ((message : Message) → IsIn message world.packets → (client_of message ≢ client) × IsValid message)
     → InStep client new_log world
 
--- While a request is asked that the kept log may send, the world goes on by possible moves, in which the asks are noted.
+-- While a request is asked that the kept log may send, and what is answered stands, the world goes on by possible moves, in which the
+-- asks are noted.
 abbrev pub AsksArePossible : Type 0
-AsksArePossible = (client : ℕ) (log : Log) (request : Message) (made : List Ask) (old new : World) → MaySend client log request → Moved request made old new
+AsksArePossible = (client : ℕ) (log : Log) (request : Message) (made : List Ask) (old new : World) → MaySend client log request → Moved request made old new → AnswersStand new made
     → Runs client [] made (kept_at log old) (kept_at log new)
+
+-- The store of each pending entry is a valid message.
+abbrev pub PendingStoresAreValid : Type 0
+PendingStoresAreValid = (client : ℕ) → 1 ≤ client → client ≤ 64 → (log : Log) (entry : Entry) → IsLog log → IsIn entry log.pending → IsValid (Store client entry.seq entry.effects entry.base)
 
 -- ---- runs one after the other
 
@@ -106,11 +113,22 @@ LoneClientsTreeIsKept = (client : ℕ) (entries : List Entry) (made : List Ask) 
     → old.world.served.volume ≡ tree_at (old.world.served.last client) old.log
     → new.world.served.volume ≡ tree_at (new.world.served.last client) new.kept
 
+-- And in such a run none of its entries is refused that was not acknowledged when the run began.
+abbrev pub LoneClientsAreNotRefused : Type 0
+LoneClientsAreNotRefused = (client : ℕ) (entries : List Entry) (made : List Ask) (old new : State) → InStep client old.log old.world → (runs : Runs client entries made old new)
+    → ((message : Message) → IsIn message (taken_in runs.moves old) → client_of message ≡ client)
+    → old.world.served.volume ≡ tree_at (old.world.served.last client) old.log
+    → (number : ℕ) (reply : Message) → IsRefusal client number reply → IsIn reply new.world.packets → number ≤ old.log.acked
+
 -- ---- what a world tells
 
--- The served state is the opening one after the taken stores.
+-- Whatever happens, the served state is the opening one after the taken stores.
 abbrev pub ServedIsReplayed : Type 0
 ServedIsReplayed = (steps : List Step) (world : World) → IsReplayed world → IsReplayed (happen steps world)
+
+-- And so it is after each run.
+abbrev pub RunsServeWhatIsTaken : Type 0
+RunsServeWhatIsTaken = (client : ℕ) (entries : List Entry) (made : List Ask) (old new : State) → Runs client entries made old new → IsReplayed old.world → IsReplayed new.world
 
 -- What a world took in a run is what it had taken before, and what is taken in the run.
 abbrev pub RunsTellWhatIsTaken : Type 0
@@ -125,6 +143,10 @@ RunsTellWhatIsAsked = (client : ℕ) (entries : List Entry) (made : List Ask) (o
 abbrev pub PacketsStay : Type 0
 PacketsStay = (client : ℕ) (entries : List Entry) (made : List Ask) (old new : State) (message : Message) → Runs client entries made old new
     → IsIn message old.world.packets → IsIn message new.world.packets
+
+-- What was answered in a run was sent, and echoes its request.
+abbrev pub RunsAnswersStand : Type 0
+RunsAnswersStand = (client : ℕ) (entries : List Entry) (made : List Ask) (old new : State) → Runs client entries made old new → AnswersStand new.world made
 
 -- ---- what replies tell
 

@@ -1,18 +1,19 @@
 -- A client and the world as both go on: what the network does, what the client does to its log, and what is kept of it.
 use Rattle.std.specs.Prelude.{◌≡◌, ◌≢◌, ℕ, ◌+◌, ◌-◌, ◌==◌, ◌≤◌, List, [], ◌∷◌, ◌++◌, take, drop, filter}
 use Rattle.file_paths.specs.Path.{FilePath}
-use Rattle.vol_tree.specs.Effects.{touched_all}
-use Rattle.vol_tree.specs.Tree.{Volume, version_at, node_at}
-use Rattle.vol_tree.specs.Behind.{IsIn}
+use Rattle.tree_values.specs.Effects.{touched_all}
+use Rattle.tree_values.specs.Tree.{Volume, version_at, node_at}
+use Rattle.tree_values.specs.Lists.{IsIn}
 use Rattle.mod_log.specs.declared.log.Entry.{Entry}
 use Rattle.mod_log.specs.Log.{Log, tree_at, IsLog, logged, acknowledged, pulled}
 use Rattle.wire_frames.specs.declared.message.Message.{Message}
-use Rattle.wire_frames.specs.declared.message.Message.TheVariants.{Store, Accepted, Snapshot}
+use Rattle.wire_frames.specs.declared.message.Message.TheVariants.{Store, Snapshot}
 use Rattle.wire_frames.specs.Frame.{client_of}
 use Rattle.world_rules.specs.Served.{Served, taken_of}
 use Rattle.world_rules.specs.World.{World, Step, Deliver, happens, noted, IsAllowed}
 use Rattle.world_rules.specs.declared.asking.Ask.{Ask}
-use Rattle.world_rules.specs.InStep.{InStep, MaySend}
+use Rattle.world_rules.specs.Asking.{AnswerStands}
+use Rattle.world_rules.specs.InStep.{InStep, MaySend, IsAcceptance}
 
 -- the client's log in memory, the log that is kept of it outside memory, and the world
 pub record State : Type 0 where
@@ -57,14 +58,14 @@ moved Saves state = kept_at state.log state.world
 abbrev pub MaySendKept : ℕ → State → Message → Type 0
 MaySendKept client state message = MaySend client state.log message × (state.kept ≡ state.log)
 
--- The client sends what its kept log may send, logs an entry with which it has a log, acknowledges on a reply that was sent, and
--- pulls a snapshot that was sent, has its acknowledged number as the last and is at no path older than its base. It may be kept
--- at any time.
+-- The client sends what its kept log may send, logs an entry with which it has a log, acknowledges on a reply that was sent and accepts
+-- its first pending entry, and pulls a snapshot that was sent, has its acknowledged number as the last and is at no path older than
+-- its base. What was answered stands. It may be kept at any time.
 abbrev pub IsPossible : ℕ → State → Move → Type 0
 IsPossible client state (Network step) = IsAllowed (MaySendKept client state) state.world step
-IsPossible client state (Notes ask) = Unit {0}
+IsPossible client state (Notes ask) = AnswerStands state.world ask
 IsPossible client state (Logs entry) = IsLog (logged entry state.log)
-IsPossible client state (Acknowledges reply) = (state.log.pending ≢ []) × (reply ≡ Accepted client (state.log.acked + 1)) × IsIn reply state.world.packets
+IsPossible client state (Acknowledges reply) = (state.log.pending ≢ []) × IsAcceptance client (state.log.acked + 1) reply × IsIn reply state.world.packets
 IsPossible client state (Pulls last seen) =
     (state.log.pending ≡ []) × (last ≡ state.log.acked) × IsIn (Snapshot client state.log.acked last seen) state.world.packets
     × ((path : FilePath) → version_at state.log.base path ≤ version_at seen path)

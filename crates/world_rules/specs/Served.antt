@@ -1,11 +1,11 @@
 -- What a server holds, what it answers to a message, and what it holds then.
 use Rattle.std.specs.Prelude.{◌≡◌, ℕ, ◌+◌, ◌<◌, ◌^◌, Bool, true, false, ◌==◌, List, [], ◌∷◌, Option, Some, None, Result, Ok, Err, nat_lt, nat_le, if◌then◌else◌}
-use Rattle.vol_tree.specs.Effects.{apply_all, Conflict, first_conflict}
-use Rattle.vol_tree.specs.Tree.{Volume, IsTree}
-use Rattle.vol_tree.specs.declared.node.Effect.{Effect}
-use Rattle.vol_tree.specs.declared.node.Base.{Base}
-use Rattle.vol_tree.specs.declared.node.TreeError.{TreeError}
-use Rattle.vol_tree.specs.declared.node.TreeError.TheVariants.{RowsFull, TreeFull}
+use Rattle.tree_values.specs.Effects.{apply_all, Conflict, first_conflict}
+use Rattle.tree_values.specs.Tree.{Volume, IsTree}
+use Rattle.tree_values.specs.declared.node.Effect.{Effect}
+use Rattle.tree_values.specs.declared.node.Base.{Base}
+use Rattle.tree_values.specs.declared.node.TreeError.{TreeError}
+use Rattle.tree_values.specs.declared.node.TreeError.TheVariants.{RowsFull, TreeFull}
 use Rattle.wire_frames.specs.declared.message.Message.{Message}
 use Rattle.wire_frames.specs.declared.message.Message.TheVariants.{Store, Pull, Accepted, Stale, Unfit, Gap, Snapshot, Full, Malformed}
 

@@ -1,7 +1,7 @@
 -- The world about one client: what the server holds, every message that was ever sent, and what the client asked.
 -- A message that is lost is one that is never delivered, or whose answer does not join the packets.
 use Rattle.std.specs.Prelude.{◌≡◌, ◌≢◌, ℕ, Bool, List, [], ◌∷◌, ◌++◌, if◌then◌else◌}
-use Rattle.vol_tree.specs.Behind.{IsIn}
+use Rattle.tree_values.specs.Lists.{IsIn}
 use Rattle.wire_frames.specs.declared.message.Message.{Message}
 use Rattle.wire_frames.specs.declared.message.Message.TheVariants.{Store, Pull}
 use Rattle.wire_frames.specs.Frame.{client_of, IsValid}

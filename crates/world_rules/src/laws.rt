@@ -1,13 +1,14 @@
 // What holds of every run of a client in its world, as contracts of calls that do nothing.
-ghost use Rattle.world_rules.specs.Laws.{RunsStayInStep, RestartsStayInStep, NewClientsAreInStep, AsksArePossible, RunsJoin, RestartsEndRuns, SilentClientsRun, EntriesAreTakenOnce, LaterEntriesArePending, LoneClientsEntriesAreTaken, SparedPathsAreTheClients, SparedPathsAreKept, LoneClientsAreServedTheirTree, LoneClientsTreeIsKept, ServedIsReplayed, RunsTellWhatIsTaken, RunsTellWhatIsAsked, PacketsStay, AcceptedEntriesWereTaken, NoGapComes, StaleNamesAPathAhead, RefusalsShowAPathAhead, PullsFindTheirNumber, FreshPullsAreNotOlder};
+ghost use Rattle.world_rules.specs.Laws.{RunsStayInStep, RestartsStayInStep, NewClientsAreInStep, AsksArePossible, PendingStoresAreValid, RunsJoin, RestartsEndRuns, SilentClientsRun, EntriesAreTakenOnce, LaterEntriesArePending, LoneClientsEntriesAreTaken, SparedPathsAreTheClients, SparedPathsAreKept, LoneClientsAreServedTheirTree, LoneClientsTreeIsKept, LoneClientsAreNotRefused, ServedIsReplayed, RunsServeWhatIsTaken, RunsAnswersStand, RunsTellWhatIsTaken, RunsTellWhatIsAsked, PacketsStay, AcceptedEntriesWereTaken, NoGapComes, StaleNamesAPathAhead, RefusalsShowAPathAhead, PullsFindTheirNumber, FreshPullsAreNotOlder};
 
 /// Every run from a log in step ends in step, with what is kept of the log, and so does a new beginning with that. A
-/// new client begins in step, and asking is a run.
+/// new client begins in step, asking is a run, and each pending entry can be sent.
 pub fn runs_stay_in_step()
     ensures runs { RunsStayInStep }
     ensures restarts { RestartsStayInStep }
     ensures beginning { NewClientsAreInStep }
     ensures asking { AsksArePossible }
+    ensures stores { PendingStoresAreValid }
 {}
 
 /// Runs one after the other are a run, also where the client begins anew with what is kept, and where others went on without it
@@ -26,17 +27,21 @@ pub fn entries_are_taken_once()
     ensures alone { LoneClientsEntriesAreTaken }
 {}
 
-/// Where no other client writes, the server has what the client's tree had, and what the kept tree has.
+/// Where no other client writes, the server has what the client's tree had, and what the kept tree has, and it refuses
+/// nothing.
 pub fn unshared_paths_are_the_clients()
     ensures spared { SparedPathsAreTheClients }
     ensures spared_kept { SparedPathsAreKept }
     ensures alone { LoneClientsAreServedTheirTree }
     ensures alone_kept { LoneClientsTreeIsKept }
+    ensures unrefused { LoneClientsAreNotRefused }
 {}
 
-/// A world tells what was taken, asked and sent in a run, and what is served follows from it.
+/// A world tells what was taken, asked and sent in a run, and what is served follows from it. What was answered stands.
 pub fn worlds_tell_what_happened()
     ensures served { ServedIsReplayed }
+    ensures served_after { RunsServeWhatIsTaken }
+    ensures answered { RunsAnswersStand }
     ensures taken { RunsTellWhatIsTaken }
     ensures asked { RunsTellWhatIsAsked }
     ensures sent { PacketsStay }

@@ -5,6 +5,7 @@
 mod asking;
 mod laws;
 mod link;
+mod settling;
 
 pub use asking::{Answer, Ask, Peer};
 pub use laws::{
@@ -12,6 +13,7 @@ pub use laws::{
     unshared_paths_are_the_clients, worlds_tell_what_happened,
 };
 pub use link::{AskError, Link, LinkError, ask_eight};
+pub use settling::settle;
 
 #[cfg(test)]
 mod tests;

@@ -1,12 +1,15 @@
 // The way to a peer, and up to eight asks over it.
-ghost use Rattle.std.specs.Prelude.{◌≡◌, ℕ, ◌≤◌, Option, IfOk, IsErrOf};
-ghost use Rattle.outside.specs.Outside.{Told, RoseBy, Rose, HasCause};
+ghost use Rattle.std.specs.Prelude.{◌≡◌, ◌≤◌, Option, Result, IfOk};
+ghost use Rattle.std.specs.declared.alloc.AllocError.{AllocError};
+ghost use Rattle.outside.specs.Outside.{HasCause};
 ghost use Rattle.wire_frames.specs.declared.message.Message.{Message};
 ghost use Rattle.wire_frames.specs.Frame.{Spells};
-ghost use Rattle.world_rules.specs.World.{World};
-ghost use Rattle.world_rules.specs.Asking.{IsRequest, IsReplyTo, AsksOnce, IsDirect, Settles};
+ghost use Rattle.world_rules.specs.Telling.{LinkTelling, ToldWorlds, IsCalm};
+ghost use Rattle.world_rules.specs.Asking.{IsRequest, IsReplyTo, AsksOnce, IsDirect};
+ghost use Rattle.world_rules.specs.Settling.{Settled, IsReadAs};
 
 use crate::Peer;
+use std::alloc::AllocError;
 use thiserror::Error;
 
 /// Why an ask has no answer.
@@ -17,6 +20,16 @@ pub enum LinkError {
     Failed,
     #[error("out of memory")]
     Memory,
+}
+
+impl From<AllocError> for LinkError {
+    ghost use Rattle.world_rules.specs.declared.link.LinkError.TheVariants.{Memory};
+
+    ghost from_gives = { λ _ e. e ≡ Memory };
+
+    fn from(_: AllocError) -> Self {
+        LinkError::Memory
+    }
 }
 
 /// Why a request is unanswered after up to eight asks.
@@ -31,11 +44,8 @@ pub enum AskError {
 
 /// The way to the peers. It may lose, repeat and reorder messages, and others may use it, too.
 pub trait Link {
-    /// The world about one client, where the link tells it.
-    ghost world: { Self → Option World };
-
-    /// How often the link had trouble. The count stands still at the end of its type.
-    ghost troubles: { Self → ℕ };
+    /// What the link tells of itself.
+    ghost tells: { Self → LinkTelling };
 
     /// Asks a peer once: sends the frame of a request to an address, and gives the frame of a reply to it. `Failed` comes
     /// only where the link had trouble in this call; after `Memory` the request may have been sent or not.
@@ -44,18 +54,21 @@ pub trait Link {
         ensures reply { (request : Message) → Spells request frame.now
             → IfOk result (λ bytes. IsReplyTo request bytes.items) }
         ensures world { (request : Message) → Spells request frame.now
-            → Told (world self.old) (world self.new)
+            → ToldWorlds (tells self.old) (tells self.new)
             (λ old new. AsksOnce to address.now request old new result) }
         // without trouble the reply is the server's answer at a moment of this call
         ensures direct { (request : Message) → Spells request frame.now → to ≡ Peer.Server
-            → (Rose (troubles self.old) (troubles self.new) → ⊥)
-            → Told (world self.old) (world self.new)
+            → IsCalm (tells self.old) (tells self.new)
+            → ToldWorlds (tells self.old) (tells self.new)
             (λ old new. IsDirect to address.now request old new result) }
-        ensures cause { HasCause LinkError.Failed (troubles self.old) (troubles self.new) result };
+        ensures cause { HasCause LinkError.Failed (tells self.old).troubles (tells self.new).troubles result };
 }
 
-/// Asks a peer up to eight times, until an ask does not fail, and gives the frame of a reply to the request. `Troubles`
-/// comes only where the link had trouble eight times at least; `Memory` ends the asking.
+/// Asks a peer up to eight times, until an ask does not fail, and gives the frame of a reply to the request.
+///
+/// # Errors
+///
+/// `Troubles` after eight asks that failed; `Memory` ends the asking.
 pub fn ask_eight<L: Link>(
     link: &mut L,
     to: Peer,
@@ -63,18 +76,14 @@ pub fn ask_eight<L: Link>(
     frame: &[u8],
 ) -> Result<Vec<u8>, AskError>
     requires { (request : Message) × Spells request frame.now × IsRequest to request }
-    ensures reply { (request : Message) → Spells request frame.now
-        → IfOk result (λ bytes. IsReplyTo request bytes.items) }
-    ensures world { (request : Message) → Spells request frame.now
-        → Told (L.world link.old) (L.world link.new)
-        (λ old new. Settles to address.now request (L.troubles link.old) (L.troubles link.new) old new result) }
+    ensures settled { (request : Message) → Spells request frame.now → (came : Result (Option Message) AllocError)
+        × IsReadAs result came × Settled to address.now request (L.tells link.old) (L.tells link.new) came }
     // without trouble there was one ask, and its reply is the server's answer at a moment of this call
     ensures direct { (request : Message) → Spells request frame.now → to ≡ Peer.Server
-        → (Rose (L.troubles link.old) (L.troubles link.new) → ⊥)
-        → Told (L.world link.old) (L.world link.new)
+        → IsCalm (L.tells link.old) (L.tells link.new)
+        → ToldWorlds (L.tells link.old) (L.tells link.new)
         (λ old new. IsDirect to address.now request old new result) }
-    ensures later { L.troubles link.old ≤ L.troubles link.new }
-    ensures cause { IsErrOf result AskError.Troubles → RoseBy 8 (L.troubles link.old) (L.troubles link.new) }
+    ensures later { (L.tells link.old).troubles ≤ (L.tells link.new).troubles }
 {
     for _tried in 0..8_usize {
         match link.ask(to, address, frame) {

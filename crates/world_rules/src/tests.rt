@@ -12,9 +12,7 @@ struct Dead {
 }
 
 impl Link for Dead {
-    ghost world = { λ link. None };
-
-    ghost troubles = { λ link. link.troubles };
+    ghost tells = { λ link. record { world = None; troubles = link.troubles } };
 
     fn ask(&mut self, _to: Peer, _address: &[u8], _frame: &[u8]) -> Result<Vec<u8>, LinkError> {
         self.asks = self.asks.saturating_add(1);

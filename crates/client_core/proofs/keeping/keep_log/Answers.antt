@@ -1,6 +1,7 @@
-use Rattle.std.proofs.Common.{sym, subst}
+use Rattle.std.proofs.Common.{refl, sym, subst}
 use Rattle.store_image.specs.Image.{IsKeptFor}
 use Rattle.outside.specs.declared.errors.KeepError.TheVariants.{Memory}
+use Rattle.client_core.proofs.Counting.{unrisen}
 use Rattle.client_core.proofs.Putting.{saved_keeps, unsaved_keeps}
 use Rattle.client_core.proofs.keeping.keep_log.Goals as goal
 
@@ -11,3 +12,7 @@ pub returns-clause-kept : goal.returns-clause-kept
 returns-clause-kept g c =
     saved_keeps c.args.name.now c.args.client c.args.log.now c.deref.result.now c.save.result (g.K.Keeper.images c.args.keeper.now) (g.K.Keeper.images c.save.new.self)
     (subst (IsKeptFor c.args.client c.args.log.now) (sym c.deref.ensures.value) c.in-Ok.ensures.kept) c.save.ensures.images
+
+pub returns-in-Err-clause-cause : goal.returns-in-Err-clause-cause
+returns-in-Err-clause-cause g c =
+    unrisen _ (g.K.Keeper.faults c.args.keeper.now) (g.K.Keeper.faults c.args.keeper.now) (λ is. absurd (cc)) refl

@@ -1,5 +1,5 @@
 use Rattle.std.proofs.Common.{◌≡◌, ◌∙◌, Some, None, sym, ap, subst}
-use Rattle.vol_tree.specs.Tree.{Volume, IsTree}
+use Rattle.tree_values.specs.Tree.{Volume, IsTree}
 use Rattle.client_core.specs.Inside.{first_lower}
 use Rattle.client_core.proofs.Pulls.{meets_older, meets_newer}
 use Rattle.client_core.proofs.pulling.take_tree.Goals as goal

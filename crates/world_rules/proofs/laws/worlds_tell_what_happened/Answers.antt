@@ -1,9 +1,15 @@
-use Rattle.world_rules.proofs.Replay.{steps_replayed}
-use Rattle.world_rules.proofs.Runs.{run_taken, run_asked, run_packets}
+use Rattle.world_rules.proofs.Replay.{steps_replayed, run_replayed}
+use Rattle.world_rules.proofs.Runs.{run_taken, run_asked, run_packets, run_answers}
 use Rattle.world_rules.proofs.laws.worlds_tell_what_happened.Goals as goal
 
 pub returns-clause-served : goal.returns-clause-served
 returns-clause-served c = steps_replayed
+
+pub returns-clause-served_after : goal.returns-clause-served_after
+returns-clause-served_after c = run_replayed
+
+pub returns-clause-answered : goal.returns-clause-answered
+returns-clause-answered c = run_answers
 
 pub returns-clause-taken : goal.returns-clause-taken
 returns-clause-taken c = run_taken

@@ -1,19 +1,179 @@
-use Rattle.std.proofs.Common.{subst}
-use Rattle.outside.specs.Outside.{Told}
-use Rattle.mod_log.specs.Log.{Log}
+use Rattle.std.proofs.Common.{◌≡◌, ℕ, List, refl, sym, subst}
+use Rattle.outside.specs.Outside.{Told, RisesWhere}
+use Rattle.world_rules.specs.Telling.{LinkTelling}
 use Rattle.client_core.specs.Client.{Client}
-use Rattle.client_core.specs.Pulling.{PullEnds}
-use Rattle.client_core.specs.Goes.{Goes}
+use Rattle.client_core.specs.declared.pulling.PullEnd.{PullEnd}
+use Rattle.client_core.specs.declared.pulling.PullEnd.TheVariants.{KeepFault}
+use Rattle.client_core.specs.Inside.{PullLeaves}
+use Rattle.client_core.specs.Pulling.{PullEnds, pulled_end}
+use Rattle.client_core.specs.Keeping.{IsKept, KeepsLog}
+use Rattle.client_core.specs.Causes.{HasPullCause, PullKeeps}
+use Rattle.client_core.specs.Goes.{Went}
+use Rattle.client_core.specs.Honest.{FromInStep, IsNotOlder}
+use Rattle.client_core.proofs.Counting.{rose_once, unrisen, pulled_rises}
+use Rattle.client_core.proofs.Pulls.{pulled_went, unpulled_went, pull_keeps, pull_keeps_same, pulled_cause, older_never, unpulled}
+use Rattle.client_core.proofs.Truths.{pull_not_other}
 use Rattle.client_core.proofs.client.Client.pull.Goals as goal
+
+-- ---- rows were taken
 
 pub returns-clause-world : goal.returns-clause-world
 returns-clause-world g c =
+    let client = c.self.inside.number in
     let route = c.args.route.now in
-    let end = c.pull_and_keep.result in
-    let after = c.pull_and_keep.new.log in
+    let before = c.self.inside.log in
+    let after = c.pull_log.new.log in
     let i = g.K.Keeper.images c.args.keeper.now in
-    let j = g.K.Keeper.images c.pull_and_keep.new.keeper in
-    let t = g.L.Link.troubles c.args.link.now in
-    let u = g.L.Link.troubles c.pull_and_keep.new.link in
-    subst (λ (self : Client). Told (g.L.Link.world c.args.link.now) (g.L.Link.world c.pull_and_keep.new.link)
-    (λ x y. (kept : Log) × Goes self.number route.image (PullEnds self.number route self.log end after kept) self.log after kept i j t u x y)) c.self.view_is c.pull_and_keep.ensures.world
+    let t : LinkTelling = g.L.Link.tells c.args.link.now in
+    let u : LinkTelling = g.L.Link.tells c.pull_log.new.link in
+    let keeps : IsKept i route.image client before = subst (λ (self : Client). IsKept i route.image self.number self.log) (sym c.self.view_is) c.requires in
+    let count = c.in-Pulled.count in
+    let r = c.keep_log-kept.result in
+    let end = c.pulled_end.result in
+    let l = g.K.Keeper.images c.keep_log-kept.new.keeper in
+    let save : Told i l (KeepsLog route.image client after r) = subst (λ (n : List ℕ). Told i l (KeepsLog n client after r)) c.bytes.ensures.value c.keep_log-kept.ensures.kept in
+    subst (λ (self : Client). Went self.number route.image (PullEnds self.number route self.log end after) self.log after i l t u) c.self.view_is
+    (subst (λ (e : PullEnd). Went client route.image (PullEnds client route before e after) before after i l t u) (sym c.pulled_end.ensures)
+    (pulled_went client route before after i l t u count r save (c.in-Pulled.ensures.world i keeps)))
+
+pub returns-clause-cause : goal.returns-clause-cause
+returns-clause-cause g c =
+    let client = c.self.inside.number in
+    let route = c.args.route.now in
+    let before = c.self.inside.log in
+    let after = c.pull_log.new.log in
+    let i = g.K.Keeper.images c.args.keeper.now in
+    let t : LinkTelling = g.L.Link.tells c.args.link.now in
+    let u : LinkTelling = g.L.Link.tells c.pull_log.new.link in
+    let count = c.in-Pulled.count in
+    let r = c.keep_log-kept.result in
+    let end = c.pulled_end.result in
+    let l = g.K.Keeper.images c.keep_log-kept.new.keeper in
+    let p = g.K.Keeper.faults c.args.keeper.now in
+    let q = g.K.Keeper.faults c.keep_log-kept.new.keeper in
+    subst (λ (self : Client). HasPullCause end self.log after t.troubles u.troubles p q) c.self.view_is
+    (subst (λ (e : PullEnd). HasPullCause e before after t.troubles u.troubles p q) (sym c.pulled_end.ensures)
+    (pulled_cause before after t.troubles u.troubles p q count r (c.in-Pulled.ensures.cause p q) c.in-Pulled.ensures.leaves.1 (λ is. rose_once p q (c.keep_log-kept.ensures.cause.once is))))
+
+pub returns-clause-keeps : goal.returns-clause-keeps
+returns-clause-keeps g c =
+    let client = c.self.inside.number in
+    let route = c.args.route.now in
+    let before = c.self.inside.log in
+    let after = c.pull_log.new.log in
+    let i = g.K.Keeper.images c.args.keeper.now in
+    let t : LinkTelling = g.L.Link.tells c.args.link.now in
+    let u : LinkTelling = g.L.Link.tells c.pull_log.new.link in
+    let keeps : IsKept i route.image client before = subst (λ (self : Client). IsKept i route.image self.number self.log) (sym c.self.view_is) c.requires in
+    let count = c.in-Pulled.count in
+    let r = c.keep_log-kept.result in
+    let end = c.pulled_end.result in
+    let l = g.K.Keeper.images c.keep_log-kept.new.keeper in
+    let save : Told i l (KeepsLog route.image client after r) = subst (λ (n : List ℕ). Told i l (KeepsLog n client after r)) c.bytes.ensures.value c.keep_log-kept.ensures.kept in
+    subst (λ (self : Client). PullKeeps route.image self.number self.log end after i l) c.self.view_is
+    (subst (λ (e : PullEnd). PullKeeps route.image client before e after i l) (sym c.pulled_end.ensures)
+    (pull_keeps route.image client before after i l keeps count r c.in-Pulled.ensures.leaves.1 save))
+
+pub returns-clause-honest : goal.returns-clause-honest
+returns-clause-honest g c =
+    let route = c.args.route.now in
+    let after = c.pull_log.new.log in
+    let i = g.K.Keeper.images c.args.keeper.now in
+    let t : LinkTelling = g.L.Link.tells c.args.link.now in
+    let u : LinkTelling = g.L.Link.tells c.pull_log.new.link in
+    let count = c.in-Pulled.count in
+    let r = c.keep_log-kept.result in
+    let end = c.pulled_end.result in
+    let l = g.K.Keeper.images c.keep_log-kept.new.keeper in
+    pull_not_other c.args.self.now.number route c.args.self.now.log after route.image end i l t u (returns-clause-world g c)
+
+pub returns-clause-fresh : goal.returns-clause-fresh
+returns-clause-fresh g c = λ calm.
+    let client = c.self.inside.number in
+    let route = c.args.route.now in
+    let before = c.self.inside.log in
+    let after = c.pull_log.new.log in
+    let i = g.K.Keeper.images c.args.keeper.now in
+    let t : LinkTelling = g.L.Link.tells c.args.link.now in
+    let u : LinkTelling = g.L.Link.tells c.pull_log.new.link in
+    let count = c.in-Pulled.count in
+    let r = c.keep_log-kept.result in
+    let end = c.pulled_end.result in
+    let l = g.K.Keeper.images c.keep_log-kept.new.keeper in
+    subst (λ (self : Client). FromInStep self.number self.log t u (λ new. IsNotOlder end)) c.self.view_is
+    (older_never client before t.world u.world _ count r end c.pulled_end.ensures (c.in-Pulled.ensures.fresh calm))
+
+-- ---- nothing was changed
+
+pub returns-in_default-clause-world : goal.returns-in_default-clause-world
+returns-in_default-clause-world g c =
+    let client = c.self.inside.number in
+    let route = c.args.route.now in
+    let before = c.self.inside.log in
+    let after = c.pull_log.new.log in
+    let i = g.K.Keeper.images c.args.keeper.now in
+    let t : LinkTelling = g.L.Link.tells c.args.link.now in
+    let u : LinkTelling = g.L.Link.tells c.pull_log.new.link in
+    let keeps : IsKept i route.image client before = subst (λ (self : Client). IsKept i route.image self.number self.log) (sym c.self.view_is) c.requires in
+    let end = c.pull_log.result in
+    subst (λ (self : Client). Went self.number route.image (PullEnds self.number route self.log end after) self.log after i i t u) c.self.view_is
+    (unpulled_went client route before after i t u end (unpulled end c.in_default.not-Pulled) c.pull_log.ensures.leaves (c.pull_log.ensures.world i keeps))
+
+pub returns-in_default-clause-cause : goal.returns-in_default-clause-cause
+returns-in_default-clause-cause g c =
+    let client = c.self.inside.number in
+    let route = c.args.route.now in
+    let before = c.self.inside.log in
+    let after = c.pull_log.new.log in
+    let i = g.K.Keeper.images c.args.keeper.now in
+    let t : LinkTelling = g.L.Link.tells c.args.link.now in
+    let u : LinkTelling = g.L.Link.tells c.pull_log.new.link in
+    let p = g.K.Keeper.faults c.args.keeper.now in
+    subst (λ (self : Client). HasPullCause c.pull_log.result self.log after t.troubles u.troubles p p) c.self.view_is (c.pull_log.ensures.cause p p)
+
+pub returns-in_default-clause-keeps : goal.returns-in_default-clause-keeps
+returns-in_default-clause-keeps g c =
+    let client = c.self.inside.number in
+    let route = c.args.route.now in
+    let before = c.self.inside.log in
+    let after = c.pull_log.new.log in
+    let i = g.K.Keeper.images c.args.keeper.now in
+    let t : LinkTelling = g.L.Link.tells c.args.link.now in
+    let u : LinkTelling = g.L.Link.tells c.pull_log.new.link in
+    let keeps : IsKept i route.image client before = subst (λ (self : Client). IsKept i route.image self.number self.log) (sym c.self.view_is) c.requires in
+    let end = c.pull_log.result in
+    subst (λ (self : Client). PullKeeps route.image self.number self.log end after i i) c.self.view_is
+    (pull_keeps_same route.image client before after i i keeps end (unpulled end c.in_default.not-Pulled) c.pull_log.ensures.leaves)
+
+pub returns-in_default-clause-honest : goal.returns-in_default-clause-honest
+returns-in_default-clause-honest g c =
+    let route = c.args.route.now in
+    let after = c.pull_log.new.log in
+    let i = g.K.Keeper.images c.args.keeper.now in
+    let t : LinkTelling = g.L.Link.tells c.args.link.now in
+    let u : LinkTelling = g.L.Link.tells c.pull_log.new.link in
+    pull_not_other c.args.self.now.number route c.args.self.now.log after route.image c.pull_log.result i i t u (returns-in_default-clause-world g c)
+
+pub returns-in_default-clause-fresh : goal.returns-in_default-clause-fresh
+returns-in_default-clause-fresh g c = λ calm.
+    let client = c.self.inside.number in
+    let route = c.args.route.now in
+    let before = c.self.inside.log in
+    let after = c.pull_log.new.log in
+    let i = g.K.Keeper.images c.args.keeper.now in
+    let t : LinkTelling = g.L.Link.tells c.args.link.now in
+    let u : LinkTelling = g.L.Link.tells c.pull_log.new.link in
+    subst (λ (self : Client). FromInStep self.number self.log t u (λ new. IsNotOlder c.pull_log.result)) c.self.view_is (c.pull_log.ensures.fresh calm)
+
+-- ---- how often the keeper failed
+
+pub returns-clause-faults : goal.returns-clause-faults
+returns-clause-faults g c =
+    let p = g.K.Keeper.faults c.args.keeper.now in
+    let q = g.K.Keeper.faults c.keep_log-kept.new.keeper in
+    subst (λ (e : PullEnd). RisesWhere (e ≡ KeepFault) p q) (sym c.pulled_end.ensures) (pulled_rises c.in-Pulled.count c.keep_log-kept.result p q c.keep_log-kept.ensures.cause)
+
+pub returns-in_default-clause-faults : goal.returns-in_default-clause-faults
+returns-in_default-clause-faults g c =
+    let p = g.K.Keeper.faults c.args.keeper.now in
+    unrisen (c.pull_log.result ≡ KeepFault) p p (λ is. subst (λ (e : PullEnd). PullLeaves e c.self.inside.log c.pull_log.new.log) is c.pull_log.ensures.leaves) refl

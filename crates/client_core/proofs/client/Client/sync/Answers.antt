@@ -1,30 +1,559 @@
-use Rattle.std.proofs.Common.{subst}
-use Rattle.outside.specs.Outside.{Told}
-use Rattle.world_rules.specs.InStep.{InStep}
+use Rattle.std.proofs.Common.{◌≡◌, ◌∙◌, ◌+◌, ℕ, List, Ok, Err, Some, Option, refl, ap, sym, subst, arith}
+use Rattle.outside.specs.Outside.{Told, RisesWhere}
+use Rattle.outside.specs.declared.errors.KeepError.{KeepError}
+use Rattle.mod_log.specs.Log.{Log, acknowledged}
+use Rattle.wire_frames.specs.declared.message.Message.{Message}
+use Rattle.wire_frames.specs.declared.message.Message.TheVariants.{Accepted}
+use Rattle.world_rules.specs.declared.asking.Peer.TheVariants.{Server}
+use Rattle.world_rules.specs.Telling.{LinkTelling}
+use Rattle.world_rules.specs.Settling.{Settled}
+use Rattle.world_rules.proofs.Settled.{settled_echoes, settled_troubles}
 use Rattle.client_core.specs.Client.{Client}
-use Rattle.mod_log.specs.Log.{Log}
-use Rattle.client_core.specs.Syncing.{SyncEnds}
-use Rattle.client_core.specs.Goes.{Goes}
-use Rattle.client_core.specs.Honest.{IsComplete}
-use Rattle.client_core.proofs.Syncs.{settled_end}
+use Rattle.client_core.specs.declared.syncing.SyncEnd.{SyncEnd}
+use Rattle.client_core.specs.declared.syncing.SyncEnd.TheVariants.{Synced, KeepFault, Memory}
+use Rattle.client_core.specs.Causes.{HasSyncCause, SyncKeeps, AcknowledgesSome}
+use Rattle.client_core.specs.Syncing.{store_of, IsFirst, acknowledged_first, unkept_end, SyncEnds}
+use Rattle.client_core.specs.Keeping.{IsKept, KeepsLog}
+use Rattle.client_core.specs.Goes.{Went}
+use Rattle.client_core.proofs.Acknowledging.{some_none, some_more}
+use Rattle.client_core.proofs.Counting.{rose_once, unrisen, unkept_rises, end_by_reply}
+use Rattle.client_core.proofs.Firsts.{first_is, none_is, first_some, first_pending, first_number, store_valid, shorter}
+use Rattle.client_core.proofs.Syncs.{WentSoFar, KeepsAcked, unkept_cause, settled_end, acked_none, acked_more, keeps_none, keeps_now, keeps_more, keeps_cut, keeps_whole, sync_ends, sync_breaks, sync_unkept, sync_synced, goes_on, has_cause}
+use Rattle.client_core.proofs.Truths.{went_true, went_complete}
 use Rattle.client_core.proofs.client.Client.sync.Goals as goal
+
+pub loop-entry-init : goal.loop-entry-init
+loop-entry-init g c =
+    let client = c.self.inside.number in
+    let route = c.args.route.now in
+    let before = c.self.inside.log in
+    let i = g.K.Keeper.images c.args.keeper.now in
+    let keeps : IsKept i route.image client before = subst (λ (self : Client). IsKept i route.image self.number self.log) (sym c.self.view_is) c.requires in
+    record {
+      later = omega arith;
+      faults = refl;
+      number = refl;
+      some = some_none before;
+      keeps = keeps_none route.image client before i keeps;
+      world = acked_none client route before i (g.L.Link.tells c.args.link.now) keeps;
+    }
+
+pub settle_store-requires : goal.settle_store-requires
+settle_store-requires g c =
+    let client = c.self.inside.number in
+    let route = c.args.route.now in
+    let before = c.self.inside.log in
+    let mid = c.loop-entry.self-inside.log in
+    let i = g.K.Keeper.images c.args.keeper.now in
+    let j = g.K.Keeper.images c.loop-entry.keeper in
+    let t : LinkTelling = g.L.Link.tells c.args.link.now in
+    let u : LinkTelling = g.L.Link.tells c.loop-entry.link in
+    let entry = c.in-Some.entry.now in
+    let first : IsFirst entry mid.pending = first_is mid.pending entry c.in-Some.ensures.entry in
+    store_valid client mid entry c.self.invariant.0 c.self.invariant.1 c.in-Some.ensures.log first
+
+-- ---- memory was wanted in a settling
+
+pub returns-in-Err-clause-world : goal.returns-in-Err-clause-world
+returns-in-Err-clause-world g c =
+    let client = c.self.inside.number in
+    let route = c.args.route.now in
+    let before = c.self.inside.log in
+    let mid = c.loop-entry.self-inside.log in
+    let i = g.K.Keeper.images c.args.keeper.now in
+    let j = g.K.Keeper.images c.loop-entry.keeper in
+    let t : LinkTelling = g.L.Link.tells c.args.link.now in
+    let u : LinkTelling = g.L.Link.tells c.loop-entry.link in
+    let keeps : IsKept j route.image client mid = keeps_now route.image client before mid i j c.loop-entry.invariant.keeps in
+    let entry = c.in-Some.entry.now in
+    let first : IsFirst entry mid.pending = first_is mid.pending entry c.in-Some.ensures.entry in
+    let v : LinkTelling = g.L.Link.tells c.settle_store.new.link in
+    subst (λ (self : Client). Went self.number route.image (SyncEnds self.number route self.log Memory mid) self.log mid i j t v) c.self.view_is
+    (sync_breaks client route before mid entry c.in-Some.ensures.log first i j keeps t u v c.loop-entry.invariant.world c.in-Err._refused c.in-Err.ensures.settled)
+
+pub returns-in-Err-clause-keeps : goal.returns-in-Err-clause-keeps
+returns-in-Err-clause-keeps g c =
+    let client = c.self.inside.number in
+    let route = c.args.route.now in
+    let before = c.self.inside.log in
+    let mid = c.loop-entry.self-inside.log in
+    let i = g.K.Keeper.images c.args.keeper.now in
+    let j = g.K.Keeper.images c.loop-entry.keeper in
+    let t : LinkTelling = g.L.Link.tells c.args.link.now in
+    let u : LinkTelling = g.L.Link.tells c.loop-entry.link in
+    subst (λ (self : Client). SyncKeeps route.image self.number self.log Memory mid i j) c.self.view_is
+    (keeps_whole route.image client before Memory mid i j c.loop-entry.invariant.keeps)
+
+pub returns-in-Err-clause-cause : goal.returns-in-Err-clause-cause
+returns-in-Err-clause-cause g c =
+    tt
+
+pub returns-in-Err-clause-log : goal.returns-in-Err-clause-log
+returns-in-Err-clause-log g c =
+    let client = c.self.inside.number in
+    let route = c.args.route.now in
+    let before = c.self.inside.log in
+    let mid = c.loop-entry.self-inside.log in
+    let i = g.K.Keeper.images c.args.keeper.now in
+    let j = g.K.Keeper.images c.loop-entry.keeper in
+    let t : LinkTelling = g.L.Link.tells c.args.link.now in
+    let u : LinkTelling = g.L.Link.tells c.loop-entry.link in
+    subst (λ (self : Client). AcknowledgesSome self.log mid) c.self.view_is (c.loop-entry.invariant.some)
+
+pub returns-in-Err-clause-honest : goal.returns-in-Err-clause-honest
+returns-in-Err-clause-honest g c =
+    let client = c.args.self.now.number in
+    let route = c.args.route.now in
+    let before = c.args.self.now.log in
+    let mid = c.loop-entry.self-inside.log in
+    let i = g.K.Keeper.images c.args.keeper.now in
+    let j = g.K.Keeper.images c.loop-entry.keeper in
+    let t : LinkTelling = g.L.Link.tells c.args.link.now in
+    let u : LinkTelling = g.L.Link.tells c.loop-entry.link in
+    went_true client route.image route before mid Memory i j t (g.L.Link.tells c.settle_store.new.link) (returns-in-Err-clause-world g c)
+
+pub returns-in-Err-clause-complete : goal.returns-in-Err-clause-complete
+returns-in-Err-clause-complete g c = λ calm sound.
+    let client = c.args.self.now.number in
+    let route = c.args.route.now in
+    let before = c.args.self.now.log in
+    let mid = c.loop-entry.self-inside.log in
+    let i = g.K.Keeper.images c.args.keeper.now in
+    let j = g.K.Keeper.images c.loop-entry.keeper in
+    let t : LinkTelling = g.L.Link.tells c.args.link.now in
+    let u : LinkTelling = g.L.Link.tells c.loop-entry.link in
+    went_complete client route.image route before mid Memory i j t (g.L.Link.tells c.settle_store.new.link) (returns-in-Err-clause-world g c) (g.K.Keeper.faults c.args.keeper.now) (g.K.Keeper.faults c.loop-entry.keeper) (returns-in-Err-clause-cause g c) calm sound
+
+pub returns-in-Err-clause-settled : goal.returns-in-Err-clause-settled
+returns-in-Err-clause-settled g c = λ none sound.
+    let client = c.args.self.now.number in
+    let route = c.args.route.now in
+    let before = c.args.self.now.log in
+    let mid = c.loop-entry.self-inside.log in
+    let i = g.K.Keeper.images c.args.keeper.now in
+    let j = g.K.Keeper.images c.loop-entry.keeper in
+    let t : LinkTelling = g.L.Link.tells c.args.link.now in
+    let u : LinkTelling = g.L.Link.tells c.loop-entry.link in
+    settled_end Memory mid t.troubles (g.L.Link.tells c.settle_store.new.link).troubles (g.K.Keeper.faults c.args.keeper.now) (g.K.Keeper.faults c.loop-entry.keeper) (returns-in-Err-clause-cause g c) none sound
+
+pub returns-in-Err-clause-number : goal.returns-in-Err-clause-number
+returns-in-Err-clause-number g c =
+    c.loop-entry.invariant.number ∙ ap (λ (self : Client). self.number) c.self.view_is
+
+-- ---- an entry was not accepted
+
+pub returns-in-Some-end_by-clause-world : goal.returns-in-Some-end_by-clause-world
+returns-in-Some-end_by-clause-world g c =
+    let client = c.self.inside.number in
+    let route = c.args.route.now in
+    let before = c.self.inside.log in
+    let mid = c.loop-entry.self-inside.log in
+    let i = g.K.Keeper.images c.args.keeper.now in
+    let j = g.K.Keeper.images c.loop-entry.keeper in
+    let t : LinkTelling = g.L.Link.tells c.args.link.now in
+    let u : LinkTelling = g.L.Link.tells c.loop-entry.link in
+    let keeps : IsKept j route.image client mid = keeps_now route.image client before mid i j c.loop-entry.invariant.keeps in
+    let entry = c.in-Some.entry.now in
+    let first : IsFirst entry mid.pending = first_is mid.pending entry c.in-Some.ensures.entry in
+    let v : LinkTelling = g.L.Link.tells c.settle_store.new.link in
+    let came = c.in-Ok.reply in
+    let end = c.in-Some-end_by.end in
+    subst (λ (self : Client). Went self.number route.image (SyncEnds self.number route self.log end mid) self.log mid i j t v) c.self.view_is
+    (sync_ends client route before mid entry c.in-Some.ensures.log first i j keeps t u v c.loop-entry.invariant.world came end c.in-Ok.ensures.settled c.in-Some-end_by.ensures)
+
+pub returns-in-Some-end_by-clause-keeps : goal.returns-in-Some-end_by-clause-keeps
+returns-in-Some-end_by-clause-keeps g c =
+    let client = c.self.inside.number in
+    let route = c.args.route.now in
+    let before = c.self.inside.log in
+    let mid = c.loop-entry.self-inside.log in
+    let i = g.K.Keeper.images c.args.keeper.now in
+    let j = g.K.Keeper.images c.loop-entry.keeper in
+    let t : LinkTelling = g.L.Link.tells c.args.link.now in
+    let u : LinkTelling = g.L.Link.tells c.loop-entry.link in
+    subst (λ (self : Client). SyncKeeps route.image self.number self.log c.in-Some-end_by.end mid i j) c.self.view_is
+    (keeps_whole route.image client before c.in-Some-end_by.end mid i j c.loop-entry.invariant.keeps)
+
+pub returns-in-Some-end_by-clause-cause : goal.returns-in-Some-end_by-clause-cause
+returns-in-Some-end_by-clause-cause g c =
+    let client = c.self.inside.number in
+    let route = c.args.route.now in
+    let before = c.self.inside.log in
+    let mid = c.loop-entry.self-inside.log in
+    let i = g.K.Keeper.images c.args.keeper.now in
+    let j = g.K.Keeper.images c.loop-entry.keeper in
+    let t : LinkTelling = g.L.Link.tells c.args.link.now in
+    let u : LinkTelling = g.L.Link.tells c.loop-entry.link in
+    let entry = c.in-Some.entry.now in
+    let first : IsFirst entry mid.pending = first_is mid.pending entry c.in-Some.ensures.entry in
+    let v : LinkTelling = g.L.Link.tells c.settle_store.new.link in
+    let came = c.in-Ok.reply in
+    let end = c.in-Some-end_by.end in
+    let echoes = settled_echoes Server route.server (store_of client entry) u v c.in-Ok.reply c.in-Ok.ensures.settled in
+    has_cause client entry mid t.troubles v.troubles (g.K.Keeper.faults c.args.keeper.now) (g.K.Keeper.faults c.loop-entry.keeper) end (first_some mid.pending entry first) (first_number mid entry c.in-Some.ensures.log first) came c.in-Some-end_by.ensures echoes
+    (λ none. omega (arith, c.loop-entry.invariant.later, settled_troubles Server route.server (store_of client entry) u v came c.in-Ok.ensures.settled none))
+
+pub returns-in-Some-end_by-clause-log : goal.returns-in-Some-end_by-clause-log
+returns-in-Some-end_by-clause-log g c =
+    let client = c.self.inside.number in
+    let route = c.args.route.now in
+    let before = c.self.inside.log in
+    let mid = c.loop-entry.self-inside.log in
+    let i = g.K.Keeper.images c.args.keeper.now in
+    let j = g.K.Keeper.images c.loop-entry.keeper in
+    let t : LinkTelling = g.L.Link.tells c.args.link.now in
+    let u : LinkTelling = g.L.Link.tells c.loop-entry.link in
+    subst (λ (self : Client). AcknowledgesSome self.log mid) c.self.view_is (c.loop-entry.invariant.some)
+
+pub returns-in-Some-end_by-clause-honest : goal.returns-in-Some-end_by-clause-honest
+returns-in-Some-end_by-clause-honest g c =
+    let client = c.args.self.now.number in
+    let route = c.args.route.now in
+    let before = c.args.self.now.log in
+    let mid = c.loop-entry.self-inside.log in
+    let i = g.K.Keeper.images c.args.keeper.now in
+    let j = g.K.Keeper.images c.loop-entry.keeper in
+    let t : LinkTelling = g.L.Link.tells c.args.link.now in
+    let u : LinkTelling = g.L.Link.tells c.loop-entry.link in
+    went_true client route.image route before mid c.in-Some-end_by.end i j t (g.L.Link.tells c.settle_store.new.link) (returns-in-Some-end_by-clause-world g c)
+
+pub returns-in-Some-end_by-clause-complete : goal.returns-in-Some-end_by-clause-complete
+returns-in-Some-end_by-clause-complete g c = λ calm sound.
+    let client = c.args.self.now.number in
+    let route = c.args.route.now in
+    let before = c.args.self.now.log in
+    let mid = c.loop-entry.self-inside.log in
+    let i = g.K.Keeper.images c.args.keeper.now in
+    let j = g.K.Keeper.images c.loop-entry.keeper in
+    let t : LinkTelling = g.L.Link.tells c.args.link.now in
+    let u : LinkTelling = g.L.Link.tells c.loop-entry.link in
+    went_complete client route.image route before mid c.in-Some-end_by.end i j t (g.L.Link.tells c.settle_store.new.link) (returns-in-Some-end_by-clause-world g c) (g.K.Keeper.faults c.args.keeper.now) (g.K.Keeper.faults c.loop-entry.keeper) (returns-in-Some-end_by-clause-cause g c) calm sound
+
+pub returns-in-Some-end_by-clause-settled : goal.returns-in-Some-end_by-clause-settled
+returns-in-Some-end_by-clause-settled g c = λ none sound.
+    let client = c.args.self.now.number in
+    let route = c.args.route.now in
+    let before = c.args.self.now.log in
+    let mid = c.loop-entry.self-inside.log in
+    let i = g.K.Keeper.images c.args.keeper.now in
+    let j = g.K.Keeper.images c.loop-entry.keeper in
+    let t : LinkTelling = g.L.Link.tells c.args.link.now in
+    let u : LinkTelling = g.L.Link.tells c.loop-entry.link in
+    settled_end c.in-Some-end_by.end mid t.troubles (g.L.Link.tells c.settle_store.new.link).troubles (g.K.Keeper.faults c.args.keeper.now) (g.K.Keeper.faults c.loop-entry.keeper) (returns-in-Some-end_by-clause-cause g c) none sound
+
+pub returns-in-Some-end_by-clause-number : goal.returns-in-Some-end_by-clause-number
+returns-in-Some-end_by-clause-number g c =
+    c.loop-entry.invariant.number ∙ ap (λ (self : Client). self.number) c.self.view_is
+
+-- ---- an entry was accepted
+
+pub acknowledge-requires-clause-next : goal.acknowledge-requires-clause-next
+acknowledge-requires-clause-next g c =
+    let client = c.self.inside.number in
+    let route = c.args.route.now in
+    let before = c.self.inside.log in
+    let mid = c.loop-entry.self-inside.log in
+    let i = g.K.Keeper.images c.args.keeper.now in
+    let j = g.K.Keeper.images c.loop-entry.keeper in
+    let t : LinkTelling = g.L.Link.tells c.args.link.now in
+    let u : LinkTelling = g.L.Link.tells c.loop-entry.link in
+    let entry = c.in-Some.entry.now in
+    let first : IsFirst entry mid.pending = first_is mid.pending entry c.in-Some.ensures.entry in
+    omega (arith, first_number mid entry c.in-Some.ensures.log first)
+
+pub acknowledge-requires-clause-pending : goal.acknowledge-requires-clause-pending
+acknowledge-requires-clause-pending g c =
+    let client = c.self.inside.number in
+    let route = c.args.route.now in
+    let before = c.self.inside.log in
+    let mid = c.loop-entry.self-inside.log in
+    let i = g.K.Keeper.images c.args.keeper.now in
+    let j = g.K.Keeper.images c.loop-entry.keeper in
+    let t : LinkTelling = g.L.Link.tells c.args.link.now in
+    let u : LinkTelling = g.L.Link.tells c.loop-entry.link in
+    let entry = c.in-Some.entry.now in
+    let first : IsFirst entry mid.pending = first_is mid.pending entry c.in-Some.ensures.entry in
+    omega (arith, first_number mid entry c.in-Some.ensures.log first, first_pending mid.pending entry first)
+
+pub loop-entry-smaller : goal.loop-entry-smaller
+loop-entry-smaller g c =
+    let client = c.self.inside.number in
+    let route = c.args.route.now in
+    let before = c.self.inside.log in
+    let mid = c.loop-entry.self-inside.log in
+    let i = g.K.Keeper.images c.args.keeper.now in
+    let j = g.K.Keeper.images c.loop-entry.keeper in
+    let t : LinkTelling = g.L.Link.tells c.args.link.now in
+    let u : LinkTelling = g.L.Link.tells c.loop-entry.link in
+    let entry = c.in-Some.entry.now in
+    let first : IsFirst entry mid.pending = first_is mid.pending entry c.in-Some.ensures.entry in
+    shorter mid c.acknowledge.new.self entry c.in-Some.ensures.log first c.acknowledge.ensures.acknowledged
+
+-- ---- what was acknowledged could not be kept
+
+pub returns-in-Err-keep_log-clause-world : goal.returns-in-Err-keep_log-clause-world
+returns-in-Err-keep_log-clause-world g c =
+    let client = c.self.inside.number in
+    let route = c.args.route.now in
+    let before = c.self.inside.log in
+    let mid = c.loop-entry.self-inside.log in
+    let i = g.K.Keeper.images c.args.keeper.now in
+    let j = g.K.Keeper.images c.loop-entry.keeper in
+    let t : LinkTelling = g.L.Link.tells c.args.link.now in
+    let u : LinkTelling = g.L.Link.tells c.loop-entry.link in
+    let keeps : IsKept j route.image client mid = keeps_now route.image client before mid i j c.loop-entry.invariant.keeps in
+    let entry = c.in-Some.entry.now in
+    let first : IsFirst entry mid.pending = first_is mid.pending entry c.in-Some.ensures.entry in
+    let v : LinkTelling = g.L.Link.tells c.settle_store.new.link in
+    let echoes = settled_echoes Server route.server (store_of client entry) u v c.in-Ok.reply c.in-Ok.ensures.settled in
+    let next = c.acknowledge.new.self in
+    let l = g.K.Keeper.images c.keep_log.new.keeper in
+    let is : acknowledged_first mid ≡ next = ap (λ (n : ℕ). acknowledged n mid) (sym (first_number mid entry c.in-Some.ensures.log first)) ∙ sym c.acknowledge.ensures.acknowledged in
+    let on : c.in-Ok.reply ≡ Some (Accepted client entry.seq) = goes_on client entry c.in-Ok.reply c.in-None.ensures echoes in
+    let done : Settled Server route.server (store_of client entry) u v (Ok (Some (Accepted client entry.seq))) =
+    subst (λ (r : Option Message). Settled Server route.server (store_of client entry) u v (Ok r)) on c.in-Ok.ensures.settled in
+    let refused = c.in-Err-keep_log.refused in
+    let kept : Told j l (KeepsLog {E = KeepError} route.image client (acknowledged_first mid) (Err refused)) =
+    subst (λ (log : Log). Told j l (KeepsLog {E = KeepError} route.image client log (Err refused))) (sym is)
+    (subst (λ (n : List ℕ). Told j l (KeepsLog {E = KeepError} n client next (Err refused))) c.bytes.ensures.value c.in-Err-keep_log.ensures.kept) in
+    subst (λ (self : Client). Went self.number route.image (SyncEnds self.number route self.log c.unkept_end.result next) self.log next i l t v) c.self.view_is
+    (subst (λ (end : SyncEnd). Went client route.image (SyncEnds client route before end next) before next i l t v) (sym c.unkept_end.ensures)
+    (subst (λ (log : Log). Went client route.image (SyncEnds client route before (unkept_end refused) log) before log i l t v) is
+    (sync_unkept client route before mid entry c.in-Some.ensures.log first i j keeps t u v c.loop-entry.invariant.world done l refused kept)))
+
+pub returns-in-Err-keep_log-clause-keeps : goal.returns-in-Err-keep_log-clause-keeps
+returns-in-Err-keep_log-clause-keeps g c =
+    let client = c.self.inside.number in
+    let route = c.args.route.now in
+    let before = c.self.inside.log in
+    let mid = c.loop-entry.self-inside.log in
+    let i = g.K.Keeper.images c.args.keeper.now in
+    let j = g.K.Keeper.images c.loop-entry.keeper in
+    let t : LinkTelling = g.L.Link.tells c.args.link.now in
+    let u : LinkTelling = g.L.Link.tells c.loop-entry.link in
+    let entry = c.in-Some.entry.now in
+    let first : IsFirst entry mid.pending = first_is mid.pending entry c.in-Some.ensures.entry in
+    let next = c.acknowledge.new.self in
+    let l = g.K.Keeper.images c.keep_log.new.keeper in
+    let is : acknowledged_first mid ≡ next = ap (λ (n : ℕ). acknowledged n mid) (sym (first_number mid entry c.in-Some.ensures.log first)) ∙ sym c.acknowledge.ensures.acknowledged in
+    let refused = c.in-Err-keep_log.refused in
+    let kept : Told j l (KeepsLog {E = KeepError} route.image client (acknowledged_first mid) (Err refused)) =
+    subst (λ (log : Log). Told j l (KeepsLog {E = KeepError} route.image client log (Err refused))) (sym is)
+    (subst (λ (n : List ℕ). Told j l (KeepsLog {E = KeepError} n client next (Err refused))) c.bytes.ensures.value c.in-Err-keep_log.ensures.kept) in
+    subst (λ (self : Client). SyncKeeps route.image self.number self.log c.unkept_end.result next i l) c.self.view_is
+    (subst (λ (end : SyncEnd). SyncKeeps route.image client before end next i l) (sym c.unkept_end.ensures)
+    (subst (λ (log : Log). SyncKeeps route.image client before (unkept_end refused) log i l) is
+    (keeps_cut route.image client before mid i j l c.loop-entry.invariant.keeps (first_some mid.pending entry first) refused kept)))
+
+pub returns-in-Err-keep_log-clause-cause : goal.returns-in-Err-keep_log-clause-cause
+returns-in-Err-keep_log-clause-cause g c =
+    let p = g.K.Keeper.faults c.args.keeper.now in
+    let q = g.K.Keeper.faults c.keep_log.new.keeper in
+    subst (λ (end : SyncEnd). HasSyncCause end c.acknowledge.new.self (g.L.Link.tells c.args.link.now).troubles (g.L.Link.tells c.settle_store.new.link).troubles p q) (sym c.unkept_end.ensures)
+    (unkept_cause c.in-Err-keep_log.refused c.acknowledge.new.self _ _ p (g.K.Keeper.faults c.loop-entry.keeper) q (omega (arith, c.loop-entry.invariant.faults)) (λ is. rose_once (g.K.Keeper.faults c.loop-entry.keeper) q (c.in-Err-keep_log.ensures.cause.once (ap Err is))))
+
+pub returns-in-Err-keep_log-clause-log : goal.returns-in-Err-keep_log-clause-log
+returns-in-Err-keep_log-clause-log g c =
+    let client = c.self.inside.number in
+    let route = c.args.route.now in
+    let before = c.self.inside.log in
+    let mid = c.loop-entry.self-inside.log in
+    let i = g.K.Keeper.images c.args.keeper.now in
+    let j = g.K.Keeper.images c.loop-entry.keeper in
+    let t : LinkTelling = g.L.Link.tells c.args.link.now in
+    let u : LinkTelling = g.L.Link.tells c.loop-entry.link in
+    let entry = c.in-Some.entry.now in
+    let first : IsFirst entry mid.pending = first_is mid.pending entry c.in-Some.ensures.entry in
+    let next = c.acknowledge.new.self in
+    let l = g.K.Keeper.images c.keep_log.new.keeper in
+    let is : acknowledged_first mid ≡ next = ap (λ (n : ℕ). acknowledged n mid) (sym (first_number mid entry c.in-Some.ensures.log first)) ∙ sym c.acknowledge.ensures.acknowledged in
+    subst (λ (self : Client). AcknowledgesSome self.log next) c.self.view_is (some_more before mid next c.loop-entry.invariant.some (first_some mid.pending entry first) (sym is))
+
+pub returns-in-Err-keep_log-clause-honest : goal.returns-in-Err-keep_log-clause-honest
+returns-in-Err-keep_log-clause-honest g c =
+    let client = c.args.self.now.number in
+    let route = c.args.route.now in
+    let before = c.args.self.now.log in
+    let mid = c.loop-entry.self-inside.log in
+    let i = g.K.Keeper.images c.args.keeper.now in
+    let j = g.K.Keeper.images c.loop-entry.keeper in
+    let t : LinkTelling = g.L.Link.tells c.args.link.now in
+    let u : LinkTelling = g.L.Link.tells c.loop-entry.link in
+    went_true client route.image route before c.acknowledge.new.self c.unkept_end.result i (g.K.Keeper.images c.keep_log.new.keeper) t (g.L.Link.tells c.settle_store.new.link) (returns-in-Err-keep_log-clause-world g c)
+
+pub returns-in-Err-keep_log-clause-complete : goal.returns-in-Err-keep_log-clause-complete
+returns-in-Err-keep_log-clause-complete g c = λ calm sound.
+    let client = c.args.self.now.number in
+    let route = c.args.route.now in
+    let before = c.args.self.now.log in
+    let mid = c.loop-entry.self-inside.log in
+    let i = g.K.Keeper.images c.args.keeper.now in
+    let j = g.K.Keeper.images c.loop-entry.keeper in
+    let t : LinkTelling = g.L.Link.tells c.args.link.now in
+    let u : LinkTelling = g.L.Link.tells c.loop-entry.link in
+    went_complete client route.image route before c.acknowledge.new.self c.unkept_end.result i (g.K.Keeper.images c.keep_log.new.keeper) t (g.L.Link.tells c.settle_store.new.link) (returns-in-Err-keep_log-clause-world g c) (g.K.Keeper.faults c.args.keeper.now) (g.K.Keeper.faults c.keep_log.new.keeper) (returns-in-Err-keep_log-clause-cause g c) calm sound
+
+pub returns-in-Err-keep_log-clause-settled : goal.returns-in-Err-keep_log-clause-settled
+returns-in-Err-keep_log-clause-settled g c = λ none sound.
+    let client = c.args.self.now.number in
+    let route = c.args.route.now in
+    let before = c.args.self.now.log in
+    let mid = c.loop-entry.self-inside.log in
+    let i = g.K.Keeper.images c.args.keeper.now in
+    let j = g.K.Keeper.images c.loop-entry.keeper in
+    let t : LinkTelling = g.L.Link.tells c.args.link.now in
+    let u : LinkTelling = g.L.Link.tells c.loop-entry.link in
+    settled_end c.unkept_end.result c.acknowledge.new.self t.troubles (g.L.Link.tells c.settle_store.new.link).troubles (g.K.Keeper.faults c.args.keeper.now) (g.K.Keeper.faults c.keep_log.new.keeper) (returns-in-Err-keep_log-clause-cause g c) none sound
+
+pub returns-in-Err-keep_log-clause-number : goal.returns-in-Err-keep_log-clause-number
+returns-in-Err-keep_log-clause-number g c =
+    c.loop-entry.invariant.number ∙ ap (λ (self : Client). self.number) c.self.view_is
+
+pub loop-entry-preserved : goal.loop-entry-preserved
+loop-entry-preserved g c =
+    let client = c.self.inside.number in
+    let route = c.args.route.now in
+    let before = c.self.inside.log in
+    let mid = c.loop-entry.self-inside.log in
+    let i = g.K.Keeper.images c.args.keeper.now in
+    let j = g.K.Keeper.images c.loop-entry.keeper in
+    let t : LinkTelling = g.L.Link.tells c.args.link.now in
+    let u : LinkTelling = g.L.Link.tells c.loop-entry.link in
+    let keeps : IsKept j route.image client mid = keeps_now route.image client before mid i j c.loop-entry.invariant.keeps in
+    let entry = c.in-Some.entry.now in
+    let first : IsFirst entry mid.pending = first_is mid.pending entry c.in-Some.ensures.entry in
+    let v : LinkTelling = g.L.Link.tells c.settle_store.new.link in
+    let echoes = settled_echoes Server route.server (store_of client entry) u v c.in-Ok.reply c.in-Ok.ensures.settled in
+    let next = c.acknowledge.new.self in
+    let l = g.K.Keeper.images c.keep_log.new.keeper in
+    let is : acknowledged_first mid ≡ next = ap (λ (n : ℕ). acknowledged n mid) (sym (first_number mid entry c.in-Some.ensures.log first)) ∙ sym c.acknowledge.ensures.acknowledged in
+    let on : c.in-Ok.reply ≡ Some (Accepted client entry.seq) = goes_on client entry c.in-Ok.reply c.in-None.ensures echoes in
+    let done : Settled Server route.server (store_of client entry) u v (Ok (Some (Accepted client entry.seq))) =
+    subst (λ (r : Option Message). Settled Server route.server (store_of client entry) u v (Ok r)) on c.in-Ok.ensures.settled in
+    let kept : Told j l (KeepsLog {E = KeepError} route.image client (acknowledged_first mid) (Ok c.in_default-keep_log.field-0)) =
+    subst (λ (log : Log). Told j l (KeepsLog {E = KeepError} route.image client log (Ok c.in_default-keep_log.field-0))) (sym is)
+    (subst (λ (n : List ℕ). Told j l (KeepsLog {E = KeepError} n client next (Ok c.in_default-keep_log.field-0))) c.bytes.ensures.value c.in_default-keep_log.ensures.kept) in
+    record {
+      later = omega (arith, c.loop-entry.invariant.later, c.in-Ok.ensures.later);
+      faults = c.in_default-keep_log.ensures.cause.never (λ is. absurd (cc)) ∙ c.loop-entry.invariant.faults;
+      number = c.loop-entry.invariant.number;
+      some = some_more before mid next c.loop-entry.invariant.some (first_some mid.pending entry first) (sym is);
+      keeps = subst (λ (log : Log). KeepsAcked before route.image client log i l) is
+          (keeps_more route.image client before mid i j l c.loop-entry.invariant.keeps (first_some mid.pending entry first) (Ok c.in_default-keep_log.field-0) kept);
+      world = subst (λ (log : Log). WentSoFar client route before log i l t v) is
+          (acked_more client route before mid entry c.in-Some.ensures.log first i j keeps t u v c.loop-entry.invariant.world done l (Ok c.in_default-keep_log.field-0) kept);
+    }
+
+-- ---- nothing is pending
 
 pub returns-clause-world : goal.returns-clause-world
 returns-clause-world g c =
+    let client = c.self.inside.number in
     let route = c.args.route.now in
-    let end = c.sync_log.result in
-    let after = c.sync_log.new.log in
+    let before = c.self.inside.log in
+    let mid = c.loop-entry.self-inside.log in
     let i = g.K.Keeper.images c.args.keeper.now in
-    let j = g.K.Keeper.images c.sync_log.new.keeper in
-    let t = g.L.Link.troubles c.args.link.now in
-    let u = g.L.Link.troubles c.sync_log.new.link in
-    subst (λ (self : Client). Told (g.L.Link.world c.args.link.now) (g.L.Link.world c.sync_log.new.link)
-    (λ x y. (kept : Log) × Goes self.number route.image (SyncEnds self.number route self.log end after kept) self.log after kept i j t u x y)) c.self.view_is c.sync_log.ensures.world
+    let j = g.K.Keeper.images c.loop-entry.keeper in
+    let t : LinkTelling = g.L.Link.tells c.args.link.now in
+    let u : LinkTelling = g.L.Link.tells c.loop-entry.link in
+    let none = none_is mid.pending c.in_default.ensures.entry in
+    subst (λ (self : Client). Went self.number route.image (SyncEnds self.number route self.log (Synced c.acked.result) mid) self.log mid i j t u) c.self.view_is
+    (subst (λ (n : ℕ). Went client route.image (SyncEnds client route before (Synced n) mid) before mid i j t u) (sym c.acked.ensures.acked)
+    (sync_synced client route before mid i j t u none c.loop-entry.invariant.world))
+
+pub returns-clause-keeps : goal.returns-clause-keeps
+returns-clause-keeps g c =
+    let client = c.self.inside.number in
+    let route = c.args.route.now in
+    let before = c.self.inside.log in
+    let mid = c.loop-entry.self-inside.log in
+    let i = g.K.Keeper.images c.args.keeper.now in
+    let j = g.K.Keeper.images c.loop-entry.keeper in
+    let t : LinkTelling = g.L.Link.tells c.args.link.now in
+    let u : LinkTelling = g.L.Link.tells c.loop-entry.link in
+    subst (λ (self : Client). SyncKeeps route.image self.number self.log (Synced c.acked.result) mid i j) c.self.view_is
+    (keeps_whole route.image client before (Synced c.acked.result) mid i j c.loop-entry.invariant.keeps)
+
+pub returns-clause-cause : goal.returns-clause-cause
+returns-clause-cause g c =
+    let client = c.self.inside.number in
+    let route = c.args.route.now in
+    let before = c.self.inside.log in
+    let mid = c.loop-entry.self-inside.log in
+    let i = g.K.Keeper.images c.args.keeper.now in
+    let j = g.K.Keeper.images c.loop-entry.keeper in
+    let t : LinkTelling = g.L.Link.tells c.args.link.now in
+    let u : LinkTelling = g.L.Link.tells c.loop-entry.link in
+    (none_is mid.pending c.in_default.ensures.entry, c.acked.ensures.acked)
+
+pub returns-clause-log : goal.returns-clause-log
+returns-clause-log g c =
+    let client = c.self.inside.number in
+    let route = c.args.route.now in
+    let before = c.self.inside.log in
+    let mid = c.loop-entry.self-inside.log in
+    let i = g.K.Keeper.images c.args.keeper.now in
+    let j = g.K.Keeper.images c.loop-entry.keeper in
+    let t : LinkTelling = g.L.Link.tells c.args.link.now in
+    let u : LinkTelling = g.L.Link.tells c.loop-entry.link in
+    subst (λ (self : Client). AcknowledgesSome self.log mid) c.self.view_is (c.loop-entry.invariant.some)
+
+pub returns-clause-honest : goal.returns-clause-honest
+returns-clause-honest g c =
+    let client = c.args.self.now.number in
+    let route = c.args.route.now in
+    let before = c.args.self.now.log in
+    let mid = c.loop-entry.self-inside.log in
+    let i = g.K.Keeper.images c.args.keeper.now in
+    let j = g.K.Keeper.images c.loop-entry.keeper in
+    let t : LinkTelling = g.L.Link.tells c.args.link.now in
+    let u : LinkTelling = g.L.Link.tells c.loop-entry.link in
+    went_true client route.image route before mid (Synced c.acked.result) i j t u (returns-clause-world g c)
 
 pub returns-clause-complete : goal.returns-clause-complete
 returns-clause-complete g c = λ calm sound.
-    subst (λ (self : Client). Told (g.L.Link.world c.args.link.now) (g.L.Link.world c.sync_log.new.link) (λ x y. InStep self.number self.log x → IsComplete c.sync_log.result self.number c.sync_log.new.log y)) c.self.view_is
-    (c.sync_log.ensures.complete calm sound)
+    let client = c.args.self.now.number in
+    let route = c.args.route.now in
+    let before = c.args.self.now.log in
+    let mid = c.loop-entry.self-inside.log in
+    let i = g.K.Keeper.images c.args.keeper.now in
+    let j = g.K.Keeper.images c.loop-entry.keeper in
+    let t : LinkTelling = g.L.Link.tells c.args.link.now in
+    let u : LinkTelling = g.L.Link.tells c.loop-entry.link in
+    went_complete client route.image route before mid (Synced c.acked.result) i j t u (returns-clause-world g c) (g.K.Keeper.faults c.args.keeper.now) (g.K.Keeper.faults c.loop-entry.keeper) (returns-clause-cause g c) calm sound
 
 pub returns-clause-settled : goal.returns-clause-settled
-returns-clause-settled g c = λ none sound. settled_end c.sync_log.result c.sync_log.new.log _ _ _ _ c.sync_log.ensures.cause none sound
+returns-clause-settled g c = λ none sound.
+    let client = c.args.self.now.number in
+    let route = c.args.route.now in
+    let before = c.args.self.now.log in
+    let mid = c.loop-entry.self-inside.log in
+    let i = g.K.Keeper.images c.args.keeper.now in
+    let j = g.K.Keeper.images c.loop-entry.keeper in
+    let t : LinkTelling = g.L.Link.tells c.args.link.now in
+    let u : LinkTelling = g.L.Link.tells c.loop-entry.link in
+    settled_end (Synced c.acked.result) mid t.troubles u.troubles (g.K.Keeper.faults c.args.keeper.now) (g.K.Keeper.faults c.loop-entry.keeper) (returns-clause-cause g c) none sound
+
+pub returns-clause-number : goal.returns-clause-number
+returns-clause-number g c =
+    c.loop-entry.invariant.number ∙ ap (λ (self : Client). self.number) c.self.view_is
+
+-- ---- how often the keeper failed
+
+pub returns-in-Err-clause-faults : goal.returns-in-Err-clause-faults
+returns-in-Err-clause-faults g c =
+    unrisen (Memory ≡ KeepFault) (g.K.Keeper.faults c.args.keeper.now) (g.K.Keeper.faults c.loop-entry.keeper) (λ is. absurd (cc)) c.loop-entry.invariant.faults
+
+pub returns-in-Some-end_by-clause-faults : goal.returns-in-Some-end_by-clause-faults
+returns-in-Some-end_by-clause-faults g c =
+    unrisen (c.in-Some-end_by.end ≡ KeepFault) (g.K.Keeper.faults c.args.keeper.now) (g.K.Keeper.faults c.loop-entry.keeper) (end_by_reply c.in-Some.entry.now.seq c.in-Ok.reply c.in-Some-end_by.end c.in-Some-end_by.ensures) c.loop-entry.invariant.faults
+
+pub returns-in-Err-keep_log-clause-faults : goal.returns-in-Err-keep_log-clause-faults
+returns-in-Err-keep_log-clause-faults g c =
+    let q = g.K.Keeper.faults c.keep_log.new.keeper in
+    subst (λ (end : SyncEnd). RisesWhere (end ≡ KeepFault) (g.K.Keeper.faults c.args.keeper.now) q) (sym c.unkept_end.ensures)
+    (unkept_rises c.in-Err-keep_log.refused (g.K.Keeper.faults c.args.keeper.now) (g.K.Keeper.faults c.loop-entry.keeper) q c.loop-entry.invariant.faults c.in-Err-keep_log.ensures.cause)
+
+pub returns-clause-faults : goal.returns-clause-faults
+returns-clause-faults g c =
+    unrisen (Synced c.acked.result ≡ KeepFault) (g.K.Keeper.faults c.args.keeper.now) (g.K.Keeper.faults c.loop-entry.keeper) (λ is. absurd (cc)) c.loop-entry.invariant.faults

@@ -1,0 +1,17 @@
+use Rattle.std.proofs.Common.{◌≡◌, ◌≤◌, length}
+use Rattle.client_core.specs.Causes.{AcknowledgesSome}
+use Rattle.client_core.proofs.Syncs.{WentSoFar, KeepsAcked}
+use Rattle.client_core.proofs.client.Client.sync.Given as goal
+
+abbrev pub invariant-loop-entry : goal.invariant-loop-entry
+invariant-loop-entry g l = record {
+  later : (g.L.Link.tells l.fn.link).troubles ≤ (g.L.Link.tells l.link).troubles;
+  faults : g.K.Keeper.faults l.keeper ≡ g.K.Keeper.faults l.fn.keeper;
+  number : l.self-inside.number ≡ l.client;
+  some : AcknowledgesSome l.initial.self-inside.log l.self-inside.log;
+  keeps : KeepsAcked l.initial.self-inside.log l.route.image l.client l.self-inside.log (g.K.Keeper.images l.fn.keeper) (g.K.Keeper.images l.keeper);
+  world : WentSoFar l.client l.route l.initial.self-inside.log l.self-inside.log (g.K.Keeper.images l.fn.keeper) (g.K.Keeper.images l.keeper) (g.L.Link.tells l.fn.link) (g.L.Link.tells l.link);
+}
+
+abbrev pub decreases-loop-entry : goal.decreases-loop-entry
+decreases-loop-entry g l = length l.self-inside.log.pending

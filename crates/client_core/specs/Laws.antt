@@ -1,0 +1,46 @@
+-- What the ends of syncs and pulls tell of the world, read off what was asked and answered.
+use Rattle.std.specs.Prelude.{◌≡◌, ◌⊎◌, ℕ, true, List, [], Option}
+use Rattle.outside.specs.Outside.{Rose}
+use Rattle.outside.specs.Keeper.{Images}
+use Rattle.tree_values.specs.Lists.{IsIn}
+use Rattle.mod_log.specs.Log.{Log, tree_at}
+use Rattle.wire_frames.specs.declared.message.Message.{Message}
+use Rattle.wire_frames.specs.Frame.{client_of}
+use Rattle.world_rules.specs.World.{World}
+use Rattle.world_rules.specs.Asking.{AnswersStand}
+use Rattle.world_rules.specs.InStep.{InStep}
+use Rattle.world_rules.specs.Run.{taken_in, kept_at}
+use Rattle.client_core.specs.declared.route.Route.{Route}
+use Rattle.client_core.specs.declared.syncing.SyncEnd.{SyncEnd}
+use Rattle.client_core.specs.declared.syncing.SyncEnd.TheVariants.{Behind, Synced}
+use Rattle.client_core.specs.declared.pulling.PullEnd.{PullEnd}
+use Rattle.client_core.specs.Trace.{Trace}
+use Rattle.client_core.specs.Syncing.{SyncTurn, SyncEnds, is_broken_sync}
+use Rattle.client_core.specs.Pulling.{PullTurn}
+use Rattle.client_core.specs.Goes.{Goes}
+use Rattle.client_core.specs.Honest.{IsTrueSync, IsNotOtherLast}
+
+-- Where the answers of a sync stand, no log of the client that is in step has a server that is behind, whatever came after the sync.
+abbrev pub NoSyncIsBehind : Type 0
+NoSyncIsBehind = (client : ℕ) (route : Route) (before after log : Log) (seq last : ℕ) (trace : Trace) (world : World)
+    → SyncTurn client route before (Behind seq last) after trace → AnswersStand world trace.asks → InStep client log world → ⊥
+
+-- The end of a sync is true of each world in which its answers stand and with which the log that it left is in step.
+abbrev pub SyncEndsAreTrue : Type 0
+SyncEndsAreTrue = (client : ℕ) (route : Route) (before after : Log) (end : SyncEnd) (trace : Trace) (world : World)
+    → SyncTurn client route before end after trace → AnswersStand world trace.asks → InStep client after world → IsTrueSync end client after world
+
+-- And a pull, whose log is in step then, never met another last number.
+abbrev pub PullsMeetTheirLast : Type 0
+PullsMeetTheirLast = (client : ℕ) (route : Route) (before after : Log) (end : PullEnd) (trace : Trace) (world : World)
+    → PullTurn client route before end after trace → AnswersStand world trace.asks → InStep client before world → IsNotOtherLast end
+
+-- A sync without trouble, in which no other client's store was taken, and before which the served tree was the client's after its last
+-- taken entry, ends with all entries acknowledged, or was broken off.
+abbrev pub CalmSyncsAreComplete : Type 0
+CalmSyncsAreComplete = (client : ℕ) (route : Route) (name : List ℕ) (before after kept : Log) (end : SyncEnd) (images images_now : Option Images) (troubles later : ℕ) (old new : World)
+    → (goes : Goes client name (SyncEnds client route before end after kept) before after kept images images_now troubles later old new)
+    → InStep client before old → (Rose troubles later → ⊥)
+    → ((message : Message) → IsIn message (taken_in goes.runs.moves (kept_at before old)) → client_of message ≡ client)
+    → old.served.volume ≡ tree_at (old.served.last client) before
+    → ((end ≡ Synced after.acked) × (after.pending ≡ [])) ⊎ (is_broken_sync end ≡ true)

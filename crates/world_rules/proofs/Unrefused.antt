@@ -1,0 +1,167 @@
+-- Where nobody else writes, no entry of the client is refused.
+use Rattle.std.proofs.Common.{◌≡◌, ◌≢◌, ◌⊎◌, inl, inr, ⊎_elim, ℕ, ◌+◌, ◌<◌, ◌≤◌, true, false, List, [], ◌∷◌, ◌++◌, Option, None, Some, Result, Ok, Err, refl, sym, ◌∙◌, ap, subst, arith, append-nil}
+use Rattle.std.specs.Prelude.{Bool, nat_le, if◌then◌else◌}
+use Rattle.std.proofs.lemmas.Bool.Decides.{nat_tests}
+use Rattle.tree_values.specs.Tree.{Volume, version_at}
+use Rattle.tree_values.specs.Effects.{Conflict}
+use Rattle.tree_values.specs.Lists.{IsIn}
+use Rattle.vol_tree.specs.Behind.{IsAhead}
+use Rattle.tree_values.specs.declared.node.Effect.{Effect}
+use Rattle.tree_values.specs.declared.node.Base.{Base}
+use Rattle.tree_values.specs.declared.node.TreeError.{TreeError}
+use Rattle.vol_tree.proofs.Behind.{IsIn-left, IsIn-right}
+use Rattle.mod_log.specs.declared.log.Entry.{Entry}
+use Rattle.mod_log.specs.Log.{Log, tree_at}
+use Rattle.wire_frames.specs.declared.message.Message.{Message}
+use Rattle.wire_frames.specs.declared.message.Message.TheVariants.{Store, Pull, Accepted, Stale, Unfit, Gap, Snapshot, Full, Malformed}
+use Rattle.wire_frames.specs.Frame.{client_of}
+use Rattle.world_rules.specs.declared.asking.Ask.{Ask}
+use Rattle.world_rules.specs.Served.{judged, verdict, is_want_of_room, reply, answer}
+use Rattle.world_rules.specs.World.{World, Step, Send, Deliver, Other, happens, IsForServer, IsAllowed}
+use Rattle.world_rules.specs.InStep.{InStep, MaySend, IsRefusal}
+use Rattle.world_rules.specs.Run.{State, Move, Network, Notes, Logs, Acknowledges, Pulls, Saves, moved, IsPossible, AllPossible, moved_by, entry_in, ask_in, taken_in_move, taken_in, MaySendKept, Runs}
+use Rattle.world_rules.proofs.Asks.{IsIn-push}
+use Rattle.world_rules.proofs.Runs.{allowed_log, move_keeps, lone_tree}
+use Rattle.world_rules.proofs.Replying.{refused_ahead}
+
+-- no path of a tree is ahead of it
+pub never_ahead : (a b : Volume) → a ≡ b → IsAhead a b → ⊥
+never_ahead a b same ahead = absurd (omega (arith, ahead.1, ap (λ (v : Volume). version_at v ahead.0) same))
+
+-- ---- what refuses
+
+refusal_client : (client number : ℕ) (message : Message) → IsRefusal client number message → client_of message ≡ client
+refusal_client client number (Stale of refused path theirs ours) is = is.0
+refusal_client client number (Unfit of refused index fault) is = is.0
+refusal_client client number (Full of refused index fault) is = is.0
+refusal_client client number (Store of stored effects base) is = absurd is
+refusal_client client number (Pull of known) is = absurd is
+refusal_client client number (Accepted of accepted) is = absurd is
+refusal_client client number (Gap of early last) is = absurd is
+refusal_client client number (Snapshot of known upto seen) is = absurd is
+refusal_client client number (Malformed code offset) is = absurd is
+
+sent_refuses_none : (client : ℕ) (log : Log) (number : ℕ) (message : Message) → MaySend client log message → IsRefusal client number message → ⊥
+sent_refuses_none client log number (Store of stored effects base) may is = is
+sent_refuses_none client log number (Pull of known) may is = is
+sent_refuses_none client log number (Accepted of accepted) may is = may
+sent_refuses_none client log number (Stale of refused path theirs ours) may is = may
+sent_refuses_none client log number (Unfit of refused index fault) may is = may
+sent_refuses_none client log number (Full of refused index fault) may is = may
+sent_refuses_none client log number (Gap of early last) may is = may
+sent_refuses_none client log number (Snapshot of known upto seen) may is = may
+sent_refuses_none client log number (Malformed code offset) may is = may
+
+-- a refusal of the client's entry is in step at most with the next number
+refused_number : (client : ℕ) (log : Log) (world : World) (number : ℕ) (message : Message) → InStep client log world → IsRefusal client number message → IsIn message world.packets → number ≤ log.acked + 1
+refused_number client log world number (Stale of refused path theirs ours) now is among = omega (arith, is.1, (now.fitting (Stale of refused path theirs ours) among is.0).0.at_most_next)
+refused_number client log world number (Unfit of refused index fault) now is among = omega (arith, is.1, (now.fitting (Unfit of refused index fault) among is.0).0.at_most_next)
+refused_number client log world number (Full of refused index fault) now is among = omega (arith, is.1, (now.fitting (Full of refused index fault) among is.0).0.at_most_next)
+refused_number client log world number (Store of stored effects base) now is among = absurd is
+refused_number client log world number (Pull of known) now is among = absurd is
+refused_number client log world number (Accepted of accepted) now is among = absurd is
+refused_number client log world number (Gap of early last) now is among = absurd is
+refused_number client log world number (Snapshot of known upto seen) now is among = absurd is
+refused_number client log world number (Malformed code offset) now is among = absurd is
+
+at_most : (n : ℕ) (number : ℕ) → number ≤ n + 1 → (number ≡ n + 1 → ⊥) → number ≤ n
+at_most n number near other = by (nat_le number n) refl
+  where
+    by : (b : Bool) → nat_le number n ≡ b → number ≤ n
+    by true e = grind (arith, nat_tests)
+    by false e =
+        let above : n < number = grind (arith, nat_tests) in
+        absurd (other (omega (arith, near, above)))
+
+-- where the served tree is the client's, none refuses the next one
+refused_before : (client : ℕ) (log : Log) (world : World) → InStep client log world → world.served.volume ≡ tree_at (world.served.last client) log
+    → (number : ℕ) (message : Message) → IsRefusal client number message → IsIn message world.packets → number ≤ log.acked
+refused_before client log world now same number message is among =
+    at_most log.acked number (refused_number client log world number message now is among)
+    (λ next. never_ahead world.served.volume (tree_at (world.served.last client) log) same
+    (refused_ahead client log world message now (subst (λ (n : ℕ). IsRefusal client n message) next is) among))
+
+-- ---- the server refuses no store whose number it has taken
+
+refuses_later : (client number of stored last : ℕ) (beyond : Bool) (conflict : Option Conflict) (applied : Result Volume (ℕ × TreeError)) (known : Bool) → nat_le stored last ≡ known
+    → IsRefusal client number (reply of stored last (judged known beyond conflict applied)) → (of ≡ client) × (number ≡ stored) × (last < stored)
+refuses_later client number of stored last beyond conflict applied true e is = absurd is
+refuses_later client number of stored last true conflict applied false e is = absurd is
+refuses_later client number of stored last false (Some conflict) applied false e is = (is.0, sym is.1, grind (arith, nat_tests))
+refuses_later client number of stored last false None (Ok volume) false e is = absurd is
+refuses_later client number of stored last false None (Err cause) false e is = by (is_want_of_room cause.1) is
+  where
+    by : (full : Bool) → IsRefusal client number (if full then Full of stored cause.0 cause.1 else Unfit of stored cause.0 cause.1) → (of ≡ client) × (number ≡ stored) × (last < stored)
+    by true is = (is.0, sym is.1, grind (arith, nat_tests))
+    by false is = (is.0, sym is.1, grind (arith, nat_tests))
+
+-- ---- no refusal joins
+
+module _ (client : ℕ) (log : Log) (world : World) (now : InStep client log world) where
+  -- in a step after which the served tree is the client's
+  step_back : (step : Step) → IsAllowed (MaySend client log) world step → InStep client log (happens step world)
+      → (happens step world).served.volume ≡ tree_at ((happens step world).served.last client) log
+      → (number : ℕ) (message : Message) → IsRefusal client number message → IsIn message (happens step world).packets → IsIn message world.packets
+  step_back (Send m) may next same number message is among =
+      ⊎_elim (λ old. old) (λ (here : message ≡ m). absurd (sent_refuses_none client log number m may (subst (IsRefusal client number) here is))) (IsIn-push message m world.packets among)
+  step_back (Other m) may next same number message is among =
+      ⊎_elim (λ old. old) (λ (here : message ≡ m). absurd (may.0 (refusal_client client number m (subst (IsRefusal client number) here is) ∙ sym now.about))) (IsIn-push message m world.packets among)
+  step_back (Deliver m false) may next same number message is among = among
+  step_back (Deliver m true) may next same number message is among =
+      ⊎_elim (λ old. old) (λ (here : message ≡ answer m world.served). absurd (answered m may.0 may.1 next same (subst (IsRefusal client number) here is) (subst (λ (x : Message). IsIn x (happens (Deliver m true) world).packets) here among)))
+      (IsIn-push message (answer m world.served) world.packets among)
+    where
+      answered : (m : Message) → IsForServer m → IsIn m world.packets → InStep client log (happens (Deliver m true) world)
+          → (happens (Deliver m true) world).served.volume ≡ tree_at ((happens (Deliver m true) world).served.last client) log
+          → IsRefusal client number (answer m world.served) → IsIn (answer m world.served) (happens (Deliver m true) world).packets → ⊥
+      answered (Store of stored effects base) for sent next same is among =
+          let told = refuses_later client number of stored (world.served.last of) _ _ _ _ refl is in
+          let last_is : world.served.last of ≡ world.served.last client = ap world.served.last told.0 in
+          let before = refused_before client log (happens (Deliver (Store of stored effects base) true) world) next same number (answer (Store of stored effects base) world.served) is among in
+          absurd (omega (arith, told.1, told.2, last_is, now.not_lower, before))
+      answered (Pull of known) for sent next same is among = is
+      answered (Accepted of accepted) for sent next same is among = for
+      answered (Stale of refused path theirs ours) for sent next same is among = for
+      answered (Unfit of refused index fault) for sent next same is among = for
+      answered (Gap of early last) for sent next same is among = for
+      answered (Snapshot of known upto seen) for sent next same is among = for
+      answered (Full of refused index fault) for sent next same is among = for
+      answered (Malformed code offset) for sent next same is among = for
+
+module _ (client : ℕ) where
+  abbrev IsTheirs : State → Type 0
+  IsTheirs state = state.world.served.volume ≡ tree_at (state.world.served.last client) state.log
+
+  move_theirs : (move : Move) (state : State) → InStep client state.log state.world → IsPossible client state move
+      → ((message : Message) → IsIn message (taken_in_move move state) → client_of message ≡ client) → IsTheirs state → IsTheirs (moved move state)
+  move_theirs move state now may alone same =
+      lone_tree client (entry_in move) (ask_in move) state (moved move state) now
+      (record { moves = move ∷ []; entries = append-nil (entry_in move); asks = append-nil (ask_in move); possible = (may, tt); result = refl })
+      (λ message among. alone message (subst (IsIn message) (append-nil (taken_in_move move state)) among)) same
+
+  move_back : (move : Move) (state : State) → InStep client state.log state.world → IsPossible client state move → IsTheirs (moved move state)
+      → (number : ℕ) (message : Message) → IsRefusal client number message → IsIn message (moved move state).world.packets → IsIn message state.world.packets
+  move_back (Network step) state now may same number message is among =
+      step_back client state.log state.world now step (allowed_log client state step may) (move_keeps client state (Network step) now may) same number message is among
+  move_back (Notes ask) state now may same number message is among = among
+  move_back (Logs entry) state now may same number message is among = among
+  move_back (Acknowledges reply) state now may same number message is among = among
+  move_back (Pulls last seen) state now may same number message is among = among
+  move_back Saves state now may same number message is among = among
+
+  moves_back : (moves : List Move) (state : State) → InStep client state.log state.world → AllPossible client state moves
+      → ((message : Message) → IsIn message (taken_in moves state) → client_of message ≡ client) → IsTheirs state
+      → (number : ℕ) (message : Message) → IsRefusal client number message → IsIn message (moved_by moves state).world.packets → IsIn message state.world.packets
+  moves_back [] state now may alone same number message is among = among
+  moves_back (move ∷ moves) state now may alone same number message is among =
+      let after = move_keeps client state move now may.0 in
+      let theirs = move_theirs move state now may.0 (λ m at. alone m (IsIn-left m _ _ at)) same in
+      move_back move state now may.0 theirs number message is (moves_back moves (moved move state) after may.1 (λ m at. alone m (IsIn-right m _ _ at)) theirs number message is among)
+
+  pub lone_unrefused : (entries : List Entry) (made : List Ask) (old new : State) → InStep client old.log old.world → (runs : Runs client entries made old new)
+      → ((message : Message) → IsIn message (taken_in runs.moves old) → client_of message ≡ client)
+      → old.world.served.volume ≡ tree_at (old.world.served.last client) old.log
+      → (number : ℕ) (message : Message) → IsRefusal client number message → IsIn message new.world.packets → number ≤ old.log.acked
+  lone_unrefused entries made old new now runs alone same number message is among =
+      refused_before client old.log old.world now same number message is
+      (moves_back runs.moves old now runs.possible alone same number message is (subst (λ s. IsIn message s.world.packets) runs.result among))
