@@ -1,8 +1,8 @@
 -- What a delivery makes of the world, late or injected.
 use Rattle.std.proofs.Common.{◌≡◌, ℕ, Bool, true, false, [], ◌∷◌, ◌++◌, Option, Some, Result, Ok, Err, refl, sym, ◌∙◌, ap, subst, arith}
 use Rattle.std.specs.Prelude.{◌==◌, if◌then◌else◌}
-use Rattle.std.proofs.lemmas.Bool.Decides.{nat_tests}
-use Rattle.vol_tree.specs.Behind.{IsIn}
+use Rattle.byte_fields.proofs.Facts.{eq_holds, eq_fails}
+use Rattle.tree_values.specs.Lists.{IsIn}
 use Rattle.wire_frames.specs.declared.message.Message.{Message}
 use Rattle.wire_frames.specs.declared.message.Message.TheVariants.{Store, Pull, Accepted, Stale, Unfit, Gap, Snapshot, Full, Malformed}
 use Rattle.wire_frames.specs.declared.message.FrameError.{FrameError}
@@ -54,16 +54,10 @@ late-delivered m found w is for = late_some m w for ∙ sym (ap (λ (o : Option 
 
 -- ---- an injected message
 
-differs : (m n : ℕ) → (m ≡ n → ⊥) → (m == n) ≡ false
-differs m n other = grind (arith, nat_tests, other)
-
-same : (m n : ℕ) → m ≡ n → (m == n) ≡ true
-same m n is = grind (arith, nat_tests, is)
-
 inject_store : (m : Message) (w : World) → is_store m ≡ true → (client_of m ≡ w.client → ⊥) → delivered m true (sent m w) ≡ injected (Ok m) w
 inject_store (Store client number effects base) w is other =
     let m = Store client number effects base in
-    sym (ap (λ (b : Bool). if b then w else delivered m true (sent m w)) (differs client w.client other))
+    sym (ap (λ (b : Bool). if b then w else delivered m true (sent m w)) (eq_fails client w.client other))
 inject_store (Pull client number) w is other = absurd (cc)
 inject_store (Accepted client number) w is other = absurd (cc)
 inject_store (Stale client number path theirs ours) w is other = absurd (cc)
@@ -76,7 +70,7 @@ inject_store (Malformed code offset) w is other = absurd (cc)
 inject_own : (m : Message) (w : World) → client_of m ≡ w.client → w ≡ injected (Ok m) w
 inject_own (Store client number effects base) w is =
     let m = Store client number effects base in
-    sym (ap (λ (b : Bool). if b then w else delivered m true (sent m w)) (same client w.client is))
+    sym (ap (λ (b : Bool). if b then w else delivered m true (sent m w)) (eq_holds client w.client is))
 inject_own (Pull client number) w is = refl
 inject_own (Accepted client number) w is = refl
 inject_own (Stale client number path theirs ours) w is = refl
@@ -110,9 +104,6 @@ module _ (found : Result Message FrameError) (w : World) where
 
   pub injected-other : (m : Message) → found ≡ Ok m → is_store m ≡ false → w ≡ injected found w
   injected-other m is other = inject_other m w other ∙ as_found (Ok m) is
-
-  pub injected-refused : (e : FrameError) → found ≡ Err e → w ≡ injected found w
-  injected-refused e is = as_found (Err e) is
 
 -- the moves of an injection, as far as it came
 pub moved-injected : (m : Message) (a b d : Net) → (client_of m ≡ a.client → ⊥) → IsValid m → b ≡ record a { packets = a.packets ++ m ∷ [] } → MovedFree (world_of b) (world_of d) → MovedFree (world_of a) (world_of d)

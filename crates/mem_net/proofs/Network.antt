@@ -3,7 +3,7 @@ use Rattle.std.proofs.Common.{◌≡◌, inl, inr, ⊎_elim, ℕ, zero, suc, tru
 use Rattle.std.specs.Prelude.{slice_get}
 use Rattle.std.specs.declared.alloc.Global.{Global}
 use Rattle.outside.specs.Outside.{Rose}
-use Rattle.vol_tree.specs.Behind.{IsIn}
+use Rattle.tree_values.specs.Lists.{IsIn}
 use Rattle.vol_tree.proofs.Behind.{IsIn-left}
 use Rattle.wire_frames.specs.declared.message.Message.{Message}
 use Rattle.wire_frames.specs.declared.message.FrameError.{FrameError}
@@ -65,6 +65,26 @@ noted_ask to address m answer a b d moves among is =
     let ask = ask_of to address m answer in
     subst (λ (w : World). Moved m (ask ∷ []) a w) (sym is) (moved_noted m [] ask a b moves among)
 
+module _ (to : Peer) (address : List ℕ) (m : Message) where
+  -- an ask after what was done for it
+  pub asks_on : (a b d : World) (result : Result (Vec ℕ Global) LinkError) → Moved m [] a b → AsksOnce to address m b d result → AsksOnce to address m a d result
+  asks_on a b d (Ok bytes) first then = (then.0, then.1, then.2, then.3, moved_then m [] _ a b d first then.4)
+  asks_on a b d (Err LinkFailed) first then = moved_then m [] _ a b d first then
+  asks_on a b d (Err LinkMemory) first then =
+      ⊎_elim (λ (one : _). inl (moved_then m [] _ a b d first one)) (λ (one : _). inr (moved_then m [] [] a b d first one)) then
+
+  pub directly_on : (a b d : World) (result : Result (Vec ℕ Global) LinkError) → Moved m [] a b → IsDirect to address m b d result → IsDirect to address m a d result
+  directly_on a b d (Ok bytes) first then =
+      (then.0, then.1, record { moment = then.2.moment; before = moved_then m [] [] a b then.2.moment first then.2.before; after = then.2.after; is = then.2.is })
+  directly_on a b d (Err e) first then = tt
+
+  -- an ask that is lost
+  pub lost_once : (a d : World) (result : Result (Vec ℕ Global) LinkError) → IsIn m a.packets
+      → Meets LoseRequest to address m a d result → AsksOnce to address m a d result
+  lost_once a d (Ok bytes) among met = absurd met
+  lost_once a d (Err LinkFailed) among met = noted_ask to address m Failed a a d (moved_none m a) among met
+  lost_once a d (Err LinkMemory) among met = met
+
 module _ (to : Peer) (address : List ℕ) (m : Message) (for : IsForServer m) where
   -- a request that was handled is answered
   once-answered : (bytes : Vec ℕ Global) (a d : World) → IsIn m a.packets → IsAnswered to address m a d bytes.items → AsksOnce to address m a d (Ok bytes)
@@ -100,28 +120,16 @@ module _ (to : Peer) (address : List ℕ) (m : Message) (for : IsForServer m) wh
         },
       )
 
-  -- an ask after what was done for it
-  pub asks_on : (a b d : World) (result : Result (Vec ℕ Global) LinkError) → Moved m [] a b → AsksOnce to address m b d result → AsksOnce to address m a d result
-  asks_on a b d (Ok bytes) first then = (then.0, then.1, then.2, then.3, moved_then m [] _ a b d first then.4)
-  asks_on a b d (Err LinkFailed) first then = moved_then m [] _ a b d first then
-  asks_on a b d (Err LinkMemory) first then =
-      ⊎_elim (λ (one : _). inl (moved_then m [] _ a b d first one)) (λ (one : _). inr (moved_then m [] [] a b d first one)) then
-
-  pub directly_on : (a b d : World) (result : Result (Vec ℕ Global) LinkError) → Moved m [] a b → IsDirect to address m b d result → IsDirect to address m a d result
-  directly_on a b d (Ok bytes) first then =
-      (then.0, then.1, record { moment = then.2.moment; before = moved_then m [] [] a b then.2.moment first then.2.before; after = then.2.after; is = then.2.is })
-  directly_on a b d (Err e) first then = tt
-
   -- what becomes of an ask by its fate is what an ask may do
   pub asks_once : (fate : Fate) (a d : World) (result : Result (Vec ℕ Global) LinkError) → IsIn m a.packets → Meets fate to address m a d result → AsksOnce to address m a d result
   asks_once fate a d (Err LinkMemory) among met = met
   asks_once Pass a d (Ok bytes) among met = once-answered bytes a d among met
   asks_once Pass a d (Err LinkFailed) among met = absurd met
   asks_once Twice a d (Ok bytes) among met =
-      asks_on a (delivered m true a) d (Ok bytes) (free_delivered m a for among m) (once-answered bytes (delivered m true a) d (IsIn-left m a.packets _ among) met)
+      asks_on to address m a (delivered m true a) d (Ok bytes) (free_delivered m a for among m) (once-answered bytes (delivered m true a) d (IsIn-left m a.packets _ among) met)
   asks_once Twice a d (Err LinkFailed) among met = absurd met
   asks_once LoseRequest a d (Ok bytes) among met = absurd met
-  asks_once LoseRequest a d (Err LinkFailed) among met = noted_ask to address m Failed a a d (moved_none m a) among met
+  asks_once LoseRequest a d (Err LinkFailed) among met = lost_once to address m a d (Err LinkFailed) among met
   asks_once LoseReply a d (Ok bytes) among met = absurd met
   asks_once LoseReply a d (Err LinkFailed) among met = noted_ask to address m Failed a (delivered m true a) d (free_delivered m a for among m) (IsIn-left m a.packets _ among) met
   asks_once (Old k) a d (Ok bytes) among met = once-old k bytes a d among met
@@ -137,7 +145,7 @@ module _ (to : Peer) (address : List ℕ) (m : Message) (for : IsForServer m) wh
   asks_directly fate a d before (Err e) among met calm = tt
   asks_directly Pass a d before (Ok bytes) among met calm = direct-answered bytes a d among met
   asks_directly Twice a d before (Ok bytes) among met calm =
-      directly_on a (delivered m true a) d (Ok bytes) (free_delivered m a for among m) (direct-answered bytes (delivered m true a) d (IsIn-left m a.packets _ among) met)
+      directly_on to address m a (delivered m true a) d (Ok bytes) (free_delivered m a for among m) (direct-answered bytes (delivered m true a) d (IsIn-left m a.packets _ among) met)
   asks_directly LoseRequest a d before (Ok bytes) among met calm = absurd met
   asks_directly LoseReply a d before (Ok bytes) among met calm = absurd met
   asks_directly (Old k) a d before (Ok bytes) among met calm = absurd (calm (omega arith))
@@ -155,12 +163,12 @@ module _ (to : Peer) (address : List ℕ) (m : Message) (a b d : World) (for : I
   pub met-lost-reply : (result : Result (Vec ℕ Global) LinkError) → Meets LoseRequest to address m b d result → Meets LoseReply to address m a d result
   met-lost-reply (Ok bytes) met = absurd met
   met-lost-reply (Err LinkFailed) met = met ∙ ap (answered to address m Failed) is
-  met-lost-reply (Err LinkMemory) met = asks_on to address m for a b d (Err LinkMemory) first_delivery met
+  met-lost-reply (Err LinkMemory) met = asks_on to address m a b d (Err LinkMemory) first_delivery met
 
   pub met-twice : (result : Result (Vec ℕ Global) LinkError) → Meets Pass to address m b d result → Meets Twice to address m a d result
   met-twice (Ok bytes) met = subst (λ (w : World). IsAnswered to address m w d bytes.items) is met
   met-twice (Err LinkFailed) met = absurd met
-  met-twice (Err LinkMemory) met = asks_on to address m for a b d (Err LinkMemory) first_delivery met
+  met-twice (Err LinkMemory) met = asks_on to address m a b d (Err LinkMemory) first_delivery met
 
 -- an answer is a reply to its request
 pub replied : (to : Peer) (address : List ℕ) (m : Message) (a d : World) (result : Result (Vec ℕ Global) LinkError) → AsksOnce to address m a d result → IfOk result (λ bytes. IsReplyTo m bytes.items)

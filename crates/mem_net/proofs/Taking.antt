@@ -1,12 +1,12 @@
 -- What the server's numbers tell of the store that it was given, and how its answer fits the request.
-use Rattle.std.proofs.Common.{◌≡◌, ◌≢◌, ℕ, ◌<◌, Bool, true, false, List, [], ◌∷◌, ◌++◌, length, take, Option, Result, refl, ap, arith}
+use Rattle.std.proofs.Common.{◌≡◌, ◌≢◌, ℕ, ◌<◌, Bool, true, false, List, [], ◌∷◌, ◌++◌, length, take, Option, Result, refl, ap, subst, arith}
 use Rattle.std.specs.Prelude.{nat_le, ◌==◌, if◌then◌else◌}
-use Rattle.std.proofs.lemmas.Bool.Decides.{nat_tests}
-use Rattle.vol_tree.specs.Tree.{Volume}
-use Rattle.vol_tree.specs.Effects.{Conflict, apply_all, first_conflict}
-use Rattle.vol_tree.specs.declared.node.Effect.{Effect}
-use Rattle.vol_tree.specs.declared.node.Base.{Base}
-use Rattle.vol_tree.specs.declared.node.TreeError.{TreeError}
+use Rattle.byte_fields.proofs.Facts.{eq_itself, not_le_of}
+use Rattle.tree_values.specs.Tree.{Volume}
+use Rattle.tree_values.specs.Effects.{Conflict, apply_all, first_conflict}
+use Rattle.tree_values.specs.declared.node.Effect.{Effect}
+use Rattle.tree_values.specs.declared.node.Base.{Base}
+use Rattle.tree_values.specs.declared.node.TreeError.{TreeError}
 use Rattle.wire_frames.specs.declared.message.Message.{Message}
 use Rattle.wire_frames.specs.declared.message.Message.TheVariants.{Store, Pull, Accepted, Stale, Unfit, Gap, Snapshot, Full, Malformed}
 use Rattle.wire_frames.specs.Frame.{Echoes, client_of}
@@ -16,25 +16,19 @@ use Rattle.world_rules.specs.Served.{Served, Verdict, Repeated, Early, Outdated,
 use Rattle.world_rules.specs.World.{IsForServer}
 use Rattle.world_rules.specs.Asking.{IsRequest}
 
-is_itself : (n : ℕ) → (n == n) ≡ true
-is_itself n = grind (arith, nat_tests)
-
 with_last-own : (last : ℕ → ℕ) (client number : ℕ) → with_last last client number client ≡ number
-with_last-own last client number = ap (λ (b : Bool). if b then number else last client) (is_itself client)
+with_last-own last client number = ap (λ (b : Bool). if b then number else last client) (eq_itself client)
 
 judged-new : (repeated beyond : Bool) (conflict : Option Conflict) (applied : Result Volume (ℕ × TreeError)) (volume : Volume) → Taken volume ≡ judged repeated beyond conflict applied → repeated ≡ false
 judged-new true beyond conflict applied volume is = absurd (cc)
 judged-new false beyond conflict applied volume is = refl
-
-above : (number last : ℕ) → nat_le number last ≡ false → last < number
-above number last is = grind (arith, nat_tests)
 
 module _ (client number : ℕ) (effects : List Effect) (base : List Base) (s : Served) where
   abbrev store : Message
   store = Store client number effects base
 
   new_number : (volume : Volume) → Taken volume ≡ verdict client number effects base s → s.last client < number
-  new_number volume is = above number (s.last client) (judged-new _ _ (first_conflict base s.volume) (apply_all 0 effects s.volume) volume is)
+  new_number volume is = not_le_of number (s.last client) (judged-new _ _ (first_conflict base s.volume) (apply_all 0 effects s.volume) volume is)
 
   untaken : (v : Verdict) → v ≡ verdict client number effects base s → (served_after client number v s).last client ≡ s.last client → taken_if v store ≡ []
   untaken Repeated is same = refl
@@ -97,18 +91,25 @@ answer-echoes (Snapshot client number last rows) s for = absurd for
 answer-echoes (Full client number index fault) s for = absurd for
 answer-echoes (Malformed code offset) s for = absurd for
 
--- what may be asked of a peer is for the server
-pub for_server : (to : Peer) (m : Message) → IsRequest to m → IsForServer m
-for_server Server (Store client number effects base) asked = tt
-for_server Server (Pull client number) asked = tt
-for_server Server (Accepted client number) asked = absurd asked
-for_server Server (Stale client number path theirs ours) asked = absurd asked
-for_server Server (Unfit client number index fault) asked = absurd asked
-for_server Server (Gap client number last) asked = absurd asked
-for_server Server (Snapshot client number last rows) asked = absurd asked
-for_server Server (Full client number index fault) asked = absurd asked
-for_server Server (Malformed code offset) asked = absurd asked
-for_server Surrogate m asked = absurd asked
+-- what may be asked of the server is for it
+asked_of_server : (m : Message) → IsRequest Server m → IsForServer m
+asked_of_server (Store client number effects base) asked = tt
+asked_of_server (Pull client number) asked = tt
+asked_of_server (Accepted client number) asked = absurd asked
+asked_of_server (Stale client number path theirs ours) asked = absurd asked
+asked_of_server (Unfit client number index fault) asked = absurd asked
+asked_of_server (Gap client number last) asked = absurd asked
+asked_of_server (Snapshot client number last rows) asked = absurd asked
+asked_of_server (Full client number index fault) asked = absurd asked
+asked_of_server (Malformed code offset) asked = absurd asked
+
+-- what was read of a request to the server is for it
+pub for_server : (to : Peer) (asked read : Message) → to ≡ Server → asked ≡ read → IsRequest to asked → IsForServer read
+for_server to asked read is same request =
+    asked_of_server read (subst (λ (p : Peer). IsRequest p read) is (subst (λ (m : Message). IsRequest to m) same request))
+
+pub not_the_server : Surrogate ≡ Server → ⊥
+not_the_server is = absurd (cc)
 
 pub take_front : (xs ys : List Message) → take (length xs) (xs ++ ys) ≡ xs
 take_front [] ys = refl

@@ -1,5 +1,6 @@
 -- What becomes of an ask by the fates that it meets.
-use Rattle.std.specs.Prelude.{◌≡◌, ℕ, Bool, true, false, ◌==◌, List, [], ◌∷◌, Option, Some, None, Result, Ok, Err, Vec, drop, slice_get, if◌then◌else◌}
+use Rattle.std.specs.Prelude.{◌≡◌, ℕ, Bool, true, false, ◌==◌, if◌then◌else◌, List, [], ◌∷◌, drop, slice_get, Vec}
+use Rattle.std.specs.Prelude.{Option, Some, None, Result, Ok, Err}
 use Rattle.std.specs.declared.alloc.Global.{Global}
 use Rattle.wire_frames.specs.declared.message.Message.{Message}
 use Rattle.wire_frames.specs.declared.message.Message.TheVariants.{Store, Pull}
@@ -112,7 +113,8 @@ MeetsFate Twice to address request old new (Ok frame) = IsAnswered to address re
 MeetsFate LoseRequest to address request old new (Err LinkFailed) = new ≡ answered to address request Failed old
 MeetsFate LoseReply to address request old new (Err LinkFailed) = new ≡ answered to address request Failed (delivered request true old)
 MeetsFate (Old k) to address request old new (Ok frame) = IsAnsweredByOld k to address request old new frame.items
-MeetsFate (Old k) to address request old new (Err LinkFailed) = IsNoReply (slice_get old.packets k) request × (new ≡ answered to address request Failed old)
+MeetsFate (Old k) to address request old new (Err LinkFailed) =
+    IsNoReply (slice_get old.packets k) request × (new ≡ answered to address request Failed old)
 MeetsFate fate to address request old new result = ⊥
 
 -- the troubles after an ask: one more where the fate is one, and none where memory ran out
@@ -120,7 +122,8 @@ abbrev pub troubles_after : Fate → Result (Vec ℕ Global) LinkError → ℕ �
 troubles_after fate (Err LinkMemory) troubles = troubles
 troubles_after fate _ troubles = if is_trouble fate then one_more troubles else troubles
 
--- the fates left after an ask are those behind the one that decided it; where memory ran out they are an end of those before
+-- the fates left after an ask are those behind the one that decided it; where memory ran out they are an end of those before,
+-- and none behind the deciding one is gone
 abbrev pub LeavesFates : Result (Vec ℕ Global) LinkError → List Fate → List Fate → Type 0
-LeavesFates (Err LinkMemory) fates left = IsEndOf left fates
+LeavesFates (Err LinkMemory) fates left = IsEndOf left fates × IsEndOf (left_after fates) left
 LeavesFates _ fates left = left ≡ left_after fates

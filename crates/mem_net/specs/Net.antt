@@ -22,7 +22,14 @@ pub record Net : Type 0 where
 
 -- the world that the network tells
 abbrev pub world_of : Net → World
-world_of net = record { client = net.client; opening = served net.opening; taken = net.taken; served = served net.server; packets = net.packets; asks = net.asks }
+world_of net = record {
+  client = net.client;
+  opening = served net.opening;
+  taken = net.taken;
+  served = served net.server;
+  packets = net.packets;
+  asks = net.asks;
+}
 
 -- the world of a client in which a server begins with this, and nothing was sent
 abbrev pub new_world : ℕ → Served → World

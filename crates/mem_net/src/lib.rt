@@ -10,6 +10,3 @@ mod packet;
 pub use fate::Fate;
 pub use laws::new_networks_are_in_step;
 pub use net::MemNet;
-
-#[cfg(test)]
-mod tests;

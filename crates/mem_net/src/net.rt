@@ -47,9 +47,11 @@ impl Model for MemNet {
 }
 
 impl MemNet {
-    ghost use Rattle.std.specs.Prelude.{◌≤◌, ◌∷◌, ◌++◌, [], Ok, IfOk, IfErr, IfSome, IfNone, OnOk, OnErr, option_map, slice_get, true, false};
+    ghost use Rattle.std.specs.Prelude.{◌≤◌, ◌∷◌, ◌++◌, [], true, false, option_map, slice_get};
+    ghost use Rattle.std.specs.Prelude.{Ok, IfOk, IfErr, IfSome, IfNone, OnOk, OnErr};
     ghost use Rattle.std.specs.Option.{option_copied};
-    ghost use Rattle.vol_tree.specs.Behind.{IsIn};
+    ghost use Rattle.tree_values.specs.Lists.{IsIn};
+    ghost use Rattle.wire_frames.specs.declared.message.TheConstants.{CLIENTS};
     ghost use Rattle.wire_frames.specs.Frame.{IsValid, Spells, Echoes, client_of, frame};
     ghost use Rattle.wire_frames.specs.Reading.{frame_of};
     ghost use Rattle.server_core.specs.Holding.{served};
@@ -57,7 +59,8 @@ impl MemNet {
     ghost use Rattle.world_rules.specs.World.{Moved, sent, delivered};
     ghost use Rattle.world_rules.specs.Asking.{ask_of};
     ghost use Rattle.mem_net.specs.Net.{Net, world_of, new_world};
-    ghost use Rattle.mem_net.specs.Fates.{decides, deciding, left_after, at_decision, befallen, delivered_late, injected, answered, one_more, troubles_after, IsEndOf, IsNoReply};
+    ghost use Rattle.mem_net.specs.Fates.{decides, deciding, left_after, at_decision, befallen, delivered_late, injected};
+    ghost use Rattle.mem_net.specs.Fates.{answered, one_more, troubles_after, IsEndOf, IsNoReply};
     ghost use Rattle.mem_net.specs.Inside.{MovedFree, KeepsFates, decision, Meets, Awaits};
     ghost use Rattle.mem_net.specs.declared.fate.Fate.TheVariants.{Pass, LoseRequest, Old};
 
@@ -70,7 +73,7 @@ impl MemNet {
         fates: Vec<Fate>,
     ) -> Result<MemNet, AllocError>
         requires low { 1 ≤ client }
-        requires high { client ≤ 64 }
+        requires high { client ≤ CLIENTS }
         ensures world { IfOk result (λ net. world_of net ≡ new_world client (served server)) }
         ensures server { IfOk result (λ net. net.server ≡ server) }
         ensures fates { IfOk result (λ net. net.fates ≡ fates.items) }
@@ -309,6 +312,7 @@ impl MemNet {
     /// What happens by a fate that decides nothing; one that decides is given back.
     fn befall(&mut self, fate: Fate) -> Result<Option<Fate>, AllocError>
         ensures ok { IfOk result (λ decided. decided ≡ decision fate) }
+        ensures err { OnErr result (decides fate ≡ false) }
         ensures world { OnOk result (world_of self.new ≡ befallen fate (world_of self.old)) }
         ensures moved { MovedFree (world_of self.old) (world_of self.new) }
         ensures kept { KeepsFates self.old self.new }
@@ -329,6 +333,7 @@ impl MemNet {
         ensures reached { OnOk result (world_of self.new ≡ at_decision self.old.fates (world_of self.old)) }
         ensures moved { MovedFree (world_of self.old) (world_of self.new) }
         ensures rest { IsEndOf self.new.fates self.old.fates }
+        ensures behind { IsEndOf (left_after self.old.fates) self.new.fates }
         ensures troubles { self.new.troubles ≡ self.old.troubles }
     {
         while let Some(fate) = self.take_fate() {
@@ -396,7 +401,8 @@ impl MemNet {
 
     /// A copy of the packet of this number, where it is a reply to the request.
     fn old_reply(&self, k: u32, request: &Message) -> Result<Option<Packet>, AllocError>
-        ensures some { IfOk result (λ found. IfSome found (λ reply. (slice_get self.now.packets k ≡ Some reply) × Echoes request.now reply)) }
+        ensures some { IfOk result (λ found. IfSome found (λ reply.
+            (slice_get self.now.packets k ≡ Some reply) × Echoes request.now reply)) }
         ensures none { IfOk result (λ found. IfNone found (IsNoReply (slice_get self.now.packets k) request.now)) }
     {
         match self.packet_at(k) {
@@ -488,6 +494,7 @@ impl MemNet {
         ensures moved { Moved request.now [] (world_of self.old) (world_of self.new) }
         ensures sent { OnOk result (IsIn request.now self.new.packets) }
         ensures rest { IsEndOf self.new.fates self.old.fates }
+        ensures behind { IsEndOf (left_after self.old.fates) self.new.fates }
         ensures troubles { self.new.troubles ≡ self.old.troubles }
     {
         self.send(request)?;
@@ -495,7 +502,7 @@ impl MemNet {
     }
 }
 
-pub(crate) fn is_request(message: &Message) -> bool
+fn is_request(message: &Message) -> bool
     ensures { IsTrue result ↔ IsForServer message.now }
 {
     matches!(message, Message::Store { .. } | Message::Pull { .. })
@@ -517,21 +524,27 @@ impl Link for MemNet {
     ghost use Rattle.mem_net.specs.Net.{world_of};
     ghost use Rattle.mem_net.specs.Fates.{fate_of, at_decision, MeetsFate, LeavesFates, troubles_after};
 
-    ghost world = { λ n. Some (world_of n) };
-
-    ghost troubles = { λ n. n.troubles };
+    ghost tells = { λ n. record { world = Some (world_of n); troubles = n.troubles } };
 
     /// Sends the request and takes fates up to the first that decides: that one says what becomes of the ask. An ask of
     /// the surrogate is lost.
     fn ask(&mut self, to: Peer, address: &[u8], frame: &[u8]) -> Result<Vec<u8>, LinkError>
         requires { (request : Message) × Spells request frame.now × IsRequest to request }
-        ensures reply { (request : Message) → Spells request frame.now → IfOk result (λ bytes. IsReplyTo request bytes.items) }
-        ensures world { (request : Message) → Spells request frame.now → Told (Some (world_of self.old)) (Some (world_of self.new)) (λ old new. AsksOnce to address.now request old new result) }
-        ensures direct { (request : Message) → Spells request frame.now → to ≡ Peer.Server → (Rose self.old.troubles self.new.troubles → ⊥) → Told (Some (world_of self.old)) (Some (world_of self.new)) (λ old new. IsDirect to address.now request old new result) }
+        ensures reply { (request : Message) → Spells request frame.now
+            → IfOk result (λ bytes. IsReplyTo request bytes.items) }
+        ensures world { (request : Message) → Spells request frame.now
+            → Told (Some (world_of self.old)) (Some (world_of self.new))
+            (λ old new. AsksOnce to address.now request old new result) }
+        ensures direct { (request : Message) → Spells request frame.now → to ≡ Peer.Server
+            → (Rose self.old.troubles self.new.troubles → ⊥)
+            → Told (Some (world_of self.old)) (Some (world_of self.new))
+            (λ old new. IsDirect to address.now request old new result) }
         ensures cause { HasCause LinkError.Failed self.old.troubles self.new.troubles result }
 
         // What the request, the world and the fates make of it.
-        ensures fate { (request : Message) → Spells request frame.now → MeetsFate (fate_of to self.old.fates) to address.now request (at_decision self.old.fates (sent request (world_of self.old))) (world_of self.new) result }
+        ensures fate { (request : Message) → Spells request frame.now
+            → MeetsFate (fate_of to self.old.fates) to address.now request
+            (at_decision self.old.fates (sent request (world_of self.old))) (world_of self.new) result }
         ensures fates { LeavesFates result self.old.fates self.new.fates }
         ensures troubles { self.new.troubles ≡ troubles_after (fate_of to self.old.fates) result self.old.troubles }
     {
@@ -542,13 +555,12 @@ impl Link for MemNet {
             drop(request);
             return Err(LinkError::Memory);
         };
-        let fate = match to {
-            Peer::Server => decided,
+        match to {
+            Peer::Server => self.meet(decided, to, address, request),
             Peer::Surrogate => {
                 drop(decided);
-                Fate::LoseRequest
+                self.lose(to, address, request)
             }
-        };
-        self.meet(fate, to, address, request)
+        }
     }
 }

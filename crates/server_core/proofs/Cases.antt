@@ -2,12 +2,12 @@
 use Rattle.std.proofs.Common.{◌≡◌, ℕ, ◌+◌, ◌<◌, ◌≤◌, Bool, true, false, not, cond, List, [], ◌∷◌, ◌++◌, length, find, Option, Some, None, option_map, Result, Ok, Err, refl, sym, ap, ◌∙◌, arith}
 use Rattle.std.specs.Prelude.{◌==◌, nat_lt, nat_le, if◌then◌else◌, IfOk, OnOk}
 use Rattle.std.specs.List.{AllByRecursion}
-use Rattle.std.proofs.lemmas.Bool.Decides.{nat_tests}
-use Rattle.vol_tree.specs.declared.node.Base.{Base}
-use Rattle.vol_tree.specs.declared.node.Effect.{Effect}
-use Rattle.vol_tree.specs.declared.node.TreeError.{TreeError}
-use Rattle.vol_tree.specs.Tree.{Volume, version_at, apply}
-use Rattle.vol_tree.specs.Effects.{apply_all, unless_refused_at, Conflict, first_conflict}
+use Rattle.byte_fields.proofs.Facts.{eq_holds, eq_fails, le_holds, le_fails, lt_holds, lt_fails}
+use Rattle.tree_values.specs.declared.node.Base.{Base}
+use Rattle.tree_values.specs.declared.node.Effect.{Effect}
+use Rattle.tree_values.specs.declared.node.TreeError.{TreeError}
+use Rattle.tree_values.specs.Tree.{Volume, version_at, apply}
+use Rattle.tree_values.specs.Effects.{apply_all, unless_refused_at, Conflict, first_conflict}
 use Rattle.vol_tree.proofs.Steps.{apply_all-append}
 use Rattle.wire_frames.specs.declared.message.Message.{Message}
 use Rattle.wire_frames.specs.declared.message.Message.TheVariants.{Store, Pull, Accepted, Stale, Unfit, Gap, Full}
@@ -16,12 +16,6 @@ use Rattle.server_core.specs.Inside.{is_outdated, conflict_at, EndsAs, Ends}
 use Rattle.server_core.specs.Laws.{IsServedAs, IsCurrent, RepeatsChangeNothing, GapsChangeNothing, StaleStoresChangeNothing, FullStoresChangeNothing, UnfitStoresChangeNothing, OtherStoresAreTaken, PullsTellTheRows, OthersAreMalformed}
 
 -- ---- the first path of a base that has another version
-
-same_numbers : (n m : ℕ) → n ≡ m → (n == m) ≡ true
-same_numbers n m e = grind (arith, nat_tests)
-
-other_numbers : (n m : ℕ) → (n ≡ m → ⊥) → (n == m) ≡ false
-other_numbers n m apart = grind (arith, nat_tests)
 
 -- searching the base for it finds the first conflict
 pub first_conflict-find : (volume : Volume) (bases : List Base) → option_map (conflict_at volume) (find (is_outdated volume) bases) ≡ first_conflict bases volume
@@ -36,13 +30,13 @@ first_conflict-find volume (base ∷ bases) = by (version_at volume base.path ==
 pub first_conflict-current : (volume : Volume) (bases : List Base) → AllByRecursion (IsCurrent volume) bases → first_conflict bases volume ≡ None
 first_conflict-current volume [] current = refl
 first_conflict-current volume (base ∷ bases) current =
-    ap (λ b. cond b (first_conflict bases volume) (Some (conflict_at volume base))) (same_numbers _ _ current.0) ∙ first_conflict-current volume bases current.1
+    ap (λ b. cond b (first_conflict bases volume) (Some (conflict_at volume base))) (eq_holds _ _ current.0) ∙ first_conflict-current volume bases current.1
 
 pub first_conflict-outdated : (volume : Volume) (before : List Base) (first : Base) (later : List Base) → AllByRecursion (IsCurrent volume) before → (IsCurrent volume first → ⊥)
     → first_conflict (before ++ first ∷ later) volume ≡ Some (conflict_at volume first)
-first_conflict-outdated volume [] first later current apart = ap (λ b. cond b (first_conflict later volume) (Some (conflict_at volume first))) (other_numbers _ _ apart)
+first_conflict-outdated volume [] first later current apart = ap (λ b. cond b (first_conflict later volume) (Some (conflict_at volume first))) (eq_fails _ _ apart)
 first_conflict-outdated volume (base ∷ bases) first later current apart =
-    ap (λ b. cond b (first_conflict (bases ++ first ∷ later) volume) (Some (conflict_at volume base))) (same_numbers _ _ current.0) ∙ first_conflict-outdated volume bases first later current.1 apart
+    ap (λ b. cond b (first_conflict (bases ++ first ∷ later) volume) (Some (conflict_at volume base))) (eq_holds _ _ current.0) ∙ first_conflict-outdated volume bases first later current.1 apart
 
 -- ---- the first effect that is refused
 
@@ -65,38 +59,26 @@ decided client number effects base s repeated beyond conflict applied is_repeate
   holds = λ i. served_after client number (judged (is_repeated i) (is_beyond i) (is_conflict i) (is_applied i)) s;
 }
 
-at_most : (n m : ℕ) → n ≤ m → nat_le n m ≡ true
-at_most n m le = grind (arith, nat_tests)
-
-not_at_most : (n m : ℕ) → m < n → nat_le n m ≡ false
-not_at_most n m lt = grind (arith, nat_tests)
-
-below : (n m : ℕ) → n < m → nat_lt n m ≡ true
-below n m lt = grind (arith, nat_tests)
-
-not_below : (n m : ℕ) → m ≤ n → nat_lt n m ≡ false
-not_below n m le = grind (arith, nat_tests)
-
 pub repeated : (client number : ℕ) (effects : List Effect) (base : List Base) (s : Served) → number ≤ s.last client → IsServedAs (Store client number effects base) s (Accepted client number) s
-repeated client number effects base s le = decided client number effects base s true _ _ _ (at_most _ _ le) refl refl refl
+repeated client number effects base s le = decided client number effects base s true _ _ _ (le_holds _ _ le) refl refl refl
 
 pub early : (client number : ℕ) (effects : List Effect) (base : List Base) (s : Served) → s.last client + 1 < number → IsServedAs (Store client number effects base) s (Gap client number (s.last client)) s
-early client number effects base s lt = decided client number effects base s false true _ _ (not_at_most _ _ (omega arith)) (below _ _ lt) refl refl
+early client number effects base s lt = decided client number effects base s false true _ _ (le_fails _ _ (omega arith)) (lt_holds _ _ lt) refl refl
 
 pub stale : (client number : ℕ) (effects : List Effect) (base : List Base) (s : Served) (conflict : Conflict) → number ≡ s.last client + 1 → first_conflict base s.volume ≡ Some conflict
     → IsServedAs (Store client number effects base) s (Stale client number conflict.path conflict.theirs conflict.ours) s
 stale client number effects base s conflict next found =
-    decided client number effects base s false false (Some conflict) _ (not_at_most _ _ (omega (arith, next))) (not_below _ _ (omega (arith, next))) found refl
+    decided client number effects base s false false (Some conflict) _ (le_fails _ _ (omega (arith, next))) (lt_fails _ _ (omega (arith, next))) found refl
 
 pub refused : (client number : ℕ) (effects : List Effect) (base : List Base) (s : Served) (cause : ℕ × TreeError) → number ≡ s.last client + 1 → first_conflict base s.volume ≡ None
     → apply_all 0 effects s.volume ≡ Err cause → IsServedAs (Store client number effects base) s (refusal client number cause.0 cause.1) s
 refused client number effects base s cause next current found =
-    decided client number effects base s false false None (Err cause) (not_at_most _ _ (omega (arith, next))) (not_below _ _ (omega (arith, next))) current found
+    decided client number effects base s false false None (Err cause) (le_fails _ _ (omega (arith, next))) (lt_fails _ _ (omega (arith, next))) current found
 
 pub taken : (client number : ℕ) (effects : List Effect) (base : List Base) (s : Served) (new : Volume) → number ≡ s.last client + 1 → first_conflict base s.volume ≡ None
     → apply_all 0 effects s.volume ≡ Ok new → IsServedAs (Store client number effects base) s (Accepted client number) (record { volume = new; last = with_last s.last client number })
 taken client number effects base s new next current found =
-    decided client number effects base s false false None (Ok new) (not_at_most _ _ (omega (arith, next))) (not_below _ _ (omega (arith, next))) current found
+    decided client number effects base s false false None (Ok new) (le_fails _ _ (omega (arith, next))) (lt_fails _ _ (omega (arith, next))) current found
 
 -- the end of a next store whose base is current
 pub ended : (client number : ℕ) (effects : List Effect) (base : List Base) (old new : Served) (answered : Message) → number ≡ old.last client + 1 → first_conflict base old.volume ≡ None

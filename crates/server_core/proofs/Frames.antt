@@ -7,10 +7,11 @@ use Rattle.wire_frames.specs.declared.message.Message.TheVariants.{Store, Pull, 
 use Rattle.world_rules.specs.Served.{Served, IsServed, refusal, answer, state_after, replay}
 use Rattle.world_rules.proofs.Replies.{answer-valid}
 use Rattle.wire_frames.specs.declared.message.FrameError.{FrameError}
+use Rattle.wire_frames.specs.Malformed.{refusal_code, refusal_offset}
 use Rattle.wire_frames.specs.Reading.{frame_of}
 use Rattle.std.specs.List.{cons_option}
 use Rattle.std.specs.Result.{result_ok}
-use Rattle.server_core.specs.Framing.{code_of, offset_of, answer_to, state_with, frames_after, messages_of}
+use Rattle.server_core.specs.Framing.{answer_to, state_with, frames_after, messages_of}
 use Rattle.server_core.specs.Laws.{FramesAreAnswered, OtherBytesAreMalformed, FramesActAsTheirMessages}
 
 not_for_server : (s : Served) → IsValid (Malformed 7 0)
@@ -33,7 +34,7 @@ pub others_are_malformed : OtherBytesAreMalformed
 others_are_malformed bytes s are_bytes none = by (frame_of bytes) refl
   where
     by : (read : Result Message FrameError) → frame_of bytes ≡ read
-        → (refusal : FrameError) × (frame_of bytes ≡ Err refusal) × (frame (answer_to (frame_of bytes) s) ≡ frame (Malformed (code_of refusal) (offset_of refusal))) × (state_with (frame_of bytes) s ≡ s)
+        → (refusal : FrameError) × (frame_of bytes ≡ Err refusal) × (frame (answer_to (frame_of bytes) s) ≡ frame (Malformed (refusal_code refusal) (refusal_offset refusal))) × (state_with (frame_of bytes) s ≡ s)
     by (Ok m) e = absurd (none m (frame_found bytes m are_bytes e))
     by (Err refusal) e = (refusal, e, λ i. frame (answer_to (e i) s), λ i. state_with (e i) s)
 

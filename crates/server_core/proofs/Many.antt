@@ -3,17 +3,18 @@ use Rattle.std.proofs.Common.{◌≡◌, ◌⊎◌, inl, inr, ℕ, ◌+◌, Bool
 use Rattle.std.specs.Prelude.{◌==◌, nat_lt, nat_le, count_by, if◌then◌else◌}
 use Rattle.std.specs.List.{flat_map, range_with_len, sum_by}
 use Rattle.std.proofs.lemmas.Bool.Decides.{nat_tests}
+use Rattle.byte_fields.proofs.Facts.{eq_itself}
 use Rattle.std.proofs.lemmas.Grind.{flat_map-append}
 use Rattle.std.proofs.lemmas.List.Concat.{flat_map-cons}
 use Rattle.std.proofs.lemmas.List.Sums.{sum_by-append}
 use Rattle.file_paths.specs.Path.{FilePath, is_same_path}
-use Rattle.vol_tree.specs.declared.node.Base.{Base}
-use Rattle.vol_tree.specs.declared.node.Effect.{Effect}
-use Rattle.vol_tree.specs.declared.node.Effect.TheVariants.{Make, Put, Remove, Move}
-use Rattle.vol_tree.specs.declared.node.Node.{Node}
-use Rattle.vol_tree.specs.declared.node.TreeError.{TreeError}
-use Rattle.vol_tree.specs.Tree.{Volume, version_at, node_at, touched, touched_paths, changed}
-use Rattle.vol_tree.specs.Effects.{apply_all, changed_all, touched_all, Conflict, first_conflict}
+use Rattle.tree_values.specs.declared.node.Base.{Base}
+use Rattle.tree_values.specs.declared.node.Effect.{Effect}
+use Rattle.tree_values.specs.declared.node.Effect.TheVariants.{Make, Put, Remove, Move}
+use Rattle.tree_values.specs.declared.node.Node.{Node}
+use Rattle.tree_values.specs.declared.node.TreeError.{TreeError}
+use Rattle.tree_values.specs.Tree.{Volume, version_at, node_at, touched, touched_paths, changed}
+use Rattle.tree_values.specs.Effects.{apply_all, changed_all, touched_all, Conflict, first_conflict}
 use Rattle.vol_tree.proofs.Behind.{version-touched, applied-changes}
 use Rattle.wire_frames.specs.Frame.{client_of, number_of}
 use Rattle.wire_frames.specs.declared.message.Message.{Message}
@@ -83,10 +84,7 @@ idle_or_taken _ s = inl (record { nothing = refl; same = refl })
 -- ---- numbers
 
 pub raised : (last : ℕ → ℕ) (client number : ℕ) → with_last last client number client ≡ number
-raised last client number = ap (λ b. if b then number else last client) (same client)
-  where
-    same : (n : ℕ) → (n == n) ≡ true
-    same n = grind (arith, nat_tests)
+raised last client number = ap (λ b. if b then number else last client) (eq_itself client)
 
 others_keep : (last : ℕ → ℕ) (client number other : ℕ) → (client == other) ≡ false → with_last last client number other ≡ last other
 others_keep last client number other e = ap (λ b. if b then number else last other) (apart client other e)

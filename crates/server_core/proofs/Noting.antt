@@ -1,7 +1,7 @@
 -- Whether a store was taken, and what is kept of it.
 use Rattle.std.proofs.Common.{◌≡◌, ◌⊎◌, inl, inr, ℕ, ◌+◌, true, false, not, Some, None, Result, Ok, Err, refl, sym, ap, ◌∙◌, subst, arith, true≢false}
 use Rattle.std.specs.Prelude.{◌==◌}
-use Rattle.std.proofs.lemmas.Bool.Decides.{nat_tests}
+use Rattle.byte_fields.proofs.Facts.{eq_itself, eq_fails}
 use Rattle.store_image.specs.declared.image.ServerImage.{ServerImage}
 use Rattle.store_image.proofs.Keeping.{server_once}
 use Rattle.wire_frames.specs.declared.message.Message.{Message}
@@ -19,10 +19,10 @@ use Rattle.server_core.proofs.Many.{IsIdle, IsTaken, idle_or_taken, raised}
 -- ---- a last number that differs
 
 same : (n : ℕ) → not (n == n) ≡ false
-same n = grind (arith, nat_tests)
+same n = ap not (eq_itself n)
 
 apart : (m n : ℕ) → m ≡ n + 1 → not (m == n) ≡ true
-apart m n is = grind (arith, nat_tests)
+apart m n is = ap not (eq_fails m n (λ (e : m ≡ n). omega (arith, is, e)))
 
 -- the last number of a message's client differs exactly where its store was taken
 pub noted : (message : Message) (s after : Served) → after ≡ state_after message s → not (last_of message after == last_of message s) ≡ is_any (taken_of message s)

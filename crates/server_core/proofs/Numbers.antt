@@ -2,9 +2,9 @@
 use Rattle.std.proofs.Common.{◌≡◌, ℕ, zero, suc, ◌-◌, ◌^◌, ◌<◌, ◌≤◌, Bool, true, false, List, [], length, get_or, set, replicate, refl, sym, subst, arith, eqb-true}
 use Rattle.std.specs.Prelude.{◌==◌, nat_lt, if◌then◌else◌}
 use Rattle.std.proofs.lemmas.Bool.{eqb-false, ltb-true}
-use Rattle.std.proofs.lemmas.Bool.Decides.{nat_tests}
+use Rattle.byte_fields.proofs.Facts.{not_lt_of}
 use Rattle.std.proofs.lemmas.List.{get_or-set_same, get_or-set_other, get_or-replicate, get_or_past, length-replicate}
-use Rattle.vol_tree.specs.Tree.{Volume, IsTree}
+use Rattle.tree_values.specs.Tree.{Volume, IsTree}
 use Rattle.vol_tree.proofs.Behind.{IsTree-empty}
 use Rattle.world_rules.specs.Served.{IsServed, new_served, with_last}
 use Rattle.server_core.specs.Holding.{number_of, served}
@@ -33,9 +33,6 @@ served-raised rows last client number low high = let same = number_of-set last c
 
 -- ---- a new server
 
-not_below : (k count : ℕ) → nat_lt k count ≡ false → count ≤ k
-not_below k count e = grind (arith, nat_tests)
-
 abbrev zeros : ℕ → List ℕ
 zeros count = replicate count 0
 
@@ -45,7 +42,7 @@ get_or-zeros count k = by (nat_lt k count) refl
   where
     by : (b : Bool) → nat_lt k count ≡ b → get_or (zeros count) k 0 ≡ 0
     by true e = get_or-replicate count k 0 0 (ltb-true k count e)
-    by false e = let past : length (zeros count) ≤ k = rw length-replicate (not_below k count e) in get_or_past (replicate count 0) k 0 past
+    by false e = let past : length (zeros count) ≤ k = rw length-replicate (not_lt_of k count e) in get_or_past (replicate count 0) k 0 past
 
 number_of-zeros : (count client : ℕ) → number_of (replicate count 0) client ≡ 0
 number_of-zeros count zero = refl

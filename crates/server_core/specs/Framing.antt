@@ -5,31 +5,15 @@ use Rattle.std.specs.Result.{result_ok}
 use Rattle.wire_frames.specs.declared.message.Message.{Message}
 use Rattle.wire_frames.specs.declared.message.Message.TheVariants.{Malformed}
 use Rattle.wire_frames.specs.declared.message.FrameError.{FrameError}
-use Rattle.wire_frames.specs.declared.message.FrameError.TheVariants.{BadLength, BadVersion, BadKind, BadClient, BadField, Trailing, Memory}
 use Rattle.wire_frames.specs.Frame.{frame}
+use Rattle.wire_frames.specs.Malformed.{refusal_code, refusal_offset}
 use Rattle.wire_frames.specs.Reading.{frame_of}
 use Rattle.world_rules.specs.Served.{Served, answer, state_after, taken_of}
-
--- the number that tells a refusal; want of memory is never told
-abbrev pub code_of : FrameError → ℕ
-code_of BadLength = 1
-code_of BadVersion = 2
-code_of BadKind = 3
-code_of BadClient = 4
-code_of (BadField offset) = 5
-code_of (Trailing offset) = 6
-code_of Memory = 0
-
--- the place that a refusal tells
-abbrev pub offset_of : FrameError → ℕ
-offset_of (BadField offset) = offset
-offset_of (Trailing offset) = offset
-offset_of _ = 0
 
 -- what is answered to bytes that were read, or refused
 abbrev pub answer_to : Result Message FrameError → Served → Message
 answer_to (Ok message) served = answer message served
-answer_to (Err refusal) served = Malformed (code_of refusal) (offset_of refusal)
+answer_to (Err refusal) served = Malformed (refusal_code refusal) (refusal_offset refusal)
 
 -- what is held then
 abbrev pub state_with : Result Message FrameError → Served → Served

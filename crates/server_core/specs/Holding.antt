@@ -2,7 +2,7 @@
 use Rattle.wire_frames.specs.declared.message.Message.{Message}
 use Rattle.wire_frames.specs.declared.message.Message.TheVariants.{Accepted}
 use Rattle.std.specs.Prelude.{Bool, true, false, ℕ, List, ◌∷◌, slice_index_or}
-use Rattle.vol_tree.specs.Tree.{Volume}
+use Rattle.tree_values.specs.Tree.{Volume}
 use Rattle.world_rules.specs.Served.{Served}
 
 -- the volume's rows, and the numbers of the last accepted entries of clients 1, 2, 3 and so on

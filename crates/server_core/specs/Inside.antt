@@ -1,10 +1,10 @@
 -- Words that only the contracts of private functions cite.
 use Rattle.std.specs.Prelude.{◌≡◌, ℕ, List, not, ◌==◌, Bool, Result, Ok, Err}
-use Rattle.vol_tree.specs.declared.node.Base.{Base}
-use Rattle.vol_tree.specs.Tree.{Volume, version_at}
-use Rattle.vol_tree.specs.Effects.{apply_all, Conflict}
-use Rattle.vol_tree.specs.declared.node.Effect.{Effect}
-use Rattle.vol_tree.specs.declared.node.TreeError.{TreeError}
+use Rattle.tree_values.specs.declared.node.Base.{Base}
+use Rattle.tree_values.specs.Tree.{Volume, version_at}
+use Rattle.tree_values.specs.Effects.{apply_all, Conflict}
+use Rattle.tree_values.specs.declared.node.Effect.{Effect}
+use Rattle.tree_values.specs.declared.node.TreeError.{TreeError}
 use Rattle.wire_frames.specs.declared.message.Message.{Message}
 use Rattle.wire_frames.specs.declared.message.Message.TheVariants.{Accepted, Store}
 use Rattle.wire_frames.specs.Frame.{frame}
@@ -20,7 +20,8 @@ conflict_at volume base = record { path = base.path; theirs = version_at volume 
 
 -- the reply and the state after a client's next store, whose base is current
 abbrev pub EndsAs : ℕ → ℕ → Served → Served → Message → Result Volume (ℕ × TreeError) → Type 0
-EndsAs client number old new reply (Ok volume) = (reply ≡ Accepted client number) × (new ≡ record { volume = volume; last = with_last old.last client number })
+EndsAs client number old new reply (Ok volume) =
+    (reply ≡ Accepted client number) × (new ≡ record { volume = volume; last = with_last old.last client number })
 EndsAs client number old new reply (Err cause) = (reply ≡ refusal client number cause.0 cause.1) × (new ≡ old)
 
 abbrev pub Ends : ℕ → ℕ → List Effect → Served → Served → Message → Type 0

@@ -1,21 +1,23 @@
 -- What a server answers to a store, case by case, and what becomes of stores that come in any order and any number of times.
-use Rattle.std.specs.Prelude.{◌≡◌, ℕ, ◌+◌, ◌<◌, ◌≤◌, List, [], ◌∷◌, ◌++◌, length, map, filter, count_by, ◌==◌, Ok, Err, true, false}
+use Rattle.std.specs.Prelude.{◌≡◌, ℕ, ◌+◌, ◌<◌, ◌≤◌, ◌==◌, true, false, Ok, Err, List, [], ◌∷◌, ◌++◌, length, map}
+use Rattle.std.specs.Prelude.{filter, count_by}
 use Rattle.std.specs.List.{AllByRecursion, flat_map, range_with_len}
 use Rattle.file_paths.specs.Path.{FilePath, is_same_path}
-use Rattle.vol_tree.specs.declared.node.Base.{Base}
-use Rattle.vol_tree.specs.declared.node.Effect.{Effect}
-use Rattle.vol_tree.specs.declared.node.TreeError.{TreeError}
-use Rattle.vol_tree.specs.Tree.{Volume, version_at, apply}
-use Rattle.vol_tree.specs.Effects.{apply_all, touched_all}
+use Rattle.tree_values.specs.declared.node.Base.{Base}
+use Rattle.tree_values.specs.declared.node.Effect.{Effect}
+use Rattle.tree_values.specs.declared.node.TreeError.{TreeError}
+use Rattle.tree_values.specs.Tree.{Volume, version_at, apply}
+use Rattle.tree_values.specs.Effects.{apply_all, touched_all}
 use Rattle.wire_frames.specs.Frame.{client_of, number_of}
 use Rattle.wire_frames.specs.declared.message.Message.{Message}
 use Rattle.wire_frames.specs.declared.message.Message.TheVariants.{Store, Pull, Accepted, Stale, Unfit, Gap, Snapshot, Full, Malformed}
 use Rattle.wire_frames.specs.declared.message.FrameError.{FrameError}
 use Rattle.wire_frames.specs.Frame.{frame, Spells}
+use Rattle.wire_frames.specs.Malformed.{refusal_code, refusal_offset}
 use Rattle.wire_frames.specs.Reading.{frame_of}
 use Rattle.byte_fields.specs.Codec.{IsBytes}
 use Rattle.world_rules.specs.World.{IsForServer}
-use Rattle.server_core.specs.Framing.{code_of, offset_of, frame_answer, frame_after, frames_after, takes, messages_of}
+use Rattle.server_core.specs.Framing.{frame_answer, frame_after, frames_after, takes, messages_of}
 use Rattle.world_rules.specs.Served.{Served, answer, state_after, taken_of, replay, with_last, is_want_of_room}
 
 -- ---- one store
@@ -44,19 +46,24 @@ abbrev pub StaleStoresChangeNothing : Type 0
 StaleStoresChangeNothing = (client : ℕ) (effects : List Effect) (before : List Base) (first : Base) (later : List Base) (served : Served)
     → AllByRecursion (IsCurrent served.volume) before → (IsCurrent served.volume first → ⊥)
     → let number = served.last client + 1 in
-    IsServedAs (Store client number effects (before ++ first ∷ later)) served (Stale client number first.path (version_at served.volume first.path) first.version) served
+    let theirs = version_at served.volume first.path in
+    IsServedAs (Store client number effects (before ++ first ∷ later)) served (Stale client number first.path theirs first.version) served
 
 -- else it is refused at its first effect that does not apply after those before it: as Full for want of room
 abbrev pub FullStoresChangeNothing : Type 0
-FullStoresChangeNothing = (client : ℕ) (before : List Effect) (first : Effect) (later : List Effect) (base : List Base) (served : Served) (middle : Volume) (fault : TreeError)
-    → AllByRecursion (IsCurrent served.volume) base → apply_all 0 before served.volume ≡ Ok middle → apply first middle ≡ Err fault → is_want_of_room fault ≡ true
+FullStoresChangeNothing = (client : ℕ) (before : List Effect) (first : Effect) (later : List Effect) (base : List Base)
+    → (served : Served) (middle : Volume) (fault : TreeError)
+    → AllByRecursion (IsCurrent served.volume) base
+    → apply_all 0 before served.volume ≡ Ok middle → apply first middle ≡ Err fault → is_want_of_room fault ≡ true
     → let number = served.last client + 1 in
     IsServedAs (Store client number (before ++ first ∷ later) base) served (Full client number (length before) fault) served
 
 -- and as Unfit for any other cause
 abbrev pub UnfitStoresChangeNothing : Type 0
-UnfitStoresChangeNothing = (client : ℕ) (before : List Effect) (first : Effect) (later : List Effect) (base : List Base) (served : Served) (middle : Volume) (fault : TreeError)
-    → AllByRecursion (IsCurrent served.volume) base → apply_all 0 before served.volume ≡ Ok middle → apply first middle ≡ Err fault → is_want_of_room fault ≡ false
+UnfitStoresChangeNothing = (client : ℕ) (before : List Effect) (first : Effect) (later : List Effect) (base : List Base)
+    → (served : Served) (middle : Volume) (fault : TreeError)
+    → AllByRecursion (IsCurrent served.volume) base
+    → apply_all 0 before served.volume ≡ Ok middle → apply first middle ≡ Err fault → is_want_of_room fault ≡ false
     → let number = served.last client + 1 in
     IsServedAs (Store client number (before ++ first ∷ later) base) served (Unfit client number (length before) fault) served
 
@@ -65,15 +72,18 @@ abbrev pub OtherStoresAreTaken : Type 0
 OtherStoresAreTaken = (client : ℕ) (effects : List Effect) (base : List Base) (served : Served) (new : Volume)
     → AllByRecursion (IsCurrent served.volume) base → apply_all 0 effects served.volume ≡ Ok new
     → let number = served.last client + 1 in
-    IsServedAs (Store client number effects base) served (Accepted client number) (record { volume = new; last = with_last served.last client number })
+    let after : Served = record { volume = new; last = with_last served.last client number } in
+    IsServedAs (Store client number effects base) served (Accepted client number) after
 
 -- a pull is answered by all rows and the client's last number
 abbrev pub PullsTellTheRows : Type 0
-PullsTellTheRows = (client number : ℕ) (served : Served) → IsServedAs (Pull client number) served (Snapshot client number (served.last client) served.volume) served
+PullsTellTheRows = (client number : ℕ) (served : Served)
+    → IsServedAs (Pull client number) served (Snapshot client number (served.last client) served.volume) served
 
 -- any other message is not for a server
 abbrev pub OthersAreMalformed : Type 0
-OthersAreMalformed = (message : Message) (served : Served) → (IsForServer message → ⊥) → IsServedAs message served (Malformed 7 0) served
+OthersAreMalformed = (message : Message) (served : Served) → (IsForServer message → ⊥)
+    → IsServedAs message served (Malformed 7 0) served
 
 -- ---- many messages, in any order and any number of times
 
@@ -99,7 +109,8 @@ touches path messages = count_by (λ touched. is_same_path path touched) (touche
 abbrev pub StoresAreTakenInOrder : Type 0
 StoresAreTakenInOrder = (messages : List Message) (served : Served) (client : ℕ)
     → let numbers = numbers_of client (taken_among messages served) in
-    (numbers ≡ range_with_len (served.last client + 1) (length numbers)) × ((replay messages served).last client ≡ served.last client + length numbers)
+    (numbers ≡ range_with_len (served.last client + 1) (length numbers))
+    × ((replay messages served).last client ≡ served.last client + length numbers)
 
 -- a path's version grows by the touches of the stores that are taken, and by nothing else
 abbrev pub VersionsCountTouches : Type 0
@@ -116,7 +127,8 @@ FramesAreAnswered = (message : Message) (bytes : List ℕ) (served : Served) →
 -- bytes that are no message's frame change nothing, and are answered by why they were refused
 abbrev pub OtherBytesAreMalformed : Type 0
 OtherBytesAreMalformed = (bytes : List ℕ) (served : Served) → IsBytes bytes → ((message : Message) → Spells message bytes → ⊥)
-    → (refusal : FrameError) × (frame_of bytes ≡ Err refusal) × (frame_answer bytes served ≡ frame (Malformed (code_of refusal) (offset_of refusal))) × (frame_after bytes served ≡ served)
+    → (refusal : FrameError) × (frame_of bytes ≡ Err refusal)
+    × (frame_answer bytes served ≡ frame (Malformed (refusal_code refusal) (refusal_offset refusal))) × (frame_after bytes served ≡ served)
 
 -- a frame whose store is taken raises the last number of some client by one; any other frame changes nothing
 abbrev pub TakenFramesChangeTheState : Type 0
@@ -126,4 +138,5 @@ TakenFramesChangeTheState = (bytes : List ℕ) (served : Served)
 
 -- frames do what their messages do; bytes that are refused change nothing
 abbrev pub FramesActAsTheirMessages : Type 0
-FramesActAsTheirMessages = (frames : List (List ℕ)) (served : Served) → frames_after frames served ≡ replay (messages_of frames) served
+FramesActAsTheirMessages = (frames : List (List ℕ)) (served : Served)
+    → frames_after frames served ≡ replay (messages_of frames) served

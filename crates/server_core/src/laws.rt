@@ -1,5 +1,9 @@
 // What a server makes of stores: functions that do nothing, whose contracts are laws.
-ghost use Rattle.server_core.specs.Laws.{RepeatsChangeNothing, GapsChangeNothing, StaleStoresChangeNothing, FullStoresChangeNothing, UnfitStoresChangeNothing, OtherStoresAreTaken, PullsTellTheRows, OthersAreMalformed, StoresAreTakenInOrder, VersionsCountTouches, FramesActAsTheirMessages, FramesAreAnswered, OtherBytesAreMalformed, TakenFramesChangeTheState};
+ghost use Rattle.server_core.specs.Laws.{RepeatsChangeNothing, GapsChangeNothing, StaleStoresChangeNothing};
+ghost use Rattle.server_core.specs.Laws.{FullStoresChangeNothing, UnfitStoresChangeNothing, OtherStoresAreTaken};
+ghost use Rattle.server_core.specs.Laws.{PullsTellTheRows, OthersAreMalformed, StoresAreTakenInOrder, VersionsCountTouches};
+ghost use Rattle.server_core.specs.Laws.{FramesActAsTheirMessages, FramesAreAnswered, OtherBytesAreMalformed};
+ghost use Rattle.server_core.specs.Laws.{TakenFramesChangeTheState};
 ghost use Rattle.server_core.specs.Keeping.{OneStateIsKept};
 
 /// States the answer to a message and what is held then, case by case.

@@ -8,6 +8,3 @@ pub use laws::{
     frames_are_answered, messages_are_answered, one_state_is_kept, stores_are_taken_once,
 };
 pub use server::Server;
-
-#[cfg(test)]
-mod tests;

@@ -1,21 +1,23 @@
 // What a server holds, and how it answers.
-ghost use Rattle.std.specs.Prelude.{◌≡◌, ◌≤◌, ◌+◌, ◌<◌, ◌^◌, IfOk, OnOk, OnErr, find, option_map, replicate, Some, None, Ok, Err, ◌-◌, ◌≢◌, false};
+ghost use Rattle.std.specs.Prelude.{◌≡◌, ◌≢◌, ◌≤◌, ◌<◌, ◌+◌, ◌-◌, ◌^◌, false, find, option_map, replicate};
+ghost use Rattle.std.specs.Prelude.{Some, None, Ok, Err, IfOk, OnOk, OnErr};
 ghost use Rattle.std.specs.Option.{option_copied};
-ghost use Rattle.vol_tree.specs.Effects.{first_conflict as conflict_in, apply_all as applied_all};
+ghost use Rattle.tree_values.specs.Effects.{first_conflict as conflict_in, apply_all as applied_all};
 ghost use Rattle.std.specs.List.{AllByRecursion};
-ghost use Rattle.vol_tree.specs.Tree.{IsLegalEffect};
+ghost use Rattle.tree_values.specs.Tree.{IsLegalEffect};
+ghost use Rattle.wire_frames.specs.declared.message.TheConstants.{CLIENTS};
 ghost use Rattle.wire_frames.specs.Frame.{IsValid, frame};
 ghost use Rattle.world_rules.specs.Served.{IsServed, new_served, answer, state_after, taken_of, refusal as refusal_of, with_last};
 ghost use Rattle.server_core.specs.Holding.{Holding, served, is_acceptance};
 ghost use Rattle.server_core.specs.Keeping.{holding_of, IsKeptForServed};
-ghost use Rattle.server_core.specs.Framing.{code_of, offset_of, frame_answer, frame_after, is_any, takes};
+ghost use Rattle.server_core.specs.Framing.{frame_answer, frame_after, is_any, takes};
 ghost use Rattle.server_core.specs.Inside.{is_outdated, Ends, IsAcceptanceOf, last_of};
 
 use std::alloc::{AllocError, Global};
 use std::marker::Model;
 use store_image::{ServerImage, write_server};
 use vol_tree::{ApplyAllError, Base, Bases, Effects, Tree, TreeError, TryCopy, apply_all};
-use wire_frames::{FrameError, Message, read, write};
+use wire_frames::{FrameError, Message, malformed, read, write};
 
 /// The volume, and for each of the clients 1 to 64 the number of its last accepted entry.
 #[derive(Drop)]
@@ -76,7 +78,7 @@ impl Server {
     /// The number of the client's last accepted entry; 0 where there is none.
     pub fn last(&self, client: u8) -> u64
         requires low { 1 ≤ client }
-        requires high { client ≤ 64 }
+        requires high { client ≤ CLIENTS }
         ensures last { result ≡ (served self.now).last client }
         ensures legal { IsServed (served self.now) }
     {
@@ -217,7 +219,7 @@ impl Server {
     /// Applies the effects of the client's next store, whose base is current.
     fn take(&mut self, client: u8, number: u64, effects: &Effects) -> Result<Message, AllocError>
         requires low { 1 ≤ client }
-        requires high { client ≤ 64 }
+        requires high { client ≤ CLIENTS }
         requires legal { AllByRecursion IsLegalEffect effects.now }
         ensures ok { IfOk result (Ends client number effects.now (served self.old) (served self.new)) }
         ensures err { OnErr result (self.new ≡ self.old) }
@@ -341,22 +343,4 @@ fn in_frame(alloc: Global, message: Message) -> Result<Vec<u8>, AllocError>
     let frame = write(alloc, &message);
     drop(message);
     frame
-}
-
-/// What is answered to bytes that are refused.
-fn malformed(refusal: &FrameError) -> Message
-    requires { refusal.now ≢ FrameError.Memory }
-    ensures reply { result ≡ Message.Malformed (code_of refusal.now) (offset_of refusal.now) }
-    ensures valid { IsValid result }
-{
-    let (code, offset) = match refusal {
-        FrameError::BadLength => (1, 0),
-        FrameError::BadVersion => (2, 0),
-        FrameError::BadKind => (3, 0),
-        FrameError::BadClient => (4, 0),
-        FrameError::BadField(offset) => (5, *offset),
-        FrameError::Trailing(offset) => (6, *offset),
-        FrameError::Memory => unreachable!(),
-    };
-    Message::Malformed { code, offset }
 }

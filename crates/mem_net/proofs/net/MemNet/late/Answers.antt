@@ -1,5 +1,5 @@
 use Rattle.std.proofs.Common.{◌≡◌, ◌∙◌, Some, sym, ap, subst, rules}
-use Rattle.vol_tree.specs.Behind.{IsIn}
+use Rattle.tree_values.specs.Lists.{IsIn}
 use Rattle.wire_frames.specs.declared.message.Message.{Message}
 use Rattle.world_rules.specs.World.{IsForServer}
 use Rattle.std.specs.Prelude.{slice_get}

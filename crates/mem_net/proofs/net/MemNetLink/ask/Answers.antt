@@ -1,46 +1,91 @@
-use Rattle.std.proofs.Common.{ℕ, Vec, sym, subst, IfOk}
+use Rattle.std.proofs.Common.{ℕ, Vec, refl, sym, ◌∙◌, subst, IfOk}
 use Rattle.std.specs.declared.alloc.Global.{Global}
 use Rattle.outside.specs.Outside.{Rose}
 use Rattle.wire_frames.specs.declared.message.Message.{Message}
+use Rattle.world_rules.specs.declared.asking.Peer.{Peer}
 use Rattle.world_rules.specs.World.{IsForServer}
 use Rattle.world_rules.specs.Asking.{AsksOnce, IsDirect, IsReplyTo, IsRequest}
 use Rattle.mem_net.specs.Net.{world_of}
-use Rattle.mem_net.proofs.Taking.{for_server}
-use Rattle.mem_net.proofs.Network.{asks_on, asks_once, directly_on, asks_directly, replied, same_request}
+use Rattle.mem_net.proofs.Deciding.{left_is_end}
+use Rattle.mem_net.proofs.Taking.{for_server, not_the_server}
+use Rattle.mem_net.proofs.Network.{asks_on, asks_once, lost_once, directly_on, asks_directly, replied, same_request}
 use Rattle.mem_net.proofs.net.MemNetLink.ask.Goals as goal
 
-pub returns-clause-reply : goal.returns-clause-reply
-returns-clause-reply c = λ request spells.
+-- ---- an ask of the server
+
+pub meet-requires-clause-request : goal.meet-requires-clause-request
+meet-requires-clause-request c =
+    let m = c.in-Ok.request in
+    let same = same_request m c.requires.0 (c.in-Ok.ensures.only c.requires.0 c.requires.1.0 c.requires.1.1) in
+    for_server c.args.to c.requires.0 m c.in-Server.is same c.requires.2
+
+pub returns-in-Server-clause-reply : goal.returns-in-Server-clause-reply
+returns-in-Server-clause-reply c = λ request spells.
     let m = c.in-Ok.request in
     let same = same_request m request (c.in-Ok.ensures.only request spells.0 spells.1) in
-    let for : IsForServer m = for_server c.args.to m (subst (λ (x : Message). IsRequest c.args.to x) (same_request m c.requires.0 (c.in-Ok.ensures.only c.requires.0 c.requires.1.0 c.requires.1.1)) c.requires.2) in
     let b = world_of c.reach.new.self in
     let d = world_of c.meet.new.self in
+    let asked = same_request m c.requires.0 (c.in-Ok.ensures.only c.requires.0 c.requires.1.0 c.requires.1.1) in
+    let for : IsForServer m = for_server c.args.to c.requires.0 m c.in-Server.is asked c.requires.2 in
+    let once = asks_once c.args.to c.args.address.now m for c.in-Ok-reach.decided b d c.meet.result c.in-Ok-reach.ensures.sent c.meet.ensures.met in
     subst (λ (x : Message). IfOk c.meet.result (λ (bytes : Vec ℕ Global). IsReplyTo x bytes.items)) (sym same)
-    (replied c.args.to c.args.address.now m b d c.meet.result (asks_once c.args.to c.args.address.now m for c.match-to.fate b d c.meet.result c.in-Ok-reach.ensures.sent c.meet.ensures.met))
+    (replied c.args.to c.args.address.now m b d c.meet.result once)
 
-pub returns-clause-world : goal.returns-clause-world
-returns-clause-world c = λ request spells.
+pub returns-in-Server-clause-world : goal.returns-in-Server-clause-world
+returns-in-Server-clause-world c = λ request spells.
     let m = c.in-Ok.request in
     let same = same_request m request (c.in-Ok.ensures.only request spells.0 spells.1) in
-    let for : IsForServer m = for_server c.args.to m (subst (λ (x : Message). IsRequest c.args.to x) (same_request m c.requires.0 (c.in-Ok.ensures.only c.requires.0 c.requires.1.0 c.requires.1.1)) c.requires.2) in
     let a = world_of c.args.self.now in
     let b = world_of c.reach.new.self in
     let d = world_of c.meet.new.self in
+    let asked = same_request m c.requires.0 (c.in-Ok.ensures.only c.requires.0 c.requires.1.0 c.requires.1.1) in
+    let for : IsForServer m = for_server c.args.to c.requires.0 m c.in-Server.is asked c.requires.2 in
+    let once = asks_once c.args.to c.args.address.now m for c.in-Ok-reach.decided b d c.meet.result c.in-Ok-reach.ensures.sent c.meet.ensures.met in
     subst (λ (x : Message). AsksOnce c.args.to c.args.address.now x a d c.meet.result) (sym same)
-    (asks_on c.args.to c.args.address.now m for a b d c.meet.result c.in-Ok-reach.ensures.moved
-    (asks_once c.args.to c.args.address.now m for c.match-to.fate b d c.meet.result c.in-Ok-reach.ensures.sent c.meet.ensures.met))
+    (asks_on c.args.to c.args.address.now m a b d c.meet.result c.in-Ok-reach.ensures.moved once)
 
-pub returns-clause-direct : goal.returns-clause-direct
-returns-clause-direct c = λ request spells to_server quiet.
+pub returns-in-Server-clause-direct : goal.returns-in-Server-clause-direct
+returns-in-Server-clause-direct c = λ request spells to_server quiet.
     let m = c.in-Ok.request in
     let same = same_request m request (c.in-Ok.ensures.only request spells.0 spells.1) in
-    let for : IsForServer m = for_server c.args.to m (subst (λ (x : Message). IsRequest c.args.to x) (same_request m c.requires.0 (c.in-Ok.ensures.only c.requires.0 c.requires.1.0 c.requires.1.1)) c.requires.2) in
     let a = world_of c.args.self.now in
     let b = world_of c.reach.new.self in
     let d = world_of c.meet.new.self in
     let before = c.reach.new.self.troubles in
+    let asked = same_request m c.requires.0 (c.in-Ok.ensures.only c.requires.0 c.requires.1.0 c.requires.1.1) in
+    let for : IsForServer m = for_server c.args.to c.requires.0 m c.in-Server.is asked c.requires.2 in
     subst (λ (x : Message). IsDirect c.args.to c.args.address.now x a d c.meet.result) (sym same)
-    (directly_on c.args.to c.args.address.now m for a b d c.meet.result c.in-Ok-reach.ensures.moved
-    (asks_directly c.args.to c.args.address.now m for c.match-to.fate b d before c.meet.result c.in-Ok-reach.ensures.sent c.meet.ensures.met
+    (directly_on c.args.to c.args.address.now m a b d c.meet.result c.in-Ok-reach.ensures.moved
+    (asks_directly c.args.to c.args.address.now m for c.in-Ok-reach.decided b d before c.meet.result c.in-Ok-reach.ensures.sent c.meet.ensures.met
     (λ rose. quiet (subst (λ (n : ℕ). Rose n c.meet.new.self.troubles) c.in-Ok-reach.ensures.troubles (subst (λ (n : ℕ). Rose before n) (sym c.meet.ensures.troubles) rose)))))
+
+-- ---- want of memory before the request is sent
+
+pub returns-in_default-clause-fates : goal.returns-in_default-clause-fates
+returns-in_default-clause-fates c = ((0, refl), left_is_end c.args.self.now.fates)
+
+-- ---- an ask of the surrogate, which is lost
+
+pub returns-in-Surrogate-clause-reply : goal.returns-in-Surrogate-clause-reply
+returns-in-Surrogate-clause-reply c = λ request spells.
+    let m = c.in-Ok.request in
+    let b = world_of c.reach.new.self in
+    let d = world_of c.lose.new.self in
+    let same = same_request m request (c.in-Ok.ensures.only request spells.0 spells.1) in
+    let once = lost_once c.args.to c.args.address.now m b d c.lose.result c.in-Ok-reach.ensures.sent c.lose.ensures.met in
+    subst (λ (x : Message). IfOk c.lose.result (λ (bytes : Vec ℕ Global). IsReplyTo x bytes.items)) (sym same)
+    (replied c.args.to c.args.address.now m b d c.lose.result once)
+
+pub returns-in-Surrogate-clause-world : goal.returns-in-Surrogate-clause-world
+returns-in-Surrogate-clause-world c = λ request spells.
+    let m = c.in-Ok.request in
+    let a = world_of c.args.self.now in
+    let b = world_of c.reach.new.self in
+    let d = world_of c.lose.new.self in
+    let same = same_request m request (c.in-Ok.ensures.only request spells.0 spells.1) in
+    let once = lost_once c.args.to c.args.address.now m b d c.lose.result c.in-Ok-reach.ensures.sent c.lose.ensures.met in
+    subst (λ (x : Message). AsksOnce c.args.to c.args.address.now x a d c.lose.result) (sym same)
+    (asks_on c.args.to c.args.address.now m a b d c.lose.result c.in-Ok-reach.ensures.moved once)
+
+pub returns-in-Surrogate-clause-direct : goal.returns-in-Surrogate-clause-direct
+returns-in-Surrogate-clause-direct c = λ request spells to_server quiet. absurd (not_the_server (sym c.in-Surrogate.is ∙ to_server))

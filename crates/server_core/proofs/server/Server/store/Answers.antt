@@ -1,7 +1,7 @@
 use Rattle.std.proofs.Common.{◌≡◌, ◌+◌, Some, None, sym, ap, arith}
 use Rattle.std.specs.List.{find}
 use Rattle.std.proofs.lemmas.Result.{IfOk-weaker}
-use Rattle.vol_tree.specs.Tree.{version_at}
+use Rattle.tree_values.specs.Tree.{version_at}
 use Rattle.world_rules.proofs.Replies.{store-effects}
 use Rattle.server_core.specs.Holding.{Holding, number_of, served}
 use Rattle.server_core.specs.Inside.{is_outdated, conflict_at, Ends}
