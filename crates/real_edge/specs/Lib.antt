@@ -1,6 +1,5 @@
-pub mod Counting
+pub mod Port
 pub mod Frames
 pub mod Held
 pub mod Inside
 pub mod Pace
-pub mod Program

@@ -1,5 +1,5 @@
 -- How long a connection goes on.
-use Rattle.std.specs.Prelude.{ℕ, ◌*◌, ◌-◌, nat_lt, if◌then◌else◌}
+use Rattle.std.specs.Prelude.{◌≡◌, ◌≤◌, ◌⊎◌, ℕ, ◌+◌, ◌*◌, ◌-◌, ◌^◌, min, nat_lt, if◌then◌else◌, Result, Ok, Err}
 use Rattle.std.specs.Time.{instant_nanos}
 use Rattle.std.specs.declared.time.Instant.{Instant}
 use Rattle.real_edge.specs.declared.pace.Window.{Window}
@@ -47,3 +47,24 @@ spent window now = instant_nanos now - instant_nanos window.start
 -- for how many nanoseconds it may go on
 abbrev pub limit : Window → ℕ
 limit window = (if nat_lt window.moved head_bytes then window.head_seconds else window_seconds) * second
+
+-- a window that so many more bytes went through
+abbrev pub after_bytes : ℕ → Window → Window
+after_bytes many window = record window { moved = min (window.moved + many) (2 ^ 64 - 1) }
+
+-- it begins so at some moment
+abbrev pub StartsBy : (Instant → Window) → Window → Type 0
+StartsBy start window = (now : Instant) × (window ≡ start now)
+
+-- what is left of a window at some moment
+abbrev pub Lasts : Window → ℕ → Type 0
+Lasts window left = (now : Instant) × (left ≡ limit window - spent window now)
+
+-- the window that holds after one: itself, or where it is over and moved its share, the next one
+abbrev pub GoesOn : Window → Window → Type 0
+GoesOn window next = (next ≡ window) ⊎ ((window_bytes ≤ window.moved) × (now : Instant) × (limit window ≤ spent window now) × (next ≡ fresh now))
+
+-- a call moved so many bytes in the window that held then, or it failed
+abbrev pub Moves : {E : Type 0} → Result ℕ E → Window → Window → Type 0
+Moves (Ok count) before after = (window : Window) × GoesOn before window × (after ≡ after_bytes count window)
+Moves (Err e) before after = GoesOn before after

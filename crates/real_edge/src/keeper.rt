@@ -1,8 +1,7 @@
 // Images as files.
 ghost use Rattle.std.specs.Prelude.{◌≡◌, ◌↔◌, None, IsTrue, IfOk};
-ghost use Rattle.outside.specs.Outside.{Told, HasCause};
+ghost use Rattle.outside.specs.Outside.{Told, CountsFault};
 ghost use Rattle.outside.specs.Keeper.{Images, Loads, Saves};
-ghost use Rattle.real_edge.specs.Counting.{Counts};
 ghost use Rattle.real_edge.specs.Held.{Holds};
 
 use crate::faults::count_fault;
@@ -162,9 +161,8 @@ impl<'a, R: Files<File = File>> Keeper for FileKeeper<'a, R> {
 
     fn load(&mut self, name: &[u8]) -> Result<Option<Vec<u8>>, KeepError>
         ensures images { Told {A = Images} None None (λ old new. Loads name.now result old new) }
-        ensures cause { HasCause KeepError.Failed self.old.faults self.new.faults result }
+        ensures cause { CountsFault KeepError.Failed self.old.faults self.new.faults result }
 
-        ensures counted { Counts KeepError.Failed self.old.faults self.new.faults result }
         ensures held { IfOk result (λ _. Holds self.new.held name.now) }
     {
         match self.read_image(name) {
@@ -181,9 +179,8 @@ impl<'a, R: Files<File = File>> Keeper for FileKeeper<'a, R> {
 
     fn save(&mut self, name: &[u8], bytes: &[u8]) -> Result<(), KeepError>
         ensures images { Told {A = Images} None None (λ old new. Saves name.now bytes.now result old new) }
-        ensures cause { HasCause KeepError.Failed self.old.faults self.new.faults result }
+        ensures cause { CountsFault KeepError.Failed self.old.faults self.new.faults result }
 
-        ensures counted { Counts KeepError.Failed self.old.faults self.new.faults result }
         ensures held { IfOk result (λ _. Holds self.new.held name.now) }
     {
         match self.write_image(name, bytes) {

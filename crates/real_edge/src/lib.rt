@@ -1,5 +1,5 @@
-//! The real streams and sockets behind the traits of the outside. An adapter tells nothing of what it carries, and counts
-//! each call that failed. Every wait for a peer has an end.
+//! The real streams and sockets behind the traits of the outside. An adapter carries what its reader gives and its writer
+//! takes, tells the traits none of it, and counts each call that failed. Every wait for a peer has an end.
 #![tactic(auto)]
 
 mod faults;
@@ -10,12 +10,13 @@ mod lock;
 mod names;
 mod pace;
 mod port;
-mod program;
 mod streams;
 mod wants;
 
 pub use keeper::FileKeeper;
 pub use link::TcpLink;
 pub use port::TcpPort;
-pub use program::{Page, end, page_asked, program_words, show};
 pub use streams::{StdSink, StdSource};
+
+#[cfg(test)]
+mod tests;

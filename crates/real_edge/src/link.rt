@@ -1,11 +1,10 @@
 // Asks over TCP.
 ghost use Rattle.std.specs.Prelude.{◌≡◌, ◌≤◌, None, IfOk, OnOk};
-ghost use Rattle.outside.specs.Outside.{Told, Rose, HasCause};
+ghost use Rattle.outside.specs.Outside.{Told, Rose, HasCause, CountsFault};
 ghost use Rattle.wire_frames.specs.declared.message.Message.{Message};
 ghost use Rattle.wire_frames.specs.Frame.{Spells};
 ghost use Rattle.world_rules.specs.World.{World};
 ghost use Rattle.world_rules.specs.Asking.{IsRequest, IsReplyTo, AsksOnce, IsDirect};
-ghost use Rattle.real_edge.specs.Counting.{Counts};
 
 use crate::faults::count_fault;
 use crate::frames::read_frame;
@@ -45,7 +44,7 @@ impl<'a, N: Net + Clock> TcpLink<'a, N> {
     }
 
     /// Sends the frame over a new connection, and gives the frame that comes back.
-    fn exchange(&self, address: &[u8], frame: &[u8]) -> io::Result<Vec<u8>> {
+    pub(crate) fn exchange(&self, address: &[u8], frame: &[u8]) -> io::Result<Vec<u8>> {
         let stream = connect(self.net, address)?;
         let mut stream = Paced::start(stream, self.net)?;
         let reply = converse(self.alloc, &mut stream, frame);
@@ -116,7 +115,7 @@ fn failure_of(refused: &FrameError) -> LinkError {
 }
 
 /// Connects to the first address of a peer that answers.
-fn connect<N: Net>(net: &N, address: &[u8]) -> io::Result<N::Stream> {
+pub(crate) fn connect<N: Net>(net: &N, address: &[u8]) -> io::Result<N::Stream> {
     let Ok(address) = str::from_utf8(address) else {
         return Err(io::Error::from(ErrorKind::InvalidInput));
     };
@@ -139,9 +138,7 @@ fn refusal_of(error: io::Error) -> LinkError {
 }
 
 impl<'a, N: Net + Clock> Link for TcpLink<'a, N> {
-    ghost world = { λ _. None };
-
-    ghost troubles = { λ l. l.troubles };
+    ghost tells = { λ l. record { world = None; troubles = l.troubles } };
 
     fn ask(&mut self, _to: Peer, address: &[u8], frame: &[u8]) -> Result<Vec<u8>, LinkError>
         requires { (request : Message) × Spells request frame.now × IsRequest _to request }
@@ -154,7 +151,7 @@ impl<'a, N: Net + Clock> Link for TcpLink<'a, N> {
             → Told {A = World} None None (λ old new. IsDirect _to address.now request old new result) }
         ensures cause { HasCause LinkError.Failed self.old.troubles self.new.troubles result }
 
-        ensures counted { Counts LinkError.Failed self.old.troubles self.new.troubles result }
+        ensures counted { CountsFault LinkError.Failed self.old.troubles self.new.troubles result }
     {
         let answered = self.reply_to(address, frame);
         if let Err(LinkError::Failed) = &answered {

@@ -1,7 +1,9 @@
 // How long a connection may take.
-ghost use Rattle.std.specs.Prelude.{◌≡◌, ◌-◌, ◌*◌, ◌≤◌, ◌<◌, min, None, Some, MatchOption};
+ghost use Rattle.std.specs.Prelude.{◌≡◌, ◌-◌, ◌*◌, ◌≤◌, ◌<◌, min, None, Some, IfOk, OnOk, OnErr, MatchOption};
 ghost use Rattle.std.specs.Duration.{as_nanos};
-ghost use Rattle.real_edge.specs.Pace.{window_bytes, silence, parting, fresh, of_request, spent, limit};
+ghost use Rattle.std.specs.Io.{ReadsAtMost, WritesAtMost};
+ghost use Rattle.std.specs.Io.KnownBytes.{Keeps, ReadConsumes, WriteAppends};
+ghost use Rattle.real_edge.specs.Pace.{window_bytes, silence, parting, fresh, of_request, spent, limit, after_bytes, StartsBy, GoesOn, Moves, Lasts};
 
 use std::io;
 use std::io::{ErrorKind, Read, Write};
@@ -105,7 +107,9 @@ pub(crate) struct Paced<'a, S: Read + Write + OpenStream + Drop, C: Clock> {
 
 impl<'a, S: Read + Write + OpenStream + Drop, C: Clock> Paced<'a, S, C> {
     /// Starts the time of a stream.
-    pub(crate) fn start(stream: S, clock: &'a C) -> io::Result<Paced<'a, S, C>> {
+    pub(crate) fn start(stream: S, clock: &'a C) -> io::Result<Paced<'a, S, C>>
+        ensures { IfOk result (λ paced. (paced.stream ≡ stream) × StartsBy fresh paced.window) }
+    {
         let window = Window::new(Instant::now(clock)?);
         Ok(Paced {
             stream,
@@ -115,7 +119,9 @@ impl<'a, S: Read + Write + OpenStream + Drop, C: Clock> Paced<'a, S, C> {
     }
 
     /// Starts the time of a stream that brings a request.
-    pub(crate) fn start_request(stream: S, clock: &'a C) -> io::Result<Paced<'a, S, C>> {
+    pub(crate) fn start_request(stream: S, clock: &'a C) -> io::Result<Paced<'a, S, C>>
+        ensures { IfOk result (λ paced. (paced.stream ≡ stream) × StartsBy of_request paced.window) }
+    {
         let window = Window::of_request(Instant::now(clock)?);
         Ok(Paced {
             stream,
@@ -125,13 +131,19 @@ impl<'a, S: Read + Write + OpenStream + Drop, C: Clock> Paced<'a, S, C> {
     }
 
     /// Starts the stream's time anew.
-    pub(crate) fn restart(&mut self) -> io::Result<()> {
+    pub(crate) fn restart(&mut self) -> io::Result<()>
+        ensures window { OnOk result (StartsBy fresh self.new.window) }
+        ensures stream { self.new.stream ≡ self.old.stream }
+    {
         self.window = Window::new(Instant::now(self.clock)?);
         Ok(())
     }
 
     /// Waits for the peer's next byte, or its end, and starts the stream's time anew there.
-    pub(crate) fn wait(&mut self) -> io::Result<()> {
+    pub(crate) fn wait(&mut self) -> io::Result<()>
+        ensures window { OnOk result (StartsBy fresh self.new.window) }
+        ensures stream { self.new.stream ≡ self.old.stream }
+    {
         self.restart()?;
         for _ in 0..TRIES {
             self.limit_read()?;
@@ -145,7 +157,9 @@ impl<'a, S: Read + Write + OpenStream + Drop, C: Clock> Paced<'a, S, C> {
     }
 
     /// Ends what is written, and leaves the peer a moment to end, too.
-    pub(crate) fn part(self) -> io::Result<Parting<'a, S, C>> {
+    pub(crate) fn part(self) -> io::Result<Parting<'a, S, C>>
+        ensures { IfOk result (λ parting. parting.stream ≡ self.entry.stream) }
+    {
         self.stream.shutdown(Shutdown::Write)?;
         let start = Instant::now(self.clock)?;
         Ok(Parting {
@@ -156,7 +170,11 @@ impl<'a, S: Read + Write + OpenStream + Drop, C: Clock> Paced<'a, S, C> {
     }
 
     /// The longest wait of the next call: what is left of the window.
-    fn time_left(&mut self) -> io::Result<Duration> {
+    fn time_left(&mut self) -> io::Result<Duration>
+        ensures left { IfOk result (λ left. Lasts self.new.window (as_nanos left)) }
+        ensures window { GoesOn self.old.window self.new.window }
+        ensures stream { self.new.stream ≡ self.old.stream }
+    {
         let now = Instant::now(self.clock)?;
         match self.window.at(now) {
             Some(window) => {
@@ -168,19 +186,27 @@ impl<'a, S: Read + Write + OpenStream + Drop, C: Clock> Paced<'a, S, C> {
     }
 
     /// Gives the next read what is left of the window.
-    fn limit_read(&mut self) -> io::Result<()> {
+    fn limit_read(&mut self) -> io::Result<()>
+        ensures window { GoesOn self.old.window self.new.window }
+        ensures stream { self.new.stream ≡ self.old.stream }
+    {
         let left = self.time_left()?;
         self.stream.set_read_timeout(Some(left))
     }
 
     /// Gives the next write what is left of the window.
-    fn limit_write(&mut self) -> io::Result<()> {
+    fn limit_write(&mut self) -> io::Result<()>
+        ensures window { GoesOn self.old.window self.new.window }
+        ensures stream { self.new.stream ≡ self.old.stream }
+    {
         let left = self.time_left()?;
         self.stream.set_write_timeout(Some(left))
     }
 
     /// Counts what a call moved.
-    fn count(&mut self, moved: usize) {
+    fn count(&mut self, moved: usize)
+        ensures { self.new ≡ record self.old { window = after_bytes moved self.old.window } }
+    {
         self.window.moved = self.window.moved.saturating_add(moved as u64);
     }
 }
@@ -191,7 +217,15 @@ fn is_passing(error: &io::Error) -> bool {
 }
 
 impl<'a, S: Read + Write + OpenStream + Drop, C: Clock> Read for Paced<'a, S, C> {
-    fn read(&mut self, buf: &mut [u8]) -> io::Result<usize> {
+    ghost remaining = { λ paced. S.remaining paced.stream };
+
+    #[tactic(auto, using(crate::proofs::Pacing::keeps_same, crate::proofs::Pacing::reads_then, crate::proofs::Pacing::stays, crate::proofs::Pacing::goes_on, crate::proofs::Pacing::moved))]
+    fn read(&mut self, buf: &mut [u8]) -> io::Result<usize>
+        ensures bound { ReadsAtMost result buf.new }
+        ensures bytes { ReadConsumes (S.remaining self.old.stream) (S.remaining self.new.stream) result buf.new }
+
+        ensures window { Moves result self.old.window self.new.window }
+    {
         for _ in 0..TRIES {
             self.limit_read()?;
             match self.stream.read(buf) {
@@ -208,7 +242,15 @@ impl<'a, S: Read + Write + OpenStream + Drop, C: Clock> Read for Paced<'a, S, C>
 }
 
 impl<'a, S: Read + Write + OpenStream + Drop, C: Clock> Write for Paced<'a, S, C> {
-    fn write(&mut self, buf: &[u8]) -> io::Result<usize> {
+    ghost contents = { λ paced. S.contents paced.stream };
+
+    #[tactic(auto, using(crate::proofs::Pacing::keeps_same, crate::proofs::Pacing::writes_then, crate::proofs::Pacing::stays, crate::proofs::Pacing::goes_on, crate::proofs::Pacing::moved))]
+    fn write(&mut self, buf: &[u8]) -> io::Result<usize>
+        ensures bound { WritesAtMost result buf.now }
+        ensures bytes { WriteAppends (S.contents self.old.stream) (S.contents self.new.stream) result buf.now }
+
+        ensures window { Moves result self.old.window self.new.window }
+    {
         for _ in 0..TRIES {
             self.limit_write()?;
             match self.stream.write(buf) {
@@ -223,7 +265,9 @@ impl<'a, S: Read + Write + OpenStream + Drop, C: Clock> Write for Paced<'a, S, C
         Err(io::Error::from(ErrorKind::TimedOut))
     }
 
-    fn flush(&mut self) -> io::Result<()> {
+    fn flush(&mut self) -> io::Result<()>
+        ensures bytes { Keeps (S.contents self.old.stream) (S.contents self.new.stream) }
+    {
         self.stream.flush()
     }
 }
@@ -249,7 +293,12 @@ fn wait_after(spent: Duration) -> Option<Duration>
 }
 
 impl<'a, S: Read + Write + OpenStream + Drop, C: Clock> Read for Parting<'a, S, C> {
-    fn read(&mut self, buf: &mut [u8]) -> io::Result<usize> {
+    ghost remaining = { λ parting. S.remaining parting.stream };
+
+    fn read(&mut self, buf: &mut [u8]) -> io::Result<usize>
+        ensures bound { ReadsAtMost result buf.new }
+        ensures bytes { ReadConsumes (S.remaining self.old.stream) (S.remaining self.new.stream) result buf.new }
+    {
         let spent = self.start.elapsed(self.clock)?;
         let Some(wait) = wait_after(spent) else {
             return Err(io::Error::from(ErrorKind::TimedOut));

@@ -1,8 +1,10 @@
 // Connections over TCP.
-ghost use Rattle.std.specs.Prelude.{◌≡◌, ◌-◌, ◌↔◌, ◌≤◌, ℕ, List, [], None, Ok, IfOk};
-ghost use Rattle.outside.specs.Outside.{Rose, HasCause};
+ghost use Rattle.std.specs.Prelude.{◌≡◌, ◌-◌, ◌↔◌, List, ℕ, [], None, Ok, Err, IfOk, OnOk, OnErr, IsErr};
+ghost use Rattle.std.specs.Io.KnownBytes.{Appends};
+ghost use Rattle.outside.specs.Outside.{CountsFault};
 ghost use Rattle.outside.specs.Port.{AddsFrames, frames_of_take, frames_of_answer};
-ghost use Rattle.real_edge.specs.Counting.{Counts, connections};
+ghost use Rattle.real_edge.specs.Pace.{StartsBy, of_request};
+ghost use Rattle.real_edge.specs.Port.{connections};
 
 use crate::faults::count_fault;
 use crate::frames::{MAX_FRAME, read_frame};
@@ -24,6 +26,8 @@ pub struct TcpPort<'a, N: Net + Clock> {
     alloc: Global,
     net: &'a N,
     listener: N::Listener,
+    /// The address at which it listens.
+    pub address: &'a str,
     talk: Option<Paced<'a, N::Stream, N>>,
     left: u32,
     faults: u64,
@@ -35,13 +39,14 @@ impl<'a, N: Net + Clock> TcpPort<'a, N> {
     /// # Errors
     ///
     /// The platform's, where the address is of no form or in use.
-    pub fn bind(alloc: Global, net: &'a N, address: &str) -> io::Result<TcpPort<'a, N>>
-        ensures { IfOk result (λ port. (port.left ≡ connections) × (port.faults ≡ 0)) }
+    pub fn bind(alloc: Global, net: &'a N, address: &'a str) -> io::Result<TcpPort<'a, N>>
+        ensures { IfOk result (λ port. (port.left ≡ connections) × (port.faults ≡ 0) × (port.address.now ≡ address.now)) }
     {
         Ok(TcpPort {
             alloc,
             net,
             listener: TcpListener::bind(net, address)?,
+            address,
             talk: None,
             left: CONNECTIONS,
             faults: 0,
@@ -57,10 +62,17 @@ impl<'a, N: Net + Clock> TcpPort<'a, N> {
         Ok(self.listener.local_addr()?.port())
     }
 
+    /// Waits for the next connection, whose time starts then.
+    fn next_talk(&self) -> io::Result<Paced<'a, N::Stream, N>>
+        ensures { IfOk result (λ talk. StartsBy of_request talk.window) }
+    {
+        let stream = next_connection(&self.listener, self.net)?;
+        Paced::start_request(stream, self.net)
+    }
+
     /// Waits for the next connection, and reads its frame.
     fn accept(&self) -> io::Result<(Paced<'a, N::Stream, N>, Vec<u8>)> {
-        let stream = next_connection(&self.listener, self.net)?;
-        let mut talk = Paced::start_request(stream, self.net)?;
+        let mut talk = self.next_talk()?;
         match read_frame(self.alloc, &mut talk) {
             Ok(frame) => Ok((talk, frame)),
             Err(error) => {
@@ -71,18 +83,37 @@ impl<'a, N: Net + Clock> TcpPort<'a, N> {
     }
 }
 
-/// Sends the frame, and closes the connection. The time before, in which its own node worked, is not the peer's.
-fn send<S: Read + Write + OpenStream + Drop, C: Clock>(
+/// Sends the frame over the connection, where there is one, and closes it.
+fn reply<S: Read + Write + OpenStream + Drop, C: Clock>(
     talk: Option<Paced<'_, S, C>>,
     frame: &[u8],
-) -> io::Result<()> {
+) -> io::Result<()>
+    ensures { talk.entry ≡ None → IsErr result }
+{
     let Some(mut talk) = talk else {
         return Err(io::Error::from(ErrorKind::NotConnected));
     };
+    match send(&mut talk, frame) {
+        Ok(()) => {
+            let _parted = part(talk);
+            Ok(())
+        }
+        Err(error) => {
+            drop(talk);
+            Err(error)
+        }
+    }
+}
+
+/// Sends the frame. The time before, in which its own node worked, is not the peer's.
+fn send<S: Read + Write + OpenStream + Drop, C: Clock>(
+    talk: &mut Paced<'_, S, C>,
+    frame: &[u8],
+) -> io::Result<()>
+    ensures { OnOk result (Appends (S.contents talk.old.stream) (S.contents talk.new.stream) frame.now) }
+{
     talk.restart()?;
-    talk.write_all(frame)?;
-    let _parted = part(talk);
-    Ok(())
+    talk.write_all(frame)
 }
 
 /// Reads what the peer still sends until it closes, or for a moment, since a connection that is closed before may lose its
@@ -92,14 +123,19 @@ fn part<S: Read + Write + OpenStream + Drop, C: Clock>(talk: Paced<'_, S, C>) ->
     io::copy(&mut rest.take(MAX_FRAME as u64), &mut io::sink())
 }
 
-/// Counts a connection that failed, and says so. Want of memory for a frame ends its connection alone.
-fn failed(faults: &mut u64) -> PortError
-    ensures later { faults.old ≤ faults.new }
-    ensures rose { Rose faults.old faults.new }
-    ensures counted { Counts {T = ℕ} PortError.Failed faults.old faults.new (Err result) }
+/// What came of a connection, where a failure is counted. Want of memory for a frame ends its connection alone.
+fn counted<T>(came: io::Result<T>, faults: &mut u64) -> Result<T, PortError>
+    ensures ok { IfOk came (λ value. result ≡ Ok value) }
+    ensures err { OnErr came (result ≡ Err PortError.Failed) }
+    ensures cause { CountsFault PortError.Failed faults.old faults.new result }
 {
-    count_fault(faults);
-    PortError::Failed
+    match came {
+        Ok(value) => Ok(value),
+        Err(_) => {
+            count_fault(faults);
+            Err(PortError::Failed)
+        }
+    }
 }
 
 impl<'a, N: Net + Clock> Port for TcpPort<'a, N> {
@@ -116,35 +152,26 @@ impl<'a, N: Net + Clock> Port for TcpPort<'a, N> {
         ensures none { (result ≡ Ok None) ↔ (self.old.left ≡ 0) }
         ensures taken { AddsFrames None None (frames_of_take result) }
         ensures answered { AddsFrames None None [] }
-        ensures cause { HasCause PortError.Failed self.old.faults self.new.faults result }
-
-        ensures counted { Counts PortError.Failed self.old.faults self.new.faults result }
+        ensures cause { CountsFault PortError.Failed self.old.faults self.new.faults result }
     {
         if self.left == 0 {
             return Ok(None);
         }
         self.left -= 1;
         self.talk = None;
-        match self.accept() {
-            Ok((talk, frame)) => {
-                self.talk = Some(talk);
-                Ok(Some(frame))
-            }
-            Err(_) => Err(failed(&mut self.faults)),
-        }
+        let came = self.accept();
+        let (talk, frame) = counted(came, &mut self.faults)?;
+        self.talk = Some(talk);
+        Ok(Some(frame))
     }
 
     fn answer(&mut self, frame: &[u8]) -> Result<(), PortError>
         ensures left { self.new.left ≡ self.old.left }
         ensures taken { AddsFrames None None [] }
         ensures answered { AddsFrames None None (frames_of_answer frame.now result) }
-        ensures cause { HasCause PortError.Failed self.old.faults self.new.faults result }
-
-        ensures counted { Counts PortError.Failed self.old.faults self.new.faults result }
+        ensures cause { CountsFault PortError.Failed self.old.faults self.new.faults result }
     {
-        match send(self.talk.take(), frame) {
-            Ok(()) => Ok(()),
-            Err(_) => Err(failed(&mut self.faults)),
-        }
+        let sent = reply(self.talk.take(), frame);
+        counted(sent, &mut self.faults)
     }
 }

@@ -1,13 +1,13 @@
 // The standard streams as a source and a sink.
 ghost use Rattle.std.specs.Prelude.{◌≡◌, ◌<◌, ◌≤◌, ℕ, List, None, length, IfOk};
-ghost use Rattle.outside.specs.Outside.{Told, Reads, Writes, HasCause};
-ghost use Rattle.real_edge.specs.Counting.{Counts};
+ghost use Rattle.std.specs.Io.KnownBytes.{ReadConsumes, WriteAppends};
+ghost use Rattle.outside.specs.Outside.{Told, Reads, Writes, CountsFault};
 
 use crate::faults::count_fault;
 use outside::{Failed, Sink, SinkError, Source};
 use std::io::{Read, Write};
 
-/// A reader, as standard input.
+/// A reader, as standard input. It gives the bytes that the reader gives, and ends where the reader ends.
 #[derive(Drop)]
 pub struct StdSource<R: Read + Drop> {
     reader: R,
@@ -32,9 +32,9 @@ impl<R: Read + Drop> Source for StdSource<R> {
         requires { 0 < length buf.old }
         ensures within { IfOk result (λ count. count ≤ length buf.old) }
         ensures bytes { Told {A = List ℕ} None None (λ old new. Reads old new buf.new result) }
-        ensures cause { HasCause (record {}) self.old.faults self.new.faults result }
+        ensures cause { CountsFault (record {}) self.old.faults self.new.faults result }
 
-        ensures counted { Counts (record {}) self.old.faults self.new.faults result }
+        ensures reader { ReadConsumes (R.remaining self.old.reader) (R.remaining self.new.reader) result buf.new }
     {
         match self.reader.read(buf) {
             Ok(count) => Ok(count),
@@ -46,7 +46,7 @@ impl<R: Read + Drop> Source for StdSource<R> {
     }
 }
 
-/// A writer, as standard output.
+/// A writer, as standard output. What it takes is written to the writer.
 #[derive(Drop)]
 pub struct StdSink<W: Write + Drop> {
     writer: W,
@@ -72,9 +72,9 @@ impl<W: Write + Drop> Sink for StdSink<W> {
         requires { 0 < length piece.now }
         ensures within { IfOk result (λ count. (0 < count) × (count ≤ length piece.now)) }
         ensures bytes { Told {A = List ℕ} None None (λ old new. Writes old new piece.now result) }
-        ensures cause { HasCause SinkError.Failed self.old.faults self.new.faults result }
+        ensures cause { CountsFault SinkError.Failed self.old.faults self.new.faults result }
 
-        ensures counted { Counts SinkError.Failed self.old.faults self.new.faults result }
+        ensures writer { WriteAppends (W.contents self.old.writer) (W.contents self.new.writer) result piece.now }
     {
         match self.writer.write(piece) {
             Ok(count) if count > 0 => Ok(count),

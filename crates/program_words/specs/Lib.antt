@@ -1,0 +1,4 @@
+pub mod Status
+pub mod Pages
+pub mod Numbers
+pub mod Inside

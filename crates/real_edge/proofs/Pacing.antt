@@ -1,0 +1,47 @@
+-- Calls that are made again within one window of a connection's time, or two.
+use Rattle.std.proofs.Common.{◌≡◌, ◌≤◌, inl, inr, ℕ, ◌∙◌, List, ◌++◌, take, Option, None, Some, Result, Ok, Err, refl, sym, subst, ap, arith}
+use Rattle.std.proofs.KnownBytes.{Keeps-trans}
+use Rattle.std.specs.Io.KnownBytes.{Keeps, Appends, Consumes, IsAtEnd, ReadConsumes, WriteAppends}
+use Rattle.std.specs.declared.time.Instant.{Instant}
+use Rattle.real_edge.specs.declared.pace.Window.{Window}
+use Rattle.real_edge.specs.Pace.{window_bytes, fresh, limit, spent, after_bytes, GoesOn}
+
+-- ---- known bytes
+
+pub keeps_same : (a : Option (List ℕ)) → Keeps a a
+keeps_same None = tt
+keeps_same (Some x) = refl
+
+keeps_appends : (a b c : Option (List ℕ)) (piece : List ℕ) → Keeps a b → Appends b c piece → Appends a c piece
+keeps_appends None b c piece first second = tt
+keeps_appends (Some x) None c piece first second = absurd first
+keeps_appends (Some x) (Some y) None piece first second = absurd second
+keeps_appends (Some x) (Some y) (Some z) piece first second = second ∙ ap (λ (l : List ℕ). l ++ piece) first
+
+keeps_consumes : (a b c : Option (List ℕ)) (piece : List ℕ) → Keeps a b → Consumes b c piece → Consumes a c piece
+keeps_consumes None b c piece first second = tt
+keeps_consumes (Some x) None c piece first second = absurd first
+keeps_consumes (Some x) (Some y) None piece first second = absurd second
+keeps_consumes (Some x) (Some y) (Some z) piece first second = sym first ∙ second
+
+pub reads_then : {E : Type 0} (a b c : Option (List ℕ)) (r : Result ℕ E) (buf : List ℕ) → Keeps a b → ReadConsumes b c r buf → ReadConsumes a c r buf
+reads_then a b c (Ok n) buf first second = (keeps_consumes a b c (take n buf) first second.0, second.1)
+reads_then a b c (Err e) buf first second = Keeps-trans a b c first second
+
+pub writes_then : {E : Type 0} (a b c : Option (List ℕ)) (r : Result ℕ E) (buf : List ℕ) → Keeps a b → WriteAppends b c r buf → WriteAppends a c r buf
+writes_then a b c (Ok n) buf first second = keeps_appends a b c (take n buf) first second
+writes_then a b c (Err e) buf first second = Keeps-trans a b c first second
+
+-- ---- windows
+
+pub stays : (a : Window) → GoesOn a a
+stays a = inl refl
+
+-- no third window follows within one call, since the second has moved nothing yet
+pub goes_on : (a b c : Window) → GoesOn a b → GoesOn b c → GoesOn a c
+goes_on a b c (inl same) second = subst (λ (w : Window). GoesOn w c) same second
+goes_on a b c (inr next) (inl same) = inr (next.0, next.1, next.2, same ∙ next.3)
+goes_on a b c (inr next) (inr third) = absurd (omega (arith, third.0, ap (λ (w : Window). w.moved) next.3))
+
+pub moved : (a b c : Window) (count : ℕ) → GoesOn a b → c ≡ after_bytes count b → (window : Window) × GoesOn a window × (c ≡ after_bytes count window)
+moved a b c count first is = (b, first, is)
