@@ -1,9 +1,8 @@
 -- Two runs, the second begun on what the first left kept, leave together what one run leaves.
 use Rattle.std.proofs.Common.{◌≡◌, ◌⊎◌, inl, inr, ⊎_elim, ℕ, zero, suc, ◌+◌, ◌-◌, ◌≤◌, List, [], ◌∷◌, ◌++◌, length, drop, Option, Result, Ok, Err, refl, sym, ◌∙◌, ap, subst, arith, length-append}
 use Rattle.std.proofs.lemmas.List.{append-nil}
-use Rattle.outside.specs.Keeper.{Images}
 use Rattle.file_paths.specs.declared.path.PathError.{PathError}
-use Rattle.vol_tree.specs.declared.node.Effect.{Effect}
+use Rattle.tree_values.specs.declared.node.Effect.{Effect}
 use Rattle.mod_log.specs.declared.log.Entry.{Entry}
 use Rattle.mod_log.specs.declared.log.LogError.{LogError}
 use Rattle.mod_log.specs.Log.{Log, logged}
@@ -30,9 +29,9 @@ use Rattle.shell_lang.specs.declared.answer.Answer.{Answer}
 use Rattle.client_prog.specs.declared.input.InputEnd.{InputEnd}
 use Rattle.client_prog.specs.declared.run.Stop.{Stop}
 use Rattle.client_prog.specs.declared.run.Stop.TheVariants as stops
-use Rattle.client_prog.specs.Session.{State, opened, put_effect, make_effect, remove_effect, move_effect, LogTurn, LineTurn, BreaksOff, Broken, BreaksChain}
+use Rattle.client_session.specs.Session.{SessionState, opened, put_effect, make_effect, remove_effect, move_effect, LogTurn, LineTurn, BreaksOff, Broken, BreaksChain}
 use Rattle.client_prog.specs.Run.{asked_for, Handles, RunTurn}
-use Rattle.client_prog.specs.Headline.{Ran}
+use Rattle.client_prog.specs.Headline.{Around, Ran}
 use Rattle.client_prog.specs.Composing.{LeaveTogether}
 use Rattle.client_prog.proofs.RunningLeaves.{leaves}
 
@@ -90,9 +89,9 @@ acknowledged_know client route zero before after trace turn = (subst (λ (t : Tr
 acknowledged_know client route (suc count) before after trace turn =
     let middle : Log = turn.0 in
     let earlier : Trace = turn.1 in
-    let all = acknowledged_know client route count before middle earlier turn.4 in
-    let is : last_number after ≡ last_number before = ap last_number turn.6 ∙ counts_first middle.acked middle.pending turn.2 turn.5.first ∙ all.1 in
-    (subst (λ (t : Trace). KnowAll (last_number before) t.changes) (sym turn.7) (know-append (last_number before) earlier.changes (after ∷ []) all.0 (is, tt)), is)
+    let all = acknowledged_know client route count before middle earlier turn.3 in
+    let is : last_number after ≡ last_number before = ap last_number turn.5 ∙ counts_first middle.acked middle.pending turn.4.entry turn.4.first ∙ all.1 in
+    (subst (λ (t : Trace). KnowAll (last_number before) t.changes) (sym turn.6) (know-append (last_number before) earlier.changes (after ∷ []) all.0 (is, tt)), is)
 
 acknowledged_then : (client : ℕ) (route : Route) (count : ℕ) (before after : Log) (earlier trace : Trace) (last : List Ask) → Acknowledges client route count before after earlier
     → trace ≡ followed earlier (asking last) → AtMostOne before after trace.changes
@@ -124,12 +123,12 @@ pull_knows client route before Memory after trace turn = snapshot_knows client r
 
 -- ---- a line
 
-module _ (before after : State) (trace : Trace) where
+module _ (before after : SessionState) (trace : Trace) where
   abbrev LineKnows : Type 0
   LineKnows = AtMostOne before.client.log after.client.log trace.changes
 
   untouched : after ≡ before → trace ≡ nothing → LineKnows
-  untouched same none = still before.client.log after.client.log trace.changes (ap (λ (s : State). s.client.log) same) (ap (λ (t : Trace). t.changes) none)
+  untouched same none = still before.client.log after.client.log trace.changes (ap (λ (s : SessionState). s.client.log) same) (ap (λ (t : Trace). t.changes) none)
 
   local_knows : (effect : Effect) (result : Result ℕ LogError) → LocalTurn effect before.client.log result after.client.log trace → LineKnows
   local_knows effect (Ok number) turn =
@@ -152,7 +151,7 @@ module _ (before after : State) (trace : Trace) where
   line_knows route (Ok (lines.Cat word)) answer turn = untouched turn.1 turn.2
   line_knows route (Ok (lines.List word)) answer turn = untouched turn.1 turn.2
   line_knows route (Ok (lines.Enter word)) answer turn =
-      still before.client.log after.client.log trace.changes (ap (λ (s : State). s.client.log) turn.1) (ap (λ (t : Trace). t.changes) turn.2)
+      still before.client.log after.client.log trace.changes (ap (λ (s : SessionState). s.client.log) turn.1) (ap (λ (t : Trace). t.changes) turn.2)
   line_knows route (Ok lines.Status) answer turn = untouched turn.1 turn.2
   line_knows route (Ok lines.Sync) answer turn =
       acknowledged_then before.client.number route turn.1.0 before.client.log after.client.log turn.1.1 trace turn.1.2 turn.1.3 turn.1.5
@@ -182,36 +181,34 @@ module _ (before after : State) (trace : Trace) where
 
 -- ---- a run
 
-module _ (route : Route) (before after : State) (kept : Log) where
+module _ (route : Route) (before after : SessionState) (kept : Log) where
   abbrev LacksAtMostOne : Type 0
   LacksAtMostOne = last_number after.client.log ≤ last_number kept + 1
 
   all_kept : kept ≡ after.client.log → LacksAtMostOne
   all_kept is = omega (arith, ap last_number is)
 
-  chain_kept : (asked : List (Result Line LineError)) (answers : List ℕ) (trace : Trace) → BreaksChain route before asked answers after kept trace → LacksAtMostOne
+  chain_kept : (asked : List (Result Line LineError)) (answers : List (Option Answer)) (trace : Trace) → BreaksChain route before asked answers after kept trace → LacksAtMostOne
   chain_kept asked answers trace breaks =
-      let middle : State = breaks.2 in
+      let middle : SessionState = breaks.2 in
       let broken : Trace = breaks.4 in
       kept_but_one middle.client.log after.client.log kept broken.changes (broken_knows middle after broken route breaks.1 breaks.7) breaks.8
 
-  handled_kept : (stop : Stop) (handled : List (List ℕ)) (answers : List ℕ) (trace : Trace) → Handles stop route before handled answers after kept trace → LacksAtMostOne
+  handled_kept : (stop : Stop) (handled : List (List ℕ)) (answers : List (Option Answer)) (trace : Trace) → Handles stop route before handled answers after kept trace → LacksAtMostOne
   handled_kept stops.Sink handled answers trace all = all_kept all.1
   handled_kept stops.Keeper handled answers trace some = ⊎_elim (λ all. all_kept all.1) (λ breaks. chain_kept (asked_for handled) answers trace breaks) some
   handled_kept stops.Memory handled answers trace some = ⊎_elim (λ all. all_kept all.1) (λ breaks. chain_kept (asked_for handled) answers trace breaks) some
 
-  run_kept : (left rest o n : Option (List ℕ)) (ended : Result InputEnd Stop) (trace : Trace) → RunTurn route before left rest o n ended after kept trace → LacksAtMostOne
-  run_kept left rest o n (Ok end) trace turn = all_kept turn.3.1
-  run_kept left rest o n (Err stop) trace turn =
-      ⊎_elim (λ did. handled_kept stop did.0 did.2 trace did.4) (λ closing. all_kept closing.1.3.1) turn.3
+  run_kept : (left rest o n : Option (List ℕ)) (answers : List (Option Answer)) (ended : Result InputEnd Stop) (trace : Trace) → RunTurn route before left rest answers o n ended after kept trace → LacksAtMostOne
+  run_kept left rest o n answers (Ok end) trace turn = all_kept turn.3.1
+  run_kept left rest o n answers (Err stop) trace turn =
+      ⊎_elim (λ did. handled_kept stop did.0 answers trace did.4) (λ closing. all_kept closing.1.3.1) turn.3
 
-pub runs_compose : (client : ℕ) (route other_route : Route) (start : Log) (left rest written now : Option (List ℕ)) (images images_now : Option Images) (status troubles troubles_now : ℕ)
-    (other_left other_rest other_written other_now : Option (List ℕ)) (other_images other_images_now : Option Images) (other_status other_troubles other_troubles_now : ℕ)
-    (old middle begun new : World) → InStep client start old
-    → (first : Ran client route start left rest written now images images_now status troubles troubles_now old middle) → GoesOnAlone middle begun
-    → (second : Ran client other_route first.kept other_left other_rest other_written other_now other_images other_images_now other_status other_troubles other_troubles_now begun new)
+pub runs_compose : (client : ℕ) (route other_route : Route) (start : Log) (around around_now other other_now : Around) (status other_status : ℕ) (old middle begun new : World) → InStep client start old
+    → (first : Ran client route start around around_now status old middle) → GoesOnAlone middle begun
+    → (second : Ran client other_route first.kept other other_now other_status begun new)
     → LeaveTogether client start second.after.client.log second.kept status first.goes.trace.entries second.goes.trace.entries old new
-runs_compose client route other_route start left rest written now images images_now status troubles troubles_now other_left other_rest other_written other_now other_images other_images_now other_status other_troubles other_troubles_now old middle begun new in_step first alone second =
+runs_compose client route other_route start around around_now other other_now status other_status old middle begun new in_step first alone second =
     let did = first.goes.trace in
     let does = second.goes.trace in
     let last = first.after.client.log in
@@ -220,7 +217,7 @@ runs_compose client route other_route start left rest written now images images_
     let whole = counted_later client did.entries did.asks (kept_at start old) (stand last kept middle) in_step first.goes.runs in
     let held = counted_later client part.0 did.asks (kept_at start old) (kept_at kept middle) in_step part.3 in
     let sum = ap length part.2 ∙ length-append part.0 part.1 in
-    let lacks = run_kept route (opened client start) first.after kept left rest written now first.ended did first.goes.turn in
+    let lacks = run_kept route (opened client start) first.after kept around.left around_now.left around.written around_now.written first.answers first.ended did first.goes.turn in
     let joined = runs_then client part.0 does.entries did.asks does.asks (kept_at start old) (kept_at kept middle) (stand second.after.client.log second.kept new) part.3
     (runs_then client [] does.entries [] does.asks (kept_at kept middle) (kept_at kept begun) (stand second.after.client.log second.kept new) (alone_runs client kept middle begun alone) second.goes.runs) in
     record {
@@ -228,8 +225,8 @@ runs_compose client route other_route start left rest written now images images_
       lost = part.1;
       all = part.2;
       at_most_one = omega (arith, whole, held, sum, lacks);
-      none = λ other more.
-          let same : kept ≡ last = first.kept_last other more ∙ sym first.goes.keeping.last in
+      none = λ not_five not_seven.
+          let same : kept ≡ last = first.kept_last not_five not_seven ∙ sym first.goes.keeping.last in
           none_pending part.1 (omega (arith, whole, held, sum, ap last_number same));
       leaves = leaves client (part.0 ++ does.entries) (did.asks ++ does.asks) start second.after.client.log second.kept old new in_step joined;
     }

@@ -1,13 +1,11 @@
 pub mod Composing
-pub mod Doing
+pub mod Counting
 pub mod InputReading
-pub mod Numbers
 pub mod Quitting
+pub mod RunningAnswers
 pub mod RunningEnds
 pub mod RunningInput
 pub mod RunningLeaves
 pub mod RunningLines
 pub mod RunningOpened
 pub mod RunningPieces
-pub mod Found
-pub mod Turning

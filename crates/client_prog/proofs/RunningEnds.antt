@@ -14,35 +14,37 @@ use Rattle.client_prog.specs.declared.input.TheConstants.{MAX_INPUT}
 use Rattle.client_prog.specs.declared.run.Stop.{Stop}
 use Rattle.client_prog.specs.declared.run.Stop.TheVariants.{Sink, Keeper, Memory}
 use Rattle.client_prog.specs.Input.{EndsAt, within_limit, lines_at}
-use Rattle.client_prog.specs.Session.{State}
-use Rattle.client_prog.specs.Run.{status_of, closing_at, closing_line, has_quit, end_of, HasLines, StopsIn, RunTurn, IsRead}
-use Rattle.client_prog.specs.InsideRun.{AnswersInput, TakesInput}
+use Rattle.client_session.specs.Session.{SessionState}
+use Rattle.client_prog.specs.Run.{status_of, closing_at, closing_line, has_quit, end_of, HasLines, StopsIn, IsRead}
+use Rattle.client_prog.specs.InsideRun.{AnswersInput, TakesInput, RunAnswers}
 
-module _ (route : Route) (before : State) (left rest o : Option (List ℕ)) where
-  pub run_stops : (stop : Stop) (n : Option (List ℕ)) (after : State) (k : Log) (p : Trace) → AnswersInput route before left rest o n (Err stop) after k p → RunTurn route before left rest o n (Err stop) after k p
-  run_stops stop n after k p turn = (turn.0, turn.1, turn.2, inl turn.3)
+module _ (route : Route) (before : SessionState) (left rest o : Option (List ℕ)) where
+  pub run_stops : (stop : Stop) (n : Option (List ℕ)) (after : SessionState) (k : Log) (p : Trace) → AnswersInput route before left rest o n (Err stop) after k p → RunAnswers route before left rest o n (Err stop) after k p
+  run_stops stop n after k p turn = (turn.3.0, (turn.0, turn.1, turn.2, inl turn.3.1))
 
-  pub run_ends : (end : InputEnd) (m n : Option (List ℕ)) (after : State) (k : Log) (p : Trace) → AnswersInput route before left rest o m (Ok end) after k p → Adds m n (closing_at end after)
-      → RunTurn route before left rest o n (Ok end) after k p
-  run_ends end m n after k p turn adds = (turn.0, turn.2.0, turn.1, (turn.2.1, turn.3), adds_then o m n turn.2.0 (closing_at end after) turn.2.2 adds)
+  pub run_ends : (end : InputEnd) (m n : Option (List ℕ)) (after : SessionState) (k : Log) (p : Trace) → AnswersInput route before left rest o m (Ok end) after k p → Adds m n (closing_at end after)
+      → RunAnswers route before left rest o n (Ok end) after k p
+  run_ends end m n after k p turn adds =
+      let all = turn.2 in (all.0, (turn.0, all.1, turn.1, (all.2, turn.3), all.3, adds_then o m n all.1 (closing_at end after) all.4 adds))
 
-  pub run_closing : (end : InputEnd) (stop : Stop) (count : ℕ) (m n : Option (List ℕ)) (after : State) (k : Log) (p : Trace) → end ≡ Read → stop ≢ Keeper → AnswersInput route before left rest o m (Ok end) after k p
-      → Adds m n (take count (closing_line after)) → RunTurn route before left rest o n (Err stop) after k p
+  pub run_closing : (end : InputEnd) (stop : Stop) (count : ℕ) (m n : Option (List ℕ)) (after : SessionState) (k : Log) (p : Trace) → end ≡ Read → stop ≢ Keeper → AnswersInput route before left rest o m (Ok end) after k p
+      → Adds m n (take count (closing_line after)) → RunAnswers route before left rest o n (Err stop) after k p
   run_closing end stop count m n after k p is other turn adds =
-      (turn.0, end, turn.1, inr (is, (turn.2.0, count, other, (turn.2.1, turn.3), adds_then o m n turn.2.0 (take count (closing_line after)) turn.2.2 adds)))
+      let all = turn.2 in
+      (all.0, (turn.0, end, turn.1, inr (is, (all.1, count, other, (all.2, turn.3), all.3, adds_then o m n all.1 (take count (closing_line after)) all.4 adds))))
 
 -- nothing was taken
 nothing_taken : (left : Option (List ℕ)) → HasLines left left [] Failed
 nothing_taken left = record { input = []; taken = takes_nothing left; end = Failed; stands = omega arith; lines_are = refl; ended_is = refl }
 
-stops_at_once : (stop : Stop) (route : Route) (before : State) (o : Option (List ℕ)) → StopsIn stop route before [] o o before before.client.log nothing
-stops_at_once Sink route before o = ([], [], [], refl, ((refl, refl, refl), refl), (0, adds_nothing o))
-stops_at_once Keeper route before o = ([], [], [], refl, inl ((refl, refl, refl), refl), adds_nothing o)
-stops_at_once Memory route before o = ([], [], [], refl, inl ((refl, refl, refl), refl), (0, adds_nothing o))
+stops_at_once : (stop : Stop) (route : Route) (before : SessionState) (o : Option (List ℕ)) → StopsIn stop route before [] [] o o before before.client.log nothing
+stops_at_once Sink route before o = ([], [], [], refl, ((refl, refl, refl), refl), refl, (0, adds_nothing o))
+stops_at_once Keeper route before o = ([], [], [], refl, inl ((refl, refl, refl), refl), refl, adds_nothing o)
+stops_at_once Memory route before o = ([], [], [], refl, inl ((refl, refl, refl), refl), refl, (0, adds_nothing o))
 
 -- nothing was done
-pub run_nothing : (stop : Stop) (route : Route) (before : State) (left o : Option (List ℕ)) → RunTurn route before left left o o (Err stop) before before.client.log nothing
-run_nothing stop route before left o = ([], Failed, nothing_taken left, inl (stops_at_once stop route before o))
+pub run_nothing : (stop : Stop) (route : Route) (before : SessionState) (left o : Option (List ℕ)) → RunAnswers route before left left o o (Err stop) before before.client.log nothing
+run_nothing stop route before left o = ([], ([], Failed, nothing_taken left, inl (stops_at_once stop route before o)))
 
 -- ---- how much was read
 

@@ -6,9 +6,9 @@ use Rattle.client_core.specs.Trace.{Trace, nothing, followed}
 use Rattle.shell_lang.specs.Lines.{parts, but_last, whole_lines, unfinished, last_line, BeginsWithLine, IsCutUpTo}
 use Rattle.shell_lang.proofs.Cutting.{parts_are, line_taken, all_lines_taken}
 use Rattle.client_prog.specs.declared.run.Stop.{Stop}
-use Rattle.client_prog.specs.Session.{State}
-use Rattle.client_prog.specs.Run.{StopsIn, quits, has_quit, up_to_quit}
-use Rattle.client_prog.specs.InsideRun.{AllAnswered, CutsFront, AnswersFront}
+use Rattle.client_session.specs.Session.{SessionState}
+use Rattle.client_prog.specs.Run.{quits, has_quit, up_to_quit}
+use Rattle.client_prog.specs.InsideRun.{AllAnswered, FrontAnswered, CutsFront, AnswersFront}
 use Rattle.client_prog.proofs.Quitting.{no_quit_then, one_line, up_to_line, quit_at, quit_behind, quit_in_front, all_lines}
 use Rattle.client_prog.proofs.RunningLines.{answers_nothing, answers_then, then_stops, stops_sooner}
 
@@ -59,11 +59,11 @@ module _ (bytes left line : List ℕ) (lines : List (List ℕ)) (cuts : CutsFron
 pub no_line_quits : (bytes left : List ℕ) (lines : List (List ℕ)) → CutsFront bytes left lines → parts left ≡ left ∷ [] → has_quit (whole_lines bytes) ≡ false
 no_line_quits bytes left lines cuts none = ap has_quit (all_lines_taken lines bytes left cuts.0 none).0 ∙ cuts.1
 
-module _ (route : Route) (a : State) (bytes : List ℕ) (o : Option (List ℕ)) where
+module _ (route : Route) (a : SessionState) (bytes : List ℕ) (o : Option (List ℕ)) where
   pub front_none : AnswersFront route a bytes bytes o o a nothing
   front_none = ([], (refl, refl), answers_nothing route a o)
 
-  pub front_line : (left behind line : List ℕ) (b c : State) (m n : Option (List ℕ)) (p q : Trace) → BeginsWithLine left line → behind ≡ drop (length line + 1) left → quits line ≡ false
+  pub front_line : (left behind line : List ℕ) (b c : SessionState) (m n : Option (List ℕ)) (p q : Trace) → BeginsWithLine left line → behind ≡ drop (length line + 1) left → quits line ≡ false
       → AnswersFront route a bytes left o m b p → AllAnswered route b (line ∷ []) m n c q → AnswersFront route a bytes behind o n c (followed p q)
   front_line left behind line b c m n p q begins is goes_on front answered = (
     front.0 ++ line ∷ [],
@@ -71,20 +71,20 @@ module _ (route : Route) (a : State) (bytes : List ℕ) (o : Option (List ℕ)) 
     answers_then route a b c front.0 (line ∷ []) o m n p q front.2 answered,
   )
 
-  pub front_quits : (left line : List ℕ) (b c : State) (m n : Option (List ℕ)) (p q : Trace) → BeginsWithLine left line → quits line ≡ true
+  pub front_quits : (left line : List ℕ) (b c : SessionState) (m n : Option (List ℕ)) (p q : Trace) → BeginsWithLine left line → quits line ≡ true
       → AnswersFront route a bytes left o m b p → AllAnswered route b (line ∷ []) m n c q → AllAnswered route a (up_to_quit (whole_lines bytes)) o n c (followed p q)
   front_quits left line b c m n p q begins quit front answered =
       subst (λ (ls : List (List ℕ)). AllAnswered route a ls o n c (followed p q)) (sym (quit_ends bytes left line front.0 front.1 begins quit))
       (answers_then route a b c front.0 (line ∷ []) o m n p q front.2 answered)
 
-  pub front_stops : (stop : Stop) (left line : List ℕ) (b c : State) (k : Log) (m n : Option (List ℕ)) (p q : Trace) → BeginsWithLine left line
-      → AnswersFront route a bytes left o m b p → StopsIn stop route b (line ∷ []) m n c k q → StopsIn stop route a (up_to_quit (whole_lines bytes)) o n c k (followed p q)
+  pub front_stops : (stop : Stop) (left line : List ℕ) (b c : SessionState) (k : Log) (m n : Option (List ℕ)) (p q : Trace) → BeginsWithLine left line
+      → AnswersFront route a bytes left o m b p → FrontAnswered stop route b (line ∷ []) m n c k q → FrontAnswered stop route a (up_to_quit (whole_lines bytes)) o n c k (followed p q)
   front_stops stop left line b c k m n p q begins front stops =
-      subst (λ (ls : List (List ℕ)). StopsIn stop route a ls o n c k (followed p q)) (sym (line_then bytes left line front.0 front.1 begins))
+      subst (λ (ls : List (List ℕ)). FrontAnswered stop route a ls o n c k (followed p q)) (sym (line_then bytes left line front.0 front.1 begins))
       (stops_sooner route stop a c k (front.0 ++ line ∷ []) (if quits line then [] else up_to_quit (whole_lines (drop (length line + 1) left))) o n (followed p q)
       (then_stops route stop a b c k front.0 (line ∷ []) o m n p q front.2 stops))
 
-  pub front_done : (left : List ℕ) (b : State) (m : Option (List ℕ)) (p : Trace) → parts left ≡ left ∷ [] → AnswersFront route a bytes left o m b p
+  pub front_done : (left : List ℕ) (b : SessionState) (m : Option (List ℕ)) (p : Trace) → parts left ≡ left ∷ [] → AnswersFront route a bytes left o m b p
       → AllAnswered route a (up_to_quit (whole_lines bytes)) o m b p
   front_done left b m p none front =
       let whole : whole_lines bytes ≡ front.0 = (all_lines_taken front.0 bytes left front.1.0 none).0 in

@@ -18,10 +18,10 @@ use Rattle.shell_lang.specs.declared.line.LineError.{LineError}
 use Rattle.shell_lang.specs.declared.answer.Answer.{Answer}
 use Rattle.client_prog.specs.declared.run.Stop.{Stop}
 use Rattle.client_prog.specs.declared.run.Stop.TheVariants.{Sink, Keeper, Memory}
-use Rattle.client_prog.specs.Session.{State, Turn, Chain, Broken, BreaksChain, IsText}
-use Rattle.client_prog.specs.InsideSession.{LineEnds}
+use Rattle.client_session.specs.Session.{SessionState, LineTurn, Chain, Broken, BreaksChain, IsText, AreTexts}
+use Rattle.client_session.specs.Doing.{LineEnds}
 use Rattle.client_prog.specs.Run.{asked_for, stop_of, stop_by, HandlesAll, Handles, WritesFront, StopsIn}
-use Rattle.client_prog.specs.InsideRun.{AllAnswered}
+use Rattle.client_prog.specs.InsideRun.{AllAnswered, FrontAnswered}
 
 writes_then : (stop : Stop) (o m n : Option (List ℕ)) (s t : List ℕ) → Adds o m s → WritesFront stop t m n → WritesFront stop (s ++ t) o n
 writes_then Keeper o m n s t adds second = adds_then o m n s t adds second
@@ -38,12 +38,17 @@ pub cut_front : (e : SinkError) (text : List ℕ) (o n : Option (List ℕ)) → 
 cut_front sinks.Failed text o n cut = cut
 cut_front sinks.Memory text o n cut = cut
 
+texts_then : (xs ys : List (Option Answer)) (s t : List ℕ) → AreTexts xs s → AreTexts ys t → AreTexts (xs ++ ys) (s ++ t)
+texts_then [] ys s t first second = subst (AreTexts ys) (sym (ap (λ (u : List ℕ). u ++ t) first)) second
+texts_then (x ∷ xs) ys s t first second =
+    (first.0, first.1 ++ t, first.2, texts_then xs ys first.1 t first.3 second, ap (λ (u : List ℕ). u ++ t) first.4 ∙ append_assoc first.0 first.1 t)
+
 module _ (route : Route) where
-  pub chain_then : (a b c : State) (ls ms : List (Result Line LineError)) (s t : List ℕ) (p q : Trace) → Chain route a ls s b p → Chain route b ms t c q → Chain route a (ls ++ ms) (s ++ t) c (followed p q)
+  pub chain_then : (a b c : SessionState) (ls ms : List (Result Line LineError)) (s t : List (Option Answer)) (p q : Trace) → Chain route a ls s b p → Chain route b ms t c q → Chain route a (ls ++ ms) (s ++ t) c (followed p q)
   chain_then a b c [] ms s t p q first second =
-      subst (λ (x : List ℕ). Chain route a ms x c (followed p q)) (sym (ap (λ (x : List ℕ). x ++ t) first.0))
+      subst (λ (x : List (Option Answer)). Chain route a ms x c (followed p q)) (sym (ap (λ (x : List (Option Answer)). x ++ t) first.0))
       (subst (λ (r : Trace). Chain route a ms t c r) (sym (ap (λ (r : Trace). followed r q) first.2))
-      (subst (λ (x : State). Chain route x ms t c q) first.1 second))
+      (subst (λ (x : SessionState). Chain route x ms t c q) first.1 second))
   chain_then a b c (l ∷ ls) ms s t p q first second = (
     first.0,
     first.1,
@@ -52,16 +57,16 @@ module _ (route : Route) where
     first.4 ++ t,
     first.5,
     chain_then first.0 b c ls ms first.4 t first.2 q first.6 second,
-    ap (λ (x : List ℕ). x ++ t) first.7 ∙ append_assoc first.3 first.4 t,
+    ap (λ (x : List (Option Answer)). x ++ t) first.7,
     ap (λ (r : Trace). followed r q) first.8 ∙ followed-assoc first.1 first.2 q,
   )
 
-  pub asked_then : (a b c : State) (ls ms : List (List ℕ)) (s t : List ℕ) (p q : Trace) → Chain route a (asked_for ls) s b p → Chain route b (asked_for ms) t c q
+  pub asked_then : (a b c : SessionState) (ls ms : List (List ℕ)) (s t : List (Option Answer)) (p q : Trace) → Chain route a (asked_for ls) s b p → Chain route b (asked_for ms) t c q
       → Chain route a (asked_for (ls ++ ms)) (s ++ t) c (followed p q)
   asked_then a b c ls ms s t p q first second =
       subst (λ (xs : List (Result Line LineError)). Chain route a xs (s ++ t) c (followed p q)) (sym (map-append read_line ls ms)) (chain_then a b c (asked_for ls) (asked_for ms) s t p q first second)
 
-  breaks_then : (a b c : State) (k : Log) (ls ms : List (List ℕ)) (s t : List ℕ) (p q : Trace) → Chain route a (asked_for ls) s b p → BreaksChain route b (asked_for ms) t c k q
+  breaks_then : (a b c : SessionState) (k : Log) (ls ms : List (List ℕ)) (s t : List (Option Answer)) (p q : Trace) → Chain route a (asked_for ls) s b p → BreaksChain route b (asked_for ms) t c k q
       → BreaksChain route a (asked_for (ls ++ ms)) (s ++ t) c k (followed p q)
   breaks_then a b c k ls ms s t p q first second = (
     asked_for ls ++ second.0,
@@ -76,10 +81,10 @@ module _ (route : Route) where
     ap (followed p) second.9 ∙ sym (followed-assoc p second.3 second.4),
   )
 
-  all_then : (a b c : State) (k : Log) (ls ms : List (List ℕ)) (s t : List ℕ) (p q : Trace) → Chain route a (asked_for ls) s b p → HandlesAll route b ms t c k q → HandlesAll route a (ls ++ ms) (s ++ t) c k (followed p q)
+  all_then : (a b c : SessionState) (k : Log) (ls ms : List (List ℕ)) (s t : List (Option Answer)) (p q : Trace) → Chain route a (asked_for ls) s b p → HandlesAll route b ms t c k q → HandlesAll route a (ls ++ ms) (s ++ t) c k (followed p q)
   all_then a b c k ls ms s t p q first second = (asked_then a b c ls ms s t p q first second.0, second.1)
 
-  handles_then : (stop : Stop) (a b c : State) (k : Log) (ls ms : List (List ℕ)) (s t : List ℕ) (p q : Trace) → Chain route a (asked_for ls) s b p → Handles stop route b ms t c k q
+  handles_then : (stop : Stop) (a b c : SessionState) (k : Log) (ls ms : List (List ℕ)) (s t : List (Option Answer)) (p q : Trace) → Chain route a (asked_for ls) s b p → Handles stop route b ms t c k q
       → Handles stop route a (ls ++ ms) (s ++ t) c k (followed p q)
   handles_then Sink a b c k ls ms s t p q first second = all_then a b c k ls ms s t p q first second
   handles_then Keeper a b c k ls ms s t p q first (inl second) = inl (all_then a b c k ls ms s t p q first second)
@@ -87,79 +92,87 @@ module _ (route : Route) where
   handles_then Memory a b c k ls ms s t p q first (inl second) = inl (all_then a b c k ls ms s t p q first second)
   handles_then Memory a b c k ls ms s t p q first (inr second) = inr (breaks_then a b c k ls ms s t p q first second)
 
-  handled_whole : (stop : Stop) (a b : State) (k : Log) (ls : List (List ℕ)) (s : List ℕ) (p : Trace) → Chain route a (asked_for ls) s b p → k ≡ b.client.log → Handles stop route a ls s b k p
+  handled_whole : (stop : Stop) (a b : SessionState) (k : Log) (ls : List (List ℕ)) (s : List (Option Answer)) (p : Trace) → Chain route a (asked_for ls) s b p → k ≡ b.client.log → Handles stop route a ls s b k p
   handled_whole Sink a b k ls s p chain is = (chain, is)
   handled_whole Keeper a b k ls s p chain is = inl (chain, is)
   handled_whole Memory a b k ls s p chain is = inl (chain, is)
 
   -- lines that were answered, and then a stop in the next ones
-  pub stops_then : (stop : Stop) (a b c : State) (k : Log) (ls ms : List (List ℕ)) (o m n : Option (List ℕ)) (s : List ℕ) (p q : Trace) → Chain route a (asked_for ls) s b p → Adds o m s
-      → StopsIn stop route b ms m n c k q → StopsIn stop route a (ls ++ ms) o n c k (followed p q)
-  stops_then stop a b c k ls ms o m n s p q first adds second = (
+  stops_then : (stop : Stop) (a b c : SessionState) (k : Log) (ls ms : List (List ℕ)) (o m n : Option (List ℕ)) (x y : List (Option Answer)) (s : List ℕ) (p q : Trace) → Chain route a (asked_for ls) x b p
+      → AreTexts x s → Adds o m s → StopsIn stop route b ms y m n c k q → StopsIn stop route a (ls ++ ms) (x ++ y) o n c k (followed p q)
+  stops_then stop a b c k ls ms o m n x y s p q first shown adds second = (
     ls ++ second.0,
     second.1,
     s ++ second.2,
     ap (λ (xs : List (List ℕ)). ls ++ xs) second.3 ∙ sym (append_assoc ls second.0 second.1),
-    handles_then stop a b c k ls second.0 s second.2 p q first second.4,
-    writes_then stop o m n s second.2 adds second.5,
+    handles_then stop a b c k ls second.0 x y p q first second.4,
+    texts_then x y s second.2 shown second.5,
+    writes_then stop o m n s second.2 adds second.6,
   )
 
-  pub stops_sooner : (stop : Stop) (a b : State) (k : Log) (ls more : List (List ℕ)) (o n : Option (List ℕ)) (p : Trace) → StopsIn stop route a ls o n b k p → StopsIn stop route a (ls ++ more) o n b k p
-  stops_sooner stop a b k ls more o n p stops = (
-    stops.0,
-    stops.1 ++ more,
-    stops.2,
-    ap (λ (xs : List (List ℕ)). xs ++ more) stops.3 ∙ append_assoc stops.0 stops.1 more,
-    stops.4,
-    stops.5,
-  )
+  pub stops_sooner : (stop : Stop) (a b : SessionState) (k : Log) (ls more : List (List ℕ)) (o n : Option (List ℕ)) (p : Trace) → FrontAnswered stop route a ls o n b k p → FrontAnswered stop route a (ls ++ more) o n b k p
+  stops_sooner stop a b k ls more o n p stops =
+      let front = stops.1 in (
+        stops.0,
+        (front.0, front.1 ++ more, front.2, ap (λ (xs : List (List ℕ)). xs ++ more) front.3 ∙ append_assoc front.0 front.1 more, front.4, front.5, front.6),
+      )
 
   -- a stop behind lines that were all answered
-  pub stops_behind : (stop : Stop) (a b : State) (k : Log) (ls : List (List ℕ)) (o n : Option (List ℕ)) (s : List ℕ) (p : Trace) → Chain route a (asked_for ls) s b p → k ≡ b.client.log → Adds o n s
-      → StopsIn stop route a ls o n b k p
-  stops_behind stop a b k ls o n s p chain is adds = (ls, [], s, sym (append-nil ls), handled_whole stop a b k ls s p chain is, writes_all stop o n s adds)
+  pub stops_behind : (stop : Stop) (a b : SessionState) (ls : List (List ℕ)) (o n : Option (List ℕ)) (p : Trace) → AllAnswered route a ls o n b p → FrontAnswered stop route a ls o n b b.client.log p
+  stops_behind stop a b ls o n p all =
+      (all.0, (ls, [], all.1, sym (append-nil ls), handled_whole stop a b b.client.log ls all.0 p all.2 refl, all.3, writes_all stop o n all.1 all.4))
 
-  pub answers_nothing : (a : State) (o : Option (List ℕ)) → AllAnswered route a [] o o a nothing
-  answers_nothing a o = ([], (refl, refl, refl), adds_nothing o)
+  pub answers_nothing : (a : SessionState) (o : Option (List ℕ)) → AllAnswered route a [] o o a nothing
+  answers_nothing a o = ([], [], (refl, refl, refl), refl, adds_nothing o)
 
-  pub answers_then : (a b c : State) (ls ms : List (List ℕ)) (o m n : Option (List ℕ)) (p q : Trace) → AllAnswered route a ls o m b p
+  pub answers_then : (a b c : SessionState) (ls ms : List (List ℕ)) (o m n : Option (List ℕ)) (p q : Trace) → AllAnswered route a ls o m b p
       → AllAnswered route b ms m n c q → AllAnswered route a (ls ++ ms) o n c (followed p q)
-  answers_then a b c ls ms o m n p q first second =
-      (first.0 ++ second.0, asked_then a b c ls ms first.0 second.0 p q first.1 second.1, adds_then o m n first.0 second.0 first.2 second.2)
+  answers_then a b c ls ms o m n p q first second = (
+    first.0 ++ second.0,
+    first.1 ++ second.1,
+    asked_then a b c ls ms first.0 second.0 p q first.2 second.2,
+    texts_then first.0 second.0 first.1 second.1 first.3 second.3,
+    adds_then o m n first.1 second.1 first.4 second.4,
+  )
 
-  pub then_stops : (stop : Stop) (a b c : State) (k : Log) (ls ms : List (List ℕ)) (o m n : Option (List ℕ)) (p q : Trace) → AllAnswered route a ls o m b p
-      → StopsIn stop route b ms m n c k q → StopsIn stop route a (ls ++ ms) o n c k (followed p q)
-  then_stops stop a b c k ls ms o m n p q first second = stops_then stop a b c k ls ms o m n first.0 p q first.1 first.2 second
+  pub then_stops : (stop : Stop) (a b c : SessionState) (k : Log) (ls ms : List (List ℕ)) (o m n : Option (List ℕ)) (p q : Trace) → AllAnswered route a ls o m b p
+      → FrontAnswered stop route b ms m n c k q → FrontAnswered stop route a (ls ++ ms) o n c k (followed p q)
+  then_stops stop a b c k ls ms o m n p q first second = (first.0 ++ second.0, stops_then stop a b c k ls ms o m n first.0 second.0 first.1 p q first.2 first.3 first.4 second.1)
 
   -- ---- one line
 
-  one_turn : (a b : State) (line s : List ℕ) (p : Trace) → Turn route a (read_line line) s b p → Chain route a (asked_for (line ∷ [])) s b p
-  one_turn a b line s p turn = (b, p, nothing, s, [], turn, (refl, refl, refl), sym (append-nil s), followed-nothing p)
+  one_turn : (a b : SessionState) (line : List ℕ) (answer : Option Answer) (p : Trace) → LineTurn route a (read_line line) answer b p → Chain route a (asked_for (line ∷ [])) (answer ∷ []) b p
+  one_turn a b line answer p turn = (b, p, nothing, answer, [], turn, (refl, refl, refl), refl, followed-nothing p)
+
+  one_text : (answer : Option Answer) (text : List ℕ) → IsText answer text → AreTexts (answer ∷ []) text
+  one_text answer text shown = (text, [], shown, refl, sym (append-nil text))
 
   -- it could not be read
-  pub line_unread : (a : State) (line : List ℕ) (o : Option (List ℕ)) → StopsIn Memory route a (line ∷ []) o o a a.client.log nothing
-  line_unread a line o = ([], line ∷ [], [], refl, inl ((refl, refl, refl), refl), (0, adds_nothing o))
+  pub line_unread : (a : SessionState) (line : List ℕ) (o : Option (List ℕ)) → FrontAnswered Memory route a (line ∷ []) o o a a.client.log nothing
+  line_unread a line o = ([], ([], line ∷ [], [], refl, inl ((refl, refl, refl), refl), refl, (0, adds_nothing o)))
 
-  one_broken : (a b : State) (k : Log) (line : List ℕ) (p : Trace) → Broken route a (read_line line) b p → IsLastOrBefore a.client.log p.changes k → BreaksChain route a (asked_for (line ∷ [])) [] b k p
+  one_broken : (a b : SessionState) (k : Log) (line : List ℕ) (p : Trace) → Broken route a (read_line line) b p → IsLastOrBefore a.client.log p.changes k → BreaksChain route a (asked_for (line ∷ [])) [] b k p
   one_broken a b k line p broken behind = ([], read_line line, a, nothing, p, refl, (refl, refl, refl), broken, behind, refl)
 
   -- it was broken off
-  pub line_broken : (a b : State) (k : Log) (line : List ℕ) (o : Option (List ℕ)) (e : KeepError) (p : Trace) → LineEnds route a (read_line line) (Err e) b k p → IsLastOrBefore a.client.log p.changes k
-      → StopsIn (stop_by e) route a (line ∷ []) o o b k p
-  line_broken a b k line o keepers.Failed p broken behind = (line ∷ [], [], [], refl, inr (one_broken a b k line p broken behind), adds_nothing o)
-  line_broken a b k line o keepers.Memory p broken behind = (line ∷ [], [], [], refl, inr (one_broken a b k line p broken behind), (0, adds_nothing o))
+  pub line_broken : (a b : SessionState) (k : Log) (line : List ℕ) (o : Option (List ℕ)) (e : KeepError) (p : Trace) → LineEnds route a (read_line line) (Err e) b k p → IsLastOrBefore a.client.log p.changes k
+      → FrontAnswered (stop_by e) route a (line ∷ []) o o b k p
+  line_broken a b k line o keepers.Failed p broken behind = ([], (line ∷ [], [], [], refl, inr (one_broken a b k line p broken behind), refl, adds_nothing o))
+  line_broken a b k line o keepers.Memory p broken behind = ([], (line ∷ [], [], [], refl, inr (one_broken a b k line p broken behind), refl, (0, adds_nothing o)))
 
   -- its answer has no text
-  pub line_untold : (a b : State) (k : Log) (line : List ℕ) (o : Option (List ℕ)) (answer : Option Answer) (p : Trace) → LineEnds route a (read_line line) (Ok answer) b k p → IsLastOrBefore a.client.log p.changes k
-      → StopsIn Memory route a (line ∷ []) o o b k p
-  line_untold a b k line o answer p turn behind = (line ∷ [], [], [], refl, inr (one_broken a b k line p (inr (inl (answer, turn.0))) behind), (0, adds_nothing o))
+  pub line_untold : (a b : SessionState) (k : Log) (line : List ℕ) (o : Option (List ℕ)) (answer : Option Answer) (p : Trace) → LineEnds route a (read_line line) (Ok answer) b k p → IsLastOrBefore a.client.log p.changes k
+      → FrontAnswered Memory route a (line ∷ []) o o b k p
+  line_untold a b k line o answer p turn behind = ([], (line ∷ [], [], [], refl, inr (one_broken a b k line p (inr (inl (answer, turn.0))) behind), refl, (0, adds_nothing o)))
 
-  pub line_answered : (a b : State) (k : Log) (line : List ℕ) (o n : Option (List ℕ)) (answer : Option Answer) (text : List ℕ) (p : Trace) → LineEnds route a (read_line line) (Ok answer) b k p
+  pub line_answered : (a b : SessionState) (k : Log) (line : List ℕ) (o n : Option (List ℕ)) (answer : Option Answer) (text : List ℕ) (p : Trace) → LineEnds route a (read_line line) (Ok answer) b k p
       → IsText answer text → Adds o n text → AllAnswered route a (line ∷ []) o n b p
-  line_answered a b k line o n answer text p turn shown adds = (text, one_turn a b line text p (answer, turn.0, shown), adds)
+  line_answered a b k line o n answer text p turn shown adds = (answer ∷ [], text, one_turn a b line answer p turn.0, one_text answer text shown, adds)
 
   -- its answer was cut off
-  pub line_cut : (stop : Stop) (a b : State) (k : Log) (line : List ℕ) (o n : Option (List ℕ)) (answer : Option Answer) (text : List ℕ) (p : Trace)
-      → LineEnds route a (read_line line) (Ok answer) b k p → IsText answer text → WritesFront stop text o n → StopsIn stop route a (line ∷ []) o n b k p
-  line_cut stop a b k line o n answer text p turn shown writes =
-      (line ∷ [], [], text, refl, handled_whole stop a b k (line ∷ []) text p (one_turn a b line text p (answer, turn.0, shown)) turn.1, writes)
+  pub line_cut : (stop : Stop) (a b : SessionState) (k : Log) (line : List ℕ) (o n : Option (List ℕ)) (answer : Option Answer) (text : List ℕ) (p : Trace)
+      → LineEnds route a (read_line line) (Ok answer) b k p → IsText answer text → WritesFront stop text o n → FrontAnswered stop route a (line ∷ []) o n b k p
+  line_cut stop a b k line o n answer text p turn shown writes = (
+    answer ∷ [],
+    (line ∷ [], [], text, refl, handled_whole stop a b k (line ∷ []) (answer ∷ []) p (one_turn a b line answer p turn.0) turn.1, one_text answer text shown, writes),
+  )

@@ -15,9 +15,9 @@ use Rattle.client_prog.specs.declared.input.TheConstants.{MAX_INPUT}
 use Rattle.client_prog.specs.declared.run.Stop.{Stop}
 use Rattle.client_prog.specs.declared.run.Stop.TheVariants.{Memory}
 use Rattle.client_prog.specs.Input.{last_at, Reading, EndsAt, GoesOnOrEnds, ReadsPiece, HasRead, within_limit, lines_at}
-use Rattle.client_prog.specs.Session.{State}
-use Rattle.client_prog.specs.Run.{HasLines, StopsIn, has_quit, up_to_quit, end_of}
-use Rattle.client_prog.specs.InsideRun.{AllAnswered, ReadsSoFar, AnswersSoFar, AnswersInput, HasUnfinished}
+use Rattle.client_session.specs.Session.{SessionState}
+use Rattle.client_prog.specs.Run.{HasLines, has_quit, up_to_quit, end_of}
+use Rattle.client_prog.specs.InsideRun.{AllAnswered, FrontAnswered, ReadsSoFar, AnswersSoFar, AnswersInput, HasUnfinished}
 use Rattle.client_prog.proofs.InputReading.{has_read_none, has_read_piece, has_read_all}
 use Rattle.client_prog.proofs.Quitting.{all_lines, behind_no_quit, ends_in_front, front_of, quit_behind, quit_in_front, no_quit_then, last_up_to, end_stays}
 use Rattle.client_prog.proofs.RunningLines.{answers_nothing, answers_then, then_stops, stops_sooner, stops_behind}
@@ -166,12 +166,12 @@ module _ (left : Option (List ℕ)) where
 
 -- ---- and their answers
 
-module _ (route : Route) (a : State) (left o : Option (List ℕ)) where
+module _ (route : Route) (a : SessionState) (left o : Option (List ℕ)) where
   pub so_far_none : (reading : Reading) → reading ≡ record { bytes = []; count = 0 } → AnswersSoFar route a left left reading o o a nothing
   so_far_none reading is = ([], reads_none left reading is, answers_nothing route a o)
 
   -- the lines of one more piece were answered
-  pub so_far_more : (mid rest : Option (List ℕ)) (old new final : Reading) (end : Option InputEnd) (b c : State) (m n : Option (List ℕ)) (p q : Trace) → old.count ≤ MAX_INPUT
+  pub so_far_more : (mid rest : Option (List ℕ)) (old new final : Reading) (end : Option InputEnd) (b c : SessionState) (m n : Option (List ℕ)) (p q : Trace) → old.count ≤ MAX_INPUT
       → ReadsPiece mid rest old new end → HasUnfinished new final → has_quit (whole_lines new.bytes) ≡ false
       → AnswersSoFar route a left mid old o m b p → AllAnswered route b (up_to_quit (whole_lines new.bytes)) m n c q → AnswersSoFar route a left rest final o n c (followed p q)
   so_far_more mid rest old new final end b c m n p q few reads left_is none so_far answered = (
@@ -181,7 +181,7 @@ module _ (route : Route) (a : State) (left o : Option (List ℕ)) where
   )
 
   -- a line of a piece quits
-  pub so_far_quits : (mid rest : Option (List ℕ)) (old new : Reading) (end : Option InputEnd) (b c : State) (k : Log) (m n : Option (List ℕ)) (p q : Trace) → old.count ≤ MAX_INPUT
+  pub so_far_quits : (mid rest : Option (List ℕ)) (old new : Reading) (end : Option InputEnd) (b c : SessionState) (k : Log) (m n : Option (List ℕ)) (p q : Trace) → old.count ≤ MAX_INPUT
       → ReadsPiece mid rest old new end → has_quit (whole_lines new.bytes) ≡ true → AnswersSoFar route a left mid old o m b p
       → AllAnswered route b (up_to_quit (whole_lines new.bytes)) m n c q → k ≡ c.client.log → AnswersInput route a left rest o n (Ok Read) c k (followed p q)
   so_far_quits mid rest old new end b c k m n p q few reads some so_far answered is = (
@@ -192,8 +192,8 @@ module _ (route : Route) (a : State) (left o : Option (List ℕ)) where
   )
 
   -- a stop in the lines of a piece
-  pub so_far_stops : (mid rest : Option (List ℕ)) (old new : Reading) (end : Option InputEnd) (stop : Stop) (b c : State) (k : Log) (m n : Option (List ℕ)) (p q : Trace) → old.count ≤ MAX_INPUT
-      → ReadsPiece mid rest old new end → AnswersSoFar route a left mid old o m b p → StopsIn stop route b (up_to_quit (whole_lines new.bytes)) m n c k q
+  pub so_far_stops : (mid rest : Option (List ℕ)) (old new : Reading) (end : Option InputEnd) (stop : Stop) (b c : SessionState) (k : Log) (m n : Option (List ℕ)) (p q : Trace) → old.count ≤ MAX_INPUT
+      → ReadsPiece mid rest old new end → AnswersSoFar route a left mid old o m b p → FrontAnswered stop route b (up_to_quit (whole_lines new.bytes)) m n c k q
       → AnswersInput route a left rest o n (Err stop) c k (followed p q)
   so_far_stops mid rest old new end stop b c k m n p q few reads so_far stops =
       let lines = stops_in left mid rest old new so_far.0 end few reads so_far.1 in
@@ -205,18 +205,18 @@ module _ (route : Route) (a : State) (left o : Option (List ℕ)) where
       )
 
   -- a piece was lost
-  pub so_far_lost : (mid rest : Option (List ℕ)) (old : Reading) (piece : List ℕ) (b : State) (m : Option (List ℕ)) (p : Trace) → old.count ≤ MAX_INPUT → Takes mid rest piece → old.count + length piece ≤ 16777217
+  pub so_far_lost : (mid rest : Option (List ℕ)) (old : Reading) (piece : List ℕ) (b : SessionState) (m : Option (List ℕ)) (p : Trace) → old.count ≤ MAX_INPUT → Takes mid rest piece → old.count + length piece ≤ 16777217
       → AnswersSoFar route a left mid old o m b p → AnswersInput route a left rest o m (Err Memory) b b.client.log p
   so_far_lost mid rest old piece b m p few taken short so_far =
       let lines = lost_in left mid rest old so_far.0 piece few taken short so_far.1 in (
         so_far.0 ++ lines.0,
         lines.1,
         lines.2,
-        stops_sooner route Memory a b b.client.log so_far.0 lines.0 o m p (stops_behind route Memory a b b.client.log so_far.0 o m so_far.2.0 p so_far.2.1 refl so_far.2.2),
+        stops_sooner route Memory a b b.client.log so_far.0 lines.0 o m p (stops_behind route Memory a b so_far.0 o m p so_far.2),
       )
 
   -- the end of the input
-  pub all_answered : (rest : Option (List ℕ)) (reading : Reading) (end : InputEnd) (b c : State) (k : Log) (m n : Option (List ℕ)) (p q : Trace) → parts reading.bytes ≡ reading.bytes ∷ []
+  pub all_answered : (rest : Option (List ℕ)) (reading : Reading) (end : InputEnd) (b c : SessionState) (k : Log) (m n : Option (List ℕ)) (p q : Trace) → parts reading.bytes ≡ reading.bytes ∷ []
       → EndsAt rest reading.count end → AnswersSoFar route a left rest reading o m b p → AllAnswered route b (last_at end reading.bytes) m n c q → k ≡ c.client.log
       → AnswersInput route a left rest o n (Ok end) c k (followed p q)
   all_answered rest reading end b c k m n p q none ends so_far answered is = (
@@ -226,8 +226,8 @@ module _ (route : Route) (a : State) (left o : Option (List ℕ)) where
     is,
   )
 
-  pub all_stops : (rest : Option (List ℕ)) (reading : Reading) (end : InputEnd) (stop : Stop) (b c : State) (k : Log) (m n : Option (List ℕ)) (p q : Trace) → parts reading.bytes ≡ reading.bytes ∷ []
-      → EndsAt rest reading.count end → AnswersSoFar route a left rest reading o m b p → StopsIn stop route b (last_at end reading.bytes) m n c k q
+  pub all_stops : (rest : Option (List ℕ)) (reading : Reading) (end : InputEnd) (stop : Stop) (b c : SessionState) (k : Log) (m n : Option (List ℕ)) (p q : Trace) → parts reading.bytes ≡ reading.bytes ∷ []
+      → EndsAt rest reading.count end → AnswersSoFar route a left rest reading o m b p → FrontAnswered stop route b (last_at end reading.bytes) m n c k q
       → AnswersInput route a left rest o n (Err stop) c k (followed p q)
   all_stops rest reading end stop b c k m n p q none ends so_far stops = (
     so_far.0 ++ last_at end reading.bytes,

@@ -1,6 +1,5 @@
 -- Runs of one client, one after the other: what they leave together.
-use Rattle.std.specs.Prelude.{◌≡◌, ◌≢◌, ℕ, ◌≤◌, List, [], ◌++◌, length, Option}
-use Rattle.outside.specs.Keeper.{Images}
+use Rattle.std.specs.Prelude.{◌≡◌, ◌≢◌, ℕ, ◌≤◌, List, [], ◌++◌, length}
 use Rattle.mod_log.specs.declared.log.Entry.{Entry}
 use Rattle.mod_log.specs.Log.{Log}
 use Rattle.world_rules.specs.declared.asking.Ask.{Ask}
@@ -9,7 +8,7 @@ use Rattle.world_rules.specs.InStep.{InStep}
 use Rattle.world_rules.specs.Run.{Runs, kept_at}
 use Rattle.client_core.specs.declared.route.Route.{Route}
 use Rattle.client_core.specs.Goes.{stand}
-use Rattle.client_prog.specs.Headline.{Leaves, Ran}
+use Rattle.client_prog.specs.Headline.{Leaves, Around, Ran}
 
 -- What two runs leave, of which the first ended with this status and logged these entries, and the second logged those. All that the
 -- first logged is kept, but where its keeper failed or memory ran out, perhaps the last entry. In all else they leave together what
@@ -26,11 +25,9 @@ pub record LeaveTogether (client : ℕ) (start log kept : Log) (status : ℕ) (e
 -- Where the first began in step, they leave together what one run leaves.
 abbrev pub RunsCompose : Type 0
 RunsCompose =
-    (client : ℕ) (route other_route : Route) (start : Log) (left rest written now : Option (List ℕ)) (images images_now : Option Images) (status troubles troubles_now : ℕ)
-    (other_left other_rest other_written other_now : Option (List ℕ)) (other_images other_images_now : Option Images) (other_status other_troubles other_troubles_now : ℕ)
-    (old middle begun new : World) → InStep client start old
-    → (first : Ran client route start left rest written now images images_now status troubles troubles_now old middle) → GoesOnAlone middle begun
-    → (second : Ran client other_route first.kept other_left other_rest other_written other_now other_images other_images_now other_status other_troubles other_troubles_now begun new)
+    (client : ℕ) (route other_route : Route) (start : Log) (around around_now other other_now : Around) (status other_status : ℕ) (old middle begun new : World) → InStep client start old
+    → (first : Ran client route start around around_now status old middle) → GoesOnAlone middle begun
+    → (second : Ran client other_route first.kept other other_now other_status begun new)
     → LeaveTogether client start second.after.client.log second.kept status first.goes.trace.entries second.goes.trace.entries old new
 
 -- Whatever a client did from a kept log on that was in step, in one run or in many, it leaves this. For runs join, and a new beginning

@@ -1,34 +1,37 @@
 -- Words that only contracts below the whole run cite, of its input and of its lines.
 use Rattle.std.specs.Prelude.{◌≡◌, ℕ, false, List, [], ◌∷◌, Option, Result, Ok, Err}
 use Rattle.outside.specs.Outside.{Adds}
-use Rattle.outside.specs.Keeper.{Images}
 use Rattle.mod_log.specs.Log.{Log}
-use Rattle.world_rules.specs.World.{World}
 use Rattle.client_core.specs.declared.route.Route.{Route}
 use Rattle.client_core.specs.Trace.{Trace}
 use Rattle.shell_lang.specs.Lines.{parts, unfinished, IsCutUpTo}
 use Rattle.client_prog.specs.declared.input.InputEnd.{InputEnd}
 use Rattle.client_prog.specs.declared.run.Stop.{Stop}
 use Rattle.client_prog.specs.Input.{Reading, HasRead}
-use Rattle.client_prog.specs.Session.{State, Chain}
+use Rattle.shell_lang.specs.declared.answer.Answer.{Answer}
+use Rattle.client_session.specs.Session.{SessionState, Chain, AreTexts}
 use Rattle.client_prog.specs.Run.{HasLines, StopsIn, RunTurn, asked_for, has_quit}
-use Rattle.client_prog.specs.InsideSession.{Does}
 
 -- the lines were answered, one after the other
-abbrev pub AllAnswered : Route → State → List (List ℕ) → Option (List ℕ) → Option (List ℕ) → State → Trace → Type 0
-AllAnswered route before lines old new after trace = (answers : List ℕ) × Chain route before (asked_for lines) answers after trace × Adds old new answers
+abbrev pub AllAnswered : Route → SessionState → List (List ℕ) → Option (List ℕ) → Option (List ℕ) → SessionState → Trace → Type 0
+AllAnswered route before lines old new after trace =
+    (answers : List (Option Answer)) × (text : List ℕ) × Chain route before (asked_for lines) answers after trace × AreTexts answers text × Adds old new text
+
+-- a front of them was answered
+abbrev pub FrontAnswered : Stop → Route → SessionState → List (List ℕ) → Option (List ℕ) → Option (List ℕ) → SessionState → Log → Trace → Type 0
+FrontAnswered stop route before lines old new after kept trace = (answers : List (Option Answer)) × StopsIn stop route before lines answers old new after kept trace
 
 -- all lines were answered, and the client is kept; or a front of them was
-abbrev pub AnswersLines : {T : Type 0} → Route → State → List (List ℕ) → Option (List ℕ) → Option (List ℕ) → Result T Stop → State → Log → Trace → Type 0
+abbrev pub AnswersLines : {T : Type 0} → Route → SessionState → List (List ℕ) → Option (List ℕ) → Option (List ℕ) → Result T Stop → SessionState → Log → Trace → Type 0
 AnswersLines route before lines old new (Ok done) after kept trace = AllAnswered route before lines old new after trace × (kept ≡ after.client.log)
-AnswersLines route before lines old new (Err stop) after kept trace = StopsIn stop route before lines old new after kept trace
+AnswersLines route before lines old new (Err stop) after kept trace = FrontAnswered stop route before lines old new after kept trace
 
 -- the lines in front of the bytes that are left, of which none quits
 abbrev pub CutsFront : List ℕ → List ℕ → List (List ℕ) → Type 0
 CutsFront bytes left lines = IsCutUpTo bytes lines left × (has_quit lines ≡ false)
 
 -- they were answered
-abbrev pub AnswersFront : Route → State → List ℕ → List ℕ → Option (List ℕ) → Option (List ℕ) → State → Trace → Type 0
+abbrev pub AnswersFront : Route → SessionState → List ℕ → List ℕ → Option (List ℕ) → Option (List ℕ) → SessionState → Trace → Type 0
 AnswersFront route before bytes left old new after trace =
     (lines : List (List ℕ)) × CutsFront bytes left lines × AllAnswered route before lines old new after trace
 
@@ -44,7 +47,7 @@ pub record ReadsSoFar (left rest : Option (List ℕ)) (reading : Reading) (behin
   pub no_quit : has_quit behind ≡ false
 
 -- they were answered
-abbrev pub AnswersSoFar : Route → State → Option (List ℕ) → Option (List ℕ) → Reading → Option (List ℕ) → Option (List ℕ) → State → Trace → Type 0
+abbrev pub AnswersSoFar : Route → SessionState → Option (List ℕ) → Option (List ℕ) → Reading → Option (List ℕ) → Option (List ℕ) → SessionState → Trace → Type 0
 AnswersSoFar route before left rest reading old new after trace =
     (behind : List (List ℕ)) × ReadsSoFar left rest reading behind × AllAnswered route before behind old new after trace
 
@@ -54,13 +57,12 @@ TakesInput left rest (Ok ended) = (lines : List (List ℕ)) × HasLines left res
 TakesInput left rest (Err stop) = (lines : List (List ℕ)) × (ended : InputEnd) × HasLines left rest lines ended
 
 -- all lines that count of an input were answered, and the client is kept; or a front of them was
-abbrev pub AnswersInput : Route → State → Option (List ℕ) → Option (List ℕ) → Option (List ℕ) → Option (List ℕ) → Result InputEnd Stop → State → Log → Trace → Type 0
+abbrev pub AnswersInput : Route → SessionState → Option (List ℕ) → Option (List ℕ) → Option (List ℕ) → Option (List ℕ) → Result InputEnd Stop → SessionState → Log → Trace → Type 0
 AnswersInput route before left rest old new (Ok ended) after kept trace =
     (lines : List (List ℕ)) × HasLines left rest lines ended × AllAnswered route before lines old new after trace × (kept ≡ after.client.log)
 AnswersInput route before left rest old new (Err stop) after kept trace =
-    (lines : List (List ℕ)) × (ended : InputEnd) × HasLines left rest lines ended × StopsIn stop route before lines old new after kept trace
+    (lines : List (List ℕ)) × (ended : InputEnd) × HasLines left rest lines ended × FrontAnswered stop route before lines old new after kept trace
 
--- a run from this state on over what is told, the client's state at its end, and what is kept of it
-abbrev pub RunGoes : Route → State → Option (List ℕ) → Option (List ℕ) → Option (List ℕ) → Option (List ℕ) → Result InputEnd Stop → Option Images → Option Images → ℕ → ℕ → World → World → Type 0
-RunGoes route before left rest written now ended images images_now troubles later old new =
-    (after : State) × (kept : Log) × Does route.image (RunTurn route before left rest written now ended after kept) before after kept images images_now troubles later old new
+-- a run, whatever was answered
+abbrev pub RunAnswers : Route → SessionState → Option (List ℕ) → Option (List ℕ) → Option (List ℕ) → Option (List ℕ) → Result InputEnd Stop → SessionState → Log → Trace → Type 0
+RunAnswers route before left rest old new ended after kept trace = (answers : List (Option Answer)) × RunTurn route before left rest answers old new ended after kept trace

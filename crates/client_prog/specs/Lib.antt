@@ -1,14 +1,10 @@
 pub mod Beginning
-pub mod Causes
 pub mod Composing
 pub mod Headline
 pub mod Input
 pub mod Inside
 pub mod InsideRun
-pub mod InsideSession
 pub mod Laws
-pub mod Looking
 pub mod Opening
 pub mod Run
-pub mod Session
 pub mod Words

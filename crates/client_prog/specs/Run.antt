@@ -21,11 +21,12 @@ use Rattle.client_prog.specs.declared.input.TheConstants.{MAX_INPUT}
 use Rattle.client_prog.specs.declared.run.Stop.{Stop}
 use Rattle.client_prog.specs.declared.run.Stop.TheVariants.{Sink, Keeper, Memory}
 use Rattle.client_prog.specs.Input.{EndsAt, within_limit, lines_at}
-use Rattle.client_prog.specs.Words.{Run}
-use Rattle.client_prog.specs.Session.{State, Chain, BreaksChain, status_answer}
+use Rattle.client_prog.specs.Words.{Invocation}
+use Rattle.shell_lang.specs.declared.answer.Answer.{Answer}
+use Rattle.client_session.specs.Session.{SessionState, Chain, BreaksChain, AreTexts, status_answer}
 
 -- where the client's image, peers and commands are, by the words of a run
-abbrev pub route_of : Run → Route
+abbrev pub route_of : Invocation → Route
 route_of run = record { image = run.image; server = run.server; surrogate = None; work = run.work }
 
 -- the status of a run whose input ended so, or that was stopped before
@@ -92,50 +93,51 @@ pub record HasLines (left rest : Option (List ℕ)) (lines : List (List ℕ)) (e
 -- ---- what is written
 
 -- the line that ends the output is that of `status`
-abbrev pub closing_line : State → List ℕ
+abbrev pub closing_line : SessionState → List ℕ
 closing_line state = text_of (status_answer state)
 
 -- it stands there only where the input was read to its end
-abbrev pub closing_at : InputEnd → State → List ℕ
+abbrev pub closing_at : InputEnd → SessionState → List ℕ
 closing_at Read state = closing_line state
 closing_at Failed state = []
 closing_at TooLong state = []
 
 -- Each line was handled, one after the other, and the client is kept.
-abbrev pub HandlesAll : Route → State → List (List ℕ) → List ℕ → State → Log → Trace → Type 0
+abbrev pub HandlesAll : Route → SessionState → List (List ℕ) → List (Option Answer) → SessionState → Log → Trace → Type 0
 HandlesAll route before lines answers after kept trace = Chain route before (asked_for lines) answers after trace × (kept ≡ after.client.log)
 
 -- The lines were handled; want of memory or a refused keeping may have broken off the last one.
-abbrev pub Handles : Stop → Route → State → List (List ℕ) → List ℕ → State → Log → Trace → Type 0
+abbrev pub Handles : Stop → Route → SessionState → List (List ℕ) → List (Option Answer) → SessionState → Log → Trace → Type 0
 Handles Sink route before lines answers after kept trace = HandlesAll route before lines answers after kept trace
 Handles stop route before lines answers after kept trace =
     HandlesAll route before lines answers after kept trace ⊎ BreaksChain route before (asked_for lines) answers after kept trace
 
--- What was written of the answers: all, where a keeping was refused, and else a front.
+-- What was written of the answers' texts: all, where a keeping was refused, and else a front.
 abbrev pub WritesFront : Stop → List ℕ → Option (List ℕ) → Option (List ℕ) → Type 0
-WritesFront Keeper answers old new = Adds old new answers
-WritesFront stop answers old new = (count : ℕ) × Adds old new (take count answers)
+WritesFront Keeper text old new = Adds old new text
+WritesFront stop text old new = (count : ℕ) × Adds old new (take count text)
 
--- A front of the lines was handled, and a front of their answers was written.
-abbrev pub StopsIn : Stop → Route → State → List (List ℕ) → Option (List ℕ) → Option (List ℕ) → State → Log → Trace → Type 0
-StopsIn stop route before lines old new after kept trace =
-    (handled behind : List (List ℕ)) × (answers : List ℕ)
-    × (lines ≡ handled ++ behind) × Handles stop route before handled answers after kept trace × WritesFront stop answers old new
+-- A front of the lines was handled, and a front of their answers' texts was written.
+abbrev pub StopsIn : Stop → Route → SessionState → List (List ℕ) → List (Option Answer) → Option (List ℕ) → Option (List ℕ) → SessionState → Log → Trace → Type 0
+StopsIn stop route before lines answers old new after kept trace =
+    (handled behind : List (List ℕ)) × (text : List ℕ)
+    × (lines ≡ handled ++ behind) × Handles stop route before handled answers after kept trace × AreTexts answers text × WritesFront stop text old new
 
--- All lines were handled, their answers were written, and a front of the closing line.
-abbrev pub StopsAtClosing : Stop → Route → State → List (List ℕ) → Option (List ℕ) → Option (List ℕ) → State → Log → Trace → Type 0
-StopsAtClosing stop route before lines old new after kept trace =
-    (answers : List ℕ) × (count : ℕ) × (stop ≢ Keeper) × HandlesAll route before lines answers after kept trace × Adds old new (answers ++ take count (closing_line after))
+-- All lines were handled, their answers' texts were written, and a front of the closing line.
+abbrev pub StopsAtClosing : Stop → Route → SessionState → List (List ℕ) → List (Option Answer) → Option (List ℕ) → Option (List ℕ) → SessionState → Log → Trace → Type 0
+StopsAtClosing stop route before lines answers old new after kept trace =
+    (text : List ℕ) × (count : ℕ) × (stop ≢ Keeper) × HandlesAll route before lines answers after kept trace × AreTexts answers text
+    × Adds old new (text ++ take count (closing_line after))
 
 -- What a run did by how it ended. Where its input came to an end: all the lines that count were handled, the client is kept, and
--- their answers were written, and the closing line where one is due. Where it was stopped: a front of them.
-abbrev pub RunTurn : Route → State → Option (List ℕ) → Option (List ℕ) → Option (List ℕ) → Option (List ℕ) → Result InputEnd Stop → State → Log → Trace → Type 0
-RunTurn route before left rest old new (Ok ended) after kept trace =
-    (lines : List (List ℕ)) × (answers : List ℕ) × HasLines left rest lines ended
-    × HandlesAll route before lines answers after kept trace × Adds old new (answers ++ closing_at ended after)
-RunTurn route before left rest old new (Err stop) after kept trace =
+-- the texts of what was answered to each were written, and the closing line where one is due. Where it was stopped: a front of them.
+abbrev pub RunTurn : Route → SessionState → Option (List ℕ) → Option (List ℕ) → List (Option Answer) → Option (List ℕ) → Option (List ℕ) → Result InputEnd Stop → SessionState → Log → Trace → Type 0
+RunTurn route before left rest answers old new (Ok ended) after kept trace =
+    (lines : List (List ℕ)) × (text : List ℕ) × HasLines left rest lines ended
+    × HandlesAll route before lines answers after kept trace × AreTexts answers text × Adds old new (text ++ closing_at ended after)
+RunTurn route before left rest answers old new (Err stop) after kept trace =
     (lines : List (List ℕ)) × (ended : InputEnd) × HasLines left rest lines ended
-    × (StopsIn stop route before lines old new after kept trace ⊎ ((ended ≡ Read) × StopsAtClosing stop route before lines old new after kept trace))
+    × (StopsIn stop route before lines answers old new after kept trace ⊎ ((ended ≡ Read) × StopsAtClosing stop route before lines answers old new after kept trace))
 
 -- How much of a source a run with this status takes: never more than the first byte past the limit. It answers 8 exactly where it
 -- takes that byte and no whole line before it quits, but that a sink, a keeper or want of memory may stop it before; 0 only where it

@@ -29,7 +29,7 @@ pub enum InputEnd {
 
 /// Reads an input piece by piece and cuts it into lines, so that each can be answered before more is waited for.
 #[derive(Debug, Drop)]
-pub struct LineReader {
+pub(crate) struct LineReader {
     buffer: LineBuffer,
     count: usize,
 }
@@ -41,14 +41,14 @@ impl Model for LineReader {
 
     ghost Value = { Reading };
 
-    ghost view = { λ reader. record { bytes = reader.buffer; count = reader.count } };
+    ghost view = { λ reader. record { bytes = reader.buffer.bytes; count = reader.count } };
 
     ghost invariant = { λ reader. reader.count ≤ MAX_INPUT + 1 };
 }
 
 impl LineReader {
     /// Nothing is read yet. It takes no memory.
-    pub fn new(alloc: Global) -> LineReader
+    pub(crate) fn new(alloc: Global) -> LineReader
         ensures { result ≡ record { bytes = []; count = 0 } }
     {
         LineReader {
@@ -62,7 +62,10 @@ impl LineReader {
     /// # Errors
     ///
     /// Want of memory; the piece is lost then.
-    pub fn read_piece<I: Source>(&mut self, input: &mut I) -> Result<Option<InputEnd>, AllocError>
+    pub(crate) fn read_piece<I: Source>(
+        &mut self,
+        input: &mut I,
+    ) -> Result<Option<InputEnd>, AllocError>
         requires { self.old.count ≤ MAX_INPUT }
         ensures ok { IfOk result (λ end. ReadsPiece (I.left input.old) (I.left input.new) self.old self.new end) }
         ensures err { OnErr result ((piece : List ℕ) × Takes (I.left input.old) (I.left input.new) piece × (self.old.count + length piece ≤ MAX_INPUT + 1)) }
@@ -107,14 +110,14 @@ impl LineReader {
     }
 
     /// Lends the first line that has its end, without the end; `None` where there is none.
-    pub fn first_line(&self) -> Option<&[u8]>
+    pub(crate) fn first_line(&self) -> Option<&[u8]>
         ensures { FirstLine self.now.bytes (option_copied result) }
     {
         self.buffer.first_line()
     }
 
     /// Drops so many bytes from the front, as a line and its end.
-    pub fn pass(&mut self, count: usize)
+    pub(crate) fn pass(&mut self, count: usize)
         requires { count ≤ length self.old.bytes }
         ensures { self.new ≡ record self.old { bytes = drop count self.old.bytes } }
     {
@@ -122,7 +125,7 @@ impl LineReader {
     }
 
     /// Lends the bytes that no line was cut from.
-    pub fn bytes(&self) -> &[u8]
+    pub(crate) fn bytes(&self) -> &[u8]
         ensures { result.now ≡ self.now.bytes }
     {
         self.buffer.bytes()

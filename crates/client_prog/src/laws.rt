@@ -1,11 +1,5 @@
 ghost use Rattle.client_prog.specs.Composing.{RunsCompose, MovesLeave};
 ghost use Rattle.client_prog.specs.Laws.{QuitIsTheLast, AllCountWithoutQuit};
-ghost use Rattle.client_prog.specs.Words.{NumbersArePrinted};
-
-/// Law: a word gives a client's number exactly where it is one from 1 to 64 as it is printed.
-pub fn client_numbers_are_as_printed()
-    ensures { NumbersArePrinted }
-{}
 
 /// Law: the lines of a session end with the first that quits, and all of them count where none does.
 pub fn sessions_end_with_the_first_quit()

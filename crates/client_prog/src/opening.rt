@@ -1,6 +1,6 @@
 // Opening what is kept of a client.
 ghost use Rattle.std.specs.Prelude.{◌≡◌, ◌≤◌, Err, IfOk};
-ghost use Rattle.outside.specs.Outside.{HasCause};
+ghost use Rattle.outside.specs.Outside.{CountsFault};
 ghost use Rattle.mod_log.specs.Log.{Log};
 ghost use Rattle.client_core.specs.Keeping.{IsKept, TellsKept};
 ghost use Rattle.client_prog.specs.Opening.{OpensBytes, unopened_by};
@@ -35,7 +35,7 @@ pub(crate) fn open<K: Keeper>(
     ensures only { (start : Log) → TellsKept (K.images keeper.old) name.now number start → IfOk result (λ client. client.log ≡ start) }
     ensures image { result ≡ Err Unopened.Image → (start : Log) → TellsKept (K.images keeper.old) name.now number start → ⊥ }
     ensures same { K.images keeper.new ≡ K.images keeper.old }
-    ensures cause { HasCause Unopened.Keeper (K.faults keeper.old) (K.faults keeper.new) result }
+    ensures cause { CountsFault Unopened.Keeper (K.faults keeper.old) (K.faults keeper.new) result }
 {
     match keeper.load(name) {
         Ok(None) => Ok(Client::new(alloc, number)),

@@ -2,20 +2,22 @@
 ghost use Rattle.std.specs.Prelude.{◌≡◌, ◌↔◌, None, IsTrue, map};
 ghost use Rattle.std.specs.String.{string_bytes};
 ghost use Rattle.std.specs.Process.{exit_status};
-ghost use Rattle.real_edge.specs.Program.{page_asked};
+ghost use Rattle.program_words.specs.Pages.{page_asked};
 ghost use Rattle.client_prog.specs.Run.{is_status};
 ghost use Rattle.client_prog.specs.Words.{run_of};
 
 use crate::run::client_run;
-use real_edge::{
-    FileKeeper, Page, StdSink, StdSource, TcpLink, end, page_asked, program_words, show,
-};
+use outside::{Keeper, Sink, Source};
+use program_words::{Pages, checked_words, end, given_words, page_shown};
+use real_edge::{FileKeeper, StdSink, StdSource, TcpLink};
+use std::alloc::Global;
 use std::fs::File;
 use std::io;
 use std::net::Net;
 use std::process::ExitCode;
 use std::rt::{Env, Files};
 use std::time::Clock;
+use world_rules::Link;
 
 const HELP: &str = "\
 Usage: client run NUMBER IMAGE SERVER - WORK
@@ -78,7 +80,11 @@ Options:
 
 const VERSION: &str = "client 0.1.0\n";
 
-const NO_MEMORY: u8 = 7;
+/// What the words may ask for in place of a run.
+const PAGES: Pages = Pages {
+    help: HELP,
+    version: VERSION,
+};
 
 /// The program's name, as standard error tells it.
 const NAME: &str = "client";
@@ -89,10 +95,9 @@ pub fn client_program<
 >(rt: &R) -> ExitCode
     ensures { IsTrue (is_status (exit_status result)) }
 {
-    match program_words(rt) {
+    match checked_words(given_words(rt)) {
         Ok(words) => client_main(rt, &words),
-        Err(error) if error.kind() == io::ErrorKind::OutOfMemory => end(rt, NAME, NO_MEMORY),
-        Err(_) => client_main(rt, &[]),
+        Err(status) => end(rt, NAME, status.code()),
     }
 }
 
@@ -107,26 +112,15 @@ pub fn client_main<R: Input + Print + Eprint + AllocGlobal + Files<File = File> 
     ensures form { exit_status result ≡ 2 ↔ (page_asked (map string_bytes words.now) ≡ None) × (run_of (map string_bytes words.now) ≡ None) }
     ensures known { IsTrue (is_status (exit_status result)) }
 {
-    match page_asked(words) {
-        Some(Page::Help) => end(rt, NAME, show(rt, HELP)),
-        Some(Page::Version) => end(rt, NAME, show(rt, VERSION)),
-        None => end(rt, NAME, run(rt, words)),
-    }
-}
-
-/// Runs the client over the standard streams and TCP, and answers the status.
-fn run<R: Input + Print + AllocGlobal + Files<File = File> + Net + Clock>(
-    rt: &R,
-    words: &[String],
-) -> u8
-    ensures form { result ≡ 2 ↔ run_of (map string_bytes words.now) ≡ None }
-    ensures known { IsTrue (is_status result) }
-{
-    let mut input = StdSource::new(rt.reader());
     let mut output = StdSink::new(io::writer(rt));
+    if let Some(ended) = page_shown(rt, NAME, &PAGES, words, &mut output) {
+        return ended;
+    }
+    let mut input = StdSource::new(rt.reader());
     let mut keeper = FileKeeper::new(rt.alloc(), rt);
     let mut link = TcpLink::new(rt.alloc(), rt);
-    client_run(
+    answered(
+        rt,
         rt.alloc(),
         words,
         &mut input,
@@ -134,4 +128,21 @@ fn run<R: Input + Print + AllocGlobal + Files<File = File> + Net + Clock>(
         &mut keeper,
         &mut link,
     )
+}
+
+/// Runs the client on its words over these objects, and ends the program with the status of the run.
+pub fn answered<R: Eprint, I: Source, O: Sink, K: Keeper, L: Link>(
+    rt: &R,
+    alloc: Global,
+    words: &[String],
+    input: &mut I,
+    output: &mut O,
+    keeper: &mut K,
+    link: &mut L,
+) -> ExitCode
+    ensures form { exit_status result ≡ 2 ↔ run_of (map string_bytes words.now) ≡ None }
+    ensures known { IsTrue (is_status (exit_status result)) }
+{
+    let status = client_run(alloc, words, input, output, keeper, link);
+    end(rt, NAME, status)
 }

@@ -1,25 +1,26 @@
 // A run of the client over its input.
 ghost use Rattle.std.specs.Prelude.{◌≡◌, ◌≢◌, ◌⊎◌, ◌↔◌, ◌≤◌, ◌∷◌, ℕ, [], false, None, Some, Ok, Err, IfOk, OnOk, OnErr, IfSome, IsTrue, take, length, map};
 ghost use Rattle.std.specs.String.{string_bytes};
-ghost use Rattle.outside.specs.Outside.{Told, Adds, HasCause, Rose};
+ghost use Rattle.outside.specs.Outside.{Told, Adds, CountsFault, RisesWhere, Rose};
 ghost use Rattle.mod_log.specs.Log.{Log};
+ghost use Rattle.world_rules.specs.Telling.{ToldWorlds};
 ghost use Rattle.client_core.specs.Keeping.{IsKept, TellsKept, IsKeptOfNone};
 ghost use Rattle.shell_lang.specs.Lines.{whole_lines, last_line};
 ghost use Rattle.shell_lang.specs.Commands.{read_line};
 ghost use Rattle.client_prog.specs.Input.{last_at};
 ghost use Rattle.client_prog.specs.Words.{run_of};
-ghost use Rattle.client_prog.specs.Session.{IsText};
+ghost use Rattle.client_session.specs.Session.{IsText};
 ghost use Rattle.client_prog.specs.Opening.{status_unopened};
 ghost use Rattle.client_prog.specs.Run.{status_of, is_status, route_of, is_quit, quits, has_quit, up_to_quit, end_of, closing_line, closing_at, IsRead};
 ghost use Rattle.client_prog.specs.Headline.{Ran};
-ghost use Rattle.client_prog.specs.InsideSession.{Does};
-ghost use Rattle.client_prog.specs.InsideRun.{AnswersLines, HasUnfinished, TakesInput, AnswersInput, RunGoes};
+ghost use Rattle.client_session.specs.Doing.{WentDoing};
+ghost use Rattle.client_prog.specs.InsideRun.{AnswersLines, HasUnfinished, TakesInput, AnswersInput, RunAnswers};
 
 use crate::input::{InputEnd, LineReader, MAX_INPUT};
 use crate::opening::{Unopened, open};
-use crate::session::Session;
 use crate::words::{RunWords, run_words};
 use client_core::Route;
+use client_session::Session;
 use outside::{KeepError, Keeper, Sink, SinkError, Source, write_all};
 use shell_lang::{Answer, Line, LineError, has_no_memory, read_line, text_of};
 use std::alloc::{AllocError, Global};
@@ -135,30 +136,19 @@ fn answer<O: Sink, K: Keeper, L: Link>(
     link: &mut L,
 ) -> Result<bool, Stop>
     requires { IsKept (K.images keeper.old) route.now.image session.old.client.number session.old.client.log }
-    ensures world { Told (L.world link.old) (L.world link.new) (λ old new. (kept : Log) × Does route.now.image (AnswersLines route.now session.old (line.now ∷ []) (O.written output.old) (O.written output.new) result session.new kept) session.old session.new kept (K.images keeper.old) (K.images keeper.new) (L.troubles link.old) (L.troubles link.new) old new) }
+    ensures world { WentDoing route.now.image (AnswersLines route.now session.old (line.now ∷ []) (O.written output.old) (O.written output.new) result session.new) session.old session.new (K.images keeper.old) (K.images keeper.new) (L.tells link.old) (L.tells link.new) }
     ensures quit { IfOk result (λ quit. quit ≡ quits line.now) }
     ensures kept { IfOk result (λ done. IsKept (K.images keeper.new) route.now.image session.new.client.number session.new.client.log) }
-    ensures later { L.troubles link.old ≤ L.troubles link.new }
-    ensures cause { HasCause Stop.Sink (O.faults output.old) (O.faults output.new) result }
-    ensures keeper { HasCause Stop.Keeper (K.faults keeper.old) (K.faults keeper.new) result }
+    ensures later { (L.tells link.old).troubles ≤ (L.tells link.new).troubles }
+    ensures cause { CountsFault Stop.Sink (O.faults output.old) (O.faults output.new) result }
+    ensures keeper { CountsFault Stop.Keeper (K.faults keeper.old) (K.faults keeper.new) result }
 {
-    let asked = match asked(alloc, line) {
-        Ok(asked) => asked,
-        Err(_refused) => return Err(Stop::Memory),
-    };
+    let asked = asked(alloc, line)?;
     let quit = is_quit(&asked);
-    let answer = match session.answer(alloc, route, asked, link, keeper) {
-        Ok(answer) => answer,
-        Err(refused) => return Err(Stop::from(refused)),
-    };
-    let text = match text(alloc, answer) {
-        Ok(text) => text,
-        Err(_refused) => return Err(Stop::Memory),
-    };
-    match write_all(output, &text) {
-        Ok(()) => Ok(quit),
-        Err(refused) => Err(Stop::from(refused)),
-    }
+    let answer = session.answer(alloc, route, asked, link, keeper)?;
+    let text = text(alloc, answer)?;
+    write_all(output, &text)?;
+    Ok(quit)
 }
 
 /// Answers the lines that are there, up to the last line end or the first that quits, and says whether one quits.
@@ -172,21 +162,21 @@ fn answer_lines<O: Sink, K: Keeper, L: Link>(
     link: &mut L,
 ) -> Result<bool, Stop>
     requires { IsKept (K.images keeper.old) route.now.image session.old.client.number session.old.client.log }
-    ensures world { Told (L.world link.old) (L.world link.new) (λ old new. (kept : Log) × Does route.now.image (AnswersLines route.now session.old (up_to_quit (whole_lines reader.old.bytes)) (O.written output.old) (O.written output.new) result session.new kept) session.old session.new kept (K.images keeper.old) (K.images keeper.new) (L.troubles link.old) (L.troubles link.new) old new) }
+    ensures world { WentDoing route.now.image (AnswersLines route.now session.old (up_to_quit (whole_lines reader.old.bytes)) (O.written output.old) (O.written output.new) result session.new) session.old session.new (K.images keeper.old) (K.images keeper.new) (L.tells link.old) (L.tells link.new) }
     ensures quit { IfOk result (λ quit. quit ≡ has_quit (whole_lines reader.old.bytes)) }
     ensures left { IfOk result (λ quit. quit ≡ false → HasUnfinished reader.old reader.new) }
     ensures kept { IfOk result (λ done. IsKept (K.images keeper.new) route.now.image session.new.client.number session.new.client.log) }
-    ensures later { L.troubles link.old ≤ L.troubles link.new }
-    ensures cause { HasCause Stop.Sink (O.faults output.old) (O.faults output.new) result }
-    ensures keeper { HasCause Stop.Keeper (K.faults keeper.old) (K.faults keeper.new) result }
+    ensures later { (L.tells link.old).troubles ≤ (L.tells link.new).troubles }
+    ensures cause { CountsFault Stop.Sink (O.faults output.old) (O.faults output.new) result }
+    ensures keeper { CountsFault Stop.Keeper (K.faults keeper.old) (K.faults keeper.new) result }
 {
     while let Some(line) = reader.first_line() {
         let end = line.len() + 1;
-        match answer(alloc, route, session, line, output, keeper, link) {
-            Ok(true) => return Ok(true),
-            Ok(false) => reader.pass(end),
-            Err(stop) => return Err(stop),
+        let quit = answer(alloc, route, session, line, output, keeper, link)?;
+        if quit {
+            return Ok(true);
         }
+        reader.pass(end);
     }
     Ok(false)
 }
@@ -202,32 +192,24 @@ fn answer_input<I: Source, O: Sink, K: Keeper, L: Link>(
     link: &mut L,
 ) -> Result<InputEnd, Stop>
     requires { IsKept (K.images keeper.old) route.now.image session.old.client.number session.old.client.log }
-    ensures world { Told (L.world link.old) (L.world link.new) (λ old new. (kept : Log) × Does route.now.image (AnswersInput route.now session.old (I.left input.old) (I.left input.new) (O.written output.old) (O.written output.new) result session.new kept) session.old session.new kept (K.images keeper.old) (K.images keeper.new) (L.troubles link.old) (L.troubles link.new) old new) }
+    ensures world { WentDoing route.now.image (AnswersInput route.now session.old (I.left input.old) (I.left input.new) (O.written output.old) (O.written output.new) result session.new) session.old session.new (K.images keeper.old) (K.images keeper.new) (L.tells link.old) (L.tells link.new) }
     ensures input { TakesInput (I.left input.old) (I.left input.new) result }
     ensures kept { IfOk result (λ done. IsKept (K.images keeper.new) route.now.image session.new.client.number session.new.client.log) }
-    ensures later { L.troubles link.old ≤ L.troubles link.new }
+    ensures later { (L.tells link.old).troubles ≤ (L.tells link.new).troubles }
     ensures source { I.faults input.old ≤ I.faults input.new }
     ensures source_cause { result ≡ Ok InputEnd.Failed → Rose (I.faults input.old) (I.faults input.new) }
-    ensures cause { HasCause Stop.Sink (O.faults output.old) (O.faults output.new) result }
-    ensures keeper { HasCause Stop.Keeper (K.faults keeper.old) (K.faults keeper.new) result }
+    ensures cause { CountsFault Stop.Sink (O.faults output.old) (O.faults output.new) result }
+    ensures keeper { CountsFault Stop.Keeper (K.faults keeper.old) (K.faults keeper.new) result }
 {
     let mut reader = LineReader::new(alloc);
     loop {
-        let end = match reader.read_piece(input) {
-            Ok(end) => end,
-            Err(_refused) => return Err(Stop::Memory),
-        };
-        match answer_lines(alloc, route, session, &mut reader, output, keeper, link) {
-            Ok(true) => return Ok(InputEnd::Read),
-            Ok(false) => {}
-            Err(stop) => return Err(stop),
+        let end = reader.read_piece(input)?;
+        let quit = answer_lines(alloc, route, session, &mut reader, output, keeper, link)?;
+        if quit {
+            return Ok(InputEnd::Read);
         }
         if let Some(end) = end {
-            if let Err(stop) = answer_last(
-                alloc, route, session, &reader, end, output, keeper, link,
-            ) {
-                return Err(stop);
-            }
+            answer_last(alloc, route, session, &reader, end, output, keeper, link)?;
             return Ok(end);
         }
     }
@@ -245,11 +227,11 @@ fn answer_last<O: Sink, K: Keeper, L: Link>(
     link: &mut L,
 ) -> Result<(), Stop>
     requires { IsKept (K.images keeper.old) route.now.image session.old.client.number session.old.client.log }
-    ensures world { Told (L.world link.old) (L.world link.new) (λ old new. (kept : Log) × Does route.now.image (AnswersLines route.now session.old (last_at end reader.now.bytes) (O.written output.old) (O.written output.new) result session.new kept) session.old session.new kept (K.images keeper.old) (K.images keeper.new) (L.troubles link.old) (L.troubles link.new) old new) }
+    ensures world { WentDoing route.now.image (AnswersLines route.now session.old (last_at end reader.now.bytes) (O.written output.old) (O.written output.new) result session.new) session.old session.new (K.images keeper.old) (K.images keeper.new) (L.tells link.old) (L.tells link.new) }
     ensures kept { IfOk result (λ done. IsKept (K.images keeper.new) route.now.image session.new.client.number session.new.client.log) }
-    ensures later { L.troubles link.old ≤ L.troubles link.new }
-    ensures cause { HasCause Stop.Sink (O.faults output.old) (O.faults output.new) result }
-    ensures keeper { HasCause Stop.Keeper (K.faults keeper.old) (K.faults keeper.new) result }
+    ensures later { (L.tells link.old).troubles ≤ (L.tells link.new).troubles }
+    ensures cause { CountsFault Stop.Sink (O.faults output.old) (O.faults output.new) result }
+    ensures keeper { CountsFault Stop.Keeper (K.faults keeper.old) (K.faults keeper.new) result }
 {
     match end {
         InputEnd::Read => answer_unfinished(
@@ -276,19 +258,17 @@ fn answer_unfinished<O: Sink, K: Keeper, L: Link>(
     link: &mut L,
 ) -> Result<(), Stop>
     requires { IsKept (K.images keeper.old) route.now.image session.old.client.number session.old.client.log }
-    ensures world { Told (L.world link.old) (L.world link.new) (λ old new. (kept : Log) × Does route.now.image (AnswersLines route.now session.old (last_line line.now) (O.written output.old) (O.written output.new) result session.new kept) session.old session.new kept (K.images keeper.old) (K.images keeper.new) (L.troubles link.old) (L.troubles link.new) old new) }
+    ensures world { WentDoing route.now.image (AnswersLines route.now session.old (last_line line.now) (O.written output.old) (O.written output.new) result session.new) session.old session.new (K.images keeper.old) (K.images keeper.new) (L.tells link.old) (L.tells link.new) }
     ensures kept { IfOk result (λ done. IsKept (K.images keeper.new) route.now.image session.new.client.number session.new.client.log) }
-    ensures later { L.troubles link.old ≤ L.troubles link.new }
-    ensures cause { HasCause Stop.Sink (O.faults output.old) (O.faults output.new) result }
-    ensures keeper { HasCause Stop.Keeper (K.faults keeper.old) (K.faults keeper.new) result }
+    ensures later { (L.tells link.old).troubles ≤ (L.tells link.new).troubles }
+    ensures cause { CountsFault Stop.Sink (O.faults output.old) (O.faults output.new) result }
+    ensures keeper { CountsFault Stop.Keeper (K.faults keeper.old) (K.faults keeper.new) result }
 {
     if line.is_empty() {
         return Ok(());
     }
-    match answer(alloc, route, session, line, output, keeper, link) {
-        Ok(_quit) => Ok(()),
-        Err(stop) => Err(stop),
-    }
+    answer(alloc, route, session, line, output, keeper, link)?;
+    Ok(())
 }
 
 /// Writes the line that ends the output, where the input was read to its end.
@@ -300,29 +280,16 @@ fn close<O: Sink>(
 ) -> Result<(), Stop>
     ensures all { OnOk result (Adds (O.written output.old) (O.written output.new) (closing_at end session.now)) }
     ensures front { OnErr result ((end ≡ InputEnd.Read) × ((count : ℕ) × Adds (O.written output.old) (O.written output.new) (take count (closing_line session.now)))) }
-    ensures cause { HasCause Stop.Sink (O.faults output.old) (O.faults output.new) result }
+    ensures cause { CountsFault Stop.Sink (O.faults output.old) (O.faults output.new) result }
     ensures keeper { result ≢ Err Stop.Keeper }
 {
     match end {
-        InputEnd::Read => write_closing(alloc, session, output),
+        InputEnd::Read => {
+            let text = closing(alloc, session)?;
+            write_all(output, &text)?;
+            Ok(())
+        }
         InputEnd::Failed | InputEnd::TooLong => Ok(()),
-    }
-}
-
-/// Writes the line that ends the output.
-fn write_closing<O: Sink>(alloc: Global, session: &Session, output: &mut O) -> Result<(), Stop>
-    ensures all { OnOk result (Adds (O.written output.old) (O.written output.new) (closing_line session.now)) }
-    ensures front { OnErr result ((count : ℕ) × Adds (O.written output.old) (O.written output.new) (take count (closing_line session.now))) }
-    ensures cause { HasCause Stop.Sink (O.faults output.old) (O.faults output.new) result }
-    ensures keeper { result ≢ Err Stop.Keeper }
-{
-    let text = match closing(alloc, session) {
-        Ok(text) => text,
-        Err(_refused) => return Err(Stop::Memory),
-    };
-    match write_all(output, &text) {
-        Ok(()) => Ok(()),
-        Err(refused) => Err(Stop::from(refused)),
     }
 }
 
@@ -339,34 +306,25 @@ fn closing(alloc: Global, session: &Session) -> Result<Vec<u8>, AllocError>
 /// Answers the input of a client, and closes the output.
 fn run<I: Source, O: Sink, K: Keeper, L: Link>(
     alloc: Global,
-    session: Session,
+    session: &mut Session,
     route: &Route,
     input: &mut I,
     output: &mut O,
     keeper: &mut K,
     link: &mut L,
 ) -> Result<InputEnd, Stop>
-    requires { IsKept (K.images keeper.old) route.now.image session.client.number session.client.log }
-    ensures world { Told (L.world link.old) (L.world link.new) (λ old new. RunGoes route.now session (I.left input.old) (I.left input.new) (O.written output.old) (O.written output.new) result (K.images keeper.old) (K.images keeper.new) (L.troubles link.old) (L.troubles link.new) old new) }
+    requires { IsKept (K.images keeper.old) route.now.image session.old.client.number session.old.client.log }
+    ensures world { WentDoing route.now.image (RunAnswers route.now session.old (I.left input.old) (I.left input.new) (O.written output.old) (O.written output.new) result session.new) session.old session.new (K.images keeper.old) (K.images keeper.new) (L.tells link.old) (L.tells link.new) }
     ensures input { TakesInput (I.left input.old) (I.left input.new) result }
+    ensures later { (L.tells link.old).troubles ≤ (L.tells link.new).troubles }
+    ensures source_later { I.faults input.old ≤ I.faults input.new }
     ensures source { result ≡ Ok InputEnd.Failed → Rose (I.faults input.old) (I.faults input.new) }
-    ensures sink { result ≡ Err Stop.Sink → Rose (O.faults output.old) (O.faults output.new) }
-    ensures keeper { HasCause Stop.Keeper (K.faults keeper.old) (K.faults keeper.new) result }
+    ensures sink { CountsFault Stop.Sink (O.faults output.old) (O.faults output.new) result }
+    ensures keeper { CountsFault Stop.Keeper (K.faults keeper.old) (K.faults keeper.new) result }
 {
-    let mut session = session;
-    let end = match answer_input(alloc, route, &mut session, input, output, keeper, link) {
-        Ok(end) => end,
-        Err(stop) => {
-            drop(session);
-            return Err(stop);
-        }
-    };
-    let closed = close(alloc, &session, end, output);
-    drop(session);
-    match closed {
-        Ok(()) => Ok(end),
-        Err(stop) => Err(stop),
-    }
+    let end = answer_input(alloc, route, session, input, output, keeper, link)?;
+    close(alloc, session, end, output)?;
+    Ok(end)
 }
 
 /// The status of a run that has no client to begin with.
@@ -416,17 +374,21 @@ pub fn client_run<I: Source, O: Sink, K: Keeper, L: Link>(
 ) -> u8
     ensures form { result ≡ 2 ↔ run_of (map string_bytes words.now) ≡ None }
     ensures known { IsTrue (is_status result) }
-    ensures untouched { run_of (map string_bytes words.now) ≡ None → (I.left input.new ≡ I.left input.old) × (I.faults input.new ≡ I.faults input.old) × (O.written output.new ≡ O.written output.old) × (O.faults output.new ≡ O.faults output.old) × (K.images keeper.new ≡ K.images keeper.old) × (K.faults keeper.new ≡ K.faults keeper.old) × (L.world link.new ≡ L.world link.old) × (L.troubles link.new ≡ L.troubles link.old) }
+    ensures untouched { run_of (map string_bytes words.now) ≡ None → (I.left input.new ≡ I.left input.old) × (I.faults input.new ≡ I.faults input.old) × (O.written output.new ≡ O.written output.old) × (O.faults output.new ≡ O.faults output.old) × (K.images keeper.new ≡ K.images keeper.old) × (K.faults keeper.new ≡ K.faults keeper.old) × (L.tells link.new ≡ L.tells link.old) }
     // what is kept of no such client is left as it is, and nothing else is touched
-    ensures unopened { result ≡ 6 → (I.left input.new ≡ I.left input.old) × (I.faults input.new ≡ I.faults input.old) × (O.written output.new ≡ O.written output.old) × (O.faults output.new ≡ O.faults output.old) × (K.images keeper.new ≡ K.images keeper.old) × (L.world link.new ≡ L.world link.old) × (L.troubles link.new ≡ L.troubles link.old) }
+    ensures unopened { result ≡ 6 → (I.left input.new ≡ I.left input.old) × (I.faults input.new ≡ I.faults input.old) × (O.written output.new ≡ O.written output.old) × (O.faults output.new ≡ O.faults output.old) × (K.images keeper.new ≡ K.images keeper.old) × (L.tells link.new ≡ L.tells link.old) }
     ensures image { IfSome (run_of (map string_bytes words.now)) (λ run. result ≡ 6 → (start : Log) → TellsKept (K.images keeper.old) run.image run.client start → ⊥) }
     ensures no_image { IfSome (run_of (map string_bytes words.now)) (λ run. IsKeptOfNone (K.images keeper.old) run.image run.client → (result ≡ 5) ⊎ (result ≡ 6) ⊎ (result ≡ 7)) }
+    // no count of faults or troubles falls
+    ensures source_later { I.faults input.old ≤ I.faults input.new }
+    ensures later { (L.tells link.old).troubles ≤ (L.tells link.new).troubles }
     ensures source { result ≡ 3 → Rose (I.faults input.old) (I.faults input.new) }
-    ensures sink { result ≡ 4 → Rose (O.faults output.old) (O.faults output.new) }
-    ensures keeper { result ≡ 5 → Rose (K.faults keeper.old) (K.faults keeper.new) }
+    // the sink failed once where it stopped the run, and else never; and so did the keeper
+    ensures sink { RisesWhere (result ≡ 4) (O.faults output.old) (O.faults output.new) }
+    ensures keeper { RisesWhere (result ≡ 5) (K.faults keeper.old) (K.faults keeper.new) }
     ensures input { Told (I.left input.old) (I.left input.new) (IsRead result) }
     ensures complete { IfSome (run_of (map string_bytes words.now)) (λ run. IfSome (I.left input.old) (λ bytes. (start : Log) → TellsKept (K.images keeper.old) run.image run.client start → length bytes ≤ MAX_INPUT → (Rose (I.faults input.old) (I.faults input.new) → ⊥) → (Rose (O.faults output.old) (O.faults output.new) → ⊥) → (Rose (K.faults keeper.old) (K.faults keeper.new) → ⊥) → (result ≡ 0) ⊎ (result ≡ 7))) }
-    ensures session { IfSome (run_of (map string_bytes words.now)) (λ run. (start : Log) → TellsKept (K.images keeper.old) run.image run.client start → Told (L.world link.old) (L.world link.new) (Ran run.client (route_of run) start (I.left input.old) (I.left input.new) (O.written output.old) (O.written output.new) (K.images keeper.old) (K.images keeper.new) result (L.troubles link.old) (L.troubles link.new))) }
+    ensures session { IfSome (run_of (map string_bytes words.now)) (λ run. (start : Log) → TellsKept (K.images keeper.old) run.image run.client start → ToldWorlds (L.tells link.old) (L.tells link.new) (Ran run.client (route_of run) start (record { left = I.left input.old; written = O.written output.old; images = K.images keeper.old; troubles = (L.tells link.old).troubles }) (record { left = I.left input.new; written = O.written output.new; images = K.images keeper.new; troubles = (L.tells link.new).troubles }) result)) }
 {
     let Some(words) = run_words(words) else {
         return 2;
@@ -437,8 +399,9 @@ pub fn client_run<I: Source, O: Sink, K: Keeper, L: Link>(
     };
     match open(alloc, words.client, route.image.bytes(), keeper) {
         Ok(client) => {
-            let session = Session::new(alloc, client);
-            let ended = run(alloc, session, &route, input, output, keeper, link);
+            let mut session = Session::new(alloc, client);
+            let ended = run(alloc, &mut session, &route, input, output, keeper, link);
+            drop(session);
             drop(route);
             status_of(ended)
         }

@@ -1,6 +1,10 @@
 ghost use Rattle.std.specs.Prelude.{◌≡◌, ◌≤◌, IfSome, MatchOption, None, Some, map};
 ghost use Rattle.std.specs.String.{string_bytes};
-ghost use Rattle.client_prog.specs.Words.{client_number, run_of, is_run};
+ghost use Rattle.wire_frames.specs.declared.message.TheConstants.{CLIENTS};
+ghost use Rattle.client_prog.specs.Words.{run_of, is_run};
+
+use program_words::printed_number;
+use wire_frames::CLIENTS;
 
 /// What the words of a run say.
 #[derive(Debug, Drop)]
@@ -19,7 +23,7 @@ pub struct RunWords<'a> {
 pub fn run_words(words: &[String]) -> Option<RunWords<'_>>
     ensures form { MatchOption result (run_of (map string_bytes words.now) ≡ None)
         (λ run. run_of (map string_bytes words.now) ≡ Some (record { client = run.client; image = run.image.now; server = run.server.now; work = run.work.now })) }
-    ensures range { IfSome result (λ run. (1 ≤ run.client) × (run.client ≤ 64)) }
+    ensures range { IfSome result (λ run. (1 ≤ run.client) × (run.client ≤ CLIENTS)) }
 {
     let [run, number, image, server, surrogate, work] = words else {
         return None;
@@ -28,9 +32,9 @@ pub fn run_words(words: &[String]) -> Option<RunWords<'_>>
     if !is_run(run.as_bytes(), image, server, surrogate.as_bytes(), work) {
         return None;
     }
-    match client_number(number.as_bytes()) {
+    match printed_number(number.as_str(), 1, u32::from(CLIENTS)) {
         Some(client) => Some(RunWords {
-            client,
+            client: client as u8,
             image,
             server,
             work,
@@ -47,17 +51,4 @@ fn is_run(run: &[u8], image: &[u8], server: &[u8], surrogate: &[u8], work: &[u8]
         && !server.is_empty()
         && surrogate == b"-".as_slice()
         && !work.is_empty()
-}
-
-/// The number of a client, from 1 to 64 in plain decimal.
-fn client_number(word: &[u8]) -> Option<u8>
-    ensures number { result ≡ client_number word.now }
-    ensures range { IfSome result (λ n. (1 ≤ n) × (n ≤ 64)) }
-{
-    let number = match word {
-        [ones @ b'1'..=b'9'] => *ones - b'0',
-        [tens @ b'1'..=b'9', ones @ b'0'..=b'9'] => (*tens - b'0') * 10 + (*ones - b'0'),
-        _ => return None,
-    };
-    if number <= 64 { Some(number) } else { None }
 }

@@ -1,13 +1,11 @@
 use Rattle.std.proofs.Common.{◌≡◌, ℕ, List, [], ◌∷◌, Ok, Err, refl, arith, sym, subst}
 use Rattle.std.proofs.lemmas.Bool.Decides.{nat_tests}
-use Rattle.outside.specs.Outside.{Told}
-use Rattle.mod_log.specs.Log.{Log}
-use Rattle.world_rules.proofs.Asks.{told_start}
+use Rattle.std.proofs.lemmas.Result.{err_from_is_err_and}
 use Rattle.shell_lang.specs.Lines.{last_line}
 use Rattle.client_core.specs.Trace.{nothing}
-use Rattle.client_prog.specs.InsideSession.{Does}
+use Rattle.client_session.specs.Doing.{WentDoing}
+use Rattle.client_session.proofs.Doing.{went_none}
 use Rattle.client_prog.specs.InsideRun.{AllAnswered, AnswersLines}
-use Rattle.client_prog.proofs.Doing.{does_none}
 use Rattle.client_prog.proofs.RunningLines.{answers_nothing}
 use Rattle.client_prog.proofs.RunningInput.{last_line_none, last_line_some}
 use Rattle.client_prog.proofs.run.answer_unfinished.Goals as goal
@@ -15,44 +13,32 @@ use Rattle.client_prog.proofs.run.answer_unfinished.Goals as goal
 pub returns-then-is_empty-clause-world : goal.returns-then-is_empty-clause-world
 returns-then-is_empty-clause-world g c =
     let r = c.args.route.now in
-    let s = c.args.session.now in
-    let t = g.L.Link.troubles c.args.link.now in
-    let i = g.K.Keeper.images c.args.keeper.now in
+    let a = c.args.session.now in
     let o = g.O.Sink.written c.args.output.now in
     let none : last_line c.args.line.now ≡ [] = last_line_none c.args.line.now (grind (arith, nat_tests)) in
-    told_start _ (λ x y. (kept : Log) × Does r.image (AnswersLines {T = Unit {0}} r s (last_line c.args.line.now) o o (Ok tt) s kept) s s kept i i t t x y)
-    (λ x. (
-      s.client.log,
-      does_none r.image (AnswersLines {T = Unit {0}} r s (last_line c.args.line.now) o o (Ok tt) s s.client.log) s i t x c.requires
-          (subst (λ (ls : List (List ℕ)). AllAnswered r s ls o o s nothing) (sym none) (answers_nothing r s o), refl),
-    ))
+    went_none r.image (AnswersLines {T = Unit {0}} r a (last_line c.args.line.now) o o (Ok tt) a) a (g.K.Keeper.images c.args.keeper.now) (g.L.Link.tells c.args.link.now) c.requires
+    (subst (λ (ls : List (List ℕ)). AllAnswered r a ls o o a nothing) (sym none) (answers_nothing r a o), refl)
 
-pub returns-in-Ok-clause-world : goal.returns-in-Ok-clause-world
-returns-in-Ok-clause-world g c =
+pub returns-clause-world : goal.returns-clause-world
+returns-clause-world g c =
     let r = c.args.route.now in
     let a = c.args.session.now in
     let b = c.answer.new.session in
-    let t = g.L.Link.troubles c.args.link.now in
-    let u = g.L.Link.troubles c.answer.new.link in
-    let i = g.K.Keeper.images c.args.keeper.now in
-    let j = g.K.Keeper.images c.answer.new.keeper in
     let o = g.O.Sink.written c.args.output.now in
     let n = g.O.Sink.written c.answer.new.output in
     let one : last_line c.args.line.now ≡ c.args.line.now ∷ [] = last_line_some c.args.line.now (grind (arith, nat_tests)) in
-    subst (λ (ls : List (List ℕ)). Told (g.L.Link.world c.args.link.now) (g.L.Link.world c.answer.new.link) (λ x y. (kept : Log) × Does r.image (AnswersLines {T = Unit {0}} r a ls o n (Ok tt) b kept) a b kept i j t u x y))
-    (sym one) c.in-Ok.ensures.world
+    subst (λ (ls : List (List ℕ)). WentDoing r.image (AnswersLines {T = Unit {0}} r a ls o n (Ok tt) b) a b (g.K.Keeper.images c.args.keeper.now) (g.K.Keeper.images c.answer.new.keeper) (g.L.Link.tells c.args.link.now) (g.L.Link.tells c.answer.new.link))
+    (sym one) c.in_ok-answer.ensures.world
 
-pub returns-in-Err-clause-world : goal.returns-in-Err-clause-world
-returns-in-Err-clause-world g c =
+pub returns-in_err-answer-clause-world : goal.returns-in_err-answer-clause-world
+returns-in_err-answer-clause-world g c =
+    let x = err_from_is_err_and c.from_residual.result c.from_residual.ensures.1 in
     let r = c.args.route.now in
     let a = c.args.session.now in
     let b = c.answer.new.session in
-    let t = g.L.Link.troubles c.args.link.now in
-    let u = g.L.Link.troubles c.answer.new.link in
-    let i = g.K.Keeper.images c.args.keeper.now in
-    let j = g.K.Keeper.images c.answer.new.keeper in
     let o = g.O.Sink.written c.args.output.now in
     let n = g.O.Sink.written c.answer.new.output in
+    let stop = c.in_err-answer.field-0.0 in
     let one : last_line c.args.line.now ≡ c.args.line.now ∷ [] = last_line_some c.args.line.now (grind (arith, nat_tests)) in
-    subst (λ (ls : List (List ℕ)). Told (g.L.Link.world c.args.link.now) (g.L.Link.world c.answer.new.link) (λ x y. (kept : Log) × Does r.image (AnswersLines {T = Unit {0}} r a ls o n (Err c.in-Err.stop) b kept) a b kept i j t u x y))
-    (sym one) c.in-Err.ensures.world
+    rw (x.1, x.2) (subst (λ (ls : List (List ℕ)). WentDoing r.image (AnswersLines {T = Unit {0}} r a ls o n (Err stop) b) a b (g.K.Keeper.images c.args.keeper.now) (g.K.Keeper.images c.answer.new.keeper) (g.L.Link.tells c.args.link.now) (g.L.Link.tells c.answer.new.link))
+    (sym one) c.in_err-answer.ensures.world)

@@ -1,0 +1,134 @@
+-- What the lines of a session change of the log.
+use Rattle.std.proofs.Common.{◌≡◌, inl, inr, ℕ, zero, suc, List, [], ◌∷◌, ◌++◌, Option, Result, Ok, Err, refl, sym, ◌∙◌, ap, subst}
+use Rattle.std.proofs.lemmas.List.{append-nil}
+use Rattle.file_paths.specs.declared.path.PathError.{PathError}
+use Rattle.tree_values.specs.declared.node.Effect.{Effect}
+use Rattle.mod_log.specs.declared.log.Entry.{Entry}
+use Rattle.mod_log.specs.declared.log.LogError.{LogError}
+use Rattle.mod_log.specs.Log.{Log}
+use Rattle.world_rules.specs.declared.asking.Ask.{Ask}
+use Rattle.client_core.specs.declared.route.Route.{Route}
+use Rattle.client_core.specs.declared.pulling.PullEnd.{PullEnd}
+use Rattle.client_core.specs.declared.pulling.PullEnd.TheVariants.{Pulled, Pending, OtherLast, Older, Unanswered, KeepFault, Memory}
+use Rattle.client_core.specs.Trace.{Trace, nothing, followed, asking}
+use Rattle.client_core.specs.Logging.{local_entry, LocalTurn}
+use Rattle.client_core.specs.Syncing.{Acknowledges}
+use Rattle.client_core.specs.Pulling.{PullsSnapshot, PullTurn}
+use Rattle.client_core.proofs.Locals.{appended-is}
+use Rattle.shell_lang.specs.declared.line.Line.{Line}
+use Rattle.shell_lang.specs.declared.line.Line.TheVariants as lines
+use Rattle.shell_lang.specs.declared.line.LineError.{LineError}
+use Rattle.shell_lang.specs.declared.answer.Answer.{Answer}
+use Rattle.client_session.specs.Session.{SessionState, with_log, put_effect, make_effect, remove_effect, move_effect, LogTurn, LineTurn, Chain}
+use Rattle.client_session.specs.Laws.{IsChange, ChangesLeadTo, SessionsChangeSo}
+
+leads_then : (a b c : Log) (xs ys : List Log) → ChangesLeadTo a xs b → ChangesLeadTo b ys c → ChangesLeadTo a (xs ++ ys) c
+leads_then a b c [] ys first second = subst (λ (log : Log). ChangesLeadTo log ys c) first second
+leads_then a b c (x ∷ xs) ys first second = (first.0, leads_then x b c xs ys first.1 second)
+
+-- nothing is changed
+still : (before after : Log) (trace : Trace) → after ≡ before → trace ≡ nothing → ChangesLeadTo before trace.changes after
+still before after trace same none = subst (λ (t : Trace). ChangesLeadTo before t.changes after) (sym none) same
+
+-- ---- a sync and a pull
+
+acknowledged_leads : (client : ℕ) (route : Route) (count : ℕ) (before after : Log) (trace : Trace) → Acknowledges client route count before after trace → ChangesLeadTo before trace.changes after
+acknowledged_leads client route zero before after trace turn = still before after trace turn.0 turn.1
+acknowledged_leads client route (suc count) before after trace turn =
+    subst (λ (t : Trace). ChangesLeadTo before t.changes after) (sym turn.6)
+    (leads_then before turn.0 after turn.1.changes (after ∷ []) (acknowledged_leads client route count before turn.0 turn.1 turn.3) (inr (inl turn.5), refl))
+
+asked_leads : (before after : Log) (earlier trace : Trace) (last : List Ask) → ChangesLeadTo before earlier.changes after → trace ≡ followed earlier (asking last) → ChangesLeadTo before trace.changes after
+asked_leads before after earlier trace last leads is = subst (λ (cs : List Log). ChangesLeadTo before cs after) (sym (ap (λ (t : Trace). t.changes) is ∙ append-nil earlier.changes)) leads
+
+snapshot_leads : (client : ℕ) (route : Route) (before : Log) (end : PullEnd) (after : Log) (trace : Trace) → PullsSnapshot client route before end after trace → ChangesLeadTo before trace.changes after
+snapshot_leads client route before (Pulled count) after trace turn = subst (λ (t : Trace). ChangesLeadTo before t.changes after) (sym turn.trace_is) (inr (inr (turn.seen, turn.met.3)), refl)
+snapshot_leads client route before (OtherLast last acked) after trace turn = subst (λ (t : Trace). ChangesLeadTo before t.changes after) (sym turn.trace_is) turn.met.3
+snapshot_leads client route before (Older path theirs ours) after trace turn = subst (λ (t : Trace). ChangesLeadTo before t.changes after) (sym turn.trace_is) turn.met.4
+snapshot_leads client route before (Pending count) after trace turn = absurd turn.met
+snapshot_leads client route before Unanswered after trace turn = absurd turn.met
+snapshot_leads client route before KeepFault after trace turn = absurd turn.met
+snapshot_leads client route before Memory after trace turn = absurd turn.met
+
+pull_leads : (client : ℕ) (route : Route) (before : Log) (end : PullEnd) (after : Log) (trace : Trace) → PullTurn client route before end after trace → ChangesLeadTo before trace.changes after
+pull_leads client route before (Pending count) after trace turn = still before after trace turn.2 turn.3
+pull_leads client route before Unanswered after trace turn = subst (λ (t : Trace). ChangesLeadTo before t.changes after) (sym turn.1.3) turn.1.2
+pull_leads client route before (Pulled count) after trace turn = snapshot_leads client route before (Pulled count) after trace turn
+pull_leads client route before (OtherLast last acked) after trace turn = snapshot_leads client route before (OtherLast last acked) after trace turn
+pull_leads client route before (Older path theirs ours) after trace turn = snapshot_leads client route before (Older path theirs ours) after trace turn
+pull_leads client route before KeepFault after trace turn = snapshot_leads client route before KeepFault after trace turn
+pull_leads client route before Memory after trace turn = snapshot_leads client route before Memory after trace turn
+
+-- ---- a line
+
+module _ (before after : SessionState) (trace : Trace) where
+  abbrev LineLeads : Type 0
+  LineLeads = ChangesLeadTo before.client.log trace.changes after.client.log
+
+  untouched : after ≡ before → trace ≡ nothing → LineLeads
+  untouched same none = still before.client.log after.client.log trace (ap (λ (s : SessionState). s.client.log) same) none
+
+  local_leads : (effect : Effect) (result : Result ℕ LogError) → LocalTurn effect before.client.log result after.client.log trace → LineLeads
+  local_leads effect (Ok number) turn =
+      let entry : Entry = local_entry effect before.client.log in
+      subst (λ (t : Trace). ChangesLeadTo before.client.log t.changes after.client.log) (sym turn.2)
+      (inl (entry, refl, sym (appended-is (effect ∷ []) before.client.log after.client.log turn.0)), refl)
+  local_leads effect (Err refusal) turn = still before.client.log after.client.log trace turn.1 turn.2
+
+  log_leads : (named : Result Effect PathError) (answer : Option Answer) → LogTurn named before answer after trace → LineLeads
+  log_leads (Ok effect) answer turn = local_leads effect turn.0 turn.1
+  log_leads (Err refusal) answer turn = untouched turn.1 turn.2
+
+  pub line_leads : (route : Route) (line : Result Line LineError) (answer : Option Answer) → LineTurn route before line answer after trace → LineLeads
+  line_leads route (Err refusal) answer turn = untouched turn.1 turn.2
+  line_leads route (Ok lines.Empty) answer turn = untouched turn.1 turn.2
+  line_leads route (Ok (lines.Put word text)) answer turn = log_leads (put_effect before.folder word text) answer turn
+  line_leads route (Ok (lines.Make word)) answer turn = log_leads (make_effect before.folder word) answer turn
+  line_leads route (Ok (lines.Remove word)) answer turn = log_leads (remove_effect before.folder word) answer turn
+  line_leads route (Ok (lines.Move from to)) answer turn = log_leads (move_effect before.folder from to) answer turn
+  line_leads route (Ok (lines.Cat word)) answer turn = untouched turn.1 turn.2
+  line_leads route (Ok (lines.List word)) answer turn = untouched turn.1 turn.2
+  line_leads route (Ok (lines.Enter word)) answer turn = still before.client.log after.client.log trace (ap (λ (s : SessionState). s.client.log) turn.1) turn.2
+  line_leads route (Ok lines.Status) answer turn = untouched turn.1 turn.2
+  line_leads route (Ok lines.Sync) answer turn =
+      let synced = turn.1 in
+      asked_leads before.client.log after.client.log synced.1 trace synced.2 (acknowledged_leads before.client.number route synced.0 before.client.log after.client.log synced.1 synced.3) synced.5
+  line_leads route (Ok lines.Pull) answer turn = pull_leads before.client.number route before.client.log turn.0 after.client.log trace turn.1
+  line_leads route (Ok lines.Quit) answer turn = untouched turn.1 turn.2
+
+-- ---- the client's number stays
+
+with_number : (before : SessionState) (log : Log) (after : SessionState) → after ≡ with_log before log → after.client.number ≡ before.client.number
+with_number before log after is = ap (λ (s : SessionState). s.client.number) is
+
+module _ (before after : SessionState) (trace : Trace) where
+  log_number : (named : Result Effect PathError) (answer : Option Answer) → LogTurn named before answer after trace → after.client.number ≡ before.client.number
+  log_number (Ok effect) answer turn = with_number before after.client.log after turn.2
+  log_number (Err refusal) answer turn = ap (λ (s : SessionState). s.client.number) turn.1
+
+  pub line_number : (route : Route) (line : Result Line LineError) (answer : Option Answer) → LineTurn route before line answer after trace → after.client.number ≡ before.client.number
+  line_number route (Err refusal) answer turn = ap (λ (s : SessionState). s.client.number) turn.1
+  line_number route (Ok lines.Empty) answer turn = ap (λ (s : SessionState). s.client.number) turn.1
+  line_number route (Ok (lines.Put word text)) answer turn = log_number (put_effect before.folder word text) answer turn
+  line_number route (Ok (lines.Make word)) answer turn = log_number (make_effect before.folder word) answer turn
+  line_number route (Ok (lines.Remove word)) answer turn = log_number (remove_effect before.folder word) answer turn
+  line_number route (Ok (lines.Move from to)) answer turn = log_number (move_effect before.folder from to) answer turn
+  line_number route (Ok (lines.Cat word)) answer turn = ap (λ (s : SessionState). s.client.number) turn.1
+  line_number route (Ok (lines.List word)) answer turn = ap (λ (s : SessionState). s.client.number) turn.1
+  line_number route (Ok (lines.Enter word)) answer turn = ap (λ (s : SessionState). s.client.number) turn.1
+  line_number route (Ok lines.Status) answer turn = ap (λ (s : SessionState). s.client.number) turn.1
+  line_number route (Ok lines.Sync) answer turn = with_number before after.client.log after turn.2
+  line_number route (Ok lines.Pull) answer turn = with_number before after.client.log after turn.2
+  line_number route (Ok lines.Quit) answer turn = ap (λ (s : SessionState). s.client.number) turn.1
+
+-- ---- a session
+
+pub sessions_change_so : SessionsChangeSo
+sessions_change_so route before [] answers after trace chain = untouched before after trace chain.1 chain.2
+sessions_change_so route before (line ∷ lines) answers after trace chain =
+    let middle : SessionState = chain.0 in
+    let first : Trace = chain.1 in
+    let rest : Trace = chain.2 in
+    subst (λ (t : Trace). ChangesLeadTo before.client.log t.changes after.client.log) (sym chain.8)
+    (leads_then before.client.log middle.client.log after.client.log first.changes rest.changes (line_leads before middle first route line chain.3 chain.5)
+    (sessions_change_so route middle lines chain.4 after rest chain.6))

@@ -1,0 +1,5 @@
+pub mod Answered
+pub mod Changing
+pub mod Doing
+pub mod Found
+pub mod Turning

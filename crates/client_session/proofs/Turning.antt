@@ -1,0 +1,439 @@
+-- What the answer of a line makes of the client, of what is kept of it and of the world.
+use Rattle.std.proofs.Common.{◌≡◌, ◌≢◌, inl, inr, ⊎_elim, ℕ, Bool, true, false, List, [], ◌∷◌, Option, Some, None, Result, Ok, Err, IfOk, OnErr, refl, arith, sym, ◌∙◌, ap, subst}
+use Rattle.outside.specs.Outside.{Told, RisesWhere, CountsFault}
+use Rattle.outside.specs.Keeper.{Images}
+use Rattle.outside.specs.declared.errors.KeepError.{KeepError}
+use Rattle.outside.specs.declared.errors.KeepError.TheVariants as keepers
+use Rattle.file_paths.specs.declared.path.PathError.{PathError}
+use Rattle.file_paths.specs.declared.path.PathError.TheVariants as paths
+use Rattle.tree_values.specs.declared.node.Effect.{Effect}
+use Rattle.mod_log.specs.declared.log.LogError.{LogError}
+use Rattle.mod_log.specs.declared.log.LogError.TheVariants as logs
+use Rattle.mod_log.specs.Log.{Log, IsLog, tree_of}
+use Rattle.mod_log.specs.Append.{appended}
+use Rattle.world_rules.specs.Served.{new_served}
+use Rattle.world_rules.specs.World.{World}
+use Rattle.world_rules.specs.Telling.{LinkTelling}
+use Rattle.world_rules.proofs.Asks.{told_start, told_as}
+use Rattle.client_core.specs.declared.route.Route.{Route}
+use Rattle.client_core.specs.declared.syncing.SyncEnd.{SyncEnd}
+use Rattle.client_core.specs.declared.syncing.SyncEnd.TheVariants as syncs
+use Rattle.client_core.specs.declared.pulling.PullEnd.{PullEnd}
+use Rattle.client_core.specs.declared.pulling.PullEnd.TheVariants as pulls
+use Rattle.client_core.specs.Client.{Client}
+use Rattle.client_core.specs.Causes.{HasSyncCause, HasPullCause, AcknowledgesSome, SyncKeeps, PullKeeps}
+use Rattle.client_core.specs.Trace.{Trace, nothing}
+use Rattle.client_core.specs.Logging.{local_entry, LocalEnds}
+use Rattle.client_core.specs.Syncing.{SyncEnds, is_broken_sync}
+use Rattle.client_core.specs.Pulling.{PullEnds, is_broken_pull}
+use Rattle.client_core.specs.Keeping.{IsKept, KeepsLog}
+use Rattle.client_core.specs.Goes.{Goes, Went}
+use Rattle.client_core.proofs.Going.{changed_so, kept_now, goes_none, goes_as, goes_saved}
+use Rattle.client_core.proofs.Locals.{local_goes}
+use Rattle.shell_lang.specs.declared.line.Line.{Line}
+use Rattle.shell_lang.specs.declared.line.Line.TheVariants.{Enter, Status, Sync, Pull}
+use Rattle.shell_lang.specs.declared.line.LineError.{LineError}
+use Rattle.shell_lang.specs.declared.answer.Answer.{Answer}
+use Rattle.shell_lang.specs.declared.answer.Answer.TheVariants as answers
+use Rattle.client_session.specs.Session.{SessionState, with_log, with_folder, LogTurn, LineTurn, local_answer, word_answer, status_answer, sync_answer, pull_answer}
+use Rattle.client_session.specs.Looking.{enter_answer, folder_by}
+use Rattle.client_session.specs.Doing.{Does, WentDoing, LineEnds}
+use Rattle.client_session.specs.Inside.{IsGiven, GivesEffect, LogEnds, Logs, LogsMade}
+use Rattle.client_session.specs.Causes.{HasLineCause, is_sync_fault, is_pull_fault, answered}
+use Rattle.client_session.proofs.Doing.{does_none, does_as}
+
+-- what a line that asks nothing of the server does in any world, where the keeper's images were these and are those now
+abbrev pub Quietly : List ℕ → SessionState → Result Line LineError → Result (Option Answer) KeepError → SessionState → Option Images → Option Images → Type 0
+Quietly name before line result after images now =
+    (route : Route) (troubles : ℕ) (world : World) → (kept : Log) × Does name (LineEnds route before line result after kept) before after kept images now troubles troubles world world
+
+-- a state of the same client in the same folder has another log at most
+pub same_but_log : (before after : SessionState) → after.client.number ≡ before.client.number → after.folder ≡ before.folder → after ≡ with_log before after.client.log
+same_but_log before after number folder = λ i. record { client = record { number = number i; log = after.client.log }; folder = folder i }
+
+-- what was kept surely is kept
+pub kept_ok : (name : List ℕ) (client : ℕ) (log : Log) (i j : Option Images) (done : Unit {0}) → Told i j (KeepsLog {E = KeepError} name client log (Ok done)) → IsKept j name client log
+kept_ok name client log (Some i) (Some j) done told = told.0
+kept_ok name client log (Some i) None done told = absurd told
+kept_ok name client log None None done told = tt
+kept_ok name client log None (Some j) done told = absurd (cc)
+
+-- some world
+a_world : World
+a_world = record { client = 1; opening = new_served; taken = []; served = new_served; packets = []; asks = [] }
+
+module _ (name : List ℕ) (i : Option Images) where
+  -- ---- a line that asks nothing of the server
+
+  -- over each link it does the same
+  pub quietly_told : (before : SessionState) (line : Result Line LineError) (r : Result (Option Answer) KeepError) (after : SessionState) (j : Option Images) → Quietly name before line r after i j → (route : Route) (t : LinkTelling)
+      → WentDoing name (LineEnds route before line r after) before after i j t t
+  quietly_told before line r after j quiet route t =
+      told_start t.world (λ x y. (kept : Log) × Does name (LineEnds route before line r after kept) before after kept i j t.troubles t.troubles x y) (quiet route t.troubles)
+
+  -- and so it has its turn over any link
+  pub quietly_caused : (before : SessionState) (line : Result Line LineError) (r : Result (Option Answer) KeepError) (after : SessionState) (j : Option Images) → Quietly name before line r after i j → (route : Route)
+      → (kept : Log) × (trace : Trace) × LineEnds route before line r after kept trace
+  quietly_caused before line r after j quiet route = let here = quiet route 0 a_world in (here.0, here.1.goes.trace, here.1.goes.turn)
+
+  -- as what the line reads as
+  pub line_world : (route : Route) (before : SessionState) (read line : Result Line LineError) (r : Result (Option Answer) KeepError) (after : SessionState) (j : Option Images) (t : LinkTelling) → read ≡ line
+      → Quietly name before line r after i j → WentDoing name (LineEnds route before read r after) before after i j t t
+  line_world route before read line r after j t is quiet =
+      subst (λ (l : Result Line LineError). WentDoing name (LineEnds route before l r after) before after i j t t) (sym is) (quietly_told before line r after j quiet route t)
+
+  module _ (before : SessionState) (keeps : IsKept i name before.client.number before.client.log) where
+    -- a line that does nothing but answer
+    pub tells_quietly : (line : Result Line LineError) (answer : Option Answer) → ((route : Route) → LineTurn route before line answer before nothing) → Quietly name before line (Ok answer) before i i
+    tells_quietly line answer turn = λ route t w. (before.client.log, does_none name (LineEnds route before line (Ok answer) before before.client.log) before i t w keeps (turn route, refl))
+
+    pub silent_quietly : (line : Result Line LineError) → ((route : Route) → LineTurn route before line None before nothing) → Quietly name before line (Ok None) before i i
+    silent_quietly line turn = tells_quietly line None turn
+
+    -- a line for which memory was wanted before it did anything
+    breaks_quietly : (line : Result Line LineError) (e : KeepError) → Quietly name before line (Err e) before i i
+    breaks_quietly line e = λ route t w. (before.client.log, does_none name (LineEnds route before line (Err e) before before.client.log) before i t w keeps (inl (refl, refl)))
+
+    -- a line that does nothing but answer, unless memory is wanted
+    pub told_quietly : (line : Result Line LineError) (answer : Option Answer) (r : Result (Option Answer) KeepError) → ((route : Route) → LineTurn route before line answer before nothing)
+        → IfOk r (λ given. given ≡ answer) → Quietly name before line r before i i
+    told_quietly line answer (Ok given) turn is = subst (λ (a : Option Answer). Quietly name before line (Ok a) before i i) (sym is) (tells_quietly line answer turn)
+    told_quietly line answer (Err e) turn is = breaks_quietly line e
+
+    -- a line that enters a folder
+    pub enter_quietly : (after : SessionState) (word : List ℕ) (r : Result (Option Answer) KeepError)
+        → IfOk r (λ given. given ≡ Some (enter_answer (tree_of before.client.log) before.folder word))
+        → IfOk r (λ given. after ≡ with_folder before (folder_by (enter_answer (tree_of before.client.log) before.folder word) before.folder))
+        → OnErr r (after ≡ before) → Quietly name before (Ok (Enter word)) r after i i
+    enter_quietly after word (Ok given) is entered same =
+        let there = with_folder before (folder_by (enter_answer (tree_of before.client.log) before.folder word) before.folder) in
+        subst (λ (s : SessionState). Quietly name before (Ok (Enter word)) (Ok given) s i i) (sym entered)
+        (λ route t w. (
+          before.client.log,
+          record {
+            number = refl;
+            goes = goes_none name before.client.number (LineEnds route before (Ok (Enter word)) (Ok given) there before.client.log) before.client.log i t w keeps ((is, refl, refl), refl);
+          },
+        ))
+    enter_quietly after word (Err e) is entered same = subst (λ (s : SessionState). Quietly name before (Ok (Enter word)) (Err e) s i i) (sym same) (breaks_quietly (Ok (Enter word)) e)
+
+    pub enter_kept : (after : SessionState) (word : List ℕ) (r : Result (Option Answer) KeepError)
+        → IfOk r (λ given. after ≡ with_folder before (folder_by (enter_answer (tree_of before.client.log) before.folder word) before.folder)) → IfOk r (λ given. IsKept i name after.client.number after.client.log)
+    enter_kept after word (Ok given) entered = subst (λ (s : SessionState). IsKept i name s.client.number s.client.log) (sym entered) keeps
+    enter_kept after word (Err e) entered = tt
+
+    -- the line of status
+    pub status_quietly : (answer : Answer) → answer ≡ status_answer before → Quietly name before (Ok Status) (Ok (Some answer)) before i i
+    status_quietly answer is = told_quietly (Ok Status) (Some (status_answer before)) (Ok (Some answer)) (λ route. (refl, refl, refl)) (ap Some is)
+
+    -- ---- a line that logs nothing
+
+    -- memory was wanted before
+    unlogged : (named : Result Effect PathError) (e : KeepError) → Logs name named before (Err e) before i i
+    unlogged named e = λ t w. (before.client.log, does_none name (LogEnds named before (Err e) before before.client.log) before i t w keeps (inl (refl, refl)))
+
+    -- the refusal of a path word
+    refused_word : (refusal : PathError) (answer : Answer) → word_answer refusal ≡ Some answer → Logs name (Err refusal) before (Ok (Some answer)) before i i
+    refused_word refusal answer is = λ t w. (before.client.log, does_none name (LogEnds (Err refusal) before (Ok (Some answer)) before before.client.log) before i t w keeps ((sym is, refl, refl), refl))
+
+    no_memory_word : (refusal : PathError) (answer : Answer) → word_answer refusal ≡ Some answer → refusal ≢ paths.Memory
+    no_memory_word refusal answer is memory = absurd (cc (ap word_answer memory, is))
+
+    pub word_given : (made : Result Effect PathError) (refusal : PathError) (told : Option Answer) (r : Result (Option Answer) KeepError) → made ≡ Err refusal → told ≡ word_answer refusal
+        → IsGiven told r → LogsMade name made before r before i i
+    word_given made refusal (Some answer) (Ok given) is shown gave = λ named gives.
+        let word : word_answer refusal ≡ Some answer = sym shown in
+        let is_named : named ≡ Err refusal = subst (λ (m : Result Effect PathError). GivesEffect m named) is gives (no_memory_word refusal answer word) in
+        subst (λ (n : Result Effect PathError). Logs name n before (Ok given) before i i) (sym is_named)
+        (subst (λ (a : Option Answer). Logs name (Err refusal) before (Ok a) before i i) (sym gave) (refused_word refusal answer word))
+    word_given made refusal None (Err keepers.Memory) is shown gave = λ named gives. unlogged named keepers.Memory
+    word_given made refusal None (Err keepers.Failed) is shown gave = absurd gave
+    word_given made refusal (Some answer) (Err e) is shown gave = absurd gave
+    word_given made refusal None (Ok given) is shown gave = absurd gave
+
+    -- ---- a line that logs
+
+    module _ (effect : Effect) (after : SessionState) (number : after.client.number ≡ before.client.number) (folder : after.folder ≡ before.folder) where
+      refused_turn : (refusal : LogError) (answer : Answer) → Some answer ≡ local_answer (Err refusal) → (trace : Trace) → LocalEnds effect before.client.log (Err refusal) after.client.log trace → LogTurn (Ok effect) before (Some answer) after trace
+      refused_turn refusal answer shown trace (inl turn) = (Err refusal, turn, same_but_log before after number folder, shown)
+      refused_turn refusal answer shown trace (inr memory) = absurd (cc (ap local_answer memory.0, shown))
+
+      -- the log refused the effect
+      pub refusal_given : (made : Result Effect PathError) (refusal : LogError) (told : Option Answer) (r : Result (Option Answer) KeepError) → made ≡ Ok effect → told ≡ local_answer (Err refusal) → IsGiven told r
+          → (refusal ≢ logs.Memory → appended (effect ∷ []) before.client.log ≡ Err refusal) → after.client ≡ before.client → IsLog after.client.log → LogsMade name made before r after i i
+      refusal_given made refusal (Some answer) (Ok given) is shown gave err same is_log = λ named gives.
+          let is_named : named ≡ Ok effect = subst (λ (m : Result Effect PathError). GivesEffect m named) is gives in
+          let log_same : after.client.log ≡ before.client.log = ap (λ (c : Client). c.log) same in
+          subst (λ (n : Result Effect PathError). Logs name n before (Ok given) after i i) (sym is_named)
+          (subst (λ (a : Option Answer). Logs name (Ok effect) before (Ok a) after i i) (sym gave)
+          (λ t w. (
+            before.client.log,
+            record {
+              number = number;
+              goes = goes_as name before.client.number (LocalEnds effect before.client.log (Err refusal) after.client.log) (LogEnds (Ok effect) before (Ok (Some answer)) after before.client.log) before.client.log after.client.log before.client.log i i t t w w
+                  (local_goes name before.client.number effect before.client.log after.client.log i keeps (Err refusal) tt tt err log_same is_log t w)
+                  (λ trace turn. (refused_turn refusal answer shown trace turn, sym log_same));
+            },
+          )))
+      refusal_given made refusal None (Err keepers.Memory) is shown gave err same is_log = λ named gives.
+          let unchanged : after ≡ before = λ k. record { client = same k; folder = folder k } in
+          subst (λ (s : SessionState). Logs name named before (Err keepers.Memory) s i i) (sym unchanged) (unlogged named keepers.Memory)
+      refusal_given made refusal None (Err keepers.Failed) is shown gave err same is_log = absurd gave
+      refusal_given made refusal (Some answer) (Err e) is shown gave err same is_log = absurd gave
+      refusal_given made refusal None (Ok given) is shown gave err same is_log = absurd gave
+
+      -- it was logged, and the client was to be kept
+      module _ (seq : ℕ) (j : Option Images) (ok : appended (effect ∷ []) before.client.log ≡ Ok after.client.log) (shown : seq ≡ (local_entry effect before.client.log).seq) (is_log : IsLog after.client.log) where
+        local_changes : (trace : Trace) → LocalEnds effect before.client.log (Ok seq) after.client.log trace → trace.changes ≢ []
+        local_changes trace (inl turn) = changed_so trace.changes after.client.log [] (ap (λ (n : Trace). n.changes) turn.2)
+        local_changes trace (inr memory) = absurd (cc (memory.0))
+
+        logged_turn : (trace : Trace) → LocalEnds effect before.client.log (Ok seq) after.client.log trace → LogTurn (Ok effect) before (Some (answers.Logged seq)) after trace
+        logged_turn trace (inl turn) = (Ok seq, turn, same_but_log before after number folder, refl)
+        logged_turn trace (inr memory) = absurd (cc (memory.0))
+
+        goes_kept : (r : Result (Unit {0}) KeepError) → Told i j (KeepsLog name before.client.number after.client.log r) → (t : ℕ) (w : World)
+            → (kept : Log) × Goes before.client.number name (LocalEnds effect before.client.log (Ok seq) after.client.log) before.client.log after.client.log kept i j t t w w × IfOk r (λ done. kept ≡ after.client.log)
+        goes_kept r save t w =
+            let goes = local_goes name before.client.number effect before.client.log after.client.log i keeps (Ok seq) ok shown tt tt is_log t w in
+            goes_saved name before.client.number (LocalEnds effect before.client.log (Ok seq) after.client.log) before.client.log after.client.log before.client.log i i j t t w w r goes (local_changes goes.trace goes.turn) save
+
+        pub logged_kept : (made : Result Effect PathError) (done : Unit {0}) → made ≡ Ok effect → Told i j (KeepsLog {E = KeepError} name before.client.number after.client.log (Ok done))
+            → LogsMade name made before (Ok (Some (answers.Logged seq))) after i j
+        logged_kept made done is save = λ named gives.
+            let is_named : named ≡ Ok effect = subst (λ (m : Result Effect PathError). GivesEffect m named) is gives in
+            subst (λ (n : Result Effect PathError). Logs name n before (Ok (Some (answers.Logged seq))) after i j) (sym is_named)
+            (λ t w.
+            let saved = goes_kept (Ok done) save t w in (
+              saved.0,
+              record {
+                number = number;
+                goes = goes_as name before.client.number (LocalEnds effect before.client.log (Ok seq) after.client.log) (LogEnds (Ok effect) before (Ok (Some (answers.Logged seq))) after saved.0) before.client.log after.client.log saved.0 i j t t w w
+                    saved.1 (λ trace turn. (logged_turn trace turn, saved.2));
+              },
+            ))
+
+        pub logged_unkept : (made : Result Effect PathError) (e : KeepError) → made ≡ Ok effect → Told i j (KeepsLog {E = KeepError} name before.client.number after.client.log (Err e)) → LogsMade name made before (Err e) after i j
+        logged_unkept made e is save = λ named gives.
+            let is_named : named ≡ Ok effect = subst (λ (m : Result Effect PathError). GivesEffect m named) is gives in
+            subst (λ (n : Result Effect PathError). Logs name n before (Err e) after i j) (sym is_named)
+            (λ t w.
+            let saved = goes_kept (Err e) save t w in (
+              saved.0,
+              record {
+                number = number;
+                goes = goes_as name before.client.number (LocalEnds effect before.client.log (Ok seq) after.client.log) (LogEnds (Ok effect) before (Err e) after saved.0) before.client.log after.client.log saved.0 i j t t w w
+                    saved.1 (λ trace turn. inr (Some (answers.Logged seq), logged_turn trace turn));
+              },
+            ))
+
+  -- in every world, as its line
+  pub logs_quietly : (named : Result Effect PathError) (before : SessionState) (line : Result Line LineError) (r : Result (Option Answer) KeepError) (after : SessionState) (j : Option Images)
+      → ((route : Route) (answer : Option Answer) (trace : Trace) → LogTurn named before answer after trace → LineTurn route before line answer after trace)
+      → Logs name named before r after i j → Quietly name before line r after i j
+  logs_quietly named before line (Ok answer) after j to logs = λ route t w.
+      let done = logs t w in (
+        done.0,
+        does_as name (LogEnds named before (Ok answer) after done.0) (LineEnds route before line (Ok answer) after done.0) before after done.0 i j t t w w done.1
+            (λ trace turn behind. (to route answer trace turn.0, turn.1)),
+      )
+  logs_quietly named before line (Err e) after j to logs = λ route t w.
+      let done = logs t w in (
+        done.0,
+        does_as name (LogEnds named before (Err e) after done.0) (LineEnds route before line (Err e) after done.0) before after done.0 i j t t w w done.1
+            (λ trace turn behind. ⊎_elim (λ none. inl none) (λ some. inr (inl (some.0, to route some.0 trace some.1))) turn),
+      )
+
+-- ---- the keeper's faults
+
+-- a call that keeps nothing counts no fault
+pub unkept : {T : Type 0} (r : Result T KeepError) (p : ℕ) → (r ≡ Err keepers.Failed → ⊥) → CountsFault keepers.Failed p p r
+unkept r p none = record { later = omega arith; once = λ is. absurd (none is); never = λ no. refl }
+
+-- ---- a sync
+
+broken_silent : (end : SyncEnd) → is_broken_sync end ≡ true → sync_answer end ≡ None
+broken_silent (syncs.Synced seq) is = absurd (cc)
+broken_silent (syncs.Stale seq path theirs ours) is = absurd (cc)
+broken_silent (syncs.Unfit seq index fault) is = absurd (cc)
+broken_silent (syncs.Full seq index fault) is = absurd (cc)
+broken_silent (syncs.Unanswered seq) is = absurd (cc)
+broken_silent (syncs.Behind seq last) is = absurd (cc)
+broken_silent syncs.KeepFault is = refl
+broken_silent syncs.Memory is = refl
+
+module _ (route : Route) (before after : SessionState) (k : Log) (i j : Option Images) (t u : ℕ) (x y : World) (number : after.client.number ≡ before.client.number) (folder : after.folder ≡ before.folder) (end : SyncEnd)
+    (goes : Goes before.client.number route.image (SyncEnds before.client.number route before.client.log end after.client.log k) before.client.log after.client.log k i j t u x y) where
+  abbrev Did : Result (Option Answer) KeepError → Type 0
+  Did r = (kept : Log) × Does route.image (LineEnds route before (Ok Sync) r after kept) before after kept i j t u x y
+
+  sync_as : (r : Result (Option Answer) KeepError) → ((trace : Trace) → SyncEnds before.client.number route before.client.log end after.client.log k trace → LineEnds route before (Ok Sync) r after k trace) → Did r
+  sync_as r to = (
+    k,
+    record {
+      number = number;
+      goes = goes_as route.image before.client.number (SyncEnds before.client.number route before.client.log end after.client.log k) (LineEnds route before (Ok Sync) r after k) before.client.log after.client.log k i j t u x y goes to;
+    },
+  )
+
+  told_turn : (answer : Answer) → sync_answer end ≡ Some answer → (trace : Trace) → SyncEnds before.client.number route before.client.log end after.client.log k trace → LineEnds route before (Ok Sync) (Ok (Some answer)) after k trace
+  told_turn answer is trace (inl turn) = ((end, turn.0, same_but_log before after number folder, sym is), turn.1)
+  told_turn answer is trace (inr broken) = absurd (cc (broken_silent end broken.0, is))
+
+  broken_turn : (e : KeepError) (trace : Trace) → SyncEnds before.client.number route before.client.log end after.client.log k trace → LineEnds route before (Ok Sync) (Err e) after k trace
+  broken_turn e trace (inl turn) = inr (inl (sync_answer end, (end, turn.0, same_but_log before after number folder, refl)))
+  broken_turn e trace (inr broken) = inr (inr (broken.1, same_but_log before after number folder))
+
+  sync_answered : (fault : Bool) (told : Option Answer) → told ≡ sync_answer end → Did (answered fault told)
+  sync_answered true told shown = sync_as (Err keepers.Failed) (broken_turn keepers.Failed)
+  sync_answered false None shown = sync_as (Err keepers.Memory) (broken_turn keepers.Memory)
+  sync_answered false (Some answer) shown = sync_as (Ok (Some answer)) (told_turn answer (sym shown))
+
+  sync_given : (fault : Bool) (told : Option Answer) (r : Result (Option Answer) KeepError) → told ≡ sync_answer end → r ≡ answered fault told → Did r
+  sync_given fault told r shown is = subst Did (sym is) (sync_answered fault told shown)
+
+-- over a link
+pub sync_went : (route : Route) (before after : SessionState) (i j : Option Images) (t u : LinkTelling) (number : after.client.number ≡ before.client.number) (folder : after.folder ≡ before.folder) (end : SyncEnd)
+    (fault : Bool) (told : Option Answer) (r : Result (Option Answer) KeepError) → told ≡ sync_answer end → r ≡ answered fault told
+    → Went before.client.number route.image (SyncEnds before.client.number route before.client.log end after.client.log) before.client.log after.client.log i j t u
+    → WentDoing route.image (LineEnds route before (Ok Sync) r after) before after i j t u
+sync_went route before after i j t u number folder end fault told r shown is went =
+    told_as t.world u.world (λ x y. (kept : Log) × Goes before.client.number route.image (SyncEnds before.client.number route before.client.log end after.client.log kept) before.client.log after.client.log kept i j t.troubles u.troubles x y)
+    (λ x y. (kept : Log) × Does route.image (LineEnds route before (Ok Sync) r after kept) before after kept i j t.troubles u.troubles x y) went
+    (λ x y did. sync_given route before after did.0 i j t.troubles u.troubles x y number folder end did.1 fault told r shown is)
+
+pub sync_cause : (route : Route) (before after : SessionState) (t u : LinkTelling) (p q : ℕ) (number : after.client.number ≡ before.client.number) (folder : after.folder ≡ before.folder)
+    → AcknowledgesSome before.client.log after.client.log → (end : SyncEnd) (fault : Bool) (told : Option Answer) (r : Result (Option Answer) KeepError) → told ≡ sync_answer end → fault ≡ is_sync_fault end
+    → r ≡ answered fault told → HasSyncCause end after.client.log t.troubles u.troubles p q → HasLineCause route before (Ok Sync) r after t u p q
+sync_cause route before after t u p q number folder some end fault told r shown faulty is cause =
+    (same_but_log before after number folder, some, (end, is ∙ ap (λ (b : Bool). answered b told) faulty ∙ ap (answered (is_sync_fault end)) shown, cause))
+
+-- the keeper's faults are counted by the answer as by the end
+pub sync_counts : (p q : ℕ) (end : SyncEnd) (fault : Bool) (told : Option Answer) (r : Result (Option Answer) KeepError) → told ≡ sync_answer end → fault ≡ is_sync_fault end → r ≡ answered fault told
+    → RisesWhere (end ≡ syncs.KeepFault) p q → CountsFault keepers.Failed p q r
+sync_counts p q end fault told r shown faulty is rises =
+    subst (CountsFault keepers.Failed p q) (sym (is ∙ ap (λ (b : Bool). answered b told) faulty ∙ ap (answered (is_sync_fault end)) shown)) (by end rises)
+  where
+    by : (end : SyncEnd) → RisesWhere (end ≡ syncs.KeepFault) p q → CountsFault keepers.Failed p q (answered (is_sync_fault end) (sync_answer end))
+    by syncs.KeepFault rises = record { later = rises.later; once = λ is. rises.once refl; never = λ no. absurd (no refl) }
+    by syncs.Memory rises = record { later = rises.later; once = λ is. absurd (cc (is)); never = λ no. rises.never (λ is. absurd (cc (is))) }
+    by (syncs.Synced n) rises = record { later = rises.later; once = λ is. absurd (cc (is)); never = λ no. rises.never (λ is. absurd (cc (is))) }
+    by (syncs.Stale n path theirs ours) rises = record { later = rises.later; once = λ is. absurd (cc (is)); never = λ no. rises.never (λ is. absurd (cc (is))) }
+    by (syncs.Unfit n index cause) rises = record { later = rises.later; once = λ is. absurd (cc (is)); never = λ no. rises.never (λ is. absurd (cc (is))) }
+    by (syncs.Full n index cause) rises = record { later = rises.later; once = λ is. absurd (cc (is)); never = λ no. rises.never (λ is. absurd (cc (is))) }
+    by (syncs.Unanswered n) rises = record { later = rises.later; once = λ is. absurd (cc (is)); never = λ no. rises.never (λ is. absurd (cc (is))) }
+    by (syncs.Behind n last) rises = record { later = rises.later; once = λ is. absurd (cc (is)); never = λ no. rises.never (λ is. absurd (cc (is))) }
+
+unbroken : (end : SyncEnd) (answer : Answer) → sync_answer end ≡ Some answer → is_broken_sync end ≡ false
+unbroken (syncs.Synced seq) answer is = refl
+unbroken (syncs.Stale seq path theirs ours) answer is = refl
+unbroken (syncs.Unfit seq index fault) answer is = refl
+unbroken (syncs.Full seq index fault) answer is = refl
+unbroken (syncs.Unanswered seq) answer is = refl
+unbroken (syncs.Behind seq last) answer is = refl
+unbroken syncs.KeepFault answer is = absurd (cc)
+unbroken syncs.Memory answer is = absurd (cc)
+
+-- a sync that is answered leaves its log kept
+pub sync_kept : (name : List ℕ) (client : ℕ) (before after : Log) (end : SyncEnd) (i j : Option Images) (fault : Bool) (told : Option Answer) (r : Result (Option Answer) KeepError) → told ≡ sync_answer end
+    → r ≡ answered fault told → SyncKeeps name client before end after i j → IfOk r (λ answer. IsKept j name client after)
+sync_kept name client before after end i j fault told r shown is keeps =
+    subst (λ (a : Result (Option Answer) KeepError). IfOk a (λ answer. IsKept j name client after)) (sym is) (by fault told shown)
+  where
+    by : (fault : Bool) (told : Option Answer) → told ≡ sync_answer end → IfOk (answered fault told) (λ answer. IsKept j name client after)
+    by true told shown = tt
+    by false None shown = tt
+    by false (Some answer) shown =
+        subst (IsKept j name client) (keeps.whole (unbroken end answer (sym shown))) (kept_now name client before after keeps.kept keeps.changes i j keeps.keeping)
+
+-- ---- a pull
+
+broken_unsaid : (end : PullEnd) → is_broken_pull end ≡ true → pull_answer end ≡ None
+broken_unsaid (pulls.Pulled count) is = absurd (cc)
+broken_unsaid (pulls.Pending count) is = absurd (cc)
+broken_unsaid (pulls.OtherLast last acked) is = absurd (cc)
+broken_unsaid (pulls.Older path theirs ours) is = absurd (cc)
+broken_unsaid pulls.Unanswered is = absurd (cc)
+broken_unsaid pulls.KeepFault is = refl
+broken_unsaid pulls.Memory is = refl
+
+module _ (route : Route) (before after : SessionState) (k : Log) (i j : Option Images) (t u : ℕ) (x y : World) (number : after.client.number ≡ before.client.number) (folder : after.folder ≡ before.folder) (end : PullEnd)
+    (goes : Goes before.client.number route.image (PullEnds before.client.number route before.client.log end after.client.log k) before.client.log after.client.log k i j t u x y) where
+  abbrev Pulls_so : Result (Option Answer) KeepError → Type 0
+  Pulls_so r = (kept : Log) × Does route.image (LineEnds route before (Ok Pull) r after kept) before after kept i j t u x y
+
+  pull_as : (r : Result (Option Answer) KeepError) → ((trace : Trace) → PullEnds before.client.number route before.client.log end after.client.log k trace → LineEnds route before (Ok Pull) r after k trace) → Pulls_so r
+  pull_as r to = (
+    k,
+    record {
+      number = number;
+      goes = goes_as route.image before.client.number (PullEnds before.client.number route before.client.log end after.client.log k) (LineEnds route before (Ok Pull) r after k) before.client.log after.client.log k i j t u x y goes to;
+    },
+  )
+
+  pull_told : (answer : Answer) → pull_answer end ≡ Some answer → (trace : Trace) → PullEnds before.client.number route before.client.log end after.client.log k trace → LineEnds route before (Ok Pull) (Ok (Some answer)) after k trace
+  pull_told answer is trace (inl turn) = ((end, turn.0, same_but_log before after number folder, sym is), turn.1)
+  pull_told answer is trace (inr broken) = absurd (cc (broken_unsaid end broken.0, is))
+
+  pull_broken : (e : KeepError) (trace : Trace) → PullEnds before.client.number route before.client.log end after.client.log k trace → LineEnds route before (Ok Pull) (Err e) after k trace
+  pull_broken e trace (inl turn) = inr (inl (pull_answer end, (end, turn.0, same_but_log before after number folder, refl)))
+  pull_broken e trace (inr broken) = inr (inr (broken.1, same_but_log before after number folder))
+
+  pull_answered : (fault : Bool) (told : Option Answer) → told ≡ pull_answer end → Pulls_so (answered fault told)
+  pull_answered true told shown = pull_as (Err keepers.Failed) (pull_broken keepers.Failed)
+  pull_answered false None shown = pull_as (Err keepers.Memory) (pull_broken keepers.Memory)
+  pull_answered false (Some answer) shown = pull_as (Ok (Some answer)) (pull_told answer (sym shown))
+
+  pull_given : (fault : Bool) (told : Option Answer) (r : Result (Option Answer) KeepError) → told ≡ pull_answer end → r ≡ answered fault told → Pulls_so r
+  pull_given fault told r shown is = subst Pulls_so (sym is) (pull_answered fault told shown)
+
+-- over a link
+pub pull_went : (route : Route) (before after : SessionState) (i j : Option Images) (t u : LinkTelling) (number : after.client.number ≡ before.client.number) (folder : after.folder ≡ before.folder) (end : PullEnd)
+    (fault : Bool) (told : Option Answer) (r : Result (Option Answer) KeepError) → told ≡ pull_answer end → r ≡ answered fault told
+    → Went before.client.number route.image (PullEnds before.client.number route before.client.log end after.client.log) before.client.log after.client.log i j t u
+    → WentDoing route.image (LineEnds route before (Ok Pull) r after) before after i j t u
+pull_went route before after i j t u number folder end fault told r shown is went =
+    told_as t.world u.world (λ x y. (kept : Log) × Goes before.client.number route.image (PullEnds before.client.number route before.client.log end after.client.log kept) before.client.log after.client.log kept i j t.troubles u.troubles x y)
+    (λ x y. (kept : Log) × Does route.image (LineEnds route before (Ok Pull) r after kept) before after kept i j t.troubles u.troubles x y) went
+    (λ x y did. pull_given route before after did.0 i j t.troubles u.troubles x y number folder end did.1 fault told r shown is)
+
+pub pull_cause : (route : Route) (before after : SessionState) (t u : LinkTelling) (p q : ℕ) (number : after.client.number ≡ before.client.number) (folder : after.folder ≡ before.folder)
+    → (end : PullEnd) (fault : Bool) (told : Option Answer) (r : Result (Option Answer) KeepError) → told ≡ pull_answer end → fault ≡ is_pull_fault end
+    → r ≡ answered fault told → HasPullCause end before.client.log after.client.log t.troubles u.troubles p q → HasLineCause route before (Ok Pull) r after t u p q
+pull_cause route before after t u p q number folder end fault told r shown faulty is cause =
+    (same_but_log before after number folder, (end, is ∙ ap (λ (b : Bool). answered b told) faulty ∙ ap (answered (is_pull_fault end)) shown, cause))
+
+pub pull_counts : (p q : ℕ) (end : PullEnd) (fault : Bool) (told : Option Answer) (r : Result (Option Answer) KeepError) → told ≡ pull_answer end → fault ≡ is_pull_fault end → r ≡ answered fault told
+    → RisesWhere (end ≡ pulls.KeepFault) p q → CountsFault keepers.Failed p q r
+pull_counts p q end fault told r shown faulty is rises =
+    subst (CountsFault keepers.Failed p q) (sym (is ∙ ap (λ (b : Bool). answered b told) faulty ∙ ap (answered (is_pull_fault end)) shown)) (by end rises)
+  where
+    by : (end : PullEnd) → RisesWhere (end ≡ pulls.KeepFault) p q → CountsFault keepers.Failed p q (answered (is_pull_fault end) (pull_answer end))
+    by pulls.KeepFault rises = record { later = rises.later; once = λ is. rises.once refl; never = λ no. absurd (no refl) }
+    by pulls.Memory rises = record { later = rises.later; once = λ is. absurd (cc (is)); never = λ no. rises.never (λ is. absurd (cc (is))) }
+    by (pulls.Pulled count) rises = record { later = rises.later; once = λ is. absurd (cc (is)); never = λ no. rises.never (λ is. absurd (cc (is))) }
+    by (pulls.Pending count) rises = record { later = rises.later; once = λ is. absurd (cc (is)); never = λ no. rises.never (λ is. absurd (cc (is))) }
+    by (pulls.OtherLast last acked) rises = record { later = rises.later; once = λ is. absurd (cc (is)); never = λ no. rises.never (λ is. absurd (cc (is))) }
+    by (pulls.Older path theirs ours) rises = record { later = rises.later; once = λ is. absurd (cc (is)); never = λ no. rises.never (λ is. absurd (cc (is))) }
+    by pulls.Unanswered rises = record { later = rises.later; once = λ is. absurd (cc (is)); never = λ no. rises.never (λ is. absurd (cc (is))) }
+
+unbroken_pull : (end : PullEnd) (answer : Answer) → pull_answer end ≡ Some answer → is_broken_pull end ≡ false
+unbroken_pull (pulls.Pulled count) answer is = refl
+unbroken_pull (pulls.Pending count) answer is = refl
+unbroken_pull (pulls.OtherLast last acked) answer is = refl
+unbroken_pull (pulls.Older path theirs ours) answer is = refl
+unbroken_pull pulls.Unanswered answer is = refl
+unbroken_pull pulls.KeepFault answer is = absurd (cc)
+unbroken_pull pulls.Memory answer is = absurd (cc)
+
+-- a pull that is answered leaves its log kept
+pub pull_kept : (name : List ℕ) (client : ℕ) (before after : Log) (end : PullEnd) (i j : Option Images) (fault : Bool) (told : Option Answer) (r : Result (Option Answer) KeepError) → told ≡ pull_answer end
+    → r ≡ answered fault told → PullKeeps name client before end after i j → IfOk r (λ answer. IsKept j name client after)
+pull_kept name client before after end i j fault told r shown is keeps =
+    subst (λ (a : Result (Option Answer) KeepError). IfOk a (λ answer. IsKept j name client after)) (sym is) (by fault told shown)
+  where
+    by : (fault : Bool) (told : Option Answer) → told ≡ pull_answer end → IfOk (answered fault told) (λ answer. IsKept j name client after)
+    by true told shown = tt
+    by false None shown = tt
+    by false (Some answer) shown =
+        subst (IsKept j name client) (keeps.whole (unbroken_pull end answer (sym shown))) (kept_now name client before after keeps.kept keeps.changes i j keeps.keeping)

@@ -1,0 +1,266 @@
+use Rattle.std.proofs.Common.{◌≡◌, ℕ, List, Option, None, Some, Result, Ok, Err, IfOk, refl, sym, ◌∙◌, ap, subst, arith}
+use Rattle.shell_lang.specs.declared.line.Line.{Line}
+use Rattle.shell_lang.specs.declared.line.Line.TheVariants.{Empty, Put, Make, Remove, Move, Cat, List as Ls, Enter, Status, Quit}
+use Rattle.shell_lang.specs.declared.line.LineError.{LineError}
+use Rattle.shell_lang.specs.declared.answer.Answer.TheVariants.{Refused}
+use Rattle.shell_lang.specs.declared.answer.Fault.TheVariants as faults
+use Rattle.mod_log.specs.Log.{tree_of}
+use Rattle.client_core.specs.Keeping.{IsKept}
+use Rattle.client_session.specs.Session.{put_effect, make_effect, remove_effect, move_effect}
+use Rattle.client_session.specs.Looking.{list_answer}
+use Rattle.client_session.specs.Inside.{Logs}
+use Rattle.client_session.specs.Causes.{HasLineCause}
+use Rattle.client_session.proofs.Turning.{line_world, quietly_caused, tells_quietly, silent_quietly, told_quietly, logs_quietly, enter_quietly, enter_kept, status_quietly, unkept}
+use Rattle.client_session.proofs.session.Session.answer.Goals as goal
+
+pub returns-in-Err-clause-world : goal.returns-in-Err-clause-world
+returns-in-Err-clause-world g c =
+    let s = c.args.self.now in
+    let route = c.args.route.now in
+    let i = g.K.Keeper.images c.args.keeper.now in
+    let t = g.L.Link.tells c.args.link.now in
+    line_world route.image i route s c.args.line (Err c.in-Err.refusal) (Ok (Some (Refused (faults.Line c.in-Err.refusal)))) s i t c.in-Err.is
+    (tells_quietly route.image i s c.requires (Err c.in-Err.refusal) (Some (Refused (faults.Line c.in-Err.refusal))) (λ r. (refl, refl, refl)))
+
+pub returns-in-Err-clause-cause : goal.returns-in-Err-clause-cause
+returns-in-Err-clause-cause g c =
+    let s = c.args.self.now in
+    let route = c.args.route.now in
+    let i = g.K.Keeper.images c.args.keeper.now in
+    let t = g.L.Link.tells c.args.link.now in
+    subst (λ (l : Result Line LineError). HasLineCause route s l (Ok (Some (Refused (faults.Line c.in-Err.refusal)))) s t t (g.K.Keeper.faults c.args.keeper.now) (g.K.Keeper.faults c.args.keeper.now)) (sym c.in-Err.is)
+    (quietly_caused route.image i s (Err c.in-Err.refusal) (Ok (Some (Refused (faults.Line c.in-Err.refusal)))) s i (tells_quietly route.image i s c.requires (Err c.in-Err.refusal) (Some (Refused (faults.Line c.in-Err.refusal))) (λ r. (refl, refl, refl))) route)
+
+pub returns-in-Ok-Put-clause-world : goal.returns-in-Ok-Put-clause-world
+returns-in-Ok-Put-clause-world g c =
+    let s = c.args.self.now in
+    let route = c.args.route.now in
+    let i = g.K.Keeper.images c.args.keeper.now in
+    let t = g.L.Link.tells c.args.link.now in
+    let j = g.K.Keeper.images c.put.new.keeper in
+    line_world route.image i route s c.args.line (Ok (Put c.in-Ok-Put.path c.in-Ok-Put.text)) c.put.result c.put.new.self j t (c.in-Ok-Put.is ∙ ap Ok c.in-Ok-Put.field-0-is)
+    (logs_quietly route.image i (put_effect s.folder c.in-Ok-Put.path c.in-Ok-Put.text) s (Ok (Put c.in-Ok-Put.path c.in-Ok-Put.text)) c.put.result c.put.new.self j (λ r answer trace turn. turn) (subst (λ (n : List ℕ). Logs n (put_effect s.folder c.in-Ok-Put.path c.in-Ok-Put.text) s c.put.result c.put.new.self i j) c.bytes-image.ensures.value c.put.ensures.logs))
+
+pub returns-in-Ok-Put-clause-cause : goal.returns-in-Ok-Put-clause-cause
+returns-in-Ok-Put-clause-cause g c =
+    let s = c.args.self.now in
+    let route = c.args.route.now in
+    let i = g.K.Keeper.images c.args.keeper.now in
+    let t = g.L.Link.tells c.args.link.now in
+    let j = g.K.Keeper.images c.put.new.keeper in
+    subst (λ (l : Result Line LineError). HasLineCause route s l c.put.result c.put.new.self t t (g.K.Keeper.faults c.args.keeper.now) (g.K.Keeper.faults c.put.new.keeper)) (sym (c.in-Ok-Put.is ∙ ap Ok c.in-Ok-Put.field-0-is))
+    (quietly_caused route.image i s (Ok (Put c.in-Ok-Put.path c.in-Ok-Put.text)) c.put.result c.put.new.self j (logs_quietly route.image i (put_effect s.folder c.in-Ok-Put.path c.in-Ok-Put.text) s (Ok (Put c.in-Ok-Put.path c.in-Ok-Put.text)) c.put.result c.put.new.self j (λ r answer trace turn. turn) (subst (λ (n : List ℕ). Logs n (put_effect s.folder c.in-Ok-Put.path c.in-Ok-Put.text) s c.put.result c.put.new.self i j) c.bytes-image.ensures.value c.put.ensures.logs)) route)
+
+pub put-requires : goal.put-requires
+put-requires g c = subst (λ (n : List ℕ). IsKept (g.K.Keeper.images c.args.keeper.now) n c.args.self.now.client.number c.args.self.now.client.log) (sym c.bytes-image.ensures.value) c.requires
+
+pub returns-in-Ok-Put-clause-kept : goal.returns-in-Ok-Put-clause-kept
+returns-in-Ok-Put-clause-kept g c =
+    subst (λ (n : List ℕ). IfOk c.put.result (λ answer. IsKept (g.K.Keeper.images c.put.new.keeper) n c.put.new.self.client.number c.put.new.self.client.log)) c.bytes-image.ensures.value c.put.ensures.kept
+
+pub returns-in-Ok-Make-clause-world : goal.returns-in-Ok-Make-clause-world
+returns-in-Ok-Make-clause-world g c =
+    let s = c.args.self.now in
+    let route = c.args.route.now in
+    let i = g.K.Keeper.images c.args.keeper.now in
+    let t = g.L.Link.tells c.args.link.now in
+    let j = g.K.Keeper.images c.make.new.keeper in
+    line_world route.image i route s c.args.line (Ok (Make c.in-Ok-Make.path)) c.make.result c.make.new.self j t (c.in-Ok-Make.is ∙ ap Ok c.in-Ok-Make.field-0-is)
+    (logs_quietly route.image i (make_effect s.folder c.in-Ok-Make.path) s (Ok (Make c.in-Ok-Make.path)) c.make.result c.make.new.self j (λ r answer trace turn. turn) (subst (λ (n : List ℕ). Logs n (make_effect s.folder c.in-Ok-Make.path) s c.make.result c.make.new.self i j) c.bytes-image.ensures.value c.make.ensures.logs))
+
+pub returns-in-Ok-Make-clause-cause : goal.returns-in-Ok-Make-clause-cause
+returns-in-Ok-Make-clause-cause g c =
+    let s = c.args.self.now in
+    let route = c.args.route.now in
+    let i = g.K.Keeper.images c.args.keeper.now in
+    let t = g.L.Link.tells c.args.link.now in
+    let j = g.K.Keeper.images c.make.new.keeper in
+    subst (λ (l : Result Line LineError). HasLineCause route s l c.make.result c.make.new.self t t (g.K.Keeper.faults c.args.keeper.now) (g.K.Keeper.faults c.make.new.keeper)) (sym (c.in-Ok-Make.is ∙ ap Ok c.in-Ok-Make.field-0-is))
+    (quietly_caused route.image i s (Ok (Make c.in-Ok-Make.path)) c.make.result c.make.new.self j (logs_quietly route.image i (make_effect s.folder c.in-Ok-Make.path) s (Ok (Make c.in-Ok-Make.path)) c.make.result c.make.new.self j (λ r answer trace turn. turn) (subst (λ (n : List ℕ). Logs n (make_effect s.folder c.in-Ok-Make.path) s c.make.result c.make.new.self i j) c.bytes-image.ensures.value c.make.ensures.logs)) route)
+
+pub make-requires : goal.make-requires
+make-requires g c = subst (λ (n : List ℕ). IsKept (g.K.Keeper.images c.args.keeper.now) n c.args.self.now.client.number c.args.self.now.client.log) (sym c.bytes-image.ensures.value) c.requires
+
+pub returns-in-Ok-Make-clause-kept : goal.returns-in-Ok-Make-clause-kept
+returns-in-Ok-Make-clause-kept g c =
+    subst (λ (n : List ℕ). IfOk c.make.result (λ answer. IsKept (g.K.Keeper.images c.make.new.keeper) n c.make.new.self.client.number c.make.new.self.client.log)) c.bytes-image.ensures.value c.make.ensures.kept
+
+pub returns-in-Ok-Remove-clause-world : goal.returns-in-Ok-Remove-clause-world
+returns-in-Ok-Remove-clause-world g c =
+    let s = c.args.self.now in
+    let route = c.args.route.now in
+    let i = g.K.Keeper.images c.args.keeper.now in
+    let t = g.L.Link.tells c.args.link.now in
+    let j = g.K.Keeper.images c.remove.new.keeper in
+    line_world route.image i route s c.args.line (Ok (Remove c.in-Ok-Remove.path)) c.remove.result c.remove.new.self j t (c.in-Ok-Remove.is ∙ ap Ok c.in-Ok-Remove.field-0-is)
+    (logs_quietly route.image i (remove_effect s.folder c.in-Ok-Remove.path) s (Ok (Remove c.in-Ok-Remove.path)) c.remove.result c.remove.new.self j (λ r answer trace turn. turn) (subst (λ (n : List ℕ). Logs n (remove_effect s.folder c.in-Ok-Remove.path) s c.remove.result c.remove.new.self i j) c.bytes-image.ensures.value c.remove.ensures.logs))
+
+pub returns-in-Ok-Remove-clause-cause : goal.returns-in-Ok-Remove-clause-cause
+returns-in-Ok-Remove-clause-cause g c =
+    let s = c.args.self.now in
+    let route = c.args.route.now in
+    let i = g.K.Keeper.images c.args.keeper.now in
+    let t = g.L.Link.tells c.args.link.now in
+    let j = g.K.Keeper.images c.remove.new.keeper in
+    subst (λ (l : Result Line LineError). HasLineCause route s l c.remove.result c.remove.new.self t t (g.K.Keeper.faults c.args.keeper.now) (g.K.Keeper.faults c.remove.new.keeper)) (sym (c.in-Ok-Remove.is ∙ ap Ok c.in-Ok-Remove.field-0-is))
+    (quietly_caused route.image i s (Ok (Remove c.in-Ok-Remove.path)) c.remove.result c.remove.new.self j (logs_quietly route.image i (remove_effect s.folder c.in-Ok-Remove.path) s (Ok (Remove c.in-Ok-Remove.path)) c.remove.result c.remove.new.self j (λ r answer trace turn. turn) (subst (λ (n : List ℕ). Logs n (remove_effect s.folder c.in-Ok-Remove.path) s c.remove.result c.remove.new.self i j) c.bytes-image.ensures.value c.remove.ensures.logs)) route)
+
+pub remove-requires : goal.remove-requires
+remove-requires g c = subst (λ (n : List ℕ). IsKept (g.K.Keeper.images c.args.keeper.now) n c.args.self.now.client.number c.args.self.now.client.log) (sym c.bytes-image.ensures.value) c.requires
+
+pub returns-in-Ok-Remove-clause-kept : goal.returns-in-Ok-Remove-clause-kept
+returns-in-Ok-Remove-clause-kept g c =
+    subst (λ (n : List ℕ). IfOk c.remove.result (λ answer. IsKept (g.K.Keeper.images c.remove.new.keeper) n c.remove.new.self.client.number c.remove.new.self.client.log)) c.bytes-image.ensures.value c.remove.ensures.kept
+
+pub returns-in-Ok-Move-clause-world : goal.returns-in-Ok-Move-clause-world
+returns-in-Ok-Move-clause-world g c =
+    let s = c.args.self.now in
+    let route = c.args.route.now in
+    let i = g.K.Keeper.images c.args.keeper.now in
+    let t = g.L.Link.tells c.args.link.now in
+    let j = g.K.Keeper.images c.relocate.new.keeper in
+    line_world route.image i route s c.args.line (Ok (Move c.in-Ok-Move.from c.in-Ok-Move.to)) c.relocate.result c.relocate.new.self j t (c.in-Ok-Move.is ∙ ap Ok c.in-Ok-Move.field-0-is)
+    (logs_quietly route.image i (move_effect s.folder c.in-Ok-Move.from c.in-Ok-Move.to) s (Ok (Move c.in-Ok-Move.from c.in-Ok-Move.to)) c.relocate.result c.relocate.new.self j (λ r answer trace turn. turn) (subst (λ (n : List ℕ). Logs n (move_effect s.folder c.in-Ok-Move.from c.in-Ok-Move.to) s c.relocate.result c.relocate.new.self i j) c.bytes-image.ensures.value c.relocate.ensures.logs))
+
+pub returns-in-Ok-Move-clause-cause : goal.returns-in-Ok-Move-clause-cause
+returns-in-Ok-Move-clause-cause g c =
+    let s = c.args.self.now in
+    let route = c.args.route.now in
+    let i = g.K.Keeper.images c.args.keeper.now in
+    let t = g.L.Link.tells c.args.link.now in
+    let j = g.K.Keeper.images c.relocate.new.keeper in
+    subst (λ (l : Result Line LineError). HasLineCause route s l c.relocate.result c.relocate.new.self t t (g.K.Keeper.faults c.args.keeper.now) (g.K.Keeper.faults c.relocate.new.keeper)) (sym (c.in-Ok-Move.is ∙ ap Ok c.in-Ok-Move.field-0-is))
+    (quietly_caused route.image i s (Ok (Move c.in-Ok-Move.from c.in-Ok-Move.to)) c.relocate.result c.relocate.new.self j (logs_quietly route.image i (move_effect s.folder c.in-Ok-Move.from c.in-Ok-Move.to) s (Ok (Move c.in-Ok-Move.from c.in-Ok-Move.to)) c.relocate.result c.relocate.new.self j (λ r answer trace turn. turn) (subst (λ (n : List ℕ). Logs n (move_effect s.folder c.in-Ok-Move.from c.in-Ok-Move.to) s c.relocate.result c.relocate.new.self i j) c.bytes-image.ensures.value c.relocate.ensures.logs)) route)
+
+pub relocate-requires : goal.relocate-requires
+relocate-requires g c = subst (λ (n : List ℕ). IsKept (g.K.Keeper.images c.args.keeper.now) n c.args.self.now.client.number c.args.self.now.client.log) (sym c.bytes-image.ensures.value) c.requires
+
+pub returns-in-Ok-Move-clause-kept : goal.returns-in-Ok-Move-clause-kept
+returns-in-Ok-Move-clause-kept g c =
+    subst (λ (n : List ℕ). IfOk c.relocate.result (λ answer. IsKept (g.K.Keeper.images c.relocate.new.keeper) n c.relocate.new.self.client.number c.relocate.new.self.client.log)) c.bytes-image.ensures.value c.relocate.ensures.kept
+
+pub returns-in-Ok-Cat-clause-world : goal.returns-in-Ok-Cat-clause-world
+returns-in-Ok-Cat-clause-world g c =
+    let s = c.args.self.now in
+    let route = c.args.route.now in
+    let i = g.K.Keeper.images c.args.keeper.now in
+    let t = g.L.Link.tells c.args.link.now in
+    line_world route.image i route s c.args.line (Ok (Cat c.in-Ok-Cat.path)) c.cat.result s i t (c.in-Ok-Cat.is ∙ ap Ok c.in-Ok-Cat.field-0-is)
+    (told_quietly route.image i s c.requires (Ok (Cat c.in-Ok-Cat.path)) _ c.cat.result (λ r. (refl, refl, refl)) c.cat.ensures.answer)
+
+pub returns-in-Ok-Cat-clause-cause : goal.returns-in-Ok-Cat-clause-cause
+returns-in-Ok-Cat-clause-cause g c =
+    let s = c.args.self.now in
+    let route = c.args.route.now in
+    let i = g.K.Keeper.images c.args.keeper.now in
+    let t = g.L.Link.tells c.args.link.now in
+    subst (λ (l : Result Line LineError). HasLineCause route s l c.cat.result s t t (g.K.Keeper.faults c.args.keeper.now) (g.K.Keeper.faults c.args.keeper.now)) (sym (c.in-Ok-Cat.is ∙ ap Ok c.in-Ok-Cat.field-0-is))
+    (quietly_caused route.image i s (Ok (Cat c.in-Ok-Cat.path)) c.cat.result s i (told_quietly route.image i s c.requires (Ok (Cat c.in-Ok-Cat.path)) _ c.cat.result (λ r. (refl, refl, refl)) c.cat.ensures.answer) route)
+
+pub returns-in-Ok-List-clause-world : goal.returns-in-Ok-List-clause-world
+returns-in-Ok-List-clause-world g c =
+    let s = c.args.self.now in
+    let route = c.args.route.now in
+    let i = g.K.Keeper.images c.args.keeper.now in
+    let t = g.L.Link.tells c.args.link.now in
+    line_world route.image i route s c.args.line (Ok (Ls c.in-Ok-List.path)) c.list.result s i t (c.in-Ok-List.is ∙ ap Ok c.in-Ok-List.field-0-is)
+    (told_quietly route.image i s c.requires (Ok (Ls c.in-Ok-List.path)) (Some (list_answer (tree_of s.client.log) s.folder c.in-Ok-List.path)) c.list.result (λ r. (refl, refl, refl))
+    (subst (λ (word : Option (List ℕ)). IfOk c.list.result (λ given. given ≡ Some (list_answer (tree_of s.client.log) s.folder word))) c.as_ref.ensures.value c.list.ensures.answer))
+
+pub returns-in-Ok-List-clause-cause : goal.returns-in-Ok-List-clause-cause
+returns-in-Ok-List-clause-cause g c =
+    let s = c.args.self.now in
+    let route = c.args.route.now in
+    let i = g.K.Keeper.images c.args.keeper.now in
+    let t = g.L.Link.tells c.args.link.now in
+    subst (λ (l : Result Line LineError). HasLineCause route s l c.list.result s t t (g.K.Keeper.faults c.args.keeper.now) (g.K.Keeper.faults c.args.keeper.now)) (sym (c.in-Ok-List.is ∙ ap Ok c.in-Ok-List.field-0-is))
+    (quietly_caused route.image i s (Ok (Ls c.in-Ok-List.path)) c.list.result s i (told_quietly route.image i s c.requires (Ok (Ls c.in-Ok-List.path)) (Some (list_answer (tree_of s.client.log) s.folder c.in-Ok-List.path)) c.list.result (λ r. (refl, refl, refl))
+    (subst (λ (word : Option (List ℕ)). IfOk c.list.result (λ given. given ≡ Some (list_answer (tree_of s.client.log) s.folder word))) c.as_ref.ensures.value c.list.ensures.answer)) route)
+
+pub returns-in-Ok-Enter-clause-world : goal.returns-in-Ok-Enter-clause-world
+returns-in-Ok-Enter-clause-world g c =
+    let s = c.args.self.now in
+    let route = c.args.route.now in
+    let i = g.K.Keeper.images c.args.keeper.now in
+    let t = g.L.Link.tells c.args.link.now in
+    line_world route.image i route s c.args.line (Ok (Enter c.in-Ok-Enter.path)) c.enter.result c.enter.new.self i t (c.in-Ok-Enter.is ∙ ap Ok c.in-Ok-Enter.field-0-is)
+    (enter_quietly route.image i s c.requires c.enter.new.self c.in-Ok-Enter.path c.enter.result c.enter.ensures.ok c.enter.ensures.folder c.enter.ensures.err)
+
+pub returns-in-Ok-Enter-clause-cause : goal.returns-in-Ok-Enter-clause-cause
+returns-in-Ok-Enter-clause-cause g c =
+    let s = c.args.self.now in
+    let route = c.args.route.now in
+    let i = g.K.Keeper.images c.args.keeper.now in
+    let t = g.L.Link.tells c.args.link.now in
+    subst (λ (l : Result Line LineError). HasLineCause route s l c.enter.result c.enter.new.self t t (g.K.Keeper.faults c.args.keeper.now) (g.K.Keeper.faults c.args.keeper.now)) (sym (c.in-Ok-Enter.is ∙ ap Ok c.in-Ok-Enter.field-0-is))
+    (quietly_caused route.image i s (Ok (Enter c.in-Ok-Enter.path)) c.enter.result c.enter.new.self i (enter_quietly route.image i s c.requires c.enter.new.self c.in-Ok-Enter.path c.enter.result c.enter.ensures.ok c.enter.ensures.folder c.enter.ensures.err) route)
+
+pub returns-in-Ok-Enter-clause-kept : goal.returns-in-Ok-Enter-clause-kept
+returns-in-Ok-Enter-clause-kept g c =
+    let s = c.args.self.now in
+    let route = c.args.route.now in
+    let i = g.K.Keeper.images c.args.keeper.now in
+    enter_kept route.image i s c.requires c.enter.new.self c.in-Ok-Enter.path c.enter.result c.enter.ensures.folder
+
+pub returns-in-Ok-Status-clause-world : goal.returns-in-Ok-Status-clause-world
+returns-in-Ok-Status-clause-world g c =
+    let s = c.args.self.now in
+    let route = c.args.route.now in
+    let i = g.K.Keeper.images c.args.keeper.now in
+    let t = g.L.Link.tells c.args.link.now in
+    line_world route.image i route s c.args.line (Ok Status) (Ok (Some c.status.result)) s i t (c.in-Ok-Status.is ∙ ap Ok c.in-Ok-Status.field-0-is)
+    (status_quietly route.image i s c.requires c.status.result c.status.ensures)
+
+pub returns-in-Ok-Status-clause-cause : goal.returns-in-Ok-Status-clause-cause
+returns-in-Ok-Status-clause-cause g c =
+    let s = c.args.self.now in
+    let route = c.args.route.now in
+    let i = g.K.Keeper.images c.args.keeper.now in
+    let t = g.L.Link.tells c.args.link.now in
+    subst (λ (l : Result Line LineError). HasLineCause route s l (Ok (Some c.status.result)) s t t (g.K.Keeper.faults c.args.keeper.now) (g.K.Keeper.faults c.args.keeper.now)) (sym (c.in-Ok-Status.is ∙ ap Ok c.in-Ok-Status.field-0-is))
+    (quietly_caused route.image i s (Ok Status) (Ok (Some c.status.result)) s i (status_quietly route.image i s c.requires c.status.result c.status.ensures) route)
+
+pub returns-in-Ok-Empty-clause-world : goal.returns-in-Ok-Empty-clause-world
+returns-in-Ok-Empty-clause-world g c =
+    let s = c.args.self.now in
+    let route = c.args.route.now in
+    let i = g.K.Keeper.images c.args.keeper.now in
+    let t = g.L.Link.tells c.args.link.now in
+    line_world route.image i route s c.args.line (Ok Empty) (Ok None) s i t (c.in-Ok-Empty.is ∙ ap Ok c.in-Ok-Empty.field-0-is)
+    (silent_quietly route.image i s c.requires (Ok Empty) (λ r. (refl, refl, refl)))
+
+pub returns-in-Ok-Empty-clause-cause : goal.returns-in-Ok-Empty-clause-cause
+returns-in-Ok-Empty-clause-cause g c =
+    let s = c.args.self.now in
+    let route = c.args.route.now in
+    let i = g.K.Keeper.images c.args.keeper.now in
+    let t = g.L.Link.tells c.args.link.now in
+    subst (λ (l : Result Line LineError). HasLineCause route s l (Ok None) s t t (g.K.Keeper.faults c.args.keeper.now) (g.K.Keeper.faults c.args.keeper.now)) (sym (c.in-Ok-Empty.is ∙ ap Ok c.in-Ok-Empty.field-0-is))
+    (quietly_caused route.image i s (Ok Empty) (Ok None) s i (silent_quietly route.image i s c.requires (Ok Empty) (λ r. (refl, refl, refl))) route)
+
+pub returns-in-Ok-Quit-clause-world : goal.returns-in-Ok-Quit-clause-world
+returns-in-Ok-Quit-clause-world g c =
+    let s = c.args.self.now in
+    let route = c.args.route.now in
+    let i = g.K.Keeper.images c.args.keeper.now in
+    let t = g.L.Link.tells c.args.link.now in
+    line_world route.image i route s c.args.line (Ok Quit) (Ok None) s i t (c.in-Ok-Quit.is ∙ ap Ok c.in-Ok-Quit.field-0-is)
+    (silent_quietly route.image i s c.requires (Ok Quit) (λ r. (refl, refl, refl)))
+
+pub returns-in-Ok-Quit-clause-cause : goal.returns-in-Ok-Quit-clause-cause
+returns-in-Ok-Quit-clause-cause g c =
+    let s = c.args.self.now in
+    let route = c.args.route.now in
+    let i = g.K.Keeper.images c.args.keeper.now in
+    let t = g.L.Link.tells c.args.link.now in
+    subst (λ (l : Result Line LineError). HasLineCause route s l (Ok None) s t t (g.K.Keeper.faults c.args.keeper.now) (g.K.Keeper.faults c.args.keeper.now)) (sym (c.in-Ok-Quit.is ∙ ap Ok c.in-Ok-Quit.field-0-is))
+    (quietly_caused route.image i s (Ok Quit) (Ok None) s i (silent_quietly route.image i s c.requires (Ok Quit) (λ r. (refl, refl, refl))) route)
+
+pub returns-in-Ok-Cat-clause-keeper : goal.returns-in-Ok-Cat-clause-keeper
+returns-in-Ok-Cat-clause-keeper g c = unkept c.cat.result (g.K.Keeper.faults c.args.keeper.now) c.cat.ensures.memory
+
+pub returns-in-Ok-List-clause-keeper : goal.returns-in-Ok-List-clause-keeper
+returns-in-Ok-List-clause-keeper g c = unkept c.list.result (g.K.Keeper.faults c.args.keeper.now) c.list.ensures.memory
+
+pub returns-in-Ok-Enter-clause-keeper : goal.returns-in-Ok-Enter-clause-keeper
+returns-in-Ok-Enter-clause-keeper g c = unkept c.enter.result (g.K.Keeper.faults c.args.keeper.now) c.enter.ensures.memory

@@ -1,0 +1,51 @@
+use Rattle.std.proofs.Common.{ℕ, Ok, IfOk, refl, sym, subst}
+use Rattle.client_core.specs.Keeping.{IsKept}
+use Rattle.shell_lang.specs.declared.line.Line.TheVariants.{Pull}
+use Rattle.client_session.specs.Session.{SessionState}
+use Rattle.client_session.specs.Doing.{WentDoing, LineEnds}
+use Rattle.client_session.specs.Causes.{HasLineCause}
+use Rattle.client_session.proofs.Turning.{pull_went, pull_cause, pull_kept, pull_counts}
+use Rattle.client_session.proofs.session.Session.pull.Goals as goal
+
+pub returns-clause-world : goal.returns-clause-world
+returns-clause-world g c =
+    let route = c.args.route.now in
+    let before : SessionState = record { client = c.self.inside.client; folder = c.self.inside.folder } in
+    let after : SessionState = record { client = c.pull-end.new.self; folder = c.self.inside.folder } in
+    let i = g.K.Keeper.images c.args.keeper.now in
+    let j = g.K.Keeper.images c.pull-end.new.keeper in
+    let t = g.L.Link.tells c.args.link.now in
+    let u = g.L.Link.tells c.pull-end.new.link in
+    let r = c.answered.result in
+    subst (λ (s : SessionState). WentDoing route.image (LineEnds route s (Ok Pull) r after) s after i j t u) c.self.view_is
+    (pull_went route before after i j t u c.pull-end.ensures.number refl c.pull-end.result c.is_pull_fault-fault.result c.pull_answer.result r c.pull_answer.ensures c.answered.ensures c.pull-end.ensures.world)
+
+pub returns-clause-cause : goal.returns-clause-cause
+returns-clause-cause g c =
+    let route = c.args.route.now in
+    let before : SessionState = record { client = c.self.inside.client; folder = c.self.inside.folder } in
+    let after : SessionState = record { client = c.pull-end.new.self; folder = c.self.inside.folder } in
+    let t = g.L.Link.tells c.args.link.now in
+    let u = g.L.Link.tells c.pull-end.new.link in
+    let p = g.K.Keeper.faults c.args.keeper.now in
+    let q = g.K.Keeper.faults c.pull-end.new.keeper in
+    let r = c.answered.result in
+    subst (λ (s : SessionState). HasLineCause route s (Ok Pull) r after t u p q) c.self.view_is
+    (pull_cause route before after t u p q c.pull-end.ensures.number refl c.pull-end.result c.is_pull_fault-fault.result c.pull_answer.result r c.pull_answer.ensures c.is_pull_fault-fault.ensures c.answered.ensures
+    c.pull-end.ensures.cause)
+
+pub returns-clause-kept : goal.returns-clause-kept
+returns-clause-kept g c =
+    let image = c.args.route.now.image in
+    let before = c.self.inside.client in
+    let after = c.pull-end.new.self in
+    let i = g.K.Keeper.images c.args.keeper.now in
+    let j = g.K.Keeper.images c.pull-end.new.keeper in
+    let r = c.answered.result in
+    subst (λ (n : ℕ). IfOk r (λ answer. IsKept j image n after.log)) (sym c.pull-end.ensures.number)
+    (pull_kept image before.number before.log after.log c.pull-end.result i j c.is_pull_fault-fault.result c.pull_answer.result r c.pull_answer.ensures c.answered.ensures c.pull-end.ensures.keeps)
+
+pub returns-clause-keeper : goal.returns-clause-keeper
+returns-clause-keeper g c =
+    pull_counts (g.K.Keeper.faults c.args.keeper.now) (g.K.Keeper.faults c.pull-end.new.keeper) c.pull-end.result c.is_pull_fault-fault.result c.pull_answer.result c.answered.result c.pull_answer.ensures c.is_pull_fault-fault.ensures
+    c.answered.ensures c.pull-end.ensures.faults

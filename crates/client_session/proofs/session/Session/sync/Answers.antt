@@ -1,0 +1,51 @@
+use Rattle.std.proofs.Common.{ℕ, Ok, IfOk, refl, sym, subst}
+use Rattle.client_core.specs.Keeping.{IsKept}
+use Rattle.shell_lang.specs.declared.line.Line.TheVariants.{Sync}
+use Rattle.client_session.specs.Session.{SessionState}
+use Rattle.client_session.specs.Doing.{WentDoing, LineEnds}
+use Rattle.client_session.specs.Causes.{HasLineCause}
+use Rattle.client_session.proofs.Turning.{sync_went, sync_cause, sync_kept, sync_counts}
+use Rattle.client_session.proofs.session.Session.sync.Goals as goal
+
+pub returns-clause-world : goal.returns-clause-world
+returns-clause-world g c =
+    let route = c.args.route.now in
+    let before : SessionState = record { client = c.self.inside.client; folder = c.self.inside.folder } in
+    let after : SessionState = record { client = c.sync-end.new.self; folder = c.self.inside.folder } in
+    let i = g.K.Keeper.images c.args.keeper.now in
+    let j = g.K.Keeper.images c.sync-end.new.keeper in
+    let t = g.L.Link.tells c.args.link.now in
+    let u = g.L.Link.tells c.sync-end.new.link in
+    let r = c.answered.result in
+    subst (λ (s : SessionState). WentDoing route.image (LineEnds route s (Ok Sync) r after) s after i j t u) c.self.view_is
+    (sync_went route before after i j t u c.sync-end.ensures.number refl c.sync-end.result c.is_sync_fault-fault.result c.sync_answer.result r c.sync_answer.ensures c.answered.ensures c.sync-end.ensures.world)
+
+pub returns-clause-cause : goal.returns-clause-cause
+returns-clause-cause g c =
+    let route = c.args.route.now in
+    let before : SessionState = record { client = c.self.inside.client; folder = c.self.inside.folder } in
+    let after : SessionState = record { client = c.sync-end.new.self; folder = c.self.inside.folder } in
+    let t = g.L.Link.tells c.args.link.now in
+    let u = g.L.Link.tells c.sync-end.new.link in
+    let p = g.K.Keeper.faults c.args.keeper.now in
+    let q = g.K.Keeper.faults c.sync-end.new.keeper in
+    let r = c.answered.result in
+    subst (λ (s : SessionState). HasLineCause route s (Ok Sync) r after t u p q) c.self.view_is
+    (sync_cause route before after t u p q c.sync-end.ensures.number refl c.sync-end.ensures.log c.sync-end.result c.is_sync_fault-fault.result c.sync_answer.result r c.sync_answer.ensures c.is_sync_fault-fault.ensures c.answered.ensures
+    c.sync-end.ensures.cause)
+
+pub returns-clause-kept : goal.returns-clause-kept
+returns-clause-kept g c =
+    let image = c.args.route.now.image in
+    let before = c.self.inside.client in
+    let after = c.sync-end.new.self in
+    let i = g.K.Keeper.images c.args.keeper.now in
+    let j = g.K.Keeper.images c.sync-end.new.keeper in
+    let r = c.answered.result in
+    subst (λ (n : ℕ). IfOk r (λ answer. IsKept j image n after.log)) (sym c.sync-end.ensures.number)
+    (sync_kept image before.number before.log after.log c.sync-end.result i j c.is_sync_fault-fault.result c.sync_answer.result r c.sync_answer.ensures c.answered.ensures c.sync-end.ensures.keeps)
+
+pub returns-clause-keeper : goal.returns-clause-keeper
+returns-clause-keeper g c =
+    sync_counts (g.K.Keeper.faults c.args.keeper.now) (g.K.Keeper.faults c.sync-end.new.keeper) c.sync-end.result c.is_sync_fault-fault.result c.sync_answer.result c.answered.result c.sync_answer.ensures c.is_sync_fault-fault.ensures
+    c.answered.ensures c.sync-end.ensures.faults

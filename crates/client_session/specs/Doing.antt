@@ -1,0 +1,30 @@
+-- What a line does: its turn, and with it the client, what is kept of it and the world.
+use Rattle.std.specs.Prelude.{◌≡◌, ℕ, List, Option, Result, Ok, Err}
+use Rattle.outside.specs.Keeper.{Images}
+use Rattle.outside.specs.declared.errors.KeepError.{KeepError}
+use Rattle.mod_log.specs.Log.{Log}
+use Rattle.world_rules.specs.World.{World}
+use Rattle.world_rules.specs.Telling.{LinkTelling, ToldWorlds}
+use Rattle.client_core.specs.declared.route.Route.{Route}
+use Rattle.client_core.specs.Trace.{Trace}
+use Rattle.client_core.specs.Goes.{Goes}
+use Rattle.shell_lang.specs.declared.line.Line.{Line}
+use Rattle.shell_lang.specs.declared.line.LineError.{LineError}
+use Rattle.shell_lang.specs.declared.answer.Answer.{Answer}
+use Rattle.client_session.specs.Session.{SessionState, LineTurn, Broken}
+
+-- Between two moments a session did what these turns say: it is the same client's, and this client, what is kept of it under the
+-- name and the world went on together.
+pub record Does (name : List ℕ) (turns : Trace → Type 0) (before after : SessionState) (kept : Log) (images images_now : Option Images) (troubles now : ℕ) (old new : World) : Type 0 where
+  pub number : after.client.number ≡ before.client.number
+  pub goes : Goes before.client.number name turns before.client.log after.client.log kept images images_now troubles now old new
+
+-- Over a link that tells its world, a session did what these turns of what is kept at the end say.
+abbrev pub WentDoing : List ℕ → (Log → Trace → Type 0) → SessionState → SessionState → Option Images → Option Images → LinkTelling → LinkTelling → Type 0
+WentDoing name turns before after images images_now old new =
+    ToldWorlds old new (λ v w. (kept : Log) × Does name (turns kept) before after kept images images_now old.troubles new.troubles v w)
+
+-- a line that was answered and after which the log is kept, or one that was broken off
+abbrev pub LineEnds : Route → SessionState → Result Line LineError → Result (Option Answer) KeepError → SessionState → Log → Trace → Type 0
+LineEnds route before line (Ok answer) after kept trace = LineTurn route before line answer after trace × (kept ≡ after.client.log)
+LineEnds route before line (Err error) after kept trace = Broken route before line after trace

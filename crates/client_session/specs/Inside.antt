@@ -1,0 +1,41 @@
+-- Words that only contracts of private functions cite, of lines that log.
+use Rattle.std.specs.Prelude.{◌≡◌, ◌≢◌, ◌⊎◌, ℕ, ⊤, List, Option, Some, None, Result, Ok, Err}
+use Rattle.outside.specs.Keeper.{Images}
+use Rattle.outside.specs.declared.errors.KeepError.{KeepError}
+use Rattle.outside.specs.declared.errors.KeepError.TheVariants as keepers
+use Rattle.mod_log.specs.Log.{Log}
+use Rattle.file_paths.specs.declared.path.PathError.{PathError}
+use Rattle.file_paths.specs.declared.path.PathError.TheVariants.{Memory}
+use Rattle.tree_values.specs.declared.node.Effect.{Effect}
+use Rattle.world_rules.specs.World.{World}
+use Rattle.client_core.specs.Trace.{Trace, nothing}
+use Rattle.shell_lang.specs.declared.answer.Answer.{Answer}
+use Rattle.client_session.specs.Session.{SessionState, LogTurn}
+use Rattle.client_session.specs.Doing.{Does}
+
+-- an answer is given where there is one, and else memory was wanted
+abbrev pub IsGiven : Option Answer → Result (Option Answer) KeepError → Type 0
+IsGiven (Some answer) (Ok given) = given ≡ Some answer
+IsGiven None (Err keepers.Memory) = ⊤
+IsGiven answer result = ⊥
+
+-- the effect that was made is the one that is named, or the refusal is that of the naming, unless memory ran out
+abbrev pub GivesEffect : Result Effect PathError → Result Effect PathError → Type 0
+GivesEffect (Ok effect) named = named ≡ Ok effect
+GivesEffect (Err error) named = error ≢ Memory → named ≡ Err error
+
+-- A named effect has its turn, and the log is kept. Or memory was wanted before it did anything, or it had its turn and the log was
+-- not surely kept.
+abbrev pub LogEnds : Result Effect PathError → SessionState → Result (Option Answer) KeepError → SessionState → Log → Trace → Type 0
+LogEnds named before (Ok answer) after kept trace = LogTurn named before answer after trace × (kept ≡ after.client.log)
+LogEnds named before (Err error) after kept trace =
+    ((after ≡ before) × (trace ≡ nothing)) ⊎ ((answer : Option Answer) × LogTurn named before answer after trace)
+
+-- what it does in any world, where the keeper's images were these and are those now
+abbrev pub Logs : List ℕ → Result Effect PathError → SessionState → Result (Option Answer) KeepError → SessionState → Option Images → Option Images → Type 0
+Logs name named before result after images now =
+    (troubles : ℕ) (world : World) → (kept : Log) × Does name (LogEnds named before result after kept) before after kept images now troubles troubles world world
+
+-- the same of an effect that was made, whatever it was made of
+abbrev pub LogsMade : List ℕ → Result Effect PathError → SessionState → Result (Option Answer) KeepError → SessionState → Option Images → Option Images → Type 0
+LogsMade name made before result after images now = (named : Result Effect PathError) → GivesEffect made named → Logs name named before result after images now

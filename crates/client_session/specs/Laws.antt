@@ -1,0 +1,27 @@
+-- What holds of every session.
+use Rattle.std.specs.Prelude.{◌≡◌, ◌⊎◌, ◌+◌, length, List, [], ◌∷◌, Option, Result}
+use Rattle.tree_values.specs.Tree.{Volume}
+use Rattle.mod_log.specs.declared.log.Entry.{Entry}
+use Rattle.mod_log.specs.Log.{Log, logged, pulled}
+use Rattle.client_core.specs.declared.route.Route.{Route}
+use Rattle.client_core.specs.Trace.{Trace}
+use Rattle.client_core.specs.Syncing.{acknowledged_first}
+use Rattle.shell_lang.specs.declared.line.Line.{Line}
+use Rattle.shell_lang.specs.declared.line.LineError.{LineError}
+use Rattle.shell_lang.specs.declared.answer.Answer.{Answer}
+use Rattle.client_session.specs.Session.{SessionState, Chain}
+
+-- one entry with the next number is logged, the first pending one is acknowledged, or the base is replaced by a pull
+abbrev pub IsChange : Log → Log → Type 0
+IsChange before after =
+    ((entry : Entry) × (entry.seq ≡ before.acked + length before.pending + 1) × (after ≡ logged entry before)) ⊎ (after ≡ acknowledged_first before) ⊎ ((seen : Volume) × (after ≡ pulled seen before))
+
+-- each of these logs is a change of the one before it, and the last of them is this log
+abbrev pub ChangesLeadTo : Log → List Log → Log → Type 0
+ChangesLeadTo before [] after = after ≡ before
+ChangesLeadTo before (change ∷ changes) after = IsChange before change × ChangesLeadTo change changes after
+
+-- What a session changes of the log are such changes, one after the other, and its log is what they lead to.
+abbrev pub SessionsChangeSo : Type 0
+SessionsChangeSo = (route : Route) (before : SessionState) (lines : List (Result Line LineError)) (answers : List (Option Answer)) (after : SessionState) (trace : Trace)
+    → Chain route before lines answers after trace → ChangesLeadTo before.client.log trace.changes after.client.log

@@ -1,0 +1,6 @@
+pub mod Causes
+pub mod Doing
+pub mod Inside
+pub mod Laws
+pub mod Looking
+pub mod Session

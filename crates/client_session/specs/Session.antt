@@ -1,0 +1,199 @@
+-- A session: what each line logs, asks of the server and answers. It knows no memory and no keeper, and nothing of how its input comes.
+use Rattle.std.specs.Prelude.{◌≡◌, ◌⊎◌, ℕ, List, [], ◌∷◌, ◌++◌, length, Option, None, Some, Result, Ok, Err}
+use Rattle.file_paths.specs.Path.{FilePath, resolved}
+use Rattle.file_paths.specs.declared.path.PathError.{PathError}
+use Rattle.file_paths.specs.declared.path.PathError.TheVariants as paths
+use Rattle.tree_values.specs.declared.node.Effect.{Effect}
+use Rattle.tree_values.specs.declared.node.Effect.TheVariants as effects
+use Rattle.mod_log.specs.declared.log.LogError.{LogError}
+use Rattle.mod_log.specs.declared.log.LogError.TheVariants as logs
+use Rattle.mod_log.specs.Log.{Log, tree_of}
+use Rattle.client_core.specs.declared.route.Route.{Route}
+use Rattle.client_core.specs.declared.syncing.SyncEnd.{SyncEnd}
+use Rattle.client_core.specs.declared.syncing.SyncEnd.TheVariants as ends
+use Rattle.client_core.specs.declared.pulling.PullEnd.{PullEnd}
+use Rattle.client_core.specs.declared.pulling.PullEnd.TheVariants as pulls
+use Rattle.client_core.specs.Client.{Client}
+use Rattle.client_core.specs.Trace.{Trace, nothing, followed, IsLastOrBefore}
+use Rattle.client_core.specs.Logging.{LocalTurn}
+use Rattle.client_core.specs.Syncing.{SyncTurn, BreaksSync}
+use Rattle.client_core.specs.Pulling.{PullTurn, BreaksPull}
+use Rattle.shell_lang.specs.Commands.{put_content}
+use Rattle.shell_lang.specs.Texts.{text_of, HasNoMemory}
+use Rattle.shell_lang.specs.declared.line.Line.{Line}
+use Rattle.shell_lang.specs.declared.line.Line.TheVariants.{Empty, Put, Make, Remove, Move, Cat, List as Ls, Enter, Status, Sync, Pull, Quit}
+use Rattle.shell_lang.specs.declared.line.LineError.{LineError}
+use Rattle.shell_lang.specs.declared.answer.Answer.{Answer}
+use Rattle.shell_lang.specs.declared.answer.Answer.TheVariants as answers
+use Rattle.shell_lang.specs.declared.answer.Fault.TheVariants as faults
+use Rattle.client_session.specs.Looking.{cat_answer, list_answer, enter_answer, folder_by}
+
+-- what a line finds and leaves: the client, and the current folder
+pub record SessionState : Type 0 where
+  pub client : Client
+  pub folder : FilePath
+
+-- the client of this number with this log, in the root folder
+abbrev pub opened : ℕ → Log → SessionState
+opened number log = record { client = record { number = number; log = log }; folder = [] }
+
+-- the state once the client has this log
+abbrev pub with_log : SessionState → Log → SessionState
+with_log state log = record { client = record { number = state.client.number; log = log }; folder = state.folder }
+
+-- the state once the client is in this folder
+abbrev pub with_folder : SessionState → FilePath → SessionState
+with_folder state folder = record { client = state.client; folder = folder }
+
+-- ---- what a line logs
+
+abbrev pub from_one : Result FilePath PathError → (FilePath → Effect) → Result Effect PathError
+from_one (Ok path) effect = Ok (effect path)
+from_one (Err refusal) effect = Err refusal
+
+abbrev pub from_two : Result FilePath PathError → Result FilePath PathError → (FilePath → FilePath → Effect) → Result Effect PathError
+from_two (Ok from) to effect = from_one to (effect from)
+from_two (Err refusal) to effect = Err refusal
+
+-- The effect that a line names in the current folder, or the first refusal of its path words. A text that is put gets a line end.
+abbrev pub put_effect : FilePath → List ℕ → List ℕ → Result Effect PathError
+put_effect folder word text = from_one (resolved folder word) (λ path. effects.Put path (put_content text))
+
+abbrev pub make_effect : FilePath → List ℕ → Result Effect PathError
+make_effect folder word = from_one (resolved folder word) effects.Make
+
+abbrev pub remove_effect : FilePath → List ℕ → Result Effect PathError
+remove_effect folder word = from_one (resolved folder word) effects.Remove
+
+abbrev pub move_effect : FilePath → List ℕ → List ℕ → Result Effect PathError
+move_effect folder from to = from_two (resolved folder from) (resolved folder to) effects.Move
+
+-- ---- turns
+
+-- how a sync is answered; one that was broken off has no answer
+abbrev pub sync_answer : SyncEnd → Option Answer
+sync_answer (ends.Synced seq) = Some (answers.Synced seq)
+sync_answer (ends.Stale seq path theirs ours) = Some (answers.Stale seq path theirs ours)
+sync_answer (ends.Unfit seq index fault) = Some (answers.Unfit seq index fault)
+sync_answer (ends.Full seq index fault) = Some (answers.Full seq index fault)
+sync_answer (ends.Unanswered seq) = Some (answers.Unanswered seq)
+sync_answer (ends.Behind seq last) = Some (answers.Behind seq last)
+sync_answer ends.KeepFault = None
+sync_answer ends.Memory = None
+
+-- how a pull is answered: one that waits for pending entries is refused; one that was broken off has no answer
+abbrev pub pull_answer : PullEnd → Option Answer
+pull_answer (pulls.Pulled count) = Some (answers.Pulled count)
+pull_answer (pulls.Pending count) = Some (answers.Refused (faults.Pending count))
+pull_answer (pulls.OtherLast last acked) = Some (answers.OtherLast last)
+pull_answer (pulls.Older path theirs ours) = Some (answers.Older path theirs ours)
+pull_answer pulls.Unanswered = Some answers.PullUnanswered
+pull_answer pulls.KeepFault = None
+pull_answer pulls.Memory = None
+
+-- how one effect is answered: by the number of its entry, or by the refusal; want of memory has no answer
+abbrev pub local_answer : Result ℕ LogError → Option Answer
+local_answer (Ok seq) = Some (answers.Logged seq)
+local_answer (Err logs.Memory) = None
+local_answer (Err refusal) = Some (answers.Refused (faults.Log refusal))
+
+-- how the refusal of a path word is answered
+abbrev pub word_answer : PathError → Option Answer
+word_answer paths.Memory = None
+word_answer refusal = Some (answers.Refused (faults.Path refusal))
+
+-- the acknowledged number, and how many entries are pending
+abbrev pub status_answer : SessionState → Answer
+status_answer state = answers.Status state.client.log.acked (length state.client.log.pending)
+
+-- it is answered so, and nothing else is done
+abbrev pub Tells : Answer → SessionState → Option Answer → SessionState → Trace → Type 0
+Tells told before answer after trace = (answer ≡ Some told) × (after ≡ before) × (trace ≡ nothing)
+
+-- it has no answer, and nothing is done
+abbrev pub IsSilent : SessionState → Option Answer → SessionState → Trace → Type 0
+IsSilent before answer after trace = (answer ≡ None) × (after ≡ before) × (trace ≡ nothing)
+
+-- an effect is logged or refused, or a path word was
+abbrev pub LogTurn : Result Effect PathError → SessionState → Option Answer → SessionState → Trace → Type 0
+LogTurn (Ok effect) before answer after trace =
+    (result : Result ℕ LogError) × LocalTurn effect before.client.log result after.client.log trace
+    × (after ≡ with_log before after.client.log) × (answer ≡ local_answer result)
+LogTurn (Err refusal) before answer after trace = (answer ≡ word_answer refusal) × (after ≡ before) × (trace ≡ nothing)
+
+-- the current folder is another one, or the word is refused
+abbrev pub EnterTurn : Answer → SessionState → Option Answer → SessionState → Trace → Type 0
+EnterTurn told before answer after trace = (answer ≡ Some told) × (after ≡ with_folder before (folder_by told before.folder)) × (trace ≡ nothing)
+
+-- What a line comes to, by what it reads as: the state before it, its answer, the state after it, and what was done.
+abbrev pub LineTurn : Route → SessionState → Result Line LineError → Option Answer → SessionState → Trace → Type 0
+LineTurn route before (Err refusal) answer after trace = Tells (answers.Refused (faults.Line refusal)) before answer after trace
+LineTurn route before (Ok Empty) answer after trace = IsSilent before answer after trace
+LineTurn route before (Ok (Put word text)) answer after trace = LogTurn (put_effect before.folder word text) before answer after trace
+LineTurn route before (Ok (Make word)) answer after trace = LogTurn (make_effect before.folder word) before answer after trace
+LineTurn route before (Ok (Remove word)) answer after trace = LogTurn (remove_effect before.folder word) before answer after trace
+LineTurn route before (Ok (Move from to)) answer after trace = LogTurn (move_effect before.folder from to) before answer after trace
+LineTurn route before (Ok (Cat word)) answer after trace = Tells (cat_answer (tree_of before.client.log) before.folder word) before answer after trace
+LineTurn route before (Ok (Ls word)) answer after trace = Tells (list_answer (tree_of before.client.log) before.folder word) before answer after trace
+LineTurn route before (Ok (Enter word)) answer after trace = EnterTurn (enter_answer (tree_of before.client.log) before.folder word) before answer after trace
+LineTurn route before (Ok Status) answer after trace = Tells (status_answer before) before answer after trace
+LineTurn route before (Ok Sync) answer after trace =
+    (end : SyncEnd) × SyncTurn before.client.number route before.client.log end after.client.log trace
+    × (after ≡ with_log before after.client.log) × (answer ≡ sync_answer end)
+LineTurn route before (Ok Pull) answer after trace =
+    (end : PullEnd) × PullTurn before.client.number route before.client.log end after.client.log trace
+    × (after ≡ with_log before after.client.log) × (answer ≡ pull_answer end)
+LineTurn route before (Ok Quit) answer after trace = IsSilent before answer after trace
+
+-- the turns of lines, one after the other, and what was answered to each
+abbrev pub Chain : Route → SessionState → List (Result Line LineError) → List (Option Answer) → SessionState → Trace → Type 0
+Chain route before [] answers after trace = (answers ≡ []) × (after ≡ before) × (trace ≡ nothing)
+Chain route before (line ∷ lines) answers after trace =
+    (middle : SessionState) × (first rest : Trace) × (answer : Option Answer) × (more : List (Option Answer)) × LineTurn route before line answer middle first
+    × Chain route middle lines more after rest × (answers ≡ answer ∷ more) × (trace ≡ followed first rest)
+
+-- ---- what is shown of answers
+
+-- the text of an answer, which no want of memory is
+abbrev pub IsText : Option Answer → List ℕ → Type 0
+IsText None text = text ≡ []
+IsText (Some answer) text = HasNoMemory answer × (text ≡ text_of answer)
+
+-- the texts of answers, one after the other
+abbrev pub AreTexts : List (Option Answer) → List ℕ → Type 0
+AreTexts [] text = text ≡ []
+AreTexts (answer ∷ answers) text = (first rest : List ℕ) × IsText answer first × AreTexts answers rest × (text ≡ first ++ rest)
+
+-- ---- syncs that do not come through
+
+-- a sync that leaves entries pending is answered so
+abbrev pub LeavesPending : Option Answer → Type 0
+LeavesPending (Some (answers.Stale seq path theirs ours)) = Unit {0}
+LeavesPending (Some (answers.Unfit seq index fault)) = Unit {0}
+LeavesPending (Some (answers.Full seq index fault)) = Unit {0}
+LeavesPending (Some (answers.Unanswered seq)) = Unit {0}
+LeavesPending (Some (answers.Behind seq last)) = Unit {0}
+LeavesPending answer = ⊥
+
+-- ---- lines that are broken off, since memory was wanted or a keeping was refused
+
+-- a sync or a pull is broken off in between
+abbrev pub BreaksOff : Route → SessionState → Result Line LineError → Log → Trace → Type 0
+BreaksOff route before (Ok Sync) after trace = BreaksSync before.client.number route before.client.log after trace
+BreaksOff route before (Ok Pull) after trace = BreaksPull before.client.number route before.client.log after trace
+BreaksOff route before line after trace = ⊥
+
+-- the line does nothing, or all but answer, or is broken off in between
+abbrev pub Broken : Route → SessionState → Result Line LineError → SessionState → Trace → Type 0
+Broken route before line after trace =
+    ((after ≡ before) × (trace ≡ nothing))
+    ⊎ (((answer : Option Answer) × LineTurn route before line answer after trace)
+    ⊎ (BreaksOff route before line after.client.log trace × (after ≡ with_log before after.client.log)))
+
+-- The turns of some lines, the last of which is broken off, and what was answered to those before it. What is kept is the log after
+-- the last change of this line, or the one before that change: all that was answered is kept.
+abbrev pub BreaksChain : Route → SessionState → List (Result Line LineError) → List (Option Answer) → SessionState → Log → Trace → Type 0
+BreaksChain route before lines answers after kept trace =
+    (handled : List (Result Line LineError)) × (last : Result Line LineError) × (middle : SessionState) × (earlier broken : Trace) × (lines ≡ handled ++ last ∷ [])
+    × Chain route before handled answers middle earlier × Broken route middle last after broken × IsLastOrBefore middle.client.log broken.changes kept
+    × (trace ≡ followed earlier broken)

@@ -1,0 +1,8 @@
+// Laws of sessions.
+ghost use Rattle.client_session.specs.Laws.{SessionsChangeSo};
+
+/// Law: what a session changes of the log are entries that it logs, acknowledgements of the first pending one and pulls, one
+/// after the other, and its log is what they lead to.
+pub fn sessions_change_so()
+    ensures { SessionsChangeSo }
+{}

@@ -1,0 +1,364 @@
+// The turns of a session's lines.
+ghost use Rattle.std.specs.Prelude.{◌≡◌, ◌≢◌, ◌≤◌, Some, Ok, Err, IfOk, OnErr};
+ghost use Rattle.std.specs.Option.{option_copied};
+ghost use Rattle.outside.specs.Outside.{CountsFault};
+ghost use Rattle.mod_log.specs.Log.{tree_of};
+ghost use Rattle.client_core.specs.Keeping.{IsKept};
+ghost use Rattle.client_session.specs.Session.{opened, put_effect, make_effect, remove_effect, move_effect, with_folder, local_answer, word_answer, sync_answer, pull_answer, status_answer};
+ghost use Rattle.client_session.specs.Looking.{cat_answer, list_answer, enter_answer, folder_by};
+ghost use Rattle.client_session.specs.Doing.{WentDoing, LineEnds};
+ghost use Rattle.client_session.specs.Causes.{HasLineCause, is_sync_fault, is_pull_fault, answered};
+ghost use Rattle.client_session.specs.Inside.{IsGiven, Logs, LogsMade};
+
+use crate::effects::{make_effect, move_effect, put_effect, remove_effect};
+use crate::looking::{cat, enter, list};
+use client_core::{Client, PullEnd, Route, SyncEnd};
+use mod_log::LogError;
+use outside::{KeepError, Keeper};
+use shell_lang::{Answer, Fault, Line, LineError};
+use std::alloc::Global;
+use std::marker::Model;
+use vol_tree::{Content, Effect, Path, PathError, TryCopy};
+use world_rules::Link;
+
+/// A user's session: the client, and the current folder.
+#[derive(Drop)]
+pub struct Session {
+    client: Client,
+    folder: Path,
+}
+
+impl Model for Session {
+    ghost use Rattle.client_session.specs.Session.{SessionState};
+
+    ghost Value = { SessionState };
+
+    ghost view = { λ session. record { client = session.client; folder = session.folder } };
+}
+
+impl Session {
+    /// A client's session, in the root folder. It takes no memory.
+    pub fn new(alloc: Global, client: Client) -> Session
+        ensures { result ≡ opened client.number client.log }
+    {
+        Session {
+            client,
+            folder: Path::root(alloc),
+        }
+    }
+
+    /// Does what a line asks for, keeps the client where it logs, syncs or pulls, and gives its answer; the empty line and
+    /// `quit` have none.
+    ///
+    /// # Errors
+    ///
+    /// Want of memory, or a keeping that failed. The line may then have done nothing, all but answer, or a part of its sync or
+    /// pull; what is kept is the client after the last change or before it.
+    pub fn answer<L: Link, K: Keeper>(
+        &mut self,
+        alloc: Global,
+        route: &Route,
+        line: Result<Line, LineError>,
+        link: &mut L,
+        keeper: &mut K,
+    ) -> Result<Option<Answer>, KeepError>
+        requires { IsKept (K.images keeper.old) route.now.image self.old.client.number self.old.client.log }
+        ensures world { WentDoing route.now.image (LineEnds route.now self.old line result self.new) self.old self.new (K.images keeper.old) (K.images keeper.new) (L.tells link.old) (L.tells link.new) }
+        ensures cause { HasLineCause route.now self.old line result self.new (L.tells link.old) (L.tells link.new) (K.faults keeper.old) (K.faults keeper.new) }
+        ensures kept { IfOk result (λ answer. IsKept (K.images keeper.new) route.now.image self.new.client.number self.new.client.log) }
+        ensures later { (L.tells link.old).troubles ≤ (L.tells link.new).troubles }
+        ensures keeper { CountsFault KeepError.Failed (K.faults keeper.old) (K.faults keeper.new) result }
+    {
+        let image = route.image.bytes();
+        match line {
+            Err(refusal) => Ok(Some(Answer::Refused(Fault::Line(refusal)))),
+            Ok(Line::Empty) => Ok(None),
+            Ok(Line::Quit) => Ok(None),
+            Ok(Line::Put(path, text)) => self.put(alloc, &path, &text, image, keeper),
+            Ok(Line::Make(path)) => self.make(alloc, &path, image, keeper),
+            Ok(Line::Remove(path)) => self.remove(alloc, &path, image, keeper),
+            Ok(Line::Move(from, to)) => self.relocate(alloc, &from, &to, image, keeper),
+            Ok(Line::Cat(path)) => self.cat(alloc, &path),
+            Ok(Line::List(path)) => self.list(alloc, path.as_ref()),
+            Ok(Line::Enter(path)) => self.enter(alloc, &path),
+            Ok(Line::Status) => Ok(Some(self.status())),
+            Ok(Line::Sync) => self.sync(route, link, keeper),
+            Ok(Line::Pull) => self.pull(route, link, keeper),
+        }
+    }
+
+    /// The acknowledged number, and how many entries are pending.
+    pub fn status(&self) -> Answer
+        ensures { result ≡ status_answer self.now }
+    {
+        let log = self.client.log();
+        Answer::Status {
+            acked: log.acked(),
+            pending: log.pending(),
+        }
+    }
+
+    fn put<K: Keeper>(
+        &mut self,
+        alloc: Global,
+        path: &Content,
+        text: &Content,
+        image: &[u8],
+        keeper: &mut K,
+    ) -> Result<Option<Answer>, KeepError>
+        requires { IsKept (K.images keeper.old) image.now self.old.client.number self.old.client.log }
+        ensures logs { Logs image.now (put_effect self.old.folder path.now text.now) self.old result self.new (K.images keeper.old) (K.images keeper.new) }
+        ensures kept { IfOk result (λ answer. IsKept (K.images keeper.new) image.now self.new.client.number self.new.client.log) }
+        ensures keeper { CountsFault KeepError.Failed (K.faults keeper.old) (K.faults keeper.new) result }
+    {
+        let made = put_effect(alloc, &self.folder, path, text);
+        self.log(made, image, keeper)
+    }
+
+    fn make<K: Keeper>(
+        &mut self,
+        alloc: Global,
+        path: &Content,
+        image: &[u8],
+        keeper: &mut K,
+    ) -> Result<Option<Answer>, KeepError>
+        requires { IsKept (K.images keeper.old) image.now self.old.client.number self.old.client.log }
+        ensures logs { Logs image.now (make_effect self.old.folder path.now) self.old result self.new (K.images keeper.old) (K.images keeper.new) }
+        ensures kept { IfOk result (λ answer. IsKept (K.images keeper.new) image.now self.new.client.number self.new.client.log) }
+        ensures keeper { CountsFault KeepError.Failed (K.faults keeper.old) (K.faults keeper.new) result }
+    {
+        let made = make_effect(alloc, &self.folder, path);
+        self.log(made, image, keeper)
+    }
+
+    fn remove<K: Keeper>(
+        &mut self,
+        alloc: Global,
+        path: &Content,
+        image: &[u8],
+        keeper: &mut K,
+    ) -> Result<Option<Answer>, KeepError>
+        requires { IsKept (K.images keeper.old) image.now self.old.client.number self.old.client.log }
+        ensures logs { Logs image.now (remove_effect self.old.folder path.now) self.old result self.new (K.images keeper.old) (K.images keeper.new) }
+        ensures kept { IfOk result (λ answer. IsKept (K.images keeper.new) image.now self.new.client.number self.new.client.log) }
+        ensures keeper { CountsFault KeepError.Failed (K.faults keeper.old) (K.faults keeper.new) result }
+    {
+        let made = remove_effect(alloc, &self.folder, path);
+        self.log(made, image, keeper)
+    }
+
+    fn relocate<K: Keeper>(
+        &mut self,
+        alloc: Global,
+        from: &Content,
+        to: &Content,
+        image: &[u8],
+        keeper: &mut K,
+    ) -> Result<Option<Answer>, KeepError>
+        requires { IsKept (K.images keeper.old) image.now self.old.client.number self.old.client.log }
+        ensures logs { Logs image.now (move_effect self.old.folder from.now to.now) self.old result self.new (K.images keeper.old) (K.images keeper.new) }
+        ensures kept { IfOk result (λ answer. IsKept (K.images keeper.new) image.now self.new.client.number self.new.client.log) }
+        ensures keeper { CountsFault KeepError.Failed (K.faults keeper.old) (K.faults keeper.new) result }
+    {
+        let made = move_effect(alloc, &self.folder, from, to);
+        self.log(made, image, keeper)
+    }
+
+    /// Logs an effect that was made of a line's words and keeps the client, or answers why the effect is refused.
+    fn log<K: Keeper>(
+        &mut self,
+        made: Result<Effect, PathError>,
+        image: &[u8],
+        keeper: &mut K,
+    ) -> Result<Option<Answer>, KeepError>
+        requires { IsKept (K.images keeper.old) image.now self.old.client.number self.old.client.log }
+        ensures logs { LogsMade image.now made self.old result self.new (K.images keeper.old) (K.images keeper.new) }
+        ensures kept { IfOk result (λ answer. IsKept (K.images keeper.new) image.now self.new.client.number self.new.client.log) }
+        ensures keeper { CountsFault KeepError.Failed (K.faults keeper.old) (K.faults keeper.new) result }
+    {
+        let effect = match made {
+            Ok(effect) => effect,
+            Err(refusal) => return given(word_answer(refusal)),
+        };
+        let seq = match self.client.local(effect) {
+            Ok(seq) => seq,
+            Err(refusal) => return given(local_refusal(refusal)),
+        };
+        if let Err(refused) = self.client.keep(image, keeper) {
+            return Err(refused);
+        }
+        Ok(Some(Answer::Logged { seq }))
+    }
+
+    fn cat(&self, alloc: Global, path: &Content) -> Result<Option<Answer>, KeepError>
+        ensures answer { IfOk result (λ answer. answer ≡ Some (cat_answer (tree_of self.now.client.log) self.now.folder path.now)) }
+        ensures memory { result ≢ Err KeepError.Failed }
+    {
+        let tree = self.client.log().tree();
+        Ok(Some(cat(alloc, tree, &self.folder, path)?))
+    }
+
+    fn list(&self, alloc: Global, path: Option<&Content>) -> Result<Option<Answer>, KeepError>
+        ensures answer { IfOk result (λ answer. answer ≡ Some (list_answer (tree_of self.now.client.log) self.now.folder (option_copied path.entry))) }
+        ensures memory { result ≢ Err KeepError.Failed }
+    {
+        let tree = self.client.log().tree();
+        Ok(Some(list(alloc, tree, &self.folder, path)?))
+    }
+
+    /// Answers `cd`, and makes the folder at which the answer says to be the current one.
+    fn enter(&mut self, alloc: Global, path: &Content) -> Result<Option<Answer>, KeepError>
+        ensures ok { IfOk result (λ answer. answer ≡ Some (enter_answer (tree_of self.old.client.log) self.old.folder path.now)) }
+        ensures folder { IfOk result (λ answer. self.new ≡ with_folder self.old (folder_by (enter_answer (tree_of self.old.client.log) self.old.folder path.now) self.old.folder)) }
+        ensures err { OnErr result (self.new ≡ self.old) }
+        ensures memory { result ≢ Err KeepError.Failed }
+    {
+        let tree = self.client.log().tree();
+        let answer = enter(alloc, tree, &self.folder, path)?;
+        if let Answer::At(entered) = &answer {
+            match entered.copy() {
+                Ok(folder) => self.folder = folder,
+                Err(refused) => {
+                    drop(answer);
+                    return Err(KeepError::from(refused));
+                }
+            }
+        }
+        Ok(Some(answer))
+    }
+
+    /// Syncs, and answers how it ended.
+    fn sync<L: Link, K: Keeper>(
+        &mut self,
+        route: &Route,
+        link: &mut L,
+        keeper: &mut K,
+    ) -> Result<Option<Answer>, KeepError>
+        requires { IsKept (K.images keeper.old) route.now.image self.old.client.number self.old.client.log }
+        ensures world { WentDoing route.now.image (LineEnds route.now self.old (Ok Line.Sync) result self.new) self.old self.new (K.images keeper.old) (K.images keeper.new) (L.tells link.old) (L.tells link.new) }
+        ensures cause { HasLineCause route.now self.old (Ok Line.Sync) result self.new (L.tells link.old) (L.tells link.new) (K.faults keeper.old) (K.faults keeper.new) }
+        ensures kept { IfOk result (λ answer. IsKept (K.images keeper.new) route.now.image self.new.client.number self.new.client.log) }
+        ensures later { (L.tells link.old).troubles ≤ (L.tells link.new).troubles }
+        ensures keeper { CountsFault KeepError.Failed (K.faults keeper.old) (K.faults keeper.new) result }
+    {
+        let end = self.client.sync(route, link, keeper);
+        let fault = is_sync_fault(&end);
+        answered(fault, sync_answer(end))
+    }
+
+    /// Pulls, and answers how it ended.
+    fn pull<L: Link, K: Keeper>(
+        &mut self,
+        route: &Route,
+        link: &mut L,
+        keeper: &mut K,
+    ) -> Result<Option<Answer>, KeepError>
+        requires { IsKept (K.images keeper.old) route.now.image self.old.client.number self.old.client.log }
+        ensures world { WentDoing route.now.image (LineEnds route.now self.old (Ok Line.Pull) result self.new) self.old self.new (K.images keeper.old) (K.images keeper.new) (L.tells link.old) (L.tells link.new) }
+        ensures cause { HasLineCause route.now self.old (Ok Line.Pull) result self.new (L.tells link.old) (L.tells link.new) (K.faults keeper.old) (K.faults keeper.new) }
+        ensures kept { IfOk result (λ answer. IsKept (K.images keeper.new) route.now.image self.new.client.number self.new.client.log) }
+        ensures later { (L.tells link.old).troubles ≤ (L.tells link.new).troubles }
+        ensures keeper { CountsFault KeepError.Failed (K.faults keeper.old) (K.faults keeper.new) result }
+    {
+        let end = self.client.pull(route, link, keeper);
+        let fault = is_pull_fault(&end);
+        answered(fault, pull_answer(end))
+    }
+}
+
+/// An answer that is there; where there is none, memory was wanted.
+fn given(answer: Option<Answer>) -> Result<Option<Answer>, KeepError>
+    ensures { IsGiven answer result }
+{
+    match answer {
+        Some(answer) => Ok(Some(answer)),
+        None => Err(KeepError::Memory),
+    }
+}
+
+/// Whether a keeping failed in a sync.
+fn is_sync_fault(end: &SyncEnd) -> bool
+    ensures { result ≡ is_sync_fault end.now }
+{
+    matches!(end, SyncEnd::KeepFault)
+}
+
+/// Whether the keeping of a pull failed.
+fn is_pull_fault(end: &PullEnd) -> bool
+    ensures { result ≡ is_pull_fault end.now }
+{
+    matches!(end, PullEnd::KeepFault)
+}
+
+/// An answer that is there, unless a keeping failed; where there is none, memory was wanted.
+fn answered(fault: bool, answer: Option<Answer>) -> Result<Option<Answer>, KeepError>
+    ensures { result ≡ answered fault answer }
+{
+    if fault {
+        drop(answer);
+        return Err(KeepError::Failed);
+    }
+    match answer {
+        Some(answer) => Ok(Some(answer)),
+        None => Err(KeepError::Memory),
+    }
+}
+
+/// How an effect is answered that the log refused; want of memory has no answer.
+fn local_refusal(refusal: LogError) -> Option<Answer>
+    ensures { result ≡ local_answer (Err refusal) }
+{
+    match refusal {
+        LogError::Memory => None,
+        refusal => Some(Answer::Refused(Fault::Log(refusal))),
+    }
+}
+
+/// How the refusal of a path word is answered; want of memory has no answer.
+fn word_answer(refusal: PathError) -> Option<Answer>
+    ensures { result ≡ word_answer refusal }
+{
+    match refusal {
+        PathError::Memory => None,
+        refusal => Some(Answer::Refused(Fault::Path(refusal))),
+    }
+}
+
+/// How the end of a sync is answered; one that was broken off has no answer.
+fn sync_answer(end: SyncEnd) -> Option<Answer>
+    ensures { result ≡ sync_answer end }
+{
+    match end {
+        SyncEnd::Synced(seq) => Some(Answer::Synced(seq)),
+        SyncEnd::Stale {
+            seq,
+            path,
+            theirs,
+            ours,
+        } => Some(Answer::Stale {
+            seq,
+            path,
+            theirs,
+            ours,
+        }),
+        SyncEnd::Unfit { seq, index, fault } => Some(Answer::Unfit { seq, index, fault }),
+        SyncEnd::Full { seq, index, fault } => Some(Answer::Full { seq, index, fault }),
+        SyncEnd::Unanswered { seq } => Some(Answer::Unanswered { seq }),
+        SyncEnd::Behind { seq, last } => Some(Answer::Behind { seq, last }),
+        SyncEnd::KeepFault | SyncEnd::Memory => None,
+    }
+}
+
+/// How the end of a pull is answered; one that was broken off has no answer.
+fn pull_answer(end: PullEnd) -> Option<Answer>
+    ensures { result ≡ pull_answer end }
+{
+    match end {
+        PullEnd::Pulled(count) => Some(Answer::Pulled(count)),
+        PullEnd::Pending(count) => Some(Answer::Refused(Fault::Pending(count))),
+        PullEnd::OtherLast { last, .. } => Some(Answer::OtherLast(last)),
+        PullEnd::Older { path, theirs, ours } => Some(Answer::Older { path, theirs, ours }),
+        PullEnd::Unanswered => Some(Answer::PullUnanswered),
+        PullEnd::KeepFault | PullEnd::Memory => None,
+    }
+}
