@@ -4,7 +4,7 @@ use Rattle.std.proofs.lemmas.List.{append-nil}
 use Rattle.std.proofs.lemmas.List.Sums.{sum_by-append, count_by-le-length}
 use Rattle.std.proofs.lemmas.Grind.{flat_map-append}
 use Rattle.std.specs.Prelude.{cond}
-use Rattle.outside.specs.Outside.{Told, RoseBy}
+use Rattle.outside.specs.Outside.{Told, raised}
 use Rattle.outside.specs.Port.{AddsFrames}
 use Rattle.world_rules.specs.Served.{Served}
 use Rattle.server_core.specs.Framing.{frame_answer, frame_after, frames_after, change}
@@ -51,8 +51,8 @@ adds_more (Some x) (Some y) (Some z) xs ys first second = second ∙ ap (λ (l :
 pub adds_behind : (a b c : Option (List (List ℕ))) (xs : List (List ℕ)) → AddsFrames a b xs → AddsFrames b c [] → AddsFrames a c xs
 adds_behind a b c xs first second = subst (AddsFrames a c) (append-nil xs) (adds_more a b c xs [] first second)
 
-pub rose_more : (m n a b c : ℕ) → RoseBy m a b → RoseBy n b c → RoseBy (m + n) a c
-rose_more m n a b c first second = omega arith
+pub raised_more : (m n a b c : ℕ) → b ≡ raised m a → c ≡ raised n b → c ≡ raised (m + n) a
+raised_more m n a b c first second = omega arith
 
 -- ---- serving
 
@@ -74,7 +74,7 @@ serves_more xs ys s t u a b c first second = record {
       subst (AddsFrames a.answered c.answered) (sym (frames_answered-append xs ys s))
       (adds_more a.answered b.answered c.answered (frames_answered xs s) (frames_answered ys (frames_after (frames_taken xs) s)) first.answered
       (subst (λ (v : Served). AddsFrames b.answered c.answered (frames_answered ys v)) first.holds second.answered));
-  failed = subst (λ (n : ℕ). RoseBy n a.faults c.faults) (sym (failures-append xs ys)) (rose_more (failures xs) (failures ys) a.faults b.faults c.faults first.failed second.failed);
+  failed = subst (λ (n : ℕ). c.faults ≡ raised n a.faults) (sym (failures-append xs ys)) (raised_more (failures xs) (failures ys) a.faults b.faults c.faults first.failed second.failed);
   holds =
       second.holds ∙ ap (frames_after (frames_taken ys)) first.holds ∙ sym (frames_after-append (frames_taken xs) (frames_taken ys) s)
       ∙ ap (λ (l : List (List ℕ)). frames_after l s) (sym (frames_taken-append xs ys));

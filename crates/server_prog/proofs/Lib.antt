@@ -1,6 +1,5 @@
 pub mod Kept
 pub mod Connections
-pub mod Counts
 pub mod Running
 pub mod Totals
 pub mod KeptAtEnd

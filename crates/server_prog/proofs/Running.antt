@@ -5,7 +5,7 @@ use Rattle.outside.specs.declared.errors.SinkError.TheVariants.{Failed, Memory}
 use Rattle.outside.specs.declared.errors.KeepError.{KeepError}
 use Rattle.outside.specs.declared.errors.KeepError.TheVariants as keeps
 use Rattle.std.specs.Prelude.{IsErrOf}
-use Rattle.outside.specs.Outside.{Adds, HasCause}
+use Rattle.outside.specs.Outside.{Adds, CountsFault}
 use Rattle.world_rules.specs.Served.{Served}
 use Rattle.server_prog.specs.declared.serving.Tally.{Tally}
 use Rattle.server_prog.specs.declared.run.Stopped.{Stopped}
@@ -52,8 +52,8 @@ run_stops_before count old new written stops.Keeper no_sink none same = inl (sam
 run_stops_before count old new written stops.Image no_sink none same = ((same, refl), none refl)
 run_stops_before count old new written stops.Memory no_sink none same = inl (same, refl)
 
-pub sink_stays : {T U : Type 0} (faults : ℕ) (e : Stopped) → (IsErrOf {T = T} (Err e) stops.Sink → ⊥) → HasCause {T = U} stops.Sink faults faults (Err e)
+pub sink_stays : {T U : Type 0} (faults : ℕ) (e : Stopped) → (IsErrOf {T = T} (Err e) stops.Sink → ⊥) → CountsFault {T = U} stops.Sink faults faults (Err e)
 sink_stays faults stops.Sink no_sink = absurd (no_sink refl)
-sink_stays faults stops.Keeper no_sink = record { later = omega arith; failed = λ is. absurd (cc is) }
-sink_stays faults stops.Image no_sink = record { later = omega arith; failed = λ is. absurd (cc is) }
-sink_stays faults stops.Memory no_sink = record { later = omega arith; failed = λ is. absurd (cc is) }
+sink_stays faults stops.Keeper no_sink = record { later = omega arith; once = λ is. absurd (cc is); never = λ _. refl }
+sink_stays faults stops.Image no_sink = record { later = omega arith; once = λ is. absurd (cc is); never = λ _. refl }
+sink_stays faults stops.Memory no_sink = record { later = omega arith; once = λ is. absurd (cc is); never = λ _. refl }

@@ -3,7 +3,7 @@ use Rattle.std.proofs.Common.{◌≡◌, ◌≤◌, ◌⊎◌, inl, inr, ⊎_eli
 use Rattle.std.proofs.lemmas.List.{append_cancel_left}
 use Rattle.server_prog.specs.declared.run.Stopped.{Stopped}
 use Rattle.server_prog.specs.declared.run.Stopped.TheVariants.{Sink, Keeper, Image, Memory}
-use Rattle.outside.specs.Outside.{RoseBy, Adds}
+use Rattle.outside.specs.Outside.{raised, Adds}
 use Rattle.outside.specs.Port.{AddsFrames}
 use Rattle.world_rules.specs.Served.{Served}
 use Rattle.server_core.specs.Framing.{frame_after}
@@ -80,12 +80,6 @@ same_frames old new before xs ys o n adds =
     subst (λ (m : Option (List (List ℕ))). AddsFrames (Some before) m xs) n (subst (λ (p : Option (List (List ℕ))). AddsFrames p new xs) o adds) in
     sym (append_cancel_left before ys xs told)
 
-rose_later : (n a b c : ℕ) → RoseBy n a b → b ≤ c → RoseBy n a c
-rose_later n a b c rose later = omega arith
-
-rose_less : (m n a b : ℕ) → m ≤ n → RoseBy n a b → RoseBy m a b
-rose_less m n a b less rose = omega arith
-
 -- connections that were all served, as told
 module _ (first : Served) (connections : List Connection) (after : Served) (count : ℕ) (old new : Telling) (is : IsServed count first connections after old new) (taken answered : List (List ℕ)) (frames : HasFrames taken answered old new) where
   same_taken : frames_taken connections ≡ taken
@@ -100,17 +94,14 @@ module _ (first : Served) (connections : List Connection) (after : Served) (coun
   same_line : line_of connections ≡ last_line (length taken) (fall old new - length answered)
   same_line = ap (λ (l : List (List ℕ)). last_line (length l) (failures connections)) same_taken ∙ ap (λ (n : ℕ). last_line (length taken) n) unanswered
 
-  rose_all : RoseBy (fall old new - length answered) old.faults new.faults
-  rose_all = subst (λ (n : ℕ). RoseBy n old.faults new.faults) unanswered is.serves.failed
-
-  rose_but_one : RoseBy (fall old new - length answered - 1) old.faults new.faults
-  rose_but_one = rose_less (fall old new - length answered - 1) (fall old new - length answered) old.faults new.faults (omega arith) rose_all
+  raised_all : new.faults ≡ raised (fall old new - length answered) old.faults
+  raised_all = is.serves.failed ∙ ap (λ (n : ℕ). raised n old.faults) unanswered
 
   told_all : (status : ℕ) (written now : Option (List ℕ)) → Adds written now (line_of connections) → IsTold status taken answered old new written now
-  told_all status written now adds = record { most = λ _. rose_all; at_hand = rose_but_one; line = λ _. subst (Adds written now) same_line adds }
+  told_all status written now adds = record { all = λ _. raised_all; at_hand = inl raised_all; line = λ _. subst (Adds written now) same_line adds }
 
   told_front : (status : ℕ) (written now : Option (List ℕ)) → (status ≡ 0 → ⊥) → IsTold status taken answered old new written now
-  told_front status written now other = record { most = λ _. rose_all; at_hand = rose_but_one; line = λ zero. absurd (other zero) }
+  told_front status written now other = record { all = λ _. raised_all; at_hand = inl raised_all; line = λ zero. absurd (other zero) }
 
 told_broken : (status : ℕ) (first : Served) (connections : List Connection) (after : Served) (count : ℕ) (old middle new : Telling) (written now : Option (List ℕ)) (taken answered : List (List ℕ)) → ((status ≡ 0) ⊎ (status ≡ 4) → ⊥)
     → IsBrokenOff count first connections after old middle new → HasFrames taken answered old new → IsTold status taken answered old new written now
@@ -121,8 +112,8 @@ told_broken status first connections after count old middle new written now take
     let missing : failures connections ≡ fall old new - length answered - 1 =
     omega (arith, answered_or_failed connections first, ap length same, is.serves.left, is.broken.left) in
     record {
-      most = λ other. absurd (none other);
-      at_hand = subst (λ (n : ℕ). RoseBy n old.faults new.faults) missing (rose_later (failures connections) old.faults middle.faults new.faults is.serves.failed is.broken.later);
+      all = λ other. absurd (none other);
+      at_hand = inr (is.broken.faults ∙ is.serves.failed ∙ ap (λ (n : ℕ). raised n old.faults) missing);
       line = λ zero. absurd (none (inl zero));
     }
 
@@ -131,7 +122,7 @@ told_before : (status : ℕ) (old new : Telling) (written now : Option (List ℕ
 told_before status old new written now taken answered none same =
     let left : new.left ≡ old.left = ap (λ (t : Telling). t.left) same in
     let faults : new.faults ≡ old.faults = ap (λ (t : Telling). t.faults) same in
-    record { most = λ other. absurd (none other); at_hand = omega (arith, left, faults); line = λ zero. absurd (none (inl zero)) }
+    record { all = λ other. absurd (none other); at_hand = inl (omega (arith, left, faults)); line = λ zero. absurd (none (inl zero)) }
 
 counted : (count status : ℕ) (old new : Telling) (written now : Option (List ℕ)) (taken answered : List (List ℕ)) (ended : Result (Unit {0}) Stopped)
     → status ≡ status_of ended → RunTurn count old new written now ended → HasFrames taken answered old new → IsTold status taken answered old new written now

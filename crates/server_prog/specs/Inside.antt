@@ -1,5 +1,5 @@
 -- Words that only contracts below the whole run cite.
-use Rattle.std.specs.Prelude.{◌≡◌, ◌≤◌, ◌<◌, ◌+◌, ◌⊎◌, ◌&&◌, nat_le, Bool, false, ℕ, List, [], ◌∷◌, length}
+use Rattle.std.specs.Prelude.{◌≡◌, ◌≤◌, ◌<◌, ◌+◌, ◌⊎◌, ℕ, List, [], ◌∷◌, length}
 use Rattle.world_rules.specs.Served.{Served}
 use Rattle.outside.specs.declared.errors.SinkError.{SinkError}
 use Rattle.outside.specs.declared.errors.SinkError.TheVariants as sinks
@@ -54,11 +54,6 @@ tallied tally came.NoConnection = tally
 tallied tally came.Missed = record { frames = tally.frames; faults = tally.faults + 1 }
 tallied tally came.Unanswered = record { frames = tally.frames + 1; faults = tally.faults + 1 }
 tallied tally came.Answered = record { frames = tally.frames + 1; faults = tally.faults }
-
--- whether a word begins with a digit from 1 to 9
-abbrev pub begins_as_count : List ℕ → Bool
-begins_as_count [] = false
-begins_as_count (byte ∷ bytes) = nat_le 49 byte && nat_le byte 57
 
 -- a fault of the sink, and of the keeper, as the run's end
 abbrev pub stopped_by_sink : SinkError → Stopped

@@ -1,6 +1,6 @@
 -- What the connections of a run amount to. Its fall is the number by which the connections left fell.
 use Rattle.std.specs.Prelude.{◌≡◌, ◌≤◌, ◌⊎◌, ℕ, ◌-◌, List, [], ◌∷◌, ◌++◌, length, Option, Some}
-use Rattle.outside.specs.Outside.{RoseBy, Adds}
+use Rattle.outside.specs.Outside.{raised, Adds}
 use Rattle.world_rules.specs.Served.{Served}
 use Rattle.server_core.specs.Framing.{frames_after, change}
 use Rattle.server_core.specs.Keeping.{KeepsServed}
@@ -28,11 +28,11 @@ pub record HasFrames (taken answered : List (List ℕ)) (old new : Telling) : Ty
   pub old_answered : old.answered ≡ Some answered_before
   pub new_answered : new.answered ≡ Some (answered_before ++ answered)
 
--- each connection without an answer is a call of the port that failed; at status 5 or 7 one may be none, that at hand. At status 0
--- the output ends with the number of frames taken, and that of connections without an answer.
+-- each connection without an answer is one call of the port that failed, and no other call of it failed; at status 5 or 7 one may
+-- be none, that at hand. At status 0 the output ends with the number of frames taken, and that of connections without an answer.
 pub record IsTold (status : ℕ) (taken answered : List (List ℕ)) (old new : Telling) (written now : Option (List ℕ)) : Type 0 where
-  pub most : (status ≡ 0) ⊎ (status ≡ 4) → RoseBy (fall old new - length answered) old.faults new.faults
-  pub at_hand : RoseBy (fall old new - length answered - 1) old.faults new.faults
+  pub all : (status ≡ 0) ⊎ (status ≡ 4) → new.faults ≡ raised (fall old new - length answered) old.faults
+  pub at_hand : (new.faults ≡ raised (fall old new - length answered) old.faults) ⊎ (new.faults ≡ raised (fall old new - length answered - 1) old.faults)
   pub line : status ≡ 0 → Adds written now (last_line (length taken) (fall old new - length answered))
 
 abbrev pub FramesAreCounted : Type 0

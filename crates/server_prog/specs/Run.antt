@@ -1,24 +1,33 @@
 -- What a run of the server does by the status that it gives.
-use Rattle.std.specs.Prelude.{◌≡◌, ◌==◌, ◌≤◌, ◌<◌, ◌⊎◌, ℕ, Bool, List, [], ◌∷◌, ◌++◌, length, take, Option, IfSome, Result, Ok, Err, codes, decimal}
+use Rattle.std.specs.Prelude.{◌≡◌, ◌==◌, ◌≤◌, ◌<◌, ◌⊎◌, ◌↔◌, ◌||◌, ℕ, Bool, IsTrue, List, [], ◌∷◌, ◌++◌, length, take, Option, None, IfSome, Result, Ok, Err, codes, decimal}
 use Rattle.std.specs.List.{list_any}
-use Rattle.outside.specs.Outside.{Adds}
+use Rattle.outside.specs.Outside.{Adds, Rose, RisesWhere}
+use Rattle.outside.specs.Keeper.{Images, kept_under}
+use Rattle.program_words.specs.Status.{code}
+use Rattle.program_words.specs.declared.status.Status.TheVariants as statuses
 use Rattle.world_rules.specs.Served.{Served}
 use Rattle.server_core.specs.Keeping.{KeepsServed}
 use Rattle.server_prog.specs.declared.run.Stopped.{Stopped}
 use Rattle.server_prog.specs.declared.run.Stopped.TheVariants.{Sink, Keeper, Image, Memory}
-use Rattle.server_prog.specs.Serving.{Connection, Telling, Serves, BreaksOff, frames_taken, failures}
+use Rattle.server_prog.specs.Words.{Run, run_of}
+use Rattle.server_prog.specs.Serving.{Connection, Telling, telling, Serves, BreaksOff, frames_taken, failures}
 
 -- the status of a run that ended so: with its last line, or stopped before
 abbrev pub status_of : Result (Unit {0}) Stopped → ℕ
-status_of (Ok done) = 0
-status_of (Err Sink) = 4
-status_of (Err Keeper) = 5
-status_of (Err Image) = 6
-status_of (Err Memory) = 7
+status_of (Ok done) = code statuses.Done
+status_of (Err Sink) = code statuses.SinkFailed
+status_of (Err Keeper) = code statuses.KeeperFailed
+status_of (Err Image) = code statuses.OtherImage
+status_of (Err Memory) = code statuses.NoMemory
 
--- the statuses that the program may end with: 1 where it cannot listen
+-- the statuses that a run may give
 abbrev pub is_status : ℕ → Bool
-is_status status = list_any (λ known. known == status) (0 ∷ 1 ∷ 2 ∷ 4 ∷ 5 ∷ 6 ∷ 7 ∷ [])
+is_status status =
+    list_any (λ known. code known == status) (statuses.Done ∷ statuses.NoForm ∷ statuses.SinkFailed ∷ statuses.KeeperFailed ∷ statuses.OtherImage ∷ statuses.NoMemory ∷ [])
+
+-- those that the program may end with: one more where it cannot listen
+abbrev pub is_exit : ℕ → Bool
+is_exit status = code statuses.CannotListen == status || is_status status
 
 -- the line that ends the output: how many frames were taken, and how many calls of the port failed
 abbrev pub last_line : ℕ → ℕ → List ℕ
@@ -77,3 +86,33 @@ RunTurn count old new written now (Err Memory) = StopsBefore old new written now
 -- a run that gave this status
 abbrev pub Ran : ℕ → ℕ → Telling → Telling → Option (List ℕ) → Option (List ℕ) → Type 0
 Ran count status old new written now = (ended : Result (Unit {0}) Stopped) × (status ≡ status_of ended) × RunTurn count old new written now ended
+
+-- what a port, a keeper and a sink tell
+pub record Objects : Type 0 where
+  pub left : ℕ
+  pub taken : Option (List (List ℕ))
+  pub answered : Option (List (List ℕ))
+  pub port_faults : ℕ
+  pub images : Option Images
+  pub keeper_faults : ℕ
+  pub written : Option (List ℕ)
+  pub sink_faults : ℕ
+
+-- what is told of the port, and of what is kept under a name
+abbrev pub told_of : List ℕ → Objects → Telling
+told_of name all = telling all.left all.taken all.answered all.port_faults (kept_under name all.images)
+
+-- What a run on these words does, by the status that it gives:
+-- 0: as many takes were made as the words say, or no connection is left, and the output is the last line;
+-- 2: the words are of no form, and nothing was touched;
+-- 4 and 5: a call of the sink or of the keeper failed, and in a run with another status none did;
+-- 6: what is kept is no server's image; 7: memory ran out.
+pub record Ends (words : List (List ℕ)) (status : ℕ) (old new : Objects) : Type 0 where
+  pub form : status ≡ 2 ↔ run_of words ≡ None
+  pub known : IsTrue (is_status status)
+  pub untouched : run_of words ≡ None → new ≡ old
+  pub sink : RisesWhere (status ≡ 4) old.sink_faults new.sink_faults
+  pub keeper : RisesWhere (status ≡ 5) old.keeper_faults new.keeper_faults
+  pub complete :
+      IfSome (run_of words) (λ run. (Rose old.sink_faults new.sink_faults → ⊥) → (Rose old.keeper_faults new.keeper_faults → ⊥) → (status ≡ 0) ⊎ ((status ≡ 6) ⊎ (status ≡ 7)))
+  pub served : IfSome (run_of words) (λ run. Ran run.count status (told_of run.image old) (told_of run.image new) old.written new.written)

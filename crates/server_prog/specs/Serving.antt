@@ -1,7 +1,7 @@
 -- What a server does with the connections of a port, and what is kept of it.
 use Rattle.std.specs.Prelude.{◌≡◌, ◌≤◌, ◌⊎◌, ℕ, ◌+◌, Bool, true, false, List, [], ◌∷◌, length, count_by, Option, Some}
 use Rattle.std.specs.List.{flat_map}
-use Rattle.outside.specs.Outside.{Told, RoseBy}
+use Rattle.outside.specs.Outside.{Told, raised}
 use Rattle.outside.specs.Port.{AddsFrames}
 use Rattle.world_rules.specs.Served.{Served}
 use Rattle.server_core.specs.Framing.{frame_answer, frame_after, frames_after, change}
@@ -31,7 +31,7 @@ frames_answered (Missed ∷ more) served = frames_answered more served
 frames_answered (Unanswered frame ∷ more) served = frames_answered more (frame_after frame served)
 frames_answered (Answered frame ∷ more) served = frame_answer frame served ∷ frames_answered more (frame_after frame served)
 
--- each connection that is not answered is one call of the port that failed
+-- each connection that is not answered is one call of the port that failed, and no other call of it fails
 abbrev pub is_failure : Connection → Bool
 is_failure (Answered frame) = false
 is_failure _ = true
@@ -62,17 +62,17 @@ pub record Serves (connections : List Connection) (before after : Served) (old n
   pub left : old.left ≡ new.left + length connections
   pub taken : AddsFrames old.taken new.taken (frames_taken connections)
   pub answered : AddsFrames old.answered new.answered (frames_answered connections before)
-  pub failed : RoseBy (failures connections) old.faults new.faults
+  pub failed : new.faults ≡ raised (failures connections) old.faults
   pub holds : after ≡ frames_after (frames_taken connections) before
   pub kept : Told old.kept new.kept (KeptAs (change (frames_taken connections) before) after)
 
 -- want of memory, or a fault of the keeper, broke off the connection at hand: its frame may have been taken, and is not
--- answered; what is kept is as before, or with the change of this frame
+-- answered; no call of the port failed, and what is kept is as before, or with the change of this frame
 pub record BreaksOff (before : Served) (old new : Telling) : Type 0 where
   pub frames : List (List ℕ)
   pub few : length frames ≤ 1
   pub left : old.left ≡ new.left + 1
   pub taken : AddsFrames old.taken new.taken frames
   pub answered : AddsFrames old.answered new.answered []
-  pub later : old.faults ≤ new.faults
+  pub faults : new.faults ≡ old.faults
   pub kept : Told old.kept new.kept (λ o n. (n ≡ o) ⊎ KeptAs (change frames before) (frames_after frames before) o n)

@@ -1,11 +1,5 @@
 // What holds of every run: functions that do nothing, whose contracts are laws.
-ghost use Rattle.server_prog.specs.Words.{CountsArePrinted};
 ghost use Rattle.server_prog.specs.Laws.{FallsAreBounded, FramesAreCounted, KeptImagesAreServed};
-
-/// Law: a word gives a count of connections exactly where it is a number from 1 to 65,536 as it is printed.
-pub fn counts_are_as_printed()
-    ensures { CountsArePrinted }
-{}
 
 /// Law: how many connections a run uses up, and how the frames taken and answered, the faults of the port and the last line
 /// follow from one another.

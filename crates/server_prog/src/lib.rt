@@ -7,8 +7,8 @@ mod run;
 mod serving;
 mod words;
 
-pub use laws::{connections_are_counted, counts_are_as_printed};
-pub use program::{server_main, server_program};
+pub use laws::{connections_are_counted, kept_images_are_served};
+pub use program::{served, server_main, server_program};
 pub use run::server_run;
 pub use words::{RunWords, run_words};
 

@@ -1,17 +1,19 @@
 // The program: the server over TCP and standard output.
-ghost use Rattle.std.specs.Prelude.{◌≡◌, ◌↔◌, None, IsTrue, map};
+ghost use Rattle.std.specs.Prelude.{◌≡◌, ◌≢◌, ◌↔◌, None, Some, IfOk, IsOk, IsErr, IsTrue, map};
 ghost use Rattle.std.specs.String.{string_bytes};
 ghost use Rattle.std.specs.Process.{exit_status};
-ghost use Rattle.real_edge.specs.Program.{page_asked};
-ghost use Rattle.server_prog.specs.Run.{is_status};
+ghost use Rattle.program_words.specs.Pages.{page_asked};
+ghost use Rattle.server_prog.specs.Run.{is_exit, Ends};
 ghost use Rattle.server_prog.specs.Words.{run_of};
 
 use crate::run::server_run;
-use crate::words::run_words;
-use real_edge::{FileKeeper, Page, StdSink, TcpPort, end, page_asked, program_words, show};
+use crate::words::{RunWords, run_words};
+use outside::{Keeper, Port, Sink};
+use program_words::{Pages, Status, checked_words, end, given_words, page_shown};
+use real_edge::{FileKeeper, StdSink, TcpPort};
+use std::alloc::Global;
 use std::fs::File;
 use std::io;
-use std::io::ErrorKind;
 use std::net::Net;
 use std::process::ExitCode;
 use std::rt::{Env, Files};
@@ -52,25 +54,24 @@ Options:
 
 const VERSION: &str = "server 0.1.0\n";
 
-const CANNOT_LISTEN: u8 = 1;
-
-const NO_FORM: u8 = 2;
-
-const NO_MEMORY: u8 = 7;
+/// What the words may ask for in place of a run.
+pub(crate) const PAGES: Pages = Pages {
+    help: HELP,
+    version: VERSION,
+};
 
 /// The program's name, as standard error tells it.
-const NAME: &str = "server";
+pub(crate) const NAME: &str = "server";
 
 /// Runs the server with the words behind the program's name. Words that are no text are of no form.
 pub fn server_program<R: Print + Eprint + AllocGlobal + Env + Files<File = File> + Net + Clock>(
     rt: &R,
 ) -> ExitCode
-    ensures { IsTrue (is_status (exit_status result)) }
+    ensures { IsTrue (is_exit (exit_status result)) }
 {
-    match program_words(rt) {
+    match checked_words(given_words(rt)) {
         Ok(words) => server_main(rt, &words),
-        Err(error) if error.kind() == ErrorKind::OutOfMemory => end(rt, NAME, NO_MEMORY),
-        Err(_) => server_main(rt, &[]),
+        Err(status) => end(rt, NAME, status.code()),
     }
 }
 
@@ -83,47 +84,59 @@ pub fn server_main<R: Print + Eprint + AllocGlobal + Files<File = File> + Net + 
     words: &[String],
 ) -> ExitCode
     ensures form { exit_status result ≡ 2 ↔ (page_asked (map string_bytes words.now) ≡ None) × (run_of (map string_bytes words.now) ≡ None) }
-    ensures known { IsTrue (is_status (exit_status result)) }
+    ensures known { IsTrue (is_exit (exit_status result)) }
 {
-    match page_asked(words) {
-        Some(Page::Help) => end(rt, NAME, show(rt, HELP)),
-        Some(Page::Version) => end(rt, NAME, show(rt, VERSION)),
-        None => run_at(rt, words),
+    let mut output = StdSink::new(io::writer(rt));
+    if let Some(ended) = page_shown(rt, NAME, &PAGES, words, &mut output) {
+        return ended;
     }
+    let Some(run) = run_words(words) else {
+        return end(rt, NAME, Status::NoForm.code());
+    };
+    let bound = TcpPort::bind(rt.alloc(), rt, run.address);
+    serve_bound(rt, words, &run, bound, &mut output)
 }
 
-/// Listens where the words say, and runs the server there. Words of no form listen nowhere.
-fn run_at<R: Print + Eprint + AllocGlobal + Files<File = File> + Net + Clock>(
+/// Runs the server over the port that was bound at the address of its words. Where none was, it says so, and ends with status 1.
+fn serve_bound<R: Eprint + AllocGlobal + Files<File = File> + Net + Clock, O: Sink>(
     rt: &R,
     words: &[String],
+    run: &RunWords<'_>,
+    bound: io::Result<TcpPort<'_, R>>,
+    output: &mut O,
 ) -> ExitCode
-    ensures form { exit_status result ≡ 2 ↔ run_of (map string_bytes words.now) ≡ None }
-    ensures known { IsTrue (is_status (exit_status result)) }
+    requires said { run_of (map string_bytes words.now) ≡ Some (record { address = run.now.address.now; image = run.now.image.now; count = run.now.count }) }
+    requires there { IfOk bound (λ port. port.address.now ≡ run.now.address.now) }
+    ensures refused { IsErr bound.entry → exit_status result ≡ 1 }
+    ensures bound { IsOk bound.entry → exit_status result ≢ 1 }
+    ensures form { exit_status result ≢ 2 }
+    ensures known { IsTrue (is_exit (exit_status result)) }
 {
-    let Some(run) = run_words(words) else {
-        return end(rt, NAME, NO_FORM);
-    };
-    let address = run.address;
-    match TcpPort::bind(rt.alloc(), rt, address) {
-        Ok(mut port) => end(rt, NAME, serve_at(rt, words, &mut port)),
+    match bound {
+        Ok(mut port) => {
+            let mut keeper = FileKeeper::new(rt.alloc(), rt);
+            served(rt, rt.alloc(), words, &mut port, &mut keeper, output)
+        }
         Err(error) => {
+            let address = run.address;
             let _ = eprintln!(rt; "server: cannot listen at {address}: {error}");
-            ExitCode::from(CANNOT_LISTEN)
+            ExitCode::from(Status::CannotListen.code())
         }
     }
 }
 
-/// Runs the server over its port and standard output, and answers the status.
-fn serve_at<R: Print + AllocGlobal + Files<File = File> + Net + Clock>(
+/// Runs the server on its words over these objects, and ends the program with the status of the run.
+pub fn served<R: Eprint, P: Port, K: Keeper, O: Sink>(
     rt: &R,
+    alloc: Global,
     words: &[String],
-    port: &mut TcpPort<'_, R>,
-) -> u8
-    ensures form { result ≡ 2 ↔ run_of (map string_bytes words.now) ≡ None }
-    ensures known { IsTrue (is_status result) }
+    port: &mut P,
+    keeper: &mut K,
+    output: &mut O,
+) -> ExitCode
+    ensures { Ends (map string_bytes words.now) (exit_status result)
+        (record { left = P.left port.old; taken = P.taken port.old; answered = P.answered port.old; port_faults = P.faults port.old; images = K.images keeper.old; keeper_faults = K.faults keeper.old; written = O.written output.old; sink_faults = O.faults output.old })
+        (record { left = P.left port.new; taken = P.taken port.new; answered = P.answered port.new; port_faults = P.faults port.new; images = K.images keeper.new; keeper_faults = K.faults keeper.new; written = O.written output.new; sink_faults = O.faults output.new }) }
 {
-    let alloc = rt.alloc();
-    let mut keeper = FileKeeper::new(alloc, rt);
-    let mut output = StdSink::new(io::writer(rt));
-    server_run(alloc, words, port, &mut keeper, &mut output)
+    end(rt, NAME, server_run(alloc, words, port, keeper, output))
 }

@@ -1,19 +1,19 @@
 // A run of the server over its connections.
-ghost use Rattle.std.specs.Prelude.{◌≡◌, ◌≤◌, ◌⊎◌, ◌↔◌, ℕ, None, IfOk, OnOk, OnErr, IfSome, IsErrOf, IsTrue, take, map};
+ghost use Rattle.std.specs.Prelude.{◌≡◌, ◌≤◌, ℕ, IfOk, OnOk, OnErr, IsErrOf, IsTrue, take, map};
 ghost use Rattle.std.specs.String.{string_bytes};
-ghost use Rattle.outside.specs.Outside.{Adds, HasCause, Rose};
+ghost use Rattle.outside.specs.Outside.{Adds, CountsFault};
 ghost use Rattle.outside.specs.Keeper.{kept_under};
 ghost use Rattle.world_rules.specs.Served.{Served};
 ghost use Rattle.server_core.specs.Holding.{served};
 ghost use Rattle.server_core.specs.Keeping.{IsKeptForServed};
-ghost use Rattle.server_prog.specs.Words.{run_of};
 ghost use Rattle.server_prog.specs.Serving.{telling};
-ghost use Rattle.server_prog.specs.Run.{status_of, is_status, last_line, Opens, OpensNone, RunTurn, Ran};
+ghost use Rattle.server_prog.specs.Run.{status_of, is_status, last_line, Opens, OpensNone, RunTurn, Ends};
 ghost use Rattle.server_prog.specs.Inside.{stopped_by_keeper, stopped_by_sink};
 
 use crate::serving::{Tally, serve};
 use crate::words::run_words;
 use outside::{KeepError, Keeper, Port, Sink, SinkError, write_all};
+use program_words::Status;
 use server_core::Server;
 use std::alloc::{AllocError, Global};
 use store_image::{ImageError, read_server};
@@ -58,13 +58,14 @@ fn status_of(ended: Result<(), Stopped>) -> u8
     ensures status { result ≡ status_of ended }
     ensures known { IsTrue (is_status result) }
 {
-    match ended {
-        Ok(()) => 0,
-        Err(Stopped::Sink) => 4,
-        Err(Stopped::Keeper) => 5,
-        Err(Stopped::Image) => 6,
-        Err(Stopped::Memory) => 7,
-    }
+    let status = match ended {
+        Ok(()) => Status::Done,
+        Err(Stopped::Sink) => Status::SinkFailed,
+        Err(Stopped::Keeper) => Status::KeeperFailed,
+        Err(Stopped::Image) => Status::OtherImage,
+        Err(Stopped::Memory) => Status::NoMemory,
+    };
+    status.code()
 }
 
 /// The line that ends the output.
@@ -80,7 +81,7 @@ fn last_line(alloc: Global, tally: Tally) -> Result<String, AllocError>
 fn write_last<O: Sink>(alloc: Global, tally: Tally, output: &mut O) -> Result<(), SinkError>
     ensures all { OnOk result (Adds (O.written output.old) (O.written output.new) (last_line tally.frames tally.faults)) }
     ensures front { OnErr result ((bytes : ℕ) × Adds (O.written output.old) (O.written output.new) (take bytes (last_line tally.frames tally.faults))) }
-    ensures cause { HasCause SinkError.Failed (O.faults output.old) (O.faults output.new) result }
+    ensures cause { CountsFault SinkError.Failed (O.faults output.old) (O.faults output.new) result }
 {
     let line = match last_line(alloc, tally) {
         Ok(line) => line,
@@ -95,7 +96,7 @@ fn opened<K: Keeper>(alloc: Global, name: &[u8], keeper: &mut K) -> Result<Serve
     ensures none { IsErrOf result Stopped.Image → OpensNone (kept_under name.now (K.images keeper.old)) }
     ensures same { (kept_under name.now (K.images keeper.new)) ≡ (kept_under name.now (K.images keeper.old)) }
     ensures no_sink { IsErrOf result Stopped.Sink → ⊥ }
-    ensures cause { HasCause Stopped.Keeper (K.faults keeper.old) (K.faults keeper.new) result }
+    ensures cause { CountsFault Stopped.Keeper (K.faults keeper.old) (K.faults keeper.new) result }
 {
     match keeper.load(name)? {
         Some(image) => server_of(alloc, &image),
@@ -130,8 +131,8 @@ fn run<P: Port, K: Keeper, O: Sink>(
 ) -> Result<(), Stopped>
     requires { count ≤ 65536 }
     ensures turn { RunTurn count (telling (P.left port.old) (P.taken port.old) (P.answered port.old) (P.faults port.old) (kept_under name.now (K.images keeper.old))) (telling (P.left port.new) (P.taken port.new) (P.answered port.new) (P.faults port.new) (kept_under name.now (K.images keeper.new))) (O.written output.old) (O.written output.new) result }
-    ensures sink { HasCause Stopped.Sink (O.faults output.old) (O.faults output.new) result }
-    ensures keeper { HasCause Stopped.Keeper (K.faults keeper.old) (K.faults keeper.new) result }
+    ensures sink { CountsFault Stopped.Sink (O.faults output.old) (O.faults output.new) result }
+    ensures keeper { CountsFault Stopped.Keeper (K.faults keeper.old) (K.faults keeper.new) result }
 {
     let mut server = opened(alloc, name, keeper)?;
     let tally = serve(&mut server, port, name, keeper, count)?;
@@ -141,14 +142,7 @@ fn run<P: Port, K: Keeper, O: Sink>(
 
 /// Runs the server on its words: takes frames from a port, and answers each by the server that is kept under the image's name,
 /// or a new one, before it takes the next one. Where a frame changes what the server holds, its image is kept before the frame
-/// is answered. A fault of the port ends one connection alone. The status that it gives:
-///
-/// - 0: as many takes were made as the words say, or no connection is left, and the output is `served K faults F`;
-/// - 2: the words are of no form, and nothing was touched;
-/// - 4: the sink failed;
-/// - 5: the keeper failed, and the frame at hand is not answered;
-/// - 6: what is kept is no server's image, and no connection was taken;
-/// - 7: memory ran out.
+/// is answered. A fault of the port ends one connection alone. It gives a status.
 pub fn server_run<P: Port, O: Sink, K: Keeper>(
     alloc: Global,
     words: &[String],
@@ -156,16 +150,12 @@ pub fn server_run<P: Port, O: Sink, K: Keeper>(
     keeper: &mut K,
     output: &mut O,
 ) -> u8
-    ensures form { result ≡ 2 ↔ run_of (map string_bytes words.now) ≡ None }
-    ensures known { IsTrue (is_status result) }
-    ensures untouched { run_of (map string_bytes words.now) ≡ None → (P.left port.new ≡ P.left port.old) × (P.taken port.new ≡ P.taken port.old) × (P.answered port.new ≡ P.answered port.old) × (P.faults port.new ≡ P.faults port.old) × (K.images keeper.new ≡ K.images keeper.old) × (K.faults keeper.new ≡ K.faults keeper.old) × (O.written output.new ≡ O.written output.old) × (O.faults output.new ≡ O.faults output.old) }
-    ensures sink { result ≡ 4 → Rose (O.faults output.old) (O.faults output.new) }
-    ensures keeper { result ≡ 5 → Rose (K.faults keeper.old) (K.faults keeper.new) }
-    ensures complete { IfSome (run_of (map string_bytes words.now)) (λ run. (Rose (O.faults output.old) (O.faults output.new) → ⊥) → (Rose (K.faults keeper.old) (K.faults keeper.new) → ⊥) → (result ≡ 0) ⊎ ((result ≡ 6) ⊎ (result ≡ 7))) }
-    ensures served { IfSome (run_of (map string_bytes words.now)) (λ run. Ran run.count result (telling (P.left port.old) (P.taken port.old) (P.answered port.old) (P.faults port.old) (kept_under run.image (K.images keeper.old))) (telling (P.left port.new) (P.taken port.new) (P.answered port.new) (P.faults port.new) (kept_under run.image (K.images keeper.new))) (O.written output.old) (O.written output.new)) }
+    ensures { Ends (map string_bytes words.now) result
+        (record { left = P.left port.old; taken = P.taken port.old; answered = P.answered port.old; port_faults = P.faults port.old; images = K.images keeper.old; keeper_faults = K.faults keeper.old; written = O.written output.old; sink_faults = O.faults output.old })
+        (record { left = P.left port.new; taken = P.taken port.new; answered = P.answered port.new; port_faults = P.faults port.new; images = K.images keeper.new; keeper_faults = K.faults keeper.new; written = O.written output.new; sink_faults = O.faults output.new }) }
 {
     let Some(words) = run_words(words) else {
-        return 2;
+        return Status::NoForm.code();
     };
     let name = words.image.as_bytes();
     status_of(run(alloc, name, words.count, port, keeper, output))

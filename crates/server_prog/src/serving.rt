@@ -1,6 +1,6 @@
 // Serving the connections of a port, and keeping the server.
 ghost use Rattle.std.specs.Prelude.{◌≡◌, ◌≤◌, ◌<◌, ◌⊎◌, ◌+◌, IfOk, OnOk, OnErr};
-ghost use Rattle.outside.specs.Outside.{Told, HasCause};
+ghost use Rattle.outside.specs.Outside.{Told, CountsFault};
 ghost use Rattle.outside.specs.Keeper.{kept_under};
 ghost use Rattle.server_core.specs.Holding.{served};
 ghost use Rattle.server_prog.specs.Serving.{telling, KeptAs, BreaksOff};
@@ -38,7 +38,7 @@ fn keep_if<K: Keeper>(
 ) -> Result<(), KeepError>
     ensures ok { OnOk result (Told (kept_under name.now (K.images keeper.old)) (kept_under name.now (K.images keeper.new)) (KeptAs changed (served server.now))) }
     ensures err { OnErr result (Told (kept_under name.now (K.images keeper.old)) (kept_under name.now (K.images keeper.new)) (λ old new. (new ≡ old) ⊎ KeptAs changed (served server.now) old new)) }
-    ensures cause { HasCause KeepError.Failed (K.faults keeper.old) (K.faults keeper.new) result }
+    ensures cause { CountsFault KeepError.Failed (K.faults keeper.old) (K.faults keeper.new) result }
 {
     if !changed {
         return Ok(());
@@ -56,7 +56,7 @@ fn serve_next<P: Port, K: Keeper>(
 ) -> Result<Came, KeepError>
     ensures ok { IfOk result (λ came. ServesNext came (served server.old) (served server.new) (telling (P.left port.old) (P.taken port.old) (P.answered port.old) (P.faults port.old) (kept_under name.now (K.images keeper.old))) (telling (P.left port.new) (P.taken port.new) (P.answered port.new) (P.faults port.new) (kept_under name.now (K.images keeper.new)))) }
     ensures err { OnErr result (BreaksOff (served server.old) (telling (P.left port.old) (P.taken port.old) (P.answered port.old) (P.faults port.old) (kept_under name.now (K.images keeper.old))) (telling (P.left port.new) (P.taken port.new) (P.answered port.new) (P.faults port.new) (kept_under name.now (K.images keeper.new)))) }
-    ensures cause { HasCause KeepError.Failed (K.faults keeper.old) (K.faults keeper.new) result }
+    ensures cause { CountsFault KeepError.Failed (K.faults keeper.old) (K.faults keeper.new) result }
 {
     let frame = match port.take() {
         Ok(Some(frame)) => frame,
@@ -103,7 +103,7 @@ pub(crate) fn serve<P: Port, K: Keeper>(
     requires { count ≤ 65536 }
     ensures ok { IfOk result (λ tally. ServesAll count tally (served server.old) (served server.new) (telling (P.left port.old) (P.taken port.old) (P.answered port.old) (P.faults port.old) (kept_under name.now (K.images keeper.old))) (telling (P.left port.new) (P.taken port.new) (P.answered port.new) (P.faults port.new) (kept_under name.now (K.images keeper.new)))) }
     ensures err { OnErr result (ServesFront count (served server.old) (telling (P.left port.old) (P.taken port.old) (P.answered port.old) (P.faults port.old) (kept_under name.now (K.images keeper.old))) (telling (P.left port.new) (P.taken port.new) (P.answered port.new) (P.faults port.new) (kept_under name.now (K.images keeper.new)))) }
-    ensures cause { HasCause KeepError.Failed (K.faults keeper.old) (K.faults keeper.new) result }
+    ensures cause { CountsFault KeepError.Failed (K.faults keeper.old) (K.faults keeper.new) result }
 {
     let mut tally = Tally {
         frames: 0,

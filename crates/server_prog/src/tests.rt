@@ -1,5 +1,7 @@
-use crate::server_run;
+use crate::program::{NAME, PAGES};
+use crate::{served, server_run};
 use outside::{KeepFail, Keeper, MemKeeper, MemPort, MemSink};
+use program_words::page_shown;
 use std::alloc::{AllocError, Global};
 use std::test::Fail;
 
@@ -200,5 +202,35 @@ fn what_is_no_image_is_not_served(rt: HostRuntime) -> Result<(), Fail> {
     assert_eq!(rt; output.bytes(), b"".as_slice());
     assert_eq!(rt; port.answered(0), None);
     assert_eq!(rt; keeper.image(b"img"), Some(b"OSSI".as_slice()));
+    Ok(())
+}
+
+#[test]
+fn each_page_has_its_text(rt: HostRuntime) -> Result<(), Fail> {
+    let alloc = rt.alloc();
+    let pages = [
+        ("--help", "Usage: server run LISTEN IMAGE COUNT\n"),
+        ("--version", "server 0.1.0\n"),
+    ];
+    for (word, text) in pages {
+        let mut output = MemSink::new(alloc, Vec::new(alloc));
+        let words = words(alloc, &[word])?;
+        let ended = page_shown(&rt, NAME, &PAGES, &words, &mut output);
+        assert!(rt; ended.is_some());
+        assert!(rt; output.bytes().starts_with(text.as_bytes()));
+    }
+    Ok(())
+}
+
+#[test]
+fn the_program_serves(rt: HostRuntime) -> Result<(), Fail> {
+    let alloc = rt.alloc();
+    let words = words(alloc, &["run", "l", "img", "1"])?;
+    let mut port = port_of_stores(alloc, 1, &[])?;
+    let mut keeper = MemKeeper::new(alloc, Vec::new(alloc));
+    let mut output = MemSink::new(alloc, Vec::new(alloc));
+    let _ended = served(&rt, alloc, &words, &mut port, &mut keeper, &mut output);
+    assert_eq!(rt; output.bytes(), b"served 1 faults 0\n".as_slice());
+    assert!(rt; accepts(&port, 0));
     Ok(())
 }

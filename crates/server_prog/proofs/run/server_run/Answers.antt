@@ -1,4 +1,4 @@
-use Rattle.std.proofs.Common.{ℕ, List, Option, sym, subst}
+use Rattle.std.proofs.Common.{rules, ℕ, List, Option, sym, subst}
 use Rattle.std.specs.Prelude.{IfSome}
 use Rattle.outside.specs.Keeper.{kept_under}
 use Rattle.server_prog.specs.Words.{Run}
@@ -6,11 +6,20 @@ use Rattle.server_prog.specs.Serving.{Telling, telling}
 use Rattle.server_prog.specs.Run.{Ran}
 use Rattle.server_prog.proofs.run.server_run.Goals as goal
 
-pub returns-clause-served : goal.returns-clause-served
-returns-clause-served g c =
+pub returns : goal.returns
+returns g c =
     let old : List ℕ → Telling = λ image. telling (g.P.Port.left c.args.port.now) (g.P.Port.taken c.args.port.now) (g.P.Port.answered c.args.port.now) (g.P.Port.faults c.args.port.now) (kept_under image (g.K.Keeper.images c.args.keeper.now)) in
     let new : List ℕ → Telling = λ image. telling (g.P.Port.left c.run.new.port) (g.P.Port.taken c.run.new.port) (g.P.Port.answered c.run.new.port) (g.P.Port.faults c.run.new.port) (kept_under image (g.K.Keeper.images c.run.new.keeper)) in
     let o = g.O.Sink.written c.args.output.now in
     let n = g.O.Sink.written c.run.new.output in
-    subst (λ (f : Option Run). IfSome f (λ r. Ran r.count c.status_of.result (old r.image) (new r.image) o n)) (sym c.in-Some.ensures.form)
-    (c.run.result, c.status_of.ensures.status, rw c.as_bytes-name.ensures.value at c.run.ensures.turn)
+    record {
+      form = search rules;
+      known = search rules;
+      untouched = search rules;
+      sink = search rules;
+      keeper = search rules;
+      complete = search rules;
+      served =
+          subst (λ (f : Option Run). IfSome f (λ r. Ran r.count c.status_of.result (old r.image) (new r.image) o n)) (sym c.in-Some.ensures.form)
+          (c.run.result, c.status_of.ensures.status, rw c.as_bytes-name.ensures.value at c.run.ensures.turn);
+    }

@@ -1,4 +1,4 @@
-use Rattle.std.proofs.Common.{◌≡◌, ◌<◌, ◌≤◌, arith}
+use Rattle.std.proofs.Common.{◌≡◌, ◌<◌, ◌≤◌, ◌∙◌, arith}
 use Rattle.outside.proofs.Writing.{on_err}
 use Rattle.server_prog.proofs.Connections.{so_far_tallied, all_came, all_made, front, fits}
 use Rattle.server_prog.proofs.serving.serve.Goals as goal
@@ -6,7 +6,7 @@ use Rattle.server_prog.proofs.serving.serve.Goals as goal
 pub loop-take-preserved : goal.loop-take-preserved
 loop-take-preserved g c = record {
   served = so_far_tallied _ _ _ _ _ _ _ _ _ _ c.in_default.not-NoConnection c.tallied-tally.ensures c.loop-take.invariant.served c.in_ok-came.ensures.ok;
-  later = omega (arith, c.loop-take.invariant.later, c.in_ok-came.ensures.cause.later);
+  faults = c.in_ok-came.ensures.cause.never (λ is. absurd (cc is)) ∙ c.loop-take.invariant.faults;
 }
 
 pub returns-in_err-came-clause-err : goal.returns-in_err-came-clause-err

@@ -1,4 +1,4 @@
-use Rattle.std.proofs.Common.{◌≤◌}
+use Rattle.std.proofs.Common.{◌≡◌}
 use Rattle.outside.specs.Keeper.{kept_under}
 use Rattle.server_core.specs.Holding.{served}
 use Rattle.server_prog.specs.Serving.{telling}
@@ -11,5 +11,5 @@ invariant-loop-take g l = record {
       ServesSoFar l._take l.tally (served l.fn.server) (served l.server)
       (telling (g.P.Port.left l.fn.port) (g.P.Port.taken l.fn.port) (g.P.Port.answered l.fn.port) (g.P.Port.faults l.fn.port) (kept_under l.name (g.K.Keeper.images l.fn.keeper)))
       (telling (g.P.Port.left l.port) (g.P.Port.taken l.port) (g.P.Port.answered l.port) (g.P.Port.faults l.port) (kept_under l.name (g.K.Keeper.images l.keeper)));
-  later : g.K.Keeper.faults l.fn.keeper ≤ g.K.Keeper.faults l.keeper;
+  faults : g.K.Keeper.faults l.keeper ≡ g.K.Keeper.faults l.fn.keeper;
 }

@@ -15,6 +15,6 @@ returns-clause-err g c =
       left = search rules;
       taken = search rules;
       answered = search rules;
-      later = search rules;
+      faults = search rules;
       kept = perhaps_kept c.in_ok-reply.taken frame (served c.args.server.now) (served c.serve_noted.new.self) _ _ is after c.in_ok-keep_if.ensures.ok;
     }
