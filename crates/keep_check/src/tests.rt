@@ -1,97 +1,58 @@
 ghost use Rattle.std.specs.Prelude.{◌≢◌, IfOk, []};
 
-use client_prog::client_run;
-use mem_net::{Fate, MemNet};
+use mem_net::Fate;
 use mod_log::Log;
-use outside::{KeepFail, Keeper, MemKeeper, MemSink, MemSource};
+use outside::{KeepFail, MemKeeper};
+use run_probe::{Fails, Probe};
 use server_core::Server;
 use std::alloc::{AllocError, Global};
 use std::test::Fail;
 use store_image::{write_client, write_server};
-use vol_tree::{Content, Effect, Effects, Path, Tree, TryCopy};
-
-/// The words `run NUMBER image server - work`.
-fn words_of(alloc: Global, number: &str) -> Result<Vec<String>, AllocError> {
-    let mut words = Vec::new(alloc);
-    words.push(String::from_str(alloc, "run")?)?;
-    words.push(String::from_str(alloc, number)?)?;
-    words.push(String::from_str(alloc, "image")?)?;
-    words.push(String::from_str(alloc, "server")?)?;
-    words.push(String::from_str(alloc, "-")?)?;
-    words.push(String::from_str(alloc, "work")?)?;
-    Ok(words)
-}
-
-/// A network of client 1 and this server that loses nothing.
-fn net_with(alloc: Global, server: Server) -> Result<MemNet, AllocError> {
-    MemNet::new(alloc, 1, server, Vec::new(alloc))
-}
-
-/// A keeper of this image that does not fail.
-fn keeper_of(alloc: Global, image: Option<&[u8]>) -> Result<MemKeeper, Fail> {
-    let mut keeper = MemKeeper::new(alloc, Vec::new(alloc));
-    if let Some(image) = image {
-        keeper.save(b"image", image)?;
-    }
-    Ok(keeper)
-}
-
-/// What a client writes over this input, and its status behind it.
-fn told_by(
-    alloc: Global,
-    number: &str,
-    input: &[u8],
-    keeper: &mut MemKeeper,
-    net: &mut MemNet,
-) -> Result<Vec<u8>, Fail> {
-    let words = words_of(alloc, number)?;
-    let mut source = MemSource::new(alloc, input.to_vec(alloc)?, Vec::new(alloc));
-    let mut output = MemSink::new(alloc, Vec::new(alloc));
-    let status = client_run(alloc, &words, &mut source, &mut output, keeper, net);
-    with_status(alloc, &output, status)
-}
-
-/// What was written, and the status behind it.
-fn with_status(alloc: Global, output: &MemSink, status: u8) -> Result<Vec<u8>, Fail> {
-    let mut told = output.bytes().to_vec(alloc)?;
-    told.extend_from_slice(format!(in alloc; "status {status}\n")?.as_bytes())?;
-    Ok(told)
-}
-
-/// The server's version of a path.
-fn version_of(alloc: Global, net: &MemNet, path: &[u8]) -> Result<u64, Fail> {
-    let path = Path::read(alloc, path)?;
-    Ok(net.server().tree().version(&path))
-}
+use vol_tree::{Content, Effect, Effects, Path, Tree};
 
 #[test]
-fn without_input_nothing_is_kept_or_asked(rt: HostRuntime) -> Result<(), Fail> {
+fn without_input_nothing_is_kept(rt: HostRuntime) -> Result<(), Fail> {
     let alloc = rt.alloc();
-    let mut keeper = keeper_of(alloc, None)?;
-    let mut net = net_with(alloc, Server::new(alloc))?;
-    let told = told_by(alloc, "1", b"", &mut keeper, &mut net)?;
+    let mut probe = Probe::calm(alloc)?;
+    let told = probe.run(b"");
+    let is_kept = probe.image().is_some();
+    drop(probe);
     assert_eq!(rt;
-        told.as_slice(),
+        told?.as_slice(),
         b"acknowledged 0 pending 0\nstatus 0\n".as_slice()
     );
-    assert!(rt; keeper.image(b"image").is_none());
-    assert!(rt; net.packet(0).is_none());
+    assert!(rt; !is_kept);
     Ok(())
+}
+
+/// What two runs tell, one after the other, whose asks have these fates, and the server's rows then.
+fn told_by_two(
+    alloc: Global,
+    fates: Vec<Fate>,
+    first: &[u8],
+    second: &[u8],
+) -> Result<Vec<u8>, AllocError> {
+    let mut probe = Probe::new(alloc, Server::new(alloc), fates)?;
+    let told = both_told(&mut probe, first, second);
+    drop(probe);
+    told
+}
+
+fn both_told(probe: &mut Probe, first: &[u8], second: &[u8]) -> Result<Vec<u8>, AllocError> {
+    let mut told = probe.run(first)?;
+    told.extend_from_slice(&probe.run(second)?)?;
+    told.extend_from_slice(&probe.rows()?)?;
+    Ok(told)
 }
 
 #[test]
 fn an_unanswered_entry_is_synced_by_the_next_run(rt: HostRuntime) -> Result<(), Fail> {
     let alloc = rt.alloc();
-    let mut keeper = keeper_of(alloc, None)?;
-    let fates = fates_from(alloc, 0, Fate::LoseReply)?;
-    let mut net = MemNet::new(alloc, 1, Server::new(alloc), fates)?;
-    let told = told_by(alloc, "1", b"put a hello\nsync\n", &mut keeper, &mut net)?;
-    let unanswered = b"logged 1\nunanswered 1\nacknowledged 0 pending 1\nstatus 0\n";
-    assert_eq!(rt; told.as_slice(), unanswered.as_slice());
-    let told = told_by(alloc, "1", b"sync\n", &mut keeper, &mut net)?;
-    let synced = b"synced 1\nacknowledged 1 pending 0\nstatus 0\n";
-    assert_eq!(rt; told.as_slice(), synced.as_slice());
-    assert_eq!(rt; version_of(alloc, &net, b"a")?, 1);
+    let fates = fates_from(alloc, 0, true)?;
+    let told = told_by_two(alloc, fates, b"put a hello\nsync\n", b"sync\n")?;
+    let wanted = b"logged 1\nunanswered 1\nacknowledged 0 pending 1\nstatus 0\n\
+        synced 1\nacknowledged 1 pending 0\nstatus 0\nrow a 1 file 6\nhello\n";
+    assert_eq!(rt; told.as_slice(), wanted.as_slice());
     Ok(())
 }
 
@@ -104,14 +65,6 @@ struct Stop {
     sink: u32,
     keeper: u32,
     link: u32,
-}
-
-/// What lies outside a client that was stopped.
-#[derive(Drop)]
-struct Left {
-    told: Vec<u8>,
-    keeper: MemKeeper,
-    net: MemNet,
 }
 
 /// Calls from one on, more than a session of three lines makes.
@@ -132,84 +85,57 @@ fn fails_from(alloc: Global, first: u32, leaves_new: bool) -> Result<Vec<KeepFai
     Ok(fails)
 }
 
-/// So many asks that pass, and eight that have no answer.
-fn fates_from(alloc: Global, first: u32, lost: Fate) -> Result<Vec<Fate>, AllocError> {
+/// So many asks that pass, and eight that have no answer, whose requests are handled or not.
+fn fates_from(alloc: Global, first: u32, are_handled: bool) -> Result<Vec<Fate>, AllocError> {
     let mut fates = Vec::new(alloc);
     for _ in 0..first {
         fates.push(Fate::Pass)?;
     }
-    let lost_request = matches!(lost, Fate::LoseRequest);
-    drop(lost);
     for _ in 0..8 {
-        fates.push(if lost_request {
-            Fate::LoseRequest
-        } else {
+        fates.push(if are_handled {
             Fate::LoseReply
+        } else {
+            Fate::LoseRequest
         })?;
     }
     Ok(fates)
 }
 
-/// A session of three lines that is stopped. Where the keeper leaves new images the link loses replies, and else requests.
-fn stopped(alloc: Global, stop: Stop, leaves_new: bool) -> Result<Left, Fail> {
-    let script = b"put a x\nput b y\nsync\n".to_vec(alloc)?;
-    let reads = calls_from(alloc, stop.source)?;
-    let writes = calls_from(alloc, stop.sink)?;
-    let keeps = fails_from(alloc, stop.keeper, leaves_new)?;
-    let lost = if leaves_new {
-        Fate::LoseReply
-    } else {
-        Fate::LoseRequest
-    };
-    let asks = fates_from(alloc, stop.link, lost)?;
-    let words = words_of(alloc, "1")?;
-    let mut net = MemNet::new(alloc, 1, Server::new(alloc), asks)?;
-    let mut source = MemSource::new(alloc, script, reads);
-    let mut output = MemSink::new(alloc, writes);
-    let mut keeper = MemKeeper::new(alloc, keeps);
-    let status = client_run(
-        alloc,
-        &words,
-        &mut source,
-        &mut output,
-        &mut keeper,
-        &mut net,
-    );
-    let told = with_status(alloc, &output, status)?;
-    Ok(Left { told, keeper, net })
+/// A session of three lines that is stopped, and the next run over an outside that works again, whose input is `sync`: what
+/// both tell, and the server's rows then. Where the keeper leaves new images the link loses replies, and else requests.
+fn told_around(alloc: Global, stop: Stop, leaves_new: bool) -> Result<Vec<u8>, AllocError> {
+    let asks = fates_from(alloc, stop.link, leaves_new)?;
+    let keeper = MemKeeper::new(alloc, fails_from(alloc, stop.keeper, leaves_new)?);
+    let mut probe = Probe::keeping(alloc, keeper, Server::new(alloc), asks)?;
+    let told = told_with_next(alloc, &mut probe, stop);
+    drop(probe);
+    told
 }
 
-/// What a stopped session wrote, and what the next run makes of what is kept, over an outside that works again.
-fn told_around(alloc: Global, stop: Stop, leaves_new: bool) -> Result<Vec<u8>, Fail> {
-    let left = stopped(alloc, stop, leaves_new)?;
-    let mut told = left.told.as_slice().to_vec(alloc)?;
-    let next = told_next(alloc, &left)?;
-    drop(left);
-    told.extend_from_slice(&next)?;
-    Ok(told)
-}
-
-/// What the next run writes whose input is `sync`, and the versions that the server has then.
-fn told_next(alloc: Global, left: &Left) -> Result<Vec<u8>, Fail> {
-    let mut keeper = keeper_of(alloc, left.keeper.image(b"image"))?;
-    let mut net = net_with(alloc, left.net.server().copy()?)?;
-    let mut told = told_by(alloc, "1", b"sync\n", &mut keeper, &mut net)?;
-    let a = version_of(alloc, &net, b"a")?;
-    let b = version_of(alloc, &net, b"b")?;
-    told.extend_from_slice(format!(in alloc; "a {a} b {b}\n")?.as_bytes())?;
+fn told_with_next(alloc: Global, probe: &mut Probe, stop: Stop) -> Result<Vec<u8>, AllocError> {
+    let source = calls_from(alloc, stop.source)?;
+    let sink = calls_from(alloc, stop.sink)?;
+    let mut told = probe.run_as("1", b"put a x\nput b y\nsync\n", Fails { source, sink })?;
+    let mut next = probe.again()?;
+    let told_next = next.run(b"sync\n");
+    let rows = next.rows();
+    drop(next);
+    told.extend_from_slice(&told_next?)?;
+    told.extend_from_slice(&rows?)?;
     Ok(told)
 }
 
 /// What is wanted of both runs, the next of which acknowledges so many entries in all.
-fn wanted(alloc: Global, first: &str, count: u32) -> Result<Vec<u8>, Fail> {
-    let a = count.min(1);
-    let b = count.saturating_sub(1);
-    let next = format!(in alloc; "synced {count}\nacknowledged {count} pending 0\nstatus 0\n")?;
-    let versions = format!(in alloc; "a {a} b {b}\n")?;
-    let mut told = first.as_bytes().to_vec(alloc)?;
-    told.extend_from_slice(next.as_bytes())?;
-    told.extend_from_slice(versions.as_bytes())?;
-    Ok(told)
+fn wanted(alloc: Global, first: &str, count: u32) -> Result<Vec<u8>, AllocError> {
+    let rows = match count {
+        0 => "",
+        1 => "row a 1 file 2\nx\n",
+        _ => "row a 1 file 2\nx\nrow b 1 file 2\ny\n",
+    };
+    let told = format!(in alloc;
+        "{first}synced {count}\nacknowledged {count} pending 0\nstatus 0\n{rows}"
+    )?;
+    told.as_bytes().to_vec(alloc)
 }
 
 fn stop_at(source: u32, sink: u32, keeper: u32, link: u32) -> Stop {
@@ -293,13 +219,13 @@ fn nothing_answered_is_lost_and_nothing_is_applied_twice(rt: HostRuntime) -> Res
     ];
     for (stop, first, old, new) in rows {
         assert_eq!(rt;
-            told_around(alloc, stop, false)?,
-            wanted(alloc, first, old)?,
+            told_around(alloc, stop, false)?.as_slice(),
+            wanted(alloc, first, old)?.as_slice(),
             "{stop:?} old"
         );
         assert_eq!(rt;
-            told_around(alloc, stop, true)?,
-            wanted(alloc, first, new)?,
+            told_around(alloc, stop, true)?.as_slice(),
+            wanted(alloc, first, new)?.as_slice(),
             "{stop:?} new"
         );
     }
@@ -308,11 +234,17 @@ fn nothing_answered_is_lost_and_nothing_is_applied_twice(rt: HostRuntime) -> Res
 
 // ---- images that are not opened
 
-/// What client 1 tells whose image is these bytes.
-fn told_over(alloc: Global, number: &str, image: &[u8]) -> Result<Vec<u8>, Fail> {
-    let mut keeper = keeper_of(alloc, Some(image))?;
-    let mut net = net_with(alloc, Server::new(alloc))?;
-    told_by(alloc, number, b"status\n", &mut keeper, &mut net)
+/// What the client of a number tells over these lines, whose image is these bytes.
+fn told_over(
+    alloc: Global,
+    number: &str,
+    image: &[u8],
+    input: &[u8],
+) -> Result<Vec<u8>, AllocError> {
+    let mut probe = Probe::over_image(alloc, image)?;
+    let told = probe.run_as(number, input, Fails::none(alloc));
+    drop(probe);
+    told
 }
 
 /// A put of "x\n" at "a".
@@ -325,47 +257,49 @@ fn put(alloc: Global) -> Result<Effects, Fail>
     Ok(effects)
 }
 
-/// The image of client 3 with this number acknowledged and one put pending.
-fn image_of_3(alloc: Global, acked: u64) -> Result<Vec<u8>, Fail> {
+/// The image of a client with this number acknowledged and one put pending.
+fn image_of(alloc: Global, client: u8, acked: u64) -> Result<Vec<u8>, Fail> {
+    let effects = put(alloc)?;
     let mut log = Log::new(acked, Tree::new(alloc));
-    let _ = log.append(put(alloc)?)?;
-    Ok(write_client(3, &log)?)
+    let appended = log.append(effects);
+    let image = write_client(client, &log);
+    drop(log);
+    let _number = appended?;
+    Ok(image?)
+}
+
+fn image_of_server(alloc: Global) -> Result<Vec<u8>, AllocError> {
+    let tree = Tree::new(alloc);
+    let image = write_server(&[0; 64], &tree);
+    drop(tree);
+    image
+}
+
+/// What the client of a number tells over the line `status`, whose image is these bytes.
+fn status_over(alloc: Global, number: &str, image: &[u8]) -> Result<Vec<u8>, AllocError> {
+    told_over(alloc, number, image, b"status\n")
 }
 
 #[test]
 fn images_that_are_no_clients_or_anothers_are_not_opened(rt: HostRuntime) -> Result<(), Fail> {
     let alloc = rt.alloc();
-    let image = image_of_3(alloc, 0)?;
-    let own = b"acknowledged 0 pending 1\nacknowledged 0 pending 1\nstatus 0\n";
-    assert_eq!(rt; told_over(alloc, "3", &image)?.as_slice(), own.as_slice());
-    assert_eq!(rt;
-        told_over(alloc, "4", &image)?.as_slice(),
-        b"status 6\n".as_slice()
-    );
-    let server = write_server(&[0; 64], &Tree::new(alloc))?;
-    assert_eq!(rt;
-        told_over(alloc, "3", &server)?.as_slice(),
-        b"status 6\n".as_slice()
-    );
-    let mut cut = image;
-    let _ = cut.pop();
-    assert_eq!(rt;
-        told_over(alloc, "3", &cut)?.as_slice(),
-        b"status 6\n".as_slice()
-    );
+    let image = image_of(alloc, 3, 0)?;
+    let own = b"acknowledged 0 pending 1\nacknowledged 0 pending 1\nstatus 0\n".as_slice();
+    let unopened = b"status 6\n".as_slice();
+    assert_eq!(rt; status_over(alloc, "3", &image)?.as_slice(), own);
+    assert_eq!(rt; status_over(alloc, "4", &image)?.as_slice(), unopened);
+    let server = image_of_server(alloc)?;
+    assert_eq!(rt; status_over(alloc, "3", &server)?.as_slice(), unopened);
+    let cut = &image[..image.len().saturating_sub(1)];
+    assert_eq!(rt; status_over(alloc, "3", cut)?.as_slice(), unopened);
     Ok(())
 }
 
 #[test]
 fn a_new_server_is_behind_an_old_image(rt: HostRuntime) -> Result<(), Fail> {
     let alloc = rt.alloc();
-    let mut log = Log::new(3, Tree::new(alloc));
-    let _ = log.append(put(alloc)?)?;
-    let image = write_client(1, &log)?;
-    drop(log);
-    let mut keeper = keeper_of(alloc, Some(&image))?;
-    let mut net = net_with(alloc, Server::new(alloc))?;
-    let told = told_by(alloc, "1", b"sync\n", &mut keeper, &mut net)?;
+    let image = image_of(alloc, 1, 3)?;
+    let told = told_over(alloc, "1", &image, b"sync\n")?;
     let behind = b"behind 4 0\nacknowledged 3 pending 1\nstatus 0\n";
     assert_eq!(rt; told.as_slice(), behind.as_slice());
     Ok(())
@@ -376,15 +310,19 @@ fn a_new_server_is_behind_an_old_image(rt: HostRuntime) -> Result<(), Fail> {
 #[test]
 fn entries_of_a_client_that_lost_its_image_are_dropped(rt: HostRuntime) -> Result<(), Fail> {
     let alloc = rt.alloc();
-    let mut keeper = keeper_of(alloc, None)?;
-    let mut net = net_with(alloc, Server::new(alloc))?;
-    let synced = b"logged 1\nsynced 1\nacknowledged 1 pending 0\nstatus 0\n";
-    let told = told_by(alloc, "1", b"put a x\nsync\n", &mut keeper, &mut net)?;
-    assert_eq!(rt; told.as_slice(), synced.as_slice());
-    let mut lost = keeper_of(alloc, None)?;
-    let told = told_by(alloc, "1", b"put b y\nsync\n", &mut lost, &mut net)?;
-    assert_eq!(rt; told.as_slice(), synced.as_slice());
-    assert_eq!(rt; version_of(alloc, &net, b"a")?, 1);
-    assert_eq!(rt; version_of(alloc, &net, b"b")?, 0);
+    let mut probe = Probe::calm(alloc)?;
+    let told = told_without_image(&mut probe);
+    drop(probe);
+    let wanted = b"logged 1\nsynced 1\nacknowledged 1 pending 0\nstatus 0\n\
+        logged 1\nsynced 1\nacknowledged 1 pending 0\nstatus 0\nrow a 1 file 2\nx\n";
+    assert_eq!(rt; told?.as_slice(), wanted.as_slice());
     Ok(())
+}
+
+fn told_without_image(probe: &mut Probe) -> Result<Vec<u8>, AllocError> {
+    let mut told = probe.run(b"put a x\nsync\n")?;
+    probe.lose_image();
+    told.extend_from_slice(&probe.run(b"put b y\nsync\n")?)?;
+    told.extend_from_slice(&probe.rows()?)?;
+    Ok(told)
 }

@@ -1,10 +1,9 @@
-use client_prog::client_run;
-use mem_net::{Fate, MemNet};
-use outside::{MemKeeper, MemSink, MemSource};
+use mem_net::Fate;
+use run_probe::{account_of, account_on, account_over, told_on};
 use server_core::Server;
 use std::alloc::{AllocError, Global};
 use std::test::Fail;
-use vol_tree::{Content, Node, Path};
+use vol_tree::Content;
 
 /// Entry 1 of client 2: `z` and a line end is put at `a`, where nothing was.
 const PUT_A: [u8; 44] = [
@@ -17,86 +16,6 @@ const PUT_D_Z: [u8; 48] = [
     0, 0, 0, 44, 1, 1, 2, 0, 0, 0, 0, 0, 0, 0, 1, 0, 0, 0, 1, 2, 0, 3, b'd', b'/', b'z', 0, 0, 0,
     2, b'y', b'\n', 0, 0, 0, 1, 0, 3, b'd', b'/', b'z', 0, 0, 0, 0, 0, 0, 0, 0,
 ];
-
-/// What a run left.
-#[derive(Drop)]
-struct Ended {
-    status: u8,
-    output: MemSink,
-    net: MemNet,
-}
-
-/// The words `run 1 image server - work`.
-fn words_of(alloc: Global) -> Result<Vec<String>, AllocError> {
-    let mut words = Vec::new(alloc);
-    words.push(String::from_str(alloc, "run")?)?;
-    words.push(String::from_str(alloc, "1")?)?;
-    words.push(String::from_str(alloc, "image")?)?;
-    words.push(String::from_str(alloc, "server")?)?;
-    words.push(String::from_str(alloc, "-")?)?;
-    words.push(String::from_str(alloc, "work")?)?;
-    Ok(words)
-}
-
-/// Runs client 1 over an input, on this server, and these fates of its asks.
-fn run_on(
-    alloc: Global,
-    server: Server,
-    input: &[u8],
-    fates: Vec<Fate>,
-) -> Result<Ended, AllocError> {
-    let words = words_of(alloc)?;
-    let mut source = MemSource::new(alloc, input.to_vec(alloc)?, Vec::new(alloc));
-    let mut output = MemSink::new(alloc, Vec::new(alloc));
-    let mut net = MemNet::new(alloc, 1, server, fates)?;
-    let mut keeper = MemKeeper::new(alloc, Vec::new(alloc));
-    let status = client_run(
-        alloc,
-        &words,
-        &mut source,
-        &mut output,
-        &mut keeper,
-        &mut net,
-    );
-    Ok(Ended {
-        status,
-        output,
-        net,
-    })
-}
-
-/// What a run with the status 0 left, on a new server and over these fates.
-fn run_over(alloc: Global, input: &[u8], fates: Vec<Fate>) -> Result<Ended, Fail> {
-    let ended = run_on(alloc, Server::new(alloc), input, fates)?;
-    if ended.status != 0 {
-        return Err(Fail::from("the status is not 0"));
-    }
-    Ok(ended)
-}
-
-/// What client 1 answers to an input on this server, over a network that loses nothing.
-fn output_on(alloc: Global, server: Server, input: &[u8]) -> Result<MemSink, Fail> {
-    let ended = run_on(alloc, server, input, Vec::new(alloc))?;
-    if ended.status != 0 {
-        return Err(Fail::from("the status is not 0"));
-    }
-    Ok(ended.output)
-}
-
-/// The server's version of a path.
-fn version_of(alloc: Global, net: &MemNet, path: &[u8]) -> Result<u64, Fail> {
-    let path = Path::read(alloc, path)?;
-    Ok(net.server().tree().version(&path))
-}
-
-/// Whether a file with this text is at the server's path.
-fn holds(alloc: Global, net: &MemNet, path: &[u8], text: &[u8]) -> Result<bool, Fail> {
-    let path = Path::read(alloc, path)?;
-    match net.server().tree().get(&path) {
-        Some(Node::File(content)) => Ok(content.bytes() == text),
-        _ => Ok(false),
-    }
-}
 
 /// The fates of eight asks whose replies are lost.
 fn eight_lost(alloc: Global) -> Result<Vec<Fate>, AllocError> {
@@ -172,15 +91,15 @@ fn full_server(alloc: Global) -> Result<Server, AllocError> {
 fn an_entry_on_what_another_client_changed_is_stale(rt: HostRuntime) -> Result<(), Fail> {
     let alloc = rt.alloc();
     let fates = second_after(alloc, PUT_A.as_slice())?;
-    let ended = run_over(alloc, b"put b x\nsync\nput a y\nsync\n", fates)?;
-    assert_eq!(rt;
-        ended.output.bytes(),
-        b"logged 1\nsynced 1\nlogged 2\nstale 2 a 1 0\nacknowledged 1 pending 1\n".as_slice()
-    );
-    assert_eq!(rt; version_of(alloc, &ended.net, b"a")?, 1);
-    assert_eq!(rt; version_of(alloc, &ended.net, b"b")?, 1);
-    assert!(rt; holds(alloc, &ended.net, b"a", b"z\n")?);
-    assert!(rt; holds(alloc, &ended.net, b"b", b"x\n")?);
+    let input = b"put b x\nsync\nput a y\nsync\ncat b\n";
+    let account = account_over(alloc, fates, input)?;
+    // `b` is on both sides what client 1 put
+    let wanted =
+        b"logged 1\nsynced 1\nlogged 2\nstale 2 a 1 0\n2\nx\nacknowledged 1 pending 1\nstatus 0\n\
+        troubles 0\nlast 1\nsent 1 Store 1 b 0\nsent 1 Accepted 1\nsent 1 Store 2 a 0\n\
+        sent 2 Store 1 a 0\nsent 2 Accepted 1\nsent 1 Stale 2\n\
+        row a 1 file 2\nz\nrow b 1 file 2\nx\n";
+    assert_eq!(rt; account.as_slice(), wanted.as_slice());
     Ok(())
 }
 
@@ -188,76 +107,78 @@ fn an_entry_on_what_another_client_changed_is_stale(rt: HostRuntime) -> Result<(
 fn a_folder_that_another_client_filled_stays(rt: HostRuntime) -> Result<(), Fail> {
     let alloc = rt.alloc();
     let fates = second_after(alloc, PUT_D_Z.as_slice())?;
-    let ended = run_over(alloc, b"mkdir d\nsync\nrm d\nsync\n", fates)?;
-    assert_eq!(rt;
-        ended.output.bytes(),
-        b"logged 1\nsynced 1\nlogged 2\nunfit 2 0 NotEmpty d d/z\nacknowledged 1 pending 1\n".as_slice()
-    );
-    assert_eq!(rt; version_of(alloc, &ended.net, b"d")?, 1);
-    assert_eq!(rt; version_of(alloc, &ended.net, b"d/z")?, 1);
+    let account = account_over(alloc, fates, b"mkdir d\nsync\nrm d\nsync\n")?;
+    let wanted =
+        b"logged 1\nsynced 1\nlogged 2\nunfit 2 0 NotEmpty d d/z\nacknowledged 1 pending 1\nstatus 0\n\
+        troubles 0\nlast 1\nsent 1 Store 1 d 0\nsent 1 Accepted 1\nsent 1 Store 2 d 1\n\
+        sent 2 Store 1 d/z 0\nsent 2 Accepted 1\nsent 1 Unfit 2\n\
+        row d 1 folder\nrow d/z 1 file 2\ny\n";
+    assert_eq!(rt; account.as_slice(), wanted.as_slice());
     Ok(())
 }
 
 #[test]
 fn nothing_is_pulled_while_entries_are_pending(rt: HostRuntime) -> Result<(), Fail> {
-    let alloc = rt.alloc();
-    let ended = run_over(alloc, b"put a x\npull\n", Vec::new(alloc))?;
-    assert_eq!(rt;
-        ended.output.bytes(),
-        b"logged 1\nrefused Pending 1\nacknowledged 0 pending 1\n".as_slice()
-    );
-    assert_eq!(rt; ended.net.packet(0), None);
+    let account = account_of(rt.alloc(), b"put a x\npull\n")?;
+    let wanted =
+        b"logged 1\nrefused Pending 1\nacknowledged 0 pending 1\nstatus 0\ntroubles 0\nlast 0\n";
+    assert_eq!(rt; account.as_slice(), wanted.as_slice());
     Ok(())
 }
 
 #[test]
 fn another_clients_row_is_pulled(rt: HostRuntime) -> Result<(), Fail> {
     let alloc = rt.alloc();
-    let output = output_on(alloc, written_by_2(alloc)?, b"pull\ncat a\n")?;
-    assert_eq!(rt;
-        output.bytes(),
-        b"pulled 1\n2\nz\nacknowledged 0 pending 0\n".as_slice()
-    );
+    let server = written_by_2(alloc)?;
+    let account = account_on(alloc, server, Vec::new(alloc), b"pull\ncat a\n")?;
+    let wanted = b"pulled 1\n2\nz\nacknowledged 0 pending 0\nstatus 0\ntroubles 0\nlast 0\n\
+        sent 1 Pull 0\nsent 1 Snapshot 0\nrow a 1 file 2\nz\n";
+    assert_eq!(rt; account.as_slice(), wanted.as_slice());
     Ok(())
 }
 
 #[test]
 fn a_server_that_took_more_is_not_pulled(rt: HostRuntime) -> Result<(), Fail> {
     let alloc = rt.alloc();
-    let output = output_on(alloc, five_of_1(alloc)?, b"pull\ncat a\n")?;
-    assert_eq!(rt;
-        output.bytes(),
-        b"other last 5\nrefused Missing a\nacknowledged 0 pending 0\n".as_slice()
-    );
+    let server = five_of_1(alloc)?;
+    let account = account_on(alloc, server, Vec::new(alloc), b"pull\ncat a\n")?;
+    let wanted =
+        b"other last 5\nrefused Missing a\nacknowledged 0 pending 0\nstatus 0\ntroubles 0\nlast 5\n\
+        sent 1 Pull 0\nsent 1 Snapshot 0\nrow a 5 file 2\nz\n";
+    assert_eq!(rt; account.as_slice(), wanted.as_slice());
     Ok(())
 }
 
-/// Puts `hello` and a line end at `a` and syncs, over these fates. It is synced, and the server took it once, after so
-/// many asks that were lost or answered by an old packet, which is the result.
-fn troubles_of_a_put(alloc: Global, fates: Vec<Fate>) -> Result<u64, Fail> {
-    let ended = run_over(alloc, b"put a hello\nsync\n", fates)?;
-    if ended.output.bytes() != b"logged 1\nsynced 1\nacknowledged 1 pending 0\n".as_slice() {
-        return Err(Fail::from("it is not synced"));
+// ---- a put of `hello` at `a` and a sync, over these fates
+
+/// What stands behind the put and its sync, which are told as over a network that loses nothing.
+fn behind_a_put(alloc: Global, fates: Vec<Fate>) -> Result<Vec<u8>, Fail> {
+    let account = account_over(alloc, fates, b"put a hello\nsync\n")?;
+    let told = b"logged 1\nsynced 1\nacknowledged 1 pending 0\nstatus 0\n".as_slice();
+    match account.strip_prefix(told) {
+        Some(behind) => Ok(behind.to_vec(alloc)?),
+        None => Err(Fail::from("it is not synced")),
     }
-    if version_of(alloc, &ended.net, b"a")? != 1 {
-        return Err(Fail::from("it was not taken once"));
-    }
-    Ok(ended.net.troubles())
 }
 
 #[test]
 fn a_request_that_comes_twice_is_taken_once(rt: HostRuntime) -> Result<(), Fail> {
     let alloc = rt.alloc();
-    let fates = vec![in alloc; Fate::Twice]?;
-    assert_eq!(rt; troubles_of_a_put(alloc, fates)?, 0);
+    let behind = behind_a_put(alloc, vec![in alloc; Fate::Twice]?)?;
+    let wanted = b"troubles 0\nlast 1\nsent 1 Store 1 a 0\nsent 1 Accepted 1\nsent 1 Accepted 1\n\
+        row a 1 file 6\nhello\n";
+    assert_eq!(rt; behind.as_slice(), wanted.as_slice());
     Ok(())
 }
 
 #[test]
 fn an_old_reply_is_the_answer(rt: HostRuntime) -> Result<(), Fail> {
     let alloc = rt.alloc();
-    let fates = vec![in alloc; Fate::LoseReply, Fate::Old(1)]?;
-    assert_eq!(rt; troubles_of_a_put(alloc, fates)?, 2);
+    let behind = behind_a_put(alloc, vec![in alloc; Fate::LoseReply, Fate::Old(1)]?)?;
+    // the second store is not handled
+    let wanted = b"troubles 2\nlast 1\nsent 1 Store 1 a 0\nsent 1 Accepted 1\nsent 1 Store 1 a 0\n\
+        row a 1 file 6\nhello\n";
+    assert_eq!(rt; behind.as_slice(), wanted.as_slice());
     Ok(())
 }
 
@@ -265,25 +186,41 @@ fn an_old_reply_is_the_answer(rt: HostRuntime) -> Result<(), Fail> {
 fn a_reply_that_was_lost_twice_is_the_answer(rt: HostRuntime) -> Result<(), Fail> {
     let alloc = rt.alloc();
     let fates = vec![in alloc; Fate::LoseReply, Fate::LoseReply, Fate::Old(1)]?;
-    assert_eq!(rt; troubles_of_a_put(alloc, fates)?, 3);
+    let behind = behind_a_put(alloc, fates)?;
+    let wanted = b"troubles 3\nlast 1\nsent 1 Store 1 a 0\nsent 1 Accepted 1\n\
+        sent 1 Store 1 a 0\nsent 1 Accepted 1\nsent 1 Store 1 a 0\nrow a 1 file 6\nhello\n";
+    assert_eq!(rt; behind.as_slice(), wanted.as_slice());
     Ok(())
 }
 
 #[test]
 fn an_old_packet_that_is_no_reply_is_a_lost_request(rt: HostRuntime) -> Result<(), Fail> {
     let alloc = rt.alloc();
-    let fates = vec![in alloc; Fate::Old(0), Fate::Old(9)]?;
-    assert_eq!(rt; troubles_of_a_put(alloc, fates)?, 2);
+    let behind = behind_a_put(alloc, vec![in alloc; Fate::Old(0), Fate::Old(9)]?)?;
+    let wanted = b"troubles 2\nlast 1\nsent 1 Store 1 a 0\nsent 1 Store 1 a 0\nsent 1 Store 1 a 0\n\
+        sent 1 Accepted 1\nrow a 1 file 6\nhello\n";
+    assert_eq!(rt; behind.as_slice(), wanted.as_slice());
     Ok(())
 }
 
 #[test]
 fn a_late_request_is_taken_once(rt: HostRuntime) -> Result<(), Fail> {
     let alloc = rt.alloc();
-    let first = vec![in alloc; Fate::LoseRequest, Fate::Late(0)]?;
-    assert_eq!(rt; troubles_of_a_put(alloc, first)?, 1);
-    let again = vec![in alloc; Fate::LoseReply, Fate::Late(0)]?;
-    assert_eq!(rt; troubles_of_a_put(alloc, again)?, 1);
+    let behind = behind_a_put(alloc, vec![in alloc; Fate::LoseRequest, Fate::Late(0)]?)?;
+    // the second ask sends its store, then the first one comes, and then the second
+    let wanted = b"troubles 1\nlast 1\nsent 1 Store 1 a 0\nsent 1 Store 1 a 0\nsent 1 Accepted 1\n\
+        sent 1 Accepted 1\nrow a 1 file 6\nhello\n";
+    assert_eq!(rt; behind.as_slice(), wanted.as_slice());
+    Ok(())
+}
+
+#[test]
+fn a_late_request_that_was_taken_changes_nothing(rt: HostRuntime) -> Result<(), Fail> {
+    let alloc = rt.alloc();
+    let behind = behind_a_put(alloc, vec![in alloc; Fate::LoseReply, Fate::Late(0)]?)?;
+    let wanted = b"troubles 1\nlast 1\nsent 1 Store 1 a 0\nsent 1 Accepted 1\nsent 1 Store 1 a 0\n\
+        sent 1 Accepted 1\nsent 1 Accepted 1\nrow a 1 file 6\nhello\n";
+    assert_eq!(rt; behind.as_slice(), wanted.as_slice());
     Ok(())
 }
 
@@ -291,12 +228,12 @@ fn a_late_request_is_taken_once(rt: HostRuntime) -> Result<(), Fail> {
 fn a_late_request_of_an_earlier_entry_changes_nothing(rt: HostRuntime) -> Result<(), Fail> {
     let alloc = rt.alloc();
     let fates = vec![in alloc; Fate::Pass, Fate::Late(0)]?;
-    let ended = run_over(alloc, b"put a x\nput a y\nsync\n", fates)?;
-    assert_eq!(rt;
-        ended.output.bytes(),
-        b"logged 1\nlogged 2\nsynced 2\nacknowledged 2 pending 0\n".as_slice()
-    );
-    assert_eq!(rt; version_of(alloc, &ended.net, b"a")?, 2);
+    let account = account_over(alloc, fates, b"put a x\nput a y\nsync\n")?;
+    let wanted =
+        b"logged 1\nlogged 2\nsynced 2\nacknowledged 2 pending 0\nstatus 0\ntroubles 0\nlast 2\n\
+        sent 1 Store 1 a 0\nsent 1 Accepted 1\nsent 1 Store 2 a 1\nsent 1 Accepted 1\n\
+        sent 1 Accepted 2\nrow a 2 file 2\ny\n";
+    assert_eq!(rt; account.as_slice(), wanted.as_slice());
     Ok(())
 }
 
@@ -304,12 +241,12 @@ fn a_late_request_of_an_earlier_entry_changes_nothing(rt: HostRuntime) -> Result
 fn an_unanswered_entry_is_synced_later(rt: HostRuntime) -> Result<(), Fail> {
     let alloc = rt.alloc();
     let fates = eight_lost(alloc)?;
-    let ended = run_over(alloc, b"put a hello\nsync\nstatus\nsync\n", fates)?;
-    assert_eq!(rt;
-        ended.output.bytes(),
-        b"logged 1\nunanswered 1\nacknowledged 0 pending 1\nsynced 1\nacknowledged 1 pending 0\n".as_slice()
-    );
-    assert_eq!(rt; version_of(alloc, &ended.net, b"a")?, 1);
+    let account = account_over(alloc, fates, b"put a hello\nsync\nstatus\nsync\n")?;
+    let told =
+        b"logged 1\nunanswered 1\nacknowledged 0 pending 1\nsynced 1\nacknowledged 1 pending 0\nstatus 0\n\
+        troubles 8\nlast 1\n";
+    assert!(rt; account.starts_with(told.as_slice()));
+    assert!(rt; account.ends_with(b"\nrow a 1 file 6\nhello\n".as_slice()));
     Ok(())
 }
 
@@ -317,23 +254,18 @@ fn an_unanswered_entry_is_synced_later(rt: HostRuntime) -> Result<(), Fail> {
 fn an_unanswered_entry_may_have_been_taken(rt: HostRuntime) -> Result<(), Fail> {
     let alloc = rt.alloc();
     let fates = eight_lost(alloc)?;
-    let ended = run_over(alloc, b"put a hello\nsync\n", fates)?;
-    assert_eq!(rt;
-        ended.output.bytes(),
-        b"logged 1\nunanswered 1\nacknowledged 0 pending 1\n".as_slice()
-    );
-    assert_eq!(rt; version_of(alloc, &ended.net, b"a")?, 1);
+    let account = account_over(alloc, fates, b"put a hello\nsync\n")?;
+    let told = b"logged 1\nunanswered 1\nacknowledged 0 pending 1\nstatus 0\ntroubles 8\nlast 1\n";
+    assert!(rt; account.starts_with(told.as_slice()));
+    assert!(rt; account.ends_with(b"\nrow a 1 file 6\nhello\n".as_slice()));
     Ok(())
 }
 
 #[test]
 fn a_full_server_takes_no_new_path(rt: HostRuntime) -> Result<(), Fail> {
     let alloc = rt.alloc();
-    let server = full_server(alloc)?;
-    let output = output_on(alloc, server, b"put new x\nsync\n")?;
-    assert_eq!(rt;
-        output.bytes(),
-        b"logged 1\nfull 1 0 RowsFull 16384\nacknowledged 0 pending 1\n".as_slice()
-    );
+    let told = told_on(alloc, full_server(alloc)?, b"put new x\nsync\n")?;
+    let wanted = b"logged 1\nfull 1 0 RowsFull 16384\nacknowledged 0 pending 1\nstatus 0\n";
+    assert_eq!(rt; told.as_slice(), wanted.as_slice());
     Ok(())
 }

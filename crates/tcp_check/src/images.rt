@@ -1,5 +1,5 @@
 // Images on a full disk, and images that two programs want.
-use crate::client::{print_ended, start_client};
+use crate::client::{CLIENT, print_ended, start_client};
 use crate::serving::{address_of, serve};
 use outside::{KeepError, Keeper};
 use real_edge::{FileKeeper, TcpPort};
@@ -57,7 +57,7 @@ pub(crate) fn fill_the_servers_disk<
     let client = start_client(rt, &["run", "1", IMAGE, &address, "-", "work"])?;
     let mut keeper = FileKeeper::new(rt.alloc(), rt);
     serve(rt, SERVED, "1", port, &mut keeper)?;
-    print_ended(rt, client)?;
+    print_ended(rt, CLIENT, client)?;
     fs::remove_file(rt, SERVED_BESIDE)?;
     print_load(rt, SERVED, &mut keeper)
 }
@@ -82,7 +82,7 @@ fn run_client<R: Processes + Files + Env + AllocGlobal + Print>(
     address: &str,
 ) -> io::Result<()> {
     let client = start_client(rt, &["run", "1", IMAGE, address, "-", "work"])?;
-    print_ended(rt, client)
+    print_ended(rt, CLIENT, client)
 }
 
 fn print_load<R: Files<File = File> + Print>(

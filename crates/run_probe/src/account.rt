@@ -1,0 +1,114 @@
+// What stands in a network, as text.
+
+use mem_net::MemNet;
+use server_core::Server;
+use std::alloc::{AllocError, Global};
+use vol_tree::{Content, Node, Row};
+use wire_frames::{Message, read};
+
+/// What stands in a network: the troubles, the server's last number of client 1, each packet in the order of sending,
+/// and each row of the server.
+///
+/// ```text
+/// troubles 1
+/// last 1
+/// sent 1 Store 1 a 0
+/// sent 1 Accepted 1
+/// row a 1 file 6
+/// hello
+/// ```
+///
+/// A packet is told by its client, its kind, its number and the paths and versions of its base, and a row by its path,
+/// its version, and what stands there.
+pub(crate) fn account_of_network(alloc: Global, net: &MemNet) -> Result<Vec<u8>, AllocError> {
+    let mut text = Vec::new(alloc);
+    let troubles = net.troubles();
+    let last = net.server().last(1);
+    write_text(
+        &mut text,
+        &format!(in alloc; "troubles {troubles}\nlast {last}\n")?,
+    )?;
+    for k in 0..u32::MAX {
+        let Some(frame) = net.packet(k) else {
+            break;
+        };
+        write_packet(alloc, &mut text, frame)?;
+    }
+    write_rows(alloc, &mut text, net.server())?;
+    Ok(text)
+}
+
+/// Each row of a server, as the account of its network tells it.
+pub(crate) fn rows_of_server(alloc: Global, server: &Server) -> Result<Vec<u8>, AllocError> {
+    let mut text = Vec::new(alloc);
+    write_rows(alloc, &mut text, server)?;
+    Ok(text)
+}
+
+pub(crate) fn write_text(text: &mut Vec<u8>, more: &str) -> Result<(), AllocError> {
+    text.extend_from_slice(more.as_bytes())?;
+    Ok(())
+}
+
+fn write_packet(alloc: Global, text: &mut Vec<u8>, frame: &[u8]) -> Result<(), AllocError> {
+    match read(alloc, frame) {
+        Ok(message) => {
+            let written = write_message(alloc, text, &message);
+            drop(message);
+            written
+        }
+        Err(refused) => {
+            drop(refused);
+            Err(AllocError)
+        }
+    }
+}
+
+fn write_message(alloc: Global, text: &mut Vec<u8>, message: &Message) -> Result<(), AllocError> {
+    let (client, kind, number) = (message.client(), message.kind(), message.number());
+    write_text(text, &format!(in alloc; "sent {client} {kind:?} {number}")?)?;
+    if let Message::Store { base, .. } = message {
+        for base in base.as_slice() {
+            let path = base.path.text()?;
+            write_named(alloc, text, " ", &path, base.version)?;
+        }
+    }
+    write_text(text, "\n")
+}
+
+/// A path behind a word, and a version.
+fn write_named(
+    alloc: Global,
+    text: &mut Vec<u8>,
+    word: &str,
+    path: &Content,
+    version: u64,
+) -> Result<(), AllocError> {
+    write_text(text, word)?;
+    text.extend_from_slice(path.bytes())?;
+    write_text(text, &format!(in alloc; " {version}")?)
+}
+
+fn write_rows(alloc: Global, text: &mut Vec<u8>, server: &Server) -> Result<(), AllocError> {
+    let rows = server.tree().rows()?;
+    let written = write_each(alloc, text, rows.as_slice());
+    drop(rows);
+    written
+}
+
+fn write_each(alloc: Global, text: &mut Vec<u8>, rows: &[Row]) -> Result<(), AllocError> {
+    for row in rows {
+        let path = row.path.text()?;
+        write_named(alloc, text, "row ", &path, row.version)?;
+        match &row.node {
+            None => write_text(text, " nothing\n")?,
+            Some(Node::Folder) => write_text(text, " folder\n")?,
+            Some(Node::File(content)) => {
+                let size = content.bytes().len();
+                write_text(text, &format!(in alloc; " file {size}\n")?)?;
+                text.extend_from_slice(content.bytes())?;
+            }
+        }
+    }
+    Ok(())
+}

@@ -1,0 +1,10 @@
+//! Whole runs of the client over inputs, outputs, images and a network in memory, and what they leave, as text: the one
+//! harness of the crates that test whole runs.
+#![tactic(auto)]
+
+mod account;
+mod probe;
+
+pub use probe::{
+    Fails, Probe, account_of, account_on, account_over, told, told_on, told_with, words_of,
+};
