@@ -28,7 +28,7 @@ use Rattle.tree_laws.specs.Broken.{BrokenEffects, BrokenEffectLists, BrokenBases
 use Rattle.file_paths.proofs.Parts.{path_codec, length_refused}
 use Rattle.tree_values.proofs.RowsTaken.{rows_passed}
 use Rattle.tree_laws.proofs.Parts.{effect_codec, rooms_again, first_base_fits, first_base_codec, path_part, version_part, NextFits, next_row_codec, rows_again}
-use Rattle.file_paths.proofs.Order.{tied_path, is_less}
+use Rattle.file_paths.proofs.Order.{paths_apart, is_less}
 use Rattle.byte_fields.proofs.Facts.{le_fails, eight_bytes}
 
 large_refused : (room size : ℕ) → size < 2 ^ 32 → (8388608 < size) ⊎ (room < size) → IsRefused (content_at (min 8388608 room)) (digits w32 size) 0
@@ -88,11 +88,11 @@ room_left : (room : ℕ) (es : List Effect) → passed room_after room es ≡ ro
 room_left room [] = omega arith
 room_left room (e ∷ es) = room_left (room - content_size e) es ∙ omega (arith, sum_by-cons content_size e es)
 
-wrong_count : (count most : ℕ) → (count ≡ 0) ⊎ (most < count) → (leb 1 count && leb count most) ≡ false
+pub wrong_count : (count most : ℕ) → (count ≡ 0) ⊎ (most < count) → (leb 1 count && leb count most) ≡ false
 wrong_count count most (inl e) = rw e refl
 wrong_count count most (inr lt) = second_fails (leb 1 count) (leb count most) (le_fails count most lt)
 
-right_count : (count most before : ℕ) → before < count → count ≤ most → (leb 1 count && leb count most) ≡ true
+pub right_count : (count most before : ℕ) → before < count → count ≤ most → (leb 1 count && leb count most) ≡ true
 right_count count most before some few = rw (le-leb 1 count (omega arith), le-leb count most few) refl
 
 effect_refused : (most room count : ℕ) (before : List Effect) (text : List ℕ) (offset : ℕ) → length before < count → count ≤ most → count < 2 ^ 32 → AllByRecursion EffectFits before → contents_size before ≤ room
@@ -114,13 +114,6 @@ broken_effect_lists = record {
 }
 
 -- ---- bases
-
-no_tie : (known other : FilePath) → other ≢ known → is_same_path known other ≡ false
-no_tie known other differ = by (is_same_path known other) refl
-  where
-    by : (b : Bool) → is_same_path known other ≡ b → b ≡ false
-    by false e = refl
-    by true e = absurd (differ (sym (tied_path known other e)))
 
 paths_left : (front more : List FilePath) (bs : List Base) → map (λ b. b.path) bs ≡ front → passed others_after (front ++ more) bs ≡ more
 paths_left [] more [] e = refl
@@ -158,7 +151,7 @@ unfolding bases_at
 broken_bases = record {
   count_is_another = λ touched count small another. count_refused (λ n. eqb n (length touched)) (λ n. each_at first_base_at others_after n touched) count small (ne_eqb count (length touched) another);
   path_is_another = λ known other is differ.
-      base_refused known (path other) 0 (rule_refused path_at (is_same_path known) (path other) other (read_again path_codec other is) (no_tie known other differ));
+      base_refused known (path other) 0 (rule_refused path_at (is_same_path known) (path other) other (read_again path_codec other is) (paths_apart known other differ));
   path_is_none = λ known text offset refused. base_refused known text offset (ruled_refused path_at (is_same_path known) text offset refused);
   base_is_refused = λ front others known before text offset fits small refused.
       let touched = front ++ known ∷ others in

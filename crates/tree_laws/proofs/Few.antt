@@ -1,8 +1,9 @@
 -- The paths that effects touch are few, so that their number fits its field.
-use Rattle.std.proofs.Common.{◌*◌, ◌^◌, ◌<◌, ◌≤◌, Bool, true, false, cond, not, List, [], ◌∷◌, length, ap, arith, length-append}
-use Rattle.std.specs.List.{flat_map, filter}
+use Rattle.std.proofs.Common.{◌*◌, ◌^◌, ◌<◌, ◌≤◌, not, List, [], ◌∷◌, length, ap, arith, length-append}
+use Rattle.std.specs.List.{flat_map}
 use Rattle.std.proofs.lemmas.List.{length-map}
 use Rattle.std.proofs.lemmas.List.Concat.{flat_map-cons}
+use Rattle.byte_fields.proofs.Facts.{filter_length}
 use Rattle.byte_fields.specs.Codec.{IsCodec}
 use Rattle.tree_values.specs.declared.node.Effect.{Effect}
 use Rattle.tree_values.specs.declared.node.Effect.TheVariants.{Make, Put, Remove, Move}
@@ -14,17 +15,9 @@ use Rattle.tree_values.specs.Spelling.{bases, EffectsFit, AreBasesOf}
 use Rattle.tree_values.specs.Reading.{bases_at}
 use Rattle.tree_laws.proofs.Parts.{bases_codec}
 
-kept_length : {A : Type 0} (f : A → Bool) (xs : List A) → length (filter f xs) ≤ length xs
-kept_length f [] = omega arith
-kept_length f (x ∷ xs) =
-    elim (f x) as (λ kept. length (cond kept (x ∷ filter f xs) (filter f xs)) ≤ length (x ∷ xs)) [
-      | true ↦ omega (arith, kept_length f xs)
-      | false ↦ omega (arith, kept_length f xs)
-    ]
-
 distinct_length : (ps : List FilePath) → length (distinct ps) ≤ length ps
 distinct_length [] = omega arith
-distinct_length (p ∷ ps) = omega (arith, kept_length (λ other. not (is_same_path other p)) (distinct ps), distinct_length ps)
+distinct_length (p ∷ ps) = omega (arith, filter_length (λ other. not (is_same_path other p)) (distinct ps), distinct_length ps)
 
 touches_length : (e : Effect) → length (touched_paths e) ≤ 2
 touches_length (Make p) = omega arith

@@ -5,7 +5,6 @@ use Rattle.std.specs.List.{sum_by, AllByRecursion, list_all}
 use Rattle.std.specs.Cmp.{first_so, second_so}
 use Rattle.std.specs.Cmp.Derive.{both_true}
 use Rattle.std.specs.Ordering.{is_lt}
-use Rattle.std.proofs.lemmas.Bool.Decides.{nat_tests}
 use Rattle.std.proofs.lemmas.Bool.{leb-true, le-leb, eqb-true, eq-eqb, and_parts}
 use Rattle.std.proofs.lemmas.List.{length-map, append-nil}
 use Rattle.std.proofs.lemmas.List.Sums.{sum_by-cons}
@@ -26,7 +25,7 @@ use Rattle.tree_values.specs.Spelling.{effect, effects, base, bases, node, row, 
 use Rattle.file_paths.specs.Reading.{path_at, content_at}
 use Rattle.tree_values.specs.Reading.{make_at, put_at, remove_at, move_at, effect_kinds, effect_at, room_after, effects_within, effects_at, base_at, first_base_at, others_after, bases_at, may_stand, file_at, node_kinds, standing_at, room_beside, next_row_at, with_next, rows_at}
 use Rattle.byte_fields.proofs.Codec.{IsBranch, u32_codec, u64_codec, ruled_codec, here_fault, place_is, found2, fault2, again2, found3, fault3, again3, each_codec, tagged_found, tagged_fault, tagged_again0, tagged_again1, tagged_again2, branch0, branch1, branch2, counted_codec, codec_for}
-use Rattle.byte_fields.proofs.Facts.{no_bytes}
+use Rattle.byte_fields.proofs.Facts.{no_bytes, lt_holds, le_of}
 use Rattle.file_paths.proofs.Order.{tied_path, path_tied}
 use Rattle.tree_values.proofs.Appending.{tree_with_row, follows_in_tree}
 use Rattle.tree_laws.proofs.Fronts.{back_all, front_is_tree}
@@ -223,12 +222,6 @@ module _ (before : Volume) where
 small_beside : (n total : ℕ) → n ≤ min 8388608 (33554432 - total) → total ≤ 33554432 → total + n ≤ 33554432
 small_beside n total le most = omega arith
 
-lt_is : (a b : ℕ) → a < b → nat_lt a b ≡ true
-lt_is a b h = grind (arith, nat_tests)
-
-le_is : (a b : ℕ) → nat_le a b ≡ true → a ≤ b
-le_is a b h = leb-true a b h
-
 -- a row that is read behind a tree leaves one
 next_is_tree : (before : Volume) (r : Row) → IsTree before → length before < 16384 → NextFits before r → IsTree (before ++ r ∷ [])
 unfolding NodeFits
@@ -244,7 +237,7 @@ next_is_tree before r tree few fits =
     of_bytes (Some (File c)) f = f.1.1
 
     room : nat_lt (length before) 16384 ≡ true
-    room = lt_is (length before) 16384 few
+    room = lt_holds (length before) 16384 few
 
     follows : (n : Option Node) → NodeFits (is_folder before (folder_of r.path)) (room_beside before) n
         → (list_all (λ other. is_lt (path_cmp other.path r.path)) before && (not (is_root r.path) && (nat_le 1 r.version && (nat_le (node_size n) 8388608
@@ -282,7 +275,7 @@ next_fits before r whole =
         → NodeFits (is_folder before (folder_of r.path)) (room_beside before) n
     stands None bytes small here all = tt
     stands (Some Folder) bytes small here all = here
-    stands (Some (File c)) bytes small here all = (here, (omega (arith, le_is (length c) 8388608 small, le_is (total_size before + length c) 33554432 all), bytes))
+    stands (Some (File c)) bytes small here all = (here, (omega (arith, le_of (length c) 8388608 small, le_of (total_size before + length c) 33554432 all), bytes))
 
 rows_found : (before rs : Volume) → IsTree before → length before + length rs ≤ 16384 → EachFits NextFits with_next before rs → IsTree (before ++ rs)
 rows_found before [] tree few fits = rw (append-nil before) tree

@@ -4,6 +4,8 @@ use Rattle.std.specs.Prelude.{option_map, unwrap_or}
 use Rattle.std.specs.List.{AllByRecursion}
 use Rattle.std.specs.Option.{option_to_list, option_and_then}
 use Rattle.std.proofs.lemmas.Bool.{cases_eq, eqb-true}
+use Rattle.file_paths.specs.Limits.{max_file}
+use Rattle.tree_values.specs.Limits.{max_rows, max_files}
 use Rattle.tree_values.specs.Inside.{is_at}
 use Rattle.file_paths.specs.Path.{FilePath}
 use Rattle.tree_values.specs.declared.node.Node.{Node}
@@ -147,16 +149,16 @@ module _ (rows : Volume) (count size : ℕ) (counted : IsCounted rows count size
 pub node_at_most : (rows : Volume) (p : FilePath) → AreInOrder rows → node_size (node_at rows p) ≤ total_size rows
 node_at_most rows p order = omega (arith, size-without_row rows p order)
 
-pub small_touch : (rows : Volume) (p : FilePath) (node : Option Node) → AreInOrder rows → total_size rows ≤ 33554432 → node_size node ≤ 8388608 → total_size (touched rows p node) < 18446744073709551616
+pub small_touch : (rows : Volume) (p : FilePath) (node : Option Node) → AreInOrder rows → total_size rows ≤ max_files → node_size node ≤ max_file → total_size (touched rows p node) < 18446744073709551616
 small_touch rows p node order small light = omega (arith, size_touched rows p node order)
 
-pub few_touch : (rows : Volume) (p : FilePath) (node : Option Node) → AreInOrder rows → length rows ≤ 16384 → length (touched rows p node) < 9223372036854775808
+pub few_touch : (rows : Volume) (p : FilePath) (node : Option Node) → AreInOrder rows → length rows ≤ max_rows → length (touched rows p node) < 9223372036854775808
 few_touch rows p node order few = omega (arith, length-with_row rows (record { path = p; version = version_at rows p + 1; node = node }) order)
 
-pub put_small : (rows : Volume) (p : FilePath) (content : List ℕ) → apply (Put p content) rows ≡ Ok (changed (Put p content) rows) → length content ≤ 8388608
+pub put_small : (rows : Volume) (p : FilePath) (content : List ℕ) → apply (Put p content) rows ≡ Ok (changed (Put p content) rows) → length content ≤ max_file
 put_small rows p content h =
     let none = none_refused (refusals (Put p content) rows) _ _ h in
-    not_lt_of 8388608 (length content) (not_when (nat_lt 8388608 (length content)) _ none.1.1.1.1.0)
+    not_lt_of max_file (length content) (not_when (nat_lt max_file (length content)) _ none.1.1.1.1.0)
 
 -- ---- putting back
 

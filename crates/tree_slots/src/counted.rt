@@ -73,10 +73,10 @@ impl Counted {
         ensures kept { IfOk result (λ kept. kept ≡ kept_row self.old path) }
         ensures err { OnErr result (self.new ≡ self.old) }
     {
-        let added = size_of(&node);
+        let added = size_of(node.as_ref());
         let kept = self.arena.touch(path, node)?;
         self.count += new_rows(&kept);
-        self.size = self.size - size_of(&kept.node) + added;
+        self.size = self.size - size_of(kept.node.as_ref()) + added;
         Ok(kept)
     }
 
@@ -90,7 +90,7 @@ impl Counted {
     {
         let kept = self.arena.touch_again(path, None);
         self.count += new_rows(&kept);
-        self.size -= size_of(&kept.node);
+        self.size -= size_of(kept.node.as_ref());
         kept
     }
 
@@ -103,7 +103,7 @@ impl Counted {
         requires small { total_size self.old + node_size row.node < 2 ^ 64 }
         ensures ok { OnOk result (self.new ≡ with_row self.old row) }
     {
-        let added = size_of(&row.node);
+        let added = size_of(row.node.as_ref());
         self.arena.insert(row)?;
         self.count += 1;
         self.size += added;
@@ -128,25 +128,15 @@ impl Counted {
         requires small { total_size (restored self.old kept) < 2 ^ 64 }
         ensures { self.new ≡ restored self.old kept }
     {
-        let removed = size_at(self.arena.find(kept.path.names()).0);
+        let removed = size_of(self.arena.find(kept.path.names()).0);
         if kept.version == 0 {
             self.count -= 1;
             self.size -= removed;
             self.arena.restore(kept);
             return;
         }
-        self.size = self.size - removed + size_of(&kept.node);
+        self.size = self.size - removed + size_of(kept.node.as_ref());
         self.arena.restore(kept);
-    }
-}
-
-/// How many bytes a node has.
-pub fn size_at(node: Option<&Node>) -> u64
-    ensures { result ≡ node_size (option_copied node.entry) }
-{
-    match node {
-        Some(Node::File(content)) => content.bytes().len() as u64,
-        _ => 0,
     }
 }
 

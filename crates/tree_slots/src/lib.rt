@@ -5,4 +5,4 @@ mod arena;
 mod counted;
 
 pub use arena::{Arena, slots_lead_to_rows};
-pub use counted::{Counted, size_at};
+pub use counted::Counted;

@@ -12,6 +12,8 @@ use Rattle.std.specs.Ordering.{is_lt, is_eq}
 use Rattle.byte_fields.proofs.Facts.{lt_holds, lt_of, le_holds, le_of, not_of, not_true, none_behind}
 use Rattle.byte_fields.specs.Codec.{IsBytes}
 use Rattle.file_paths.specs.Path.{path_cmp, folder_of, IsPath}
+use Rattle.file_paths.specs.Limits.{max_file}
+use Rattle.tree_values.specs.Limits.{max_rows, max_files}
 use Rattle.tree_values.specs.declared.node.Row.{Row}
 use Rattle.tree_values.specs.Tree.{AreInOrder, IsRow, IsTree, row_at, node_at, is_root, is_folder, is_folder_node, node_size, file_bytes, total_size}
 use Rattle.tree_values.specs.Inside.{is_at, may_follow}
@@ -62,13 +64,13 @@ tree_with_row rows row tree own h =
     let h1 = second_so (list_all (λ before. is_lt (path_cmp before.path row.path)) rows) _ h in
     let h2 = second_so (not (is_root row.path)) _ h1 in
     let h3 = second_so (nat_le 1 row.version) _ h2 in
-    let h4 = second_so (nat_le (node_size row.node) 8388608) _ h3 in
+    let h4 = second_so (nat_le (node_size row.node) max_file) _ h3 in
     let h5 = second_so (not (is_some row.node) || is_folder rows (folder_of row.path)) _ h4 in
-    let few = lt_of (length rows) 16384 (first_so _ _ h5) in
-    let small = le_of (total_size rows + node_size row.node) 33554432 (second_so (nat_lt (length rows) 16384) _ h5) in
+    let few = lt_of (length rows) max_rows (first_so _ _ h5) in
+    let small = le_of (total_size rows + node_size row.node) max_files (second_so (nat_lt (length rows) max_rows) _ h5) in
     record {
       in_order = order_join row.path rows (row ∷ []) low (ap is_lt (same_place row.path), tt) tree.in_order (tt, tt);
-      each = all_append IsRow rows (row ∷ []) tree.each (record { is_path = own.is_path; below_root = not_of (is_root row.path) (first_so _ _ h1); touched = le_of 1 row.version (first_so _ _ h2); version_fits = own.version_fits; small = le_of (node_size row.node) 8388608 (first_so _ _ h3); bytes = own.bytes }, tt);
+      each = all_append IsRow rows (row ∷ []) tree.each (record { is_path = own.is_path; below_root = not_of (is_root row.path) (first_so _ _ h1); touched = le_of 1 row.version (first_so _ _ h2); version_fits = own.version_fits; small = le_of (node_size row.node) max_file (first_so _ _ h3); bytes = own.bytes }, tt);
       in_folders = in_folders_behind rows row tree (first_so _ _ h4);
       few = omega (arith, few, length-append rows (row ∷ []));
       small = omega (arith, small, size_append rows (row ∷ []));
@@ -108,10 +110,10 @@ follows_in_tree rows row whole =
     both_true (before_all rows row whole.in_order)
     (both_true (ap not sound.below_root)
     (both_true (le_holds 1 row.version sound.touched)
-    (both_true (le_holds (node_size row.node) 8388608 sound.small)
+    (both_true (le_holds (node_size row.node) max_file sound.small)
     (both_true (in_one (is_some row.node) (is_folder rows (folder_of row.path)) (stands_in_folder rows row whole))
-    (both_true (lt_holds (length rows) 16384 (omega (arith, whole.few, length-append rows (row ∷ []))))
-    (le_holds (total_size rows + node_size row.node) 33554432 (omega (arith, whole.small, size_append rows (row ∷ [])))))))))
+    (both_true (lt_holds (length rows) max_rows (omega (arith, whole.few, length-append rows (row ∷ []))))
+    (le_holds (total_size rows + node_size row.node) max_files (omega (arith, whole.small, size_append rows (row ∷ [])))))))))
   where
     in_one : (a b : Bool) → (a ≡ true → b ≡ true) → (not a || b) ≡ true
     in_one true b h = h refl

@@ -219,10 +219,10 @@ pub fn copy_node(node: Option<&Node>) -> Result<Option<Node>, AllocError>
 }
 
 /// How many bytes what stands at a path has.
-pub fn size_of(node: &Option<Node>) -> u64
-    ensures value { result ≡ node_size node.now }
+pub fn size_of(node: Option<&Node>) -> u64
+    ensures value { result ≡ node_size (option_copied node.entry) }
     ensures bound { result < 2 ^ 63 }
-    ensures bytes { IsBytes (file_bytes node.now) }
+    ensures bytes { IsBytes (file_bytes (option_copied node.entry)) }
 {
     match node {
         Some(Node::File(content)) => content.bytes().len() as u64,

@@ -49,7 +49,7 @@ fn first_bad(rows: &[Row], count: usize) -> Option<u32>
         if !follows(rows.split_at(i).0, size, row) {
             return Some(i as u32);
         }
-        size += size_of(&row.node);
+        size += size_of(row.node.as_ref());
     }
     None
 }
@@ -65,7 +65,7 @@ fn follows(rows: &[Row], size: u64, row: &Row) -> bool
 {
     let _version = row.version;
     let names = row.path.names();
-    let row_size = size_of(&row.node);
+    let row_size = size_of(row.node.as_ref());
     if !is_behind(rows, &row.path) {
         return false;
     }

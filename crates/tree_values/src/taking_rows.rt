@@ -85,7 +85,7 @@ impl Taken<Row> for RowsTaken {
 
     fn take_next(&mut self, alloc: Global, bytes: &[u8], at: usize) -> Result<usize, TakeError> {
         let (row, next) = next_row_at(alloc, bytes, at, self.rows.as_slice(), self.room)?;
-        let size = size_of(&row.node) as usize;
+        let size = size_of(row.node.as_ref()) as usize;
         self.rows.push(row)?;
         self.room = self.room.saturating_sub(size);
         Ok(next)

@@ -7,6 +7,8 @@ use Rattle.std.proofs.lemmas.Bool.{eqb-false}
 use Rattle.std.proofs.lemmas.Bool.Decides.{nat_tests}
 use Rattle.std.specs.declared.cmp.Ordering.{Ordering}
 use Rattle.std.specs.declared.cmp.Ordering.TheVariants.{Less, Equal, Greater}
+use Rattle.file_paths.specs.Limits.{max_file}
+use Rattle.tree_values.specs.Limits.{max_rows, max_files}
 use Rattle.tree_values.specs.Inside.{is_at}
 use Rattle.byte_fields.specs.Codec.{IsBytes}
 use Rattle.file_paths.specs.Path.{path_cmp, folder_of, IsPath, is_same_path}
@@ -96,11 +98,11 @@ next_version rows p each below = by (row_at rows p) refl below
 
 -- ---- counts
 
-few_touched : (rows : List Row) (p : List (List ℕ)) (node : Option Node) → AreInOrder rows → length rows ≤ 16384 → has_no_room rows p ≡ false → length (touched rows p node) ≤ 16384
+few_touched : (rows : List Row) (p : List (List ℕ)) (node : Option Node) → AreInOrder rows → length rows ≤ max_rows → has_no_room rows p ≡ false → length (touched rows p node) ≤ max_rows
 few_touched rows p node order few room =
     by (row_at rows p) room (length-with_row rows (record { path = p; version = version_at rows p + 1; node = node }) order)
   where
-    by : (o : Option Row) → (not (is_some o) && nat_le 16384 (length rows)) ≡ false → length (touched rows p node) + length (option_to_list o) ≡ length rows + 1 → length (touched rows p node) ≤ 16384
+    by : (o : Option Row) → (not (is_some o) && nat_le max_rows (length rows)) ≡ false → length (touched rows p node) + length (option_to_list o) ≡ length rows + 1 → length (touched rows p node) ≤ max_rows
     by None room long = grind (arith, nat_tests)
     by (Some row) room long = omega (arith, long, few)
 
@@ -109,7 +111,7 @@ pub record CanRise (rows : List Row) (p : List (List ℕ)) : Type 0 where
   pub is_path : IsPath p
   pub below_top : is_at_top rows p ≡ false
 
-each_touched : (rows : List Row) (p : List (List ℕ)) (node : Option Node) → AllByRecursion IsRow rows → CanRise rows p → is_root p ≡ false → node_size node ≤ 8388608 → IsBytes (file_bytes node) → AllByRecursion IsRow (touched rows p node)
+each_touched : (rows : List Row) (p : List (List ℕ)) (node : Option Node) → AllByRecursion IsRow rows → CanRise rows p → is_root p ≡ false → node_size node ≤ max_file → IsBytes (file_bytes node) → AllByRecursion IsRow (touched rows p node)
 each_touched rows p node each rise root small bytes =
     all_append IsRow (rows_below rows p) (record { path = p; version = version_at rows p + 1; node = node } ∷ rows_above rows p)
     (all_filter IsRow _ rows each)
@@ -117,7 +119,7 @@ each_touched rows p node each rise root small bytes =
 
 -- ---- trees
 
-touched_is_tree : (rows : List Row) (p : List (List ℕ)) (node : Option Node) → IsTree rows → CanRise rows p → is_root p ≡ false → node_size node ≤ 8388608 → IsBytes (file_bytes node) → has_no_room rows p ≡ false → total_size (touched rows p node) ≤ 33554432 → AreInFolders (touched rows p node) → IsTree (touched rows p node)
+touched_is_tree : (rows : List Row) (p : List (List ℕ)) (node : Option Node) → IsTree rows → CanRise rows p → is_root p ≡ false → node_size node ≤ max_file → IsBytes (file_bytes node) → has_no_room rows p ≡ false → total_size (touched rows p node) ≤ max_files → AreInFolders (touched rows p node) → IsTree (touched rows p node)
 touched_is_tree rows p node tree rise root small bytes room total folders = record {
   in_order = with_row_in_order rows _ tree.in_order;
   each = each_touched rows p node tree.each rise root small bytes;
@@ -143,8 +145,8 @@ put_is_tree rows p content tree legal h =
     let none = none_refused (refusals (Put p content) rows) _ _ h in
     let root = not_when (is_root p) _ none.0 in
     let size = size_touched rows p (Some (File content)) tree.in_order in
-    let short : length content ≤ 8388608 = not_lt_of 8388608 (length content) (not_when (nat_lt 8388608 (length content)) _ none.1.1.1.1.0) in
-    let total : size_with rows p content ≤ 33554432 = not_lt_of 33554432 (size_with rows p content) (not_when (nat_lt 33554432 (size_with rows p content)) _ none.1.1.1.1.1.0) in
+    let short : length content ≤ max_file = not_lt_of max_file (length content) (not_when (nat_lt max_file (length content)) _ none.1.1.1.1.0) in
+    let total : size_with rows p content ≤ max_files = not_lt_of max_files (size_with rows p content) (not_when (nat_lt max_files (size_with rows p content)) _ none.1.1.1.1.1.0) in
     touched_is_tree rows p (Some (File content)) tree (record { is_path = legal.0; below_top = (below_top (Put p content) rows h).0 }) root short legal.1 (not_when (has_no_room rows p) _ none.1.1.1.0) (omega (arith, size, total))
     (in_folders_touched rows p (Some (File content)) tree.in_folders root
     (λ _. not_false_of (is_folder rows (folder_of p)) (not_when (not (is_folder rows (folder_of p))) _ none.1.0))
@@ -198,10 +200,10 @@ size_of_none : (node : Option Node) → is_some node ≡ false → node_size nod
 size_of_none None h = refl
 size_of_none (Some node) h = absurd (true≢false h)
 
-pub small_node : (rows : List Row) (p : List (List ℕ)) → AllByRecursion IsRow rows → node_size (node_at rows p) ≤ 8388608
+pub small_node : (rows : List Row) (p : List (List ℕ)) → AllByRecursion IsRow rows → node_size (node_at rows p) ≤ max_file
 small_node rows p each = by (row_at rows p) refl
   where
-    by : (o : Option Row) → row_at rows p ≡ o → node_size (option_and_then (λ row. row.node) o) ≤ 8388608
+    by : (o : Option Row) → row_at rows p ≡ o → node_size (option_and_then (λ row. row.node) o) ≤ max_file
     by None e = omega arith
     by (Some row) e = (find_among IsRow (is_at p) rows row each e).small
 

@@ -14,7 +14,7 @@ use byte_fields::put_u32;
 use file_paths::{Content, MAX_FILE, Names, Path, TryCopy};
 use std::alloc::{AllocError, Global};
 use std::marker::Model;
-use tree_slots::{Counted, size_at};
+use tree_slots::Counted;
 use tree_values::{
     Effect, MAX_FILES, MAX_ROWS, Node, Row, Rows, RowsError, TreeError, copy_node, size_of,
 };
@@ -222,7 +222,7 @@ fn restore_both(rows: &mut Counted, first: Row, second: Row)
     requires can_undo { CanUndo (first ∷ second ∷ []) rows.old }
     ensures { rows.new ≡ undone (first ∷ second ∷ []) rows.old }
 {
-    let _size = size_of(&first.node);
+    let _size = size_of(first.node.as_ref());
     rows.restore(first);
     rows.restore(second);
 }
@@ -431,7 +431,7 @@ fn size_of_others(rows: &Counted, path: &[Content]) -> u64
     ensures value { result ≡ total_size rows.now - node_size (node_at rows.now path.now) }
     ensures small { result ≤ max_files }
 {
-    rows.size() - size_at(node_in(rows, path))
+    rows.size() - size_of(node_in(rows, path))
 }
 
 /// The name of the first that stands in this folder.
