@@ -8,7 +8,8 @@ use Rattle.gf_65536.specs.Field.{product, remainder, gf_mul}
 use Rattle.gf_65536.specs.Laws.{IsProductModulo1100B, OnlyProduct}
 use Rattle.gf_65536.proofs.Linear.{IsLinear, linear_same, linear_shift}
 use Rattle.gf_65536.proofs.Tests.{at_below}
-use Rattle.gf_65536.proofs.Product.{mul_left, mul_right, mul_assoc, mul_one, mul_below}
+use Rattle.gf_65536.proofs.Windows.{low_is}
+use Rattle.gf_65536.proofs.Product.{low, mul_left, mul_right, mul_assoc, mul_one, mul_below}
 
 pub reduces : gf_mul 2 0x8000 ≡ 0x100B
 unfolding gf_mul product remainder
@@ -35,12 +36,6 @@ is_product = record {
 -- f on the low bits of two numbers
 abbrev on_low : (ℕ → ℕ → ℕ) → ℕ → ℕ → ℕ
 on_low f a b = f (a % 2 ^ 16) (b % 2 ^ 16)
-
-low : (n : ℕ) → n % 2 ^ 16 < 2 ^ 16
-low n = omega arith
-
-low_is : (n : ℕ) → n < 2 ^ 16 → n % 2 ^ 16 ≡ n
-low_is n h = omega arith
 
 low_left : (f : ℕ → ℕ → ℕ) → IsProductModulo1100B f → (b : ℕ) → IsLinear (λ a. on_low f a b)
 low_left f is b = record { keeps = λ x y. ap (λ a. f a (b % 2 ^ 16)) (xor_mod x y 16) ∙ is.left (x % 2 ^ 16) (y % 2 ^ 16) (b % 2 ^ 16) (low x) (low y) (low b) }

@@ -51,7 +51,7 @@ mul_low a b = sym (λ i. remainder 15 (product 16 (twice a i) (twice b i)))
     twice : (n : ℕ) → n % 2 ^ 16 % 2 ^ 16 ≡ n % 2 ^ 16
     twice n = omega arith
 
-low : (n : ℕ) → n % 2 ^ 16 < 2 ^ 16
+pub low : (n : ℕ) → n % 2 ^ 16 < 2 ^ 16
 low n = omega arith
 
 comm_below : (a b : ℕ) → a < 2 ^ 16 → b < 2 ^ 16 → gf_mul a b ≡ gf_mul b a

@@ -10,13 +10,13 @@ use Rattle.gf_65536.proofs.Linear.{IsLinear, linear_same, linear_below, linear_z
 use Rattle.gf_65536.proofs.Tests.{all_below, at_below}
 use Rattle.gf_65536.proofs.Product.{product_left, product_right, remainder_linear, bilinear_same}
 
+pub low_is : (n : ℕ) → n < 2 ^ 16 → n % 2 ^ 16 ≡ n
+low_is n h = omega arith
+
 -- the field's product is the remainder of the polynomial product
 pub mul_is : (a b : ℕ) → a < 2 ^ 16 → b < 2 ^ 16 → gf_mul a b ≡ remainder 15 (product 16 a b)
 unfolding gf_mul
-mul_is a b ha hb = λ i. remainder 15 (product 16 (low a ha i) (low b hb i))
-  where
-    low : (n : ℕ) → n < 2 ^ 16 → n % 2 ^ 16 ≡ n
-    low n h = omega arith
+mul_is a b ha hb = λ i. remainder 15 (product 16 (low_is a ha i) (low_is b hb i))
 
 -- the four coefficients of b from coefficient k on, times a, moved to their place
 abbrev pub window : ℕ → ℕ → ℕ → ℕ

@@ -10,6 +10,7 @@ use Rattle.byte_fields.proofs.Codec.{byte_span_codec, u16_codec, u32_codec}
 use Rattle.byte_fields.proofs.Facts.{sum_more, le_fails}
 use Rattle.byte_fields.proofs.Cutting.{span_cut, u16_cut, u32_cut, ruled_cut, cut_for, three_cut, each_cut}
 use Rattle.byte_fields.proofs.Breaking.{read_again, first_refused, rule_refused}
+use Rattle.rs_parity.specs.Limits.{max_len}
 use Rattle.rs_parity.specs.Blocks.{blocks_in, IsCheck}
 use Rattle.rs_parity.specs.Spelling.{parity_spelling, sketch_spelling, SketchFits, parity_at, parities_at, sketch_at}
 use Rattle.rs_parity.specs.Fields.{parity_fields, sketch_fields}
@@ -61,11 +62,11 @@ module _ (room : ℕ) where
         (len_fits room sketch fits) (fits.print, fits.print_bytes) (fits.count, fits.checks) le lt;
   }
 
-  pub len_refused : (len : ℕ) → len < 2 ^ 32 → (8388608 < len) ⊎ (room < len) → IsRefused (sketch_at room) (digits w32 len) 0
+  pub len_refused : (len : ℕ) → len < 2 ^ 32 → (max_len < len) ⊎ (room < len) → IsRefused (sketch_at room) (digits w32 len) 0
   unfolding sketch_at
   len_refused len small large =
       first_refused (ruled (within room) (number_at w32)) (λ n. two (span_at 32) (λ print. parities_at (blocks_in n)) (sketch_of_parts n)) (digits w32 len) 0
-      (rule_refused (number_at w32) (within room) (digits w32 len) len (read_again u32_codec len small) (le_fails len (min room 8388608) (elim large [ inl h ↦ omega arith | inr h ↦ omega arith ])))
+      (rule_refused (number_at w32) (within room) (digits w32 len) len (read_again u32_codec len small) (le_fails len (min room max_len) (elim large [ inl h ↦ omega arith | inr h ↦ omega arith ])))
 
 pub broken_sketches : BrokenSketches
 broken_sketches = record { len_is_large = len_refused }

@@ -13,6 +13,9 @@ use Rattle.rs_parity.specs.CodeWord.{sum_at}
 use Rattle.rs_parity.specs.Weight.{weight, differing, HasElements, CodeWordsAreApart}
 use Rattle.rs_parity.proofs.Sums.{sum_cons, sum_nil, sum-zip, zip_sum, length-zip, get_or-zip}
 
+pub once_more : (j n : ℕ) → n + j * n ≡ suc j * n
+once_more j n = omega arith
+
 pub power_not_zero : (e : ℕ) → gf_pow 2 e ≢ 0
 power_not_zero e none =
     let all : e + 65534 * e ≡ 65535 * e = omega arith in
@@ -78,13 +81,10 @@ sum-times j x (w ∷ ws) =
     q : ℕ
     q = gf_pow 2 (j * length ws)
 
-    place : (n : ℕ) → n + j * n ≡ suc j * n
-    place n = omega arith
-
     here : gf_mul (gf_mul w (bit_xor p x)) q ≡ bit_xor (gf_mul w (gf_pow 2 (suc j * length ws))) (gf_mul x (gf_mul w q))
     here =
         mul_assoc w (bit_xor p x) q ∙ ap (gf_mul w) ((mul_left q).keeps p x) ∙ (mul_right w).keeps (gf_mul p q) (gf_mul x q)
-        ∙ (λ i. bit_xor (gf_mul w ((sym (pow_add 2 (length ws) (j * length ws)) ∙ ap (gf_pow 2) (place (length ws))) i)) ((sym (mul_assoc w x q) ∙ ap (λ z. gf_mul z q) (mul_comm w x) ∙ mul_assoc x w q) i))
+        ∙ (λ i. bit_xor (gf_mul w ((sym (pow_add 2 (length ws) (j * length ws)) ∙ ap (gf_pow 2) (once_more j (length ws))) i)) ((sym (mul_assoc w x q) ∙ ap (λ z. gf_mul z q) (mul_comm w x) ∙ mul_assoc x w q) i))
 
 -- one symbol that does not vanish
 times_weight : (w factor : ℕ) (ws more : List ℕ) → w < 2 ^ 16 → factor < 2 ^ 16 → factor ≢ 0 → weight more ≡ weight ws → weight (gf_mul w factor ∷ more) ≡ weight (w ∷ ws)

@@ -7,6 +7,7 @@ use Rattle.byte_fields.specs.Field.{◌>>=◌, digits, number_at, span_at, ruled
 use Rattle.byte_fields.specs.Codec.{Stands, IsBytes, IsCodec}
 use Rattle.byte_fields.proofs.Codec.{byte_span_codec, u16_codec, u32_codec, ruled_codec, codec_for, each_codec, found3, again3, fault3, bind_ok, kept_ok}
 use Rattle.byte_fields.proofs.Loop.{with_front, SoFar}
+use Rattle.rs_parity.specs.Limits.{max_len}
 use Rattle.rs_parity.specs.Blocks.{blocks_in, IsCheck}
 use Rattle.sha2.specs.Sha256.{sha256, digest_bytes, final_hash, initial_hash_256}
 use Rattle.sha2.proofs.Facts256.{length-sha256}
@@ -52,7 +53,7 @@ sketch_of_parts len print parities = record { len = len; print = print; parities
 
 module _ (room : ℕ) where
   abbrev pub within : ℕ → Bool
-  within len = leb len (min room 8388608)
+  within len = leb len (min room max_len)
 
   pub len_codec : IsCodec (ruled within (number_at w32)) (digits w32) (λ len. (len < 2 ^ 32) × (within len ≡ true))
   len_codec = ruled_codec within u32_codec

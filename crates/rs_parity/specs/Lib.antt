@@ -1,3 +1,4 @@
+pub mod Limits
 pub mod CodeWord
 pub mod Weight
 pub mod Blocks

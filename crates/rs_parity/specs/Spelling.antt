@@ -4,6 +4,7 @@ use Rattle.std.specs.Int.{w16, w32}
 use Rattle.std.specs.List.{flat_map, AllByRecursion}
 use Rattle.byte_fields.specs.Field.{Reader, digits, number_at, span_at, ruled, three, each_at}
 use Rattle.byte_fields.specs.Codec.{IsBytes, IsCodec}
+use Rattle.rs_parity.specs.Limits.{max_len}
 use Rattle.rs_parity.specs.Blocks.{blocks_in, IsCheck}
 use Rattle.rs_parity.specs.Sketches.{IsSketch}
 use Rattle.rs_parity.specs.declared.sketch.Sketch.{Sketch}
@@ -18,7 +19,7 @@ sketch_spelling sketch = digits w32 sketch.len ++ (sketch.print ++ flat_map pari
 
 -- a sketch as a content of at most so many bytes, and of at most 8,388,608, has it: its print is 32 bytes
 pub record SketchFits (room : ℕ) (sketch : Sketch) : Type 0 where
-  pub len : sketch.len ≤ min room 8388608
+  pub len : sketch.len ≤ min room max_len
   pub print : length sketch.print ≡ 32
   pub print_bytes : IsBytes sketch.print
   pub count : length sketch.parities ≡ blocks_in sketch.len
@@ -35,7 +36,7 @@ parities_at count = each_at (λ (state : Unit {0}). parity_at) (λ state parity.
 -- a length that leaves its room, a print, and a parity for each block of a content of this length
 unfoldable pub sketch_at : ℕ → Reader Sketch
 sketch_at room =
-    three (ruled (λ len. nat_le len (min room 8388608)) (number_at w32)) (λ len. span_at 32) (λ len print. parities_at (blocks_in len))
+    three (ruled (λ len. nat_le len (min room max_len)) (number_at w32)) (λ len. span_at 32) (λ len print. parities_at (blocks_in len))
     (λ len print parities. record { len = len; print = print; parities = parities })
 
 -- each sketch that fits has one spelling, and each spelling one sketch
@@ -44,4 +45,4 @@ OneSpelling = (room : ℕ) → IsCodec (sketch_at room) sketch_spelling (SketchF
 
 -- the sketch of a content that is short enough has a spelling
 abbrev pub SketchesFit : Type 0
-SketchesFit = (content : List ℕ) (sketch : Sketch) (room : ℕ) → IsSketch content sketch → length content ≤ min room 8388608 → SketchFits room sketch
+SketchesFit = (content : List ℕ) (sketch : Sketch) (room : ℕ) → IsSketch content sketch → length content ≤ min room max_len → SketchFits room sketch

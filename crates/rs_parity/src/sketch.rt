@@ -2,6 +2,7 @@
 
 ghost use Rattle.std.specs.Prelude.{◌≡◌, ◌*◌, ◌<◌, ◌≤◌, length, IfOk};
 ghost use Rattle.sha2.specs.Sha256.{sha256};
+ghost use Rattle.rs_parity.specs.Limits.{max_len};
 ghost use Rattle.rs_parity.specs.Blocks.{block_size, block_of};
 ghost use Rattle.rs_parity.specs.Sketches.{IsSketch};
 ghost use Rattle.rs_parity.specs.Spelling.{SketchFits};
@@ -57,9 +58,9 @@ pub fn block(content: &[u8], i: usize) -> &[u8]
 
 /// The sketch of a content of at most 8,388,608 bytes.
 pub fn sketch_of(alloc: Global, content: &[u8]) -> Result<Sketch, AllocError>
-    requires { length content.now ≤ 8388608 }
+    requires { length content.now ≤ max_len }
     ensures sketch { IfOk result (IsSketch content.now) }
-    ensures fits { IfOk result (SketchFits 8388608) }
+    ensures fits { IfOk result (SketchFits max_len) }
 {
     let mut parities = Parities::new(alloc);
     for i in 0..content.len().div_ceil(BLOCK) {

@@ -3,6 +3,7 @@
 ghost use Rattle.std.specs.Prelude.{◌≡◌, ◌++◌, List, ℕ, IfOk, OnOk, OnErr};
 ghost use Rattle.std.specs.List.{flat_map};
 ghost use Rattle.byte_fields.specs.Field.{Gives, IsFront};
+ghost use Rattle.rs_parity.specs.Limits.{max_len};
 ghost use Rattle.rs_parity.specs.Spelling.{parity_spelling, sketch_spelling, SketchFits, parity_at, parities_at, sketch_at};
 
 use crate::encoder::PARITY;
@@ -35,8 +36,8 @@ impl Sketch {
     ///
     /// Refuses `At` at the first faulty field: one where the bytes end, or a length above 8,388,608.
     pub fn take(alloc: Global, bytes: &[u8], at: usize) -> Result<(Sketch, usize), TakeError>
-        ensures read { Gives result (sketch_at 8388608 bytes.now at) }
-        ensures fits { IfOk result (λ x. SketchFits 8388608 x.0) }
+        ensures read { Gives result (sketch_at max_len bytes.now at) }
+        ensures fits { IfOk result (λ x. SketchFits max_len x.0) }
     {
         Sketch::take_within(alloc, bytes, at, MAX_LEN)
     }

@@ -10,7 +10,7 @@ use Rattle.rs_parity.specs.CodeWord.{sum_at}
 use Rattle.rs_repair.specs.Inside.{value}
 use Rattle.rs_parity.specs.Weight.{weight, HasElements}
 use Rattle.rs_parity.proofs.Sums.{sum_cons, sum_nil}
-use Rattle.rs_parity.proofs.Distance.{vanish, weight_zero, weight_more}
+use Rattle.rs_parity.proofs.Distance.{once_more, vanish, weight_zero, weight_more}
 
 -- the sum of the coefficients' products with the word's sums at j, j + 1, ..
 unfoldable pub annihilated : List ℕ → ℕ → List ℕ → ℕ
@@ -70,11 +70,8 @@ annihilated_cons (l ∷ ls) j w ws =
     q' : ℕ
     q' = gf_pow 2 (suc j * length ws)
 
-    place : (n : ℕ) → n + j * n ≡ suc j * n
-    place n = omega arith
-
     xq : gf_mul x q ≡ q'
-    xq = sym (pow_add 2 (length ws) (j * length ws)) ∙ ap (gf_pow 2) (place (length ws))
+    xq = sym (pow_add 2 (length ws) (j * length ws)) ∙ ap (gf_pow 2) (once_more j (length ws))
 
     here : gf_mul (gf_mul w (bit_xor l (gf_mul x v))) q ≡ bit_xor (gf_mul l (gf_mul w q)) (gf_mul (gf_mul w v) q')
     here =

@@ -3,9 +3,9 @@ use Rattle.std.proofs.Common.{◌≡◌, ◌≢◌, ℕ, zero, suc, ◌+◌, ◌
 use Rattle.std.proofs.lemmas.List.{get_or_past, drop_more, length-set, get_or-set_same, get_or-set_other}
 use Rattle.std.proofs.lemmas.Bool.{cases_lt, cases_eq}
 use Rattle.std.proofs.lemmas.Nat.{xor_lt}
-use Rattle.std.proofs.lemmas.List.Sums.{sum_by-cons}
 use borrow.Author.Count.{below_more}
 use Rattle.std.specs.Int.Bits.{bit_xor, xor_self, xor_assoc}
+use Rattle.byte_fields.proofs.Facts.{sum_more}
 use Rattle.gf_65536.specs.Field.{gf_mul}
 use Rattle.gf_65536.proofs.Linear.{xor_swap}
 use Rattle.gf_65536.proofs.Product.{mul_left, mul_right, mul_assoc, mul_comm, mul_one, mul_below, mul_zero, zero_mul}
@@ -126,13 +126,10 @@ basis_same place sums basis marks b cleared = record {
   few_marks = omega (arith, b.few_marks);
 }
 
-total : (m : ℕ) (ms : List ℕ) → sum (m ∷ ms) ≡ m + sum ms
-total m ms = sum_by-cons (λ x. x) m ms
-
 sum_mark : (marks : List ℕ) (i : ℕ) → sum (set marks i 1) ≤ sum marks + 1
 sum_mark [] i = omega arith
-sum_mark (m ∷ ms) zero = omega (arith, total m ms, total 1 ms)
-sum_mark (m ∷ ms) (suc i) = omega (arith, sum_mark ms i, total m ms, total m (set ms i 1))
+sum_mark (m ∷ ms) zero = omega (arith, sum_more m ms, sum_more 1 ms)
+sum_mark (m ∷ ms) (suc i) = omega (arith, sum_mark ms i, sum_more m ms, sum_more m (set ms i 1))
 
 module _ (place pivot : ℕ) (sums : List ℕ) (old new : List (List ℕ)) (marks : List ℕ) (b : IsBasis place sums old marks) (within : pivot < 17)
     (unmarked : get_or marks pivot 0 ≡ 0) (cleared : AreCleared pivot 17 place sums old marks) (above : IsClearedAbove pivot sums place old new) where
@@ -172,8 +169,8 @@ module _ (place pivot : ℕ) (sums : List ℕ) (old new : List (List ℕ)) (mark
 -- where all marks but the last are set, and the sum is less than their number, the last is not
 pub last_unmarked : (marks : List ℕ) (n : ℕ) → length marks ≡ suc n → ((k : ℕ) → k < n → get_or marks k 0 ≢ 0) → sum marks ≤ n → get_or marks n 0 ≡ 0
 last_unmarked [] n size set_before few = refl
-last_unmarked (m ∷ ms) zero size set_before few = omega (arith, total m ms)
-last_unmarked (m ∷ ms) (suc n) size set_before few = last_unmarked ms n (omega arith) (λ k h. set_before (suc k) (omega arith)) (omega (arith, some m (set_before 0 (omega arith)), total m ms))
+last_unmarked (m ∷ ms) zero size set_before few = omega (arith, sum_more m ms)
+last_unmarked (m ∷ ms) (suc n) size set_before few = last_unmarked ms n (omega arith) (λ k h. set_before (suc k) (omega arith)) (omega (arith, some m (set_before 0 (omega arith)), sum_more m ms))
   where
     some : (x : ℕ) → x ≢ 0 → 1 ≤ x
     some x ne = omega arith

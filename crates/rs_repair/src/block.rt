@@ -1,7 +1,7 @@
 //! The repair of one block.
 
 ghost use Rattle.std.specs.Prelude.{◌≡◌, ◌≤◌, ◌↔◌, length, slice_index, EachIndex, IfOk, IfSome, IfNone, IsTrue};
-ghost use Rattle.rs_parity.specs.Blocks.{IsParity};
+ghost use Rattle.rs_parity.specs.Blocks.{block_size, IsParity};
 ghost use Rattle.rs_parity.specs.CodeWord.{symbols};
 ghost use Rattle.rs_parity.specs.Weight.{differing};
 ghost use Rattle.rs_repair.specs.Inside.{IsRepair, HasNoRepair};
@@ -33,7 +33,7 @@ fn is_zero(word: &[u16; PARITY]) -> bool
 
 /// Whether the block has the parity.
 fn has_parity(block: &[u8], given: &[u16; PARITY]) -> bool
-    requires { length block.now ≤ 131006 }
+    requires { length block.now ≤ block_size }
     ensures { IsTrue result ↔ IsParity block.now given.now }
 {
     is_zero(&difference(&parity(block), given))
@@ -45,7 +45,7 @@ pub(crate) fn repair_block(
     block: &[u8],
     given: &[u16; PARITY],
 ) -> Result<Option<Vec<u8>>, AllocError>
-    requires { length block.now ≤ 131006 }
+    requires { length block.now ≤ block_size }
     ensures some { IfOk result (λ o. IfSome o (λ v. IsRepair block.now given.now v.items)) }
     ensures none { IfOk result (λ o. IfNone o (HasNoRepair block.now given.now)) }
 {

@@ -2,7 +2,7 @@
 
 ghost use Rattle.std.specs.Prelude.{◌≡◌, ℕ, ◌+◌, ◌<◌, ◌≤◌, ◌++◌, slice_index, bit_xor, length, map, IfOk, OnOk, IfSome, IfNone};
 ghost use Rattle.gf_65536.specs.Field.{gf_mul, gf_pow};
-ghost use Rattle.rs_parity.specs.Blocks.{IsParity};
+ghost use Rattle.rs_parity.specs.Blocks.{block_size, IsParity};
 ghost use Rattle.rs_parity.specs.CodeWord.{sum_at};
 ghost use Rattle.rs_repair.specs.Inside.{
   IsMonicRow,
@@ -179,7 +179,7 @@ fn corrected(
     exponents: &[u32],
     powers: &[u16],
 ) -> Result<Vec<u8>, AllocError>
-    requires short { length block.now ≤ 131006 }
+    requires short { length block.now ≤ block_size }
     requires powers { length powers.now ≡ length exponents.now }
     ensures { IfOk result (λ v. IsCorrected block.now sums.now exponents.now powers.now v.items) }
 {
@@ -201,7 +201,7 @@ pub(crate) fn candidate(
     own: &[u16; PARITY],
     given: &[u16; PARITY],
 ) -> Result<Option<Vec<u8>>, AllocError>
-    requires short { length block.now ≤ 131006 }
+    requires short { length block.now ≤ block_size }
     requires own { IsParity block.now own.now }
     ensures some { IfOk result (λ o. IfSome o (λ v. IsOnlyCandidate block.now given.now v.items)) }
     ensures none { IfOk result (λ o. IfNone o (HasNoRepair block.now given.now)) }

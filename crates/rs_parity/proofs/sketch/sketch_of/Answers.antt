@@ -1,6 +1,7 @@
 use Rattle.std.proofs.Common.{rules, ◌≡◌, ℕ, ◌++◌, ◌∷◌, [], List, length, get_or, ap, sym, subst, ◌∙◌, arith}
 use Rattle.std.proofs.lemmas.List.{get_or_append_left, get_or_push, length_push}
 use borrow.Author.Count.{below_more}
+use Rattle.rs_parity.specs.Limits.{max_len}
 use Rattle.rs_parity.specs.Blocks.{block_of, IsParity}
 use Rattle.rs_parity.specs.Sketches.{IsSketch}
 use Rattle.rs_parity.proofs.Spelled.{sketches_fit_each}
@@ -25,4 +26,4 @@ loop-i-preserved c =
 pub returns-clause-fits : goal.returns-clause-fits
 returns-clause-fits c =
     let is : IsSketch c.args.content.now (record { len = length c.args.content.now; print = c.print.result; parities = c.loop-i.parities }) = search rules in
-    sketches_fit_each c.args.content.now _ 8388608 is (omega (arith, c.requires))
+    sketches_fit_each c.args.content.now _ max_len is (omega (arith, c.requires))
