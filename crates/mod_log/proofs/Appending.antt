@@ -1,13 +1,16 @@
 -- What an entry that is logged leaves.
-use Rattle.std.proofs.Common.{◌≡◌, ◌≢◌, ℕ, ◌+◌, ◌≤◌, ◌||◌, Bool, true, false, List, [], ◌∷◌, length, Option, Some, None, Result, Ok, Err, refl, sym, ap, ◌∙◌, subst, arith, length-append}
+use Rattle.std.proofs.Common.{◌≡◌, ◌≢◌, ℕ, ◌+◌, ◌≤◌, false, List, [], ◌∷◌, length, None, Result, Ok, Err, refl, sym, ap, ◌∙◌, subst, arith, length-append}
 use Rattle.std.specs.Prelude.{nat_lt, nat_le}
 use Rattle.std.specs.List.{AllByRecursion}
-use Rattle.std.proofs.lemmas.Bool.Decides.{nat_tests}
 use Rattle.std.proofs.lemmas.Bool.{eqb-false}
 use Rattle.tree_values.specs.declared.node.Effect.{Effect}
 use Rattle.tree_values.specs.declared.node.Effect.TheVariants.{Make, Put, Remove, Move}
 use Rattle.tree_values.specs.declared.node.TreeError.{TreeError}
-use Rattle.file_paths.specs.Refusals.{unless_refused}
+use Rattle.file_paths.specs.Limits.{max_file}
+use Rattle.tree_values.specs.Limits.{max_effects, max_files}
+use Rattle.mod_log.specs.Limits.{max_entries, max_log}
+use Rattle.byte_fields.proofs.Facts.{not_lt_of, not_le_of, or_false_of}
+use Rattle.file_paths.proofs.Refusals.{value_unrefused}
 use Rattle.tree_values.specs.Tree.{Volume, refusals, changed, apply, IsLegalEffect}
 use Rattle.tree_values.specs.Effects.{changed_all, unless_refused_at, apply_all, content_size, contents_size}
 use Rattle.tree_values.specs.Spelling.{EffectFits, EffectsFit}
@@ -18,29 +21,12 @@ use Rattle.mod_log.specs.Log.{Log, after, tree_of, IsLog, logged}
 use Rattle.mod_log.specs.Append.{next_entry, is_too_large, size_with, has_no_room, is_at_last, refused_effect, append_refusals, appended}
 use Rattle.mod_log.proofs.Entries.{AreEntriesOf-push, after-append}
 
--- ---- what the tests say
-
-either_false : (a b : Bool) → (a || b) ≡ false → (a ≡ false) × (b ≡ false)
-either_false true b e = absurd (cc)
-either_false false b e = (refl, e)
-
-at_most : (n limit : ℕ) → nat_lt limit n ≡ false → n ≤ limit
-at_most n limit e = grind (arith, nat_tests)
-
-below : (n limit : ℕ) → nat_le limit n ≡ false → n + 1 ≤ limit
-below n limit e = grind (arith, nat_tests)
-
-value_of : {T E : Type 0} (all : List (Option E)) (value v : T) → unless_refused all value ≡ Ok v → v ≡ value
-value_of [] value v e = cc
-value_of (None ∷ rest) value v e = value_of rest value v e
-value_of (Some refusal ∷ rest) value v e = absurd (cc)
-
 -- ---- effects that apply fit
 
-small_content : (e : Effect) (v after : Volume) → apply e v ≡ Ok after → content_size e ≤ 8388608
+small_content : (e : Effect) (v after : Volume) → apply e v ≡ Ok after → content_size e ≤ max_file
 small_content (Make p) v after e = omega arith
 small_content (Put p content) v after e =
-    let none = none_refused (refusals (Put p content) v) (changed (Put p content) v) after e in at_most (length content) 8388608 (not_when _ _ none.1.1.1.1.0)
+    let none = none_refused (refusals (Put p content) v) (changed (Put p content) v) after e in not_lt_of max_file (length content) (not_when _ _ none.1.1.1.1.0)
 small_content (Remove p) v after e = omega arith
 small_content (Move p q) v after e = omega arith
 
@@ -55,8 +41,8 @@ each_fits (effect ∷ later) at v after legal e = by (apply effect v) refl e (λ
 
 pub effects_fit : (effects : List Effect) (v after : Volume) → 1 ≤ length effects → is_too_large effects ≡ false → AllByRecursion IsLegalEffect effects → apply_all 0 effects v ≡ Ok after → EffectsFit effects
 effects_fit effects v after some small legal applies =
-    let tests = either_false (nat_lt 4096 (length effects)) (nat_lt 33554432 (contents_size effects)) small in
-    record { some = some; few = at_most (length effects) 4096 tests.0; each = each_fits effects 0 v after legal applies; all_contents = at_most (contents_size effects) 33554432 tests.1 }
+    let tests = or_false_of (nat_lt max_effects (length effects)) (nat_lt max_files (contents_size effects)) small in
+    record { some = some; few = not_lt_of max_effects (length effects) tests.0; each = each_fits effects 0 v after legal applies; all_contents = not_lt_of max_files (contents_size effects) tests.1 }
 
 -- ---- the log with one more
 
@@ -64,15 +50,15 @@ pub logged_is_log : (effects : List Effect) (log : Log) → IsLog log → Effect
     → has_no_room (next_entry effects log) log ≡ false → is_at_last log ≡ false → IsLog (logged (next_entry effects log) log)
 logged_is_log effects log is fits applies room number =
     let next : Entry = next_entry effects log in
-    let tests = either_false (nat_le 1024 (length log.pending)) (nat_lt 67108864 (size_with (next_entry effects log) log)) room in
-    let count = below (length log.pending) 1024 tests.0 in
+    let tests = or_false_of (nat_le max_entries (length log.pending)) (nat_lt max_log (size_with (next_entry effects log) log)) room in
+    let count = not_le_of max_entries (length log.pending) tests.0 in
     let long = length-append log.pending (next_entry effects log ∷ []) in
     let last = eqb-false (log.acked + length log.pending) 18446744073709551615 number in
     record {
       base_is = is.base_is;
       entries = AreEntriesOf-push (log.acked + 1) log.base log.pending (next_entry effects log) is.entries (record { numbered = omega arith; fits = fits; applies = applies; based = refl });
       few = omega (arith, count, long);
-      small = at_most (size_with (next_entry effects log) log) 67108864 tests.1;
+      small = not_lt_of max_log (size_with (next_entry effects log) log) tests.1;
       last = omega (arith, long, last, is.last);
     }
 
@@ -87,7 +73,7 @@ pub appended_adds : (effects : List Effect) (log new : Log) → IsLog log → Al
     → (new ≡ logged (next_entry effects log) log) × IsLog new × (tree_of new ≡ changed_all effects (tree_of log))
 appended_adds effects log new is legal some e =
     let none = none_refused (append_refusals effects log) (logged (next_entry effects log) log) new e in
-    let same = value_of (append_refusals effects log) (logged (next_entry effects log) log) new e in
+    let same = value_unrefused (append_refusals effects log) (logged (next_entry effects log) log) new e in
     let large = not_when (is_too_large effects) _ none.0 in
     let room = not_when (has_no_room (next_entry effects log) log) _ none.1.0 in
     let number = not_when (is_at_last log) _ none.1.1.0 in

@@ -1,14 +1,15 @@
 -- The laws of entries and of sketched effects that break a rule.
-use Rattle.std.proofs.Common.{◌≡◌, ◌≢◌, ◌⊎◌, ℕ, ◌+◌, ◌-◌, ◌^◌, ◌<◌, ◌≤◌, true, false, ◌&&◌, eqb, leb, List, [], ◌∷◌, ◌++◌, length, inl, inr, refl, sym, subst, ◌∙◌, arith, lit<}
+use Rattle.std.proofs.Common.{◌≡◌, ◌≢◌, ◌⊎◌, ℕ, ◌+◌, ◌-◌, ◌^◌, ◌<◌, ◌≤◌, ◌&&◌, eqb, leb, List, [], ◌∷◌, ◌++◌, length, inr, refl, sym, subst, ◌∙◌, arith, lit<}
 use Rattle.std.specs.Int.{w8, w32}
 use Rattle.std.specs.List.{flat_map, AllByRecursion}
-use Rattle.std.proofs.lemmas.Bool.{le-leb, ne_eqb}
+use Rattle.std.proofs.lemmas.Bool.{ne_eqb}
 use Rattle.std.proofs.lemmas.List.Sums.{sum_by-cons}
 use Rattle.byte_fields.specs.Field.{digits, number_at, none, one, two, each_at, passed}
 use Rattle.byte_fields.specs.Broken.{IsRefused}
 use Rattle.byte_fields.proofs.Codec.{u8_codec}
-use Rattle.byte_fields.proofs.Breaking.{read_again, refused_there, rule_refused, first_refused, later_refused, tagged_refused, unknown_kind, second_fails, count_refused, counted_refused, items_refused, each_read}
-use Rattle.byte_fields.proofs.Facts.{le_fails}
+use Rattle.byte_fields.proofs.Breaking.{read_again, refused_there, rule_refused, first_refused, later_refused, tagged_refused, unknown_kind, count_refused, counted_refused, items_refused, each_read}
+use Rattle.tree_laws.proofs.Breaking.{wrong_count, right_count}
+use Rattle.file_paths.specs.Limits.{max_file}
 use Rattle.rs_parity.specs.Spelling.{sketch_at}
 use Rattle.rs_parity.proofs.Cut.{len_refused}
 use Rattle.file_paths.specs.Path.{FilePath, IsPath}
@@ -90,7 +91,7 @@ module _ (room : ℕ) where
   unfolding sketch_effect_at
   behind_put text offset refused = tagged_refused (sketch_effect_kinds room) 2 (sketch_put_at room) text offset (lit< tt) (λ tag at bytes. refl) refused
 
-  put_len_refused : (len : ℕ) (p : FilePath) → IsPath p → len < 2 ^ 32 → (8388608 < len) ⊎ (room < len) → IsRefused (sketch_effect_at room) (2 ∷ (path p ++ digits w32 len)) (1 + length (path p))
+  put_len_refused : (len : ℕ) (p : FilePath) → IsPath p → len < 2 ^ 32 → (max_file < len) ⊎ (room < len) → IsRefused (sketch_effect_at room) (2 ∷ (path p ++ digits w32 len)) (1 + length (path p))
   put_len_refused len p is small large =
       refused_there (sketch_effect_at room) (2 ∷ (path p ++ digits w32 len)) (1 + (length (path p) + 0)) (1 + length (path p)) (omega arith)
       (behind_put (path p ++ digits w32 len) (length (path p) + 0) (sketch_refused p (digits w32 len) 0 is (len_refused room len small large)))
@@ -120,13 +121,6 @@ broken_sketch_effects = record {
 room_left : (room : ℕ) (es : List SketchEffect) → passed sketch_room_after room es ≡ room - sketched_sizes es
 room_left room [] = omega arith
 room_left room (e ∷ es) = room_left (room - sketched_size e) es ∙ omega (arith, sum_by-cons sketched_size e es)
-
-wrong_count : (count most : ℕ) → (count ≡ 0) ⊎ (most < count) → (leb 1 count && leb count most) ≡ false
-wrong_count count most (inl e) = rw e refl
-wrong_count count most (inr lt) = second_fails (leb 1 count) (leb count most) (le_fails count most lt)
-
-right_count : (count most before : ℕ) → before < count → count ≤ most → (leb 1 count && leb count most) ≡ true
-right_count count most before some few = rw (le-leb 1 count (omega arith), le-leb count most few) refl
 
 effect_refused : (most room count : ℕ) (before : List SketchEffect) (text : List ℕ) (offset : ℕ) → length before < count → count ≤ most → count < 2 ^ 32 → AllByRecursion SketchEffectFits before → sketched_sizes before ≤ room
     → IsRefused (sketch_effect_at (room - sketched_sizes before)) text offset → IsRefused (sketch_effects_within most room) (digits w32 count ++ (flat_map sketch_effect before ++ text)) (4 + (length (flat_map sketch_effect before) + offset))

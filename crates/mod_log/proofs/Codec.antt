@@ -6,6 +6,7 @@ use Rattle.std.proofs.lemmas.List.Sums.{sum_by-cons}
 use Rattle.byte_fields.specs.Field.{Reader, EachFits}
 use Rattle.byte_fields.specs.Codec.{Stands, IsCodec}
 use Rattle.byte_fields.proofs.Codec.{IsBranch, u8_codec, u32_codec, ruled_codec, codec_for, counted_codec, each_codec, found3, again3, fault3, tagged_found, tagged_fault, tagged_again1, tagged_again2, branch1, branch2}
+use Rattle.file_paths.specs.Limits.{max_file}
 use Rattle.rs_parity.specs.Spelling.{SketchFits}
 use Rattle.rs_parity.specs.declared.sketch.Sketch.{Sketch}
 use Rattle.rs_parity.proofs.Spelled.{sketch_codec}
@@ -44,10 +45,10 @@ entry_codec number = record {
 -- ---- sketched effects
 
 -- a sketch that fits where there is room for its content
-pub in_room : (room : ℕ) (sketch : Sketch) → SketchFits 8388608 sketch → sketch.len ≤ room → SketchFits room sketch
+pub in_room : (room : ℕ) (sketch : Sketch) → SketchFits max_file sketch → sketch.len ≤ room → SketchFits room sketch
 in_room room sketch fits le = record { len = omega (arith, fits.len); print = fits.print; print_bytes = fits.print_bytes; count = fits.count; checks = fits.checks }
 
-of_room : (room : ℕ) (sketch : Sketch) → SketchFits room sketch → SketchFits 8388608 sketch
+of_room : (room : ℕ) (sketch : Sketch) → SketchFits room sketch → SketchFits max_file sketch
 of_room room sketch fits = record { len = omega (arith, fits.len); print = fits.print; print_bytes = fits.print_bytes; count = fits.count; checks = fits.checks }
 
 module _ (room : ℕ) where

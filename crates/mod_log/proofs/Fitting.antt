@@ -1,11 +1,14 @@
 -- An entry that fits behind a log is what appending its effects gives.
 use Rattle.std.proofs.Common.{◌≡◌, ◌≢◌, ℕ, ◌+◌, ◌≤◌, ◌||◌, Bool, false, List, [], ◌∷◌, ◌++◌, length, None, Ok, refl, sym, ap, ◌∙◌, subst, arith, length-append}
-use Rattle.std.specs.Prelude.{nat_lt, nat_le, ◌==◌}
+use Rattle.std.specs.Prelude.{◌==◌}
 use Rattle.std.proofs.lemmas.Bool.Decides.{nat_tests}
+use Rattle.byte_fields.proofs.Facts.{lt_fails, le_fails}
+use Rattle.tree_values.specs.Limits.{max_effects, max_files}
 use Rattle.tree_values.specs.Tree.{Volume}
 use Rattle.tree_values.specs.Effects.{changed_all, contents_size}
 use Rattle.tree_values.specs.declared.node.Effect.{Effect}
 use Rattle.tree_values.specs.Spelling.{EffectsFit}
+use Rattle.mod_log.specs.Limits.{max_entries, max_log}
 use Rattle.mod_log.specs.declared.log.Entry.{Entry}
 use Rattle.mod_log.specs.Log.{Log, after, IsEntryOf, AreEntriesOf, IsLog, logged}
 use Rattle.mod_log.specs.Append.{next_entry, is_too_large, size_with, has_no_room, refused_effect, appended}
@@ -18,12 +21,6 @@ AreEntriesOf-last number v (first ∷ entries) e are =
     let rest = AreEntriesOf-last (number + 1) (changed_all first.effects v) entries e are.1 in
     ((are.0, rest.0), subst (λ n. IsEntryOf n (after entries (changed_all first.effects v)) e) (omega arith) rest.1)
 
-not_above : (n limit : ℕ) → n ≤ limit → nat_lt limit n ≡ false
-not_above n limit h = grind (arith, nat_tests)
-
-below : (n limit : ℕ) → n + 1 ≤ limit → nat_le limit n ≡ false
-below n limit h = grind (arith, nat_tests)
-
 apart : (n limit : ℕ) → n + 1 ≤ limit → (n == limit) ≡ false
 apart n limit h = grind (arith, nat_tests)
 
@@ -31,7 +28,7 @@ neither : (a b : Bool) → a ≡ false → b ≡ false → (a || b) ≡ false
 neither a b e e' = rw (e, e') refl
 
 small_enough : (effects : List Effect) → EffectsFit effects → is_too_large effects ≡ false
-small_enough effects fits = neither _ _ (not_above (length effects) 4096 fits.few) (not_above (contents_size effects) 33554432 fits.all_contents)
+small_enough effects fits = neither _ _ (lt_fails max_effects (length effects) fits.few) (lt_fails max_files (contents_size effects) fits.all_contents)
 
 pub fit_is_appended : (log : Log) (e : Entry) → IsLog (logged e log) → appended e.effects log ≡ Ok (logged e log)
 fit_is_appended log e is =
@@ -39,7 +36,7 @@ fit_is_appended log e is =
     let seq : e.seq ≡ log.acked + length log.pending + 1 = omega (arith, last.numbered) in
     let same : next_entry e.effects log ≡ e = λ i. record { seq = sym seq i; effects = e.effects; base = sym last.based i } in
     let long = length-append log.pending (e ∷ []) in
-    let room : has_no_room e log ≡ false = neither _ _ (below (length log.pending) 1024 (omega (arith, long, is.few))) (not_above (size_with e log) 67108864 is.small) in
+    let room : has_no_room e log ≡ false = neither _ _ (le_fails max_entries (length log.pending) (omega (arith, long, is.few))) (lt_fails max_log (size_with e log) is.small) in
     appended_as e.effects log None (small_enough e.effects last.fits) (rw same room) (apart (log.acked + length log.pending) 18446744073709551615 (omega (arith, long, is.last))) (ap refused_effect last.applies)
     ∙ ap (λ next. Ok (logged next log)) same
 

@@ -5,6 +5,7 @@ use Rattle.std.proofs.lemmas.List.Concat.{flat_map-cons}
 use Rattle.std.proofs.lemmas.List.Sums.{sum_by-cons}
 use Rattle.sha2.specs.Sha256.{sha256}
 use Rattle.byte_fields.specs.Codec.{IsBytes}
+use Rattle.file_paths.specs.Limits.{max_file}
 use Rattle.rs_parity.specs.Sketches.{IsSketch, Distinct}
 use Rattle.rs_parity.specs.declared.sketch.Sketch.{Sketch}
 use Rattle.rs_parity.proofs.Spelled.{sketches_fit_each}
@@ -85,7 +86,7 @@ filling_fits =
 
 sketch_fits : (e : Effect) (k : SketchEffect) → IsSketchedAs e k → EffectFits e → SketchEffectFits k
 sketch_fits =
-    sketched_kinds (λ e k. EffectFits e → SketchEffectFits k) (λ p fits. fits.0) (λ p content sketch is fits. (fits.0.0, sketches_fit_each content sketch 8388608 is (omega (arith, fits.1)))) (λ p fits. fits.0) (λ p to fits. fits.0)
+    sketched_kinds (λ e k. EffectFits e → SketchEffectFits k) (λ p fits. fits.0) (λ p content sketch is fits. (fits.0.0, sketches_fit_each content sketch max_file is (omega (arith, fits.1)))) (λ p fits. fits.0) (λ p to fits. fits.0)
 
 filling_equal : (e : Effect) (k : SketchEffect) → IsSketchedAs e k → (other : Effect) → Fills k other → Distinct (Writes (e ∷ [])) (Writes (other ∷ [])) → other ≡ e
 filling_equal = sketched_kinds (λ e k. (other : Effect) → Fills k other → Distinct (Writes (e ∷ [])) (Writes (other ∷ [])) → other ≡ e) make put remove move

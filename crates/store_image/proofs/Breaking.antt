@@ -1,5 +1,5 @@
 -- The laws of images that break a rule.
-use Rattle.std.proofs.Common.{◌≡◌, ◌≢◌, ◌⊎◌, ℕ, ◌+◌, ◌^◌, ◌<◌, ◌≤◌, Bool, true, false, ◌&&◌, leb, eqb, List, [], ◌∷◌, ◌++◌, length, take, drop, Ok, Err, inl, inr, refl, sym, ap, arith, lit<, length-append}
+use Rattle.std.proofs.Common.{◌≡◌, ◌≢◌, ◌⊎◌, ℕ, ◌+◌, ◌^◌, ◌<◌, ◌≤◌, false, ◌&&◌, leb, eqb, List, [], ◌∷◌, ◌++◌, length, take, drop, Ok, Err, inl, inr, refl, sym, ap, arith, lit<, length-append}
 use Rattle.std.specs.Int.{w8, w64}
 use Rattle.std.specs.Str.{bytes_eq}
 use Rattle.std.specs.List.{AllByRecursion}
@@ -12,9 +12,9 @@ use Rattle.byte_fields.specs.Codec.{Stands}
 use Rattle.byte_fields.specs.Broken.{IsRefused}
 use Rattle.byte_fields.proofs.Codec.{u8_codec, u64_codec, span_codec, ruled_codec}
 use Rattle.byte_fields.proofs.Breaking.{read_again, refused_there, rule_refused, ruled_refused, first_refused, later_refused, tagged_refused, kind_refused, second_fails}
-use Rattle.byte_fields.proofs.Facts.{le_fails, eight_bytes}
+use Rattle.byte_fields.proofs.Facts.{not_true, le_fails, eight_bytes}
 use Rattle.tree_values.specs.declared.node.Base.{Base}
-use Rattle.file_paths.specs.Path.{FilePath, is_same_path}
+use Rattle.file_paths.specs.Path.{is_same_path}
 use Rattle.tree_values.specs.Tree.{Volume, IsTree, apply}
 use Rattle.file_paths.specs.Spelling.{path}
 use Rattle.tree_values.specs.Spelling.{effect, rows}
@@ -22,7 +22,7 @@ use Rattle.file_paths.specs.Reading.{path_at}
 use Rattle.tree_values.specs.Reading.{effect_at, rows_at}
 use Rattle.file_paths.proofs.Parts.{path_codec}
 use Rattle.tree_laws.proofs.Parts.{effect_codec, rows_codec}
-use Rattle.file_paths.proofs.Order.{tied_path, path_tied}
+use Rattle.file_paths.proofs.Order.{paths_apart, path_tied}
 use Rattle.mod_log.specs.Log.{Log, new_log_of}
 use Rattle.store_image.specs.declared.image.ImageError.TheVariants.{BadImage}
 use Rattle.store_image.specs.Reading.{growing_effect_at, known_base_at, next_entry_at, entries_at, log_at, marked, client_mark, client_body_at, client_versions, client_at, numbers_at, server_mark, server_body_at, server_versions, server_at}
@@ -34,14 +34,7 @@ use Rattle.store_image.proofs.Images.{client_made, number_codec, numbers_codec, 
 use Rattle.store_image.proofs.Sizes.{numbers_size}
 use Rattle.store_image.proofs.BreakingParts.{effect_is_none, effects_are_none, effect_is_refused, bases_are_others, base_is_refused}
 
-not_true : (b : Bool) → (b ≡ true → ⊥) → b ≡ false
-not_true true h = absurd (h refl)
-not_true false h = refl
-
 -- ---- entries
-
-path_differs : (known other : FilePath) → other ≢ known → is_same_path known other ≡ false
-path_differs known other differ = not_true (is_same_path known other) (λ same. differ (sym (tied_path known other same)))
 
 base_path_refused : (known : Base) (text : List ℕ) (offset : ℕ) → IsRefused (ruled (is_same_path known.path) path_at) text offset → IsRefused (known_base_at known) text offset
 unfolding known_base_at
@@ -63,7 +56,7 @@ broken_entries = record {
   effect_does_not_apply = λ growing e refusal fits room none.
       rule_refused (effect_at growing.room) (λ x. is_ok (apply x growing.tree)) (effect e) e (read_again (effect_codec growing.room) e (fits, room)) (rw none refl);
   path_is_another = λ known other is differ.
-      base_path_refused known (path other) 0 (rule_refused path_at (is_same_path known.path) (path other) other (read_again path_codec other is) (path_differs known.path other differ));
+      base_path_refused known (path other) 0 (rule_refused path_at (is_same_path known.path) (path other) other (read_again path_codec other is) (paths_apart known.path other differ));
   version_is_another = λ known version is small differ.
       refused_there (known_base_at known) (path known.path ++ digits w64 version) (length (path known.path) + 0) (length (path known.path)) (omega arith)
       (later_refused (ruled (is_same_path known.path) path_at) (λ p bytes at. ruled (λ n. eqb n known.version) (number_at w64) bytes at >>= λ v. Ok (record { path = p; version = v.0 }, v.1)) (path known.path) (digits w64 version) known.path 0

@@ -11,7 +11,7 @@ use Rattle.byte_fields.specs.Cuts.{start_of}
 use Rattle.byte_fields.specs.Broken.{IsRefused}
 use Rattle.byte_fields.proofs.Codec.{bind_err, never_err}
 use Rattle.byte_fields.proofs.Cutting.{each_cut}
-use Rattle.byte_fields.proofs.Facts.{le_fails}
+use Rattle.byte_fields.proofs.Facts.{le_fails, limited_refused}
 use Rattle.byte_fields.proofs.Breaking.{second_fails, count_refused, counted_refused, items_refused, each_read}
 use Rattle.tree_values.specs.Tree.{Volume, IsTree}
 use Rattle.mod_log.specs.declared.log.Entry.{Entry}
@@ -37,10 +37,6 @@ stands_within bytes at text next room stands le =
       next_is = stands.next_is;
       within = omega (arith, length-take (at + room) bytes, stands.next_is, stands.within);
     }
-
-limited_refused : {A : Type 0} (room : ℕ) (read : Reader A) (text : List ℕ) (offset : ℕ) → length text ≤ room → IsRefused read text offset → IsRefused (limited room read) text offset
-unfolding limited
-limited_refused room read text offset le refused bytes at next stands = refused (take (at + room) bytes) at next (stands_within bytes at text next room stands le)
 
 -- what is refused among some items is refused among more
 more_items : {S A : Type 0} (item : S → Reader A) (after : S → A → S) (few many : ℕ) (state : S) (bytes : List ℕ) (at place : ℕ) → few ≤ many → each_at item after few state bytes at ≡ Err place → each_at item after many state bytes at ≡ Err place

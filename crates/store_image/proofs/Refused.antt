@@ -1,10 +1,9 @@
 -- Images that are cut short are refused at the field in which they end.
 use Rattle.std.proofs.Common.{◌≡◌, ℕ, zero, suc, ◌+◌, ◌-◌, ◌^◌, ◌<◌, ◌≤◌, Bool, true, false, List, [], ◌∷◌, length, take, Err, refl, sym, ap, ◌∙◌, arith, inl, inr, length-take}
-use Rattle.std.specs.Prelude.{nat_lt}
 use Rattle.std.specs.Str.{bytes_eq}
 use Rattle.std.proofs.lemmas.Bool.{cases_lt}
-use Rattle.std.proofs.lemmas.Bool.Decides.{nat_tests}
 use Rattle.std.proofs.lemmas.Slice.Eq.{bytes_eq-Decides}
+use Rattle.byte_fields.proofs.Facts.{lt_holds, lt_fails}
 use Rattle.byte_fields.specs.Field.{Reader}
 use Rattle.byte_fields.specs.Cuts.{start_of, IsCut}
 use Rattle.byte_fields.specs.Numbers.{as_u32}
@@ -19,19 +18,13 @@ use Rattle.store_image.proofs.Cuts.{client_cut, server_cut}
 use Rattle.store_image.proofs.Sizes.{client_size, server_size}
 use Rattle.store_image.proofs.Whole.{whole_stands}
 
-below : (a b : ℕ) → a < b → nat_lt a b ≡ true
-below a b h = grind (arith, nat_tests)
-
-not_below : (a b : ℕ) → b ≤ a → nat_lt a b ≡ false
-not_below a b h = grind (arith, nat_tests)
-
 -- a field begins where a place in it lies, or before
 begins_before : (place : ℕ) (sizes : List ℕ) → start_of place sizes ≤ place
 begins_before place [] = omega arith
 begins_before place (size ∷ sizes) =
     elim (cases_lt place size) [
-      | inl low ↦ rw (below place size low) (omega arith)
-      | inr high ↦ rw (not_below place size high) (omega (arith, begins_before (place - size) sizes))
+      | inl low ↦ rw (lt_holds place size low) (omega arith)
+      | inr high ↦ rw (lt_fails place size high) (omega (arith, begins_before (place - size) sizes))
     ]
 
 take_less : (k n : ℕ) (xs : List ℕ) → k ≤ n → take k (take n xs) ≡ take k xs

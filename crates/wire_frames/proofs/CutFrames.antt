@@ -4,6 +4,7 @@ use Rattle.std.specs.Int.{w32, w64, from_be_bytes}
 use Rattle.std.proofs.lemmas.List.{drop_at, append-nil}
 use Rattle.std.proofs.Math.Seq.{drop-length}
 use Rattle.std.proofs.lemmas.Nat.{from_be_bytes-to_be_bytes_4}
+use Rattle.byte_fields.proofs.Facts.{four_bytes}
 use Rattle.byte_fields.specs.Field.{digits}
 use Rattle.byte_fields.specs.Codec.{Stands}
 use Rattle.byte_fields.specs.Cuts.{start_of}
@@ -24,7 +25,7 @@ use Rattle.wire_frames.specs.Laws.{CutFramesNameTheField}
 use Rattle.tree_laws.proofs.Few.{touched_few}
 use Rattle.wire_frames.proofs.FaultLaws.{unfit_cut, full_cut}
 use Rattle.wire_frames.proofs.Messages.{tail, number_codec, refusal}
-use Rattle.wire_frames.proofs.Frames.{are_sized, kind_again, four_digits}
+use Rattle.wire_frames.proofs.Frames.{are_sized, kind_again}
 use Rattle.wire_frames.proofs.Sizes.{frame_small}
 
 -- ---- bodies
@@ -71,7 +72,7 @@ pub cut_frames : CutFramesNameTheField
 unfolding digits
 cut_frames m end valid low lt =
     let size : length (frame m) ≡ 4 + length (payload m) = length-append (digits w32 (length (payload m))) (payload m) in
-    let rest : drop 4 (frame m) ≡ payload m = drop_at (digits w32 (length (payload m))) (payload m) 4 (four_digits (length (payload m))) in
+    let rest : drop 4 (frame m) ≡ payload m = drop_at (digits w32 (length (payload m))) (payload m) 4 (four_bytes (length (payload m))) in
     let whole : List ℕ = digits w32 (end - 4) ++ payload m in
     let long : length whole ≡ 4 + length (payload m) = length-append (digits w32 (end - 4)) (payload m) in
     let short : length (take end whole) ≡ end = omega (arith, length-take end whole) in

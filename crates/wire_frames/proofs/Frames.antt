@@ -9,7 +9,7 @@ use Rattle.std.proofs.Math.Seq.{drop-length}
 use Rattle.std.proofs.lemmas.Nat.{be_bytes_4, from_be_bytes-to_be_bytes_4}
 use Rattle.byte_fields.specs.Field.{digits}
 use Rattle.byte_fields.specs.Codec.{Stands, IsBytes}
-use Rattle.byte_fields.proofs.Facts.{bytes_taken}
+use Rattle.byte_fields.proofs.Facts.{bytes_taken, four_bytes}
 use Rattle.wire_frames.specs.declared.message.Message.{Message}
 use Rattle.wire_frames.specs.declared.message.Kind.{Kind}
 use Rattle.wire_frames.specs.declared.message.Kind.TheVariants.{Store, Pull, Accepted, Stale, Unfit, Gap, Snapshot, Full, Malformed}
@@ -134,10 +134,6 @@ pub is_found : (bytes : List ℕ) (r : Result Message FrameError) → IsBytes by
 is_found bytes (Ok m) fits given = frame_found bytes m fits given
 is_found bytes (Err e) fits given = tt
 
-pub four_digits : (n : ℕ) → length (digits w32 n) ≡ 4
-unfolding digits
-four_digits n = refl
-
 digits_again : (n : ℕ) → n < 2 ^ 32 → from_be_bytes w32 (digits w32 n) ≡ n
 unfolding digits
 digits_again n lt = from_be_bytes-to_be_bytes_4 n lt
@@ -146,7 +142,7 @@ digits_again n lt = from_be_bytes-to_be_bytes_4 n lt
 
 same_size : (m n : Message) (x y : List ℕ) → IsValid m → IsValid n → frame m ++ x ≡ frame n ++ y → length (payload m) ≡ length (payload n)
 same_size m n x y v w e =
-    let front : (k : Message) (rest : List ℕ) → take 4 (frame k ++ rest) ≡ digits w32 (length (payload k)) = λ k rest. ap (take 4) (append_assoc (digits w32 (length (payload k))) (payload k) rest) ∙ take_at (digits w32 (length (payload k))) (payload k ++ rest) 4 (four_digits (length (payload k))) in
+    let front : (k : Message) (rest : List ℕ) → take 4 (frame k ++ rest) ≡ digits w32 (length (payload k)) = λ k rest. ap (take 4) (append_assoc (digits w32 (length (payload k))) (payload k) rest) ∙ take_at (digits w32 (length (payload k))) (payload k ++ rest) 4 (four_bytes (length (payload k))) in
     let told : digits w32 (length (payload m)) ≡ digits w32 (length (payload n)) = sym (front m x) ∙ ap (take 4) e ∙ front n y in
     sym (digits_again (length (payload m)) (payload_small m v)) ∙ ap (from_be_bytes w32) told ∙ digits_again (length (payload n)) (payload_small n w)
 
@@ -156,7 +152,7 @@ message_is m n e = cc
 pub frames_apart : (m n : Message) (x y : List ℕ) → IsValid m → IsValid n → frame m ++ x ≡ frame n ++ y → (m ≡ n) × (x ≡ y)
 frames_apart m n x y v w e =
     let size = same_size m n x y v w e in
-    let len : length (frame m) ≡ length (frame n) = length-append (digits w32 (length (payload m))) (payload m) ∙ omega (arith, size, four_digits (length (payload m)), four_digits (length (payload n))) ∙ sym (length-append (digits w32 (length (payload n))) (payload n)) in
+    let len : length (frame m) ≡ length (frame n) = length-append (digits w32 (length (payload m))) (payload m) ∙ omega (arith, size, four_bytes (length (payload m)), four_bytes (length (payload n))) ∙ sym (length-append (digits w32 (length (payload n))) (payload n)) in
     let same : frame m ≡ frame n = sym (take_at (frame m) x (length (frame m)) refl) ∙ ap (take (length (frame m))) e ∙ take_at (frame n) y (length (frame m)) (sym len) in
     let rest : x ≡ y = sym (drop_at (frame m) x (length (frame m)) refl) ∙ ap (drop (length (frame m))) e ∙ drop_at (frame n) y (length (frame m)) (sym len) in
     (message_is m n (sym (frame_again m v) ∙ ap frame_of same ∙ frame_again n w), rest)

@@ -3,6 +3,7 @@ use Rattle.std.proofs.Common.{◌≡◌, ◌≢◌, ℕ, Bool, true, false, true
 use Rattle.std.specs.Int.{w32}
 use Rattle.std.proofs.lemmas.Bool.{eqb-true, eq-eqb}
 use Rattle.std.proofs.lemmas.List.{take_at, drop_at}
+use Rattle.byte_fields.proofs.Facts.{four_bytes}
 use Rattle.byte_fields.specs.Field.{digits}
 use Rattle.wire_frames.specs.declared.message.Message.{Message}
 use Rattle.wire_frames.specs.declared.message.Kind.{Kind}
@@ -12,7 +13,7 @@ use Rattle.wire_frames.specs.Frame.{kind, code_of, client_rule, payload, frame}
 use Rattle.wire_frames.specs.Reading.{message_at, kind_of, whole, of_kind, is_sized, frame_of}
 use Rattle.wire_frames.specs.Laws.{LengthIsFirst, VersionIsSecond, KindIsThird, ClientIsFourth, FieldsAreBehindTheClient, MessagesStandBeforeWhatIsLeft}
 use Rattle.wire_frames.proofs.Messages.{message_found, message_fault}
-use Rattle.wire_frames.proofs.Frames.{sized, header, kind_found, kind_again, four_digits}
+use Rattle.wire_frames.proofs.Frames.{sized, header, kind_found, kind_again}
 
 -- the bytes have the version, and this kind's code
 record IsOfKind (bytes : List ℕ) (k : Kind) : Type 0 where
@@ -149,7 +150,7 @@ message_before bytes place fits e =
     let len : length (take 4 bytes ++ payload m) ≡ place = omega (arith, length-append (take 4 bytes) (payload m), four, r.stands.next_is) in
     let front : take place bytes ≡ take 4 bytes ++ payload m = ap (take place) whole ∙ take_at (take 4 bytes ++ payload m) (drop place bytes) place len in
     let behind : drop 4 (take place bytes) ≡ payload m = ap (drop 4) front ∙ drop_at (take 4 bytes) (payload m) 4 four in
-    let mine : drop 4 (frame m) ≡ payload m = drop_at (digits w32 (length (payload m))) (payload m) 4 (four_digits (length (payload m))) in
+    let mine : drop 4 (frame m) ≡ payload m = drop_at (digits w32 (length (payload m))) (payload m) 4 (four_bytes (length (payload m))) in
     let past : place ≢ length bytes = differs place (length bytes) s.4 in (
       omega (arith, r.stands.within, past),
       (
