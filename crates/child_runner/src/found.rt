@@ -1,0 +1,98 @@
+// The rows of a folder that is read.
+ghost use Rattle.std.specs.Prelude.{◌≡◌, ◌≤◌, ◌+◌, ◌++◌, ◌∷◌, [], length, Some, OnOk};
+ghost use Rattle.tree_values.specs.Tree.{node_size};
+ghost use Rattle.tree_values.specs.Limits.{max_rows, max_files};
+ghost use Rattle.child_runner.specs.Found.{raw_size, IsSmall};
+
+use crate::faults::too_much;
+use cmd_capture::{RawRow, RawRows};
+use file_paths::Content;
+use std::alloc::Global;
+use std::io;
+use std::marker::Model;
+use tree_values::{MAX_FILES, MAX_ROWS, Node};
+
+/// The rows that were found so far: at most [`MAX_ROWS`], with at most [`MAX_FILES`] bytes in all files.
+#[derive(Drop)]
+pub(crate) struct Found {
+    rows: RawRows,
+    bytes: usize,
+}
+
+impl Model for Found {
+    ghost use Rattle.std.specs.Prelude.{◌≡◌, List};
+    ghost use Rattle.cmd_capture.specs.declared.job.RawRow.{RawRow};
+    ghost use Rattle.child_runner.specs.Found.{raw_size, IsSmall};
+
+    ghost Value = { List RawRow };
+
+    ghost view = { λ found. found.rows };
+
+    ghost invariant = { λ found. IsSmall found.rows × (found.bytes ≡ raw_size found.rows) };
+}
+
+impl Found {
+    /// No row.
+    pub(crate) fn new(alloc: Global) -> Found
+        ensures { result ≡ [] }
+    {
+        Found {
+            rows: RawRows::new(alloc),
+            bytes: 0,
+        }
+    }
+
+    /// How many more rows there may be.
+    pub(crate) fn rows_left(&self) -> usize
+        ensures { result + length self.now ≡ max_rows }
+    {
+        MAX_ROWS - self.rows.len()
+    }
+
+    /// How many more bytes the files may have.
+    pub(crate) fn bytes_left(&self) -> usize
+        ensures { result + raw_size self.now ≡ max_files }
+    {
+        MAX_FILES - self.bytes
+    }
+
+    /// Adds a folder.
+    pub(crate) fn add_folder(&mut self, path: Content) -> io::Result<()>
+        ensures one { OnOk result (length self.new ≡ length self.old + 1) }
+        ensures few { OnOk result (length self.new ≤ max_rows) }
+    {
+        self.add(path, Node::Folder, 0)
+    }
+
+    /// Adds a file.
+    pub(crate) fn add_file(&mut self, path: Content, content: Content) -> io::Result<()>
+        ensures one { OnOk result (length self.new ≡ length self.old + 1) }
+        ensures few { OnOk result (length self.new ≤ max_rows) }
+    {
+        let size = content.bytes().len();
+        self.add(path, Node::File(content), size)
+    }
+
+    /// Adds what stands at the path, where there is room.
+    #[tactic(auto, using(crate::proofs::Sizes::raw_size_more))]
+    fn add(&mut self, path: Content, node: Node, size: usize) -> io::Result<()>
+        requires { size ≡ node_size (Some node) }
+        ensures added { OnOk result (self.new ≡ self.old ++ record { path = path; node = node } ∷ []) }
+        ensures few { OnOk result (length self.new ≤ max_rows) }
+    {
+        if self.rows_left() == 0 || size > self.bytes_left() {
+            return Err(too_much());
+        }
+        self.rows.push(RawRow { path, node })?;
+        self.bytes += size;
+        Ok(())
+    }
+
+    /// The rows.
+    pub(crate) fn into_rows(self) -> RawRows
+        ensures rows { result ≡ self }
+        ensures small { IsSmall result }
+    {
+        self.rows
+    }
+}

@@ -1,0 +1,87 @@
+// A program that is started and waited for.
+ghost use Rattle.std.specs.Prelude.{◌≡◌, ◌∷◌, ◌++◌, true, Some, pos, IfOk, OnOk, string_bytes};
+ghost use Rattle.std.specs.Process.{exit_code, command_program, command_args, command_dir, clears_env, SameProgramAndArgs};
+ghost use Rattle.file_paths.specs.Path.{path_text};
+
+use crate::texts::{place_in, text_of};
+use cmd_capture::{Command, Env};
+use file_paths::{Content, Path};
+use std::alloc::{AllocGlobal, Global};
+use std::io::{self, ErrorKind};
+use std::process::{self, ExitStatus, Processes, Stdio};
+
+/// Starts the command's program in the folder, and waits until it has ended. It has no input, and what it writes to its
+/// streams is not kept.
+pub(crate) fn run_there<R: Processes + AllocGlobal>(
+    host: &R,
+    folder: &str,
+    command: &Command,
+) -> io::Result<u8> {
+    let mut start = start_of(host.alloc(), folder, command)?;
+    let ended = start.status(host);
+    drop(start);
+    status_of(ended?)
+}
+
+/// The status that the program gave. One that was ended by a signal gave none.
+fn status_of(ended: ExitStatus) -> io::Result<u8>
+    ensures { IfOk result (λ status. exit_code ended ≡ Some (pos status)) }
+{
+    match ended.code() {
+        Some(code) => match u8::try_from(code) {
+            Ok(status) => Ok(status),
+            Err(_) => Err(io::Error::from(ErrorKind::InvalidData)),
+        },
+        None => Err(io::Error::from(ErrorKind::Interrupted)),
+    }
+}
+
+/// What is started: the program under its own word, with its words and variables alone, in the command's folder.
+fn start_of(alloc: Global, folder: &str, command: &Command) -> io::Result<process::Command>
+    ensures program { IfOk result (λ start. command_program start ≡ command.now.program) }
+    ensures words { IfOk result (λ start. command_args start ≡ command.now.args) }
+    ensures variables { IfOk result (λ start. clears_env start ≡ true) }
+    ensures folder { IfOk result (λ start. command_dir start ≡ Some (folder.now ++ 47 ∷ path_text command.now.cwd)) }
+{
+    let program = text_of(command.program.bytes())?;
+    let place = place_of(alloc, folder, &command.cwd)?;
+    let mut start = process::Command::new(alloc, program)?;
+    add_words(&mut start, command.args.as_slice())?;
+    start.env_clear();
+    add_variables(&mut start, &command.env)?;
+    start.current_dir(place.as_str())?;
+    start.stdin(Stdio::null());
+    start.stdout(Stdio::null());
+    start.stderr(Stdio::null());
+    Ok(start)
+}
+
+/// The folder that the program is started in.
+fn place_of(alloc: Global, folder: &str, cwd: &Path) -> io::Result<String>
+    ensures { IfOk result (λ place. string_bytes place ≡ folder.now ++ 47 ∷ path_text cwd.now) }
+{
+    let text = cwd.text()?;
+    Ok(place_in(alloc, folder, text_of(text.bytes())?)?)
+}
+
+fn add_words(start: &mut process::Command, words: &[Content]) -> io::Result<()>
+    ensures program { OnOk result (command_program start.new ≡ command_program start.old) }
+    ensures words { OnOk result (command_args start.new ≡ command_args start.old ++ words.now) }
+{
+    for word in words {
+        start.arg(text_of(word.bytes())?)?;
+    }
+    Ok(())
+}
+
+fn add_variables(start: &mut process::Command, variables: &Env) -> io::Result<()>
+    ensures call { OnOk result (SameProgramAndArgs start.old start.new) }
+    ensures clears { OnOk result (clears_env start.new ≡ clears_env start.old) }
+{
+    for i in 0..variables.len() {
+        if let Some((key, value)) = variables.get(i) {
+            start.env(text_of(key.bytes())?, text_of(value.bytes())?)?;
+        }
+    }
+    Ok(())
+}

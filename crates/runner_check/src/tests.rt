@@ -1,0 +1,215 @@
+// What no contract says: what becomes of programs that are started, and of the folders that they leave.
+use child_runner::ChildRunner;
+use cmd_capture::{Command, Env, Job, JobRow, JobRows, Outcome, Runner, Templates, Words};
+use std::alloc::AllocError;
+use std::test::Fail;
+use std::{fs, process};
+use vol_tree::{Content, Node, Path, Paths};
+
+/// A process that cannot be: its number is above those that the system gives.
+const GONE: &str = "run-4194305-0";
+
+fn content(rt: &HostRuntime, text: &str) -> Result<Content, AllocError> {
+    Content::of(rt.alloc(), text.as_bytes())
+}
+
+/// The command that runs the script as the shell `program`, in the folder `cwd`, with one variable.
+fn command(rt: &HostRuntime, program: &str, cwd: &str, script: &str) -> Result<Command, Fail> {
+    let mut args = Words::new(rt.alloc());
+    for word in ["-c", script, "name", "two words"] {
+        args.push(content(rt, word)?)?;
+    }
+    let mut env = Env::new(rt.alloc());
+    env.set(content(rt, "PATH")?, content(rt, "/usr/bin:/bin")?)?;
+    Ok(Command {
+        program: content(rt, program)?,
+        args,
+        cwd: Path::read(rt.alloc(), cwd.as_bytes())?,
+        env,
+        inputs: Paths::new(rt.alloc()),
+        templates: Templates::new(rt.alloc()),
+    })
+}
+
+/// A folder `a` and a file `a/b`.
+fn rows(rt: &HostRuntime) -> Result<JobRows, Fail> {
+    let mut rows = JobRows::new(rt.alloc());
+    rows.push(JobRow {
+        path: Path::read(rt.alloc(), b"a")?,
+        node: Node::Folder,
+    })?;
+    rows.push(JobRow {
+        path: Path::read(rt.alloc(), b"a/b")?,
+        node: Node::File(content(rt, "old")?),
+    })?;
+    Ok(rows)
+}
+
+fn job(rt: &HostRuntime, program: &str, cwd: &str, script: &str) -> Result<Job, Fail> {
+    let rows = rows(rt)?;
+    Ok(Job {
+        command: command(rt, program, cwd, script)?,
+        rows,
+    })
+}
+
+/// The status and the rows, folders with `/` behind them and files with their contents.
+fn shown(rt: &HostRuntime, outcome: &Outcome) -> Result<String, Fail> {
+    let mut text = format!(in rt.alloc(); "{}", outcome.status)?;
+    for row in outcome.rows.as_slice() {
+        text.push(' ')?;
+        text.push_str(str::from_utf8(row.path.bytes())?)?;
+        match &row.node {
+            Node::Folder => text.push('/')?,
+            Node::File(bytes) => {
+                text.push('=')?;
+                text.push_str(str::from_utf8(bytes.bytes())?)?;
+            }
+        }
+    }
+    Ok(text)
+}
+
+/// How many entries the folder has.
+fn count(rt: &HostRuntime, folder: &str) -> Result<usize, Fail> {
+    Ok(fs::read_dir(rt, folder)?.count())
+}
+
+/// Runs the job in `work`, where it leaves nothing, and shows what came of it, with the count of a fault.
+fn ran_as(rt: &HostRuntime, work: &str, job: &Job) -> Result<String, Fail> {
+    let mut runner = ChildRunner::new(rt, process::id(rt.process()));
+    let text = match runner.run(work.as_bytes(), job) {
+        Ok(outcome) => shown(rt, &outcome)?,
+        Err(error) => format!(in rt.alloc(); "{error}, {}", runner.faults())?,
+    };
+    fs::remove_dir(rt, work)?;
+    Ok(text)
+}
+
+/// Runs the script in the shell.
+fn ran(rt: &HostRuntime, work: &str, script: &str) -> Result<String, Fail> {
+    let job = job(rt, "/bin/sh", "", script)?;
+    ran_as(rt, work, &job)
+}
+
+#[test]
+fn the_shell_makes_a_file(rt: HostRuntime) -> Result<(), Fail> {
+    let text = ran(&rt, "work_made", "printf new > c; exit 3")?;
+    assert_eq!(rt; text.as_str(), "3 a/ a/b=old c=new");
+    Ok(())
+}
+
+#[test]
+fn a_child_writes_removes_and_makes_folders(rt: HostRuntime) -> Result<(), Fail> {
+    let script = "rm a/b && mkdir a/b && printf 1 > a/b/c && mkdir -p a.d/e && printf 2 > a/z";
+    let text = ran(&rt, "work_changed", script)?;
+    assert_eq!(rt; text.as_str(), "0 a/ a/b/ a/b/c=1 a/z=2 a.d/ a.d/e/");
+    Ok(())
+}
+
+#[test]
+fn it_has_its_words_and_variables_in_its_folder(rt: HostRuntime) -> Result<(), Fail> {
+    let script = "printf '%s,' $0 \"$@\" > w; printf '%s,' $PATH \"$HOME\" $(cat) > v; echo x";
+    let job = job(&rt, "/bin/sh", "a", script)?;
+    let text = ran_as(&rt, "work_words", &job)?;
+    let wanted = "0 a/ a/b=old a/v=/usr/bin:/bin,, a/w=name,two words,";
+    assert_eq!(rt; text.as_str(), wanted);
+    Ok(())
+}
+
+#[test]
+fn what_is_no_outcome_is_a_fault(rt: HostRuntime) -> Result<(), Fail> {
+    for script in [
+        "ln -s /etc c",
+        "ln -s b a/c",
+        "mkfifo c",
+        "kill -9 $$",
+        "printf 1 > $(printf 'c\\377')",
+        "p=a; for i in 1 2 3 4 5 6 7 8; do p=$p/a/a/a/a; done; mkdir -p $p",
+        "truncate -s 33554430 c",
+    ] {
+        let text = ran(&rt, "work_fault", script)?;
+        assert_eq!(rt; text.as_str(), "the run failed, 1");
+    }
+    Ok(())
+}
+
+#[test]
+fn what_does_not_exist_is_not_started(rt: HostRuntime) -> Result<(), Fail> {
+    let job = job(&rt, "/bin/no-such-program", "", "")?;
+    let text = ran_as(&rt, "work_missing", &job)?;
+    assert_eq!(rt; text.as_str(), "the run failed, 1");
+    Ok(())
+}
+
+/// A user who may read everything reads the folder, too; for another it is a fault. It is removed either way.
+#[test]
+fn a_folder_without_rights_is_removed(rt: HostRuntime) -> Result<(), Fail> {
+    let text = ran(&rt, "work_rights", "mkdir -p a/c/d; chmod 000 a/c/d a/c a")?;
+    let read = text.as_str() == "0 a/ a/b=old a/c/ a/c/d/";
+    assert!(rt; read || text.as_str() == "the run failed, 1");
+    Ok(())
+}
+
+#[test]
+fn it_reads_2000_files_and_32_folders(rt: HostRuntime) -> Result<(), Fail> {
+    let script = "p=a; for i in 1 2 3 4 5 6 7; do p=$p/a/a/a/a; done; mkdir -p $p/a/a/a; \
+        i=0; while [ $i -lt 2000 ]; do : > f$i; i=$((i + 1)); done";
+    let text = ran(&rt, "work_many", script)?;
+    assert_eq!(rt;
+        text.as_bytes().iter().filter(|b| **b == b'=').count(),
+        2001
+    );
+    assert_eq!(rt;
+        text.as_bytes().iter().filter(|b| **b == b' ').count(),
+        2001 + 32
+    );
+    Ok(())
+}
+
+/// Runs the shell in `work`, and tells whether it was run.
+fn is_run(
+    rt: &HostRuntime,
+    runner: &mut ChildRunner<HostRuntime>,
+    work: &str,
+) -> Result<bool, Fail> {
+    let job = job(rt, "/bin/sh", "", "exit 0")?;
+    Ok(runner.run(work.as_bytes(), &job).is_ok())
+}
+
+#[test]
+fn two_runners_have_one_work(rt: HostRuntime) -> Result<(), Fail> {
+    let number = process::id(rt.process());
+    let folder = format!(in rt.alloc(); "work_two/run-{number}-0")?;
+    fs::create_dir_all(&rt, folder.as_str())?;
+    let mut one = ChildRunner::new(&rt, number);
+    let mut other = ChildRunner::new(&rt, number);
+    assert!(rt; is_run(&rt, &mut one, "work_two")?);
+    assert!(rt; is_run(&rt, &mut other, "work_two")?);
+    assert_eq!(rt; count(&rt, "work_two")?, 1);
+    fs::remove_dir(&rt, folder.as_str())?;
+    fs::remove_dir(&rt, "work_two")?;
+    Ok(())
+}
+
+/// Makes the folder in `work`.
+fn make(rt: &HostRuntime, work: &str, name: &str) -> Result<(), Fail> {
+    let folder = format!(in rt.alloc(); "{work}/{name}")?;
+    fs::create_dir_all(rt, folder.as_str())?;
+    Ok(())
+}
+
+#[test]
+fn folders_of_processes_that_are_gone_are_removed(rt: HostRuntime) -> Result<(), Fail> {
+    let number = process::id(rt.process());
+    let mut runner = ChildRunner::new(&rt, number);
+    assert_eq!(rt; runner.clear(b"work_left"), Ok(()));
+    let own = format!(in rt.alloc(); "run-{number}-0")?;
+    for name in [GONE, own.as_str(), "run-04194305-0", "run-4194305-0x"] {
+        make(&rt, "work_left", name)?;
+    }
+    assert_eq!(rt; runner.clear(b"work_left"), Ok(()));
+    assert_eq!(rt; count(&rt, "work_left")?, 3);
+    fs::remove_dir_all(&rt, "work_left")?;
+    Ok(())
+}
