@@ -25,3 +25,8 @@ ChangesLeadTo before (change ∷ changes) after = IsChange before change × Chan
 abbrev pub SessionsChangeSo : Type 0
 SessionsChangeSo = (route : Route) (before : SessionState) (lines : List (Result Line LineError)) (answers : List (Option Answer)) (after : SessionState) (trace : Trace)
     → Chain route before lines answers after trace → ChangesLeadTo before.client.log trace.changes after.client.log
+
+-- Its lines and its asks make a session: from one state on they leave only one way to answer, to log and to change.
+abbrev pub AsksMakeSessions : Type 0
+AsksMakeSessions = (route : Route) (before : SessionState) (lines : List (Result Line LineError)) (xs ys : List (Option Answer)) (a b : SessionState) (p q : Trace)
+    → Chain route before lines xs a p → Chain route before lines ys b q → p.asks ≡ q.asks → (xs ≡ ys) × (a ≡ b) × (p ≡ q)

@@ -7,5 +7,5 @@ mod laws;
 mod looking;
 mod session;
 
-pub use laws::sessions_change_so;
+pub use laws::{asks_make_sessions, sessions_change_so};
 pub use session::Session;
