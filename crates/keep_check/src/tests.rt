@@ -1,4 +1,4 @@
-ghost use Rattle.std.specs.Prelude.{◌≢◌, IfOk, []};
+ghost use Rattle.std.specs.Prelude.{◌≢◌, ◌≤◌, IfOk, []};
 
 use mem_net::Fate;
 use mod_log::Log;
@@ -258,7 +258,10 @@ fn put(alloc: Global) -> Result<Effects, Fail>
 }
 
 /// The image of a client with this number acknowledged and one put pending.
-fn image_of(alloc: Global, client: u8, acked: u64) -> Result<Vec<u8>, Fail> {
+fn image_of(alloc: Global, client: u8, acked: u64) -> Result<Vec<u8>, Fail>
+    requires low { 1 ≤ client }
+    requires high { client ≤ 64 }
+{
     let effects = put(alloc)?;
     let mut log = Log::new(acked, Tree::new(alloc));
     let appended = log.append(effects);
