@@ -76,7 +76,11 @@ fn puts(alloc: Global, line: &[u8]) -> Result<SketchEffects, Fail> {
     let mut effects = SketchEffects::new(alloc);
     for word in line.split(|b| *b == b' ') {
         if let Some(at) = word.iter().position(|b| *b == b'=') {
-            let sketch = sketch_of(alloc, &word[at + 1..])?;
+            let content = &word[at + 1..];
+            if content.len() > 8_388_608 {
+                return Err(Fail::from("no content"));
+            }
+            let sketch = sketch_of(alloc, content)?;
             let path = path(alloc, &word[..at])?;
             effects.push(SketchEffect::Put(path, sketch))?;
         }
