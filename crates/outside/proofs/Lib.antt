@@ -1,3 +1,4 @@
 pub mod Taking
 pub mod Writing
 pub mod Keeping
+pub mod Talking

@@ -45,8 +45,9 @@ fn a_named_take_uses_up_its_frame(rt: HostRuntime) -> Result<(), Fail> {
     assert_eq!(rt; port.answer(b"kept"), Ok(()));
     assert_eq!(rt; port.take(), Ok(None));
     assert_eq!(rt; port.take(), Ok(None));
-    assert_eq!(rt; port.answered(0), Some(b"kept".as_slice()));
-    assert_eq!(rt; port.answered(1), None);
+    assert_eq!(rt; port.answered(0), None);
+    assert_eq!(rt; port.answered(1), Some(b"kept".as_slice()));
+    assert_eq!(rt; port.answer(b"again"), Err(PortError::Failed));
     Ok(())
 }
 
