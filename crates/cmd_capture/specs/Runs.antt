@@ -1,5 +1,6 @@
 -- What one more run adds to those that a runner tells, and a script of runs, as contracts see it.
-use Rattle.std.specs.Prelude.{◌≡◌, ℕ, List, [], ◌∷◌, ◌++◌, drop, map, Option, Some, None, Result, Ok, Err}
+use Rattle.std.specs.Prelude.{◌≡◌, ℕ, List, [], ◌∷◌, ◌++◌, drop, map, Option, Some, None, option_map, Result, Ok, Err}
+use Rattle.outside.specs.Outside.{raised}
 use Rattle.outside.specs.Memory.{one_more}
 use Rattle.file_paths.specs.Path.{path_text}
 use Rattle.cmd_capture.specs.declared.job.Job.{Job}
@@ -20,6 +21,19 @@ runs_of work job (Err e) = []
 -- the runs after a call are those before it and the one that it gave
 abbrev pub AddsRun : {E : Type 0} → List ℕ → Job → Result Outcome E → List Run → List Run → Type 0
 AddsRun work job result old new = new ≡ old ++ runs_of work job result
+
+-- ---- several runs
+
+-- What a runner tells of itself: its runs so far, where it tells them, and how often it failed. That count stands still at
+-- the end of its type.
+pub record RunnerTelling : Type 0 where
+  pub runs : Option (List Run)
+  pub faults : ℕ
+
+-- Between two moments of a runner it made these runs, in order, and failed so often.
+pub record HasRun (runs : List Run) (failed : ℕ) (old new : RunnerTelling) : Type 0 where
+  pub told : new.runs ≡ option_map (λ list. list ++ runs) old.runs
+  pub counted : new.faults ≡ raised failed old.faults
 
 -- ---- a script
 

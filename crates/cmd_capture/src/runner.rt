@@ -1,7 +1,7 @@
 //! What runs jobs.
 
 ghost use Rattle.std.specs.Prelude.{◌≡◌, ℕ, List, Option};
-ghost use Rattle.outside.specs.Outside.{Told, HasCause};
+ghost use Rattle.outside.specs.Outside.{Told, CountsFault};
 ghost use Rattle.cmd_capture.specs.declared.runner.Run.{Run};
 ghost use Rattle.cmd_capture.specs.declared.runner.RunError.TheVariants.{Memory};
 ghost use Rattle.cmd_capture.specs.Runs.{AddsRun};
@@ -62,5 +62,5 @@ pub trait Runner {
     /// `Failed` is counted. After it and after `Memory` the runs are as before.
     fn run(&mut self, work: &[u8], job: &Job) -> Result<Outcome, RunError>
         ensures runs { Told (runs self.old) (runs self.new) (AddsRun work.now job.now result) }
-        ensures cause { HasCause RunError.Failed (faults self.old) (faults self.new) result };
+        ensures cause { CountsFault RunError.Failed (faults self.old) (faults self.new) result };
 }

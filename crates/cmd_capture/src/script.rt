@@ -1,7 +1,8 @@
 //! A runner of given outcomes.
 
-ghost use Rattle.std.specs.Prelude.{◌≡◌, ◌↔◌, ℕ, List, [], ◌∷◌, ◌++◌, Some, None, map, reverse, IfOk, IfErr, OnOk, OnErr, IsErrOf};
-ghost use Rattle.outside.specs.Outside.{Told, HasCause};
+ghost use Rattle.std.specs.Prelude.{◌≡◌, ◌≤◌, ◌↔◌, ℕ, List, [], ◌∷◌, ◌++◌, Some, None, map, reverse, IfOk, IfErr, OnOk, OnErr, IsErrOf};
+ghost use Rattle.outside.specs.Outside.{Told, CountsFault, raised};
+ghost use Rattle.outside.specs.Memory.{one_more};
 ghost use Rattle.cmd_capture.specs.Runs.{AddsRun, InScript, raw_row, unchanged, outcome_of, after_run};
 
 use crate::job::{Job, JobRow, Outcome, RawRow, RawRows};
@@ -82,7 +83,7 @@ impl Runner for ScriptRunner {
     /// Takes the next answer, and keeps the run; where memory runs out nothing is changed.
     fn run(&mut self, work: &[u8], job: &Job) -> Result<Outcome, RunError>
         ensures runs { Told (Some self.old.runs) (Some self.new.runs) (AddsRun work.now job.now result) }
-        ensures cause { HasCause RunError.Failed self.old.faults self.new.faults result }
+        ensures cause { CountsFault RunError.Failed self.old.faults self.new.faults result }
 
         ensures gives { IfOk result (λ outcome. outcome_of self.old.answers job.now ≡ Some outcome) }
         ensures fails { IsErrOf result RunError.Failed → outcome_of self.old.answers job.now ≡ None }
@@ -90,7 +91,7 @@ impl Runner for ScriptRunner {
     {
         let Some(outcome) = self.next_outcome(job)? else {
             drop(self.answers.pop());
-            self.faults = self.faults.saturating_add(1);
+            count_fault(&mut self.faults);
             return Err(RunError::Failed);
         };
         if let Err(error) = self.tell(work, job, &outcome) {
@@ -100,6 +101,15 @@ impl Runner for ScriptRunner {
         drop(self.answers.pop());
         Ok(outcome)
     }
+}
+
+/// Counts a run that failed. The count stands still at the end of its type.
+fn count_fault(faults: &mut u64)
+    ensures counted { faults.new ≡ one_more faults.old }
+    ensures raised { faults.new ≡ raised 1 faults.old }
+    ensures later { faults.old ≤ faults.new }
+{
+    *faults = faults.saturating_add(1);
 }
 
 /// The run of the job that gave the outcome.

@@ -65,6 +65,13 @@ abbrev pub changes : List JobRow → List JobRow → List Effect
 changes before after =
     filter_map (removal_of after) (reverse before) ++ flat_map (makings_of before) after
 
+-- the path that an effect touches first
+abbrev pub first_path : Effect → FilePath
+first_path (Make path) = path
+first_path (Put path content) = path
+first_path (Remove path) = path
+first_path (Move from to) = from
+
 -- ---- clashes
 
 -- whether the job has a row at the path

@@ -210,6 +210,27 @@ fn first_clash(tree: &Tree, job: &Job, effects: &[Effect]) -> Option<usize>
     effects.iter().position(|effect| clashes(tree, job, effect))
 }
 
+/// The first effect that makes what stands in the tree beside the job, or removes a folder of such. It takes no memory.
+pub fn clashing<'a>(tree: &Tree, job: &Job, effects: &'a Effects) -> Option<&'a Effect>
+    requires { AreJobRows job.now.rows }
+    ensures { option_copied result ≡ find (rules.clashes tree.now job.now.rows) effects.now }
+{
+    effects
+        .as_slice()
+        .iter()
+        .find(|effect| clashes(tree, job, effect))
+}
+
+/// The path that an effect touches first.
+pub fn first_path(effect: &Effect) -> &Path
+    ensures { result.now ≡ rules.first_path effect.now }
+{
+    match effect {
+        Effect::Make(path) | Effect::Put(path, _) | Effect::Remove(path) | Effect::Move(path, _) =>
+            path,
+    }
+}
+
 /// The first effect, counted from 0, that makes what stands in the tree beside the job, or removes a folder of such. It
 /// takes no memory.
 pub fn clash(tree: &Tree, job: &Job, effects: &Effects) -> Option<u32>

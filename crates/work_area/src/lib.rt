@@ -6,7 +6,7 @@ mod jobs;
 mod laws;
 mod rows;
 
-pub use changing::{changes, clash};
+pub use changing::{changes, clash, clashing, first_path};
 pub use jobs::{JobError, job_of};
 pub use laws::{
     change_lists_are_in_order, change_lists_lead_to_what_is_left, jobs_hold_the_tree,
