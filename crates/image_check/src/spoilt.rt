@@ -48,6 +48,24 @@ const CLIENT_FIELDS: [u32; 57] = [
     133, 136, 140, 142, 145, 153, 155, 156, 164, 166, 169,
 ];
 
+/// Client 9 with 4 acknowledged entries and a file; and two entries that wait: a command with two variables, an input and a
+/// template has put a file with status 3, and the first file is removed.
+const RUN: &str = "4f534349 01 09 0000000000000004
+    00000001 0001 61 0000000000000004 02 00000004 620a610a
+    00000002
+    01 0102030405060708090a0b0c0d0e0f101112131415161718191a1b1c1d1e1f20 03
+    00000009 2f62696e2f736f7274 0002 00000002 2d6f 00000001 73 0000
+    0002 00000001 4b 00000001 76 00000001 4c 00000000 0001 0001 61 0001 02 743f
+    00000001 02 0001 73 00000004 610a620a 00000001 0001 73 0000000000000000
+    00 00000001 03 0001 61 00000001 0001 61 0000000000000004";
+
+/// Where the fields of this image begin.
+const RUN_FIELDS: [u32; 56] = [
+    0, 4, 5, 6, 14, 18, 20, 21, 29, 30, 34, 38, 42, 43, 75, 76, 80, 89, 91, 95, 97, 101, 102, 104,
+    106, 110, 111, 115, 116, 120, 121, 125, 127, 129, 130, 132, 133, 135, 139, 140, 142, 143, 147,
+    151, 155, 157, 158, 166, 167, 171, 172, 174, 175, 179, 181, 182,
+];
+
 /// A new client 1.
 const NEW: &str = "4f534349 01 01 0000000000000000 00000000 00000000";
 
@@ -210,6 +228,143 @@ const CLIENT_ONES: [(usize, Answer); 63] = [
     (166, Bad(166)),
     (169, Bad(164)),
     (177, Bad(169)),
+];
+
+/// The answers to the image of client 9 with a zero in place of a byte, each with the place behind the last byte that gets it.
+const RUN_ZEROS: [(usize, Answer); 68] = [
+    (4, Bad(0)),
+    (5, Bad(4)),
+    (6, Bad(5)),
+    (17, Read),
+    (18, Bad(18)),
+    (19, Read),
+    (20, Bad(18)),
+    (21, Bad(20)),
+    (28, Read),
+    (29, Bad(21)),
+    (30, Bad(34)),
+    (33, Read),
+    (34, Bad(34)),
+    (41, Read),
+    (42, Bad(42)),
+    (43, Bad(43)),
+    (79, Read),
+    (89, Bad(80)),
+    (90, Read),
+    (91, Bad(99)),
+    (94, Read),
+    (95, Bad(99)),
+    (97, Bad(95)),
+    (100, Read),
+    (101, Bad(103)),
+    (102, Bad(101)),
+    (105, Read),
+    (106, Bad(111)),
+    (109, Read),
+    (111, Bad(110)),
+    (114, Read),
+    (115, Bad(119)),
+    (116, Bad(115)),
+    (119, Read),
+    (121, Bad(120)),
+    (126, Read),
+    (127, Bad(130)),
+    (128, Read),
+    (129, Bad(134)),
+    (130, Bad(129)),
+    (131, Read),
+    (133, Bad(132)),
+    (135, Bad(133)),
+    (138, Read),
+    (139, Bad(135)),
+    (140, Bad(139)),
+    (141, Read),
+    (143, Bad(142)),
+    (146, Read),
+    (147, Bad(147)),
+    (154, Read),
+    (155, Bad(151)),
+    (156, Read),
+    (157, Bad(155)),
+    (158, Bad(157)),
+    (170, Read),
+    (171, Bad(167)),
+    (172, Bad(171)),
+    (173, Read),
+    (174, Bad(171)),
+    (175, Bad(174)),
+    (178, Read),
+    (179, Bad(175)),
+    (180, Read),
+    (181, Bad(179)),
+    (182, Bad(181)),
+    (189, Read),
+    (190, Bad(182)),
+];
+
+/// The answers with 255 in place of a byte, and with the byte's bits turned round.
+const RUN_ONES: [(usize, Answer); 61] = [
+    (4, Bad(0)),
+    (5, Bad(4)),
+    (6, Bad(5)),
+    (14, Read),
+    (17, Bad(14)),
+    (18, Bad(38)),
+    (20, Bad(20)),
+    (21, Bad(171)),
+    (29, Bad(182)),
+    (30, Bad(29)),
+    (32, Bad(30)),
+    (34, Bad(34)),
+    (38, Read),
+    (41, Bad(38)),
+    (42, Bad(190)),
+    (43, Bad(42)),
+    (76, Read),
+    (81, Bad(80)),
+    (89, Read),
+    (91, Bad(106)),
+    (95, Bad(95)),
+    (97, Read),
+    (101, Bad(101)),
+    (102, Read),
+    (104, Bad(104)),
+    (106, Bad(129)),
+    (110, Bad(110)),
+    (111, Read),
+    (115, Bad(115)),
+    (116, Read),
+    (120, Bad(120)),
+    (121, Read),
+    (125, Bad(125)),
+    (127, Bad(135)),
+    (129, Bad(129)),
+    (130, Read),
+    (132, Bad(135)),
+    (133, Bad(133)),
+    (135, Read),
+    (138, Bad(135)),
+    (139, Bad(151)),
+    (140, Bad(139)),
+    (142, Bad(142)),
+    (143, Bad(155)),
+    (145, Bad(143)),
+    (147, Bad(147)),
+    (151, Read),
+    (155, Bad(151)),
+    (157, Bad(157)),
+    (158, Bad(155)),
+    (166, Bad(158)),
+    (167, Bad(166)),
+    (170, Bad(167)),
+    (171, Bad(175)),
+    (172, Bad(171)),
+    (174, Bad(174)),
+    (175, Bad(171)),
+    (179, Bad(175)),
+    (181, Bad(181)),
+    (182, Bad(179)),
+    (190, Bad(182)),
 ];
 
 /// The answers to the image of the new client with a zero in place of a byte, each with the place behind the last byte that gets it.
@@ -481,7 +636,21 @@ fn a_spoilt_client_is_refused_at_its_field(rt: HostRuntime) -> Result<(), Fail> 
         fields: &CLIENT_FIELDS,
         zeros: &CLIENT_ZEROS,
         ones: &CLIENT_ONES,
-        turned: 162_640_575,
+        turned: 3_599_973_107,
+    };
+    assert_eq!(rt; wrong(alloc, Reader::Client, &image, &wanted)?, None);
+    Ok(())
+}
+
+#[test]
+fn a_spoilt_client_of_a_run_is_refused_at_its_field(rt: HostRuntime) -> Result<(), Fail> {
+    let alloc = rt.alloc();
+    let image = bytes_of(alloc, RUN)?;
+    let wanted = Wanted {
+        fields: &RUN_FIELDS,
+        zeros: &RUN_ZEROS,
+        ones: &RUN_ONES,
+        turned: 1_131_992_979,
     };
     assert_eq!(rt; wrong(alloc, Reader::Client, &image, &wanted)?, None);
     Ok(())
@@ -532,6 +701,7 @@ fn server_again(alloc: Global, bytes: &[u8]) -> Result<bool, Fail> {
 fn what_is_read_is_written_again(rt: HostRuntime) -> Result<(), Fail> {
     let alloc = rt.alloc();
     assert!(rt; client_again(alloc, &bytes_of(alloc, CLIENT)?)?);
+    assert!(rt; client_again(alloc, &bytes_of(alloc, RUN)?)?);
     assert!(rt; server_again(alloc, &server(alloc)?)?);
     Ok(())
 }

@@ -33,7 +33,7 @@ fn hello(alloc: Global) -> Result<Effects, Fail>
 fn written(alloc: Global, puts: u32) -> Result<Vec<u8>, Fail> {
     let mut log = Log::new(0, Tree::new(alloc));
     for _ in 0..puts {
-        let _ = log.append(hello(alloc)?)?;
+        let _ = log.append(None, hello(alloc)?)?;
     }
     Ok(write_client(1, &log)?)
 }
@@ -50,7 +50,7 @@ fn told(alloc: Global, bytes: &[u8]) -> Result<[u64; 4], Fail> {
 /// The number of the next entry of the client that is read.
 fn next_number(alloc: Global, bytes: &[u8]) -> Result<u64, Fail> {
     let mut image = read_client(alloc, bytes)?;
-    Ok(image.log.append(hello(alloc)?)?)
+    Ok(image.log.append(None, hello(alloc)?)?)
 }
 
 /// Why the bytes are no client's image.
@@ -135,7 +135,7 @@ fn what_is_no_image(rt: HostRuntime) -> Result<(), Fail> {
         spoilt_case(&EMPTY, 22, &[0], 22),
         // a removal of what is not there, at the effect; another origin; another version
         spoilt_case(&HELLO, 27, &[3], 27),
-        spoilt_case(&HELLO, 22, &[1], 22),
+        spoilt_case(&HELLO, 22, &[2], 22),
         spoilt_case(&HELLO, 55, &[1], 48),
     ];
     assert!(rt; first_wrong(alloc, &cases)? == None);

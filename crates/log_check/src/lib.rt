@@ -2,4 +2,6 @@
 #![tactic(auto)]
 
 #[cfg(test)]
+mod origins;
+#[cfg(test)]
 mod tests;

@@ -1,7 +1,7 @@
 ghost use Rattle.std.specs.Prelude.{◌≢◌, IfOk, []};
 
 use mod_log::{Entry, Log, LogError};
-use std::alloc::Global;
+use std::alloc::{AllocError, Global};
 use std::rt::HostRuntime;
 use std::test::Fail;
 use vol_tree::{Content, Effect, Effects, Path, Paths, TakeError, Tree, TryCopy};
@@ -60,13 +60,29 @@ fn acknowledge_first(log: &mut Log, count: u32) {
     }
 }
 
+/// Logs effects that no command made, and gives their number.
+fn log_effects(log: &mut Log, effects: Effects) -> Result<u64, Fail>
+    requires { effects ≢ [] }
+{
+    match log.append(None, effects) {
+        Ok(number) => Ok(number),
+        Err(refusal) => Err(refusal.into()),
+    }
+}
+
+/// A log in which "hello\n" is put at "a" so many times.
+fn logged(alloc: Global, count: u32) -> Result<Log, Fail> {
+    let mut log = Log::new(0, Tree::new(alloc));
+    for _ in 0..count {
+        let effects = hello(alloc)?;
+        let _ = log_effects(&mut log, effects)?;
+    }
+    Ok(log)
+}
+
 #[test]
 fn each_entry_rests_on_the_one_before(rt: HostRuntime) -> Result<(), Fail> {
-    let alloc = rt.alloc();
-    let mut log = Log::new(0, Tree::new(alloc));
-    for _ in 0..3 {
-        let _ = log.append(hello(alloc)?)?;
-    }
+    let log = logged(rt.alloc(), 3)?;
     for i in 0..3u32 {
         assert_eq!(rt; base_version(&log, i)?, i as u64);
     }
@@ -76,10 +92,7 @@ fn each_entry_rests_on_the_one_before(rt: HostRuntime) -> Result<(), Fail> {
 #[test]
 fn each_acknowledged_entry_goes_into_the_base(rt: HostRuntime) -> Result<(), Fail> {
     let alloc = rt.alloc();
-    let mut log = Log::new(0, Tree::new(alloc));
-    for _ in 0..3 {
-        let _ = log.append(hello(alloc)?)?;
-    }
+    let mut log = logged(alloc, 3)?;
     for i in 0..3u32 {
         assert_eq!(rt; version_in_base(alloc, &log)?, i as u64);
         acknowledge_first(&mut log, 1);
@@ -92,10 +105,7 @@ fn each_acknowledged_entry_goes_into_the_base(rt: HostRuntime) -> Result<(), Fai
 #[test]
 fn several_entries_are_acknowledged_at_once(rt: HostRuntime) -> Result<(), Fail> {
     let alloc = rt.alloc();
-    let mut log = Log::new(0, Tree::new(alloc));
-    for _ in 0..3 {
-        let _ = log.append(hello(alloc)?)?;
-    }
+    let mut log = logged(alloc, 3)?;
     acknowledge_first(&mut log, 2);
     assert_eq!(rt; version_in_base(alloc, &log)?, 2);
     assert_eq!(rt; base_version(&log, 0)?, 2);
@@ -103,54 +113,66 @@ fn several_entries_are_acknowledged_at_once(rt: HostRuntime) -> Result<(), Fail>
     Ok(())
 }
 
+/// The counts with which the log is full for these effects.
+fn full(log: &mut Log, effects: Effects) -> Option<(u32, u64)>
+    requires { effects ≢ [] }
+{
+    match log.append(None, effects) {
+        Err(LogError::LogFull { entries, bytes }) => Some((entries, bytes)),
+        other => {
+            drop(other);
+            None
+        }
+    }
+}
+
 #[test]
 fn holds_1024_entries(rt: HostRuntime) -> Result<(), Fail> {
     let alloc = rt.alloc();
-    let mut log = Log::new(0, Tree::new(alloc));
-    for _ in 0..1024 {
-        let _ = log.append(hello(alloc)?)?;
-    }
-    let refused = log.append(hello(alloc)?);
-    assert!(rt;
-        matches!(
-            refused,
-            Err(LogError::LogFull {
-                entries: 1024,
-                bytes: 34850
-            })
-        )
-    );
+    let effects = hello(alloc)?;
+    let mut log = logged(alloc, 1024)?;
+    assert_eq!(rt; full(&mut log, effects), Some((1024, 34_850)));
     assert_eq!(rt; log.pending(), 1024);
     Ok(())
+}
+
+/// The counts with which these effects are too large for an entry.
+fn too_large(log: &mut Log, effects: Effects) -> Option<(u32, u64)>
+    requires { effects ≢ [] }
+{
+    match log.append(None, effects) {
+        Err(LogError::EntryTooLarge { effects, bytes }) => Some((effects, bytes)),
+        other => {
+            drop(other);
+            None
+        }
+    }
 }
 
 #[test]
 fn holds_4096_effects_in_an_entry(rt: HostRuntime) -> Result<(), Fail> {
     let alloc = rt.alloc();
+    let most = puts(alloc, 4095)?;
+    let more = puts(alloc, 4096)?;
     let mut log = Log::new(0, Tree::new(alloc));
-    let refused = log.append(puts(alloc, 4096)?);
-    assert!(rt;
-        matches!(
-            refused,
-            Err(LogError::EntryTooLarge {
-                effects: 4097,
-                bytes: 0
-            })
-        )
-    );
-    assert_eq!(rt; log.append(puts(alloc, 4095)?)?, 1);
+    assert_eq!(rt; too_large(&mut log, more), Some((4097, 0)));
+    assert_eq!(rt; log_effects(&mut log, most)?, 1);
     Ok(())
+}
+
+/// The spelling of the first pending entry.
+fn spelled(alloc: Global, log: &Log) -> Result<Vec<u8>, Fail> {
+    let entry = log.entry(0).ok_or("no entry")?;
+    let mut bytes = Vec::new(alloc);
+    Entry::spell(entry, &mut bytes)?;
+    Ok(bytes)
 }
 
 #[test]
 fn spells_an_entry(rt: HostRuntime) -> Result<(), Fail> {
     let alloc = rt.alloc();
-    let mut log = Log::new(0, Tree::new(alloc));
-    let _ = log.append(hello(alloc)?)?;
-    let mut bytes = Vec::new(alloc);
-    if let Some(entry) = log.entry(0) {
-        Entry::spell(entry, &mut bytes)?;
-    }
+    let log = logged(alloc, 1)?;
+    let bytes = spelled(alloc, &log)?;
     assert_eq!(rt; bytes.as_slice(), HELLO.as_slice());
     Ok(())
 }
@@ -171,7 +193,7 @@ fn refuses_the_first_faulty_field(rt: HostRuntime) -> Result<(), Fail> {
     let mut bytes = HELLO;
     bytes[25] = b'b';
     assert!(rt; matches!(Entry::take(alloc, &bytes, 0, 7), Err(TakeError::At(23))));
-    bytes[0] = 1;
+    bytes[0] = 2;
     assert!(rt; matches!(Entry::take(alloc, &bytes, 0, 7), Err(TakeError::At(0))));
     assert!(rt;
         matches!(
@@ -182,6 +204,13 @@ fn refuses_the_first_faulty_field(rt: HostRuntime) -> Result<(), Fail> {
     Ok(())
 }
 
+/// What a refusal says.
+fn text_of(alloc: Global, refusal: LogError) -> Result<String, AllocError> {
+    let text = refusal.to_string(alloc);
+    drop(refusal);
+    text
+}
+
 #[test]
 fn refusals_say_what_was_counted(rt: HostRuntime) -> Result<(), Fail> {
     let alloc = rt.alloc();
@@ -189,13 +218,13 @@ fn refusals_say_what_was_counted(rt: HostRuntime) -> Result<(), Fail> {
         effects: 4097,
         bytes: 6,
     };
+    let text = text_of(alloc, large)?;
+    assert_eq!(rt; text.as_str(), "an entry of 4097 effects with 6 bytes");
     let full = LogError::LogFull {
         entries: 1024,
         bytes: 34850,
     };
-    let text = large.to_string(alloc)?;
-    assert_eq!(rt; text.as_str(), "an entry of 4097 effects with 6 bytes");
-    let text = full.to_string(alloc)?;
+    let text = text_of(alloc, full)?;
     assert_eq!(rt; text.as_str(), "1024 entries and 34850 bytes in the log");
     Ok(())
 }

@@ -1,5 +1,5 @@
 -- What an entry that is logged leaves.
-use Rattle.std.proofs.Common.{◌≡◌, ◌≢◌, ℕ, ◌+◌, ◌≤◌, false, List, [], ◌∷◌, length, None, Result, Ok, Err, refl, sym, ap, ◌∙◌, subst, arith, length-append}
+use Rattle.std.proofs.Common.{◌≡◌, ◌≢◌, ℕ, ◌+◌, ◌≤◌, false, List, [], ◌∷◌, length, Option, None, Result, Ok, Err, refl, sym, ap, ◌∙◌, subst, arith, length-append}
 use Rattle.std.specs.Prelude.{nat_lt, nat_le}
 use Rattle.std.specs.List.{AllByRecursion}
 use Rattle.std.proofs.lemmas.Bool.{eqb-false}
@@ -16,6 +16,8 @@ use Rattle.tree_values.specs.Effects.{changed_all, unless_refused_at, apply_all,
 use Rattle.tree_values.specs.Spelling.{EffectFits, EffectsFit}
 use Rattle.vol_tree.proofs.Trees.{none_refused, not_when}
 use Rattle.vol_tree.proofs.Behind.{applied-changes}
+use Rattle.mod_log.specs.declared.origin.Origin.{Origin}
+use Rattle.mod_log.specs.Origin.{MadeByFits}
 use Rattle.mod_log.specs.declared.log.Entry.{Entry}
 use Rattle.mod_log.specs.Log.{Log, after, tree_of, IsLog, logged}
 use Rattle.mod_log.specs.Append.{next_entry, is_too_large, size_with, has_no_room, is_at_last, refused_effect, append_refusals, appended}
@@ -46,41 +48,41 @@ effects_fit effects v after some small legal applies =
 
 -- ---- the log with one more
 
-pub logged_is_log : (effects : List Effect) (log : Log) → IsLog log → EffectsFit effects → apply_all 0 effects (tree_of log) ≡ Ok (changed_all effects (tree_of log))
-    → has_no_room (next_entry effects log) log ≡ false → is_at_last log ≡ false → IsLog (logged (next_entry effects log) log)
-logged_is_log effects log is fits applies room number =
-    let next : Entry = next_entry effects log in
-    let tests = or_false_of (nat_le max_entries (length log.pending)) (nat_lt max_log (size_with (next_entry effects log) log)) room in
+pub logged_is_log : (origin : Option Origin) (effects : List Effect) (log : Log) → IsLog log → MadeByFits origin → EffectsFit effects → apply_all 0 effects (tree_of log) ≡ Ok (changed_all effects (tree_of log))
+    → has_no_room (next_entry origin effects log) log ≡ false → is_at_last log ≡ false → IsLog (logged (next_entry origin effects log) log)
+logged_is_log origin effects log is made fits applies room number =
+    let next : Entry = next_entry origin effects log in
+    let tests = or_false_of (nat_le max_entries (length log.pending)) (nat_lt max_log (size_with (next_entry origin effects log) log)) room in
     let count = not_le_of max_entries (length log.pending) tests.0 in
-    let long = length-append log.pending (next_entry effects log ∷ []) in
+    let long = length-append log.pending (next_entry origin effects log ∷ []) in
     let last = eqb-false (log.acked + length log.pending) 18446744073709551615 number in
     record {
       base_is = is.base_is;
-      entries = AreEntriesOf-push (log.acked + 1) log.base log.pending (next_entry effects log) is.entries (record { numbered = omega arith; fits = fits; applies = applies; based = refl });
+      entries = AreEntriesOf-push (log.acked + 1) log.base log.pending (next_entry origin effects log) is.entries (record { numbered = omega arith; origin_fits = made; fits = fits; applies = applies; based = refl });
       few = omega (arith, count, long);
-      small = not_lt_of max_log (size_with (next_entry effects log) log) tests.1;
+      small = not_lt_of max_log (size_with (next_entry origin effects log) log) tests.1;
       last = omega (arith, long, last, is.last);
     }
 
-pub logged_tree : (effects : List Effect) (log : Log) → tree_of (logged (next_entry effects log) log) ≡ changed_all effects (tree_of log)
-logged_tree effects log = after-append log.pending (next_entry effects log ∷ []) log.base
+pub logged_tree : (origin : Option Origin) (effects : List Effect) (log : Log) → tree_of (logged (next_entry origin effects log) log) ≡ changed_all effects (tree_of log)
+logged_tree origin effects log = after-append log.pending (next_entry origin effects log ∷ []) log.base
 
 applied_by : (r : Result Volume (ℕ × TreeError)) → refused_effect r ≡ None → (next : Volume) × (r ≡ Ok next)
 applied_by (Ok next) e = (next, refl)
 applied_by (Err refusal) e = absurd (cc)
 
-pub appended_adds : (effects : List Effect) (log new : Log) → IsLog log → AllByRecursion IsLegalEffect effects → 1 ≤ length effects → appended effects log ≡ Ok new
-    → (new ≡ logged (next_entry effects log) log) × IsLog new × (tree_of new ≡ changed_all effects (tree_of log))
-appended_adds effects log new is legal some e =
-    let none = none_refused (append_refusals effects log) (logged (next_entry effects log) log) new e in
-    let same = value_unrefused (append_refusals effects log) (logged (next_entry effects log) log) new e in
+pub appended_adds : (origin : Option Origin) (effects : List Effect) (log new : Log) → IsLog log → MadeByFits origin → AllByRecursion IsLegalEffect effects → 1 ≤ length effects → appended origin effects log ≡ Ok new
+    → (new ≡ logged (next_entry origin effects log) log) × IsLog new × (tree_of new ≡ changed_all effects (tree_of log))
+appended_adds origin effects log new is made legal some e =
+    let none = none_refused (append_refusals origin effects log) (logged (next_entry origin effects log) log) new e in
+    let same = value_unrefused (append_refusals origin effects log) (logged (next_entry origin effects log) log) new e in
     let large = not_when (is_too_large effects) _ none.0 in
-    let room = not_when (has_no_room (next_entry effects log) log) _ none.1.0 in
+    let room = not_when (has_no_room (next_entry origin effects log) log) _ none.1.0 in
     let number = not_when (is_at_last log) _ none.1.1.0 in
     let applied = applied_by (apply_all 0 effects (tree_of log)) none.1.1.1.0 in
     let all = applied.1 ∙ ap Ok (applied-changes effects 0 (tree_of log) applied.0 applied.1) in
     let fits = effects_fit effects (tree_of log) (changed_all effects (tree_of log)) some large legal all in
-    (same, subst IsLog (sym same) (logged_is_log effects log is fits all room number), ap tree_of same ∙ logged_tree effects log)
+    (same, subst IsLog (sym same) (logged_is_log origin effects log is made fits all room number), ap tree_of same ∙ logged_tree origin effects log)
 
 pub some_effects : (effects : List Effect) → effects ≢ [] → 1 ≤ length effects
 some_effects [] some = absurd (some refl)

@@ -1,13 +1,11 @@
 -- The laws of entries and of sketched effects that break a rule.
-use Rattle.std.proofs.Common.{◌≡◌, ◌≢◌, ◌⊎◌, ℕ, ◌+◌, ◌-◌, ◌^◌, ◌<◌, ◌≤◌, ◌&&◌, eqb, leb, List, [], ◌∷◌, ◌++◌, length, inr, refl, sym, subst, ◌∙◌, arith, lit<}
-use Rattle.std.specs.Int.{w8, w32}
+use Rattle.std.proofs.Common.{◌≡◌, ◌⊎◌, ℕ, ◌+◌, ◌-◌, ◌^◌, ◌<◌, ◌≤◌, ◌&&◌, leb, List, [], ◌∷◌, ◌++◌, length, Option, inr, refl, sym, subst, ◌∙◌, arith, lit<}
+use Rattle.std.specs.Int.{w32}
 use Rattle.std.specs.List.{flat_map, AllByRecursion}
-use Rattle.std.proofs.lemmas.Bool.{ne_eqb}
 use Rattle.std.proofs.lemmas.List.Sums.{sum_by-cons}
-use Rattle.byte_fields.specs.Field.{digits, number_at, none, one, two, each_at, passed}
+use Rattle.byte_fields.specs.Field.{Reader, digits, none, one, two, each_at, passed}
 use Rattle.byte_fields.specs.Broken.{IsRefused}
-use Rattle.byte_fields.proofs.Codec.{u8_codec}
-use Rattle.byte_fields.proofs.Breaking.{read_again, refused_there, rule_refused, first_refused, later_refused, tagged_refused, unknown_kind, count_refused, counted_refused, items_refused, each_read}
+use Rattle.byte_fields.proofs.Breaking.{read_again, refused_there, first_refused, later_refused, tagged_refused, unknown_kind, count_refused, counted_refused, items_refused, each_read}
 use Rattle.tree_laws.proofs.Breaking.{wrong_count, right_count}
 use Rattle.file_paths.specs.Limits.{max_file}
 use Rattle.rs_parity.specs.Spelling.{sketch_at}
@@ -25,46 +23,47 @@ use Rattle.tree_laws.proofs.Parts.{effects_codec}
 use Rattle.mod_log.specs.declared.log.Entry.{Entry}
 use Rattle.mod_log.specs.declared.sketched.SketchEffect.{SketchEffect}
 use Rattle.mod_log.specs.declared.sketched.SketchEffect.TheVariants.{Make, Put, Remove, Move}
-use Rattle.mod_log.specs.Log.{made_by}
+use Rattle.mod_log.specs.declared.origin.Origin.{Origin}
+use Rattle.mod_log.specs.Origin.{made_by, MadeByFits}
 use Rattle.mod_log.specs.Sketched.{sketched_size, sketched_sizes}
 use Rattle.mod_log.specs.Spelling.{sketch_effect, SketchEffectFits, SketchEffectFitsIn}
 use Rattle.mod_log.specs.Reading.{made_by_at, entry_at, sketch_put_at, sketch_effect_kinds, sketch_effect_at, sketch_room_after, sketch_effects_within}
 use Rattle.mod_log.specs.Broken.{BrokenEntries, BrokenSketchEffects, BrokenSketchLists}
-use Rattle.mod_log.proofs.Codec.{made_by_codec, sketch_effect_codec, rooms_again}
+use Rattle.mod_log.proofs.Origins.{made_by_codec, unknown_maker, origin_refused}
+use Rattle.mod_log.proofs.Codec.{sketch_effect_codec, rooms_again}
 
 -- ---- entries
 
 module _ (number : ℕ) where
-  abbrev entry_of : List Effect → List Base → Entry
-  entry_of es bs = record { seq = number; effects = es; base = bs }
+  abbrev entry_of : Option Origin → List Effect → List Base → Entry
+  entry_of o es bs = record { seq = number; origin = o; effects = es; base = bs }
+
+  abbrev behind_origin : Option Origin → Reader Entry
+  behind_origin o = two effects_at (λ es. bases_at (distinct (touched_all es))) (entry_of o)
 
   maker_refused : (text : List ℕ) (offset : ℕ) → IsRefused made_by_at text offset → IsRefused (entry_at number) text offset
   unfolding entry_at
-  maker_refused text offset refused = first_refused made_by_at (λ _. two effects_at (λ es. bases_at (distinct (touched_all es))) entry_of) text offset refused
+  maker_refused text offset refused = first_refused made_by_at behind_origin text offset refused
 
-  behind_maker : (text : List ℕ) (offset : ℕ) → IsRefused (two effects_at (λ es. bases_at (distinct (touched_all es))) entry_of) text offset → IsRefused (entry_at number) (made_by ++ text) (1 + offset)
+  behind_maker : (o : Option Origin) (text : List ℕ) (offset : ℕ) → MadeByFits o → IsRefused (behind_origin o) text offset → IsRefused (entry_at number) (made_by o ++ text) (length (made_by o) + offset)
   unfolding entry_at
-  behind_maker text offset refused =
-      later_refused made_by_at (λ _. two effects_at (λ es. bases_at (distinct (touched_all es))) entry_of) made_by text 0 offset (read_again made_by_codec 0 (lit< tt, refl)) refused
+  behind_maker o text offset fits refused = later_refused made_by_at behind_origin (made_by o) text o offset (read_again made_by_codec o fits) refused
 
-  effects_refused : (text : List ℕ) (offset : ℕ) → IsRefused effects_at text offset → IsRefused (two effects_at (λ es. bases_at (distinct (touched_all es))) entry_of) text offset
-  effects_refused text offset refused = first_refused effects_at (λ es. one (bases_at (distinct (touched_all es))) (entry_of es)) text offset refused
+  effects_refused : (o : Option Origin) (text : List ℕ) (offset : ℕ) → IsRefused effects_at text offset → IsRefused (behind_origin o) text offset
+  effects_refused o text offset refused = first_refused effects_at (λ es. one (bases_at (distinct (touched_all es))) (entry_of o es)) text offset refused
 
-  bases_refused : (es : List Effect) (text : List ℕ) (offset : ℕ) → EffectsFit es → IsRefused (bases_at (distinct (touched_all es))) text offset
-      → IsRefused (two effects_at (λ es. bases_at (distinct (touched_all es))) entry_of) (effects es ++ text) (length (effects es) + offset)
-  bases_refused es text offset fits refused =
-      later_refused effects_at (λ xs. one (bases_at (distinct (touched_all xs))) (entry_of xs)) (effects es) text es offset (read_again effects_codec es fits)
-      (first_refused (bases_at (distinct (touched_all es))) (λ bs. none (entry_of es bs)) text offset refused)
-
-byte_refused : (byte : ℕ) → byte < 2 ^ 8 → byte ≢ 0 → IsRefused made_by_at (byte ∷ []) 0
-unfolding made_by_at
-byte_refused byte small another = rule_refused (number_at w8) (λ n. eqb n 0) (byte ∷ []) byte (read_again u8_codec byte small) (ne_eqb byte 0 another)
+  bases_refused : (o : Option Origin) (es : List Effect) (text : List ℕ) (offset : ℕ) → EffectsFit es → IsRefused (bases_at (distinct (touched_all es))) text offset
+      → IsRefused (behind_origin o) (effects es ++ text) (length (effects es) + offset)
+  bases_refused o es text offset fits refused =
+      later_refused effects_at (λ xs. one (bases_at (distinct (touched_all xs))) (entry_of o xs)) (effects es) text es offset (read_again effects_codec es fits)
+      (first_refused (bases_at (distinct (touched_all es))) (λ bs. none (entry_of o es bs)) text offset refused)
 
 pub broken_entries : BrokenEntries
 broken_entries = record {
-  maker_is_another = λ number byte small another. maker_refused number (byte ∷ []) 0 (byte_refused byte small another);
-  effects_are_none = λ number text offset refused. behind_maker number text offset (effects_refused number text offset refused);
-  bases_are_none = λ number es text offset fits refused. behind_maker number (effects es ++ text) (length (effects es) + offset) (bases_refused number es text offset fits refused);
+  maker_is_another = λ number byte small another. maker_refused number (byte ∷ []) 0 (unknown_maker byte small another);
+  origin_is_none = λ number text offset refused. maker_refused number (1 ∷ text) (1 + offset) (origin_refused text offset refused);
+  effects_are_none = λ number o text offset made refused. behind_maker number o text offset made (effects_refused number o text offset refused);
+  bases_are_none = λ number o es text offset made fits refused. behind_maker number o (effects es ++ text) (length (effects es) + offset) made (bases_refused number o es text offset fits refused);
 }
 
 -- ---- sketched effects

@@ -1,45 +1,40 @@
 -- The laws of entries and of sketched effects: what is read is spelled so, and what is spelled so is read.
-use Rattle.std.proofs.Common.{◌≡◌, ℕ, ◌-◌, ◌^◌, ◌<◌, ◌≤◌, true, ◌&&◌, eqb, leb, List, [], ◌∷◌, ◌++◌, length, Ok, refl, subst, arith, lit<}
+use Rattle.std.proofs.Common.{◌≡◌, ℕ, ◌-◌, ◌^◌, ◌<◌, ◌≤◌, ◌&&◌, leb, List, [], ◌∷◌, length, Ok, refl, subst, arith, lit<}
 use Rattle.std.specs.List.{sum_by, AllByRecursion}
-use Rattle.std.proofs.lemmas.Bool.{eqb-true, leb-true, le-leb, and_parts}
+use Rattle.std.proofs.lemmas.Bool.{leb-true, le-leb, and_parts}
 use Rattle.std.proofs.lemmas.List.Sums.{sum_by-cons}
 use Rattle.byte_fields.specs.Field.{Reader, EachFits}
 use Rattle.byte_fields.specs.Codec.{Stands, IsCodec}
-use Rattle.byte_fields.proofs.Codec.{IsBranch, u8_codec, u32_codec, ruled_codec, codec_for, counted_codec, each_codec, found3, again3, fault3, tagged_found, tagged_fault, tagged_again1, tagged_again2, branch1, branch2}
+use Rattle.byte_fields.proofs.Codec.{IsBranch, u32_codec, ruled_codec, codec_for, counted_codec, each_codec, found3, again3, fault3, tagged_found, tagged_fault, tagged_again1, tagged_again2, branch1, branch2}
 use Rattle.file_paths.specs.Limits.{max_file}
 use Rattle.rs_parity.specs.Spelling.{SketchFits}
 use Rattle.rs_parity.specs.declared.sketch.Sketch.{Sketch}
 use Rattle.rs_parity.proofs.Spelled.{sketch_codec}
-use Rattle.tree_values.specs.Spelling.{effects, bases}
 use Rattle.file_paths.proofs.Parts.{path_codec}
 use Rattle.tree_laws.proofs.Parts.{effects_codec}
 use Rattle.tree_laws.proofs.Few.{bases_of}
 use Rattle.mod_log.specs.declared.log.Entry.{Entry}
 use Rattle.mod_log.specs.declared.sketched.SketchEffect.{SketchEffect}
 use Rattle.mod_log.specs.declared.sketched.SketchEffect.TheVariants.{Make, Put, Remove, Move}
+use Rattle.mod_log.proofs.Origins.{made_by_codec}
 use Rattle.mod_log.specs.Log.{entry}
 use Rattle.mod_log.specs.Sketched.{sketched_size}
 use Rattle.mod_log.specs.Spelling.{sketch_effect, sketch_effects, SketchEffectFits, SketchEffectFitsIn, SketchEffectsFitWithin}
-use Rattle.mod_log.specs.Reading.{made_by_at, entry_at, EntryFits, sketch_effect_kinds, sketch_effect_at, sketch_room_after, sketch_effects_within}
+use Rattle.mod_log.specs.Reading.{entry_at, EntryFits, sketch_effect_kinds, sketch_effect_at, sketch_room_after, sketch_effects_within}
 
 -- ---- entries
-
-pub made_by_codec : IsCodec made_by_at (λ n. n ∷ []) (λ n. (n < 2 ^ 8) × (eqb n 0 ≡ true))
-unfolding made_by_at
-made_by_codec = ruled_codec (λ n. eqb n 0) u8_codec
 
 pub entry_codec : (number : ℕ) → IsCodec (entry_at number) entry (EntryFits number)
 unfolding entry_at
 entry_codec number = record {
-  fault = λ bytes at place fits le e. fault3 made_by_codec (λ _ _. effects_codec) (λ _ es _ f. bases_of es f) (λ _ es bs. record { seq = number; effects = es; base = bs }) bytes at place fits le e;
+  fault = λ bytes at place fits le e. fault3 made_by_codec (λ _ _. effects_codec) (λ _ es _ f. bases_of es f) (λ o es bs. record { seq = number; origin = o; effects = es; base = bs }) bytes at place fits le e;
   found = λ bytes at x next fits le e.
-      let r = found3 made_by_codec (λ _ _. effects_codec) (λ _ es _ f. bases_of es f) (λ _ es bs. record { seq = number; effects = es; base = bs }) bytes at x next fits le e in
-      let none : r.first ≡ 0 = eqb-true r.first 0 r.first_fits.1 in
+      let r = found3 made_by_codec (λ _ _. effects_codec) (λ _ es _ f. bases_of es f) (λ o es bs. record { seq = number; origin = o; effects = es; base = bs }) bytes at x next fits le e in
       subst (λ (y : Entry). Stands bytes at (entry y) next × EntryFits number y) r.is
-      (subst (λ (n : ℕ). Stands bytes at (n ∷ (effects r.second ++ bases r.third)) next) none r.stands, record { numbered = refl; fits = r.second_fits; based = r.third_fits });
+      (r.stands, record { numbered = refl; origin_fits = r.first_fits; fits = r.second_fits; based = r.third_fits });
   again = λ bytes at x next stands fits.
       subst (λ (n : ℕ). entry_at n bytes at ≡ Ok (x, next)) fits.numbered
-      (again3 made_by_codec (λ _ _. effects_codec) (λ _ es _ f. bases_of es f) (λ _ es bs. record { seq = x.seq; effects = es; base = bs }) bytes at 0 x.effects x.base next stands (lit< tt, refl) fits.fits fits.based);
+      (again3 made_by_codec (λ _ _. effects_codec) (λ _ es _ f. bases_of es f) (λ o es bs. record { seq = x.seq; origin = o; effects = es; base = bs }) bytes at x.origin x.effects x.base next stands fits.origin_fits fits.fits fits.based);
 }
 
 -- ---- sketched effects

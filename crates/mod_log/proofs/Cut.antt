@@ -1,12 +1,12 @@
 -- Bytes that end inside an entry or inside sketched effects: the field in which they end is the faulty one.
-use Rattle.std.proofs.Common.{◌≡◌, ℕ, ◌+◌, ◌-◌, ◌^◌, ◌<◌, ◌≤◌, true, ◌&&◌, eqb, leb, List, [], ◌∷◌, ◌++◌, length, take, Err, refl, subst, arith, lit<, length-append}
+use Rattle.std.proofs.Common.{◌≡◌, ℕ, ◌+◌, ◌-◌, ◌^◌, ◌<◌, ◌≤◌, ◌&&◌, leb, List, [], ◌∷◌, ◌++◌, length, take, Err, refl, subst, arith, lit<, length-append}
 use Rattle.std.specs.Prelude.{sum}
 use Rattle.std.proofs.lemmas.Bool.{le-leb}
 use Rattle.byte_fields.specs.Codec.{Stands}
 use Rattle.byte_fields.specs.Cuts.{start_of, IsCut}
 use Rattle.byte_fields.proofs.Codec.{u32_codec, ruled_codec, stands_second}
 use Rattle.byte_fields.proofs.Facts.{sum_more}
-use Rattle.byte_fields.proofs.Cutting.{sum_both, u8_cut, u32_cut, ruled_cut, cut_for, one_cut, two_cut, three_cut, tagged_cut, each_cut, counted_cut}
+use Rattle.byte_fields.proofs.Cutting.{sum_both, u32_cut, ruled_cut, cut_for, one_cut, two_cut, three_cut, tagged_cut, each_cut, counted_cut}
 use Rattle.rs_parity.specs.Spelling.{sketch_spelling}
 use Rattle.rs_parity.specs.Fields.{sketch_fields}
 use Rattle.rs_parity.proofs.Cut.{sketch_cut}
@@ -24,17 +24,15 @@ use Rattle.tree_laws.proofs.Few.{touched_few}
 use Rattle.mod_log.specs.declared.log.Entry.{Entry}
 use Rattle.mod_log.specs.declared.sketched.SketchEffect.{SketchEffect}
 use Rattle.mod_log.specs.declared.sketched.SketchEffect.TheVariants.{Make, Put, Remove, Move}
+use Rattle.mod_log.specs.Origin.{made_by}
 use Rattle.mod_log.specs.Log.{entry}
 use Rattle.mod_log.specs.Spelling.{sketch_effect, sketch_effects, SketchEffectFitsIn, SketchEffectsFitWithin}
-use Rattle.mod_log.specs.Reading.{made_by_at, entry_at, EntryFits, sketch_effect_kinds, sketch_effect_at, sketch_room_after, sketch_effects_within}
-use Rattle.mod_log.specs.Fields.{entry_fields, sketch_effect_fields, sketch_effects_fields}
-use Rattle.mod_log.proofs.Codec.{made_by_codec, in_room, sketch_effect_codec, rooms_again}
+use Rattle.mod_log.specs.Reading.{entry_at, EntryFits, sketch_effect_kinds, sketch_effect_at, sketch_room_after, sketch_effects_within}
+use Rattle.mod_log.specs.Fields.{made_by_fields, entry_fields, sketch_effect_fields, sketch_effects_fields}
+use Rattle.mod_log.proofs.Origins.{made_by_codec, made_by_cut}
+use Rattle.mod_log.proofs.Codec.{in_room, sketch_effect_codec, rooms_again}
 
 -- ---- entries
-
-made_by_cut : IsCut made_by_at (λ n. n ∷ []) (λ n. 1 ∷ []) (λ n. (n < 2 ^ 8) × (eqb n 0 ≡ true))
-unfolding made_by_at
-made_by_cut = ruled_cut u8_cut (λ n. eqb n 0)
 
 bases_of_cut : (es : List Effect) → EffectsFit es → IsCut (bases_at (distinct (touched_all es))) bases bases_fields (AreBasesOf (distinct (touched_all es)))
 bases_of_cut es fits = bases_cut (distinct (touched_all es)) (touched_few es fits)
@@ -42,23 +40,25 @@ bases_of_cut es fits = bases_cut (distinct (touched_all es)) (touched_few es fit
 entry_ends : (bytes : List ℕ) (at : ℕ) (x : Entry) (next end : ℕ) → Stands bytes at (entry x) next → EntryFits x.seq x → at ≤ end → end < next → entry_at x.seq (take end bytes) at ≡ Err (at + start_of (end - at) (entry_fields x))
 unfolding entry_at
 entry_ends bytes at x next end stands fits le lt =
-    three_cut made_by_codec made_by_cut (λ _ _. effects_codec) (λ _ _. effects_cut) (λ _ es _ f. bases_of_cut es f) (λ _ es bs. record { seq = x.seq; effects = es; base = bs }) bytes at 0 x.effects x.base next end stands
-    (lit< tt, refl) fits.fits fits.based le lt
+    three_cut made_by_codec made_by_cut (λ _ _. effects_codec) (λ _ _. effects_cut) (λ _ es _ f. bases_of_cut es f) (λ o es bs. record { seq = x.seq; origin = o; effects = es; base = bs }) bytes at x.origin x.effects x.base next end stands
+    fits.origin_fits fits.fits fits.based le lt
 
 pub entry_cut : (number : ℕ) → IsCut (entry_at number) entry entry_fields (EntryFits number)
 entry_cut number = record {
   whole = λ x fits.
       omega (
         arith,
-        sum_more 1 (effects_fields x.effects ++ bases_fields x.base),
+        sum_both (made_by_fields x.origin) (effects_fields x.effects ++ bases_fields x.base),
         sum_both (effects_fields x.effects) (bases_fields x.base),
+        length-append (made_by x.origin) (effects x.effects ++ bases x.base),
         length-append (effects x.effects) (bases x.base),
+        made_by_cut.whole x.origin fits.origin_fits,
         effects_cut.whole x.effects fits.fits,
         (bases_of_cut x.effects fits.fits).whole x.base fits.based,
       );
   cut = λ bytes at x next end stands fits le lt.
       subst (λ (n : ℕ). entry_at n (take end bytes) at ≡ Err (at + start_of (end - at) (entry_fields x))) fits.numbered
-      (entry_ends bytes at x next end stands (record { numbered = refl; fits = fits.fits; based = fits.based }) le lt);
+      (entry_ends bytes at x next end stands (record { numbered = refl; origin_fits = fits.origin_fits; fits = fits.fits; based = fits.based }) le lt);
 }
 
 -- ---- sketched effects

@@ -16,7 +16,7 @@ pub after-append : (xs ys : List Entry) (v : Volume) → after (xs ++ ys) v ≡ 
 after-append [] ys v = refl
 after-append (x ∷ xs) ys v = after-append xs ys (changed_all x.effects v)
 
-legal_each : (es : List Effect) → AllByRecursion EffectFits es → AllByRecursion IsLegalEffect es
+pub legal_each : (es : List Effect) → AllByRecursion EffectFits es → AllByRecursion IsLegalEffect es
 legal_each [] fits = tt
 legal_each (e ∷ es) fits = (fits.0.0, legal_each es fits.1)
 

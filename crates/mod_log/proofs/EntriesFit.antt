@@ -6,7 +6,7 @@ use Rattle.tree_values.specs.Tree.{Volume, IsTree}
 use Rattle.tree_values.specs.Effects.{touched_all, distinct, changed_all, base_of}
 use Rattle.tree_values.specs.Spelling.{EffectsFit, AreBasesOf}
 use Rattle.mod_log.specs.declared.log.Entry.{Entry}
-use Rattle.mod_log.specs.Log.{Log, IsEntryOf, AreEntriesOf, IsLog}
+use Rattle.mod_log.specs.Log.{IsEntryOf, AreEntriesOf}
 use Rattle.mod_log.specs.Reading.{EntryFits}
 use Rattle.mod_log.specs.Laws.{PendingEntriesFit}
 use Rattle.mod_log.proofs.BasesFit.{versions_of, base_of-fits}
@@ -23,6 +23,7 @@ base_of-is effects rows fits tree = (paths_of_versions (distinct (touched_all ef
 pub entry_fits : (number : ℕ) (v : Volume) (e : Entry) → IsTree v → IsEntryOf number v e → EntryFits number e
 entry_fits number v e tree is = record {
   numbered = is.numbered;
+  origin_fits = is.origin_fits;
   fits = is.fits;
   based = subst (AreBasesOf (distinct (touched_all e.effects))) (sym is.based) (base_of-is e.effects v is.fits tree);
 }

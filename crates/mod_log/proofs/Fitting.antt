@@ -30,14 +30,14 @@ neither a b e e' = rw (e, e') refl
 small_enough : (effects : List Effect) → EffectsFit effects → is_too_large effects ≡ false
 small_enough effects fits = neither _ _ (lt_fails max_effects (length effects) fits.few) (lt_fails max_files (contents_size effects) fits.all_contents)
 
-pub fit_is_appended : (log : Log) (e : Entry) → IsLog (logged e log) → appended e.effects log ≡ Ok (logged e log)
+pub fit_is_appended : (log : Log) (e : Entry) → IsLog (logged e log) → appended e.origin e.effects log ≡ Ok (logged e log)
 fit_is_appended log e is =
     let last = (AreEntriesOf-last (log.acked + 1) log.base log.pending e is.entries).1 in
     let seq : e.seq ≡ log.acked + length log.pending + 1 = omega (arith, last.numbered) in
-    let same : next_entry e.effects log ≡ e = λ i. record { seq = sym seq i; effects = e.effects; base = sym last.based i } in
+    let same : next_entry e.origin e.effects log ≡ e = λ i. record { seq = sym seq i; origin = e.origin; effects = e.effects; base = sym last.based i } in
     let long = length-append log.pending (e ∷ []) in
     let room : has_no_room e log ≡ false = neither _ _ (le_fails max_entries (length log.pending) (omega (arith, long, is.few))) (lt_fails max_log (size_with e log) is.small) in
-    appended_as e.effects log None (small_enough e.effects last.fits) (rw same room) (apart (log.acked + length log.pending) 18446744073709551615 (omega (arith, long, is.last))) (ap refused_effect last.applies)
+    appended_as e.origin e.effects log None (small_enough e.effects last.fits) (rw same room) (apart (log.acked + length log.pending) 18446744073709551615 (omega (arith, long, is.last))) (ap refused_effect last.applies)
     ∙ ap (λ next. Ok (logged next log)) same
 
 no_effects : EffectsFit [] → ⊥

@@ -1,7 +1,7 @@
 -- Pending entries and the tree that they lead to.
-use Rattle.std.proofs.Common.{◌≡◌, ◌≢◌, ℕ, zero, suc, ◌+◌, ◌-◌, ◌<◌, ◌≤◌, get_or, Bool, true, false, List, [], ◌∷◌, ◌++◌, length, take, drop, Option, Some, Result, Ok, Err, refl, sym, ap, ◌∙◌, subst, arith}
+use Rattle.std.proofs.Common.{◌≡◌, ◌≢◌, ℕ, zero, suc, ◌+◌, ◌-◌, ◌<◌, ◌≤◌, get_or, Bool, true, false, List, [], ◌∷◌, ◌++◌, length, take, drop, Option, Some, None, Result, Ok, Err, refl, sym, ap, ◌∙◌, subst, arith}
 use Rattle.std.specs.List.{sum_by, flat_map}
-use Rattle.std.proofs.lemmas.List.{length-map, map-append}
+use Rattle.std.proofs.lemmas.List.{map-append}
 use Rattle.std.proofs.lemmas.List.Sums.{sum_by-cons}
 use Rattle.byte_fields.specs.Numbers.{as_u64}
 use Rattle.tree_values.specs.declared.node.Effect.{Effect}
@@ -9,11 +9,13 @@ use Rattle.file_paths.specs.Refusals.{when, unless_refused}
 use Rattle.tree_values.specs.Tree.{Volume}
 use Rattle.vol_tree.specs.declared.effects.ApplyAllError.{ApplyAllError}
 use Rattle.vol_tree.specs.declared.effects.ApplyAllError.TheVariants.{At, Memory as NoMemory}
-use Rattle.tree_values.specs.Effects.{changed_all, apply_all, base_of, contents_size}
+use Rattle.tree_values.specs.Effects.{changed_all, apply_all, contents_size}
 use Rattle.vol_tree.specs.Applying.{IsAllRefusal}
 use Rattle.vol_tree.specs.Undos.{undone_all, CanUndoAll}
 use Rattle.tree_values.specs.Spelling.{EffectsFit}
 use Rattle.vol_tree.proofs.Behind.{applied-changes}
+use Rattle.mod_log.specs.declared.origin.Origin.{Origin}
+use Rattle.mod_log.specs.Origin.{MadeByFits}
 use Rattle.mod_log.specs.declared.log.Pending.{Pending}
 use Rattle.mod_log.specs.declared.log.LogError.{LogError}
 use Rattle.mod_log.specs.declared.log.LogError.TheVariants.{EntryTooLarge, LogFull, LastNumber, Tree, Memory}
@@ -83,19 +85,19 @@ shorter log acked tree pending rest size number front viewed fields above within
 
 -- ---- what is answered
 
-module _ (effects : List Effect) (log : Log) where
+module _ (origin : Option Origin) (effects : List Effect) (log : Log) where
   abbrev table : Bool → Bool → Bool → Option LogError → Result Log LogError
   table large full last refusal =
       unless_refused
       (when large (EntryTooLarge (length effects) (as_u64 (contents_size effects)))
-      ∷ when full (LogFull (length log.pending) (as_u64 (size_with (next_entry effects log) log)))
+      ∷ when full (LogFull (length log.pending) (as_u64 (size_with (next_entry origin effects log) log)))
       ∷ when last LastNumber
       ∷ refusal
       ∷ [])
-      (logged (next_entry effects log) log)
+      (logged (next_entry origin effects log) log)
 
-  pub appended_as : (refusal : Option LogError) → is_too_large effects ≡ false → has_no_room (next_entry effects log) log ≡ false → is_at_last log ≡ false
-      → refused_effect (apply_all 0 effects (tree_of log)) ≡ refusal → appended effects log ≡ unless_refused (refusal ∷ []) (logged (next_entry effects log) log)
+  pub appended_as : (refusal : Option LogError) → is_too_large effects ≡ false → has_no_room (next_entry origin effects log) log ≡ false → is_at_last log ≡ false
+      → refused_effect (apply_all 0 effects (tree_of log)) ≡ refusal → appended origin effects log ≡ unless_refused (refusal ∷ []) (logged (next_entry origin effects log) log)
   appended_as refusal small room number is = λ i. table (small i) (room i) (number i) (is i)
 
 -- ---- the log with one more
@@ -111,13 +113,12 @@ pub record IsLonger (acked : ℕ) (after : Volume) (pending : List Pending) (siz
   pub fields : AreFields acked after pending size
   pub view : log_of acked after pending ≡ log
 
-pub longer : (acked : ℕ) (tree next : Volume) (pending : List Pending) (size : ℕ) (kept : Pending) (effects : List Effect)
-    → AreFields acked tree pending size → kept.entry ≡ record { seq = acked + length pending + 1; effects = effects; base = base_of effects tree } → kept.size ≡ length (entry kept.entry)
-    → undone_all kept.undos.items next ≡ tree → CanUndoAll kept.undos.items next → apply_all 0 effects tree ≡ Ok next → EffectsFit effects
-    → has_no_room (next_entry effects (log_of acked tree pending)) (log_of acked tree pending) ≡ false → is_at_last (log_of acked tree pending) ≡ false
-    → IsLonger acked next (pending ++ kept ∷ []) (size + kept.size) (logged (next_entry effects (log_of acked tree pending)) (log_of acked tree pending))
-longer acked tree next pending size kept effects fields entry_is kept_size back can applies fits room number =
-    let count : length (entries_of pending) ≡ length pending = length-map pending (λ k. k.entry) in
+pub longer : (acked : ℕ) (tree next : Volume) (pending : List Pending) (size : ℕ) (kept : Pending) (origin : Option Origin) (effects : List Effect)
+    → AreFields acked tree pending size → kept.entry ≡ next_entry origin effects (log_of acked tree pending) → kept.size ≡ length (entry kept.entry)
+    → undone_all kept.undos.items next ≡ tree → CanUndoAll kept.undos.items next → apply_all 0 effects tree ≡ Ok next → MadeByFits origin → EffectsFit effects
+    → has_no_room (next_entry origin effects (log_of acked tree pending)) (log_of acked tree pending) ≡ false → is_at_last (log_of acked tree pending) ≡ false
+    → IsLonger acked next (pending ++ kept ∷ []) (size + kept.size) (logged (next_entry origin effects (log_of acked tree pending)) (log_of acked tree pending))
+longer acked tree next pending size kept origin effects fields entry_is kept_size back can applies made fits room number =
     let more : entries_of (pending ++ kept ∷ []) ≡ entries_of pending ++ kept.entry ∷ [] = map-append (λ k. k.entry) pending (kept ∷ []) in
     let tree_is : tree_of (log_of acked tree pending) ≡ tree = after_kept pending tree fields.kept in
     let next_is : next ≡ changed_all effects tree = applied-changes effects 0 tree next applies in
@@ -127,40 +128,54 @@ longer acked tree next pending size kept effects fields entry_is kept_size back 
       size = kept_size;
     } in
     let are = AreKept-push pending tree next kept fields.kept here back in
-    let same : kept.entry ≡ next_entry effects (log_of acked tree pending) =
-    entry_is ∙ (λ i. record { seq = acked + sym count i + 1; effects = effects; base = base_of effects (sym tree_is i) }) in
-    let view : log_of acked next (pending ++ kept ∷ []) ≡ logged (next_entry effects (log_of acked tree pending)) (log_of acked tree pending) =
-    λ i. record { acked = acked; base = are.1 i; pending = (more ∙ ap (λ e. entries_of pending ++ e ∷ []) same) i } in
+    let view : log_of acked next (pending ++ kept ∷ []) ≡ logged (next_entry origin effects (log_of acked tree pending)) (log_of acked tree pending) =
+    λ i. record { acked = acked; base = are.1 i; pending = (more ∙ ap (λ e. entries_of pending ++ e ∷ []) entry_is) i } in
     let all : apply_all 0 effects (tree_of (log_of acked tree pending)) ≡ Ok (changed_all effects (tree_of (log_of acked tree pending))) =
     subst (λ t. apply_all 0 effects t ≡ Ok (changed_all effects t)) (sym tree_is) (applies ∙ ap Ok next_is) in
     let sizes = ap (λ es. length (flat_map entry es)) more ∙ size_behind (entries_of pending) kept.entry in
     record {
       fields = record {
         kept = are.0;
-        log = subst IsLog (sym view) (logged_is_log effects (log_of acked tree pending) fields.log fits all room number);
+        log = subst IsLog (sym view) (logged_is_log origin effects (log_of acked tree pending) fields.log made fits all room number);
         sum = omega (arith, sizes, fields.sum, kept_size);
       };
       view = view;
     }
 
+-- the next entry is logged, as appending its effects does
+pub logged_next : (log : Log) (acked : ℕ) (tree next : Volume) (pending : List Pending) (size : ℕ) (kept : Pending) → log_of acked tree pending ≡ log → AreFields acked tree pending size
+    → kept.entry ≡ next_entry kept.entry.origin kept.entry.effects log → kept.size ≡ length (entry kept.entry) → undone_all kept.undos.items next ≡ tree → CanUndoAll kept.undos.items next → apply_all 0 kept.entry.effects tree ≡ Ok next
+    → MadeByFits kept.entry.origin → EffectsFit kept.entry.effects → is_too_large kept.entry.effects ≡ false → has_no_room kept.entry log ≡ false → is_at_last log ≡ false
+    → IsLonger acked next (pending ++ kept ∷ []) (size + kept.size) (logged kept.entry log) × (appended kept.entry.origin kept.entry.effects log ≡ Ok (logged kept.entry log))
+logged_next log acked tree next pending size kept viewed fields is_next kept_size back can applies made fits small room number =
+    let o = kept.entry.origin in
+    let es = kept.entry.effects in
+    let has_room : has_no_room (next_entry o es log) log ≡ false = subst (λ e. has_no_room e log ≡ false) is_next room in
+    let done = longer acked tree next pending size kept o es fields (is_next ∙ ap (next_entry o es) (sym viewed)) kept_size back can applies made fits
+    (subst (λ l. has_no_room (next_entry o es l) l ≡ false) (sym viewed) has_room) (subst (λ l. is_at_last l ≡ false) (sym viewed) number) in
+    let tree_is : tree ≡ tree_of log = sym (after_kept pending tree fields.kept) ∙ ap tree_of viewed in (
+      record { fields = done.fields; view = done.view ∙ ap (λ l. logged (next_entry o es l) l) viewed ∙ ap (λ e. logged e log) (sym is_next) },
+      appended_as o es log None small has_room number (ap refused_effect (ap (apply_all 0 es) (sym tree_is) ∙ applies)) ∙ ap (λ e. Ok (logged e log)) (sym is_next),
+    )
+
 -- ---- the first refusal
 
-pub refused_in_room : (effects : List Effect) (log : Log) (e : LogError) → is_too_large effects ≡ false → unless_refused (room_refusals (next_entry effects log) log) log ≡ Err e → appended effects log ≡ Err e
-refused_in_room effects log e small refused = by (is_too_large effects) (has_no_room (next_entry effects log) log) (is_at_last log) small refused
+pub refused_in_room : (origin : Option Origin) (effects : List Effect) (log : Log) (e : LogError) → is_too_large effects ≡ false → unless_refused (room_refusals (next_entry origin effects log) log) log ≡ Err e → appended origin effects log ≡ Err e
+refused_in_room origin effects log e small refused = by (is_too_large effects) (has_no_room (next_entry origin effects log) log) (is_at_last log) small refused
   where
-    by : (a b d : Bool) → a ≡ false → unless_refused (when b (LogFull (length log.pending) (as_u64 (size_with (next_entry effects log) log))) ∷ when d LastNumber ∷ []) log ≡ Err e
-        → table effects log a b d (refused_effect (apply_all 0 effects (tree_of log))) ≡ Err e
+    by : (a b d : Bool) → a ≡ false → unless_refused (when b (LogFull (length log.pending) (as_u64 (size_with (next_entry origin effects log) log))) ∷ when d LastNumber ∷ []) log ≡ Err e
+        → table origin effects log a b d (refused_effect (apply_all 0 effects (tree_of log))) ≡ Err e
     by true b d h refused = absurd (cc)
     by false true d h refused = cc
     by false false true h refused = cc
     by false false false h refused = absurd (cc)
 
 -- where the tree refuses an effect
-pub refused_as : (effects : List Effect) (log : Log) (cause : ApplyAllError) (e : LogError) → is_too_large effects ≡ false → has_no_room (next_entry effects log) log ≡ false → is_at_last log ≡ false
-    → IsAllRefusal effects (tree_of log) cause → e ≡ log_error cause → e ≢ Memory → appended effects log ≡ Err e
-refused_as effects log (At i refusal) e small room number refused is no_memory =
-    appended_as effects log (Some (Tree i refusal)) small room number (ap refused_effect refused) ∙ ap Err (sym is)
-refused_as effects log NoMemory e small room number refused is no_memory = absurd (no_memory is)
+pub refused_as : (origin : Option Origin) (effects : List Effect) (log : Log) (cause : ApplyAllError) (e : LogError) → is_too_large effects ≡ false → has_no_room (next_entry origin effects log) log ≡ false → is_at_last log ≡ false
+    → IsAllRefusal effects (tree_of log) cause → e ≡ log_error cause → e ≢ Memory → appended origin effects log ≡ Err e
+refused_as origin effects log (At i refusal) e small room number refused is no_memory =
+    appended_as origin effects log (Some (Tree i refusal)) small room number (ap refused_effect refused) ∙ ap Err (sym is)
+refused_as origin effects log NoMemory e small room number refused is no_memory = absurd (no_memory is)
 
 -- ---- back to the base
 

@@ -1,3 +1,4 @@
+pub mod Origins
 pub mod Entries
 pub mod Appending
 pub mod Kept
@@ -9,3 +10,4 @@ pub mod EntriesFit
 pub mod Sketches
 pub mod Cut
 pub mod Breaking
+pub mod SpelledBytes

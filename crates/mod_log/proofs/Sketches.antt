@@ -1,5 +1,6 @@
 -- Sketched effects: what fills them, what they touch and how much they stand for, and that effects have one list of them.
-use Rattle.std.proofs.Common.{◌≡◌, inl, inr, ℕ, ◌+◌, List, [], ◌∷◌, ◌++◌, length, refl, sym, ◌∙◌, ap, subst, arith}
+use Rattle.std.proofs.Common.{◌≡◌, inl, inr, ℕ, ◌+◌, ◌≤◌, List, [], ◌∷◌, ◌++◌, length, Some, refl, sym, ◌∙◌, ap, subst, arith}
+use Rattle.std.specs.Prelude.{unwrap_or}
 use Rattle.std.specs.List.{AllByRecursion}
 use Rattle.std.proofs.lemmas.List.Concat.{flat_map-cons}
 use Rattle.std.proofs.lemmas.List.Sums.{sum_by-cons}
@@ -12,13 +13,15 @@ use Rattle.rs_parity.proofs.Spelled.{sketches_fit_each}
 use Rattle.rs_parity.proofs.Unique.{one_sketch_each}
 use Rattle.file_paths.specs.Path.{FilePath}
 use Rattle.tree_values.specs.Lists.{IsIn}
-use Rattle.tree_values.specs.Tree.{touched_paths}
+use Rattle.tree_values.specs.Tree.{touched_paths, IsLegalEffect}
 use Rattle.tree_values.specs.Effects.{content_size}
 use Rattle.tree_values.specs.Spelling.{EffectFits}
 use Rattle.tree_values.specs.declared.node.Effect.{Effect}
 use Rattle.tree_values.specs.declared.node.Effect.TheVariants.{Make, Put, Remove, Move}
-use Rattle.mod_log.specs.Sketched.{sketch_paths, sketched_size, IsSketchedAs, AreSketchedAs, Fills, AllFill, Writes, SketchesAreFilled, FillingsAreEqual, FillingsTouchAlike, OneSketchList}
+use Rattle.mod_log.proofs.Entries.{legal_each}
+use Rattle.mod_log.specs.Sketched.{sketch_paths, sketched_size, IsSketchedAs, AreSketchedAs, Fills, AllFill, Writes, SketchesAreFilled, FillingsAreEqual, FillingsTouchAlike, OneSketchList, OneSketchOf}
 use Rattle.mod_log.specs.Spelling.{SketchEffectFits, FillingsFit, SketchesOfEffectsFit}
+use Rattle.mod_log.specs.declared.origin.Origin.{Origin}
 use Rattle.mod_log.specs.declared.sketched.SketchEffect.{SketchEffect}
 use Rattle.mod_log.specs.declared.sketched.SketchEffect.TheVariants as of_sketch
 
@@ -46,10 +49,10 @@ sketched_kinds P make put remove move (Move p to) (of_sketch.Put q sketch) is = 
 sketched_kinds P make put remove move (Move p to) (of_sketch.Remove q) is = absurd is
 
 -- what holds of each kind of sketch and what fills it, holds of a sketch and what fills it
-filled_kinds : (P : SketchEffect → Effect → Type 0) → ((p : FilePath) → P (of_sketch.Make p) (Make p)) → ((p : FilePath) (sketch : Sketch) (content : List ℕ) → length content ≡ sketch.len → sha256 content ≡ sketch.print → P (of_sketch.Put p sketch) (Put p content))
+filled_kinds : (P : SketchEffect → Effect → Type 0) → ((p : FilePath) → P (of_sketch.Make p) (Make p)) → ((p : FilePath) (sketch : Sketch) (content : List ℕ) → length content ≡ sketch.len → sha256 content ≡ sketch.print → IsBytes content → P (of_sketch.Put p sketch) (Put p content))
     → ((p : FilePath) → P (of_sketch.Remove p) (Remove p)) → ((p to : FilePath) → P (of_sketch.Move p to) (Move p to)) → (k : SketchEffect) (e : Effect) → Fills k e → P k e
 filled_kinds P make put remove move (of_sketch.Make p) (Make q) fills = subst (λ (x : FilePath). P (of_sketch.Make p) (Make x)) (sym fills) (make p)
-filled_kinds P make put remove move (of_sketch.Put p sketch) (Put q content) fills = subst (λ (x : FilePath). P (of_sketch.Put p sketch) (Put x content)) (sym fills.0) (put p sketch content fills.1 fills.2)
+filled_kinds P make put remove move (of_sketch.Put p sketch) (Put q content) fills = subst (λ (x : FilePath). P (of_sketch.Put p sketch) (Put x content)) (sym fills.0) (put p sketch content fills.1 fills.2 fills.3)
 filled_kinds P make put remove move (of_sketch.Remove p) (Remove q) fills = subst (λ (x : FilePath). P (of_sketch.Remove p) (Remove x)) (sym fills) (remove p)
 filled_kinds P make put remove move (of_sketch.Move p to) (Move q onto) fills =
     subst (λ (x : FilePath). P (of_sketch.Move p to) (Move x onto)) (sym fills.0) (subst (λ (x : FilePath). P (of_sketch.Move p to) (Move p x)) (sym fills.1) (move p to))
@@ -66,23 +69,18 @@ filled_kinds P make put remove move (of_sketch.Move p to) (Make q) fills = absur
 filled_kinds P make put remove move (of_sketch.Move p to) (Put q content) fills = absurd fills
 filled_kinds P make put remove move (of_sketch.Move p to) (Remove q) fills = absurd fills
 
-own_filling : (e : Effect) (k : SketchEffect) → IsSketchedAs e k → Fills k e
-own_filling = sketched_kinds (λ e k. Fills k e) (λ p. refl) (λ p content sketch is. (refl, sym is.len, sym is.print)) (λ p. refl) (λ p to. (refl, refl))
+own_filling : (e : Effect) (k : SketchEffect) → IsSketchedAs e k → IsLegalEffect e → Fills k e
+own_filling = sketched_kinds (λ e k. IsLegalEffect e → Fills k e) (λ p legal. refl) (λ p content sketch is legal. (refl, sym is.len, sym is.print, legal.1)) (λ p legal. refl) (λ p to legal. (refl, refl))
 
 abbrev Alike : SketchEffect → Effect → Type 0
 Alike k e = (touched_paths e ≡ sketch_paths k) × (content_size e ≡ sketched_size k)
 
 filling_alike : (k : SketchEffect) (e : Effect) → Fills k e → Alike k e
-filling_alike = filled_kinds Alike (λ p. (refl, refl)) (λ p sketch content len print. (refl, len)) (λ p. (refl, refl)) (λ p to. (refl, refl))
+filling_alike = filled_kinds Alike (λ p. (refl, refl)) (λ p sketch content len print bytes. (refl, len)) (λ p. (refl, refl)) (λ p to. (refl, refl))
 
--- each content that the effects write is bytes
-abbrev WriteBytes : List Effect → Type 0
-WriteBytes es = (content : List ℕ) → Writes es content → IsBytes content
-
-filling_fits : (k : SketchEffect) (e : Effect) → Fills k e → SketchEffectFits k → WriteBytes (e ∷ []) → EffectFits e
+filling_fits : (k : SketchEffect) (e : Effect) → Fills k e → SketchEffectFits k → EffectFits e
 filling_fits =
-    filled_kinds (λ k e. SketchEffectFits k → WriteBytes (e ∷ []) → EffectFits e) (λ p fits bytes. (fits, omega arith)) (λ p sketch content len print fits bytes. ((fits.0, bytes content (p, inl refl)), omega (arith, len, fits.1.len)))
-    (λ p fits bytes. (fits, omega arith)) (λ p to fits bytes. (fits, omega arith))
+    filled_kinds (λ k e. SketchEffectFits k → EffectFits e) (λ p fits. (fits, omega arith)) (λ p sketch content len print bytes fits. ((fits.0, bytes), omega (arith, len, fits.1.len))) (λ p fits. (fits, omega arith)) (λ p to fits. (fits, omega arith))
 
 sketch_fits : (e : Effect) (k : SketchEffect) → IsSketchedAs e k → EffectFits e → SketchEffectFits k
 sketch_fits =
@@ -149,10 +147,10 @@ one_sketch_effect = sketched_kinds (λ e a. (b : SketchEffect) → IsSketchedAs 
 -- ---- effects in a row
 
 pub sketches_are_filled : SketchesAreFilled
-sketches_are_filled [] [] are = tt
-sketches_are_filled (e ∷ es) (k ∷ ks) are = (own_filling e k are.0, sketches_are_filled es ks are.1)
-sketches_are_filled [] (k ∷ ks) are = absurd are
-sketches_are_filled (e ∷ es) [] are = absurd are
+sketches_are_filled [] [] legal are = tt
+sketches_are_filled (e ∷ es) (k ∷ ks) legal are = (own_filling e k are.0 legal.0, sketches_are_filled es ks legal.1 are.1)
+sketches_are_filled [] (k ∷ ks) legal are = absurd are
+sketches_are_filled (e ∷ es) [] legal are = absurd are
 
 in_front : (x y : Effect) (ys : List Effect) → IsIn x (y ∷ []) → IsIn x (y ∷ ys)
 in_front x y ys (inl is) = inl is
@@ -186,18 +184,16 @@ as_many (e ∷ es) (k ∷ ks) fill = omega (arith, as_many es ks fill.1)
 as_many [] (k ∷ ks) fill = absurd fill
 as_many (e ∷ es) [] fill = absurd fill
 
-all_fit : (es : List Effect) (ks : List SketchEffect) → AllFill ks es → AllByRecursion SketchEffectFits ks → WriteBytes es → AllByRecursion EffectFits es
-all_fit [] [] fill fits bytes = tt
-all_fit (e ∷ es) (k ∷ ks) fill fits bytes =
-    let first = filling_fits k e fill.0 fits.0 (λ content at. bytes content (at.0, in_front (Put at.0 content) e es at.1)) in
-    (first, all_fit es ks fill.1 fits.1 (λ content at. bytes content (at.0, inr at.1)))
-all_fit [] (k ∷ ks) fill fits bytes = absurd fill
-all_fit (e ∷ es) [] fill fits bytes = absurd fill
+all_fit : (es : List Effect) (ks : List SketchEffect) → AllFill ks es → AllByRecursion SketchEffectFits ks → AllByRecursion EffectFits es
+all_fit [] [] fill fits = tt
+all_fit (e ∷ es) (k ∷ ks) fill fits = (filling_fits k e fill.0 fits.0, all_fit es ks fill.1 fits.1)
+all_fit [] (k ∷ ks) fill fits = absurd fill
+all_fit (e ∷ es) [] fill fits = absurd fill
 
 pub fillings_fit : FillingsFit
-fillings_fit es ks fits fill bytes =
+fillings_fit es ks fits fill =
     let many = as_many es ks fill in
-    record { some = omega (arith, many, fits.some); few = omega (arith, many, fits.few); each = all_fit es ks fill fits.each bytes; all_contents = omega (arith, (fillings_touch_alike es ks fill).1, fits.all_contents) }
+    record { some = omega (arith, many, fits.some); few = omega (arith, many, fits.few); each = all_fit es ks fill fits.each; all_contents = omega (arith, (fillings_touch_alike es ks fill).1, fits.all_contents) }
 
 all_sketches_fit : (es : List Effect) (ks : List SketchEffect) → AreSketchedAs es ks → AllByRecursion EffectFits es → AllByRecursion SketchEffectFits ks
 all_sketches_fit [] [] are fits = tt
@@ -207,7 +203,7 @@ all_sketches_fit (e ∷ es) [] are fits = absurd are
 
 pub sketches_fit : SketchesOfEffectsFit
 sketches_fit es ks fits are =
-    let fill = sketches_are_filled es ks are in
+    let fill = sketches_are_filled es ks (legal_each es fits.each) are in
     let many = as_many es ks fill in
     record { some = omega (arith, many, fits.some); few = omega (arith, many, fits.few); each = all_sketches_fit es ks are fits.each; all_contents = omega (arith, (fillings_touch_alike es ks fill).1, fits.all_contents) }
 
@@ -221,3 +217,29 @@ one_sketch_list [] (a ∷ as') bs are are' = absurd are
 one_sketch_list [] [] (b ∷ bs) are are' = absurd are'
 one_sketch_list (e ∷ es) [] bs are are' = absurd are
 one_sketch_list (e ∷ es) (a ∷ as') [] are are' = absurd are'
+
+-- ---- entries
+
+one_origin : (a b : Origin) → Some a ≡ Some b → a ≡ b
+one_origin a b e = ap (λ o. unwrap_or o a) e
+
+pub one_sketch_of : OneSketchOf
+one_sketch_of e a b is is' =
+    let seq : a.seq ≡ b.seq = is.numbered ∙ sym is'.numbered in
+    let origin : a.origin ≡ b.origin = one_origin a.origin b.origin (sym is.made_by ∙ is'.made_by) in
+    let base : a.base ≡ b.base = is.based ∙ sym is'.based in
+    let effects : a.effects ≡ b.effects = one_sketch_list e.effects a.effects b.effects is.effects_are is'.effects_are in
+    λ i. record { seq = seq i; origin = origin i; base = base i; effects = effects i }
+
+-- ---- one more
+
+pub sketched_more : (es : List Effect) (ks : List SketchEffect) (e : Effect) (k : SketchEffect) → AreSketchedAs es ks → IsSketchedAs e k → AreSketchedAs (es ++ e ∷ []) (ks ++ k ∷ [])
+sketched_more [] [] e k are is = (is, tt)
+sketched_more (x ∷ es) (y ∷ ks) e k are is = (are.0, sketched_more es ks e k are.1 is)
+sketched_more [] (y ∷ ks) e k are is = absurd are
+sketched_more (x ∷ es) [] e k are is = absurd are
+
+-- contents that fit are short enough to be sketched
+pub short_contents : (es : List Effect) → AllByRecursion EffectFits es → AllByRecursion (λ e. content_size e ≤ max_file) es
+short_contents [] fits = tt
+short_contents (e ∷ es) fits = (fits.0.1, short_contents es fits.1)

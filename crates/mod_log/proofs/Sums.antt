@@ -1,5 +1,5 @@
 -- Sums over one element more, and how long the spellings of entries are.
-use Rattle.std.proofs.Common.{◌≡◌, ℕ, ◌+◌, ◌<◌, ◌≤◌, List, [], ◌∷◌, ◌++◌, length, take, drop, get_or, sym, ap, ◌∙◌, arith, length-append}
+use Rattle.std.proofs.Common.{◌≡◌, ℕ, ◌+◌, ◌<◌, ◌≤◌, List, [], ◌∷◌, ◌++◌, length, Option, take, drop, get_or, sym, ap, ◌∙◌, arith, length-append}
 use Rattle.std.specs.List.{sum_by, flat_map}
 use Rattle.std.proofs.lemmas.List.{take_more, take-append-drop}
 use Rattle.std.proofs.lemmas.List.Sums.{sum_by-append}
@@ -11,6 +11,8 @@ use Rattle.tree_values.specs.Spelling.{effect, effects, base, bases}
 use Rattle.byte_fields.proofs.Facts.{four_bytes}
 use Rattle.std.specs.Int.{w32}
 use Rattle.byte_fields.specs.Field.{digits}
+use Rattle.mod_log.specs.declared.origin.Origin.{Origin}
+use Rattle.mod_log.specs.Origin.{made_by}
 use Rattle.mod_log.specs.declared.log.Entry.{Entry}
 use Rattle.mod_log.specs.Log.{entry}
 
@@ -19,10 +21,12 @@ sum_by-next f xs i x within is =
     let one : sum_by f (x ∷ []) ≡ f x = omega arith in
     ap (sum_by f) (take_more xs i x within ∙ ap (λ y. take i xs ++ y ∷ []) (sym is)) ∙ sum_by-append f (take i xs) (x ∷ []) ∙ ap (λ n. sum_by f (take i xs) + n) one
 
--- the two lists of an entry, behind a byte and their counts
-pub entry_length : (es : List Effect) (bs : List Base) → length (0 ∷ (effects es ++ bases bs)) ≡ 9 + sum_by (λ e. length (effect e)) es + sum_by (λ b. length (base b)) bs
-entry_length es bs = omega (
+-- the two lists of an entry, behind what made it and their counts
+pub entry_length : (o : Option Origin) (es : List Effect) (bs : List Base)
+    → length (made_by o ++ (effects es ++ bases bs)) ≡ 8 + length (made_by o) + sum_by (λ e. length (effect e)) es + sum_by (λ b. length (base b)) bs
+entry_length o es bs = omega (
   arith,
+  length-append (made_by o) (effects es ++ bases bs),
   length-append (effects es) (bases bs),
   length-append (digits w32 (length es)) (flat_map effect es),
   length-append (digits w32 (length bs)) (flat_map base bs),

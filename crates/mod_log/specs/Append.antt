@@ -8,6 +8,7 @@ use Rattle.tree_values.specs.Tree.{Volume}
 use Rattle.tree_values.specs.Effects.{apply_all, base_of, contents_size}
 use Rattle.tree_values.specs.declared.node.Effect.{Effect}
 use Rattle.tree_values.specs.declared.node.TreeError.{TreeError}
+use Rattle.mod_log.specs.declared.origin.Origin.{Origin}
 use Rattle.mod_log.specs.declared.log.Entry.{Entry}
 use Rattle.mod_log.specs.declared.log.LogError.{LogError}
 use Rattle.mod_log.specs.declared.log.LogError.TheVariants.{EntryTooLarge, LogFull, LastNumber, Tree}
@@ -15,8 +16,8 @@ use Rattle.mod_log.specs.Limits.{max_entries, max_log}
 use Rattle.mod_log.specs.Log.{Log, entry, tree_of, logged}
 
 -- the next entry: its number follows the last, and its base list has the versions of the log's tree
-abbrev pub next_entry : List Effect → Log → Entry
-next_entry effects log = record { seq = log.acked + length log.pending + 1; effects = effects; base = base_of effects (tree_of log) }
+abbrev pub next_entry : Option Origin → List Effect → Log → Entry
+next_entry origin effects log = record { seq = log.acked + length log.pending + 1; origin = origin; effects = effects; base = base_of effects (tree_of log) }
 
 -- more than 4,096 effects or 33,554,432 bytes of content
 abbrev pub is_too_large : List Effect → Bool
@@ -40,14 +41,14 @@ refused_effect (Ok tree) = None
 refused_effect (Err refusal) = Some (Tree refusal.0 refusal.1)
 
 -- why effects are not logged, in the order in which it is tried
-abbrev pub append_refusals : List Effect → Log → List (Option LogError)
-append_refusals effects log =
+abbrev pub append_refusals : Option Origin → List Effect → Log → List (Option LogError)
+append_refusals origin effects log =
     when (is_too_large effects) (EntryTooLarge (length effects) (as_u64 (contents_size effects)))
-    ∷ when (has_no_room (next_entry effects log) log) (LogFull (length log.pending) (as_u64 (size_with (next_entry effects log) log)))
+    ∷ when (has_no_room (next_entry origin effects log) log) (LogFull (length log.pending) (as_u64 (size_with (next_entry origin effects log) log)))
     ∷ when (is_at_last log) LastNumber
     ∷ refused_effect (apply_all 0 effects (tree_of log))
     ∷ []
 
 -- the log with one more entry, or the first refusal
-abbrev pub appended : List Effect → Log → Result Log LogError
-appended effects log = unless_refused (append_refusals effects log) (logged (next_entry effects log) log)
+abbrev pub appended : Option Origin → List Effect → Log → Result Log LogError
+appended origin effects log = unless_refused (append_refusals origin effects log) (logged (next_entry origin effects log) log)

@@ -1,5 +1,5 @@
 -- Entries and sketched effects that break a rule: the field that is refused, whatever stands before and behind them.
-use Rattle.std.specs.Prelude.{◌≡◌, ◌≢◌, ◌⊎◌, ℕ, ◌+◌, ◌-◌, ◌^◌, ◌<◌, ◌≤◌, List, [], ◌∷◌, ◌++◌, length}
+use Rattle.std.specs.Prelude.{◌≡◌, ◌≢◌, ◌⊎◌, ℕ, ◌+◌, ◌-◌, ◌^◌, ◌<◌, ◌≤◌, List, [], ◌∷◌, ◌++◌, length, Option}
 use Rattle.std.specs.Int.{w32}
 use Rattle.std.specs.List.{flat_map, AllByRecursion}
 use Rattle.byte_fields.specs.Field.{digits}
@@ -13,20 +13,30 @@ use Rattle.tree_values.specs.Spelling.{effects, EffectsFit}
 use Rattle.file_paths.specs.Reading.{path_at}
 use Rattle.tree_values.specs.Reading.{effects_at, bases_at}
 use Rattle.tree_values.specs.declared.node.Effect.{Effect}
-use Rattle.mod_log.specs.Log.{made_by}
+use Rattle.cmd_capture.specs.Reading.{command_at}
+use Rattle.mod_log.specs.declared.origin.Origin.{Origin}
+use Rattle.mod_log.specs.Origin.{made_by, MadeByFits}
 use Rattle.mod_log.specs.Sketched.{sketched_sizes}
 use Rattle.mod_log.specs.Spelling.{sketch_effect, SketchEffectFits}
-use Rattle.mod_log.specs.Reading.{entry_at, sketch_effect_kinds, sketch_effect_at, sketch_effects_within}
+use Rattle.mod_log.specs.Reading.{origin_at, made_by_kinds, entry_at, sketch_effect_kinds, sketch_effect_at, sketch_effects_within}
 use Rattle.mod_log.specs.declared.sketched.SketchEffect.{SketchEffect}
 
+pub record BrokenOrigins : Type 0 where
+  -- a command that is refused: behind the print and the status
+  pub command_is_none : (print : List ℕ) (status : ℕ) (text : List ℕ) (offset : ℕ) → length print ≡ 32 → status < 2 ^ 8 → IsRefused command_at text offset
+      → IsRefused origin_at (print ++ (status ∷ text)) (33 + offset)
+
 pub record BrokenEntries : Type 0 where
-  -- another first byte than 0: there
-  pub maker_is_another : (number byte : ℕ) → byte < 2 ^ 8 → byte ≢ 0 → IsRefused (entry_at number) (byte ∷ []) 0
-  -- effects that are refused: behind the first byte
-  pub effects_are_none : (number : ℕ) (text : List ℕ) (offset : ℕ) → IsRefused effects_at text offset → IsRefused (entry_at number) (made_by ++ text) (1 + offset)
+  -- a first byte that is neither 0 nor 1: there
+  pub maker_is_another : (number byte : ℕ) → byte < 2 ^ 8 → AllByRecursion (λ known. byte ≢ known.0) made_by_kinds → IsRefused (entry_at number) (byte ∷ []) 0
+  -- an origin that is refused: behind the first byte
+  pub origin_is_none : (number : ℕ) (text : List ℕ) (offset : ℕ) → IsRefused origin_at text offset → IsRefused (entry_at number) (1 ∷ text) (1 + offset)
+  -- effects that are refused: behind what made the entry
+  pub effects_are_none : (number : ℕ) (origin : Option Origin) (text : List ℕ) (offset : ℕ) → MadeByFits origin → IsRefused effects_at text offset
+      → IsRefused (entry_at number) (made_by origin ++ text) (length (made_by origin) + offset)
   -- bases that are refused: behind the effects
-  pub bases_are_none : (number : ℕ) (es : List Effect) (text : List ℕ) (offset : ℕ) → EffectsFit es → IsRefused (bases_at (distinct (touched_all es))) text offset
-      → IsRefused (entry_at number) (made_by ++ (effects es ++ text)) (1 + (length (effects es) + offset))
+  pub bases_are_none : (number : ℕ) (origin : Option Origin) (es : List Effect) (text : List ℕ) (offset : ℕ) → MadeByFits origin → EffectsFit es → IsRefused (bases_at (distinct (touched_all es))) text offset
+      → IsRefused (entry_at number) (made_by origin ++ (effects es ++ text)) (length (made_by origin) + (length (effects es) + offset))
 
 pub record BrokenSketchEffects : Type 0 where
   -- a number that is no kind of sketched effect: there

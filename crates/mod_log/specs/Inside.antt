@@ -10,6 +10,7 @@ use Rattle.file_paths.specs.Refusals.{when}
 use Rattle.tree_values.specs.Tree.{Volume}
 use Rattle.tree_values.specs.Effects.{changed_all}
 use Rattle.vol_tree.specs.Undos.{undone_all, CanUndoAll}
+use Rattle.mod_log.specs.declared.origin.Origin.{Origin}
 use Rattle.mod_log.specs.declared.log.Entry.{Entry}
 use Rattle.mod_log.specs.declared.log.Pending.{Pending}
 use Rattle.mod_log.specs.declared.log.LogError.{LogError}
@@ -49,8 +50,8 @@ pub record AreFields (acked : ℕ) (tree : Volume) (pending : List Pending) (siz
   pub sum : size ≡ length (flat_map entry (entries_of pending))
 
 -- an entry behind those of the log
-abbrev pub entry_with : List Effect → List Base → Log → Entry
-entry_with effects base log = record { seq = log.acked + length log.pending + 1; effects = effects; base = base }
+abbrev pub entry_with : Option Origin → List Effect → List Base → Log → Entry
+entry_with origin effects base log = record { seq = log.acked + length log.pending + 1; origin = origin; effects = effects; base = base }
 
 -- the refusals for want of room or of a number
 abbrev pub room_refusals : Entry → Log → List (Option LogError)

@@ -1,5 +1,5 @@
 -- What logging, acknowledging and pulling leave, in their own words.
-use Rattle.std.specs.Prelude.{◌≡◌, ℕ, ◌+◌, ◌<◌, ◌≤◌, List, [], length, slice_index_or, Ok}
+use Rattle.std.specs.Prelude.{◌≡◌, ℕ, ◌+◌, ◌<◌, ◌≤◌, List, [], length, slice_index_or, Option, Ok}
 use Rattle.std.specs.List.{AllByRecursion}
 use Rattle.tree_values.specs.declared.node.Effect.{Effect}
 use Rattle.tree_values.specs.Tree.{Volume, IsTree, IsLegalEffect}
@@ -7,16 +7,18 @@ use Rattle.tree_values.specs.Effects.{changed_all}
 use Rattle.mod_log.specs.Log.{Log, tree_of, tree_after, IsLog, new_log_of, logged, acknowledged, pulled}
 use Rattle.mod_log.specs.Append.{next_entry, appended}
 use Rattle.mod_log.specs.Reading.{EntryFits}
+use Rattle.mod_log.specs.Origin.{MadeByFits}
+use Rattle.mod_log.specs.declared.origin.Origin.{Origin}
 use Rattle.mod_log.specs.declared.log.Entry.{Entry}
 
 -- an appended entry is the last of a log that has all else as before, and its effects lead to the new tree
 abbrev pub AppendingAddsAnEntry : Type 0
-AppendingAddsAnEntry = (effects : List Effect) (log new : Log) → IsLog log → AllByRecursion IsLegalEffect effects → 1 ≤ length effects → appended effects log ≡ Ok new
-    → (new ≡ logged (next_entry effects log) log) × IsLog new × (tree_of new ≡ changed_all effects (tree_of log))
+AppendingAddsAnEntry = (origin : Option Origin) (effects : List Effect) (log new : Log) → IsLog log → MadeByFits origin → AllByRecursion IsLegalEffect effects → 1 ≤ length effects → appended origin effects log ≡ Ok new
+    → (new ≡ logged (next_entry origin effects log) log) × IsLog new × (tree_of new ≡ changed_all effects (tree_of log))
 
--- where a log with an entry behind it is one, appending the entry's effects gives it
+-- where a log with an entry behind it is one, appending the entry's origin and effects gives it
 abbrev pub EntriesThatFitAreAppended : Type 0
-EntriesThatFitAreAppended = (log : Log) (entry : Entry) → IsLog (logged entry log) → appended entry.effects log ≡ Ok (logged entry log)
+EntriesThatFitAreAppended = (log : Log) (entry : Entry) → IsLog (logged entry log) → appended entry.origin entry.effects log ≡ Ok (logged entry log)
 
 -- acknowledged entries go into the base, and the tree stays
 abbrev pub AcknowledgingKeepsTheTree : Type 0

@@ -1,4 +1,5 @@
 pub mod Limits
+pub mod Origin
 pub mod Log
 pub mod Append
 pub mod Laws

@@ -6,6 +6,7 @@ use Rattle.tree_values.specs.Effects.{changed_all, apply_all, base_of}
 use Rattle.tree_values.specs.Spelling.{effects, bases, EffectsFit}
 use Rattle.mod_log.specs.Limits.{max_entries, max_log}
 use Rattle.mod_log.specs.declared.log.Entry.{Entry}
+use Rattle.mod_log.specs.Origin.{made_by, MadeByFits}
 
 -- Entry i of the pending ones, from 0, has number acked + 1 + i.
 pub record Log : Type 0 where
@@ -13,13 +14,9 @@ pub record Log : Type 0 where
   pub base : Volume
   pub pending : List Entry
 
--- what made an entry; the byte says that no command made it
-abbrev pub made_by : List ℕ
-made_by = 0 ∷ []
-
 -- the one spelling of an entry, whose number is not spelled
 abbrev pub entry : Entry → List ℕ
-entry e = made_by ++ (effects e.effects ++ bases e.base)
+entry e = made_by e.origin ++ (effects e.effects ++ bases e.base)
 
 -- the volume after the entries' effects
 abbrev pub after : List Entry → Volume → Volume
@@ -38,9 +35,11 @@ tree_at number log = tree_after (number - log.acked) log
 abbrev pub tree_of : Log → Volume
 tree_of log = after log.pending log.base
 
--- the entry has this number, and its effects apply to the volume, whose versions its base list has
+-- The entry has this number, and its effects apply to the volume, whose versions its base list has. What made it has
+-- a spelling.
 pub record IsEntryOf (number : ℕ) (volume : Volume) (entry : Entry) : Type 0 where
   pub numbered : entry.seq ≡ number
+  pub origin_fits : MadeByFits entry.origin
   pub fits : EffectsFit entry.effects
   pub applies : apply_all 0 entry.effects volume ≡ Ok (changed_all entry.effects volume)
   pub based : entry.base ≡ base_of entry.effects volume

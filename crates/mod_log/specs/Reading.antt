@@ -1,22 +1,36 @@
 -- Reading entries and sketched effects, with the place of the first faulty field.
-use Rattle.std.specs.Prelude.{◌≡◌, ℕ, ◌-◌, ◌==◌, ◌&&◌, nat_le, List, [], ◌∷◌, Ok}
+use Rattle.std.specs.Prelude.{◌≡◌, ℕ, ◌-◌, ◌&&◌, nat_le, List, [], ◌∷◌, Option, Some, None, Ok}
 use Rattle.std.specs.Int.{w8, w32}
-use Rattle.byte_fields.specs.Field.{Reader, ◌>>=◌, one, two, ruled, tagged_at, number_at, each_at}
+use Rattle.byte_fields.specs.Field.{Reader, ◌>>=◌, none, one, two, ruled, tagged_at, span_at, number_at, each_at}
 use Rattle.rs_parity.specs.Spelling.{sketch_at}
 use Rattle.tree_values.specs.Effects.{touched_all, distinct}
 use Rattle.tree_values.specs.Spelling.{EffectsFit, AreBasesOf}
 use Rattle.file_paths.specs.Reading.{path_at}
 use Rattle.tree_values.specs.Reading.{effects_at, bases_at}
+use Rattle.cmd_capture.specs.Reading.{command_at}
+use Rattle.mod_log.specs.Origin.{MadeByFits}
 use Rattle.mod_log.specs.Sketched.{sketched_size}
+use Rattle.mod_log.specs.declared.origin.Origin.{Origin}
 use Rattle.mod_log.specs.declared.log.Entry.{Entry}
 use Rattle.mod_log.specs.declared.sketched.SketchEffect.{SketchEffect}
 use Rattle.mod_log.specs.declared.sketched.SketchEffect.TheVariants.{Make, Put, Remove, Move}
 
 -- ---- entries
 
--- the byte that says that no command made an entry
-unfoldable pub made_by_at : Reader ℕ
-made_by_at = ruled (λ n. n == 0) (number_at w8)
+-- the print of the job, the status and the command
+unfoldable pub origin_at : Reader Origin
+origin_at bytes at = do
+  print ← span_at 32 bytes at
+  status ← number_at w8 bytes print.1
+  command ← command_at bytes status.1
+  Ok (record { command = command.0; job_print = print.0; status = status.0 }, command.1)
+
+-- the byte 0 where no command made an entry, or the byte 1 and the origin
+abbrev pub made_by_kinds : List (ℕ × Reader (Option Origin))
+made_by_kinds = (0, none None) ∷ (1, one origin_at Some) ∷ []
+
+unfoldable pub made_by_at : Reader (Option Origin)
+made_by_at = tagged_at made_by_kinds
 
 -- what made it, the effects, and the versions of the paths that they touch; the entry has this number
 unfoldable pub entry_at : ℕ → Reader Entry
@@ -24,11 +38,12 @@ entry_at number bytes at = do
   made_by ← made_by_at bytes at
   effects ← effects_at bytes made_by.1
   base ← bases_at (distinct (touched_all effects.0)) bytes effects.1
-  Ok (record { seq = number; effects = effects.0; base = base.0 }, base.1)
+  Ok (record { seq = number; origin = made_by.0; effects = effects.0; base = base.0 }, base.1)
 
--- an entry of this number with its effects, and the versions of just the paths that they touch
+-- an entry of this number with what made it, its effects, and the versions of just the paths that they touch
 pub record EntryFits (number : ℕ) (entry : Entry) : Type 0 where
   pub numbered : entry.seq ≡ number
+  pub origin_fits : MadeByFits entry.origin
   pub fits : EffectsFit entry.effects
   pub based : AreBasesOf (distinct (touched_all entry.effects)) entry.base
 

@@ -1,15 +1,19 @@
 -- What stands for effects where they are sent without their contents, and which effects may stand for it.
-use Rattle.std.specs.Prelude.{◌≡◌, ℕ, List, [], ◌∷◌, length}
-use Rattle.std.specs.List.{flat_map, sum_by}
+use Rattle.std.specs.Prelude.{◌≡◌, ℕ, List, [], ◌∷◌, length, Some}
+use Rattle.std.specs.List.{flat_map, sum_by, AllByRecursion}
 use Rattle.sha2.specs.Sha256.{sha256}
+use Rattle.byte_fields.specs.Codec.{IsBytes}
 use Rattle.rs_parity.specs.Sketches.{IsSketch, Distinct}
 use Rattle.file_paths.specs.Path.{FilePath}
 use Rattle.tree_values.specs.Lists.{IsIn}
+use Rattle.tree_values.specs.Tree.{IsLegalEffect}
 use Rattle.tree_values.specs.Effects.{touched_all, contents_size}
 use Rattle.tree_values.specs.declared.node.Effect.{Effect}
 use Rattle.tree_values.specs.declared.node.Effect.TheVariants.{Make, Put, Remove, Move}
+use Rattle.mod_log.specs.declared.log.Entry.{Entry}
 use Rattle.mod_log.specs.declared.sketched.SketchEffect.{SketchEffect}
 use Rattle.mod_log.specs.declared.sketched.SketchEffect.TheVariants as of_sketch
+use Rattle.mod_log.specs.declared.sketching.SketchEntry.{SketchEntry}
 
 -- ---- what sketched effects touch, and how much they stand for
 
@@ -50,12 +54,19 @@ AreSketchedAs [] [] = Unit {0}
 AreSketchedAs (effect ∷ effects) (sketched ∷ more) = IsSketchedAs effect sketched × AreSketchedAs effects more
 AreSketchedAs effects sketched = ⊥
 
+-- the entry with the sketches of its contents in their places; a command made it
+pub record IsSketchOf (entry : Entry) (sketched : SketchEntry) : Type 0 where
+  pub numbered : sketched.seq ≡ entry.seq
+  pub made_by : entry.origin ≡ Some sketched.origin
+  pub based : sketched.base ≡ entry.base
+  pub effects_are : AreSketchedAs entry.effects sketched.effects
+
 -- ---- what may stand for them
 
--- the same effect, with a content of the sketch's length and print; the parities are not compared
+-- the same effect, with a content of bytes that has the sketch's length and print; the parities are not compared
 abbrev pub Fills : SketchEffect → Effect → Type 0
 Fills (of_sketch.Make p) (Make q) = q ≡ p
-Fills (of_sketch.Put p sketch) (Put q content) = (q ≡ p) × (length content ≡ sketch.len) × (sha256 content ≡ sketch.print)
+Fills (of_sketch.Put p sketch) (Put q content) = (q ≡ p) × (length content ≡ sketch.len) × (sha256 content ≡ sketch.print) × IsBytes content
 Fills (of_sketch.Remove p) (Remove q) = q ≡ p
 Fills (of_sketch.Move p to) (Move q onto) = (q ≡ p) × (onto ≡ to)
 Fills sketched effect = ⊥
@@ -72,9 +83,9 @@ Writes effects content = (path : FilePath) × IsIn (Put path content) effects
 
 -- ---- laws
 
--- effects fill their own sketches
+-- legal effects fill their own sketches
 abbrev pub SketchesAreFilled : Type 0
-SketchesAreFilled = (effects : List Effect) (sketched : List SketchEffect) → AreSketchedAs effects sketched → AllFill sketched effects
+SketchesAreFilled = (effects : List Effect) (sketched : List SketchEffect) → AllByRecursion IsLegalEffect effects → AreSketchedAs effects sketched → AllFill sketched effects
 
 -- only the effects themselves do, where no two contents have one print
 abbrev pub FillingsAreEqual : Type 0
@@ -87,3 +98,7 @@ FillingsTouchAlike = (effects : List Effect) (sketched : List SketchEffect) → 
 -- effects have one list of sketches
 abbrev pub OneSketchList : Type 0
 OneSketchList = (effects : List Effect) (a b : List SketchEffect) → AreSketchedAs effects a → AreSketchedAs effects b → a ≡ b
+
+-- an entry has one sketch
+abbrev pub OneSketchOf : Type 0
+OneSketchOf = (entry : Entry) (a b : SketchEntry) → IsSketchOf entry a → IsSketchOf entry b → a ≡ b

@@ -3,7 +3,6 @@ use Rattle.std.specs.Prelude.{ℕ, ◌≤◌, List, ◌∷◌, ◌++◌, length}
 use Rattle.std.specs.Int.{w32}
 use Rattle.std.specs.List.{flat_map, AllByRecursion}
 use Rattle.byte_fields.specs.Field.{digits}
-use Rattle.byte_fields.specs.Codec.{IsBytes}
 use Rattle.rs_parity.specs.Spelling.{sketch_spelling, SketchFits}
 use Rattle.file_paths.specs.Limits.{max_file}
 use Rattle.file_paths.specs.Path.{IsPath}
@@ -11,7 +10,7 @@ use Rattle.file_paths.specs.Spelling.{path}
 use Rattle.tree_values.specs.Limits.{max_files, max_effects}
 use Rattle.tree_values.specs.Spelling.{EffectsFit}
 use Rattle.tree_values.specs.declared.node.Effect.{Effect}
-use Rattle.mod_log.specs.Sketched.{sketched_size, sketched_sizes, AreSketchedAs, AllFill, Writes}
+use Rattle.mod_log.specs.Sketched.{sketched_size, sketched_sizes, AreSketchedAs, AllFill}
 use Rattle.mod_log.specs.declared.sketched.SketchEffect.{SketchEffect}
 use Rattle.mod_log.specs.declared.sketched.SketchEffect.TheVariants.{Make, Put, Remove, Move}
 
@@ -50,9 +49,9 @@ SketchEffectsFit = SketchEffectsFitWithin max_effects max_files
 
 -- ---- laws
 
--- what fills sketches that fit with contents of bytes, fits
+-- what fills sketches that fit, fits
 abbrev pub FillingsFit : Type 0
-FillingsFit = (effects : List Effect) (sketched : List SketchEffect) → SketchEffectsFit sketched → AllFill sketched effects → ((content : List ℕ) → Writes effects content → IsBytes content) → EffectsFit effects
+FillingsFit = (effects : List Effect) (sketched : List SketchEffect) → SketchEffectsFit sketched → AllFill sketched effects → EffectsFit effects
 
 -- the sketches of effects that fit, fit
 abbrev pub SketchesOfEffectsFit : Type 0

@@ -1,5 +1,5 @@
 // What holds of logs and of sketched effects: functions that do nothing, whose contracts are laws.
-ghost use Rattle.mod_log.specs.Sketched.{SketchesAreFilled, FillingsAreEqual, FillingsTouchAlike, OneSketchList};
+ghost use Rattle.mod_log.specs.Sketched.{SketchesAreFilled, FillingsAreEqual, FillingsTouchAlike, OneSketchList, OneSketchOf};
 ghost use Rattle.mod_log.specs.Spelling.{FillingsFit, SketchesOfEffectsFit};
 ghost use Rattle.mod_log.specs.Laws.{AppendingAddsAnEntry, EntriesThatFitAreAppended, AcknowledgingKeepsTheTree, PullingReplacesTheTree, TreesAreLogs, LogsHoldTrees, PendingEntriesFit};
 
@@ -23,4 +23,5 @@ pub fn sketches_stand_for_contents()
     ensures fillings_fit { FillingsFit }
     ensures sketches_fit { SketchesOfEffectsFit }
     ensures one { OneSketchList }
+    ensures one_of_entry { OneSketchOf }
 {}

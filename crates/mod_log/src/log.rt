@@ -9,11 +9,13 @@ ghost use Rattle.tree_values.specs.Spelling.{EffectsFit};
 ghost use Rattle.file_paths.specs.Refusals.{when, unless_refused};
 ghost use Rattle.mod_log.specs.declared.log.LogError.TheVariants.{Memory, EntryTooLarge};
 ghost use Rattle.mod_log.specs.Log.{IsLog, IsEntryOf, tree_after, entry as spelled, new_log_of, acknowledged, pulled, tree_of};
+ghost use Rattle.mod_log.specs.Origin.{MadeByFits};
 ghost use Rattle.mod_log.specs.Limits.{max_entries, max_log};
-ghost use Rattle.mod_log.specs.Append.{appended, is_too_large, has_no_room, is_at_last};
+ghost use Rattle.mod_log.specs.Append.{next_entry, appended, is_too_large, has_no_room, is_at_last};
 ghost use Rattle.mod_log.specs.Inside.{entry_with, room_refusals, log_error, AreKept, entries_of, rolled_back as tree_before};
 
 use crate::limits::{MAX_ENTRIES, MAX_LOG};
+use crate::origin::{Origin, copy_of as copy_of_origin, put_made_by};
 use crate::sizes::{contents_size, entry_size};
 use std::alloc::AllocError;
 use std::marker::Model;
@@ -28,6 +30,8 @@ use vol_tree::{
 pub struct Entry {
     /// The entry's number, counted from 1 over all entries of the client.
     pub seq: u64,
+    /// The command that made it; `None` where none did.
+    pub origin: Option<Origin>,
     pub effects: Effects,
     /// The touched paths in the order of their first touch, each with its version before the effects.
     pub base: Bases,
@@ -81,16 +85,20 @@ impl From<ApplyAllError> for LogError {
 
 impl TryCopy for Entry {
     fn copy(&self) -> Result<Entry, AllocError> {
+        let effects = self.effects.copy()?;
+        let base = self.base.copy()?;
+        let origin = copy_of_origin(&self.origin)?;
         Ok(Entry {
             seq: self.seq,
-            effects: self.effects.copy()?,
-            base: self.base.copy()?,
+            origin,
+            effects,
+            base,
         })
     }
 }
 
 impl Entry {
-    /// Appends the spelling, which has no number: a byte 0, the effects and the base list.
+    /// Appends the spelling, which has no number: what made the entry, the effects and the base list.
     ///
     /// # Errors
     ///
@@ -101,7 +109,7 @@ impl Entry {
         ensures ok { OnOk result (out.new.items ≡ out.old.items ++ spelled value.now) }
         ensures err { OnErr result (IsFront out.old.items out.new.items (spelled value.now)) }
     {
-        out.push(0)?;
+        put_made_by(out, &value.origin)?;
         Effects::spell(&value.effects, out)?;
         Bases::spell(&value.base, out)?;
         Ok(())
@@ -187,22 +195,80 @@ impl Log {
         entry_of(&self.pending, i as usize)
     }
 
-    /// Logs effects as the next entry, and gives its number; after a refusal the log is as before.
-    pub fn append(&mut self, effects: Effects) -> Result<u64, LogError>
-        requires { effects ≢ [] }
-        ensures ok { OnOk result (appended effects self.old ≡ Ok self.new) }
+    /// Logs effects as the next entry, with the command that made them, and gives its number; after a refusal the log
+    /// is as before.
+    pub fn append(&mut self, origin: Option<Origin>, effects: Effects) -> Result<u64, LogError>
+        requires some { effects ≢ [] }
+        requires made_by { MadeByFits origin }
+        ensures ok { OnOk result (appended origin effects self.old ≡ Ok self.new) }
         ensures seq { IfOk result (λ seq. seq ≡ self.old.acked + length self.old.pending + 1) }
-        ensures err { IfErr result (λ e. e ≢ LogError.Memory → appended effects self.old ≡ Err e) }
+        ensures err { IfErr result (λ e. e ≢ LogError.Memory → appended origin effects self.old ≡ Err e) }
         ensures unchanged { OnErr result (self.new ≡ self.old) }
         ensures log { IsLog self.new }
     {
-        let acked = self.acked;
-        check_size(&effects)?;
-        let base = base_of(&self.tree, &effects)?;
-        let size = self.size_in_room(&effects, &base)?;
-        let undos = apply_all(&mut self.tree, &effects)?;
-        let seq = acked + self.pending.len() as u64 + 1;
-        let entry = Entry { seq, effects, base };
+        match self.base_in_room(&origin, &effects) {
+            Ok((base, size)) => {
+                let seq = self.acked + self.pending.len() as u64 + 1;
+                self.log_entry(
+                    Entry {
+                        seq,
+                        origin,
+                        effects,
+                        base,
+                    },
+                    size,
+                )
+            }
+            Err(refusal) => {
+                drop(origin);
+                drop(effects);
+                Err(refusal)
+            }
+        }
+    }
+
+    /// The base list and the size of an entry of these effects, where there is room for it and a number.
+    fn base_in_room(
+        &self,
+        origin: &Option<Origin>,
+        effects: &Effects,
+    ) -> Result<(Bases, u64), LogError>
+        ensures base { IfOk result (λ x. x.0 ≡ bases_of effects.now (tree_of self.now)) }
+        ensures size { IfOk result (λ x. x.1 ≡ length (spelled (next_entry origin.now effects.now self.now))) }
+        ensures small { OnOk result (is_too_large effects.now ≡ false) }
+        ensures room { OnOk result (has_no_room (next_entry origin.now effects.now self.now) self.now ≡ false) }
+        ensures number { OnOk result (is_at_last self.now ≡ false) }
+        ensures err { IfErr result (λ e. e ≢ LogError.Memory → appended origin.now effects.now self.now ≡ Err e) }
+    {
+        check_size(effects)?;
+        let base = base_of(&self.tree, effects)?;
+        let size = self.size_in_room(origin, effects, &base)?;
+        Ok((base, size))
+    }
+
+    /// Logs the next entry of this size, for which there is room.
+    fn log_entry(&mut self, entry: Entry, size: u64) -> Result<u64, LogError>
+        requires next { entry ≡ next_entry entry.origin entry.effects self.old }
+        requires some { entry.effects ≢ [] }
+        requires made_by { MadeByFits entry.origin }
+        requires small { is_too_large entry.effects ≡ false }
+        requires room { has_no_room entry self.old ≡ false }
+        requires number { is_at_last self.old ≡ false }
+        requires size { size ≡ length (spelled entry) }
+        ensures ok { OnOk result (appended entry.origin entry.effects self.old ≡ Ok self.new) }
+        ensures seq { IfOk result (λ seq. seq ≡ entry.seq) }
+        ensures err { IfErr result (λ e. e ≢ LogError.Memory → appended entry.origin entry.effects self.old ≡ Err e) }
+        ensures unchanged { OnErr result (self.new ≡ self.old) }
+        ensures log { IsLog self.new }
+    {
+        let seq = entry.seq;
+        let undos = match apply_all(&mut self.tree, &entry.effects) {
+            Ok(undos) => undos,
+            Err(refusal) => {
+                drop(entry);
+                return Err(LogError::from(refusal));
+            }
+        };
         match push(&mut self.pending, Pending { entry, undos, size }) {
             Ok(()) => {
                 self.size += size;
@@ -216,14 +282,19 @@ impl Log {
     }
 
     /// The size of one more entry, where there is room for it and a number.
-    fn size_in_room(&self, effects: &Effects, base: &Bases) -> Result<u64, LogError>
-        ensures size { IfOk result (λ size. size ≡ length (spelled (entry_with effects.now base.now self.now))) }
-        ensures room { OnOk result (has_no_room (entry_with effects.now base.now self.now) self.now ≡ false) }
+    fn size_in_room(
+        &self,
+        origin: &Option<Origin>,
+        effects: &Effects,
+        base: &Bases,
+    ) -> Result<u64, LogError>
+        ensures size { IfOk result (λ size. size ≡ length (spelled (entry_with origin.now effects.now base.now self.now))) }
+        ensures room { OnOk result (has_no_room (entry_with origin.now effects.now base.now self.now) self.now ≡ false) }
         ensures number { OnOk result (is_at_last self.now ≡ false) }
-        ensures err { IfErr result (λ e. unless_refused (room_refusals (entry_with effects.now base.now self.now) self.now) self.now ≡ Err e) }
+        ensures err { IfErr result (λ e. e ≢ LogError.Memory → unless_refused (room_refusals (entry_with origin.now effects.now base.now self.now) self.now) self.now ≡ Err e) }
     {
         let pending = self.pending.len();
-        let size = entry_size(effects, base);
+        let size = entry_size(self.tree.allocator(), origin, effects, base)?;
         let all = self.size.saturating_add(size);
         if is_full(pending, all) {
             return Err(LogError::LogFull {

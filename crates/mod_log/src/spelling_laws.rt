@@ -1,27 +1,39 @@
 //! What is read is spelled so, and what is spelled so is read.
 
-ghost use Rattle.std.specs.Prelude.{◌<◌, ◌^◌, ℕ};
-ghost use Rattle.byte_fields.specs.Codec.{IsCodec};
+ghost use Rattle.std.specs.Prelude.{◌<◌, ◌^◌, ℕ, List};
+ghost use Rattle.byte_fields.specs.Codec.{IsBytes, IsCodec};
 ghost use Rattle.byte_fields.specs.Cuts.{IsCut};
+ghost use Rattle.mod_log.specs.declared.origin.Origin.{Origin};
+ghost use Rattle.mod_log.specs.declared.sketched.SketchEffect.{SketchEffect};
+ghost use Rattle.mod_log.specs.Origin.{origin, OriginFits};
 ghost use Rattle.mod_log.specs.Log.{entry};
-ghost use Rattle.mod_log.specs.Spelling.{sketch_effect, sketch_effects, SketchEffectFitsIn, SketchEffectsFitWithin};
-ghost use Rattle.mod_log.specs.Reading.{entry_at, EntryFits, sketch_effect_at, sketch_effects_within};
-ghost use Rattle.mod_log.specs.Fields.{entry_fields, sketch_effect_fields, sketch_effects_fields};
-ghost use Rattle.mod_log.specs.Broken.{BrokenEntries, BrokenSketchEffects, BrokenSketchLists};
+ghost use Rattle.mod_log.specs.Spelling.{sketch_effect, sketch_effects, SketchEffectFitsIn, SketchEffectsFitWithin, SketchEffectsFit};
+ghost use Rattle.mod_log.specs.Reading.{origin_at, entry_at, EntryFits, sketch_effect_at, sketch_effects_within};
+ghost use Rattle.mod_log.specs.Fields.{origin_fields, entry_fields, sketch_effect_fields, sketch_effects_fields};
+ghost use Rattle.mod_log.specs.Broken.{BrokenOrigins, BrokenEntries, BrokenSketchEffects, BrokenSketchLists};
 
-/// States that each entry has one spelling, and each spelling one entry of a number.
+/// States that each origin and each entry have one spelling, and each spelling one origin, or one entry of a number.
 pub fn entries_are_spelled_once()
-    ensures { (number : ℕ) → IsCodec (entry_at number) entry (EntryFits number) }
+    ensures origins { IsCodec origin_at origin OriginFits }
+    ensures entries { (number : ℕ) → IsCodec (entry_at number) entry (EntryFits number) }
 {}
 
-/// States that, where the bytes end inside an entry, the field in which they end is the faulty one.
+/// States that, where the bytes end inside an origin or an entry, the field in which they end is the faulty one.
 pub fn entries_end_with_their_bytes()
-    ensures { (number : ℕ) → IsCut (entry_at number) entry entry_fields (EntryFits number) }
+    ensures origins { IsCut origin_at origin origin_fields OriginFits }
+    ensures entries { (number : ℕ) → IsCut (entry_at number) entry entry_fields (EntryFits number) }
 {}
 
-/// States at which field an entry that breaks a rule is refused, whatever stands before and behind it.
+/// States at which field an origin or an entry that breaks a rule is refused, whatever stands before and behind it.
 pub fn broken_entries_are_refused_at_their_field()
-    ensures { BrokenEntries }
+    ensures origins { BrokenOrigins }
+    ensures entries { BrokenEntries }
+{}
+
+/// States that spelled origins and spelled sketched effects are bytes.
+pub fn origins_are_bytes()
+    ensures origins { (o : Origin) → OriginFits o → IsBytes (origin o) }
+    ensures sketched { (es : List SketchEffect) → SketchEffectsFit es → IsBytes (sketch_effects es) }
 {}
 
 /// States that sketched effects have one spelling, and each spelling sketched effects.

@@ -1,19 +1,22 @@
 //! Taking an entry from the bytes that spell it.
 
-ghost use Rattle.byte_fields.specs.Field.{Gives};
+ghost use Rattle.byte_fields.specs.Field.{Gives, two};
+ghost use Rattle.tree_values.specs.Effects.{touched_all, distinct};
+ghost use Rattle.tree_values.specs.Reading.{effects_at, bases_at};
 ghost use Rattle.mod_log.specs.Reading.{entry_at};
 
 use crate::log::Entry;
-use byte_fields::{TakeError, u8_at};
+use crate::origin::take_made_by;
+use byte_fields::TakeError;
 use std::alloc::Global;
 use vol_tree::{Bases, Effects};
 
 impl Entry {
     /// Takes the entry of this number at the place, and gives the place after it.
     ///
-    /// Refuses `At` with the place of the first faulty field: also at a first byte that is not 0, and where the base
-    /// list is not that of the paths that the effects touch.
-    #[tactic(auto, unfolding(crate::specs::Reading::entry_at, crate::specs::Reading::made_by_at, byte_fields::specs::Field::ruled))]
+    /// Refuses `At` with the place of the first faulty field: also at a first byte that is neither 0 nor 1, in a
+    /// command that breaks a rule, and where the base list is not that of the paths that the effects touch.
+    #[tactic(auto, unfolding(crate::specs::Reading::entry_at))]
     pub fn take(
         alloc: Global,
         bytes: &[u8],
@@ -22,13 +25,35 @@ impl Entry {
     ) -> Result<(Entry, usize), TakeError>
         ensures { Gives result (entry_at seq bytes.now at) }
     {
-        let (origin, start) = u8_at(bytes, at)?;
-        if origin != 0 {
-            return Err(TakeError::At(at));
+        let (origin, start) = take_made_by(alloc, bytes, at)?;
+        match take_changes(alloc, bytes, start) {
+            Ok(((effects, base), next)) => {
+                let entry = Entry {
+                    seq,
+                    origin,
+                    effects,
+                    base,
+                };
+                Ok((entry, next))
+            }
+            Err(fault) => {
+                drop(origin);
+                Err(fault)
+            }
         }
-        let (effects, middle) = Effects::take(alloc, bytes, start)?;
-        let touched = effects.touched()?;
-        let (base, next) = Bases::take(alloc, bytes, middle, &touched)?;
-        Ok((Entry { seq, effects, base }, next))
     }
+}
+
+/// Takes effects and the versions of just the paths that they touch, and gives the place after them.
+fn take_changes(
+    alloc: Global,
+    bytes: &[u8],
+    at: usize,
+) -> Result<((Effects, Bases), usize), TakeError>
+    ensures { Gives result (two effects_at (λ es. bases_at (distinct (touched_all es))) (λ es bs. (es, bs)) bytes.now at) }
+{
+    let (effects, middle) = Effects::take(alloc, bytes, at)?;
+    let touched = effects.touched()?;
+    let (base, next) = Bases::take(alloc, bytes, middle, &touched)?;
+    Ok(((effects, base), next))
 }

@@ -13,7 +13,7 @@ fn appends_and_acknowledges(rt: HostRuntime) -> Result<(), Fail> {
     let mut log = Log::new(0, Tree::new(alloc));
     let mut effects = Effects::new(alloc);
     effects.push(put(alloc, b"a", b"hello\n")?)?;
-    let seq = log.append(effects)?;
+    let seq = log.append(None, effects)?;
     assert_eq!(rt; seq, 1);
     let base = log.base()?;
     assert_eq!(rt; base.count(), 0);
@@ -31,7 +31,7 @@ fn spells_entries(rt: HostRuntime) -> Result<(), Fail> {
     let mut log = Log::new(0, Tree::new(alloc));
     let mut effects = Effects::new(alloc);
     effects.push(put(alloc, b"a", b"hello\n")?)?;
-    let _ = log.append(effects)?;
+    let _ = log.append(None, effects)?;
     if let Some(entry) = log.entry(0) {
         let mut bytes = Vec::new(alloc);
         Entry::spell(entry, &mut bytes)?;
@@ -50,7 +50,7 @@ fn refuses_all_of_an_entry(rt: HostRuntime) -> Result<(), Fail> {
     effects.push(put(alloc, b"d/x", b"x")?)?;
     assert!(rt;
         matches!(
-            log.append(effects),
+            log.append(None, effects),
             Err(LogError::Tree(1, TreeError::NoParent(_)))
         )
     );
@@ -70,7 +70,7 @@ fn refuses_large_entries(rt: HostRuntime) -> Result<(), Fail> {
     effects.push(put(alloc, b"a", b"")?)?;
     assert!(rt;
         matches!(
-            log.append(effects),
+            log.append(None, effects),
             Err(LogError::EntryTooLarge {
                 effects: 4097,
                 bytes: 0

@@ -24,6 +24,8 @@ use Rattle.file_paths.proofs.Parts.{path_codec}
 use Rattle.tree_laws.proofs.Parts.{effect_codec, rows_codec}
 use Rattle.file_paths.proofs.Order.{paths_apart, path_tied}
 use Rattle.mod_log.specs.Log.{Log, new_log_of}
+use Rattle.mod_log.specs.Reading.{made_by_at}
+use Rattle.mod_log.proofs.Origins.{unknown_maker, origin_refused}
 use Rattle.store_image.specs.declared.image.ImageError.TheVariants.{BadImage}
 use Rattle.store_image.specs.Reading.{growing_effect_at, known_base_at, next_entry_at, entries_at, log_at, marked, client_mark, client_body_at, client_versions, client_at, numbers_at, server_mark, server_body_at, server_versions, server_at}
 use Rattle.store_image.specs.Spelling.{numbers}
@@ -40,9 +42,9 @@ base_path_refused : (known : Base) (text : List ℕ) (offset : ℕ) → IsRefuse
 unfolding known_base_at
 base_path_refused known text offset refused bytes at next stands = rw (refused bytes at next stands) refl
 
-origin_refused : (log : Log) (text : List ℕ) → IsRefused (ruled (λ n. eqb n 0) (number_at w8)) text 0 → IsRefused (next_entry_at log) text 0
+maker_refused : (log : Log) (text : List ℕ) (offset : ℕ) → IsRefused made_by_at text offset → IsRefused (next_entry_at log) text offset
 unfolding next_entry_at
-origin_refused log text refused bytes at next stands = rw (refused bytes at next stands) refl
+maker_refused log text offset refused bytes at next stands = rw (refused bytes at next stands) refl
 
 pub broken_entries : BrokenEntries
 unfolding growing_effect_at known_base_at
@@ -63,8 +65,8 @@ broken_entries = record {
       (read_again (ruled_codec (is_same_path known.path) path_codec) known.path (is, path_tied known.path known.path refl))
       (first_refused (ruled (λ n. eqb n known.version) (number_at w64)) (λ v bytes at. Ok (record { path = known.path; version = v }, at)) (digits w64 version) 0
       (rule_refused (number_at w64) (λ n. eqb n known.version) (digits w64 version) version (read_again u64_codec version small) (ne_eqb version known.version differ))));
-  origin_is_another = λ log origin byte differ.
-      origin_refused log (origin ∷ []) (rule_refused (number_at w8) (λ n. eqb n 0) (origin ∷ []) origin (read_again u8_codec origin byte) (ne_eqb origin 0 differ));
+  maker_is_another = λ log byte small another. maker_refused log (byte ∷ []) 0 (unknown_maker byte small another);
+  origin_is_none = λ log text offset refused. maker_refused log (1 ∷ text) (1 + offset) (origin_refused text offset refused);
 }
 
 -- ---- images

@@ -1,12 +1,12 @@
 -- The laws of entries in which an effect or a base breaks a rule.
-use Rattle.std.proofs.Common.{◌≡◌, ◌≢◌, ◌⊎◌, ℕ, ◌+◌, ◌-◌, ◌^◌, ◌<◌, ◌≤◌, true, false, ◌&&◌, leb, eqb, List, [], ◌∷◌, ◌++◌, length, Ok, inl, inr, refl, sym, subst, ◌∙◌, arith, lit<, length-append}
-use Rattle.std.specs.Int.{w8, w32}
+use Rattle.std.proofs.Common.{◌≡◌, ◌≢◌, ◌⊎◌, ℕ, ◌+◌, ◌-◌, ◌^◌, ◌<◌, ◌≤◌, true, false, ◌&&◌, leb, eqb, List, [], ◌∷◌, ◌++◌, length, Option, Ok, inl, inr, refl, sym, subst, ◌∙◌, arith, length-append}
+use Rattle.std.specs.Int.{w32}
 use Rattle.std.specs.List.{flat_map, AllByRecursion}
 use Rattle.std.proofs.lemmas.Bool.{le-leb, eq-eqb, ne_eqb}
 use Rattle.std.specs.Result.{is_ok}
 use Rattle.std.proofs.lemmas.List.{take_all}
 use Rattle.std.proofs.lemmas.List.Sums.{sum_by-cons}
-use Rattle.byte_fields.specs.Field.{Reader, ◌>>=◌, digits, ruled, number_at, each_at, passed}
+use Rattle.byte_fields.specs.Field.{Reader, ◌>>=◌, digits, one, each_at, passed}
 use Rattle.byte_fields.specs.Broken.{IsRefused, EachIsRead}
 use Rattle.byte_fields.proofs.Breaking.{read_again, refused_there, ruled_refused, first_refused, later_refused, second_fails, count_refused, counted_refused, items_refused, each_read}
 use Rattle.byte_fields.proofs.Facts.{le_fails}
@@ -16,6 +16,11 @@ use Rattle.tree_values.specs.Tree.{Volume, IsTree, apply, changed}
 use Rattle.tree_values.specs.Effects.{content_size, contents_size, changed_all, base_of}
 use Rattle.tree_values.specs.Spelling.{effect, effects, base, BaseFits}
 use Rattle.tree_values.specs.Reading.{effect_at, room_after}
+use Rattle.mod_log.specs.declared.origin.Origin.{Origin}
+use Rattle.mod_log.specs.declared.log.Entry.{Entry}
+use Rattle.mod_log.specs.Origin.{made_by, MadeByFits}
+use Rattle.mod_log.specs.Reading.{made_by_at}
+use Rattle.mod_log.proofs.Origins.{made_by_codec}
 use Rattle.mod_log.specs.Log.{Log, after, tree_of, IsLog}
 use Rattle.mod_log.proofs.Entries.{holds_trees}
 use Rattle.mod_log.proofs.BasesFit.{base_of-fits}
@@ -23,7 +28,7 @@ use Rattle.store_image.specs.Reading.{Growing, growing_effect_at, grown, applied
 use Rattle.store_image.specs.Broken.{AreTaken, growing_behind}
 use Rattle.store_image.proofs.Growing.{GrowingFits, growing_codec, taken_again, EffectsApply, start_of_entry, applied_effects_codec}
 use Rattle.store_image.proofs.Bases.{IsFirst, first_base_codec}
-use Rattle.store_image.proofs.Entries.{next_number, made_entry, few_known, origin_codec}
+use Rattle.store_image.proofs.Entries.{next_number, made_entry, few_known}
 
 -- ---- effects
 
@@ -92,47 +97,50 @@ base_refused before others known text offset fits small refused =
 applied_effects : (v : Volume) (es : List Effect) → AreTaken v es → 1 ≤ length es → length es ≤ 4096 → EffectsApply v es
 applied_effects v es taken some few = record { fits = record { some = some; few = few; each = taken.each; all_contents = taken.small }; applies = taken.applies }
 
-behind_origin : (log : Log) (text : List ℕ) (offset : ℕ) → IsRefused (applied_effects_at (tree_of log)) text offset → IsRefused (next_entry_at log) (0 ∷ text) (1 + offset)
+-- the bases of effects, and the entry of both
+abbrev bases_behind : Log → Option Origin → List Effect → Reader Entry
+bases_behind log o es = one (known_bases_at (base_of es (tree_of log))) (made_entry (next_number log) o es)
+
+behind_maker : (log : Log) (o : Option Origin) (text : List ℕ) (offset : ℕ) → MadeByFits o → IsRefused (applied_effects_at (tree_of log)) text offset → IsRefused (next_entry_at log) (made_by o ++ text) (length (made_by o) + offset)
 unfolding next_entry_at
-behind_origin log text offset refused =
-    let v = tree_of log in
-    let rest : List Effect → Reader _ = λ es bytes at. known_bases_at (base_of es v) bytes at >>= λ bs. Ok (made_entry (next_number log) es bs.0, bs.1) in
-    later_refused (ruled (λ n. eqb n 0) (number_at w8)) (λ _ bytes at. applied_effects_at v bytes at >>= λ es. rest es.0 bytes es.1) (0 ∷ []) text 0 offset (read_again origin_codec 0 (lit< tt, refl))
-    (first_refused (applied_effects_at v) rest text offset refused)
+behind_maker log o text offset made refused =
+    later_refused made_by_at (λ x bytes at. applied_effects_at (tree_of log) bytes at >>= λ es. bases_behind log x es.0 bytes es.1) (made_by o) text o offset (read_again made_by_codec o made)
+    (first_refused (applied_effects_at (tree_of log)) (bases_behind log o) text offset refused)
 
-behind_effects : (log : Log) (es : List Effect) (text : List ℕ) (offset : ℕ) → EffectsApply (tree_of log) es → IsRefused (known_bases_at (base_of es (tree_of log))) text offset
-    → IsRefused (next_entry_at log) (0 ∷ (effects es ++ text)) (1 + (length (effects es) + offset))
+behind_effects : (log : Log) (o : Option Origin) (es : List Effect) (text : List ℕ) (offset : ℕ) → MadeByFits o → EffectsApply (tree_of log) es → IsRefused (known_bases_at (base_of es (tree_of log))) text offset
+    → IsRefused (next_entry_at log) (made_by o ++ (effects es ++ text)) (length (made_by o) + (length (effects es) + offset))
 unfolding next_entry_at
-behind_effects log es text offset apply refused =
+behind_effects log o es text offset made apply refused =
     let v = tree_of log in
-    let rest : List Effect → Reader _ = λ fs bytes at. known_bases_at (base_of fs v) bytes at >>= λ bs. Ok (made_entry (next_number log) fs bs.0, bs.1) in
-    later_refused (ruled (λ n. eqb n 0) (number_at w8)) (λ _ bytes at. applied_effects_at v bytes at >>= λ fs. rest fs.0 bytes fs.1) (0 ∷ []) (effects es ++ text) 0 (length (effects es) + offset) (read_again origin_codec 0 (lit< tt, refl))
-    (later_refused (applied_effects_at v) rest (effects es) text es offset (read_again (applied_effects_codec v) es apply)
-    (first_refused (known_bases_at (base_of es v)) (λ bs bytes at. Ok (made_entry (next_number log) es bs, at)) text offset refused))
+    later_refused made_by_at (λ x bytes at. applied_effects_at v bytes at >>= λ fs. bases_behind log x fs.0 bytes fs.1) (made_by o) (effects es ++ text) o (length (effects es) + offset) (read_again made_by_codec o made)
+    (later_refused (applied_effects_at v) (bases_behind log o) (effects es) text es offset (read_again (applied_effects_codec v) es apply)
+    (first_refused (known_bases_at (base_of es v)) (λ bs bytes at. Ok (made_entry (next_number log) o es bs, at)) text offset refused))
 
-pub effects_are_none : (log : Log) (count : ℕ) → count < 2 ^ 32 → (count ≡ 0) ⊎ (4096 < count) → IsRefused (next_entry_at log) (0 ∷ digits w32 count) 1
-effects_are_none log count small wrong = behind_origin log (digits w32 count) 0 (effects_count_refused (tree_of log) count small wrong)
+pub effects_are_none : (log : Log) (o : Option Origin) (count : ℕ) → MadeByFits o → count < 2 ^ 32 → (count ≡ 0) ⊎ (4096 < count) → IsRefused (next_entry_at log) (made_by o ++ digits w32 count) (length (made_by o))
+effects_are_none log o count made small wrong =
+    refused_there (next_entry_at log) (made_by o ++ digits w32 count) (length (made_by o) + 0) (length (made_by o)) (omega arith)
+    (behind_maker log o (digits w32 count) 0 made (effects_count_refused (tree_of log) count small wrong))
 
-pub effect_is_refused : (log : Log) (before : List Effect) (count : ℕ) (text : List ℕ) (offset : ℕ) → AreTaken (tree_of log) before → length before < count → count ≤ 4096 → IsRefused (growing_effect_at (growing_behind before (tree_of log))) text offset
-    → IsRefused (next_entry_at log) (0 ∷ (digits w32 count ++ (flat_map effect before ++ text))) (1 + (4 + (length (flat_map effect before) + offset)))
-effect_is_refused log before count text offset taken some few refused =
-    behind_origin log (digits w32 count ++ (flat_map effect before ++ text)) (4 + (length (flat_map effect before) + offset)) (effect_refused (tree_of log) before count text offset taken some few refused)
+pub effect_is_refused : (log : Log) (o : Option Origin) (before : List Effect) (count : ℕ) (text : List ℕ) (offset : ℕ) → MadeByFits o → AreTaken (tree_of log) before → length before < count → count ≤ 4096 → IsRefused (growing_effect_at (growing_behind before (tree_of log))) text offset
+    → IsRefused (next_entry_at log) (made_by o ++ (digits w32 count ++ (flat_map effect before ++ text))) (length (made_by o) + (4 + (length (flat_map effect before) + offset)))
+effect_is_refused log o before count text offset made taken some few refused =
+    behind_maker log o (digits w32 count ++ (flat_map effect before ++ text)) (4 + (length (flat_map effect before) + offset)) made (effect_refused (tree_of log) before count text offset taken some few refused)
 
-pub bases_are_others : (log : Log) (es : List Effect) (count : ℕ) → AreTaken (tree_of log) es → 1 ≤ length es → length es ≤ 4096 → count < 2 ^ 32 → count ≢ length (base_of es (tree_of log))
-    → IsRefused (next_entry_at log) (0 ∷ (effects es ++ digits w32 count)) (1 + length (effects es))
-bases_are_others log es count taken some few small differ =
-    refused_there (next_entry_at log) (0 ∷ (effects es ++ digits w32 count)) (1 + (length (effects es) + 0)) (1 + length (effects es)) (omega arith)
-    (behind_effects log es (digits w32 count) 0 (applied_effects (tree_of log) es taken some few) (bases_count_refused (base_of es (tree_of log)) count small differ))
+pub bases_are_others : (log : Log) (o : Option Origin) (es : List Effect) (count : ℕ) → MadeByFits o → AreTaken (tree_of log) es → 1 ≤ length es → length es ≤ 4096 → count < 2 ^ 32 → count ≢ length (base_of es (tree_of log))
+    → IsRefused (next_entry_at log) (made_by o ++ (effects es ++ digits w32 count)) (length (made_by o) + length (effects es))
+bases_are_others log o es count made taken some few small differ =
+    refused_there (next_entry_at log) (made_by o ++ (effects es ++ digits w32 count)) (length (made_by o) + (length (effects es) + 0)) (length (made_by o) + length (effects es)) (omega arith)
+    (behind_effects log o es (digits w32 count) 0 made (applied_effects (tree_of log) es taken some few) (bases_count_refused (base_of es (tree_of log)) count small differ))
 
-pub base_is_refused : (log : Log) (es : List Effect) (before others : List Base) (known : Base) (text : List ℕ) (offset : ℕ) → IsLog log → AreTaken (tree_of log) es → 1 ≤ length es → length es ≤ 4096 → base_of es (tree_of log) ≡ before ++ known ∷ others
+pub base_is_refused : (log : Log) (o : Option Origin) (es : List Effect) (before others : List Base) (known : Base) (text : List ℕ) (offset : ℕ) → IsLog log → MadeByFits o → AreTaken (tree_of log) es → 1 ≤ length es → length es ≤ 4096 → base_of es (tree_of log) ≡ before ++ known ∷ others
     → IsRefused (known_base_at known) text offset
-    → IsRefused (next_entry_at log) (0 ∷ (effects es ++ (digits w32 (length (before ++ known ∷ others)) ++ (flat_map base before ++ text)))) (1 + (length (effects es) + (4 + (length (flat_map base before) + offset))))
-base_is_refused log es before others known text offset is taken some few are refused =
+    → IsRefused (next_entry_at log) (made_by o ++ (effects es ++ (digits w32 (length (before ++ known ∷ others)) ++ (flat_map base before ++ text)))) (length (made_by o) + (length (effects es) + (4 + (length (flat_map base before) + offset))))
+base_is_refused log o es before others known text offset is made taken some few are refused =
     let v = tree_of log in
     let apply = applied_effects v es taken some few in
     let fits = subst (AllByRecursion BaseFits) are (base_of-fits es v apply.fits (whole_tree log is)) in
     let small = subst (λ (bs : List Base). length bs < 2 ^ 32) are (few_known es v apply.fits) in
-    behind_effects log es (digits w32 (length (before ++ known ∷ others)) ++ (flat_map base before ++ text)) (4 + (length (flat_map base before) + offset)) apply
+    behind_effects log o es (digits w32 (length (before ++ known ∷ others)) ++ (flat_map base before ++ text)) (4 + (length (flat_map base before) + offset)) made apply
     (subst (λ (bs : List Base). IsRefused (known_bases_at bs) (digits w32 (length (before ++ known ∷ others)) ++ (flat_map base before ++ text)) (4 + (length (flat_map base before) + offset))) (sym are)
     (base_refused before others known text offset fits small refused))
   where

@@ -26,11 +26,13 @@ use Rattle.tree_laws.proofs.CutParts.{effect_cut, rows_cut}
 use Rattle.mod_log.specs.Log.{Log, entry, tree_of, AreEntriesOf, IsLog, new_log_of}
 use Rattle.store_image.specs.Reading.{Growing, growing_effect_at, grown, applied_effects_at, known_base_at, first_base_at, others_after, known_bases_at, next_entry_at, with_entry, is_count, entries_at, log_at, marked, client_mark, server_mark, client_body_at, client_at, numbers_at, server_body_at, server_at}
 use Rattle.store_image.specs.Spelling.{entries, log, client, ClientFits, numbers, server, ServerFits}
-use Rattle.mod_log.specs.Fields.{entry_fields}
+use Rattle.mod_log.specs.Origin.{made_by}
+use Rattle.mod_log.specs.Fields.{made_by_fields, entry_fields}
+use Rattle.mod_log.proofs.Origins.{made_by_codec, made_by_cut}
 use Rattle.store_image.specs.Fields.{entries_fields, log_fields, client_fields, numbers_fields, server_fields}
 use Rattle.store_image.proofs.Growing.{GrowingFits, growing_codec, EffectsApply, start_of_entry, taken_again, applied_effects_codec}
 use Rattle.store_image.proofs.Bases.{made, IsKnown, IsFirst, first_base_codec, AreKnown, known_again}
-use Rattle.store_image.proofs.Entries.{next_number, made_entry, NextFits, few_known, origin_codec, next_entry_codec, entries_again, PendingFit, first_number, made_log}
+use Rattle.store_image.proofs.Entries.{next_number, made_entry, NextFits, few_known, next_entry_codec, entries_again, PendingFit, first_number, made_log}
 use Rattle.store_image.proofs.Images.{client_made, number_codec, NumberFits, numbers_again, AreNumbers, numbers_codec, server_made}
 
 -- ---- effects
@@ -72,9 +74,6 @@ known_bases_cut known lt =
 
 -- ---- entries
 
-origin_cut : IsCut (ruled (λ n. eqb n 0) (number_at w8)) (λ n. n ∷ []) (λ n. 1 ∷ []) (λ n. (n < 2 ^ 8) × (eqb n 0 ≡ true))
-origin_cut = ruled_cut u8_cut (λ n. eqb n 0)
-
 pub next_entry_cut : (l : Log) → IsCut (next_entry_at l) entry entry_fields (NextFits l)
 unfolding next_entry_at
 next_entry_cut l = record {
@@ -82,15 +81,17 @@ next_entry_cut l = record {
       let few = few_known e.effects (tree_of l) fits.is.fits in
       omega (
         arith,
-        sum_more 1 (effects_fields e.effects ++ bases_fields e.base),
+        sum_both (made_by_fields e.origin) (effects_fields e.effects ++ bases_fields e.base),
         sum_both (effects_fields e.effects) (bases_fields e.base),
+        length-append (made_by e.origin) (effects e.effects ++ bases e.base),
         length-append (effects e.effects) (bases e.base),
+        made_by_cut.whole e.origin fits.is.origin_fits,
         (applied_effects_cut (tree_of l)).whole e.effects (record { fits = fits.is.fits; applies = fits.is.applies }),
         (known_bases_cut (base_of e.effects (tree_of l)) few).whole e.base (fits.is.based, fits.spelled),
       );
   cut = λ bytes at e next end stands fits le lt.
-      three_cut origin_codec origin_cut (λ _ _. applied_effects_codec (tree_of l)) (λ _ _. applied_effects_cut (tree_of l)) (λ _ es _ g. known_bases_cut (base_of es (tree_of l)) (few_known es (tree_of l) g.fits)) (λ _ es bs. made_entry (next_number l) es bs)
-      bytes at 0 e.effects e.base next end stands (lit< tt, refl) (record { fits = fits.is.fits; applies = fits.is.applies }) (fits.is.based, fits.spelled) le lt;
+      three_cut made_by_codec made_by_cut (λ _ _. applied_effects_codec (tree_of l)) (λ _ _. applied_effects_cut (tree_of l)) (λ _ es _ g. known_bases_cut (base_of es (tree_of l)) (few_known es (tree_of l) g.fits)) (made_entry (next_number l))
+      bytes at e.origin e.effects e.base next end stands fits.is.origin_fits (record { fits = fits.is.fits; applies = fits.is.applies }) (fits.is.based, fits.spelled) le lt;
 }
 
 limited_cut : {A : Type 0} {read : Reader A} {s f : A → List ℕ} {F : A → Type 0} (room : ℕ) → IsCut read s f F → IsCut (limited room read) s f (λ x. F x × (length (s x) ≤ room))

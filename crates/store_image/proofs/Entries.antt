@@ -1,24 +1,25 @@
 -- The laws of the entries behind those of a log.
-use Rattle.std.proofs.Common.{◌≡◌, ℕ, ◌+◌, ◌-◌, ◌^◌, ◌<◌, ◌≤◌, true, eqb, leb, List, [], ◌∷◌, ◌++◌, length, Ok, refl, sym, subst, arith, lit<, length-append}
-use Rattle.std.specs.Int.{w8}
+use Rattle.std.proofs.Common.{◌≡◌, ℕ, ◌+◌, ◌-◌, ◌^◌, ◌<◌, ◌≤◌, true, leb, List, [], ◌∷◌, ◌++◌, length, Option, Ok, refl, sym, subst, arith, length-append}
 use Rattle.std.specs.List.{AllByRecursion, flat_map}
-use Rattle.std.proofs.lemmas.Bool.{leb-true, le-leb, eqb-true, and_parts}
+use Rattle.std.proofs.lemmas.Bool.{leb-true, le-leb, and_parts}
 use Rattle.std.proofs.lemmas.List.{length-map}
-use Rattle.byte_fields.specs.Field.{EachFits, ruled, number_at}
+use Rattle.byte_fields.specs.Field.{EachFits}
 use Rattle.byte_fields.specs.Codec.{Stands, IsBytes, IsCodec}
-use Rattle.byte_fields.proofs.Codec.{u8_codec, u32_codec, u64_codec, ruled_codec, found3, again3, fault3, each_codec, counted_codec, limited_codec, codec_for}
+use Rattle.byte_fields.proofs.Codec.{u32_codec, u64_codec, ruled_codec, found3, again3, fault3, each_codec, counted_codec, limited_codec, codec_for}
 use Rattle.file_paths.specs.Path.{FilePath}
 use Rattle.tree_values.specs.declared.node.Base.{Base}
 use Rattle.tree_values.specs.declared.node.Effect.{Effect}
 use Rattle.tree_values.specs.Tree.{Volume, IsTree, version_at}
 use Rattle.tree_values.specs.Effects.{changed_all, base_of, touched_all, distinct}
-use Rattle.tree_values.specs.Spelling.{effects, bases, BaseFits, EffectsFit}
+use Rattle.tree_values.specs.Spelling.{BaseFits, EffectsFit}
 use Rattle.tree_laws.proofs.Few.{touched_few}
 use Rattle.tree_laws.proofs.Parts.{rows_codec}
+use Rattle.mod_log.specs.declared.origin.Origin.{Origin}
 use Rattle.mod_log.specs.declared.log.Entry.{Entry}
 use Rattle.mod_log.specs.Log.{Log, entry, after, tree_of, IsEntryOf, AreEntriesOf, IsLog, new_log_of, logged}
 use Rattle.mod_log.proofs.Entries.{after-append, after-tree, AreEntriesOf-push}
 use Rattle.mod_log.proofs.Sums.{size_behind}
+use Rattle.mod_log.proofs.Origins.{made_by_codec}
 use Rattle.mod_log.proofs.BasesFit.{base_of-fits}
 use Rattle.store_image.specs.Reading.{next_entry_at, with_entry, is_count, entries_at, log_at}
 use Rattle.store_image.specs.Spelling.{entries, log}
@@ -30,8 +31,8 @@ use Rattle.store_image.proofs.Bases.{known_bases_codec}
 abbrev pub next_number : Log → ℕ
 next_number l = l.acked + length l.pending + 1
 
-abbrev pub made_entry : ℕ → List Effect → List Base → Entry
-made_entry number es bs = record { seq = number; effects = es; base = bs }
+abbrev pub made_entry : ℕ → Option Origin → List Effect → List Base → Entry
+made_entry number o es bs = record { seq = number; origin = o; effects = es; base = bs }
 
 -- the entry behind those of the log, which is spelled
 pub record NextFits (l : Log) (e : Entry) : Type 0 where
@@ -43,24 +44,19 @@ few_known es v fits =
     let base_at : FilePath → Base = λ path. record { path = path; version = version_at v path } in
     rw (length-map (distinct (touched_all es)) base_at) (touched_few es fits)
 
-pub origin_codec : IsCodec (ruled (λ n. eqb n 0) (number_at w8)) (λ n. n ∷ []) (λ n. (n < 2 ^ 8) × (eqb n 0 ≡ true))
-origin_codec = ruled_codec (λ n. eqb n 0) u8_codec
-
 pub next_entry_codec : (l : Log) → IsCodec (next_entry_at l) entry (NextFits l)
 unfolding next_entry_at
 next_entry_codec l = record {
-  fault = fault3 origin_codec (λ _ _. applied_effects_codec (tree_of l)) (λ _ es _ fits. known_bases_codec (base_of es (tree_of l)) (few_known es (tree_of l) fits.fits)) (λ _ es bs. made_entry (next_number l) es bs);
+  fault = fault3 made_by_codec (λ _ _. applied_effects_codec (tree_of l)) (λ _ es _ fits. known_bases_codec (base_of es (tree_of l)) (few_known es (tree_of l) fits.fits)) (made_entry (next_number l));
   found = λ bytes at x next fits le e.
-      let r = found3 origin_codec (λ _ _. applied_effects_codec (tree_of l)) (λ _ es _ fits. known_bases_codec (base_of es (tree_of l)) (few_known es (tree_of l) fits.fits)) (λ _ es bs. made_entry (next_number l) es bs) bytes at x next fits le e in
-      let none : r.first ≡ 0 = eqb-true r.first 0 r.first_fits.1 in
-      let stands : Stands bytes at (entry (made_entry (next_number l) r.second r.third)) next = subst (λ (n : ℕ). Stands bytes at (n ∷ (effects r.second ++ bases r.third)) next) none r.stands in
-      let is : NextFits l (made_entry (next_number l) r.second r.third) =
-      record { is = record { numbered = refl; fits = r.second_fits.fits; applies = r.second_fits.applies; based = r.third_fits.0 }; spelled = r.third_fits.1 } in
-      subst (λ (y : Entry). Stands bytes at (entry y) next × NextFits l y) r.is (stands, is);
+      let r = found3 made_by_codec (λ _ _. applied_effects_codec (tree_of l)) (λ _ es _ fits. known_bases_codec (base_of es (tree_of l)) (few_known es (tree_of l) fits.fits)) (made_entry (next_number l)) bytes at x next fits le e in
+      let is : NextFits l (made_entry (next_number l) r.first r.second r.third) =
+      record { is = record { numbered = refl; origin_fits = r.first_fits; fits = r.second_fits.fits; applies = r.second_fits.applies; based = r.third_fits.0 }; spelled = r.third_fits.1 } in
+      subst (λ (y : Entry). Stands bytes at (entry y) next × NextFits l y) r.is (r.stands, is);
   again = λ bytes at x next stands fits.
-      subst (λ (n : ℕ). next_entry_at l bytes at ≡ Ok (made_entry n x.effects x.base, next)) (sym fits.is.numbered)
-      (again3 origin_codec (λ _ _. applied_effects_codec (tree_of l)) (λ _ es _ fits. known_bases_codec (base_of es (tree_of l)) (few_known es (tree_of l) fits.fits)) (λ _ es bs. made_entry (next_number l) es bs) bytes at 0 x.effects x.base next stands
-      (lit< tt, refl) (record { fits = fits.is.fits; applies = fits.is.applies }) (fits.is.based, fits.spelled));
+      subst (λ (n : ℕ). next_entry_at l bytes at ≡ Ok (made_entry n x.origin x.effects x.base, next)) (sym fits.is.numbered)
+      (again3 made_by_codec (λ _ _. applied_effects_codec (tree_of l)) (λ _ es _ fits. known_bases_codec (base_of es (tree_of l)) (few_known es (tree_of l) fits.fits)) (made_entry (next_number l)) bytes at x.origin x.effects x.base next stands
+      fits.is.origin_fits (record { fits = fits.is.fits; applies = fits.is.applies }) (fits.is.based, fits.spelled));
 }
 
 -- what an entry that was read leaves of its log and the bytes

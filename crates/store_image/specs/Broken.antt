@@ -1,5 +1,5 @@
 -- Images that break a rule: the field that is refused, whatever stands before and behind them.
-use Rattle.std.specs.Prelude.{◌≡◌, ◌≢◌, ◌⊎◌, ℕ, ◌+◌, ◌-◌, ◌^◌, ◌<◌, ◌≤◌, false, List, [], ◌∷◌, ◌++◌, length, take, Ok, Err}
+use Rattle.std.specs.Prelude.{◌≡◌, ◌≢◌, ◌⊎◌, ℕ, ◌+◌, ◌-◌, ◌^◌, ◌<◌, ◌≤◌, false, List, [], ◌∷◌, ◌++◌, length, take, Option, Ok, Err}
 use Rattle.std.specs.Int.{w32, w64}
 use Rattle.std.specs.Str.{bytes_eq}
 use Rattle.std.specs.List.{flat_map, AllByRecursion}
@@ -24,6 +24,9 @@ use Rattle.mod_log.specs.Log.{Log, entry, tree_of, AreEntriesOf, IsLog, new_log_
 use Rattle.store_image.specs.declared.image.ImageError.TheVariants.{BadImage}
 use Rattle.store_image.specs.Reading.{Growing, growing_effect_at, known_base_at, next_entry_at, entries_at, client_mark, client_at, server_mark, server_at}
 use Rattle.store_image.specs.Spelling.{numbers}
+use Rattle.mod_log.specs.declared.origin.Origin.{Origin}
+use Rattle.mod_log.specs.Origin.{made_by, MadeByFits}
+use Rattle.mod_log.specs.Reading.{origin_at, made_by_kinds}
 use Rattle.mod_log.specs.Fields.{entry_fields}
 use Rattle.store_image.specs.Image.{client_of, server_of}
 
@@ -48,20 +51,23 @@ pub record BrokenEntries : Type 0 where
   pub path_is_another : (known : Base) (other : FilePath) → IsPath other → other ≢ known.path → IsRefused (known_base_at known) (path other) 0
   -- another version than the tree has: behind the path
   pub version_is_another : (known : Base) (version : ℕ) → IsPath known.path → version < 2 ^ 64 → version ≢ known.version → IsRefused (known_base_at known) (path known.path ++ digits w64 version) (length (path known.path))
-  -- another first byte than 0: there
-  pub origin_is_another : (log : Log) (origin : ℕ) → origin < 2 ^ 8 → origin ≢ 0 → IsRefused (next_entry_at log) (origin ∷ []) 0
-  -- no effect, or more than 4,096: behind the first byte
-  pub effects_are_none : (log : Log) (count : ℕ) → count < 2 ^ 32 → (count ≡ 0) ⊎ (max_effects < count) → IsRefused (next_entry_at log) (0 ∷ digits w32 count) 1
+  -- a first byte that is neither 0 nor 1: there
+  pub maker_is_another : (log : Log) (byte : ℕ) → byte < 2 ^ 8 → AllByRecursion (λ known. byte ≢ known.0) made_by_kinds → IsRefused (next_entry_at log) (byte ∷ []) 0
+  -- an origin that is refused: behind the first byte
+  pub origin_is_none : (log : Log) (text : List ℕ) (offset : ℕ) → IsRefused origin_at text offset → IsRefused (next_entry_at log) (1 ∷ text) (1 + offset)
+  -- no effect, or more than 4,096: behind what made the entry
+  pub effects_are_none : (log : Log) (origin : Option Origin) (count : ℕ) → MadeByFits origin → count < 2 ^ 32 → (count ≡ 0) ⊎ (max_effects < count) → IsRefused (next_entry_at log) (made_by origin ++ digits w32 count) (length (made_by origin))
   -- an effect that is refused: behind those before it
-  pub effect_is_refused : (log : Log) (before : List Effect) (count : ℕ) (text : List ℕ) (offset : ℕ) → AreTaken (tree_of log) before → length before < count → count ≤ max_effects → IsRefused (growing_effect_at (growing_behind before (tree_of log))) text offset
-      → IsRefused (next_entry_at log) (0 ∷ (digits w32 count ++ (flat_map effect before ++ text))) (1 + (4 + (length (flat_map effect before) + offset)))
+  pub effect_is_refused : (log : Log) (origin : Option Origin) (before : List Effect) (count : ℕ) (text : List ℕ) (offset : ℕ) → MadeByFits origin → AreTaken (tree_of log) before → length before < count → count ≤ max_effects
+      → IsRefused (growing_effect_at (growing_behind before (tree_of log))) text offset
+      → IsRefused (next_entry_at log) (made_by origin ++ (digits w32 count ++ (flat_map effect before ++ text))) (length (made_by origin) + (4 + (length (flat_map effect before) + offset)))
   -- another number of bases than of touched paths: behind the effects
-  pub bases_are_others : (log : Log) (es : List Effect) (count : ℕ) → AreTaken (tree_of log) es → 1 ≤ length es → length es ≤ max_effects → count < 2 ^ 32 → count ≢ length (base_of es (tree_of log))
-      → IsRefused (next_entry_at log) (0 ∷ (effects es ++ digits w32 count)) (1 + length (effects es))
+  pub bases_are_others : (log : Log) (origin : Option Origin) (es : List Effect) (count : ℕ) → MadeByFits origin → AreTaken (tree_of log) es → 1 ≤ length es → length es ≤ max_effects → count < 2 ^ 32 → count ≢ length (base_of es (tree_of log))
+      → IsRefused (next_entry_at log) (made_by origin ++ (effects es ++ digits w32 count)) (length (made_by origin) + length (effects es))
   -- a base that is refused: behind those before it
-  pub base_is_refused : (log : Log) (es : List Effect) (before others : List Base) (known : Base) (text : List ℕ) (offset : ℕ) → IsLog log → AreTaken (tree_of log) es → 1 ≤ length es → length es ≤ max_effects → base_of es (tree_of log) ≡ before ++ known ∷ others
-      → IsRefused (known_base_at known) text offset
-      → IsRefused (next_entry_at log) (0 ∷ (effects es ++ (digits w32 (length (before ++ known ∷ others)) ++ (flat_map base before ++ text)))) (1 + (length (effects es) + (4 + (length (flat_map base before) + offset))))
+  pub base_is_refused : (log : Log) (origin : Option Origin) (es : List Effect) (before others : List Base) (known : Base) (text : List ℕ) (offset : ℕ) → IsLog log → MadeByFits origin → AreTaken (tree_of log) es → 1 ≤ length es → length es ≤ max_effects
+      → base_of es (tree_of log) ≡ before ++ known ∷ others → IsRefused (known_base_at known) text offset
+      → IsRefused (next_entry_at log) (made_by origin ++ (effects es ++ (digits w32 (length (before ++ known ∷ others)) ++ (flat_map base before ++ text)))) (length (made_by origin) + (length (effects es) + (4 + (length (flat_map base before) + offset))))
 
 -- as many entries may be pending behind this number
 pub record MayFollow (acked count : ℕ) : Type 0 where

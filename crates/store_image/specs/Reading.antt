@@ -1,6 +1,6 @@
 -- Reading images, with the place of the first faulty field. What was read decides what is wanted next: the tree so far
 -- says which effects apply, and the log so far which entry comes next.
-use Rattle.std.specs.Prelude.{ℕ, ◌+◌, ◌-◌, nat_le, ◌==◌, ◌&&◌, Bool, List, [], ◌∷◌, length, Ok, Err}
+use Rattle.std.specs.Prelude.{ℕ, ◌+◌, ◌-◌, nat_le, ◌==◌, ◌&&◌, Bool, List, [], ◌∷◌, length, Option, Ok, Err}
 use Rattle.std.specs.Int.{w8, w32, w64}
 use Rattle.std.specs.Str.{bytes_eq}
 use Rattle.std.specs.Result.{is_ok}
@@ -13,9 +13,11 @@ use Rattle.file_paths.specs.Reading.{path_at}
 use Rattle.tree_values.specs.Reading.{effect_at, room_after, rows_at}
 use Rattle.tree_values.specs.declared.node.Effect.{Effect}
 use Rattle.tree_values.specs.declared.node.Base.{Base}
+use Rattle.mod_log.specs.declared.origin.Origin.{Origin}
 use Rattle.mod_log.specs.declared.log.Entry.{Entry}
 use Rattle.mod_log.specs.Limits.{max_entries, max_log}
 use Rattle.mod_log.specs.Log.{Log, tree_of, new_log_of, logged}
+use Rattle.mod_log.specs.Reading.{made_by_at}
 use Rattle.store_image.specs.declared.image.ClientImage.{ClientImage}
 use Rattle.store_image.specs.declared.image.ServerImage.{ServerImage}
 
@@ -63,13 +65,18 @@ known_bases_at known bytes at = do
   count ← ruled (λ n. n == length known) (number_at w32) bytes at
   each_at first_base_at others_after count.0 known bytes count.1
 
--- the entry behind those of the log: the byte 0, effects that apply to its tree, and the versions that this tree has
+-- effects that apply to the log's tree, and the versions that this tree has: the next entry, which this made
+abbrev pub based_entry_at : Option Origin → Log → Reader Entry
+based_entry_at origin log bytes at = do
+  effects ← applied_effects_at (tree_of log) bytes at
+  base ← known_bases_at (base_of effects.0 (tree_of log)) bytes effects.1
+  Ok (record { seq = log.acked + length log.pending + 1; origin = origin; effects = effects.0; base = base.0 }, base.1)
+
+-- the entry behind those of the log: what made it, and the rest
 unfoldable pub next_entry_at : Log → Reader Entry
 next_entry_at log bytes at = do
-  origin ← ruled (λ n. n == 0) (number_at w8) bytes at
-  effects ← applied_effects_at (tree_of log) bytes origin.1
-  base ← known_bases_at (base_of effects.0 (tree_of log)) bytes effects.1
-  Ok (record { seq = log.acked + length log.pending + 1; effects = effects.0; base = base.0 }, base.1)
+  made_by ← made_by_at bytes at
+  based_entry_at made_by.0 log bytes made_by.1
 
 -- the log with one more entry
 abbrev pub with_entry : Log → Entry → Log

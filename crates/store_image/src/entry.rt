@@ -1,6 +1,6 @@
 //! Taking the entries of a log from the bytes that spell them, while a tree takes their effects.
 
-ghost use Rattle.std.specs.Prelude.{◌≡◌, ◌≢◌, length, Ok, IfOk, IfErr, IfSome, OnOk, false};
+ghost use Rattle.std.specs.Prelude.{◌≡◌, ◌≢◌, length, Option, Ok, IfOk, IfErr, IfSome, OnOk, false};
 ghost use Rattle.std.specs.Result.{is_ok};
 ghost use Rattle.byte_fields.specs.Field.{Gives, Lends, place_of, each_at};
 ghost use Rattle.tree_values.specs.Limits.{max_files};
@@ -8,10 +8,11 @@ ghost use Rattle.tree_values.specs.Tree.{apply, changed};
 ghost use Rattle.tree_values.specs.Effects.{base_of as bases_of, changed_all};
 ghost use Rattle.mod_log.specs.Log.{IsLog, tree_of, logged};
 ghost use Rattle.mod_log.specs.Append.{next_entry};
-ghost use Rattle.store_image.specs.Reading.{growing_effect_at, grown, applied_effects_at, known_base_at, first_base_at, others_after, known_bases_at, next_entry_at};
+ghost use Rattle.store_image.specs.Reading.{growing_effect_at, grown, applied_effects_at, known_base_at, first_base_at, others_after, known_bases_at, based_entry_at, next_entry_at};
+ghost use Rattle.mod_log.specs.declared.origin.Origin.{Origin};
 
-use byte_fields::{TakeError, u8_at, u32_at, u64_at};
-use mod_log::{Log, LogError, base_of};
+use byte_fields::{TakeError, u32_at, u64_at};
+use mod_log::{Log, LogError, Origin, base_of, take_made_by};
 use std::alloc::{AllocError, Global};
 use vol_tree::{Base, Bases, Effect, Effects, MAX_EFFECTS, MAX_FILES, Path, Tree, TreeError};
 
@@ -165,9 +166,9 @@ fn behind_bases_of(
     behind
 }
 
-/// The effects of the entry behind those of the log. The other tree is the log's at first, and takes the effects.
-#[tactic(auto, unfolding(crate::specs::Reading::next_entry_at, byte_fields::specs::Field::ruled))]
-pub(crate) fn next_effects(
+/// The effects behind what made an entry, and the place behind the bases of these effects. The other tree is the log's at
+/// first, and takes the effects.
+fn based_effects(
     alloc: Global,
     bytes: &[u8],
     at: usize,
@@ -175,14 +176,10 @@ pub(crate) fn next_effects(
     ahead: &mut Tree,
 ) -> Result<(Effects, usize), TakeError>
     requires { ahead.old ≡ tree_of log.now }
-    ensures read { Lends (λ x. (next_entry x.0 log.now, x.1)) result (next_entry_at log.now bytes.now at) }
+    ensures read { (origin : Option Origin) → Lends (λ x. (next_entry origin x.0 log.now, x.1)) result (based_entry_at origin log.now bytes.now at) }
     ensures applied { IfOk result (λ x. ahead.new ≡ changed_all x.0 (tree_of log.now)) }
 {
-    let (origin, start) = u8_at(bytes, at)?;
-    if origin != 0 {
-        return Err(TakeError::At(at));
-    }
-    let (effects, middle) = applied_effects(alloc, bytes, start, ahead)?;
+    let (effects, middle) = applied_effects(alloc, bytes, at, ahead)?;
     match behind_bases_of(alloc, bytes, middle, log, &effects) {
         Ok(next) => Ok((effects, next)),
         Err(fault) => {
@@ -192,12 +189,40 @@ pub(crate) fn next_effects(
     }
 }
 
-/// Logs effects that fit.
-pub(crate) fn log_entry(log: &mut Log, effects: Effects) -> Result<(), AllocError>
-    requires { IsLog (logged (next_entry effects log.old) log.old) }
-    ensures { OnOk result (log.new ≡ logged (next_entry effects log.old) log.old) }
+/// What made the entry behind those of the log, and its effects. The other tree is the log's at first, and takes the
+/// effects.
+#[tactic(auto, unfolding(crate::specs::Reading::next_entry_at))]
+pub(crate) fn next_effects(
+    alloc: Global,
+    bytes: &[u8],
+    at: usize,
+    log: &Log,
+    ahead: &mut Tree,
+) -> Result<((Option<Origin>, Effects), usize), TakeError>
+    requires { ahead.old ≡ tree_of log.now }
+    ensures read { Lends (λ x. (next_entry x.0.0 x.0.1 log.now, x.1)) result (next_entry_at log.now bytes.now at) }
+    ensures applied { IfOk result (λ x. ahead.new ≡ changed_all x.0.1 (tree_of log.now)) }
 {
-    match log.append(effects) {
+    let (origin, start) = take_made_by(alloc, bytes, at)?;
+    match based_effects(alloc, bytes, start, log, ahead) {
+        Ok((effects, next)) => Ok(((origin, effects), next)),
+        Err(fault) => {
+            drop(origin);
+            Err(fault)
+        }
+    }
+}
+
+/// Logs effects that fit, with the command that made them.
+pub(crate) fn log_entry(
+    log: &mut Log,
+    origin: Option<Origin>,
+    effects: Effects,
+) -> Result<(), AllocError>
+    requires { IsLog (logged (next_entry origin effects log.old) log.old) }
+    ensures { OnOk result (log.new ≡ logged (next_entry origin effects log.old) log.old) }
+{
+    match log.append(origin, effects) {
         Ok(_seq) => Ok(()),
         Err(refusal) => match refusal {
             LogError::Memory => Err(AllocError),

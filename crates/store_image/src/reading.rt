@@ -74,8 +74,8 @@ fn entries_from(
     let mut log = first;
     let mut at = start;
     for _ in 0..count {
-        let (effects, next) = next_effects(alloc, bytes, at, &log, ahead)?;
-        log_entry(&mut log, effects)?;
+        let ((origin, effects), next) = next_effects(alloc, bytes, at, &log, ahead)?;
+        log_entry(&mut log, origin, effects)?;
         at = next;
     }
     Ok((log, at))

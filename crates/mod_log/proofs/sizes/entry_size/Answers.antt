@@ -9,4 +9,4 @@ pub returns : goal.returns
 returns c =
     let changes = c.effects_size.ensures ∙ ap (λ all. as_u64 (sum_by (λ e. length (effect e)) all)) c.as_slice.ensures.items in
     let versions = c.bases_size.ensures ∙ ap (λ all. as_u64 (sum_by (λ b. length (base b)) all)) c.as_slice-2.ensures.items in
-    omega (arith, changes, versions, c.saturating_add.ensures, c.saturating_add-2.ensures, entry_length c.args.changes.now c.args.versions.now)
+    omega (arith, c.in_ok-made.ensures, changes, versions, c.saturating_add.ensures, c.saturating_add-2.ensures, c.saturating_add-3.ensures, entry_length c.args.origin.now c.args.changes.now c.args.versions.now)
