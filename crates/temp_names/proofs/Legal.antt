@@ -19,13 +19,13 @@ use Rattle.cmd_capture.specs.declared.job.JobRow.{JobRow}
 use Rattle.cmd_capture.specs.Rows.{node_in, is_folder_in, AreInOrder, IsJobRow, AreJobRows}
 use Rattle.mod_log.specs.Sketched.{sketch_paths, sketches_touch}
 use Rattle.mod_log.specs.declared.sketched.SketchEffect.{SketchEffect}
-use Rattle.mod_log.specs.declared.sketched.SketchEffect.TheVariants.{Make, Put, Remove, Move}
+use Rattle.mod_log.specs.declared.sketched.SketchEffect.TheVariants.{Put}
 use Rattle.temp_names.specs.declared.pairs.Renamed.{Renamed}
 use Rattle.temp_names.specs.Renaming.{renaming}
 use Rattle.temp_names.specs.Rename.{new_path, row_under, kept_rows, renamed_rows, with_job_row, with_job_rows, rename}
-use Rattle.temp_names.specs.Laws.{RisesBy, IsNewFile, IsNewPut, IsOfNewFiles, IsOfUnequal, IsWithinGroup, MovesContents, RenamingsMoveContents, RenamedRowsAreLegal}
-use Rattle.temp_names.proofs.Rising.{some_same, some_of, less_differs, all_append, all_filter, all_passing, all_in, all_map, all_both, holds_in, in_filter, in_found, one_item, rises_filter, rises_around, rows_rise}
-use Rattle.temp_names.proofs.Sides.{none_of, stands, row_there, in_front, in_back, row_of}
+use Rattle.temp_names.specs.Laws.{RisesBy, IsOfNewFiles, IsOfUnequal, IsWithinGroup, MovesContents, RenamingsMoveContents, RenamedRowsAreLegal}
+use Rattle.temp_names.proofs.Rising.{some_same, some_of, less_differs, all_filter, all_passing, all_in, all_map, all_both, holds_in, in_filter, in_found, one_item, rises_filter, rises_around, rows_rise}
+use Rattle.temp_names.proofs.Sides.{stands, row_there, in_front, in_back, row_of}
 use Rattle.temp_names.proofs.Paired.{within_groups, only_new, equal_stay}
 use Rattle.temp_names.proofs.Once.{one_to_one}
 

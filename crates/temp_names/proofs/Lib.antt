@@ -1,6 +1,11 @@
 pub mod Lists
+pub mod Sorting
 pub mod Rising
 pub mod Sides
+pub mod Alike
+pub mod Both
+pub mod Found
+pub mod Merging
 pub mod Paired
 pub mod Once
 pub mod Legal

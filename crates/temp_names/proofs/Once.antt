@@ -1,5 +1,5 @@
 -- A renaming is one to one.
-use Rattle.std.proofs.Common.{◌≡◌, ◌∙◌, ℕ, ◌<◌, ◌≤◌, Bool, true, false, ◌&&◌, ◌==◌, List, [], ◌∷◌, length, filter, Option, Some, None, is_none, option_map, inl, inr, refl, sym, ap, subst, true≢false, cond, arith}
+use Rattle.std.proofs.Common.{◌≡◌, ◌∙◌, ◌<◌, ◌≤◌, Bool, true, false, ◌&&◌, ◌==◌, List, [], ◌∷◌, length, filter, Option, Some, None, is_none, option_map, inl, inr, refl, sym, ap, subst, true≢false, cond, arith}
 use Rattle.std.specs.Prelude.{◌⊎◌, map}
 use Rattle.std.specs.Option.{option_or}
 use Rattle.std.specs.Str.{bytes_eq}
@@ -13,15 +13,12 @@ use Rattle.byte_fields.proofs.Facts.{and_holds, and_of, eq_of, eq_itself, not_of
 use Rattle.file_paths.specs.Path.{path_cmp, is_same_path, folder_of}
 use Rattle.file_paths.proofs.Order.{paths_total, is_less, tied_path, own_path, same_place}
 use Rattle.tree_values.specs.Lists.{IsIn, NoneTwice}
-use Rattle.cmd_capture.specs.declared.job.JobRow.{JobRow}
-use Rattle.cmd_capture.specs.Rows.{AreInOrder}
-use Rattle.mod_log.specs.declared.sketched.SketchEffect.{SketchEffect}
 use Rattle.temp_names.specs.declared.candidate.Candidate.{Candidate}
 use Rattle.temp_names.specs.declared.candidate.Likeness.{Likeness}
 use Rattle.temp_names.specs.declared.candidate.Likeness.TheVariants.{Group, GroupAndPrint}
 use Rattle.temp_names.specs.declared.pairs.Renamed.{Renamed}
 use Rattle.temp_names.specs.Candidates.{candidate_of_row, candidate_of_effect, client_candidates, replay_candidates}
-use Rattle.temp_names.specs.Renaming.{has_path, is_same_group, is_alike, rank, counterpart, without_paths, replays_left, clients_left, by_place, partner, renamed, pairs, renaming, new_clients, new_replays}
+use Rattle.temp_names.specs.Renaming.{has_path, is_same_group, is_alike, rank, counterpart, replays_left, clients_left, by_place, partner, renamed, pairs, new_clients, new_replays}
 use Rattle.temp_names.specs.Laws.{RisesBy, RenamingsAreOneToOne}
 use Rattle.temp_names.proofs.Rising.{some_same, all_passing, all_in, in_filter, in_found, one_item, rises_filter, rises_found, rows_rise, in_path_order_rises, rising_none_twice, later_differs}
 use Rattle.temp_names.proofs.Sides.{any_in, row_path}

@@ -1,25 +1,23 @@
 -- What each pair of a renaming keeps.
-use Rattle.std.proofs.Common.{◌≡◌, ◌∙◌, ℕ, Bool, true, false, ◌&&◌, not, ◌==◌, List, filter, Option, Some, None, is_some, option_map, refl, sym, ap, subst, true≢false, cond}
+use Rattle.std.proofs.Common.{◌≡◌, ◌∙◌, ℕ, Bool, true, false, not, ◌==◌, List, filter, Option, Some, None, is_some, option_map, refl, sym, ap, subst, true≢false, cond}
 use Rattle.std.specs.Option.{option_or}
-use Rattle.std.specs.List.{AllByRecursion, filter_map, list_any, count_by}
+use Rattle.std.specs.List.{AllByRecursion, list_any}
 use Rattle.std.proofs.lemmas.Option.{none-some}
 use Rattle.byte_fields.proofs.Facts.{and_of, eq_of, not_of}
-use Rattle.file_paths.specs.Path.{folder_of, last_name}
+use Rattle.file_paths.specs.Path.{folder_of}
 use Rattle.file_paths.proofs.Order.{tied_path}
 use Rattle.tree_values.specs.declared.node.Node.TheVariants.{File}
 use Rattle.cmd_capture.specs.declared.job.JobRow.{JobRow}
-use Rattle.cmd_capture.specs.Rows.{node_in, AreInOrder}
 use Rattle.mod_log.specs.declared.sketched.SketchEffect.{SketchEffect}
 use Rattle.temp_names.specs.declared.candidate.Candidate.{Candidate}
 use Rattle.temp_names.specs.declared.candidate.Likeness.{Likeness}
 use Rattle.temp_names.specs.declared.candidate.Likeness.TheVariants.{Group, GroupAndPrint}
 use Rattle.temp_names.specs.declared.pairs.Renamed.{Renamed}
-use Rattle.temp_names.specs.Fits.{first_fitting}
 use Rattle.temp_names.specs.Candidates.{client_candidates, replay_candidates}
 use Rattle.temp_names.specs.Renaming.{has_path, is_same_group, is_alike, rank, counterpart, replays_left, clients_left, by_place, partner, renamed, pairs, renaming, new_clients, new_replays}
-use Rattle.temp_names.specs.Laws.{IsWithinGroup, IsNewFile, IsNewPut, IsOfNewFiles, IsOfUnequal, GroupsKeepTheirNames, OnlyNewFilesAreRenamed, EqualPathsStay}
-use Rattle.temp_names.proofs.Rising.{some_same, some_of, all_filter, all_passing, all_both, all_map, all_found, got}
-use Rattle.temp_names.proofs.Sides.{IsNamed, IsOfClient, IsOfReplay, clients_are, replays_are, puts_are_candidates, files_are_candidates, stands}
+use Rattle.temp_names.specs.Laws.{IsWithinGroup, IsOfNewFiles, IsOfUnequal, GroupsKeepTheirNames, OnlyNewFilesAreRenamed, EqualPathsStay}
+use Rattle.temp_names.proofs.Rising.{some_same, some_of, all_filter, all_passing, all_both, all_found, got}
+use Rattle.temp_names.proofs.Sides.{IsOfClient, IsOfReplay, clients_are, replays_are, puts_are_candidates, files_are_candidates, stands}
 
 -- ---- partners
 

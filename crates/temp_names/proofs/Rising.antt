@@ -13,7 +13,7 @@ use Rattle.tree_values.specs.Lists.{IsIn, NoneTwice}
 use Rattle.cmd_capture.specs.declared.job.JobRow.{JobRow}
 use Rattle.cmd_capture.specs.Rows.{AreInOrder}
 use Rattle.temp_names.specs.declared.candidate.Candidate.{Candidate}
-use Rattle.temp_names.specs.Candidates.{in_path_order, with_candidate}
+use Rattle.temp_names.specs.Candidates.{in_path_order}
 use Rattle.temp_names.specs.Laws.{RisesBy}
 
 pub some_same : {X : Type 0} (x y : X) → ◌≡◌ {A = Option X} (Some x) (Some y) → x ≡ y

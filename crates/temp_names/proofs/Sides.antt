@@ -1,13 +1,13 @@
 -- What is known of the candidates of either side, and which paths are candidates.
-use Rattle.std.proofs.Common.{◌≡◌, ◌∙◌, ℕ, Bool, true, false, ◌||◌, List, [], ◌∷◌, ◌++◌, filter, Option, Some, None, is_some, option_map, find, inl, inr, refl, sym, ap, subst, cond}
-use Rattle.std.specs.List.{AllByRecursion, filter_map, list_any}
+use Rattle.std.proofs.Common.{◌≡◌, ◌∙◌, ℕ, true, false, ◌||◌, List, [], ◌∷◌, ◌++◌, filter, Option, Some, None, is_some, option_map, find, inl, inr, refl, sym, ap, subst, cond}
+use Rattle.std.specs.List.{AllByRecursion, list_any}
 use Rattle.std.proofs.lemmas.Option.{none-some}
 use Rattle.std.specs.declared.cmp.Ordering.{Ordering}
 use Rattle.std.specs.declared.cmp.Ordering.TheVariants.{Less, Equal, Greater}
 use Rattle.std.specs.Ordering.{is_lt, is_gt, is_eq}
 use Rattle.sha2.specs.Sha256.{sha256}
 use Rattle.byte_fields.proofs.Facts.{or_false_of, or_true}
-use Rattle.file_paths.specs.Path.{FilePath, path_cmp, is_same_path, last_name}
+use Rattle.file_paths.specs.Path.{FilePath, path_cmp, last_name}
 use Rattle.file_paths.proofs.Order.{own_path, tied_path, path_tied, same_path}
 use Rattle.tree_values.specs.Lists.{IsIn}
 use Rattle.tree_values.specs.declared.node.Node.{Node}

@@ -1,5 +1,5 @@
 -- The paths that a renaming may pair: new files of the replay, and new files of the client.
-use Rattle.std.specs.Prelude.{ℕ, Bool, ◌||◌, List, [], ◌∷◌, ◌++◌, Option, Some, None, option_map, is_some, filter, if◌then◌else◌}
+use Rattle.std.specs.Prelude.{ℕ, ◌||◌, List, [], ◌∷◌, ◌++◌, Option, None, option_map, is_some, filter, if◌then◌else◌}
 use Rattle.std.specs.List.{filter_map}
 use Rattle.std.specs.Ordering.{is_lt, is_gt}
 use Rattle.sha2.specs.Sha256.{sha256}

@@ -1,5 +1,5 @@
 -- Rows under their new paths.
-use Rattle.std.specs.Prelude.{Bool, not, List, [], ◌∷◌, ◌++◌, Option, option_map, is_none, filter, find}
+use Rattle.std.specs.Prelude.{not, List, [], ◌∷◌, ◌++◌, Option, option_map, is_none, filter, find}
 use Rattle.std.specs.List.{filter_map}
 use Rattle.std.specs.Ordering.{is_lt}
 use Rattle.file_paths.specs.Path.{FilePath, path_cmp, is_same_path}

@@ -1,6 +1,6 @@
 -- Which path of the replay becomes which path of the client. A path belongs to the group of its folder and of the first
 -- template that fits its last name; pairs are made within a group, in three passes.
-use Rattle.std.specs.Prelude.{ℕ, Bool, ◌&&◌, ◌==◌, not, List, Option, Some, None, option_map, is_none, filter, count_by, slice_get, if◌then◌else◌}
+use Rattle.std.specs.Prelude.{ℕ, Bool, ◌&&◌, ◌==◌, not, List, Option, None, option_map, is_none, filter, count_by, slice_get, if◌then◌else◌}
 use Rattle.std.specs.List.{filter_map, list_any}
 use Rattle.std.specs.Option.{option_or}
 use Rattle.std.specs.Str.{bytes_eq}

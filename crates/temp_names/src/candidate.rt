@@ -1,11 +1,14 @@
 //! Paths that may be paired.
 
-ghost use Rattle.std.specs.Prelude.{◌≡◌, ◌++◌, find, IfOk, OnOk, option_to_list};
+ghost use Rattle.std.specs.Prelude.{◌≡◌, ◌++◌, true, find, IfOk, OnOk, option_to_list};
 ghost use Rattle.std.specs.List.{filter_map};
 ghost use Rattle.std.specs.Option.{option_copied};
 ghost use Rattle.cmd_capture.specs.Rows as at_paths;
 ghost use Rattle.temp_names.specs.Candidates as rules;
+ghost use Rattle.temp_names.specs.Laws.{RisesBy};
+ghost use Rattle.temp_names.specs.Inside.{Rises, path_of_candidate, path_of_row};
 
+use crate::classes::rows_at;
 use crate::template::first_fitting;
 use cmd_capture::{JobRow, Template};
 use mod_log::SketchEffect;
@@ -59,13 +62,15 @@ fn candidate_at(
 
 /// The row of a path.
 fn row_at<'a>(rows: &'a [JobRow], path: &Path) -> Option<&'a JobRow>
+    requires { Rises path_of_row rows.now }
     ensures { option_copied result ≡ find (at_paths.is_at path.now) rows.now }
 {
-    rows.iter().find(|row| row.path.cmp(path).is_eq())
+    rows_at(rows, path).first()
 }
 
 /// What stands at a path.
 fn node_in<'a>(rows: &'a [JobRow], path: &Path) -> Option<&'a Node>
+    requires { Rises path_of_row rows.now }
     ensures { option_copied result ≡ at_paths.node_in rows.now path.now }
 {
     match row_at(rows, path) {
@@ -76,6 +81,7 @@ fn node_in<'a>(rows: &'a [JobRow], path: &Path) -> Option<&'a Node>
 
 /// Whether the path is a folder of the rows, as the root always is.
 fn is_folder_in(rows: &[JobRow], path: &Path) -> bool
+    requires { Rises path_of_row rows.now }
     ensures { result ≡ at_paths.is_folder_in rows.now path.now }
 {
     path.names().is_empty() || matches!(node_in(rows, path), Some(Node::Folder))
@@ -88,6 +94,7 @@ fn candidate_of_node(
     path: &Path,
     node: &Node,
 ) -> Result<Option<Candidate>, AllocError>
+    requires { Rises path_of_row job_rows.now }
     ensures { IfOk result (λ found. found ≡ rules.candidate_of_node templates.now job_rows.now path.now node.now) }
 {
     match node {
@@ -109,6 +116,8 @@ fn candidate_of_effect(
     rows: &[JobRow],
     effect: &SketchEffect,
 ) -> Result<Option<Candidate>, AllocError>
+    requires job { Rises path_of_row job_rows.now }
+    requires rows { Rises path_of_row rows.now }
     ensures { IfOk result (λ found. found ≡ rules.candidate_of_effect templates.now job_rows.now rows.now effect.now) }
 {
     match effect {
@@ -139,6 +148,7 @@ pub(crate) fn replay_candidates(
     job_rows: &[JobRow],
     rows: &[JobRow],
 ) -> Result<Vec<Candidate>, AllocError>
+    requires { Rises path_of_row job_rows.now }
     ensures { IfOk result (λ found. found.items ≡ rules.replay_candidates templates.now job_rows.now rows.now) }
 {
     let mut candidates = Vec::new(alloc);
@@ -171,6 +181,65 @@ fn with_candidate(
     Ok(below)
 }
 
+/// Whether each path is above the one before.
+fn are_rising(candidates: &[Candidate]) -> bool
+    ensures { result ≡ true → RisesBy path_of_candidate candidates.now }
+{
+    let mut i = 1;
+    while i < candidates.len() {
+        if !candidates[i - 1].path.cmp(&candidates[i].path).is_lt() {
+            return false;
+        }
+        i += 1;
+    }
+    true
+}
+
+/// Puts the candidates in path order, the last one first.
+fn put_in_order(alloc: Global, candidates: &[Candidate]) -> Result<Vec<Candidate>, AllocError>
+    ensures { IfOk result (λ all. all.items ≡ rules.in_path_order candidates.now) }
+{
+    let mut all = Vec::new(alloc);
+    let mut i = candidates.len();
+    while i > 0 {
+        i -= 1;
+        all = with_candidate(alloc, all, candidates[i].copy()?)?;
+    }
+    Ok(all)
+}
+
+/// The candidates in path order. Of those with equal paths it is the first. An entry's are in that order already, where a
+/// change list made it.
+fn in_path_order(alloc: Global, candidates: Vec<Candidate>) -> Result<Vec<Candidate>, AllocError>
+    ensures { IfOk result (λ all. all.items ≡ rules.in_path_order candidates.items) }
+{
+    if are_rising(&candidates) {
+        return Ok(candidates);
+    }
+    let all = put_in_order(alloc, &candidates)?;
+    Ok(all)
+}
+
+/// The candidates that the client's effects make.
+fn effect_candidates(
+    alloc: Global,
+    templates: &[Template],
+    effects: &[SketchEffect],
+    job_rows: &[JobRow],
+    rows: &[JobRow],
+) -> Result<Vec<Candidate>, AllocError>
+    requires job { Rises path_of_row job_rows.now }
+    requires rows { Rises path_of_row rows.now }
+    ensures { IfOk result (λ found. found.items ≡ filter_map (rules.candidate_of_effect templates.now job_rows.now rows.now) effects.now) }
+{
+    let mut candidates = Vec::new(alloc);
+    for effect in effects {
+        let found = candidate_of_effect(templates, job_rows, rows, effect)?;
+        push_found(&mut candidates, found)?;
+    }
+    Ok(candidates)
+}
+
 /// The candidates of the client, in path order. Of those with equal paths it is the first.
 pub(crate) fn client_candidates(
     alloc: Global,
@@ -179,15 +248,11 @@ pub(crate) fn client_candidates(
     job_rows: &[JobRow],
     rows: &[JobRow],
 ) -> Result<Vec<Candidate>, AllocError>
+    requires job { Rises path_of_row job_rows.now }
+    requires rows { Rises path_of_row rows.now }
     ensures { IfOk result (λ found. found.items ≡ rules.client_candidates templates.now effects.now job_rows.now rows.now) }
 {
-    let mut candidates = Vec::new(alloc);
-    let mut i = effects.len();
-    while i > 0 {
-        i -= 1;
-        if let Some(found) = candidate_of_effect(templates, job_rows, rows, &effects[i])? {
-            candidates = with_candidate(alloc, candidates, found)?;
-        }
-    }
-    Ok(candidates)
+    let found = effect_candidates(alloc, templates, effects, job_rows, rows)?;
+    let all = in_path_order(alloc, found)?;
+    Ok(all)
 }

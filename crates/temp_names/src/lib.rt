@@ -2,6 +2,7 @@
 #![tactic(auto)]
 
 mod candidate;
+mod classes;
 mod laws;
 mod pairs;
 mod rows;

@@ -4,9 +4,14 @@ ghost use Rattle.std.specs.Prelude.{◌≡◌, count_by, filter, is_none, option
 ghost use Rattle.std.specs.List.{filter_map, list_any};
 ghost use Rattle.std.specs.Option.{option_copied};
 ghost use Rattle.temp_names.specs.Renaming as rules;
-ghost use Rattle.temp_names.specs.declared.candidate.Likeness.TheVariants.{GroupAndPrint};
+ghost use Rattle.temp_names.specs.Renaming.{is_alike};
+ghost use Rattle.temp_names.specs.Candidates.{client_candidates, replay_candidates};
+ghost use Rattle.temp_names.specs.Laws.{RisesBy};
+ghost use Rattle.temp_names.specs.Inside.{Rises, AreReady, AreSidesOf, partner_of, class_of, path_of_candidate};
+ghost use Rattle.temp_names.specs.declared.candidate.Likeness.TheVariants.{Group, GroupAndPrint};
 
 use crate::candidate::{Candidate, Likeness, client_candidates, push_found, replay_candidates};
+use crate::classes::{alike, candidates_at, sorted_by_class, sorted_by_path, sorted_rows};
 use cmd_capture::{JobRow, JobRows, Template, Templates};
 use mod_log::{SketchEffect, SketchEffects};
 use std::alloc::{AllocError, Global};
@@ -19,69 +24,72 @@ pub struct Renamed {
     pub to: Path,
 }
 
-fn is_same_group(c: &Candidate, d: &Candidate) -> bool
-    ensures { result ≡ rules.is_same_group c.now d.now }
-{
-    c.template == d.template && c.path.folder_names().cmp(&d.path.folder_names()).is_eq()
+/// Candidates of the client and of the replay.
+#[derive(Drop)]
+pub struct Sides {
+    clients: Vec<Candidate>,
+    replays: Vec<Candidate>,
 }
 
-fn is_alike(likeness: Likeness, c: &Candidate, d: &Candidate) -> bool
-    ensures { result ≡ rules.is_alike likeness c.now d.now }
+/// Both sides, sorted by what is alike.
+fn both_sorted(
+    alloc: Global,
+    likeness: Likeness,
+    clients: &[Candidate],
+    replays: &[Candidate],
+) -> Result<Sides, AllocError>
+    requires { RisesBy path_of_candidate clients.now }
+    ensures { IfOk result (AreSidesOf likeness clients.now replays.now) }
 {
-    match likeness {
-        Likeness::Group => is_same_group(c, d),
-        Likeness::GroupAndPrint => is_same_group(c, d) && c.print.as_slice() == d.print.as_slice(),
-    }
+    let clients = sorted_by_class(alloc, likeness, clients)?;
+    let replays = sorted_by_class(alloc, likeness, replays)?;
+    Ok(Sides { clients, replays })
 }
 
 /// How many of these are like `c`, and have a smaller path.
 fn rank(likeness: Likeness, clients: &[Candidate], c: &Candidate) -> usize
+    requires rises { Rises (class_of likeness) clients.now }
+    requires paths { RisesBy path_of_candidate (filter (is_alike likeness c.now) clients.now) }
     ensures { result ≡ rules.rank likeness clients.now c.now }
 {
-    clients
-        .iter()
-        .filter(|d| is_alike(likeness, c, d) && d.path < c.path)
-        .count()
-}
-
-/// The one with place `k` among those like `c`.
-fn nth_alike<'a>(
-    likeness: Likeness,
-    replays: &'a [Candidate],
-    c: &Candidate,
-    k: usize,
-) -> Option<&'a Candidate>
-    ensures { option_copied result ≡ slice_get (filter (rules.is_alike likeness c.now) replays.now) k }
-{
-    let mut left = k;
-    for r in replays {
-        if is_alike(likeness, c, r) {
-            if left == 0 {
-                return Some(r);
-            }
-            left -= 1;
-        }
-    }
-    None
+    let like = alike(likeness, clients, c);
+    like.partition_point(|d| d.path.cmp(&c.path).is_lt())
 }
 
 /// The replay's candidate like `c` that has the place of `c` among the client's.
 #[tactic(auto, unfolding(crate::specs::Renaming::counterpart))]
-fn counterpart<'a>(
-    likeness: Likeness,
-    clients: &[Candidate],
-    replays: &'a [Candidate],
-    c: &Candidate,
-) -> Option<&'a Candidate>
-    ensures { option_copied result ≡ rules.counterpart likeness clients.now replays.now c.now }
+fn counterpart<'a>(likeness: Likeness, sides: &'a Sides, c: &Candidate) -> Option<&'a Candidate>
+    requires { AreReady likeness sides.now }
+    ensures { option_copied result ≡ rules.counterpart likeness sides.now.clients.items sides.now.replays.items c.now }
 {
-    nth_alike(likeness, replays, c, rank(likeness, clients, c))
+    let k = rank(likeness, &sides.clients, c);
+    alike(likeness, &sides.replays, c).get(k)
 }
 
-fn has_path(candidates: &[Candidate], path: &Path) -> bool
-    ensures { result ≡ list_any (rules.has_path path.now) candidates.now }
+/// Whether there is one with this path.
+fn has_path(sorted: &[Candidate], path: &Path) -> bool
+    requires { Rises path_of_candidate sorted.now }
+    ensures { result ≡ list_any (rules.has_path path.now) sorted.now }
 {
-    candidates.iter().any(|c| c.path.cmp(path).is_eq())
+    !candidates_at(sorted, path).is_empty()
+}
+
+/// These, without those whose path stands among the sorted ones.
+fn without_sorted(
+    alloc: Global,
+    these: &[Candidate],
+    sorted: &[Candidate],
+) -> Result<Vec<Candidate>, AllocError>
+    requires { Rises path_of_candidate sorted.now }
+    ensures { IfOk result (λ kept. kept.items ≡ rules.without_paths these.now sorted.now) }
+{
+    let mut kept = Vec::new(alloc);
+    for c in these {
+        if !has_path(sorted, &c.path) {
+            kept.push(c.copy()?)?;
+        }
+    }
+    Ok(kept)
 }
 
 /// These, without those whose path stands among the others.
@@ -92,32 +100,30 @@ fn without_paths(
 ) -> Result<Vec<Candidate>, AllocError>
     ensures { IfOk result (λ kept. kept.items ≡ rules.without_paths these.now others.now) }
 {
-    let mut kept = Vec::new(alloc);
-    for c in these {
-        if !has_path(others, &c.path) {
-            kept.push(c.copy()?)?;
-        }
-    }
+    let sorted = sorted_by_path(alloc, others)?;
+    let kept = without_sorted(alloc, these, &sorted)?;
     Ok(kept)
 }
 
-fn lacks_counterpart(clients: &[Candidate], replays: &[Candidate], c: &Candidate) -> bool
-    ensures { result ≡ is_none (rules.counterpart GroupAndPrint clients.now replays.now c.now) }
+fn lacks_counterpart(sides: &Sides, c: &Candidate) -> bool
+    requires { AreReady GroupAndPrint sides.now }
+    ensures { result ≡ is_none (rules.counterpart GroupAndPrint sides.now.clients.items sides.now.replays.items c.now) }
 {
-    counterpart(Likeness::GroupAndPrint, clients, replays, c).is_none()
+    counterpart(Likeness::GroupAndPrint, sides, c).is_none()
 }
 
-/// The client's candidates that have no counterpart with their print.
-fn clients_left(
+/// Those of the client's candidates that have no counterpart with their print.
+fn without_counterparts(
     alloc: Global,
     clients: &[Candidate],
-    replays: &[Candidate],
+    sides: &Sides,
 ) -> Result<Vec<Candidate>, AllocError>
-    ensures { IfOk result (λ left. left.items ≡ rules.clients_left clients.now replays.now) }
+    requires { AreReady GroupAndPrint sides.now }
+    ensures { IfOk result (λ left. left.items ≡ filter (λ c. is_none (rules.counterpart GroupAndPrint sides.now.clients.items sides.now.replays.items c)) clients.now) }
 {
     let mut left = Vec::new(alloc);
     for c in clients {
-        if lacks_counterpart(clients, replays, c) {
+        if lacks_counterpart(sides, c) {
             left.push(c.copy()?)?;
         }
     }
@@ -134,49 +140,44 @@ fn copied(found: Option<&Candidate>) -> Result<Option<Candidate>, AllocError>
 }
 
 /// The counterparts with equal prints.
-fn taken(
-    alloc: Global,
-    clients: &[Candidate],
-    replays: &[Candidate],
-) -> Result<Vec<Candidate>, AllocError>
-    ensures { IfOk result (λ found. found.items ≡ filter_map (rules.counterpart GroupAndPrint clients.now replays.now) clients.now) }
+fn taken(alloc: Global, clients: &[Candidate], sides: &Sides) -> Result<Vec<Candidate>, AllocError>
+    requires { AreReady GroupAndPrint sides.now }
+    ensures { IfOk result (λ found. found.items ≡ filter_map (rules.counterpart GroupAndPrint sides.now.clients.items sides.now.replays.items) clients.now) }
 {
     let mut found = Vec::new(alloc);
     for c in clients {
-        let counterpart = copied(counterpart(Likeness::GroupAndPrint, clients, replays, c))?;
+        let counterpart = copied(counterpart(Likeness::GroupAndPrint, sides, c))?;
         push_found(&mut found, counterpart)?;
     }
     Ok(found)
 }
 
-/// The replay's candidates that are no counterpart with equal prints.
-fn replays_left(
+/// What the second pass leaves of both sides.
+fn left_by_prints(
     alloc: Global,
     clients: &[Candidate],
     replays: &[Candidate],
-) -> Result<Vec<Candidate>, AllocError>
-    ensures { IfOk result (λ left. left.items ≡ rules.replays_left clients.now replays.now) }
+    sides: &Sides,
+) -> Result<Sides, AllocError>
+    requires { AreSidesOf GroupAndPrint clients.now replays.now sides.now }
+    ensures clients { IfOk result (λ left. left.clients.items ≡ rules.clients_left clients.now replays.now) }
+    ensures replays { IfOk result (λ left. left.replays.items ≡ rules.replays_left clients.now replays.now) }
 {
-    let taken = taken(alloc, clients, replays)?;
-    without_paths(alloc, replays, &taken)
-}
-
-fn count_in_group(candidates: &[Candidate], c: &Candidate) -> usize
-    ensures { result ≡ count_by (rules.is_same_group c.now) candidates.now }
-{
-    candidates.iter().filter(|d| is_same_group(c, d)).count()
+    let taken = taken(alloc, clients, sides)?;
+    let replays = without_paths(alloc, replays, &taken)?;
+    let clients = without_counterparts(alloc, clients, sides)?;
+    Ok(Sides { clients, replays })
 }
 
 /// The counterpart in the group, where the group has equally many on both sides.
-fn by_place<'a>(
-    clients: &[Candidate],
-    replays: &'a [Candidate],
-    c: &Candidate,
-) -> Option<&'a Candidate>
-    ensures { option_copied result ≡ rules.by_place clients.now replays.now c.now }
+fn by_place<'a>(sides: &'a Sides, c: &Candidate) -> Option<&'a Candidate>
+    requires { AreReady Group sides.now }
+    ensures { option_copied result ≡ rules.by_place sides.now.clients.items sides.now.replays.items c.now }
 {
-    if count_in_group(clients, c) == count_in_group(replays, c) {
-        counterpart(Likeness::Group, clients, replays, c)
+    let clients = alike(Likeness::Group, &sides.clients, c).len();
+    let replays = alike(Likeness::Group, &sides.replays, c).len();
+    if clients == replays {
+        counterpart(Likeness::Group, sides, c)
     } else {
         None
     }
@@ -195,41 +196,69 @@ fn pair(c: &Candidate, partner: Option<&Candidate>) -> Result<Option<Renamed>, A
     }
 }
 
+/// The candidate of the replay that is paired with `c`, by its print or else by its place.
+fn partner<'a>(by_print: &'a Sides, by_group: &'a Sides, c: &Candidate) -> Option<&'a Candidate>
+    requires by_print { AreReady GroupAndPrint by_print.now }
+    requires by_group { AreReady Group by_group.now }
+    ensures { option_copied result ≡ partner_of by_print.now by_group.now c.now }
+{
+    match counterpart(Likeness::GroupAndPrint, by_print, c) {
+        Some(r) => Some(r),
+        None => by_place(by_group, c),
+    }
+}
+
+/// The pairs of the client's candidates that have a partner.
+fn partnered(
+    alloc: Global,
+    clients: &[Candidate],
+    by_print: &Sides,
+    by_group: &Sides,
+) -> Result<Vec<Renamed>, AllocError>
+    requires by_print { AreReady GroupAndPrint by_print.now }
+    requires by_group { AreReady Group by_group.now }
+    ensures { IfOk result (λ found. found.items ≡ filter_map (λ c. option_map (rules.renamed c) (partner_of by_print.now by_group.now c)) clients.now) }
+{
+    let mut found = Vec::new(alloc);
+    for c in clients {
+        let partner = partner(by_print, by_group, c);
+        push_found(&mut found, pair(c, partner)?)?;
+    }
+    Ok(found)
+}
+
 /// The pairs by prints, and of what these leave those by place, in the order of the client's candidates.
 fn pairs(
     alloc: Global,
     clients: &[Candidate],
     replays: &[Candidate],
 ) -> Result<Vec<Renamed>, AllocError>
+    requires { RisesBy path_of_candidate clients.now }
     ensures { IfOk result (λ found. found.items ≡ rules.pairs clients.now replays.now) }
 {
-    let lone_clients = clients_left(alloc, clients, replays)?;
-    let lone_replays = replays_left(alloc, clients, replays)?;
-    let mut found = Vec::new(alloc);
-    for c in clients {
-        let partner = partner(clients, replays, &lone_clients, &lone_replays, c);
-        push_found(&mut found, pair(c, partner)?)?;
-    }
+    let by_print = both_sorted(alloc, Likeness::GroupAndPrint, clients, replays)?;
+    let left = left_by_prints(alloc, clients, replays, &by_print)?;
+    let by_group = both_sorted(alloc, Likeness::Group, &left.clients, &left.replays)?;
+    let found = partnered(alloc, clients, &by_print, &by_group)?;
     Ok(found)
 }
 
-/// The candidate of the replay that is paired with `c`.
-#[tactic(auto, unfolding(crate::specs::Renaming::partner))]
-fn partner<'a>(
-    clients: &[Candidate],
-    replays: &'a [Candidate],
-    lone_clients: &[Candidate],
-    lone_replays: &'a [Candidate],
-    c: &Candidate,
-) -> Option<&'a Candidate>
-    requires clients { lone_clients.now ≡ rules.clients_left clients.now replays.now }
-    requires replays { lone_replays.now ≡ rules.replays_left clients.now replays.now }
-    ensures { option_copied result ≡ rules.partner clients.now replays.now c.now }
+/// The candidates of both sides.
+fn candidates(
+    alloc: Global,
+    templates: &[Template],
+    effects: &[SketchEffect],
+    job_rows: &[JobRow],
+    rows: &[JobRow],
+) -> Result<Sides, AllocError>
+    ensures clients { IfOk result (λ both. both.clients.items ≡ client_candidates templates.now effects.now job_rows.now rows.now) }
+    ensures replays { IfOk result (λ both. both.replays.items ≡ replay_candidates templates.now job_rows.now rows.now) }
 {
-    match counterpart(Likeness::GroupAndPrint, clients, replays, c) {
-        Some(r) => Some(r),
-        None => by_place(lone_clients, lone_replays, c),
-    }
+    let job = sorted_rows(alloc, job_rows)?;
+    let left = sorted_rows(alloc, rows)?;
+    let replays = replay_candidates(alloc, templates, &job, rows)?;
+    let clients = client_candidates(alloc, templates, effects, &job, &left)?;
+    Ok(Sides { clients, replays })
 }
 
 /// The pairs that the first pass leaves to the others.
@@ -242,11 +271,11 @@ fn pairs_of(
 ) -> Result<Vec<Renamed>, AllocError>
     ensures { IfOk result (λ found. found.items ≡ rules.renaming templates.now effects.now job_rows.now rows.now) }
 {
-    let clients = client_candidates(alloc, templates, effects, job_rows, rows)?;
-    let replays = replay_candidates(alloc, templates, job_rows, rows)?;
-    let new_clients = without_paths(alloc, &clients, &replays)?;
-    let new_replays = without_paths(alloc, &replays, &clients)?;
-    pairs(alloc, &new_clients, &new_replays)
+    let both = candidates(alloc, templates, effects, job_rows, rows)?;
+    let clients = without_paths(alloc, &both.clients, &both.replays)?;
+    let replays = without_paths(alloc, &both.replays, &both.clients)?;
+    let found = pairs(alloc, &clients, &replays)?;
+    Ok(found)
 }
 
 /// Which new files of the replay get which paths of the client, in the order of these. `rows` is what
