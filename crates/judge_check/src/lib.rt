@@ -1,0 +1,5 @@
+//! Tests of judgements, with values from outside.
+#![tactic(auto)]
+
+#[cfg(test)]
+mod tests;

@@ -1,0 +1,4 @@
+pub mod Agreement
+pub mod Judgement
+pub mod Laws
+pub mod Inside
