@@ -1,10 +1,17 @@
 //! Frames that are cut, spoilt or break a rule, and what the reader says of each.
 
+ghost use Rattle.std.specs.Prelude.{◌≡◌, ◌≤◌, length, IfOk};
+ghost use Rattle.std.specs.Option.{IsSome};
+ghost use Rattle.std.specs.List.{AllByRecursion};
+ghost use Rattle.file_paths.specs.Limits.{max_file};
+ghost use Rattle.tree_values.specs.Effects.{content_size};
+
 use Answer::{BadClient, BadKind, BadLength, BadVersion, Field, Message, Trailing};
+use mod_log::{Entry, Origin, SketchEffects, sketch_entry};
 use std::alloc::{AllocError, Global};
 use std::test::Fail;
-use vol_tree::TryCopy;
-use wire_frames::{FrameError, read, write};
+use vol_tree::{Base, Bases, Content, Effect, Effects, Path, TryCopy};
+use wire_frames::{FrameError, echoes, operation_size, read, store_size, write};
 
 /// What the reader says of bytes.
 #[derive(Clone, Copy, Debug, PartialEq, Eq)]
@@ -41,6 +48,41 @@ const STALE: &str = "0000001e 01 12 01 0000000000000001 000161 0000000000000002 
 
 /// Client 1's entry 3 comes behind entry 1.
 const GAP: &str = "00000013 01 14 01 0000000000000003 0000000000000001";
+
+/// Client 1's entry 1 was made again, and accepted.
+const DONE: &str = "0000000b 01 16 01 0000000000000001";
+
+/// Client 1's entry 1 was not: another status than 0.
+const DECLINED: &str = "0000000e 01 17 01 0000000000000001 05 00 01";
+
+/// Version, kind, client and number of a decline.
+const DECLINED_HEAD: &str = "01 17 01 0000000000000001";
+
+/// Client 1's entry 14, which `cat *.txt | sort > all` made in `d` of twelve files of one line each. A program in Python
+/// computed both prints and the two parities.
+const OPERATE: &str = "0000014b 01 02 01 000000000000000e \
+    c238680379a65a84063ea808d345559ab92add7adb9e1c251353f7d6ff74e146 00 \
+    00000007 2f62696e2f7368 0002 00000002 2d63 00000016 636174202a2e747874207c20736f7274203e20616c6c 000164 \
+    0002 00000004 4c414e47 00000001 43 00000004 50415448 0000000d 2f7573722f62696e3a2f62696e 0000 0000 \
+    00000001 02 0005642f616c6c 00030d40 \
+    b835880f8d5b40690b23fe9b8bdd13a4ce2bec041c92281e27b2296b01f76dd6 \
+    ce3ac7f39de7c22149c8cb5615cb1e626f8c79926781132d3712898f332c8cdb \
+    c356f8b4fa43474ffa798a54f783f6ac7bc0b7a078f3dfdcdfca716543cf2276 \
+    85e6d3e8422740fbe8f27aeb97ce5866b16245e9943c8485967441ffc32fadfb \
+    411be843531a207c7ac949cb3e3f519dc33a187961f5bc4274a08158738b47dc \
+    00000001 0005642f616c6c 0000000000000000";
+
+/// The sizes of the fields of that operation: of its body before the parities, each symbol of which is a field of two
+/// bytes, and behind them.
+const BEFORE_PARITIES: [u32; 28] = [
+    32, 1, 4, 7, 2, 4, 2, 4, 22, 2, 1, 2, 4, 4, 4, 1, 4, 4, 4, 13, 2, 2, 4, 1, 2, 5, 4, 32,
+];
+
+const BEHIND_PARITIES: [u32; 4] = [4, 2, 5, 8];
+
+/// Version, kind, client and number of an operation, and the print of its job.
+const OPERATE_HEAD: &str = "01 02 01 0000000000000001 \
+    000102030405060708090a0b0c0d0e0f101112131415161718191a1b1c1d1e1f";
 
 /// Version, kind, client, number and index of an entry that does not fit, and of one that finds no room.
 const UNFIT_HEAD: &str = "01 13 01 0000000000000001 00000003";
@@ -86,7 +128,10 @@ fn framed(alloc: Global, payload: &[u8]) -> Result<Vec<u8>, AllocError> {
 /// What the reader says of a frame.
 fn answer_of(alloc: Global, frame: &[u8]) -> Answer {
     match read(alloc, frame) {
-        Ok(_) => Answer::Message,
+        Ok(message) => {
+            drop(message);
+            Answer::Message
+        }
         Err(FrameError::BadLength) => Answer::BadLength,
         Err(FrameError::BadVersion) => Answer::BadVersion,
         Err(FrameError::BadKind) => Answer::BadKind,
@@ -161,7 +206,9 @@ fn first_wrong_front(
 
 #[test]
 fn example_frames_are_read(rt: HostRuntime) -> Result<(), Fail> {
-    for text in [PULL, STORE, ACCEPTED, MALFORMED, SNAPSHOT] {
+    for text in [
+        PULL, STORE, OPERATE, ACCEPTED, MALFORMED, SNAPSHOT, DONE, DECLINED,
+    ] {
         let frame = bytes_of(rt.alloc(), text)?;
         assert_eq!(rt; answer_of(rt.alloc(), &frame), Message, "{text}");
     }
@@ -181,7 +228,9 @@ fn copied_frame(alloc: Global, frame: &[u8]) -> Result<Vec<u8>, Fail> {
 
 #[test]
 fn copied_messages_are_written_as_they_were_read(rt: HostRuntime) -> Result<(), Fail> {
-    for text in [PULL, STORE, ACCEPTED, MALFORMED, SNAPSHOT, STALE, GAP] {
+    for text in [
+        PULL, STORE, OPERATE, ACCEPTED, MALFORMED, SNAPSHOT, STALE, GAP, DONE, DECLINED,
+    ] {
         let frame = bytes_of(rt.alloc(), text)?;
         assert_eq!(rt; copied_frame(rt.alloc(), &frame)?, frame, "{text}");
     }
@@ -212,6 +261,241 @@ fn told_refusals_are_written_as_they_were_read(rt: HostRuntime) -> Result<(), Fa
 }
 
 #[test]
+fn causes_are_written_as_they_were_read(rt: HostRuntime) -> Result<(), Fail> {
+    let causes = [
+        "01 000102030405060708090a0b0c0d0e0f101112131415161718191a1b1c1d1e1f \
+            ff0102030405060708090a0b0c0d0e0f101112131415161718191a1b1c1d1e1f",
+        "02 01 00000000",
+        "02 02 00000003",
+        "03",
+        "04",
+        "05 00 01",
+        "05 01 00",
+        "06 00000002",
+        "07 0003612f62",
+        "08 000161",
+        "09 00000001 01",
+        "09 00000001 06 000161 0003612f62",
+        "09 00000001 07 00004000",
+        "09 00000001 09 0000000002000001",
+        "0a 12",
+        "0a 13",
+        "0a 14",
+        "0a 18",
+        "0b",
+    ];
+    for cause in causes {
+        let mut payload = bytes_of(rt.alloc(), DECLINED_HEAD)?;
+        payload.extend_from_slice(&bytes_of(rt.alloc(), cause)?)?;
+        let frame = framed(rt.alloc(), &payload)?;
+        assert_eq!(rt; copied_frame(rt.alloc(), &frame)?, frame, "{cause}");
+    }
+    Ok(())
+}
+
+#[test]
+fn causes_keep_their_rules(rt: HostRuntime) -> Result<(), Fail> {
+    let causes = [
+        ("00", Field(15)),
+        ("0c", Field(15)),
+        ("ff", Field(15)),
+        (
+            "01 000102030405060708090a0b0c0d0e0f101112131415161718191a1b1c1d1e1f \
+                000102030405060708090a0b0c0d0e0f101112131415161718191a1b1c1d1e1f",
+            Field(48),
+        ),
+        ("02 00 00000000", Field(16)),
+        ("02 03 00000000", Field(16)),
+        ("02 01 00000001", Field(17)),
+        ("03 00", Trailing(16)),
+        ("05 07 07", Field(17)),
+        ("07 0001 2f", Field(18)),
+        ("08 0401", Field(18)),
+        ("09 00000001 00", Field(20)),
+        ("09 00000001 0b", Field(20)),
+        ("09 00000001 02 0001 2f", Field(23)),
+        ("0a 11", Field(16)),
+        ("0a 15", Field(16)),
+        ("0a 16", Field(16)),
+        ("0b 00", Trailing(16)),
+        ("", Field(15)),
+    ];
+    for (cause, wanted) in causes {
+        assert_eq!(rt;
+            answer_to(rt.alloc(), DECLINED_HEAD, cause)?,
+            wanted,
+            "{cause}"
+        );
+    }
+    Ok(())
+}
+
+#[test]
+fn operations_keep_their_rules(rt: HostRuntime) -> Result<(), Fail> {
+    let command = "00000002 2f63 0000 0000 0000 0000 0000";
+    let base = "00000001 000161 0000000000000000";
+    let operations = [
+        ("00", "00000001 01 000161", base, Message),
+        ("ff", "00000001 01 000161", base, Message),
+        ("00", "00000000", base, Field(64)),
+        ("00", "00001001 01 000161", base, Field(64)),
+        ("00", "00000001 05 000161", base, Field(68)),
+        ("00", "00000001 01 000162", base, Field(76)),
+        ("00", "00000002 01 000161 01 000161", base, Message),
+        ("00", "00000001 01 000161", "00000000", Field(72)),
+        ("00", "00000001 02 000161 00800001", base, Field(72)),
+        (
+            "00",
+            "00000001 01 000161",
+            "00000001 000161 0000000000000000 00",
+            Trailing(87),
+        ),
+    ];
+    for (status, sketches, base, wanted) in operations {
+        let body = format!(in rt.alloc(); "{status} {command} {sketches} {base}")?;
+        assert_eq!(rt;
+            answer_to(rt.alloc(), OPERATE_HEAD, body.as_str())?,
+            wanted,
+            "{body}"
+        );
+    }
+    let commands = [
+        ("00000001 63 0000 0000 0000 0000 0000", Field(52)),
+        ("00000002 2f00 0000 0000 0000 0000 0000", Field(52)),
+        (
+            "00000002 2f63 0001 00000001 00 0000 0000 0000 0000",
+            Field(60),
+        ),
+        ("ffffffff 2f63", Field(52)),
+    ];
+    for (command, wanted) in commands {
+        let body = format!(in rt.alloc(); "00 {command} 00000001 01 000161 {base}")?;
+        assert_eq!(rt;
+            answer_to(rt.alloc(), OPERATE_HEAD, body.as_str())?,
+            wanted,
+            "{command}"
+        );
+    }
+    Ok(())
+}
+
+/// What the command of the operation makes of its twelve files: 16,666 times each letter from a to k and 16,662 times l,
+/// each in a line of its own.
+fn sorted_lines(alloc: Global) -> Result<Vec<u8>, AllocError> {
+    let mut lines = Vec::new(alloc);
+    for letter in b'a'..=b'l' {
+        let count = if letter == b'l' { 16_662 } else { 16_666 };
+        let line = vec![in alloc; letter; count]?;
+        lines.extend_from_slice(&line)?;
+        lines.push(b'\n')?;
+    }
+    Ok(lines)
+}
+
+/// Entry 14, which puts these lines at `d/all`, untouched before.
+fn entry_of(alloc: Global, origin: &Origin, lines: &[u8]) -> Result<Entry, Fail>
+    requires { length lines.now ≤ max_file }
+    ensures made { IfOk result (λ entry. IsSome entry.origin) }
+    ensures sizes { IfOk result (λ entry. AllByRecursion (λ effect. content_size effect ≤ max_file) entry.effects) }
+{
+    let path = Path::read(alloc, b"d/all").ok().ok_or("no path")?;
+    let content = Content::of(alloc, lines)?;
+    let mut base = Bases::new(alloc);
+    base.push(Base {
+        path: path.copy()?,
+        version: 0,
+    })?;
+    let mut effects = Effects::new(alloc);
+    effects.push(Effect::Put(path, content))?;
+    Ok(Entry {
+        seq: 14,
+        origin: Some(origin.copy()?),
+        effects,
+        base,
+    })
+}
+
+/// The spelled sketched effects of an entry.
+fn sketches_of(alloc: Global, entry: &Entry) -> Result<Vec<u8>, AllocError>
+    requires made { IsSome entry.now.origin }
+    requires sizes { AllByRecursion (λ effect. content_size effect ≤ max_file) entry.now.effects }
+{
+    let sketched = sketch_entry(alloc, entry)?;
+    let mut spelling = Vec::new(alloc);
+    let spelt = SketchEffects::spell(&sketched.effects, &mut spelling);
+    drop(sketched);
+    spelt?;
+    Ok(spelling)
+}
+
+/// How long store and operation of such an entry are, and its spelled sketched effects.
+fn lengths_of(alloc: Global, origin: &Origin, lines: &[u8]) -> Result<(u64, u64, Vec<u8>), Fail>
+    requires { length lines.now ≤ max_file }
+{
+    let entry = entry_of(alloc, origin, lines)?;
+    let store = store_size(&entry.effects, &entry.base);
+    let operation = operation_size(alloc, &entry);
+    let sketches = sketches_of(alloc, &entry);
+    drop(entry);
+    Ok((store, operation?, sketches?))
+}
+
+#[test]
+fn an_entry_is_sketched_as_the_operation(rt: HostRuntime) -> Result<(), Fail> {
+    let frame = bytes_of(rt.alloc(), OPERATE)?;
+    let lines = sorted_lines(rt.alloc())?;
+    assert_eq!(rt; lines.len(), 200_000);
+    let taken = Origin::take(rt.alloc(), &frame, 15);
+    let (origin, next) = taken.ok().ok_or("no origin")?;
+    let lengths = lengths_of(rt.alloc(), &origin, &lines);
+    drop(origin);
+    let (store, operation, sketches) = lengths?;
+    assert_eq!(rt; (store, operation, next), (200_050, 335, 140));
+    assert_eq!(rt; Some(sketches.as_slice()), frame.get(140..316));
+    Ok(())
+}
+
+/// Whether the reply that one frame spells answers the request that the other does.
+fn is_answered(alloc: Global, request: &str, reply: &str) -> Result<bool, Fail> {
+    let request = read(alloc, &bytes_of(alloc, request)?)
+        .ok()
+        .ok_or("refused")?;
+    let answers = answers_one(alloc, &request, reply);
+    drop(request);
+    answers
+}
+
+fn answers_one(alloc: Global, request: &wire_frames::Message, reply: &str) -> Result<bool, Fail> {
+    let reply = read(alloc, &bytes_of(alloc, reply)?).ok().ok_or("refused")?;
+    let answers = echoes(request, &reply);
+    drop(reply);
+    Ok(answers)
+}
+
+#[test]
+fn operations_are_answered_by_done_and_declined(rt: HostRuntime) -> Result<(), Fail> {
+    let done = "0000000b 01 16 01 000000000000000e";
+    let declined = "0000000c 01 17 01 000000000000000e 0b";
+    let accepted = "0000000b 01 11 01 000000000000000e";
+    let rows = [
+        (OPERATE, done, true),
+        (OPERATE, declined, true),
+        (OPERATE, accepted, false),
+        (OPERATE, DONE, false),
+        (OPERATE, "0000000b 01 16 02 000000000000000e", false),
+        (STORE, DONE, false),
+        (STORE, DECLINED, false),
+        (PULL, DONE, false),
+        (done, done, false),
+        (OPERATE, OPERATE, false),
+    ];
+    for (request, reply, wanted) in rows {
+        assert_eq!(rt; is_answered(rt.alloc(), request, reply)?, wanted, "{reply}");
+    }
+    Ok(())
+}
+
+#[test]
 fn refusals_have_texts(rt: HostRuntime) -> Result<(), Fail> {
     let rows = [
         (
@@ -236,7 +520,9 @@ fn refusals_have_texts(rt: HostRuntime) -> Result<(), Fail> {
 
 #[test]
 fn cut_frames_have_another_length(rt: HostRuntime) -> Result<(), Fail> {
-    for text in [PULL, STORE, ACCEPTED, MALFORMED, SNAPSHOT] {
+    for text in [
+        PULL, STORE, OPERATE, ACCEPTED, MALFORMED, SNAPSHOT, DONE, DECLINED,
+    ] {
         assert_eq!(rt; first_wrong_cut(rt.alloc(), text)?, None, "{text}");
     }
     Ok(())
@@ -272,6 +558,38 @@ fn fronts_end_in_the_field_that_is_cut(rt: HostRuntime) -> Result<(), Fail> {
     assert_eq!(rt; first_wrong_front(rt.alloc(), STORE, &store)?, None);
     assert_eq!(rt; first_wrong_front(rt.alloc(), SNAPSHOT, &snapshot)?, None);
     assert_eq!(rt; first_wrong_front(rt.alloc(), MALFORMED, &malformed)?, None);
+    let declined = [
+        (15, BadLength),
+        (16, Field(15)),
+        (17, Field(16)),
+        (18, Field(17)),
+    ];
+    assert_eq!(rt; first_wrong_front(rt.alloc(), DECLINED, &declined)?, None);
+    Ok(())
+}
+
+/// The answers to the fronts of a frame whose fields behind the header have these sizes.
+fn fronts_of(alloc: Global, sizes: &[u32]) -> Result<Vec<(usize, Answer)>, AllocError> {
+    let mut table = Vec::new(alloc);
+    table.push((15, BadLength))?;
+    let mut at = 15_u32;
+    for size in sizes {
+        let next = at.wrapping_add(*size);
+        table.push((next as usize, Field(at)))?;
+        at = next;
+    }
+    Ok(table)
+}
+
+#[test]
+fn fronts_of_an_operation_end_in_the_field_that_is_cut(rt: HostRuntime) -> Result<(), Fail> {
+    let mut sizes = Vec::from_slice(rt.alloc(), &BEFORE_PARITIES)?;
+    for _ in 0..64 {
+        sizes.push(2)?;
+    }
+    sizes.extend_from_slice(&BEHIND_PARITIES)?;
+    let table = fronts_of(rt.alloc(), &sizes)?;
+    assert_eq!(rt; first_wrong_front(rt.alloc(), OPERATE, &table)?, None);
     Ok(())
 }
 

@@ -77,7 +77,8 @@ fn snapshot(alloc: Global, rows: u32) -> Result<Vec<u8>, AllocError> {
 /// Reads a frame so often.
 fn read_often(alloc: Global, frame: &[u8], turns: u32) -> Result<(), FrameError> {
     for _ in 0..turns {
-        read(alloc, frame)?;
+        let message = read(alloc, frame)?;
+        drop(message);
     }
     Ok(())
 }

@@ -24,11 +24,21 @@ use Rattle.wire_frames.specs.Limits.{max_frame}
 use Rattle.wire_frames.specs.declared.message.Message.{Message}
 use Rattle.wire_frames.specs.declared.message.Message.TheVariants as messages
 use Rattle.wire_frames.specs.declared.message.Kind.{Kind}
-use Rattle.wire_frames.specs.declared.message.Kind.TheVariants.{Store, Stale, Unfit, Gap, Snapshot, Full, Malformed}
+use Rattle.wire_frames.specs.declared.message.Kind.TheVariants.{Store, Operate, Stale, Unfit, Gap, Snapshot, Declined, Full, Malformed}
 use Rattle.wire_frames.specs.declared.message.FrameError.TheVariants.{BadField, Trailing}
 use Rattle.wire_frames.specs.Fault.{unfit_fault_at, full_fault_at}
+use Rattle.mod_log.specs.declared.origin.Origin.{Origin}
+use Rattle.mod_log.specs.declared.sketched.SketchEffect.{SketchEffect}
+use Rattle.mod_log.specs.Origin.{origin, OriginFits}
+use Rattle.mod_log.specs.Sketched.{sketches_touch}
+use Rattle.mod_log.specs.Spelling.{sketch_effects, SketchEffectsFit}
+use Rattle.mod_log.specs.Reading.{origin_at}
+use Rattle.mod_log.proofs.Origins.{origin_codec}
+use Rattle.wire_frames.specs.Cause.{cause_at}
+use Rattle.wire_frames.specs.Operation.{sketch_effects_at, sketches_at, operation_at}
+use Rattle.wire_frames.proofs.OperationLaws.{sketched_effects_codec, both_of, operation_of}
 use Rattle.wire_frames.specs.Frame.{frame_version, kind, client_of, number_of, code_of, client_rule, number_rule, offset_rule, body, frame}
-use Rattle.wire_frames.specs.Reading.{store_at, stale_at, unfit_at, full_at, snapshot_at, gap_at, malformed_at, body_at, message_at, is_sized, frame_of}
+use Rattle.wire_frames.specs.Reading.{store_at, operate_at, stale_at, unfit_at, full_at, snapshot_at, gap_at, declined_at, malformed_at, body_at, message_at, is_sized, frame_of}
 use Rattle.wire_frames.specs.Broken.{framed, IsRefusedAt, BrokenNumbers, BrokenBodies, LeftBytes}
 use Rattle.wire_frames.proofs.Messages.{tail, number_codec, refusal, message_again}
 use Rattle.wire_frames.proofs.Frames.{are_sized, kind_again}
@@ -119,6 +129,37 @@ module _ (c n : ℕ) where
       later_refused (number_at w64) (λ l. one rows_at (messages.Snapshot c n l)) (digits w64 last) text last offset (read_again u64_codec last small)
       (first_refused rows_at (λ rs. none (messages.Snapshot c n last rs)) text offset refused)
 
+  cause_refused : (text : List ℕ) (offset : ℕ) → IsRefused cause_at text offset → IsRefused (declined_at c n) text offset
+  unfolding declined_at
+  cause_refused text offset refused = first_refused cause_at (λ why. none (messages.Declined c n why)) text offset refused
+
+-- ---- operations
+
+sketched_refused : (text : List ℕ) (offset : ℕ) → IsRefused sketch_effects_at text offset → IsRefused sketches_at text offset
+unfolding sketches_at
+sketched_refused text offset refused = first_refused sketch_effects_at (λ es. one (bases_at (distinct (sketches_touch es))) (both_of es)) text offset refused
+
+based_refused : (es : List SketchEffect) (text : List ℕ) (offset : ℕ) → SketchEffectsFit es → IsRefused (bases_at (distinct (sketches_touch es))) text offset → IsRefused sketches_at (sketch_effects es ++ text) (length (sketch_effects es) + offset)
+unfolding sketches_at
+based_refused es text offset fits refused =
+    later_refused sketch_effects_at (λ xs. one (bases_at (distinct (sketches_touch xs))) (both_of xs)) (sketch_effects es) text es offset (read_again sketched_effects_codec es fits)
+    (first_refused (bases_at (distinct (sketches_touch es))) (λ bs. none (both_of es bs)) text offset refused)
+
+module _ (c n : ℕ) where
+  operation_refused : (text : List ℕ) (offset : ℕ) → IsRefused (operation_at n) text offset → IsRefused (operate_at c n) text offset
+  unfolding operate_at
+  operation_refused text offset refused = first_refused (operation_at n) (λ e. none (messages.Operate c e)) text offset refused
+
+  origin_refused : (text : List ℕ) (offset : ℕ) → IsRefused origin_at text offset → IsRefused (operate_at c n) text offset
+  unfolding operation_at
+  origin_refused text offset refused = operation_refused text offset (first_refused origin_at (λ o. one sketches_at (operation_of n o)) text offset refused)
+
+  sketches_refused : (o : Origin) (text : List ℕ) (offset : ℕ) → OriginFits o → IsRefused sketches_at text offset → IsRefused (operate_at c n) (origin o ++ text) (length (origin o) + offset)
+  unfolding operation_at
+  sketches_refused o text offset fits refused =
+      operation_refused (origin o ++ text) (length (origin o) + offset)
+      (later_refused origin_at (λ x. one sketches_at (operation_of n x)) (origin o) text o offset (read_again origin_codec o fits) (first_refused sketches_at (λ s. none (operation_of n o s)) text offset refused))
+
 wrong_code : (code : ℕ) → (code ≡ 0) ⊎ (7 < code) → (leb 1 code && leb code 7) ≡ false
 wrong_code code (inl e) = rw e refl
 wrong_code code (inr lt) = second_fails (leb 1 code) (leb code 7) (le_fails code 7 lt)
@@ -145,6 +186,12 @@ broken_bodies = record {
   effects_are_refused = λ n text offset refused. inside Store n text offset (15 + offset) refl (λ c. effects_refused c n text offset refused);
   base_is_refused = λ n es text offset fits refused.
       inside Store n (effects es ++ text) (length (effects es) + offset) (15 + length (effects es) + offset) (omega arith) (λ c. base_refused c n es text offset fits refused);
+  origin_is_refused = λ n text offset refused. inside Operate n text offset (15 + offset) refl (λ c. origin_refused c n text offset refused);
+  sketches_are_refused = λ n o text offset fits refused.
+      inside Operate n (origin o ++ text) (length (origin o) + offset) (15 + length (origin o) + offset) (omega arith) (λ c. sketches_refused c n o text offset fits (sketched_refused text offset refused));
+  sketch_base_is_refused = λ n o es text offset fits fits' refused.
+      inside Operate n (origin o ++ (sketch_effects es ++ text)) (length (origin o) + (length (sketch_effects es) + offset)) (15 + length (origin o) + length (sketch_effects es) + offset) (omega arith)
+      (λ c. sketches_refused c n o (sketch_effects es ++ text) (length (sketch_effects es) + offset) fits (based_refused es text offset fits' refused));
   path_is_refused = λ n text offset refused. inside Stale n text offset (15 + offset) refl (λ c. path_refused c n text offset refused);
   versions_are_equal = λ n p v is small.
       inside Stale n (path p ++ (digits w64 v ++ digits w64 v)) (length (path p) + (length (digits w64 v) + 0)) (15 + length (path p) + 8) (omega (arith, eight_bytes v)) (λ c. equal_refused c n p v is small);
@@ -155,6 +202,7 @@ broken_bodies = record {
   last_is_near = λ n last small near. inside Gap n (digits w64 last) 0 15 refl (λ c. last_refused c n last small near);
   rows_are_refused = λ n last text offset small refused.
       inside Snapshot n (digits w64 last ++ text) (length (digits w64 last) + offset) (23 + offset) (omega (arith, eight_bytes last)) (λ c. rows_refused c n last text offset small refused);
+  cause_is_refused = λ n text offset refused. inside Declined n text offset (15 + offset) refl (λ c. cause_refused c n text offset refused);
   code_is_none = λ n code byte wrong. inside Malformed n (code ∷ []) 0 15 refl (λ c. code_refused code byte wrong);
   offset_is_told = λ n code offset low high not5 not6 some small. inside Malformed n (code ∷ digits w32 offset) (1 + 0) 16 refl (λ c. offset_refused code offset low high not5 not6 some small);
 }

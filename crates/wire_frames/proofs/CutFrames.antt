@@ -20,10 +20,12 @@ use Rattle.wire_frames.specs.declared.message.Kind.{Kind}
 use Rattle.wire_frames.specs.declared.message.FrameError.TheVariants.{BadField}
 use Rattle.wire_frames.specs.Fields.{body_fields, message_fields}
 use Rattle.wire_frames.specs.Frame.{kind, client_of, number_of, code_of, client_rule, number_rule, offset_rule, body, payload, frame, BodyFits}
-use Rattle.wire_frames.specs.Reading.{store_at, stale_at, unfit_at, full_at, snapshot_at, gap_at, malformed_at, body_at, message_at, is_sized, frame_of}
+use Rattle.wire_frames.specs.Reading.{store_at, operate_at, stale_at, unfit_at, full_at, snapshot_at, gap_at, declined_at, malformed_at, body_at, message_at, is_sized, frame_of}
 use Rattle.wire_frames.specs.Laws.{CutFramesNameTheField}
 use Rattle.tree_laws.proofs.Few.{touched_few}
 use Rattle.wire_frames.proofs.FaultLaws.{unfit_cut, full_cut}
+use Rattle.wire_frames.proofs.CauseLaws.{cause_cut}
+use Rattle.wire_frames.proofs.OperationLaws.{operation_cut}
 use Rattle.wire_frames.proofs.Messages.{tail, number_codec, refusal}
 use Rattle.wire_frames.proofs.Frames.{are_sized, kind_again}
 use Rattle.wire_frames.proofs.Sizes.{frame_small}
@@ -35,9 +37,10 @@ no_room bytes at next end stands le lt = omega (arith, stands.next_is)
 
 body_ends : (m : Message) (bytes : List ℕ) (at next end : ℕ) → Stands bytes at (body m) next → BodyFits m → at ≤ end → end < next
     → body_at (kind m) (client_of m) (number_of m) (take end bytes) at ≡ Err (at + start_of (end - at) (body_fields m))
-unfolding store_at stale_at unfit_at full_at snapshot_at gap_at malformed_at
+unfolding store_at operate_at stale_at unfit_at full_at snapshot_at gap_at declined_at malformed_at
 body_ends (messages.Store c n es bs) bytes at next end stands fits le lt =
     two_cut effects_codec effects_cut (λ xs few. bases_cut (distinct (touched_all xs)) (touched_few xs few)) (messages.Store c n) bytes at es bs next end stands fits.0 fits.1 le lt
+body_ends (messages.Operate c entry) bytes at next end stands fits le lt = one_cut (operation_cut entry.seq) (messages.Operate c) bytes at entry next end stands (refl, fits) le lt
 body_ends (messages.Pull c n) bytes at next end stands fits le lt = absurd (no_room bytes at next end stands le lt)
 body_ends (messages.Accepted c n) bytes at next end stands fits le lt = absurd (no_room bytes at next end stands le lt)
 body_ends (messages.Stale c n p theirs ours) bytes at next end stands fits le lt =
@@ -50,6 +53,8 @@ body_ends (messages.Gap c n last) bytes at next end stands fits le lt =
     one_cut (ruled_cut u64_cut (λ v. leb (v + 2) n)) (messages.Gap c n) bytes at last next end stands (fits.0, fits.1) le lt
 body_ends (messages.Snapshot c n last rs) bytes at next end stands fits le lt =
     two_cut u64_codec u64_cut (λ _ _. rows_cut) (messages.Snapshot c n) bytes at last rs next end stands fits.0 fits.1 le lt
+body_ends (messages.Done c n) bytes at next end stands fits le lt = absurd (no_room bytes at next end stands le lt)
+body_ends (messages.Declined c n why) bytes at next end stands fits le lt = one_cut cause_cut (messages.Declined c n) bytes at why next end stands fits le lt
 body_ends (messages.Malformed code offset) bytes at next end stands fits le lt =
     two_cut refusal (ruled_cut u8_cut (λ v. leb 1 v && leb v 7)) (λ v _. ruled_cut u32_cut (offset_rule v)) messages.Malformed bytes at code offset next end stands (fits.0, fits.1) (fits.2, fits.3) le lt
 

@@ -1,5 +1,5 @@
 -- The frames of valid messages are bytes.
-use Rattle.std.proofs.Common.{◌≡◌, ℕ, ◌<◌, true, ◌&&◌, leb, eqb, List, [], ◌∷◌, ◌++◌, length, arith}
+use Rattle.std.proofs.Common.{◌≡◌, ℕ, ◌<◌, true, ◌&&◌, leb, List, ◌∷◌, ◌++◌, length, arith}
 use Rattle.std.specs.Int.{w32, w64}
 use Rattle.byte_fields.specs.Field.{digits}
 use Rattle.byte_fields.specs.Codec.{IsBytes}
@@ -14,18 +14,23 @@ use Rattle.tree_laws.proofs.SpelledBytes.{effects_are_bytes, bases_are_bytes, ro
 use Rattle.wire_frames.specs.declared.message.Message.{Message}
 use Rattle.wire_frames.specs.declared.message.Message.TheVariants as messages
 use Rattle.wire_frames.specs.declared.message.Kind.{Kind}
-use Rattle.wire_frames.specs.declared.message.Kind.TheVariants.{Store, Pull, Accepted, Stale, Unfit, Gap, Snapshot, Full, Malformed}
+use Rattle.wire_frames.specs.declared.message.Kind.TheVariants.{Store, Operate, Pull, Accepted, Stale, Unfit, Gap, Snapshot, Done, Declined, Full, Malformed}
 use Rattle.wire_frames.specs.Frame.{kind, client_of, number_of, code_of, body, payload, frame, client_rule, BodyFits, IsValid}
 use Rattle.wire_frames.proofs.FaultLaws.{unfit_fits, full_fits}
+use Rattle.wire_frames.proofs.CauseLaws.{cause_is_bytes}
+use Rattle.wire_frames.proofs.OperationLaws.{operation_is_bytes}
 
 code_is_byte : (k : Kind) → code_of k < 256
 code_is_byte Store = omega arith
+code_is_byte Operate = omega arith
 code_is_byte Pull = omega arith
 code_is_byte Accepted = omega arith
 code_is_byte Stale = omega arith
 code_is_byte Unfit = omega arith
 code_is_byte Gap = omega arith
 code_is_byte Snapshot = omega arith
+code_is_byte Done = omega arith
+code_is_byte Declined = omega arith
 code_is_byte Full = omega arith
 code_is_byte Malformed = omega arith
 
@@ -35,17 +40,21 @@ low_client client rule = omega (arith, le_of client 64 (and_of (leb 1 client) (l
 client_is_byte : (k : Kind) (client : ℕ) → client_rule k client ≡ true → client < 256
 client_is_byte Malformed client rule = omega (arith, eq_of client 0 rule)
 client_is_byte Store client rule = low_client client rule
+client_is_byte Operate client rule = low_client client rule
 client_is_byte Pull client rule = low_client client rule
 client_is_byte Accepted client rule = low_client client rule
 client_is_byte Stale client rule = low_client client rule
 client_is_byte Unfit client rule = low_client client rule
 client_is_byte Gap client rule = low_client client rule
 client_is_byte Snapshot client rule = low_client client rule
+client_is_byte Done client rule = low_client client rule
+client_is_byte Declined client rule = low_client client rule
 client_is_byte Full client rule = low_client client rule
 
 body_is_bytes : (m : Message) → BodyFits m → IsBytes (body m)
 body_is_bytes (messages.Store client number es bs) fits =
     bytes_appended (effects es) (bases bs) (effects_are_bytes max_effects max_files es fits.0) (bases_are_bytes (distinct (touched_all es)) bs fits.1)
+body_is_bytes (messages.Operate client entry) fits = operation_is_bytes entry fits
 body_is_bytes (messages.Pull client number) fits = no_bytes
 body_is_bytes (messages.Accepted client number) fits = no_bytes
 body_is_bytes (messages.Stale client number p theirs ours) fits =
@@ -56,6 +65,8 @@ body_is_bytes (messages.Unfit client number index fault) fits =
 body_is_bytes (messages.Gap client number last) fits = eight_are_bytes last
 body_is_bytes (messages.Snapshot client number last rs) fits =
     bytes_appended (digits w64 last) (rows rs) (eight_are_bytes last) (rows_are_bytes rs fits.1)
+body_is_bytes (messages.Done client number) fits = no_bytes
+body_is_bytes (messages.Declined client number why) fits = cause_is_bytes why fits
 body_is_bytes (messages.Full client number index fault) fits =
     bytes_appended (digits w32 index) (tree_fault fault) (four_are_bytes index) (fault_is_bytes fault (full_fits fault fits.1).0)
 body_is_bytes (messages.Malformed code offset) fits = byte_before code (digits w32 offset) (omega (arith, fits.0)) (four_are_bytes offset)

@@ -12,7 +12,7 @@ use Rattle.byte_fields.specs.Codec.{Stands, IsBytes}
 use Rattle.byte_fields.proofs.Facts.{bytes_taken, four_bytes}
 use Rattle.wire_frames.specs.declared.message.Message.{Message}
 use Rattle.wire_frames.specs.declared.message.Kind.{Kind}
-use Rattle.wire_frames.specs.declared.message.Kind.TheVariants.{Store, Pull, Accepted, Stale, Unfit, Gap, Snapshot, Full, Malformed}
+use Rattle.wire_frames.specs.declared.message.Kind.TheVariants.{Store, Operate, Pull, Accepted, Stale, Unfit, Gap, Snapshot, Done, Declined, Full, Malformed}
 use Rattle.wire_frames.specs.declared.message.FrameError.{FrameError}
 use Rattle.wire_frames.specs.declared.message.FrameError.TheVariants.{BadLength, BadVersion, BadClient, Trailing}
 use Rattle.wire_frames.specs.Frame.{kind, client_of, code_of, client_rule, payload, frame, IsValid}
@@ -107,6 +107,7 @@ frame_found bytes m fits e =
 
 pub kind_again : (k : Kind) → kind_of (code_of k) ≡ Some k
 kind_again Store = refl
+kind_again Operate = refl
 kind_again Pull = refl
 kind_again Accepted = refl
 kind_again Stale = refl
@@ -114,6 +115,8 @@ kind_again Unfit = refl
 kind_again Full = refl
 kind_again Gap = refl
 kind_again Snapshot = refl
+kind_again Done = refl
+kind_again Declined = refl
 kind_again Malformed = refl
 
 reads_again : (bytes : List ℕ) (m : Message) → is_sized bytes ≡ true → get_or bytes 4 0 ≡ 1 → get_or bytes 5 0 ≡ code_of (kind m) → get_or bytes 6 0 ≡ client_of m → client_rule (kind m) (client_of m) ≡ true

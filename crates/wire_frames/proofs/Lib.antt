@@ -1,4 +1,7 @@
 pub mod FaultLaws
+pub mod CauseLaws
+pub mod OperationLaws
+pub mod OperationSizes
 pub mod Messages
 pub mod Sizes
 pub mod Frames
@@ -6,4 +9,6 @@ pub mod FrameBytes
 pub mod HeaderLaws
 pub mod CutFrames
 pub mod Breaking
+pub mod BreakingCauses
 pub mod Echoing
+pub mod Standing

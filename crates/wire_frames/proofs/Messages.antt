@@ -11,10 +11,12 @@ use Rattle.tree_laws.proofs.Few.{bases_of}
 use Rattle.wire_frames.specs.declared.message.Message.{Message}
 use Rattle.wire_frames.specs.declared.message.Message.TheVariants as messages
 use Rattle.wire_frames.specs.declared.message.Kind.{Kind}
-use Rattle.wire_frames.specs.declared.message.Kind.TheVariants.{Store, Pull, Accepted, Stale, Unfit, Gap, Snapshot, Full, Malformed}
+use Rattle.wire_frames.specs.declared.message.Kind.TheVariants.{Store, Operate, Pull, Accepted, Stale, Unfit, Gap, Snapshot, Done, Declined, Full, Malformed}
 use Rattle.wire_frames.proofs.FaultLaws.{unfit_codec, full_codec}
+use Rattle.wire_frames.proofs.CauseLaws.{cause_codec}
+use Rattle.wire_frames.proofs.OperationLaws.{operation_codec}
 use Rattle.wire_frames.specs.Frame.{kind, client_of, number_of, body, client_rule, number_rule, offset_rule, BodyFits}
-use Rattle.wire_frames.specs.Reading.{store_at, stale_at, unfit_at, full_at, snapshot_at, gap_at, malformed_at, body_at, message_at}
+use Rattle.wire_frames.specs.Reading.{store_at, operate_at, stale_at, unfit_at, full_at, snapshot_at, gap_at, declined_at, malformed_at, body_at, message_at}
 
 -- ---- bodies
 
@@ -45,10 +47,13 @@ empty_found bytes at next made m k c n le no_body of e =
     subst (λ (x : Message × ℕ). IsFound k c n bytes at x.1 x.0) (ok_is (made, at) (m, next) e) (rw no_body (stands_none bytes at le), of)
 
 body_found : (k : Kind) (c n : ℕ) → client_rule k c ≡ true → number_rule k n ≡ true → (bytes : List ℕ) (at : ℕ) (m : Message) (next : ℕ) → IsBytes bytes → at ≤ length bytes → body_at k c n bytes at ≡ Ok (m, next) → IsFound k c n bytes at next m
-unfolding store_at stale_at unfit_at full_at snapshot_at gap_at malformed_at
+unfolding store_at operate_at stale_at unfit_at full_at snapshot_at gap_at declined_at malformed_at
 body_found Store c n cr nr bytes at m next fits le e =
     let r = found2 effects_codec bases_of (messages.Store c n) bytes at m next fits le e in
     subst (IsFound Store c n bytes at next) r.is (r.stands, record { kind_is = refl; client_is = refl; number_is = refl; body_fits = (r.first_fits, r.second_fits) })
+body_found Operate c n cr nr bytes at m next fits le e =
+    let r = found1 (operation_codec n) (messages.Operate c) bytes at m next fits le e in
+    subst (IsFound Operate c n bytes at next) r.is (r.stands, record { kind_is = refl; client_is = refl; number_is = r.fits.0; body_fits = r.fits.1 })
 body_found Pull c n cr nr bytes at m next fits le e = empty_found bytes at next (messages.Pull c n) m Pull c n le refl (record { kind_is = refl; client_is = refl; number_is = refl; body_fits = tt }) e
 body_found Accepted c n cr nr bytes at m next fits le e = empty_found bytes at next (messages.Accepted c n) m Accepted c n le refl (record { kind_is = refl; client_is = refl; number_is = refl; body_fits = tt }) e
 body_found Stale c n cr nr bytes at m next fits le e =
@@ -66,28 +71,36 @@ body_found Gap c n cr nr bytes at m next fits le e =
 body_found Snapshot c n cr nr bytes at m next fits le e =
     let r = found2 u64_codec (λ _ _. rows_codec) (messages.Snapshot c n) bytes at m next fits le e in
     subst (IsFound Snapshot c n bytes at next) r.is (r.stands, record { kind_is = refl; client_is = refl; number_is = refl; body_fits = (r.first_fits, r.second_fits) })
+body_found Done c n cr nr bytes at m next fits le e = empty_found bytes at next (messages.Done c n) m Done c n le refl (record { kind_is = refl; client_is = refl; number_is = refl; body_fits = tt }) e
+body_found Declined c n cr nr bytes at m next fits le e =
+    let r = found1 cause_codec (messages.Declined c n) bytes at m next fits le e in
+    subst (IsFound Declined c n bytes at next) r.is (r.stands, record { kind_is = refl; client_is = refl; number_is = refl; body_fits = r.fits })
 body_found Malformed c n cr nr bytes at m next fits le e =
     let r = found2 refusal (λ code _. offset_of code) messages.Malformed bytes at m next fits le e in
     subst (IsFound Malformed c n bytes at next) r.is (r.stands, record { kind_is = refl; client_is = sym (eqb-true c 0 cr); number_is = sym (eqb-true n 0 nr); body_fits = (r.first_fits.0, r.first_fits.1, r.second_fits.0, r.second_fits.1) })
 
 body_fault : (k : Kind) (c n : ℕ) (bytes : List ℕ) (at : ℕ) (place : ℕ) → IsBytes bytes → at ≤ length bytes → body_at k c n bytes at ≡ Err place → IsFault bytes at place
-unfolding store_at stale_at unfit_at full_at snapshot_at gap_at malformed_at
+unfolding store_at operate_at stale_at unfit_at full_at snapshot_at gap_at declined_at malformed_at
 body_fault Store c n bytes at place fits le e = fault2 effects_codec bases_of (messages.Store c n) bytes at place fits le e
 body_fault Stale c n bytes at place fits le e = fault3 path_codec (λ _ _. u64_codec) (λ _ theirs _ _. other_than theirs) (messages.Stale c n) bytes at place fits le e
 body_fault Unfit c n bytes at place fits le e = fault2 u32_codec (λ _ _. unfit_codec) (messages.Unfit c n) bytes at place fits le e
 body_fault Full c n bytes at place fits le e = fault2 u32_codec (λ _ _. full_codec) (messages.Full c n) bytes at place fits le e
 body_fault Gap c n bytes at place fits le e = fault1 (before n) (messages.Gap c n) bytes at place fits le e
 body_fault Malformed c n bytes at place fits le e = fault2 refusal (λ code _. offset_of code) messages.Malformed bytes at place fits le e
+body_fault Operate c n bytes at place fits le e = fault1 (operation_codec n) (messages.Operate c) bytes at place fits le e
 body_fault Pull c n bytes at place fits le e = absurd (never_err (messages.Pull c n, at) place e)
 body_fault Accepted c n bytes at place fits le e = absurd (never_err (messages.Accepted c n, at) place e)
+body_fault Done c n bytes at place fits le e = absurd (never_err (messages.Done c n, at) place e)
+body_fault Declined c n bytes at place fits le e = fault1 cause_codec (messages.Declined c n) bytes at place fits le e
 body_fault Snapshot c n bytes at place fits le e = fault2 u64_codec (λ _ _. rows_codec) (messages.Snapshot c n) bytes at place fits le e
 
 empty_again : (m : Message) (bytes : List ℕ) (at next : ℕ) → Stands bytes at [] next → done {A = Message × ℕ} (m, at) ≡ Ok (m, next)
 empty_again m bytes at next stands = let e : at ≡ next = omega (arith, stands.next_is) in rw e refl
 
 body_again : (m : Message) (bytes : List ℕ) (at next : ℕ) → Stands bytes at (body m) next → BodyFits m → body_at (kind m) (client_of m) (number_of m) bytes at ≡ Ok (m, next)
-unfolding store_at stale_at unfit_at full_at snapshot_at gap_at malformed_at
+unfolding store_at operate_at stale_at unfit_at full_at snapshot_at gap_at declined_at malformed_at
 body_again (messages.Store c n es bs) bytes at next stands fits = again2 effects_codec bases_of (messages.Store c n) bytes at es bs next stands fits.0 fits.1
+body_again (messages.Operate c entry) bytes at next stands fits = again1 (operation_codec entry.seq) (messages.Operate c) bytes at entry next stands (refl, fits)
 body_again (messages.Pull c n) bytes at next stands fits = empty_again (messages.Pull c n) bytes at next stands
 body_again (messages.Accepted c n) bytes at next stands fits = empty_again (messages.Accepted c n) bytes at next stands
 body_again (messages.Stale c n p theirs ours) bytes at next stands fits = again3 path_codec (λ _ _. u64_codec) (λ _ t _ _. other_than t) (messages.Stale c n) bytes at p theirs ours next stands fits.0 fits.1 (fits.2, fits.3)
@@ -95,6 +108,8 @@ body_again (messages.Unfit c n i f) bytes at next stands fits = again2 u32_codec
 body_again (messages.Full c n i f) bytes at next stands fits = again2 u32_codec (λ _ _. full_codec) (messages.Full c n) bytes at i f next stands fits.0 fits.1
 body_again (messages.Gap c n last) bytes at next stands fits = again1 (before n) (messages.Gap c n) bytes at last next stands (fits.0, fits.1)
 body_again (messages.Snapshot c n last rs) bytes at next stands fits = again2 u64_codec (λ _ _. rows_codec) (messages.Snapshot c n) bytes at last rs next stands fits.0 fits.1
+body_again (messages.Done c n) bytes at next stands fits = empty_again (messages.Done c n) bytes at next stands
+body_again (messages.Declined c n why) bytes at next stands fits = again1 cause_codec (messages.Declined c n) bytes at why next stands fits
 body_again (messages.Malformed code offset) bytes at next stands fits = again2 refusal (λ code _. offset_of code) messages.Malformed bytes at code offset next stands (fits.0, fits.1) (fits.2, fits.3)
 
 -- ---- the number and the body

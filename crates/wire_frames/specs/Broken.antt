@@ -2,6 +2,7 @@
 use Rattle.std.specs.Prelude.{◌≡◌, ◌≢◌, ◌⊎◌, ℕ, ◌+◌, ◌^◌, ◌<◌, ◌≤◌, true, false, List, [], ◌∷◌, ◌++◌, length, Err}
 use Rattle.std.specs.Int.{w32, w64}
 use Rattle.byte_fields.specs.Field.{digits}
+use Rattle.std.specs.List.{AllByRecursion}
 use Rattle.byte_fields.specs.Broken.{IsRefused}
 use Rattle.tree_values.specs.declared.node.Effect.{Effect}
 use Rattle.file_paths.specs.Path.{FilePath, IsPath}
@@ -11,10 +12,19 @@ use Rattle.tree_values.specs.Spelling.{effects, EffectsFit}
 use Rattle.file_paths.specs.Reading.{path_at}
 use Rattle.tree_values.specs.Reading.{effects_at, bases_at, rows_at}
 use Rattle.wire_frames.specs.Fault.{unfit_fault_at, full_fault_at}
+use Rattle.tree_values.specs.Fault.{fault_at}
+use Rattle.wire_frames.specs.Cause.{IsPrint, refusal_rule, cause_at}
+use Rattle.mod_log.specs.declared.origin.Origin.{Origin}
+use Rattle.mod_log.specs.declared.sketched.SketchEffect.{SketchEffect}
+use Rattle.mod_log.specs.Origin.{origin, OriginFits}
+use Rattle.mod_log.specs.Sketched.{sketches_touch}
+use Rattle.mod_log.specs.Spelling.{sketch_effects, SketchEffectsFit}
+use Rattle.mod_log.specs.Reading.{origin_at}
+use Rattle.wire_frames.specs.Operation.{sketch_effects_at}
 use Rattle.wire_frames.specs.Limits.{max_frame}
 use Rattle.wire_frames.specs.declared.message.Message.{Message}
 use Rattle.wire_frames.specs.declared.message.Kind.{Kind}
-use Rattle.wire_frames.specs.declared.message.Kind.TheVariants.{Store, Stale, Unfit, Gap, Snapshot, Full, Malformed}
+use Rattle.wire_frames.specs.declared.message.Kind.TheVariants.{Store, Operate, Stale, Unfit, Gap, Snapshot, Declined, Full, Malformed}
 use Rattle.wire_frames.specs.declared.message.FrameError.TheVariants.{BadField, Trailing}
 use Rattle.wire_frames.specs.Frame.{frame_version, kind, client_of, number_of, code_of, client_rule, number_rule, body, frame, IsValid}
 use Rattle.wire_frames.specs.Reading.{frame_of}
@@ -40,6 +50,13 @@ pub record BrokenBodies : Type 0 where
   pub effects_are_refused : (number : ℕ) (text : List ℕ) (offset : ℕ) → IsRefused effects_at text offset → IsRefusedAt Store number text (15 + offset)
   -- a base of the touched paths that is refused: behind the effects
   pub base_is_refused : (number : ℕ) (es : List Effect) (text : List ℕ) (offset : ℕ) → EffectsFit es → IsRefused (bases_at (distinct (touched_all es))) text offset → IsRefusedAt Store number (effects es ++ text) (15 + length (effects es) + offset)
+  -- an origin that is refused: in it
+  pub origin_is_refused : (number : ℕ) (text : List ℕ) (offset : ℕ) → IsRefused origin_at text offset → IsRefusedAt Operate number text (15 + offset)
+  -- sketched effects that are refused: behind the origin
+  pub sketches_are_refused : (number : ℕ) (o : Origin) (text : List ℕ) (offset : ℕ) → OriginFits o → IsRefused sketch_effects_at text offset → IsRefusedAt Operate number (origin o ++ text) (15 + length (origin o) + offset)
+  -- a base of the touched paths that is refused: behind the sketched effects
+  pub sketch_base_is_refused : (number : ℕ) (o : Origin) (es : List SketchEffect) (text : List ℕ) (offset : ℕ) → OriginFits o → SketchEffectsFit es → IsRefused (bases_at (distinct (sketches_touch es))) text offset
+      → IsRefusedAt Operate number (origin o ++ (sketch_effects es ++ text)) (15 + length (origin o) + length (sketch_effects es) + offset)
   -- a path that is refused: in it
   pub path_is_refused : (number : ℕ) (text : List ℕ) (offset : ℕ) → IsRefused path_at text offset → IsRefusedAt Stale number text (15 + offset)
   -- versions that do not differ: at the second
@@ -51,10 +68,31 @@ pub record BrokenBodies : Type 0 where
   pub last_is_near : (number last : ℕ) → last < 2 ^ 64 → number ≤ last + 1 → IsRefusedAt Gap number (digits w64 last) 15
   -- rows that are refused: behind the last number
   pub rows_are_refused : (number last : ℕ) (text : List ℕ) (offset : ℕ) → last < 2 ^ 64 → IsRefused rows_at text offset → IsRefusedAt Snapshot number (digits w64 last ++ text) (23 + offset)
+  -- a cause that is refused: in it
+  pub cause_is_refused : (number : ℕ) (text : List ℕ) (offset : ℕ) → IsRefused cause_at text offset → IsRefusedAt Declined number text (15 + offset)
   -- a code that is none of 1 to 7: at the code
   pub code_is_none : (number code : ℕ) → code < 2 ^ 8 → (code ≡ 0) ⊎ (7 < code) → IsRefusedAt Malformed number (code ∷ []) 15
   -- an offset beside a code that has none: at the offset
   pub offset_is_told : (number code offset : ℕ) → 1 ≤ code → code ≤ 7 → code ≢ 5 → code ≢ 6 → 1 ≤ offset → offset < 2 ^ 32 → IsRefusedAt Malformed number (code ∷ digits w32 offset) 16
+
+-- Causes that break a rule. The number of the cause is their first byte.
+pub record BrokenCauses : Type 0 where
+  -- a number that is none of 1 to 11: at the number
+  pub number_is_none : (number : ℕ) → number < 2 ^ 8 → (number ≡ 0) ⊎ (11 < number) → IsRefused cause_at (number ∷ []) 0
+  -- prints that do not differ: at the second
+  pub prints_are_equal : (print : List ℕ) → IsPrint print → IsRefused cause_at (1 ∷ (print ++ print)) 33
+  -- a code that is neither 1 nor 2: at the code
+  pub job_code_is_none : (code : ℕ) → code < 2 ^ 8 → code ≢ 1 → code ≢ 2 → IsRefused cause_at (2 ∷ code ∷ []) 1
+  -- an index beside code 1, which has none: at the index
+  pub job_index_is_told : (index : ℕ) → 1 ≤ index → index < 2 ^ 32 → IsRefused cause_at (2 ∷ (1 ∷ digits w32 index)) 2
+  -- statuses that do not differ: at the second
+  pub statuses_are_equal : (status : ℕ) → status < 2 ^ 8 → IsRefused cause_at (5 ∷ status ∷ status ∷ []) 2
+  -- a path that is refused: in it
+  pub path_is_refused : (text : List ℕ) (offset : ℕ) → IsRefused path_at text offset → AllByRecursion (λ number. IsRefused cause_at (number ∷ text) (1 + offset)) (7 ∷ 8 ∷ [])
+  -- a refusal of the copy that is refused: behind the index
+  pub fault_is_refused : (index : ℕ) (text : List ℕ) (offset : ℕ) → index < 2 ^ 32 → IsRefused fault_at text offset → IsRefused cause_at (9 ∷ (digits w32 index ++ text)) (5 + offset)
+  -- a kind of reply that refuses no store: at the kind
+  pub reply_is_none : (kind : ℕ) → kind < 2 ^ 8 → refusal_rule kind ≡ false → IsRefused cause_at (10 ∷ kind ∷ []) 1
 
 -- bytes behind the last field of a valid message: at the first of them
 abbrev pub LeftBytes : Type 0

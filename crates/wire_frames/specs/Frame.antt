@@ -9,67 +9,84 @@ use Rattle.file_paths.specs.Spelling.{path}
 use Rattle.tree_values.specs.Spelling.{effects, bases, rows, EffectsFit, AreBasesOf}
 use Rattle.tree_values.specs.Fault.{tree_fault}
 use Rattle.wire_frames.specs.Fault.{UnfitFits, FullFits}
+use Rattle.wire_frames.specs.Cause.{cause, CauseFits}
+use Rattle.wire_frames.specs.Operation.{operation, OperationFits}
 use Rattle.wire_frames.specs.Limits.{max_client}
 use Rattle.wire_frames.specs.declared.message.Message.{Message}
 use Rattle.wire_frames.specs.declared.message.Message.TheVariants as messages
 use Rattle.wire_frames.specs.declared.message.Kind.{Kind}
-use Rattle.wire_frames.specs.declared.message.Kind.TheVariants.{Store, Pull, Accepted, Stale, Unfit, Gap, Snapshot, Full, Malformed}
+use Rattle.wire_frames.specs.declared.message.Kind.TheVariants.{Store, Operate, Pull, Accepted, Stale, Unfit, Gap, Snapshot, Done, Declined, Full, Malformed}
 
 abbrev pub kind : Message → Kind
 kind (messages.Store client number es bs) = Store
+kind (messages.Operate client entry) = Operate
 kind (messages.Pull client number) = Pull
 kind (messages.Accepted client number) = Accepted
 kind (messages.Stale client number p theirs ours) = Stale
 kind (messages.Unfit client number index fault) = Unfit
 kind (messages.Gap client number last) = Gap
 kind (messages.Snapshot client number last rs) = Snapshot
+kind (messages.Done client number) = Done
+kind (messages.Declined client number why) = Declined
 kind (messages.Full client number index fault) = Full
 kind (messages.Malformed code offset) = Malformed
 
 -- the client that a message is of or for; no client has number 0
 abbrev pub client_of : Message → ℕ
 client_of (messages.Store client number es bs) = client
+client_of (messages.Operate client entry) = client
 client_of (messages.Pull client number) = client
 client_of (messages.Accepted client number) = client
 client_of (messages.Stale client number p theirs ours) = client
 client_of (messages.Unfit client number index fault) = client
 client_of (messages.Gap client number last) = client
 client_of (messages.Snapshot client number last rs) = client
+client_of (messages.Done client number) = client
+client_of (messages.Declined client number why) = client
 client_of (messages.Full client number index fault) = client
 client_of (messages.Malformed code offset) = 0
 
 abbrev pub number_of : Message → ℕ
 number_of (messages.Store client number es bs) = number
+number_of (messages.Operate client entry) = entry.seq
 number_of (messages.Pull client number) = number
 number_of (messages.Accepted client number) = number
 number_of (messages.Stale client number p theirs ours) = number
 number_of (messages.Unfit client number index fault) = number
 number_of (messages.Gap client number last) = number
 number_of (messages.Snapshot client number last rs) = number
+number_of (messages.Done client number) = number
+number_of (messages.Declined client number why) = number
 number_of (messages.Full client number index fault) = number
 number_of (messages.Malformed code offset) = 0
 
 -- the byte that tells the kind
 abbrev pub code_of : Kind → ℕ
 code_of Store = 1
+code_of Operate = 2
 code_of Pull = 3
 code_of Accepted = 17
 code_of Stale = 18
 code_of Unfit = 19
 code_of Gap = 20
 code_of Snapshot = 21
+code_of Done = 22
+code_of Declined = 23
 code_of Full = 24
 code_of Malformed = 31
 
 -- what stands behind the number
 abbrev pub body : Message → List ℕ
 body (messages.Store client number es bs) = effects es ++ bases bs
+body (messages.Operate client entry) = operation entry
 body (messages.Pull client number) = []
 body (messages.Accepted client number) = []
 body (messages.Stale client number p theirs ours) = path p ++ (digits w64 theirs ++ digits w64 ours)
 body (messages.Unfit client number index fault) = digits w32 index ++ tree_fault fault
 body (messages.Gap client number last) = digits w64 last
 body (messages.Snapshot client number last rs) = digits w64 last ++ rows rs
+body (messages.Done client number) = []
+body (messages.Declined client number why) = cause why
 body (messages.Full client number index fault) = digits w32 index ++ tree_fault fault
 body (messages.Malformed code offset) = code ∷ digits w32 offset
 
@@ -105,14 +122,17 @@ offset_rule code offset = offset == 0 || code == 5 || code == 6
 
 abbrev pub BodyFits : Message → Type 0
 BodyFits (messages.Store client number es bs) = EffectsFit es × AreBasesOf (distinct (touched_all es)) bs
+BodyFits (messages.Operate client entry) = OperationFits entry
 BodyFits (messages.Stale client number p theirs ours) = IsPath p × (theirs < 2 ^ 64) × (ours < 2 ^ 64) × (not (ours == theirs) ≡ true)
 BodyFits (messages.Unfit client number index fault) = (index < 2 ^ 32) × UnfitFits fault
 BodyFits (messages.Full client number index fault) = (index < 2 ^ 32) × FullFits fault
 BodyFits (messages.Gap client number last) = (last < 2 ^ 64) × (nat_le (last + 2) number ≡ true)
 BodyFits (messages.Snapshot client number last rs) = (last < 2 ^ 64) × IsTree rs
 BodyFits (messages.Malformed code offset) = (code < 2 ^ 8) × ((nat_le 1 code && nat_le code 7) ≡ true) × (offset < 2 ^ 32) × (offset_rule code offset ≡ true)
+BodyFits (messages.Declined client number why) = CauseFits why
 BodyFits (messages.Pull client number) = Unit {0}
 BodyFits (messages.Accepted client number) = Unit {0}
+BodyFits (messages.Done client number) = Unit {0}
 
 -- the message keeps all rules, so that it has a frame
 pub record IsValid (m : Message) : Type 0 where
@@ -130,36 +150,60 @@ Spells m bytes = IsValid m × (bytes ≡ frame m)
 -- what a Store may be answered by
 abbrev pub AnswersStore : Message → Type 0
 AnswersStore (messages.Store client number es bs) = ⊥
+AnswersStore (messages.Operate client entry) = ⊥
 AnswersStore (messages.Pull client number) = ⊥
 AnswersStore (messages.Accepted client number) = Unit {0}
 AnswersStore (messages.Stale client number p theirs ours) = Unit {0}
 AnswersStore (messages.Unfit client number index fault) = Unit {0}
 AnswersStore (messages.Gap client number last) = Unit {0}
 AnswersStore (messages.Snapshot client number last rs) = ⊥
+AnswersStore (messages.Done client number) = ⊥
+AnswersStore (messages.Declined client number why) = ⊥
 AnswersStore (messages.Full client number index fault) = Unit {0}
 AnswersStore (messages.Malformed code offset) = ⊥
+
+-- what an Operate may be answered by
+abbrev pub AnswersOperation : Message → Type 0
+AnswersOperation (messages.Store client number es bs) = ⊥
+AnswersOperation (messages.Operate client entry) = ⊥
+AnswersOperation (messages.Pull client number) = ⊥
+AnswersOperation (messages.Accepted client number) = ⊥
+AnswersOperation (messages.Stale client number p theirs ours) = ⊥
+AnswersOperation (messages.Unfit client number index fault) = ⊥
+AnswersOperation (messages.Gap client number last) = ⊥
+AnswersOperation (messages.Snapshot client number last rs) = ⊥
+AnswersOperation (messages.Done client number) = Unit {0}
+AnswersOperation (messages.Declined client number why) = Unit {0}
+AnswersOperation (messages.Full client number index fault) = ⊥
+AnswersOperation (messages.Malformed code offset) = ⊥
 
 -- what a Pull may be answered by
 abbrev pub AnswersPull : Message → Type 0
 AnswersPull (messages.Store client number es bs) = ⊥
+AnswersPull (messages.Operate client entry) = ⊥
 AnswersPull (messages.Pull client number) = ⊥
 AnswersPull (messages.Accepted client number) = ⊥
 AnswersPull (messages.Stale client number p theirs ours) = ⊥
 AnswersPull (messages.Unfit client number index fault) = ⊥
 AnswersPull (messages.Gap client number last) = ⊥
 AnswersPull (messages.Snapshot client number last rs) = Unit {0}
+AnswersPull (messages.Done client number) = ⊥
+AnswersPull (messages.Declined client number why) = ⊥
 AnswersPull (messages.Full client number index fault) = ⊥
 AnswersPull (messages.Malformed code offset) = ⊥
 
 -- what each message may be answered by: a reply by nothing
 abbrev pub MayAnswer : Message → Message → Type 0
 MayAnswer (messages.Store client number es bs) reply = AnswersStore reply
+MayAnswer (messages.Operate client entry) reply = AnswersOperation reply
 MayAnswer (messages.Pull client number) reply = AnswersPull reply
 MayAnswer (messages.Accepted client number) reply = ⊥
 MayAnswer (messages.Stale client number p theirs ours) reply = ⊥
 MayAnswer (messages.Unfit client number index fault) reply = ⊥
 MayAnswer (messages.Gap client number last) reply = ⊥
 MayAnswer (messages.Snapshot client number last rs) reply = ⊥
+MayAnswer (messages.Done client number) reply = ⊥
+MayAnswer (messages.Declined client number why) reply = ⊥
 MayAnswer (messages.Full client number index fault) reply = ⊥
 MayAnswer (messages.Malformed code offset) reply = ⊥
 

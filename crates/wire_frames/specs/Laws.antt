@@ -1,12 +1,19 @@
--- Which frames are refused, and why: the refusals of a header, and what is left over. Which replies answer a request.
+-- Which frames are refused, and why: the refusals of a header, and what is left over. Which operations stand for which
+-- stores. Which replies answer a request.
 use Rattle.std.specs.Prelude.{◌≡◌, ◌≢◌, ◌↔◌, ℕ, ◌+◌, ◌-◌, ◌≤◌, ◌<◌, ◌++◌, false, true, List, length, take, drop, slice_index, Err}
 use Rattle.std.specs.Int.{w32}
 use Rattle.byte_fields.specs.Field.{digits}
 use Rattle.byte_fields.specs.Codec.{IsBytes}
 use Rattle.byte_fields.specs.Cuts.{start_of}
+use Rattle.tree_values.specs.declared.node.Effect.{Effect}
+use Rattle.mod_log.specs.declared.log.Entry.{Entry}
+use Rattle.mod_log.specs.declared.sketching.SketchEntry.{SketchEntry}
+use Rattle.mod_log.specs.Origin.{MadeByFits}
+use Rattle.mod_log.specs.Sketched.{AllFill, IsSketchOf}
 use Rattle.wire_frames.specs.declared.message.Message.{Message}
+use Rattle.wire_frames.specs.declared.message.Message.TheVariants as messages
 use Rattle.wire_frames.specs.declared.message.Kind.{Kind}
-use Rattle.wire_frames.specs.declared.message.Kind.TheVariants.{Store, Pull, Accepted, Stale, Unfit, Gap, Snapshot, Full}
+use Rattle.wire_frames.specs.declared.message.Kind.TheVariants.{Store, Operate, Pull, Accepted, Stale, Unfit, Gap, Snapshot, Done, Declined, Full}
 use Rattle.wire_frames.specs.declared.message.FrameError.TheVariants.{BadLength, BadVersion, BadKind, BadClient, BadField, Trailing}
 use Rattle.wire_frames.specs.Frame.{frame_version, kind, client_of, number_of, code_of, client_rule, frame, IsValid, Echoes}
 use Rattle.wire_frames.specs.Fields.{message_fields}
@@ -48,6 +55,20 @@ abbrev pub CutFramesNameTheField : Type 0
 CutFramesNameTheField = (message : Message) (end : ℕ) → IsValid message → 15 ≤ end → end < length (frame message)
     → frame_of (take end (digits w32 (end - 4) ++ drop 4 (frame message))) ≡ Err (BadField (7 + start_of (end - 7) (message_fields message)))
 
+-- ---- operations beside stores
+
+-- what fills the sketches of a valid operation is, with the operation's number and bases, a valid store
+abbrev pub FilledStoresAreValid : Type 0
+FilledStoresAreValid = (client : ℕ) (sketched : SketchEntry) (effects : List Effect) → IsValid (messages.Operate client sketched) → AllFill sketched.effects effects
+    → IsValid (messages.Store client sketched.seq effects sketched.base)
+
+-- an entry that has a valid store has a valid operation, if a command made it
+abbrev pub SketchedStoresAreValid : Type 0
+SketchedStoresAreValid = (client : ℕ) (entry : Entry) (sketched : SketchEntry) → IsValid (messages.Store client entry.seq entry.effects entry.base) → MadeByFits entry.origin → IsSketchOf entry sketched
+    → IsValid (messages.Operate client sketched)
+
+-- ---- replies
+
 -- the kinds of the replies to a request of each kind
 abbrev pub IsReplyKind : Kind → Kind → Type 0
 IsReplyKind Store Accepted = Unit {0}
@@ -55,6 +76,8 @@ IsReplyKind Store Stale = Unit {0}
 IsReplyKind Store Unfit = Unit {0}
 IsReplyKind Store Gap = Unit {0}
 IsReplyKind Store Full = Unit {0}
+IsReplyKind Operate Done = Unit {0}
+IsReplyKind Operate Declined = Unit {0}
 IsReplyKind Pull Snapshot = Unit {0}
 IsReplyKind _ _ = ⊥
 

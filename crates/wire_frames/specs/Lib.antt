@@ -1,5 +1,8 @@
 pub mod Limits
 pub mod Fault
+pub mod Cause
+pub mod Operation
+pub mod Inside
 pub mod Frame
 pub mod Malformed
 pub mod Reading

@@ -2,16 +2,18 @@
 use Rattle.std.specs.Prelude.{ℕ, ◌+◌, nat_le, ◌==◌, ◌&&◌, not, Bool, List, [], ◌∷◌, length, take, slice_index, Option, Some, None, Result, Ok, Err, if◌then◌else◌}
 use Rattle.std.specs.Int.{w8, w32, w64, from_be_bytes}
 use Rattle.std.specs.List.{find}
-use Rattle.byte_fields.specs.Field.{Reader, Answers, none, two, ◌>>=◌, ruled, number_at}
+use Rattle.byte_fields.specs.Field.{Reader, Answers, none, one, two, ◌>>=◌, ruled, number_at}
 use Rattle.tree_values.specs.Effects.{touched_all, distinct}
 use Rattle.file_paths.specs.Reading.{path_at}
 use Rattle.tree_values.specs.Reading.{effects_at, bases_at, rows_at}
 use Rattle.wire_frames.specs.Fault.{unfit_fault_at, full_fault_at}
+use Rattle.wire_frames.specs.Cause.{cause_at}
+use Rattle.wire_frames.specs.Operation.{operation_at}
 use Rattle.wire_frames.specs.Limits.{max_frame}
 use Rattle.wire_frames.specs.declared.message.Message.{Message}
 use Rattle.wire_frames.specs.declared.message.Message.TheVariants as messages
 use Rattle.wire_frames.specs.declared.message.Kind.{Kind}
-use Rattle.wire_frames.specs.declared.message.Kind.TheVariants.{Store, Pull, Accepted, Stale, Unfit, Gap, Snapshot, Full, Malformed}
+use Rattle.wire_frames.specs.declared.message.Kind.TheVariants.{Store, Operate, Pull, Accepted, Stale, Unfit, Gap, Snapshot, Done, Declined, Full, Malformed}
 use Rattle.wire_frames.specs.declared.message.FrameError.{FrameError}
 use Rattle.wire_frames.specs.declared.message.FrameError.TheVariants.{BadLength, BadVersion, BadKind, BadClient, BadField, Trailing, Memory}
 use Rattle.wire_frames.specs.Frame.{frame_version, code_of, client_rule, number_rule, offset_rule}
@@ -22,6 +24,10 @@ store_at client number bytes at = do
   effects ← effects_at bytes at
   base ← bases_at (distinct (touched_all effects.0)) bytes effects.1
   Ok (messages.Store client number effects.0 base.0, base.1)
+
+-- the operation, whose number is the message's
+unfoldable pub operate_at : ℕ → ℕ → Reader Message
+operate_at client number = one (operation_at number) (messages.Operate client)
 
 -- the path, the server's version and the client's, which is another
 unfoldable pub stale_at : ℕ → ℕ → Reader Message
@@ -43,6 +49,10 @@ snapshot_at client number = two (number_at w64) (λ _. rows_at) (messages.Snapsh
 unfoldable pub full_at : ℕ → ℕ → Reader Message
 full_at client number = two (number_at w32) (λ _. full_fault_at) (messages.Full client number)
 
+-- why the operation is not carried out
+unfoldable pub declined_at : ℕ → ℕ → Reader Message
+declined_at client number = one cause_at (messages.Declined client number)
+
 -- the last accepted number, the one after which is below the message's
 unfoldable pub gap_at : ℕ → ℕ → Reader Message
 gap_at client number bytes at = do
@@ -59,6 +69,7 @@ malformed_at bytes at = do
 -- what stands behind the number, kind by kind
 abbrev pub body_at : Kind → ℕ → ℕ → Reader Message
 body_at Store client number = store_at client number
+body_at Operate client number = operate_at client number
 body_at Pull client number = none (messages.Pull client number)
 body_at Accepted client number = none (messages.Accepted client number)
 body_at Stale client number = stale_at client number
@@ -66,6 +77,8 @@ body_at Unfit client number = unfit_at client number
 body_at Full client number = full_at client number
 body_at Gap client number = gap_at client number
 body_at Snapshot client number = snapshot_at client number
+body_at Done client number = none (messages.Done client number)
+body_at Declined client number = declined_at client number
 body_at Malformed client number = malformed_at
 
 -- the number and the body
@@ -76,7 +89,7 @@ message_at kind client bytes at = do
 
 -- all kinds
 abbrev pub kinds : List Kind
-kinds = Store ∷ Pull ∷ Accepted ∷ Stale ∷ Unfit ∷ Gap ∷ Snapshot ∷ Full ∷ Malformed ∷ []
+kinds = Store ∷ Operate ∷ Pull ∷ Accepted ∷ Stale ∷ Unfit ∷ Gap ∷ Snapshot ∷ Done ∷ Declined ∷ Full ∷ Malformed ∷ []
 
 -- the kind with this code
 abbrev pub kind_of : ℕ → Option Kind

@@ -15,6 +15,10 @@ impl TryCopy for Message {
                 effects: effects.copy()?,
                 base: base.copy()?,
             },
+            Message::Operate { entry, .. } => Message::Operate {
+                client,
+                entry: entry.copy()?,
+            },
             Message::Pull { .. } => Message::Pull { client, number },
             Message::Accepted { .. } => Message::Accepted { client, number },
             Message::Stale {
@@ -45,6 +49,12 @@ impl TryCopy for Message {
                 number,
                 last: *last,
                 rows: rows.copy()?,
+            },
+            Message::Done { .. } => Message::Done { client, number },
+            Message::Declined { cause, .. } => Message::Declined {
+                client,
+                number,
+                cause: cause.copy()?,
             },
             Message::Full { index, fault, .. } => Message::Full {
                 client,

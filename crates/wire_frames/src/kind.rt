@@ -16,12 +16,15 @@ impl Kind {
     {
         match code {
             1 => Some(Kind::Store),
+            2 => Some(Kind::Operate),
             3 => Some(Kind::Pull),
             17 => Some(Kind::Accepted),
             18 => Some(Kind::Stale),
             19 => Some(Kind::Unfit),
             20 => Some(Kind::Gap),
             21 => Some(Kind::Snapshot),
+            22 => Some(Kind::Done),
+            23 => Some(Kind::Declined),
             24 => Some(Kind::Full),
             31 => Some(Kind::Malformed),
             _ => None,
@@ -34,12 +37,15 @@ impl Kind {
     {
         match self {
             Kind::Store => 1,
+            Kind::Operate => 2,
             Kind::Pull => 3,
             Kind::Accepted => 17,
             Kind::Stale => 18,
             Kind::Unfit => 19,
             Kind::Gap => 20,
             Kind::Snapshot => 21,
+            Kind::Done => 22,
+            Kind::Declined => 23,
             Kind::Full => 24,
             Kind::Malformed => 31,
         }
@@ -74,12 +80,15 @@ impl Message {
     {
         match self {
             Message::Store { .. } => Kind::Store,
+            Message::Operate { .. } => Kind::Operate,
             Message::Pull { .. } => Kind::Pull,
             Message::Accepted { .. } => Kind::Accepted,
             Message::Stale { .. } => Kind::Stale,
             Message::Unfit { .. } => Kind::Unfit,
             Message::Gap { .. } => Kind::Gap,
             Message::Snapshot { .. } => Kind::Snapshot,
+            Message::Done { .. } => Kind::Done,
+            Message::Declined { .. } => Kind::Declined,
             Message::Full { .. } => Kind::Full,
             Message::Malformed { .. } => Kind::Malformed,
         }
@@ -91,18 +100,22 @@ impl Message {
     {
         match self {
             Message::Store { client, .. }
+            | Message::Operate { client, .. }
             | Message::Pull { client, .. }
             | Message::Accepted { client, .. }
             | Message::Stale { client, .. }
             | Message::Unfit { client, .. }
             | Message::Gap { client, .. }
-            | Message::Full { client, .. }
-            | Message::Snapshot { client, .. } => *client,
+            | Message::Snapshot { client, .. }
+            | Message::Done { client, .. }
+            | Message::Declined { client, .. }
+            | Message::Full { client, .. } => *client,
             Message::Malformed { .. } => 0,
         }
     }
 
-    /// The number of the request or of the request that is answered; 0 for a `Malformed`.
+    /// The number of the request or of the request that is answered, that of an `Operate` is its entry's; 0 for a
+    /// `Malformed`.
     pub fn number(&self) -> u64
         ensures { result ≡ number_of self.now }
     {
@@ -113,8 +126,11 @@ impl Message {
             | Message::Stale { number, .. }
             | Message::Unfit { number, .. }
             | Message::Gap { number, .. }
-            | Message::Full { number, .. }
-            | Message::Snapshot { number, .. } => *number,
+            | Message::Snapshot { number, .. }
+            | Message::Done { number, .. }
+            | Message::Declined { number, .. }
+            | Message::Full { number, .. } => *number,
+            Message::Operate { entry, .. } => entry.seq,
             Message::Malformed { .. } => 0,
         }
     }

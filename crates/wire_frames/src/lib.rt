@@ -1,20 +1,27 @@
-//! Messages of client and server, as frames of bytes.
+//! Messages of client, server and surrogate, as frames of bytes.
 #![tactic(auto)]
 
+mod cause;
+mod cause_spelling;
 mod copies;
 mod faults;
 mod kind;
 mod laws;
+mod lengths;
 mod message;
+mod operation;
 mod reading;
 mod refused;
 mod replies;
 mod writing;
 
+pub use cause::Cause;
 pub use laws::{
-    broken_rules_name_their_field, faults_are_spelled_once, frames_are_apart, kinds_decide_replies,
+    broken_rules_name_their_field, causes_are_spelled_once, faults_are_spelled_once,
+    frames_are_apart, kinds_decide_replies, operations_stand_for_stores,
     refusals_name_the_first_fault,
 };
+pub use lengths::{operation_size, store_size};
 pub use message::{CLIENTS, FrameError, Kind, MAX_FRAME, Message};
 pub use reading::read;
 pub use refused::malformed;

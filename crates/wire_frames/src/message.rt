@@ -1,5 +1,7 @@
 //! What client and server say to each other, and why a frame is refused.
 
+use crate::cause::Cause;
+use mod_log::SketchEntry;
 use thiserror::Error;
 use vol_tree::{Bases, Effects, Path, Rows, TreeError};
 
@@ -9,8 +11,8 @@ pub const MAX_FRAME: usize = 67_108_864;
 /// The greatest number of a client; clients are numbered from 1.
 pub const CLIENTS: u8 = 64;
 
-/// A message. `Store` and `Pull` are requests of a client to the server, all others are replies. Each but `Malformed`
-/// is of one client, 1 to `CLIENTS`, and repeats the number of the request that it answers.
+/// A message. `Store` and `Pull` are requests to the server, `Operate` is one to a surrogate, and all others are replies.
+/// Each but `Malformed` is of one client, 1 to `CLIENTS`; a reply repeats the number of the request that it answers.
 #[derive(Debug, Drop)]
 pub enum Message {
     /// The client's entry of this number: its effects, and the versions that they rest on.
@@ -19,6 +21,11 @@ pub enum Message {
         number: u64,
         effects: Effects,
         base: Bases,
+    },
+    /// The client's entry with sketches in its contents' places, to be made again by its command.
+    Operate {
+        client: u8,
+        entry: SketchEntry,
     },
     /// Asks for all rows. `number` is the last number that the client knows to be accepted.
     Pull {
@@ -60,6 +67,17 @@ pub enum Message {
         last: u64,
         rows: Rows,
     },
+    /// The command of the operation was run again, agreed, and its entry was accepted.
+    Done {
+        client: u8,
+        number: u64,
+    },
+    /// The operation was not carried out, and why.
+    Declined {
+        client: u8,
+        number: u64,
+        cause: Cause,
+    },
     /// Effect `index`, counted from 0, is refused since the volume has no room for it.
     Full {
         client: u8,
@@ -78,12 +96,15 @@ pub enum Message {
 #[derive(Clone, Copy, Debug, PartialEq, Eq)]
 pub enum Kind {
     Store,
+    Operate,
     Pull,
     Accepted,
     Stale,
     Unfit,
     Gap,
     Snapshot,
+    Done,
+    Declined,
     Full,
     Malformed,
 }

@@ -4,11 +4,13 @@ ghost use Rattle.std.specs.Prelude.{◌≡◌, Ok, IfOk};
 ghost use Rattle.byte_fields.specs.Field.{Gives};
 ghost use Rattle.wire_frames.specs.declared.message.Message.{Message};
 ghost use Rattle.wire_frames.specs.Frame.{frame, IsValid, client_rule};
-ghost use Rattle.wire_frames.specs.Reading.{store_at, stale_at, unfit_at, gap_at, full_at, snapshot_at, malformed_at, body_at, message_at, is_sized, frame_of, GivesFrame};
+ghost use Rattle.wire_frames.specs.Reading.{store_at, operate_at, stale_at, unfit_at, gap_at, full_at, snapshot_at, declined_at, malformed_at, body_at, message_at, is_sized, frame_of, GivesFrame};
 
+use crate::cause::Cause;
 use crate::faults::{FULL_NUMBERS, UNFIT_NUMBERS};
 use crate::kind::FRAME_VERSION;
 use crate::message::{FrameError, Kind, MAX_FRAME, Message};
+use crate::operation::operation_at;
 use byte_fields::{TakeError, u8_at, u32_at, u64_at};
 use std::alloc::Global;
 use vol_tree::{Bases, Effects, Path, Rows, TreeError};
@@ -31,6 +33,14 @@ fn store_at(alloc: Global, bytes: &[u8], at: usize, client: u8, number: u64) -> 
         },
         next,
     ))
+}
+
+#[tactic(auto, unfolding(crate::specs::Reading::operate_at))]
+fn operate_at(alloc: Global, bytes: &[u8], at: usize, client: u8, number: u64) -> Taken
+    ensures { Gives result (operate_at client number bytes.now at) }
+{
+    let (entry, next) = operation_at(alloc, bytes, at, number)?;
+    Ok((Message::Operate { client, entry }, next))
 }
 
 #[tactic(auto, unfolding(crate::specs::Reading::stale_at, byte_fields::specs::Field::ruled))]
@@ -106,6 +116,21 @@ fn full_at(alloc: Global, bytes: &[u8], at: usize, client: u8, number: u64) -> T
     ))
 }
 
+#[tactic(auto, unfolding(crate::specs::Reading::declined_at))]
+fn declined_at(alloc: Global, bytes: &[u8], at: usize, client: u8, number: u64) -> Taken
+    ensures { Gives result (declined_at client number bytes.now at) }
+{
+    let (cause, next) = Cause::take(alloc, bytes, at)?;
+    Ok((
+        Message::Declined {
+            client,
+            number,
+            cause,
+        },
+        next,
+    ))
+}
+
 #[tactic(auto, unfolding(crate::specs::Reading::gap_at, byte_fields::specs::Field::ruled))]
 fn gap_at(bytes: &[u8], at: usize, client: u8, number: u64) -> Taken
     ensures { Gives result (gap_at client number bytes.now at) }
@@ -144,6 +169,7 @@ fn body_at(alloc: Global, bytes: &[u8], at: usize, kind: Kind, client: u8, numbe
 {
     match kind {
         Kind::Store => store_at(alloc, bytes, at, client, number),
+        Kind::Operate => operate_at(alloc, bytes, at, client, number),
         Kind::Pull => Ok((Message::Pull { client, number }, at)),
         Kind::Accepted => Ok((Message::Accepted { client, number }, at)),
         Kind::Stale => stale_at(alloc, bytes, at, client, number),
@@ -151,6 +177,8 @@ fn body_at(alloc: Global, bytes: &[u8], at: usize, kind: Kind, client: u8, numbe
         Kind::Full => full_at(alloc, bytes, at, client, number),
         Kind::Gap => gap_at(bytes, at, client, number),
         Kind::Snapshot => snapshot_at(alloc, bytes, at, client, number),
+        Kind::Done => Ok((Message::Done { client, number }, at)),
+        Kind::Declined => declined_at(alloc, bytes, at, client, number),
         Kind::Malformed => malformed_at(bytes, at),
     }
 }
@@ -202,6 +230,7 @@ fn frame_of(alloc: Global, bytes: &[u8]) -> Result<Message, FrameError>
             if next == bytes.len() {
                 Ok(message)
             } else {
+                drop(message);
                 Err(FrameError::Trailing(next as u32))
             }
         }

@@ -1,7 +1,7 @@
 //! Which replies answer a request.
 
 ghost use Rattle.std.specs.Prelude.{◌≡◌, ◌↔◌, IsTrue};
-ghost use Rattle.wire_frames.specs.Frame.{AnswersStore, AnswersPull, MayAnswer, Echoes};
+ghost use Rattle.wire_frames.specs.Frame.{AnswersStore, AnswersOperation, AnswersPull, MayAnswer, Echoes};
 
 use crate::message::Message;
 
@@ -20,12 +20,15 @@ fn may_answer(request: &Message, reply: &Message) -> bool
 {
     match request {
         Message::Store { .. } => answers_store(reply),
+        Message::Operate { .. } => answers_operation(reply),
         Message::Pull { .. } => answers_pull(reply),
         Message::Accepted { .. }
         | Message::Stale { .. }
         | Message::Unfit { .. }
         | Message::Gap { .. }
         | Message::Snapshot { .. }
+        | Message::Done { .. }
+        | Message::Declined { .. }
         | Message::Full { .. }
         | Message::Malformed { .. } => false,
     }
@@ -42,8 +45,30 @@ fn answers_store(reply: &Message) -> bool
         | Message::Gap { .. }
         | Message::Full { .. } => true,
         Message::Store { .. }
+        | Message::Operate { .. }
         | Message::Pull { .. }
         | Message::Snapshot { .. }
+        | Message::Done { .. }
+        | Message::Declined { .. }
+        | Message::Malformed { .. } => false,
+    }
+}
+
+/// Whether an `Operate` may be answered by this.
+fn answers_operation(reply: &Message) -> bool
+    ensures { IsTrue result ↔ AnswersOperation reply.now }
+{
+    match reply {
+        Message::Done { .. } | Message::Declined { .. } => true,
+        Message::Store { .. }
+        | Message::Operate { .. }
+        | Message::Pull { .. }
+        | Message::Accepted { .. }
+        | Message::Stale { .. }
+        | Message::Unfit { .. }
+        | Message::Gap { .. }
+        | Message::Snapshot { .. }
+        | Message::Full { .. }
         | Message::Malformed { .. } => false,
     }
 }
@@ -55,11 +80,14 @@ fn answers_pull(reply: &Message) -> bool
     match reply {
         Message::Snapshot { .. } => true,
         Message::Store { .. }
+        | Message::Operate { .. }
         | Message::Pull { .. }
         | Message::Accepted { .. }
         | Message::Stale { .. }
         | Message::Unfit { .. }
         | Message::Gap { .. }
+        | Message::Done { .. }
+        | Message::Declined { .. }
         | Message::Full { .. }
         | Message::Malformed { .. } => false,
     }

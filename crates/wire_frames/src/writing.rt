@@ -3,8 +3,10 @@
 ghost use Rattle.std.specs.Prelude.{◌≡◌, ◌++◌, OnOk, IfOk};
 ghost use Rattle.wire_frames.specs.Frame.{frame, body, payload, BodyFits, IsValid};
 
+use crate::cause::Cause;
 use crate::kind::FRAME_VERSION;
 use crate::message::Message;
+use crate::operation::spell_operation;
 use byte_fields::{put_u32, put_u64};
 use std::alloc::{AllocError, Global};
 use vol_tree::{Bases, Effects, Path, Rows, TreeError};
@@ -42,7 +44,9 @@ fn spell_body(message: &Message, out: &mut Vec<u8>) -> Result<(), AllocError>
             put_u64(out, *last)?;
             Rows::spell(rows, out)?;
         }
-        Message::Pull { .. } | Message::Accepted { .. } => {}
+        Message::Operate { entry, .. } => spell_operation(entry, out)?,
+        Message::Declined { cause, .. } => Cause::spell(cause, out)?,
+        Message::Pull { .. } | Message::Accepted { .. } | Message::Done { .. } => {}
     }
     Ok(())
 }
