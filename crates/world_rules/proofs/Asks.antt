@@ -1,5 +1,5 @@
 -- How moves of the world and asks follow one another.
-use Rattle.std.proofs.Common.{◌≡◌, ◌≢◌, ◌⊎◌, inl, inr, ⊎_elim, true, false, List, [], ◌∷◌, ◌++◌, Option, None, Some, refl, sym, ◌∙◌, ap, subst, append_assoc}
+use Rattle.std.proofs.Common.{◌≡◌, ◌≢◌, ◌⊎◌, inl, inr, ⊎_elim, ◌+◌, ◌≤◌, true, false, List, [], ◌∷◌, ◌++◌, Option, None, Some, refl, sym, ◌∙◌, ap, subst, arith, append_assoc, length-append}
 use Rattle.std.proofs.lemmas.List.{append-nil}
 use Rattle.outside.specs.Outside.{Told}
 use Rattle.tree_values.specs.Lists.{IsIn}
@@ -8,7 +8,7 @@ use Rattle.wire_frames.specs.declared.message.Message.{Message}
 use Rattle.world_rules.specs.declared.asking.Ask.{Ask}
 use Rattle.world_rules.specs.declared.asking.Answer.{Answer}
 use Rattle.world_rules.specs.declared.asking.Answer.TheVariants.{Reply, Failed, Memory}
-use Rattle.world_rules.specs.World.{World, Step, Send, Deliver, Other, noted, happens, happen, IsAllowed, AreAllowed, Is, Moved}
+use Rattle.world_rules.specs.World.{World, Step, Send, Deliver, Other, Relay, sent, delivered, noted, happens, happen, IsAllowed, AreAllowed, Is, MovedBy, sendings_in, sendings, Moved}
 use Rattle.world_rules.specs.Asking.{ReplyStands, AnswersStand}
 
 -- ---- what is among two lists in a row
@@ -18,6 +18,15 @@ IsIn-push x y [] (inl is) = inr is
 IsIn-push x y [] (inr among) = absurd among
 IsIn-push x y (z ∷ xs) (inl is) = inl (inl is)
 IsIn-push x y (z ∷ xs) (inr among) = ⊎_elim (λ old. inl (inr old)) (λ is. inr is) (IsIn-push x y xs among)
+
+pub IsIn-last : {X : Type 0} (x : X) (xs : List X) → IsIn x (xs ++ x ∷ [])
+IsIn-last x [] = inl refl
+IsIn-last x (y ∷ xs) = inr (IsIn-last x xs)
+
+pub in_either : {X : Type 0} (x : X) (xs ys : List X) → IsIn x (xs ++ ys) → IsIn x xs ⊎ IsIn x ys
+in_either x [] ys among = inr among
+in_either x (y ∷ xs) ys (inl is) = inl (inl is)
+in_either x (y ∷ xs) ys (inr among) = ⊎_elim (λ first. inl (inr first)) (λ second. inr second) (in_either x xs ys among)
 
 -- ---- steps in a row
 
@@ -36,6 +45,7 @@ kept_packet (Send m) world message among = IsIn-left message world.packets _ amo
 kept_packet (Deliver m true) world message among = IsIn-left message world.packets _ among
 kept_packet (Deliver m false) world message among = among
 kept_packet (Other m) world message among = IsIn-left message world.packets _ among
+kept_packet (Relay m) world message among = IsIn-left message world.packets _ among
 
 pub kept_packets : (steps : List Step) (world : World) (message : Message) → IsIn message world.packets → IsIn message (happen steps world).packets
 kept_packets [] world message among = among
@@ -53,6 +63,7 @@ pub happens-noted : (made : List Ask) (step : Step) (world : World) → happens 
 happens-noted made (Send message) world = refl
 happens-noted made (Deliver message joins) world = refl
 happens-noted made (Other message) world = refl
+happens-noted made (Relay message) world = refl
 
 pub happen-noted : (made : List Ask) (steps : List Step) (world : World) → happen steps (noted made world) ≡ noted made (happen steps world)
 happen-noted made [] world = refl
@@ -62,6 +73,7 @@ allowed-noted : (P : Message → Type 0) (made : List Ask) (step : Step) (world 
 allowed-noted P made (Send message) world may = may
 allowed-noted P made (Deliver message joins) world may = may
 allowed-noted P made (Other message) world may = may
+allowed-noted P made (Relay message) world may = may
 
 pub AreAllowed-noted : (P : Message → Type 0) (made : List Ask) (steps : List Step) (world : World) → AreAllowed P (noted made world) steps → AreAllowed P world steps
 AreAllowed-noted P made [] world may = tt
@@ -71,41 +83,74 @@ AreAllowed-noted P made (step ∷ steps) world may =
 -- ---- moves in a row
 
 -- packets stay over moves
-pub moved_packets : (request : Message) (made : List Ask) (old new : World) (message : Message) → Moved request made old new → IsIn message old.packets → IsIn message new.packets
-moved_packets request made old new message moves among = subst (λ w. IsIn message w.packets) (sym moves.result) (kept_packets moves.steps old message among)
+pub moved_packets : (P : Message → Type 0) (made : List Ask) (old new : World) (message : Message) → MovedBy P made old new → IsIn message old.packets → IsIn message new.packets
+moved_packets P made old new message moves among = subst (λ w. IsIn message w.packets) (sym moves.result) (kept_packets moves.steps old message among)
 
-sent_then : (request : Message) (m n : List Ask) (a b c : World) → Moved request m a b → Moved request n b c → m ++ n ≢ [] → IsIn request c.packets
-sent_then request m [] a b c first second some = moved_packets request [] b c request second (first.sent (λ none. some (append-nil m ∙ none)))
-sent_then request m (ask ∷ n) a b c first second some = second.sent (λ none. cc)
-
-pub moved_then : (request : Message) (m n : List Ask) (a b c : World) → Moved request m a b → Moved request n b c → Moved request (m ++ n) a c
-moved_then request m n a b c first second = record {
+pub moved_by_then : (P : Message → Type 0) (m n : List Ask) (a b c : World) → MovedBy P m a b → MovedBy P n b c → MovedBy P (m ++ n) a c
+moved_by_then P m n a b c first second = record {
   steps = first.steps ++ second.steps;
-  allowed = AreAllowed-append (Is request) first.steps second.steps a first.allowed
-      (AreAllowed-noted (Is request) m second.steps (happen first.steps a) (subst (λ w. AreAllowed (Is request) w second.steps) first.result second.allowed));
+  allowed = AreAllowed-append P first.steps second.steps a first.allowed
+      (AreAllowed-noted P m second.steps (happen first.steps a) (subst (λ w. AreAllowed P w second.steps) first.result second.allowed));
   result = second.result
       ∙ ap (λ w. noted n (happen second.steps w)) first.result
       ∙ ap (noted n) (happen-noted m second.steps (happen first.steps a))
       ∙ noted-noted m n (happen second.steps (happen first.steps a))
       ∙ ap (noted (m ++ n)) (sym (happen-append first.steps second.steps a));
-  sent = sent_then request m n a b c first second;
 }
 
-pub moved_none : (request : Message) (world : World) → Moved request [] world world
-moved_none request world = record { steps = []; allowed = tt; result = sym (noted-none world); sent = λ some. absurd (some refl) }
+pub moved_by_none : (P : Message → Type 0) (world : World) → MovedBy P [] world world
+moved_by_none P world = record { steps = []; allowed = tt; result = sym (noted-none world) }
 
 -- one more ask is noted
-pub moved_noted : (request : Message) (made : List Ask) (ask : Ask) (old new : World) → Moved request made old new → IsIn request new.packets → Moved request (made ++ ask ∷ []) old (noted (ask ∷ []) new)
-moved_noted request made ask old new moves among = record {
+pub moved_by_noted : (P : Message → Type 0) (made : List Ask) (ask : Ask) (old new : World) → MovedBy P made old new → MovedBy P (made ++ ask ∷ []) old (noted (ask ∷ []) new)
+moved_by_noted P made ask old new moves = record {
   steps = moves.steps;
   allowed = moves.allowed;
   result = ap (noted (ask ∷ [])) moves.result ∙ noted-noted made (ask ∷ []) (happen moves.steps old);
-  sent = λ some. among;
 }
 
 -- one more step
-pub moved_step : (request : Message) (step : Step) (old : World) → IsAllowed (Is request) old step → Moved request [] old (happens step old)
-moved_step request step old may = record { steps = step ∷ []; allowed = (may, tt); result = sym (noted-none (happens step old)); sent = λ some. absurd (some refl) }
+pub moved_by_step : (P : Message → Type 0) (step : Step) (old : World) → IsAllowed P old step → MovedBy P [] old (happens step old)
+moved_by_step P step old may = record { steps = step ∷ []; allowed = (may, tt); result = sym (noted-none (happens step old)) }
+
+-- ---- sendings
+
+pub sendings-append : (before after : List Step) → sendings (before ++ after) ≡ sendings before + sendings after
+sendings-append [] after = omega arith
+sendings-append (step ∷ before) after = omega (arith, sendings-append before after)
+
+pub sendings-then : (P : Message → Type 0) (m n : List Ask) (a b c : World) (first : MovedBy P m a b) (second : MovedBy P n b c)
+    → sendings (moved_by_then P m n a b c first second).steps ≡ sendings first.steps + sendings second.steps
+unfolding moved_by_then
+sendings-then P m n a b c first second = sendings-append first.steps second.steps
+
+pub sendings-step : (P : Message → Type 0) (step : Step) (old : World) (may : IsAllowed P old step) → sendings (moved_by_step P step old may).steps ≡ sendings_in step
+unfolding moved_by_step
+sendings-step P step old may = omega arith
+
+pub moved_then : (request : Message) (m n : List Ask) (a b c : World) → Moved request m a b → Moved request n b c → Moved request (m ++ n) a c
+moved_then request m n a b c first second = record {
+  moves = moved_by_then (Is request) m n a b c first.moves second.moves;
+  asked = λ ask among. ⊎_elim (λ is. first.asked ask is) (λ is. second.asked ask is) (in_either ask m n among);
+  sent = omega (arith, first.sent, second.sent, length-append m n, sendings-then (Is request) m n a b c first.moves second.moves);
+}
+
+pub moved_none : (request : Message) (world : World) → Moved request [] world world
+moved_none request world = record { moves = moved_by_none (Is request) world; asked = λ ask among. absurd among; sent = omega arith }
+
+-- where the request was sent at all, it is among the packets
+sent_in : (request : Message) (steps : List Step) (world : World) → AreAllowed (Is request) world steps → 1 ≤ sendings steps → IsIn request (happen steps world).packets
+sent_in request [] world may some = absurd (omega (arith, some))
+sent_in request (Send message ∷ steps) world may some =
+    kept_packets steps (sent message world) request (subst (λ m. IsIn request (world.packets ++ m ∷ [])) (sym may.0) (IsIn-last request world.packets))
+sent_in request (Deliver message joins ∷ steps) world may some = sent_in request steps (delivered message joins world) may.1 (omega (arith, some))
+sent_in request (Other message ∷ steps) world may some = sent_in request steps (sent message world) may.1 (omega (arith, some))
+sent_in request (Relay message ∷ steps) world may some = sent_in request steps (sent message world) may.1 (omega (arith, some))
+
+pub asked_among : (request : Message) (made : List Ask) (old new : World) → Moved request made old new → made ≢ [] → IsIn request new.packets
+asked_among request [] old new moved some = absurd (some refl)
+asked_among request (ask ∷ made) old new moved some =
+    subst (λ w. IsIn request w.packets) (sym moved.moves.result) (sent_in request moved.moves.steps old moved.moves.allowed (omega (arith, moved.sent)))
 
 -- ---- over an object that tells
 

@@ -1,5 +1,5 @@
 -- Each move of the client keeps what its log and the world agree on: an entry logged, an entry acknowledged, a snapshot pulled.
-use Rattle.std.proofs.Common.{◌≡◌, ℕ, ◌+◌, ◌-◌, ◌<◌, ◌≤◌, List, [], ◌∷◌, ◌++◌, length, take, drop, refl, sym, ◌∙◌, ap, subst, arith, length-append}
+use Rattle.std.proofs.Common.{◌≡◌, ℕ, ◌+◌, ◌-◌, ◌<◌, ◌≤◌, List, [], ◌∷◌, length, take, drop, refl, sym, ◌∙◌, ap, subst, arith, length-append}
 use Rattle.std.specs.List.{flat_map}
 use Rattle.std.proofs.lemmas.List.{take-append-le}
 use Rattle.tree_values.specs.Effects.{changed_all}
@@ -10,10 +10,11 @@ use Rattle.tree_values.specs.declared.node.Effect.{Effect}
 use Rattle.tree_values.specs.declared.node.Base.{Base}
 use Rattle.vol_tree.proofs.Behind.{IsIn-left, applied_all-tree, counted, node_of, IsTree-empty}
 use Rattle.mod_log.specs.declared.log.Entry.{Entry}
+use Rattle.mod_log.specs.declared.sketching.SketchEntry.{SketchEntry}
 use Rattle.mod_log.specs.Log.{Log, entry as spelled, after, tree_at, IsLog, logged, acknowledged, new_log}
 use Rattle.wire_frames.specs.declared.message.Message.{Message}
-use Rattle.wire_frames.specs.declared.message.Message.TheVariants.{Store, Pull, Accepted, Stale, Unfit, Gap, Snapshot, Full, Malformed}
-use Rattle.world_rules.specs.InStep.{IsTakenUpTo, IsSendable, IsPendingAt, IsFitting}
+use Rattle.wire_frames.specs.declared.message.Message.TheVariants.{Store, Operate, Pull, Accepted, Stale, Unfit, Gap, Snapshot, Done, Declined, Full, Malformed}
+use Rattle.world_rules.specs.InStep.{IsTakenUpTo, IsSendable, IsPendingAt, IsSketchPending, IsFitting}
 use Rattle.world_rules.proofs.Replies.{legal_effects}
 use Rattle.world_rules.proofs.Steps.{Agree, tree_at-acked, tree_at-next}
 
@@ -21,6 +22,9 @@ use Rattle.world_rules.proofs.Steps.{Agree, tree_at-acked, tree_at-next}
 
 still_pending : (log : Log) (entry : Entry) (number : ℕ) (effects : List Effect) (base : List Base) → IsPendingAt log number effects base → IsPendingAt (logged entry log) number effects base
 still_pending log entry number effects base is = (is.0, IsIn-left is.0 log.pending (entry ∷ []) is.1, is.2, is.3, is.4)
+
+still_sketched : (log : Log) (entry : Entry) (sketched : SketchEntry) → IsSketchPending log sketched → IsSketchPending (logged entry log) sketched
+still_sketched log entry sketched is = (is.0, IsIn-left is.0 log.pending (entry ∷ []) is.1, is.2)
 
 module _ (client : ℕ) (log : Log) (last : ℕ) (volume : Volume) (packets : List Message) (now : Agree client log last volume packets) where
   pub tree_at-logged : (entry : Entry) → tree_at last (logged entry log) ≡ tree_at last log
@@ -43,6 +47,9 @@ module _ (client : ℕ) (log : Log) (last : ℕ) (volume : Volume) (packets : Li
   fitting-logged entry (Full of number index cause) fits = (sendable-logged entry number fits.0, λ e. subst (IsAhead volume) (sym (tree_at-logged entry)) (fits.1 e))
   fitting-logged entry (Gap of number beyond) fits = fits
   fitting-logged entry (Snapshot of number upto seen) fits = fits
+  fitting-logged entry (Operate of sketched) fits = (sendable-logged entry sketched.seq fits.0, λ above. still_sketched log entry sketched (fits.1 above))
+  fitting-logged entry (Done of number) fits = fits
+  fitting-logged entry (Declined of number cause) fits = tt
   fitting-logged entry (Malformed code offset) fits = tt
 
   pub logged_agree : (entry : Entry) → IsLog (logged entry log) → Agree client (logged entry log) last volume packets
@@ -102,6 +109,9 @@ module _ (client acked : ℕ) (tree : Volume) (entry : Entry) (entries : List En
   fitting-acknowledged is (Full of number index cause) fits = (sendable-acknowledged number fits.0, λ e. absurd (omega (arith, fits.0.at_most_next)))
   fitting-acknowledged is (Gap of number beyond) fits = fits
   fitting-acknowledged is (Snapshot of number upto seen) fits = fits
+  fitting-acknowledged is (Operate of sketched) fits = (sendable-acknowledged sketched.seq fits.0, λ above. absurd (omega (arith, fits.0.at_most_next)))
+  fitting-acknowledged is (Done of number) fits = fits
+  fitting-acknowledged is (Declined of number cause) fits = tt
   fitting-acknowledged is (Malformed code offset) fits = tt
 
   -- as an Accepted of the entry says
@@ -138,6 +148,9 @@ module _ (client acked : ℕ) (tree seen : Volume) (last : ℕ) (volume : Volume
   fitting-pulled is (Full of number index cause) fits = (record { at_most_next = fits.0.at_most_next; at_most_logged = fits.0.at_most_logged }, λ e. absurd (omega (arith, fits.0.at_most_logged)))
   fitting-pulled is (Gap of number beyond) fits = fits
   fitting-pulled is (Snapshot of number upto older) fits = fits
+  fitting-pulled is (Operate of sketched) fits = (record { at_most_next = fits.0.at_most_next; at_most_logged = fits.0.at_most_logged }, fits.1)
+  fitting-pulled is (Done of number) fits = fits
+  fitting-pulled is (Declined of number cause) fits = tt
   fitting-pulled is (Malformed code offset) fits = tt
 
   pub pulled_agree : (number upto : ℕ) → IsIn (Snapshot client number upto seen) packets → Agree client idle last volume packets → Agree client renewed last volume packets

@@ -15,17 +15,18 @@ use Rattle.vol_tree.proofs.Behind.{IsBehind-refl, IsBehind-after, applied-change
 use Rattle.mod_log.specs.declared.log.Entry.{Entry}
 use Rattle.mod_log.specs.Log.{Log, tree_at}
 use Rattle.wire_frames.specs.declared.message.Message.{Message}
-use Rattle.wire_frames.specs.declared.message.Message.TheVariants.{Store, Pull, Accepted, Stale, Unfit, Gap, Snapshot, Full, Malformed}
+use Rattle.wire_frames.specs.declared.message.Message.TheVariants.{Store, Pull, Unfit, Full}
 use Rattle.wire_frames.specs.Frame.{client_of, IsValid}
 use Rattle.world_rules.specs.Served.{Served, IsServed, with_last, Verdict, Repeated, Early, Outdated, Refused, Taken, judged, verdict, is_want_of_room, reply, served_after, answer, state_after, taken_if, taken_of}
-use Rattle.world_rules.specs.World.{World, Step, Send, Deliver, Other, sent, delivered, happens, noted, IsForServer, IsAllowed}
-use Rattle.world_rules.specs.InStep.{IsFitting, InStep, MaySend}
+use Rattle.world_rules.specs.World.{World, Step, Send, Deliver, Other, Relay, sent, delivered, happens, noted, IsForServer, IsLicensed, IsAllowed}
+use Rattle.world_rules.specs.InStep.{IsFitting, InStep, MaySend, HasNoCollision}
 use Rattle.world_rules.specs.Run.{own, Spares, taken_by}
 use Rattle.world_rules.specs.declared.asking.Ask.{Ask}
 use Rattle.world_rules.proofs.Asks.{IsIn-push}
 use Rattle.world_rules.proofs.Replies.{legal_effects, answer-valid, state_after-legal}
 use Rattle.world_rules.proofs.Steps.{Agree, joined, grown, Judged, own_store, TakesFirst, last_after, volume_after}
 use Rattle.world_rules.proofs.Sending.{sent_valid}
+use Rattle.world_rules.proofs.Relaying.{relay_fits}
 
 -- ---- in step, and what log and world agree on
 
@@ -218,13 +219,7 @@ module _ (client : ℕ) (log : Log) (served : Served) (packets : List Message) (
   message_answered : (message : Message) → IsForServer message → IsValid message → IsIn message packets → Answered client log packets served (state_after message served) (taken_of message served) (answer message served)
   message_answered (Store of number effects base) for valid among = store_answered of number effects base (legal_effects effects valid.body_fits.0.each) among
   message_answered (Pull of number) for valid among = pull_answered of number among
-  message_answered (Accepted of number) for valid among = absurd for
-  message_answered (Stale of number path theirs ours) for valid among = absurd for
-  message_answered (Unfit of number index cause) for valid among = absurd for
-  message_answered (Gap of number last) for valid among = absurd for
-  message_answered (Snapshot of number upto seen) for valid among = absurd for
-  message_answered (Full of number index cause) for valid among = absurd for
-  message_answered (Malformed code offset) for valid among = absurd for
+  message_answered _ for valid among = absurd for
 
 -- What a step keeps, and which stores of the client are taken in it.
 pub record Stepped (client : ℕ) (log : Log) (world next : World) (taken : List Message) : Type 0 where
@@ -265,13 +260,7 @@ sent_fits : (client acked : ℕ) (tree : _) (pending : List Entry) (last : ℕ) 
 sent_fits client acked tree [] last volume (Store of number effects base) low may = absurd may.2.1
 sent_fits client acked tree (entry ∷ entries) last volume (Store of number effects base) low may = (record { at_most_next = omega (arith, may.1); at_most_logged = omega (arith, may.1) }, λ above. may.2)
 sent_fits client acked tree pending last volume (Pull of number) low may = omega (arith, may.1)
-sent_fits client acked tree pending last volume (Accepted of number) low may = absurd may
-sent_fits client acked tree pending last volume (Stale of number path theirs ours) low may = absurd may
-sent_fits client acked tree pending last volume (Unfit of number index cause) low may = absurd may
-sent_fits client acked tree pending last volume (Gap of number beyond) low may = absurd may
-sent_fits client acked tree pending last volume (Snapshot of number upto seen) low may = absurd may
-sent_fits client acked tree pending last volume (Full of number index cause) low may = absurd may
-sent_fits client acked tree pending last volume (Malformed code offset) low may = absurd may
+sent_fits client acked tree pending last volume _ low may = absurd may
 
 -- a valid message joins
 joined_in_step : (client : ℕ) (log : Log) (world : World) (message : Message) → InStep client log world → IsValid message
@@ -291,16 +280,26 @@ sent_in_step client log world message now may =
 pub other_in_step : (client : ℕ) (log : Log) (world : World) (message : Message) → InStep client log world → client_of message ≢ world.client → IsValid message → InStep client log (sent message world)
 other_in_step client log world message now differ valid = joined_in_step client log world message now valid (λ own. absurd (differ (own ∙ sym now.about)))
 
+-- ---- a message of a surrogate
+
+pub relayed_in_step : (client : ℕ) (log : Log) (world : World) (message : Message) → InStep client log world → IsLicensed world.client world.packets message → IsValid message
+    → HasNoCollision client log.pending (sent message world).packets → InStep client log (sent message world)
+relayed_in_step client log world message now may valid none =
+    joined_in_step client log world message now valid
+    (λ own. relay_fits client log (world.served.last client) world.served.volume world.packets message now.not_lower now.fitting
+    (subst (λ c. IsLicensed c world.packets message) now.about may) none)
+
 -- ---- every step
 
 sending_steps : (client : ℕ) (log : Log) (world : World) (message : Message) → InStep client log (sent message world) → Stepped client log world (sent message world) []
 sending_steps client log world message now = record { in_step = now; takes = inl (refl, refl); same = λ path spared e. e }
 
 pub steps_on : (client : ℕ) (log : Log) (world : World) (step : Step) → InStep client log world → IsAllowed (MaySend client log) world step
-    → Stepped client log world (happens step world) (taken_by step world.served)
-steps_on client log world (Send message) now may = sending_steps client log world message (sent_in_step client log world message now may)
-steps_on client log world (Deliver message joins) now may = delivery_steps client log world message joins now may.0 may.1
-steps_on client log world (Other message) now may = sending_steps client log world message (other_in_step client log world message now may.0 may.1)
+    → HasNoCollision client log.pending (happens step world).packets → Stepped client log world (happens step world) (taken_by step world.served)
+steps_on client log world (Send message) now may none = sending_steps client log world message (sent_in_step client log world message now may)
+steps_on client log world (Deliver message joins) now may none = delivery_steps client log world message joins now may.0 may.1
+steps_on client log world (Other message) now may none = sending_steps client log world message (other_in_step client log world message now may.0 may.1)
+steps_on client log world (Relay message) now may none = sending_steps client log world message (relayed_in_step client log world message now may.0 may.1 none)
 
 pub noted_in_step : (client : ℕ) (log : Log) (world : World) (made : List Ask) → InStep client log world → InStep client log (noted made world)
 noted_in_step client log world made now = in_step client log (noted made world) now.about now.own_number now.valid now.served_is (agree client log world now)

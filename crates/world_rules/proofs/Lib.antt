@@ -3,9 +3,13 @@ pub mod Settled
 pub mod Replies
 pub mod Steps
 pub mod Sending
+pub mod Relaying
 pub mod Client
 pub mod Events
+pub mod Colliding
 pub mod Runs
+pub mod Free
+pub mod Operations
 pub mod Restarts
 pub mod Replay
 pub mod Replying

@@ -5,7 +5,7 @@ use Rattle.wire_frames.specs.declared.message.Message.TheVariants.{Store, Pull}
 use Rattle.world_rules.specs.Served.{Served, Verdict, Repeated, Early, Outdated, Refused, Taken, verdict, served_after, state_after, taken_if, taken_of, replay}
 use Rattle.mod_log.specs.declared.log.Entry.{Entry}
 use Rattle.world_rules.specs.declared.asking.Ask.{Ask}
-use Rattle.world_rules.specs.World.{World, Step, Send, Deliver, Other, happens, happen, IsReplayed}
+use Rattle.world_rules.specs.World.{World, Step, Send, Deliver, Other, Relay, happens, happen, IsReplayed}
 use Rattle.world_rules.specs.Run.{State, Move, Network, Notes, Logs, Acknowledges, Pulls, Saves, moved, moved_by, Runs}
 
 replay-append : (xs ys : List Message) (served : Served) → replay (xs ++ ys) served ≡ replay ys (replay xs served)
@@ -32,6 +32,7 @@ step_replayed : (world : World) (step : Step) → IsReplayed world → IsReplaye
 step_replayed world (Send message) is = is
 step_replayed world (Deliver message joins) is = replayed_more world message is
 step_replayed world (Other message) is = is
+step_replayed world (Relay message) is = is
 
 pub steps_replayed : (steps : List Step) (world : World) → IsReplayed world → IsReplayed (happen steps world)
 steps_replayed [] world is = is

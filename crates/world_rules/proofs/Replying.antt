@@ -1,18 +1,19 @@
 -- What the replies say to a client in step.
-use Rattle.std.proofs.Common.{◌≡◌, ℕ, ◌+◌, ◌<◌, ◌≤◌, List, [], length, refl, ap, subst, arith}
+use Rattle.std.proofs.Common.{◌≡◌, ℕ, ◌+◌, ◌<◌, ◌≤◌, List, [], ◌++◌, length, refl, sym, ap, subst, arith}
 use Rattle.file_paths.specs.Path.{FilePath}
 use Rattle.tree_values.specs.Tree.{Volume, version_at}
 use Rattle.tree_values.specs.Lists.{IsIn}
 use Rattle.vol_tree.specs.Behind.{IsAhead}
 use Rattle.mod_log.specs.Log.{Log, tree_at}
 use Rattle.wire_frames.specs.declared.message.Message.{Message}
-use Rattle.wire_frames.specs.declared.message.Message.TheVariants.{Store, Pull, Accepted, Stale, Unfit, Gap, Snapshot, Full, Malformed}
+use Rattle.wire_frames.specs.declared.message.Message.TheVariants.{Pull, Accepted, Stale, Unfit, Gap, Snapshot, Done, Full}
 use Rattle.world_rules.specs.declared.asking.Ask.{Ask}
 use Rattle.world_rules.specs.World.{World, IsFresh}
-use Rattle.world_rules.specs.InStep.{InStep, IsRefusal}
+use Rattle.world_rules.specs.InStep.{InStep, IsRefusal, HasNoCollision}
 use Rattle.world_rules.specs.Run.{kept_at}
 use Rattle.world_rules.proofs.Steps.{tree_at-acked}
-use Rattle.world_rules.proofs.Runs.{moved_runs, runs_in_step}
+use Rattle.world_rules.proofs.Colliding.{none_collides}
+use Rattle.world_rules.proofs.Runs.{moved_by_runs, runs_in_step}
 
 -- what the server would answer now is not older than the client's base
 pub answered_newer : (client : ℕ) (log : Log) (world : World) (path : FilePath) → InStep client log world → log.pending ≡ [] → version_at log.base path ≤ version_at world.served.volume path
@@ -24,7 +25,8 @@ pub fresh_newer : (client : ℕ) (log : Log) (made : List Ask) (old new : World)
     → IsFresh (Pull client log.acked) (Snapshot client log.acked last seen) made old new → version_at log.base path ≤ version_at seen path
 fresh_newer client log made old new last seen path now none fresh =
     let then : InStep client log fresh.moment =
-    runs_in_step client [] [] (kept_at log old) (kept_at log fresh.moment) now (moved_runs client log (Pull client log.acked) [] old fresh.moment (refl, refl, none) fresh.before tt) in
+    runs_in_step client [] [] (kept_at log old) (kept_at log fresh.moment) now (moved_by_runs client log (Pull client log.acked) [] old fresh.moment (refl, refl, none) fresh.before (λ ask among. absurd among) tt)
+    (subst (λ es. HasNoCollision client (es ++ []) fresh.moment.packets) (sym none) (none_collides client fresh.moment.packets)) in
     let same : fresh.moment.served.volume ≡ seen = cc (fresh.is) in
     subst (λ v. version_at log.base path ≤ version_at v path) same (answered_newer client log fresh.moment path then none)
 
@@ -33,6 +35,9 @@ no_gap client log world number last now among = now.fitting (Gap client number l
 
 pub accepted_taken : (client : ℕ) (log : Log) (world : World) (number : ℕ) → InStep client log world → IsIn (Accepted client number) world.packets → number ≤ world.served.last client
 accepted_taken client log world number now among = now.fitting (Accepted client number) among refl
+
+pub done_taken : (client : ℕ) (log : Log) (world : World) (number : ℕ) → InStep client log world → IsIn (Done client number) world.packets → number ≤ world.served.last client
+done_taken client log world number now among = now.fitting (Done client number) among refl
 
 pub stale_ahead : (client : ℕ) (log : Log) (world : World) (path : FilePath) (theirs ours : ℕ) → InStep client log world
     → IsIn (Stale client (log.acked + 1) path theirs ours) world.packets → version_at (tree_at (world.served.last client) log) path < version_at world.served.volume path
@@ -43,9 +48,4 @@ pub refused_ahead : (client : ℕ) (log : Log) (world : World) (reply : Message)
 refused_ahead client log world (Stale of number path theirs ours) now is among = (path, (now.fitting (Stale of number path theirs ours) among is.0).1 is.1)
 refused_ahead client log world (Unfit of number index fault) now is among = (now.fitting (Unfit of number index fault) among is.0).1 is.1
 refused_ahead client log world (Full of number index fault) now is among = (now.fitting (Full of number index fault) among is.0).1 is.1
-refused_ahead client log world (Store of number effects base) now is among = absurd is
-refused_ahead client log world (Pull of number) now is among = absurd is
-refused_ahead client log world (Accepted of number) now is among = absurd is
-refused_ahead client log world (Gap of number last) now is among = absurd is
-refused_ahead client log world (Snapshot of number upto seen) now is among = absurd is
-refused_ahead client log world (Malformed code offset) now is among = absurd is
+refused_ahead client log world _ now is among = absurd is

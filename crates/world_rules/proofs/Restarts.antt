@@ -3,8 +3,7 @@ use Rattle.std.proofs.Common.{◌≡◌, ◌⊎◌, inl, inr, ⊎_elim, ℕ, Lis
 use Rattle.mod_log.specs.declared.log.Entry.{Entry}
 use Rattle.mod_log.specs.Log.{Log}
 use Rattle.world_rules.specs.declared.asking.Ask.{Ask}
-use Rattle.world_rules.specs.World.{World, Step, Send, Deliver, Other, happens, happen, IsAllowed, AreAllowed, GoesOnAlone}
-use Rattle.world_rules.specs.InStep.{MaySend}
+use Rattle.world_rules.specs.World.{World, Step, Send, Deliver, Other, Relay, happens, happen, IsAllowed, AreAllowed, GoesOnAlone}
 use Rattle.world_rules.specs.Run.{State, kept_at, restarted, MaySendKept, Move, Network, Notes, Logs, Acknowledges, Pulls, Saves, moved, IsPossible, AllPossible, moved_by, entry_in, entries_in, ask_in, asks_in, Runs}
 use Rattle.world_rules.proofs.Runs.{allowed_kept, runs_none, runs_then, runs_once}
 
@@ -21,6 +20,7 @@ module _ (client : ℕ) where
   allowed_restarted state (Send message) may = (allowed_kept client state (Send message) may, refl)
   allowed_restarted state (Deliver message joins) may = may
   allowed_restarted state (Other message) may = may
+  allowed_restarted state (Relay message) may = may
 
   -- a move before one that keeps the log
   kept_later : (state : State) (move : Move) (moves : List Move) → IsPossible client state move → InPart moves (moved move state) → InPart (move ∷ moves) state
@@ -78,6 +78,7 @@ module _ (client : ℕ) where
   allowed_alone log world (Send message) may = absurd may
   allowed_alone log world (Deliver message joins) may = may
   allowed_alone log world (Other message) may = may
+  allowed_alone log world (Relay message) may = may
 
   steps_alone : (log : Log) (steps : List Step) (world : World) → AreAllowed (λ message. ⊥) world steps → Runs client [] [] (kept_at log world) (kept_at log (happen steps world))
   steps_alone log [] world are = runs_none client (kept_at log world)

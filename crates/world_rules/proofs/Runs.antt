@@ -1,5 +1,5 @@
 -- Every run of a client in its world keeps its log in step, takes the client's entries in order, and leaves what it wrote alone.
-use Rattle.std.proofs.Common.{true, ◌≡◌, ◌≢◌, inl, inr, ℕ, zero, suc, ◌+◌, ◌-◌, ◌≤◌, List, [], ◌∷◌, ◌++◌, length, take, drop, refl, sym, ◌∙◌, ap, subst, arith, append_assoc, append-nil, length-append, length-drop, length-take}
+use Rattle.std.proofs.Common.{true, ◌≡◌, ◌≢◌, inl, inr, ⊎_elim, ℕ, zero, suc, ◌+◌, ◌-◌, ◌≤◌, List, [], ◌∷◌, ◌++◌, length, take, drop, refl, sym, ◌∙◌, ap, subst, arith, append_assoc, append-nil, length-append, length-drop, length-take}
 use Rattle.std.specs.Prelude.{Bool, ◌==◌, if◌then◌else◌}
 use Rattle.std.proofs.lemmas.Bool.Decides.{nat_tests}
 use Rattle.std.proofs.lemmas.List.{length-take-le, take-append-le, drop-append-le, drop_all}
@@ -13,19 +13,20 @@ use Rattle.vol_tree.proofs.Behind.{IsIn-left, IsIn-right, applied_all-tree, same
 use Rattle.mod_log.specs.declared.log.Entry.{Entry}
 use Rattle.mod_log.specs.Log.{Log, IsLog, AreEntriesOf, after, tree_at, acknowledged, pulled, new_log}
 use Rattle.wire_frames.specs.declared.message.Message.{Message}
-use Rattle.wire_frames.specs.declared.message.Message.TheVariants.{Store, Pull, Accepted, Stale, Unfit, Gap, Snapshot, Full, Malformed}
+use Rattle.wire_frames.specs.declared.message.Message.TheVariants.{Store, Accepted, Snapshot, Done}
 use Rattle.wire_frames.specs.Frame.{client_of, IsValid}
 use Rattle.world_rules.specs.declared.asking.Ask.{Ask}
 use Rattle.world_rules.specs.Served.{IsServed}
-use Rattle.world_rules.specs.World.{World, Step, Send, Deliver, Other, happens, happen, noted, Is, IsAllowed, AreAllowed, Moved}
+use Rattle.world_rules.specs.World.{World, Step, Send, Deliver, Other, Relay, happens, happen, noted, Is, IsAllowed, AreAllowed, MovedBy, Moved}
 use Rattle.world_rules.specs.Asking.{AnswersStand}
-use Rattle.world_rules.specs.InStep.{InStep, MaySend, IsAcceptance}
+use Rattle.world_rules.specs.InStep.{InStep, MaySend, IsAcceptance, HasNoCollision}
 use Rattle.world_rules.specs.Run.{State, kept_at, restarted, AreInStep, MaySendKept, Move, Network, Notes, Logs, Acknowledges, Pulls, Saves, moved, IsPossible, AllPossible, moved_by, entry_in, entries_in, ask_in, asks_in, taken_by, taken_in_move, taken_in, own, numbered, stores_between, Spares, IsSameAt, Runs}
-use Rattle.world_rules.proofs.Asks.{kept_packet, noted-none, noted-noted, answers_stay, answers_append}
+use Rattle.world_rules.proofs.Asks.{in_either, asked_among, noted-none, noted-noted, answers_stay, answers_append}
 use Rattle.world_rules.proofs.Replies.{legal_effects}
 use Rattle.world_rules.proofs.Steps.{Agree, tree_at-acked, TakesFirst}
 use Rattle.world_rules.proofs.Client.{logged_agree, tree_at-logged, acknowledged-next, acknowledged_agree, is_next, tree_at-acknowledged, pulled_agree, IsLog-new, new_behind}
 use Rattle.world_rules.proofs.Events.{agree, in_step, steps_on, noted_in_step}
+use Rattle.world_rules.proofs.Colliding.{packets_stay, IsApart, AreApart, apart_here, apart_next, apart_in_memory, kept_apart, both_apart, run_apart, run_both_apart, kept_none}
 
 -- ---- the client's moves on a log in step
 
@@ -38,14 +39,8 @@ acknowledged_pending client acked tree (entry ∷ entries) last volume packets s
 -- what was accepted was taken
 pub accepted_at_most : (client : ℕ) (log : Log) (world : World) (number : ℕ) (reply : Message) → InStep client log world → IsAcceptance client number reply → IsIn reply world.packets → number ≤ world.served.last client
 accepted_at_most client log world number (Accepted of accepted) now is among = omega (arith, now.fitting (Accepted of accepted) among is.0, is.1)
-accepted_at_most client log world number (Store of accepted effects base) now is among = absurd is
-accepted_at_most client log world number (Pull of accepted) now is among = absurd is
-accepted_at_most client log world number (Stale of accepted path theirs ours) now is among = absurd is
-accepted_at_most client log world number (Unfit of accepted index fault) now is among = absurd is
-accepted_at_most client log world number (Gap of accepted beyond) now is among = absurd is
-accepted_at_most client log world number (Snapshot of accepted upto seen) now is among = absurd is
-accepted_at_most client log world number (Full of accepted index fault) now is among = absurd is
-accepted_at_most client log world number (Malformed code offset) now is among = absurd is
+accepted_at_most client log world number (Done of accepted) now is among = omega (arith, now.fitting (Done of accepted) among is.0, is.1)
+accepted_at_most client log world number _ now is among = absurd is
 
 pulled_idle : (client acked : ℕ) (tree : Volume) (pending : List Entry) (seen : Volume) (last : ℕ) (volume : Volume) (packets : List Message) (upto : ℕ) → pending ≡ [] → IsIn (Snapshot client acked upto seen) packets
     → Agree client (record { acked = acked; base = tree; pending = pending }) last volume packets → Agree client (record { acked = acked; base = seen; pending = pending }) last volume packets
@@ -63,44 +58,55 @@ pub allowed_log : (client : ℕ) (state : State) (step : Step) → IsAllowed (Ma
 allowed_log client state (Send message) may = may.0
 allowed_log client state (Deliver message joins) may = may
 allowed_log client state (Other message) may = may
+allowed_log client state (Relay message) may = may
 
 pub allowed_kept : (client : ℕ) (state : State) (step : Step) → IsAllowed (MaySendKept client state) state.world step → IsAllowed (MaySend client state.kept) state.world step
 allowed_kept client state (Send message) may = subst (λ log. MaySend client log message) (sym may.1) may.0
 allowed_kept client state (Deliver message joins) may = may
 allowed_kept client state (Other message) may = may
+allowed_kept client state (Relay message) may = may
 
-pub move_keeps : (client : ℕ) (state : State) (move : Move) → InStep client state.log state.world → IsPossible client state move → InStep client (moved move state).log (moved move state).world
-move_keeps client state (Network step) now may = (steps_on client state.log state.world step now (allowed_log client state step may)).in_step
-move_keeps client state (Notes ask) now may = noted_in_step client state.log state.world (ask ∷ []) now
-move_keeps client state (Logs entry) now may = same_world client state.log _ state.world now (logged_agree client state.log _ _ _ (agree client state.log state.world now) entry may)
-move_keeps client state (Acknowledges reply) now may = same_world client state.log _ state.world now
+pub move_keeps : (client : ℕ) (state : State) (move : Move) → InStep client state.log state.world → IsPossible client state move
+    → HasNoCollision client state.log.pending (moved move state).world.packets → InStep client (moved move state).log (moved move state).world
+move_keeps client state (Network step) now may none = (steps_on client state.log state.world step now (allowed_log client state step may) none).in_step
+move_keeps client state (Notes ask) now may none = noted_in_step client state.log state.world (ask ∷ []) now
+move_keeps client state (Logs entry) now may none = same_world client state.log _ state.world now (logged_agree client state.log _ _ _ (agree client state.log state.world now) entry may)
+move_keeps client state (Acknowledges reply) now may none = same_world client state.log _ state.world now
     (acknowledged_pending client state.log.acked state.log.base state.log.pending _ _ _ may.0
     (accepted_at_most client state.log state.world (state.log.acked + 1) reply now may.1 may.2)
     (agree client state.log state.world now))
-move_keeps client state (Pulls last seen) now may = same_world client state.log _ state.world now
+move_keeps client state (Pulls last seen) now may none = same_world client state.log _ state.world now
     (pulled_idle client state.log.acked state.log.base state.log.pending seen _ _ _ last may.0 may.2 (agree client state.log state.world now))
-move_keeps client state Saves now may = now
+move_keeps client state Saves now may none = now
 
-pub moves_keep : (client : ℕ) (moves : List Move) (state : State) → InStep client state.log state.world → AllPossible client state moves → InStep client (moved_by moves state).log (moved_by moves state).world
-moves_keep client [] state now may = now
-moves_keep client (move ∷ moves) state now may = moves_keep client moves (moved move state) (move_keeps client state move now may.0) may.1
+pub moves_keep : (client : ℕ) (moves : List Move) (state : State) → InStep client state.log state.world → AllPossible client state moves → IsApart client moves state → InStep client (moved_by moves state).log (moved_by moves state).world
+moves_keep client [] state now may apart = now
+moves_keep client (move ∷ moves) state now may apart =
+    moves_keep client moves (moved move state) (move_keeps client state move now may.0 (apart_here client move moves state apart)) may.1 (apart_next client move moves state apart)
 
 -- ---- and so does what is kept
 
-kept_moves : (client : ℕ) (state : State) (move : Move) → AreInStep client state → IsPossible client state move → InStep client (moved move state).kept (moved move state).world
-kept_moves client state (Network step) now may = (steps_on client state.kept state.world step now.kept (allowed_kept client state step may)).in_step
-kept_moves client state (Notes ask) now may = noted_in_step client state.kept state.world (ask ∷ []) now.kept
-kept_moves client state (Logs entry) now may = now.kept
-kept_moves client state (Acknowledges reply) now may = now.kept
-kept_moves client state (Pulls last seen) now may = now.kept
-kept_moves client state Saves now may = now.in_memory
+kept_moves : (client : ℕ) (state : State) (move : Move) → AreInStep client state → IsPossible client state move → HasNoCollision client state.kept.pending (moved move state).world.packets → InStep client (moved move state).kept (moved move state).world
+kept_moves client state (Network step) now may none = (steps_on client state.kept state.world step now.kept (allowed_kept client state step may) none).in_step
+kept_moves client state (Notes ask) now may none = noted_in_step client state.kept state.world (ask ∷ []) now.kept
+kept_moves client state (Logs entry) now may none = now.kept
+kept_moves client state (Acknowledges reply) now may none = now.kept
+kept_moves client state (Pulls last seen) now may none = now.kept
+kept_moves client state Saves now may none = now.in_memory
 
-both_keep : (client : ℕ) (state : State) (move : Move) → AreInStep client state → IsPossible client state move → AreInStep client (moved move state)
-both_keep client state move now may = record { in_memory = move_keeps client state move now.in_memory may; kept = kept_moves client state move now may }
+both_keep : (client : ℕ) (state : State) (move : Move) → AreInStep client state → IsPossible client state move
+    → HasNoCollision client state.log.pending (moved move state).world.packets → HasNoCollision client state.kept.pending (moved move state).world.packets → AreInStep client (moved move state)
+both_keep client state move now may none none_kept = record { in_memory = move_keeps client state move now.in_memory may none; kept = kept_moves client state move now may none_kept }
 
-moves_keep_both : (client : ℕ) (moves : List Move) (state : State) → AreInStep client state → AllPossible client state moves → AreInStep client (moved_by moves state)
-moves_keep_both client [] state now may = now
-moves_keep_both client (move ∷ moves) state now may = moves_keep_both client moves (moved move state) (both_keep client state move now may.0) may.1
+-- both logs stay in step in the first of some moves
+keep_first : (client : ℕ) (move : Move) (moves : List Move) (state : State) → AreInStep client state → IsPossible client state move → AreApart client (move ∷ moves) state → AreInStep client (moved move state)
+keep_first client move moves state now may apart =
+    both_keep client state move now may (apart_here client move moves state (apart_in_memory client (move ∷ moves) state apart)) (kept_apart client move moves state apart)
+
+moves_keep_both : (client : ℕ) (moves : List Move) (state : State) → AreInStep client state → AllPossible client state moves → AreApart client moves state → AreInStep client (moved_by moves state)
+moves_keep_both client [] state now may apart = now
+moves_keep_both client (move ∷ moves) state now may apart =
+    moves_keep_both client moves (moved move state) (keep_first client move moves state now may.0 apart) may.1 (both_apart client move moves state apart)
 
 -- ---- the taken stores of the client are its entries, in order
 
@@ -225,25 +231,29 @@ module _ (client acked first : ℕ) (low : acked ≤ first) where
   InOrder-nil state entered taken told = subst (λ es. InOrder state es (taken ++ [])) (sym (append-nil entered)) (subst (λ ms. InOrder state entered ms) (sym (append-nil taken)) told)
 
   move_in_order : (state : State) (move : Move) (entered : List Entry) (taken : List Message)
-      → InStep client state.log state.world → IsPossible client state move → InOrder state entered taken → InOrder (moved move state) (entered ++ entry_in move) (taken ++ taken_in_move move state)
-  move_in_order state (Network step) entered taken now may told =
-      let on = steps_on client state.log state.world step now (allowed_log client state step may) in
+      → InStep client state.log state.world → IsPossible client state move → HasNoCollision client state.log.pending (moved move state).world.packets
+      → InOrder state entered taken → InOrder (moved move state) (entered ++ entry_in move) (taken ++ taken_in_move move state)
+  move_in_order state (Network step) entered taken now may none told =
+      let on = steps_on client state.log state.world step now (allowed_log client state step may) none in
       subst (λ es. InOrder (moved (Network step) state) es (taken ++ taken_by step state.world.served)) (sym (append-nil entered))
       (step_in_order state step entered taken (taken_by step state.world.served) on.takes told)
-  move_in_order state (Notes ask) entered taken now may told =
+  move_in_order state (Notes ask) entered taken now may none told =
       InOrder-nil _ entered taken (record { above = told.above; within = told.within; last_above = told.last_above; pending = told.pending; own_taken = told.own_taken })
-  move_in_order state (Logs entry) entered taken now may told = logs_in_order state entry entered taken now told
-  move_in_order state (Acknowledges reply) entered taken now may told = InOrder-nil _ entered taken (acknowledged_in_order state.world state.kept state.log.acked state.log.base state.log.pending entered taken may.0 told)
-  move_in_order state (Pulls last seen) entered taken now may told =
+  move_in_order state (Logs entry) entered taken now may none told = logs_in_order state entry entered taken now told
+  move_in_order state (Acknowledges reply) entered taken now may none told = InOrder-nil _ entered taken (acknowledged_in_order state.world state.kept state.log.acked state.log.base state.log.pending entered taken may.0 told)
+  move_in_order state (Pulls last seen) entered taken now may none told =
       InOrder-nil _ entered taken (record { above = told.above; within = told.within; last_above = told.last_above; pending = told.pending; own_taken = told.own_taken })
-  move_in_order state Saves entered taken now may told =
+  move_in_order state Saves entered taken now may none told =
       InOrder-nil _ entered taken (record { above = told.above; within = told.within; last_above = told.last_above; pending = told.pending; own_taken = told.own_taken })
 
   moves_in_order : (moves : List Move) (state : State) (entered : List Entry) (taken : List Message)
-      → InStep client state.log state.world → AllPossible client state moves → InOrder state entered taken → InOrder (moved_by moves state) (entered ++ entries_in moves) (taken ++ taken_in moves state)
-  moves_in_order [] state entered taken now may told = InOrder-nil state entered taken told
-  moves_in_order (move ∷ moves) state entered taken now may told =
-      let rest = moves_in_order moves (moved move state) (entered ++ entry_in move) (taken ++ taken_in_move move state) (move_keeps client state move now may.0) may.1 (move_in_order state move entered taken now may.0 told) in
+      → InStep client state.log state.world → AllPossible client state moves → IsApart client moves state
+      → InOrder state entered taken → InOrder (moved_by moves state) (entered ++ entries_in moves) (taken ++ taken_in moves state)
+  moves_in_order [] state entered taken now may apart told = InOrder-nil state entered taken told
+  moves_in_order (move ∷ moves) state entered taken now may apart told =
+      let none = apart_here client move moves state apart in
+      let rest = moves_in_order moves (moved move state) (entered ++ entry_in move) (taken ++ taken_in_move move state)
+      (move_keeps client state move now may.0 none) may.1 (apart_next client move moves state apart) (move_in_order state move entered taken now may.0 none told) in
       subst (λ es. InOrder (moved_by moves (moved move state)) es (taken ++ taken_in (move ∷ moves) state)) (append_assoc entered (entry_in move) (entries_in moves))
       (subst (λ ms. InOrder (moved_by moves (moved move state)) ((entered ++ entry_in move) ++ entries_in moves) ms) (append_assoc taken (taken_in_move move state) (taken_in moves (moved move state))) rest)
 
@@ -277,102 +287,115 @@ abbrev pub AllSpare : ℕ → FilePath → List Message → Type 0
 AllSpare client path taken = (message : Message) → IsIn message taken → client_of message ≢ client → Spares path message
 
 move_spares : (client : ℕ) (path : FilePath) (state : State) (move : Move) → AllSpare client path (taken_in_move move state)
-    → InStep client state.log state.world → IsPossible client state move → IsSameVersion client state.log state.world path → IsSameVersion client (moved move state).log (moved move state).world path
-move_spares client path state (Network step) spare now may same = (steps_on client state.log state.world step now (allowed_log client state step may)).same path spare same
-move_spares client path state (Notes ask) spare now may same = same
-move_spares client path state (Logs entry) spare now may same = ap (λ t. version_at t path) (tree_at-logged client state.log _ _ _ (agree client state.log state.world now) entry) ∙ same
-move_spares client path state (Acknowledges reply) spare now may same =
+    → InStep client state.log state.world → IsPossible client state move → HasNoCollision client state.log.pending (moved move state).world.packets
+    → IsSameVersion client state.log state.world path → IsSameVersion client (moved move state).log (moved move state).world path
+move_spares client path state (Network step) spare now may none same = (steps_on client state.log state.world step now (allowed_log client state step may) none).same path spare same
+move_spares client path state (Notes ask) spare now may none same = same
+move_spares client path state (Logs entry) spare now may none same = ap (λ t. version_at t path) (tree_at-logged client state.log _ _ _ (agree client state.log state.world now) entry) ∙ same
+move_spares client path state (Acknowledges reply) spare now may none same =
     acknowledged_same client state.log.acked state.log.base state.log.pending _ _ _ path may.0
     (accepted_at_most client state.log state.world (state.log.acked + 1) reply now may.1 may.2) (agree client state.log state.world now) same
-move_spares client path state (Pulls last seen) spare now may same = pulled_same client state.log seen _ _ _ last path may.0 may.2 (may.3 path) (agree client state.log state.world now) same
-move_spares client path state Saves spare now may same = same
+move_spares client path state (Pulls last seen) spare now may none same = pulled_same client state.log seen _ _ _ last path may.0 may.2 (may.3 path) (agree client state.log state.world now) same
+move_spares client path state Saves spare now may none same = same
 
 moves_spare : (client : ℕ) (path : FilePath) (moves : List Move) (state : State) → AllSpare client path (taken_in moves state)
-    → InStep client state.log state.world → AllPossible client state moves → IsSameVersion client state.log state.world path → IsSameVersion client (moved_by moves state).log (moved_by moves state).world path
-moves_spare client path [] state spare now may same = same
-moves_spare client path (move ∷ moves) state spare now may same =
-    let next = move_keeps client state move now may.0 in
-    let same_next = move_spares client path state move (λ message among. spare message (IsIn-left message _ _ among)) now may.0 same in
-    moves_spare client path moves (moved move state) (λ message among. spare message (IsIn-right message _ _ among)) next may.1 same_next
+    → InStep client state.log state.world → AllPossible client state moves → IsApart client moves state
+    → IsSameVersion client state.log state.world path → IsSameVersion client (moved_by moves state).log (moved_by moves state).world path
+moves_spare client path [] state spare now may apart same = same
+moves_spare client path (move ∷ moves) state spare now may apart same =
+    let none = apart_here client move moves state apart in
+    let next = move_keeps client state move now may.0 none in
+    let same_next = move_spares client path state move (λ message among. spare message (IsIn-left message _ _ among)) now may.0 none same in
+    moves_spare client path moves (moved move state) (λ message among. spare message (IsIn-right message _ _ among)) next may.1 (apart_next client move moves state apart) same_next
 
 -- what is kept has the path's version, too
 kept_spares : (client : ℕ) (path : FilePath) (state : State) (move : Move) → AllSpare client path (taken_in_move move state) → AreInStep client state → IsPossible client state move
-    → IsSameVersion client state.log state.world path → IsSameVersion client state.kept state.world path → IsSameVersion client (moved move state).kept (moved move state).world path
-kept_spares client path state (Network step) spare now may same kept = (steps_on client state.kept state.world step now.kept (allowed_kept client state step may)).same path spare kept
-kept_spares client path state (Notes ask) spare now may same kept = kept
-kept_spares client path state (Logs entry) spare now may same kept = kept
-kept_spares client path state (Acknowledges reply) spare now may same kept = kept
-kept_spares client path state (Pulls last seen) spare now may same kept = kept
-kept_spares client path state Saves spare now may same kept = same
+    → HasNoCollision client state.kept.pending (moved move state).world.packets → IsSameVersion client state.log state.world path → IsSameVersion client state.kept state.world path → IsSameVersion client (moved move state).kept (moved move state).world path
+kept_spares client path state (Network step) spare now may none same kept = (steps_on client state.kept state.world step now.kept (allowed_kept client state step may) none).same path spare kept
+kept_spares client path state (Notes ask) spare now may none same kept = kept
+kept_spares client path state (Logs entry) spare now may none same kept = kept
+kept_spares client path state (Acknowledges reply) spare now may none same kept = kept
+kept_spares client path state (Pulls last seen) spare now may none same kept = kept
+kept_spares client path state Saves spare now may none same kept = same
 
-kept_moves_spare : (client : ℕ) (path : FilePath) (moves : List Move) (state : State) → AllSpare client path (taken_in moves state) → AreInStep client state → AllPossible client state moves
+kept_moves_spare : (client : ℕ) (path : FilePath) (moves : List Move) (state : State) → AllSpare client path (taken_in moves state) → AreInStep client state → AllPossible client state moves → AreApart client moves state
     → IsSameVersion client state.log state.world path → IsSameVersion client state.kept state.world path → IsSameVersion client (moved_by moves state).kept (moved_by moves state).world path
-kept_moves_spare client path [] state spare now may same kept = kept
-kept_moves_spare client path (move ∷ moves) state spare now may same kept =
+kept_moves_spare client path [] state spare now may apart same kept = kept
+kept_moves_spare client path (move ∷ moves) state spare now may apart same kept =
     let first = λ (message : Message) (among : IsIn message (taken_in_move move state)). spare message (IsIn-left message _ _ among) in
-    kept_moves_spare client path moves (moved move state) (λ message among. spare message (IsIn-right message _ _ among)) (both_keep client state move now may.0) may.1
-    (move_spares client path state move first now.in_memory may.0 same) (kept_spares client path state move first now may.0 same kept)
+    kept_moves_spare client path moves (moved move state) (λ message among. spare message (IsIn-right message _ _ among)) (keep_first client move moves state now may.0 apart) may.1
+    (both_apart client move moves state apart)
+    (move_spares client path state move first now.in_memory may.0 (apart_here client move moves state (apart_in_memory client (move ∷ moves) state apart)) same)
+    (kept_spares client path state move first now may.0 (kept_apart client move moves state apart) same kept)
 
 -- ---- whole runs
 
-pub both_in_step : (client : ℕ) (entries : List Entry) (made : List Ask) (old new : State) → AreInStep client old → Runs client entries made old new → AreInStep client new
-both_in_step client entries made old new now runs = subst (AreInStep client) (sym runs.result) (moves_keep_both client runs.moves old now runs.possible)
+pub both_in_step : (client : ℕ) (entries : List Entry) (made : List Ask) (old new : State) → AreInStep client old → Runs client entries made old new
+    → HasNoCollision client (old.kept.pending ++ (old.log.pending ++ entries)) new.world.packets → AreInStep client new
+both_in_step client entries made old new now runs none =
+    subst (AreInStep client) (sym runs.result) (moves_keep_both client runs.moves old now runs.possible (run_both_apart client entries made old new runs none))
 
 pub restarts : (client : ℕ) (state : State) → AreInStep client state → AreInStep client (restarted state)
 restarts client state now = record { in_memory = now.kept; kept = now.kept }
 
-pub runs_in_step : (client : ℕ) (entries : List Entry) (made : List Ask) (old new : State) → InStep client old.log old.world → Runs client entries made old new → InStep client new.log new.world
-runs_in_step client entries made old new now runs = subst (λ s. InStep client s.log s.world) (sym runs.result) (moves_keep client runs.moves old now runs.possible)
+pub runs_in_step : (client : ℕ) (entries : List Entry) (made : List Ask) (old new : State) → InStep client old.log old.world → Runs client entries made old new
+    → HasNoCollision client (old.log.pending ++ entries) new.world.packets → InStep client new.log new.world
+runs_in_step client entries made old new now runs none =
+    subst (λ s. InStep client s.log s.world) (sym runs.result) (moves_keep client runs.moves old now runs.possible (run_apart client entries made old new runs none))
 
 in_order_at_end : (client : ℕ) (entries : List Entry) (made : List Ask) (old new : State) (now : InStep client old.log old.world) → (runs : Runs client entries made old new)
-    → InOrder client old.log.acked (old.world.served.last client) now.not_lower new (old.log.pending ++ entries) (taken_in runs.moves old)
-in_order_at_end client entries made old new now runs =
+    → HasNoCollision client (old.log.pending ++ entries) new.world.packets → InOrder client old.log.acked (old.world.served.last client) now.not_lower new (old.log.pending ++ entries) (taken_in runs.moves old)
+in_order_at_end client entries made old new now runs none =
     let acked = old.log.acked in
     let last = old.world.served.last client in
-    let none : acked - acked ≡ 0 = omega arith in
+    let zero_is : acked - acked ≡ 0 = omega arith in
     let short : length (numbered client (acked + 1) (take (last - acked) old.log.pending)) ≤ last - acked = omega (arith, length-numbered client (acked + 1) (take (last - acked) old.log.pending), length-take (last - acked) old.log.pending) in
     let told : InOrder client old.log.acked (old.world.served.last client) now.not_lower old old.log.pending [] =
     record {
       above = omega arith;
       within = omega arith;
       last_above = omega arith;
-      pending = ap (λ k. drop k old.log.pending) (sym none);
+      pending = ap (λ k. drop k old.log.pending) (sym zero_is);
       own_taken = sym (drop_all _ _ short);
     } in
     subst (λ es. InOrder client acked last now.not_lower new (old.log.pending ++ es) (taken_in runs.moves old)) runs.entries
     (subst (λ s. InOrder client acked last now.not_lower s (old.log.pending ++ entries_in runs.moves) (taken_in runs.moves old)) (sym runs.result)
-    (moves_in_order client acked last now.not_lower runs.moves old old.log.pending [] now runs.possible told))
+    (moves_in_order client acked last now.not_lower runs.moves old old.log.pending [] now runs.possible (run_apart client entries made old new runs none) told))
 
 pub entries_in_order : (client : ℕ) (entries : List Entry) (made : List Ask) (old new : State) → InStep client old.log old.world → (runs : Runs client entries made old new)
+    → HasNoCollision client (old.log.pending ++ entries) new.world.packets
     → own client (taken_in runs.moves old) ≡ stores_between client old.log.acked (old.world.served.last client) (new.world.served.last client) (old.log.pending ++ entries)
-entries_in_order client entries made old new now runs = (in_order_at_end client entries made old new now runs).own_taken
+entries_in_order client entries made old new now runs none = (in_order_at_end client entries made old new now runs none).own_taken
 
-pub pending_later : (client : ℕ) (entries : List Entry) (made : List Ask) (old new : State) → InStep client old.log old.world → Runs client entries made old new
+pub pending_later : (client : ℕ) (entries : List Entry) (made : List Ask) (old new : State) → InStep client old.log old.world → Runs client entries made old new → HasNoCollision client (old.log.pending ++ entries) new.world.packets
     → (old.log.acked ≤ new.log.acked) × (new.log.pending ≡ drop (new.log.acked - old.log.acked) (old.log.pending ++ entries))
-pending_later client entries made old new now runs = let told = in_order_at_end client entries made old new now runs in (told.above, told.pending)
+pending_later client entries made old new now runs none = let told = in_order_at_end client entries made old new now runs none in (told.above, told.pending)
 
 -- no entry is lost: the last number, acknowledged or pending, grew by those that were logged
-pub counted_later : (client : ℕ) (entries : List Entry) (made : List Ask) (old new : State) → InStep client old.log old.world → Runs client entries made old new
+pub counted_later : (client : ℕ) (entries : List Entry) (made : List Ask) (old new : State) → InStep client old.log old.world → Runs client entries made old new → HasNoCollision client (old.log.pending ++ entries) new.world.packets
     → new.log.acked + length new.log.pending ≡ old.log.acked + length old.log.pending + length entries
-counted_later client entries made old new now runs =
-    let told = in_order_at_end client entries made old new now runs in
+counted_later client entries made old new now runs none =
+    let told = in_order_at_end client entries made old new now runs none in
     omega (arith, told.above, told.within, ap length told.pending, length-drop (new.log.acked - old.log.acked) (old.log.pending ++ entries), length-append old.log.pending entries)
 
 pub path_is_same : (client : ℕ) (entries : List Entry) (made : List Ask) (old new : State) (path : FilePath) → InStep client old.log old.world → (runs : Runs client entries made old new)
-    → version_at old.world.served.volume path ≡ version_at (tree_at (old.world.served.last client) old.log) path → AllSpare client path (taken_in runs.moves old) → IsSameAt client new.log new.world path
-path_is_same client entries made old new path now runs e spare =
-    let same = moves_spare client path runs.moves old spare now runs.possible (sym e) in
+    → version_at old.world.served.volume path ≡ version_at (tree_at (old.world.served.last client) old.log) path → AllSpare client path (taken_in runs.moves old)
+    → HasNoCollision client (old.log.pending ++ entries) new.world.packets → IsSameAt client new.log new.world path
+path_is_same client entries made old new path now runs e spare none =
+    let same = moves_spare client path runs.moves old spare now runs.possible (run_apart client entries made old new runs none) (sym e) in
     let same_new = subst (λ s. IsSameVersion client s.log s.world path) (sym runs.result) same in
-    let end = runs_in_step client entries made old new now runs in
+    let end = runs_in_step client entries made old new now runs none in
     record { version = sym same_new; node = sym (end.behind.nodes path same_new) }
 
 pub path_is_kept : (client : ℕ) (entries : List Entry) (made : List Ask) (old new : State) (path : FilePath) → AreInStep client old → old.kept ≡ old.log → (runs : Runs client entries made old new)
-    → version_at old.world.served.volume path ≡ version_at (tree_at (old.world.served.last client) old.log) path → AllSpare client path (taken_in runs.moves old) → IsSameAt client new.kept new.world path
-path_is_kept client entries made old new path now begins runs e spare =
+    → version_at old.world.served.volume path ≡ version_at (tree_at (old.world.served.last client) old.log) path → AllSpare client path (taken_in runs.moves old)
+    → HasNoCollision client (old.log.pending ++ entries) new.world.packets → IsSameAt client new.kept new.world path
+path_is_kept client entries made old new path now begins runs e spare none =
+    let none_kept = kept_none client entries old new begins none in
     let same_kept = subst (λ log. IsSameVersion client log old.world path) (sym begins) (sym e) in
-    let same = kept_moves_spare client path runs.moves old spare now runs.possible (sym e) same_kept in
+    let same = kept_moves_spare client path runs.moves old spare now runs.possible (run_both_apart client entries made old new runs none_kept) (sym e) same_kept in
     let same_new = subst (λ s. IsSameVersion client s.kept s.world path) (sym runs.result) same in
-    let end = (both_in_step client entries made old new now runs).kept in
+    let end = (both_in_step client entries made old new now runs none_kept).kept in
     record { version = sym same_new; node = sym (end.behind.nodes path same_new) }
 
 -- ---- a client that writes alone
@@ -395,17 +418,19 @@ served_tree client log world now at =
 
 pub lone_tree : (client : ℕ) (entries : List Entry) (made : List Ask) (old new : State) → InStep client old.log old.world → (runs : Runs client entries made old new)
     → ((message : Message) → IsIn message (taken_in runs.moves old) → client_of message ≡ client)
-    → old.world.served.volume ≡ tree_at (old.world.served.last client) old.log → new.world.served.volume ≡ tree_at (new.world.served.last client) new.log
-lone_tree client entries made old new now runs alone same =
-    served_tree client new.log new.world (runs_in_step client entries made old new now runs)
-    (λ path. path_is_same client entries made old new path now runs (ap (λ v. version_at v path) same) (λ message among differ. absurd (differ (alone message among))))
+    → old.world.served.volume ≡ tree_at (old.world.served.last client) old.log → HasNoCollision client (old.log.pending ++ entries) new.world.packets
+    → new.world.served.volume ≡ tree_at (new.world.served.last client) new.log
+lone_tree client entries made old new now runs alone same none =
+    served_tree client new.log new.world (runs_in_step client entries made old new now runs none)
+    (λ path. path_is_same client entries made old new path now runs (ap (λ v. version_at v path) same) (λ message among differ. absurd (differ (alone message among))) none)
 
 pub lone_kept : (client : ℕ) (entries : List Entry) (made : List Ask) (old new : State) → AreInStep client old → old.kept ≡ old.log → (runs : Runs client entries made old new)
     → ((message : Message) → IsIn message (taken_in runs.moves old) → client_of message ≡ client)
-    → old.world.served.volume ≡ tree_at (old.world.served.last client) old.log → new.world.served.volume ≡ tree_at (new.world.served.last client) new.kept
-lone_kept client entries made old new now begins runs alone same =
-    served_tree client new.kept new.world (both_in_step client entries made old new now runs).kept
-    (λ path. path_is_kept client entries made old new path now begins runs (ap (λ v. version_at v path) same) (λ message among differ. absurd (differ (alone message among))))
+    → old.world.served.volume ≡ tree_at (old.world.served.last client) old.log → HasNoCollision client (old.log.pending ++ entries) new.world.packets
+    → new.world.served.volume ≡ tree_at (new.world.served.last client) new.kept
+lone_kept client entries made old new now begins runs alone same none =
+    served_tree client new.kept new.world (both_in_step client entries made old new now runs (kept_none client entries old new begins none)).kept
+    (λ path. path_is_kept client entries made old new path now begins runs (ap (λ v. version_at v path) same) (λ message among differ. absurd (differ (alone message among))) none)
 
 test_is : (client : ℕ) (message : Message) → client_of message ≡ client → (client_of message == client) ≡ true
 test_is client message is = grind (arith, nat_tests)
@@ -417,9 +442,9 @@ own-all client (message ∷ messages) alone =
     subst P (sym (test_is client message (alone message (inl refl)))) (ap (λ rest. message ∷ rest) (own-all client messages (λ other among. alone other (inr among))))
 
 pub lone_entries : (client : ℕ) (entries : List Entry) (made : List Ask) (old new : State) → InStep client old.log old.world → (runs : Runs client entries made old new)
-    → ((message : Message) → IsIn message (taken_in runs.moves old) → client_of message ≡ client)
+    → ((message : Message) → IsIn message (taken_in runs.moves old) → client_of message ≡ client) → HasNoCollision client (old.log.pending ++ entries) new.world.packets
     → taken_in runs.moves old ≡ stores_between client old.log.acked (old.world.served.last client) (new.world.served.last client) (old.log.pending ++ entries)
-lone_entries client entries made old new now runs alone = sym (own-all client (taken_in runs.moves old) alone) ∙ entries_in_order client entries made old new now runs
+lone_entries client entries made old new now runs alone none = sym (own-all client (taken_in runs.moves old) alone) ∙ entries_in_order client entries made old new now runs none
 
 -- ---- a new client
 
@@ -485,6 +510,7 @@ request_allowed : (client : ℕ) (log : Log) (request : Message) (world : World)
 request_allowed client log request world (Send message) may is = (subst (MaySend client log) (sym is) may, refl)
 request_allowed client log request world (Deliver message joins) may is = is
 request_allowed client log request world (Other message) may is = is
+request_allowed client log request world (Relay message) may is = is
 
 steps_run : (client : ℕ) (log : Log) (request : Message) (steps : List Step) (world : World) → MaySend client log request → AreAllowed (Is request) world steps
     → Runs client [] [] (kept_at log world) (kept_at log (happen steps world))
@@ -494,24 +520,31 @@ steps_run client log request (step ∷ steps) world may are =
     (runs_once client (kept_at log world) (Network step) (request_allowed client log request world step may are.0))
     (steps_run client log request steps (happens step world) may are.1)
 
-notes_run : (client : ℕ) (log : Log) (made : List Ask) (world : World) → AnswersStand world made → Runs client [] made (kept_at log world) (kept_at log (noted made world))
-notes_run client log [] world stand =
+notes_run : (client : ℕ) (log : Log) (made : List Ask) (world : World) → ((ask : Ask) → IsIn ask made → IsIn ask.request world.packets) → AnswersStand world made → Runs client [] made (kept_at log world) (kept_at log (noted made world))
+notes_run client log [] world sent stand =
     subst (λ w. Runs client [] [] (kept_at log world) (kept_at log w)) (sym (noted-none world)) (runs_none client (kept_at log world))
-notes_run client log (ask ∷ made) world stand =
-    let rest = notes_run client log made (noted (ask ∷ []) world) (answers_stay made world (noted (ask ∷ []) world) (λ message among. among) stand.1) in
+notes_run client log (ask ∷ made) world sent stand =
+    let rest = notes_run client log made (noted (ask ∷ []) world) (λ other among. sent other (inr among)) (answers_stay made world (noted (ask ∷ []) world) (λ message among. among) stand.1) in
     subst (λ w. Runs client [] (ask ∷ made) (kept_at log world) (kept_at log w)) (noted-noted (ask ∷ []) made world)
     (runs_then client [] [] (ask ∷ []) made (kept_at log world) (kept_at log (noted (ask ∷ []) world)) (kept_at log (noted made (noted (ask ∷ []) world)))
-    (runs_once client (kept_at log world) (Notes ask) stand.0) rest)
+    (runs_once client (kept_at log world) (Notes ask) (sent ask (inl refl), stand.0)) rest)
 
 -- while a request is asked that the kept log may send, and what is answered stands, the world goes on by possible moves
-pub moved_runs : (client : ℕ) (log : Log) (request : Message) (made : List Ask) (old new : World) → MaySend client log request → Moved request made old new → AnswersStand new made
+pub moved_by_runs : (client : ℕ) (log : Log) (request : Message) (made : List Ask) (old new : World) → MaySend client log request → MovedBy (Is request) made old new
+    → ((ask : Ask) → IsIn ask made → IsIn ask.request new.packets) → AnswersStand new made
     → Runs client [] made (kept_at log old) (kept_at log new)
-moved_runs client log request made old new may moves stand =
+moved_by_runs client log request made old new may moves sent stand =
     subst (λ w. Runs client [] made (kept_at log old) (kept_at log w)) (sym moves.result)
     (runs_then client [] [] [] made (kept_at log old) (kept_at log (happen moves.steps old)) (kept_at log (noted made (happen moves.steps old)))
     (steps_run client log request moves.steps old may moves.allowed)
-    (notes_run client log made (happen moves.steps old)
+    (notes_run client log made (happen moves.steps old) (λ ask among. subst (λ w. IsIn ask.request w.packets) moves.result (sent ask among))
     (answers_stay made (noted made (happen moves.steps old)) (happen moves.steps old) (λ message among. among) (subst (λ w. AnswersStand w made) moves.result stand))))
+
+pub moved_runs : (client : ℕ) (log : Log) (request : Message) (made : List Ask) (old new : World) → MaySend client log request → Moved request made old new → AnswersStand new made
+    → Runs client [] made (kept_at log old) (kept_at log new)
+moved_runs client log request made old new may moved stand =
+    moved_by_runs client log request made old new may moved.moves
+    (λ ask among. subst (λ m. IsIn m new.packets) (sym (moved.asked ask among)) (asked_among request made old new moved (λ none. subst (IsIn ask) none among))) stand
 
 -- ---- the world's list of taken stores grows by those of the run
 
@@ -519,6 +552,7 @@ taken_by_step : (step : Step) (world : World) → (happens step world).taken ≡
 taken_by_step (Send message) world = sym (append-nil world.taken)
 taken_by_step (Deliver message joins) world = refl
 taken_by_step (Other message) world = sym (append-nil world.taken)
+taken_by_step (Relay message) world = sym (append-nil world.taken)
 
 taken_by_move : (move : Move) (state : State) → (moved move state).world.taken ≡ state.world.taken ++ taken_in_move move state
 taken_by_move (Network step) state = taken_by_step step state.world
@@ -538,10 +572,11 @@ run_taken client entries made old new runs = ap (λ s. s.world.taken) runs.resul
 
 -- ---- the world's asks grow by those of the run
 
-asked_by_step : (step : Step) (world : World) → (happens step world).asks ≡ world.asks
+pub asked_by_step : (step : Step) (world : World) → (happens step world).asks ≡ world.asks
 asked_by_step (Send message) world = refl
 asked_by_step (Deliver message joins) world = refl
 asked_by_step (Other message) world = refl
+asked_by_step (Relay message) world = refl
 
 asked_by_move : (move : Move) (state : State) → (moved move state).world.asks ≡ state.world.asks ++ ask_in move
 asked_by_move (Network step) state = asked_by_step step state.world ∙ sym (append-nil state.world.asks)
@@ -561,18 +596,6 @@ run_asked client entries made old new runs = ap (λ s. s.world.asks) runs.result
 
 -- ---- each packet stays
 
-packet_stays : (move : Move) (state : State) (message : Message) → IsIn message state.world.packets → IsIn message (moved move state).world.packets
-packet_stays (Network step) state message among = kept_packet step state.world message among
-packet_stays (Notes ask) state message among = among
-packet_stays (Logs entry) state message among = among
-packet_stays (Acknowledges reply) state message among = among
-packet_stays (Pulls last seen) state message among = among
-packet_stays Saves state message among = among
-
-packets_stay : (moves : List Move) (state : State) (message : Message) → IsIn message state.world.packets → IsIn message (moved_by moves state).world.packets
-packets_stay [] state message among = among
-packets_stay (move ∷ moves) state message among = packets_stay moves (moved move state) message (packet_stays move state message among)
-
 pub run_packets : (client : ℕ) (entries : List Entry) (made : List Ask) (old new : State) (message : Message) → Runs client entries made old new → IsIn message old.world.packets → IsIn message new.world.packets
 run_packets client entries made old new message runs among = subst (λ s. IsIn message s.world.packets) (sym runs.result) (packets_stay runs.moves old message among)
 
@@ -581,7 +604,7 @@ run_packets client entries made old new message runs among = subst (λ s. IsIn m
 module _ (client : ℕ) where
   answer_in : (move : Move) (moves : List Move) (state : State) → IsPossible client state move → AnswersStand (moved_by moves (moved move state)).world (ask_in move)
   answer_in (Notes ask) moves state may =
-      answers_stay (ask ∷ []) state.world (moved_by moves (moved (Notes ask) state)).world (λ message among. packets_stay moves (moved (Notes ask) state) message among) (may, tt)
+      answers_stay (ask ∷ []) state.world (moved_by moves (moved (Notes ask) state)).world (λ message among. packets_stay moves (moved (Notes ask) state) message among) (may.1, tt)
   answer_in (Network step) moves state may = tt
   answer_in (Logs entry) moves state may = tt
   answer_in (Acknowledges reply) moves state may = tt
@@ -595,3 +618,24 @@ module _ (client : ℕ) where
   pub run_answers : (entries : List Entry) (made : List Ask) (old new : State) → Runs client entries made old new → AnswersStand new.world made
   run_answers entries made old new runs =
       subst (λ s. AnswersStand s.world made) (sym runs.result) (subst (AnswersStand (moved_by runs.moves old).world) runs.asks (answers_in runs.moves old runs.possible))
+
+  -- ---- what was asked was sent
+
+  request_in : (move : Move) (moves : List Move) (state : State) (ask : Ask) → IsPossible client state move → IsIn ask (ask_in move) → IsIn ask.request (moved_by moves (moved move state)).world.packets
+  request_in (Notes asked) moves state ask may (inl is) =
+      subst (λ a. IsIn a.request (moved_by moves (moved (Notes asked) state)).world.packets) (sym is) (packets_stay moves (moved (Notes asked) state) asked.request may.0)
+  request_in (Notes asked) moves state ask may (inr among) = absurd among
+  request_in (Network step) moves state ask may among = absurd among
+  request_in (Logs entry) moves state ask may among = absurd among
+  request_in (Acknowledges reply) moves state ask may among = absurd among
+  request_in (Pulls last seen) moves state ask may among = absurd among
+  request_in Saves moves state ask may among = absurd among
+
+  requests_in : (moves : List Move) (state : State) (ask : Ask) → AllPossible client state moves → IsIn ask (asks_in moves) → IsIn ask.request (moved_by moves state).world.packets
+  requests_in [] state ask may among = absurd among
+  requests_in (move ∷ moves) state ask may among =
+      ⊎_elim (λ here. request_in move moves state ask may.0 here) (λ later. requests_in moves (moved move state) ask may.1 later) (in_either ask (ask_in move) (asks_in moves) among)
+
+  pub run_requests : (entries : List Entry) (made : List Ask) (old new : State) (ask : Ask) → Runs client entries made old new → IsIn ask made → IsIn ask.request new.world.packets
+  run_requests entries made old new ask runs among =
+      subst (λ s. IsIn ask.request s.world.packets) (sym runs.result) (requests_in runs.moves old ask runs.possible (subst (IsIn ask) (sym runs.asks) among))

@@ -16,7 +16,7 @@ use Rattle.vol_tree.proofs.Behind.{applied_all-tree}
 use Rattle.mod_log.specs.declared.log.Entry.{Entry}
 use Rattle.mod_log.specs.Log.{Log, IsLog, IsEntryOf, AreEntriesOf}
 use Rattle.wire_frames.specs.declared.message.Message.{Message}
-use Rattle.wire_frames.specs.declared.message.Message.TheVariants.{Store, Pull, Accepted, Stale, Unfit, Gap, Snapshot, Full, Malformed}
+use Rattle.wire_frames.specs.declared.message.Message.TheVariants.{Store, Pull}
 use Rattle.wire_frames.specs.Frame.{IsValid}
 use Rattle.world_rules.specs.InStep.{MaySend}
 use Rattle.world_rules.proofs.Replies.{legal_effects, version-small}
@@ -108,10 +108,4 @@ sent_valid client acked tree pending (Pull of number) low high log_is may = reco
   number_small = omega (arith, may.1, log_is.last);
   body_fits = tt;
 }
-sent_valid client acked tree pending (Accepted of number) low high log_is may = absurd may
-sent_valid client acked tree pending (Stale of number path theirs ours) low high log_is may = absurd may
-sent_valid client acked tree pending (Unfit of number index cause) low high log_is may = absurd may
-sent_valid client acked tree pending (Gap of number last) low high log_is may = absurd may
-sent_valid client acked tree pending (Snapshot of number upto seen) low high log_is may = absurd may
-sent_valid client acked tree pending (Full of number index cause) low high log_is may = absurd may
-sent_valid client acked tree pending (Malformed code offset) low high log_is may = absurd may
+sent_valid client acked tree pending _ low high log_is may = absurd may

@@ -1,10 +1,10 @@
 -- What a settling came to, from what each ask of it did.
-use Rattle.std.proofs.Common.{◌≡◌, ◌⊎◌, inl, inr, ⊎_elim, ℕ, zero, suc, ◌+◌, ◌<◌, ◌≤◌, List, [], ◌∷◌, ◌++◌, Option, None, Some, IfSome, Result, Ok, Err, Vec, refl, sym, ◌∙◌, ap, subst, arith}
+use Rattle.std.proofs.Common.{◌≡◌, ◌⊎◌, inl, inr, ⊎_elim, ℕ, zero, suc, ◌+◌, ◌<◌, ◌≤◌, List, [], ◌∷◌, ◌++◌, Option, None, Some, IfSome, Result, Ok, Err, Vec, refl, ap, subst, arith}
 use Rattle.std.specs.declared.alloc.AllocError.{AllocError}
 use Rattle.std.specs.declared.alloc.Global.{Global}
 use Rattle.std.proofs.Math.ListN.{replicate, replicate-append-replicate}
 use Rattle.std.proofs.lemmas.List.{append-nil}
-use Rattle.outside.specs.Outside.{Told, RoseBy}
+use Rattle.outside.specs.Outside.{Told}
 use Rattle.tree_values.specs.Lists.{IsIn}
 use Rattle.wire_frames.specs.declared.message.Message.{Message}
 use Rattle.wire_frames.specs.Frame.{IsValid, Echoes, Spells}
@@ -18,7 +18,7 @@ use Rattle.world_rules.specs.declared.link.AskError.TheVariants.{Troubles, Memor
 use Rattle.world_rules.specs.World.{World, Moved}
 use Rattle.world_rules.specs.Telling.{LinkTelling, HadTroubles, IsCalm}
 use Rattle.world_rules.specs.Asking.{ask_of, AsksOnce, IsDirect, IsReplyTo, AnswersStand}
-use Rattle.world_rules.specs.Settling.{failures, settled, failed_asks, BreaksSettling, Settled, IsReadAs, IsFreshReply}
+use Rattle.world_rules.specs.Settling.{failures, settled, failed_asks, Settled, IsReadAs, IsFreshReply}
 use Rattle.world_rules.proofs.Asks.{moved_then, moved_none, told_then, told_start, told_as, answers_append}
 
 -- without trouble no ask has failed

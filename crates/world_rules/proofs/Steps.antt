@@ -15,7 +15,7 @@ use Rattle.vol_tree.proofs.Behind.{IsBehind-trans, IsBehind-changes, IsBehind-af
 use Rattle.mod_log.specs.declared.log.Entry.{Entry}
 use Rattle.mod_log.specs.Log.{Log, after, tree_at, IsLog, AreEntriesOf}
 use Rattle.wire_frames.specs.declared.message.Message.{Message}
-use Rattle.wire_frames.specs.declared.message.Message.TheVariants.{Store, Pull, Accepted, Stale, Unfit, Gap, Snapshot, Full, Malformed}
+use Rattle.wire_frames.specs.declared.message.Message.TheVariants.{Store, Operate, Pull, Accepted, Stale, Unfit, Gap, Snapshot, Done, Declined, Full, Malformed}
 use Rattle.wire_frames.specs.Frame.{client_of}
 use Rattle.world_rules.specs.Served.{Verdict, Taken, judged, is_want_of_room, reply, taken_if}
 use Rattle.world_rules.specs.InStep.{IsTakenUpTo, IsSendable, IsPendingAt, IsFitting}
@@ -70,6 +70,9 @@ module _ (client : ℕ) (log : Log) where
   IsFitting-grown last volume newer grows (Full of number index cause) fits = (fits.0, λ e. grown_ahead last volume newer grows (fits.1 e))
   IsFitting-grown last volume newer grows (Gap of number beyond) fits = fits
   IsFitting-grown last volume newer grows (Snapshot of number upto seen) fits = (fits.0, fits.1, IsBehind-trans _ _ _ fits.2 grows, fits.3)
+  IsFitting-grown last volume newer grows (Operate of sketched) fits = fits
+  IsFitting-grown last volume newer grows (Done of number) fits = fits
+  IsFitting-grown last volume newer grows (Declined of number cause) fits = tt
   IsFitting-grown last volume newer grows (Malformed code offset) fits = tt
 
   pub grown : (last : ℕ) (volume newer : Volume) (packets : List Message) → IsBehind volume newer → IsTree newer → Agree client log last volume packets → Agree client log last newer packets
@@ -102,6 +105,9 @@ module _ (client : ℕ) (acked : ℕ) (tree : Volume) (entry : Entry) (entries :
   IsFitting-taken volume (Full of number index cause) fits = (fits.0, λ e. let ahead = fits.1 e in (ahead.0, taken_ahead volume ahead.0 ahead.1))
   IsFitting-taken volume (Gap of number beyond) fits = fits
   IsFitting-taken volume (Snapshot of number upto seen) fits = (fits.0, omega (arith, fits.1), IsBehind-trans _ _ _ fits.2 (IsBehind-after entry.effects volume), fits.3)
+  IsFitting-taken volume (Operate of sketched) fits = (fits.0, λ above. absurd (omega (arith, fits.0.at_most_next)))
+  IsFitting-taken volume (Done of number) fits = omega arith
+  IsFitting-taken volume (Declined of number cause) fits = tt
   IsFitting-taken volume (Malformed code offset) fits = tt
 
   pub taken_first : (volume : Volume) (packets : List Message) → IsTree (changed_all entry.effects volume) → first_conflict entry.base volume ≡ None → Agree client log_of acked volume packets → Agree client log_of (acked + 1) (changed_all entry.effects volume) packets

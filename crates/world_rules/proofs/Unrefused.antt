@@ -1,26 +1,26 @@
 -- Where nobody else writes, no entry of the client is refused.
-use Rattle.std.proofs.Common.{◌≡◌, ◌≢◌, ◌⊎◌, inl, inr, ⊎_elim, ℕ, ◌+◌, ◌<◌, ◌≤◌, true, false, List, [], ◌∷◌, ◌++◌, Option, None, Some, Result, Ok, Err, refl, sym, ◌∙◌, ap, subst, arith, append-nil}
+use Rattle.std.proofs.Common.{◌≡◌, ⊎_elim, ℕ, ◌+◌, ◌<◌, ◌≤◌, true, false, List, [], ◌∷◌, ◌++◌, Option, None, Some, Result, Ok, Err, refl, sym, ◌∙◌, ap, subst, arith, append-nil}
 use Rattle.std.specs.Prelude.{Bool, nat_le, if◌then◌else◌}
 use Rattle.std.proofs.lemmas.Bool.Decides.{nat_tests}
 use Rattle.tree_values.specs.Tree.{Volume, version_at}
 use Rattle.tree_values.specs.Effects.{Conflict}
 use Rattle.tree_values.specs.Lists.{IsIn}
 use Rattle.vol_tree.specs.Behind.{IsAhead}
-use Rattle.tree_values.specs.declared.node.Effect.{Effect}
-use Rattle.tree_values.specs.declared.node.Base.{Base}
 use Rattle.tree_values.specs.declared.node.TreeError.{TreeError}
 use Rattle.vol_tree.proofs.Behind.{IsIn-left, IsIn-right}
 use Rattle.mod_log.specs.declared.log.Entry.{Entry}
 use Rattle.mod_log.specs.Log.{Log, tree_at}
 use Rattle.wire_frames.specs.declared.message.Message.{Message}
-use Rattle.wire_frames.specs.declared.message.Message.TheVariants.{Store, Pull, Accepted, Stale, Unfit, Gap, Snapshot, Full, Malformed}
+use Rattle.wire_frames.specs.declared.message.Message.TheVariants.{Store, Pull, Stale, Unfit, Full}
 use Rattle.wire_frames.specs.Frame.{client_of}
 use Rattle.world_rules.specs.declared.asking.Ask.{Ask}
-use Rattle.world_rules.specs.Served.{judged, verdict, is_want_of_room, reply, answer}
-use Rattle.world_rules.specs.World.{World, Step, Send, Deliver, Other, happens, IsForServer, IsAllowed}
-use Rattle.world_rules.specs.InStep.{InStep, MaySend, IsRefusal}
-use Rattle.world_rules.specs.Run.{State, Move, Network, Notes, Logs, Acknowledges, Pulls, Saves, moved, IsPossible, AllPossible, moved_by, entry_in, ask_in, taken_in_move, taken_in, MaySendKept, Runs}
+use Rattle.world_rules.specs.Served.{judged, is_want_of_room, reply, answer}
+use Rattle.world_rules.specs.World.{World, Step, Send, Deliver, Other, Relay, happens, IsForServer, IsLicensed, IsAllowed}
+use Rattle.world_rules.specs.InStep.{InStep, MaySend, IsRefusal, HasNoCollision}
+use Rattle.world_rules.specs.Run.{State, Move, Network, Notes, Logs, Acknowledges, Pulls, Saves, moved, IsPossible, AllPossible, moved_by, entry_in, ask_in, taken_in_move, taken_in, Runs}
 use Rattle.world_rules.proofs.Asks.{IsIn-push}
+use Rattle.world_rules.proofs.Relaying.{relay_refuses_none}
+use Rattle.world_rules.proofs.Colliding.{IsApart, apart_here, apart_first, apart_next, run_apart}
 use Rattle.world_rules.proofs.Runs.{allowed_log, move_keeps, lone_tree}
 use Rattle.world_rules.proofs.Replying.{refused_ahead}
 
@@ -34,35 +34,19 @@ refusal_client : (client number : ℕ) (message : Message) → IsRefusal client 
 refusal_client client number (Stale of refused path theirs ours) is = is.0
 refusal_client client number (Unfit of refused index fault) is = is.0
 refusal_client client number (Full of refused index fault) is = is.0
-refusal_client client number (Store of stored effects base) is = absurd is
-refusal_client client number (Pull of known) is = absurd is
-refusal_client client number (Accepted of accepted) is = absurd is
-refusal_client client number (Gap of early last) is = absurd is
-refusal_client client number (Snapshot of known upto seen) is = absurd is
-refusal_client client number (Malformed code offset) is = absurd is
+refusal_client client number _ is = absurd is
 
 sent_refuses_none : (client : ℕ) (log : Log) (number : ℕ) (message : Message) → MaySend client log message → IsRefusal client number message → ⊥
 sent_refuses_none client log number (Store of stored effects base) may is = is
 sent_refuses_none client log number (Pull of known) may is = is
-sent_refuses_none client log number (Accepted of accepted) may is = may
-sent_refuses_none client log number (Stale of refused path theirs ours) may is = may
-sent_refuses_none client log number (Unfit of refused index fault) may is = may
-sent_refuses_none client log number (Full of refused index fault) may is = may
-sent_refuses_none client log number (Gap of early last) may is = may
-sent_refuses_none client log number (Snapshot of known upto seen) may is = may
-sent_refuses_none client log number (Malformed code offset) may is = may
+sent_refuses_none client log number _ may is = may
 
 -- a refusal of the client's entry is in step at most with the next number
 refused_number : (client : ℕ) (log : Log) (world : World) (number : ℕ) (message : Message) → InStep client log world → IsRefusal client number message → IsIn message world.packets → number ≤ log.acked + 1
 refused_number client log world number (Stale of refused path theirs ours) now is among = omega (arith, is.1, (now.fitting (Stale of refused path theirs ours) among is.0).0.at_most_next)
 refused_number client log world number (Unfit of refused index fault) now is among = omega (arith, is.1, (now.fitting (Unfit of refused index fault) among is.0).0.at_most_next)
 refused_number client log world number (Full of refused index fault) now is among = omega (arith, is.1, (now.fitting (Full of refused index fault) among is.0).0.at_most_next)
-refused_number client log world number (Store of stored effects base) now is among = absurd is
-refused_number client log world number (Pull of known) now is among = absurd is
-refused_number client log world number (Accepted of accepted) now is among = absurd is
-refused_number client log world number (Gap of early last) now is among = absurd is
-refused_number client log world number (Snapshot of known upto seen) now is among = absurd is
-refused_number client log world number (Malformed code offset) now is among = absurd is
+refused_number client log world number _ now is among = absurd is
 
 at_most : (n : ℕ) (number : ℕ) → number ≤ n + 1 → (number ≡ n + 1 → ⊥) → number ≤ n
 at_most n number near other = by (nat_le number n) refl
@@ -106,6 +90,9 @@ module _ (client : ℕ) (log : Log) (world : World) (now : InStep client log wor
       ⊎_elim (λ old. old) (λ (here : message ≡ m). absurd (sent_refuses_none client log number m may (subst (IsRefusal client number) here is))) (IsIn-push message m world.packets among)
   step_back (Other m) may next same number message is among =
       ⊎_elim (λ old. old) (λ (here : message ≡ m). absurd (may.0 (refusal_client client number m (subst (IsRefusal client number) here is) ∙ sym now.about))) (IsIn-push message m world.packets among)
+  step_back (Relay m) may next same number message is among =
+      ⊎_elim (λ old. old) (λ (here : message ≡ m). absurd (relay_refuses_none client number world.packets m (subst (λ (c : ℕ). IsLicensed c world.packets m) now.about may.0) (subst (IsRefusal client number) here is)))
+      (IsIn-push message m world.packets among)
   step_back (Deliver m false) may next same number message is among = among
   step_back (Deliver m true) may next same number message is among =
       ⊎_elim (λ old. old) (λ (here : message ≡ answer m world.served). absurd (answered m may.0 may.1 next same (subst (IsRefusal client number) here is) (subst (λ (x : Message). IsIn x (happens (Deliver m true) world).packets) here among)))
@@ -120,48 +107,46 @@ module _ (client : ℕ) (log : Log) (world : World) (now : InStep client log wor
           let before = refused_before client log (happens (Deliver (Store of stored effects base) true) world) next same number (answer (Store of stored effects base) world.served) is among in
           absurd (omega (arith, told.1, told.2, last_is, now.not_lower, before))
       answered (Pull of known) for sent next same is among = is
-      answered (Accepted of accepted) for sent next same is among = for
-      answered (Stale of refused path theirs ours) for sent next same is among = for
-      answered (Unfit of refused index fault) for sent next same is among = for
-      answered (Gap of early last) for sent next same is among = for
-      answered (Snapshot of known upto seen) for sent next same is among = for
-      answered (Full of refused index fault) for sent next same is among = for
-      answered (Malformed code offset) for sent next same is among = for
+      answered _ for sent next same is among = for
 
 module _ (client : ℕ) where
   abbrev IsTheirs : State → Type 0
   IsTheirs state = state.world.served.volume ≡ tree_at (state.world.served.last client) state.log
 
-  move_theirs : (move : Move) (state : State) → InStep client state.log state.world → IsPossible client state move
+  move_theirs : (move : Move) (state : State) → InStep client state.log state.world → IsPossible client state move → IsApart client (move ∷ []) state
       → ((message : Message) → IsIn message (taken_in_move move state) → client_of message ≡ client) → IsTheirs state → IsTheirs (moved move state)
-  move_theirs move state now may alone same =
+  move_theirs move state now may apart alone same =
       lone_tree client (entry_in move) (ask_in move) state (moved move state) now
       (record { moves = move ∷ []; entries = append-nil (entry_in move); asks = append-nil (ask_in move); possible = (may, tt); result = refl })
       (λ message among. alone message (subst (IsIn message) (append-nil (taken_in_move move state)) among)) same
+      (subst (λ (es : List Entry). HasNoCollision client (state.log.pending ++ es) (moved move state).world.packets) (append-nil (entry_in move)) apart)
 
-  move_back : (move : Move) (state : State) → InStep client state.log state.world → IsPossible client state move → IsTheirs (moved move state)
+  move_back : (move : Move) (state : State) → InStep client state.log state.world → IsPossible client state move → HasNoCollision client state.log.pending (moved move state).world.packets → IsTheirs (moved move state)
       → (number : ℕ) (message : Message) → IsRefusal client number message → IsIn message (moved move state).world.packets → IsIn message state.world.packets
-  move_back (Network step) state now may same number message is among =
-      step_back client state.log state.world now step (allowed_log client state step may) (move_keeps client state (Network step) now may) same number message is among
-  move_back (Notes ask) state now may same number message is among = among
-  move_back (Logs entry) state now may same number message is among = among
-  move_back (Acknowledges reply) state now may same number message is among = among
-  move_back (Pulls last seen) state now may same number message is among = among
-  move_back Saves state now may same number message is among = among
+  move_back (Network step) state now may none same number message is among =
+      step_back client state.log state.world now step (allowed_log client state step may) (move_keeps client state (Network step) now may none) same number message is among
+  move_back (Notes ask) state now may none same number message is among = among
+  move_back (Logs entry) state now may none same number message is among = among
+  move_back (Acknowledges reply) state now may none same number message is among = among
+  move_back (Pulls last seen) state now may none same number message is among = among
+  move_back Saves state now may none same number message is among = among
 
-  moves_back : (moves : List Move) (state : State) → InStep client state.log state.world → AllPossible client state moves
+  moves_back : (moves : List Move) (state : State) → InStep client state.log state.world → AllPossible client state moves → IsApart client moves state
       → ((message : Message) → IsIn message (taken_in moves state) → client_of message ≡ client) → IsTheirs state
       → (number : ℕ) (message : Message) → IsRefusal client number message → IsIn message (moved_by moves state).world.packets → IsIn message state.world.packets
-  moves_back [] state now may alone same number message is among = among
-  moves_back (move ∷ moves) state now may alone same number message is among =
-      let after = move_keeps client state move now may.0 in
-      let theirs = move_theirs move state now may.0 (λ m at. alone m (IsIn-left m _ _ at)) same in
-      move_back move state now may.0 theirs number message is (moves_back moves (moved move state) after may.1 (λ m at. alone m (IsIn-right m _ _ at)) theirs number message is among)
+  moves_back [] state now may apart alone same number message is among = among
+  moves_back (move ∷ moves) state now may apart alone same number message is among =
+      let none = apart_here client move moves state apart in
+      let after = move_keeps client state move now may.0 none in
+      let theirs = move_theirs move state now may.0 (apart_first client move moves state apart) (λ m at. alone m (IsIn-left m _ _ at)) same in
+      move_back move state now may.0 none theirs number message is
+      (moves_back moves (moved move state) after may.1 (apart_next client move moves state apart) (λ m at. alone m (IsIn-right m _ _ at)) theirs number message is among)
 
   pub lone_unrefused : (entries : List Entry) (made : List Ask) (old new : State) → InStep client old.log old.world → (runs : Runs client entries made old new)
       → ((message : Message) → IsIn message (taken_in runs.moves old) → client_of message ≡ client)
       → old.world.served.volume ≡ tree_at (old.world.served.last client) old.log
+      → HasNoCollision client (old.log.pending ++ entries) new.world.packets
       → (number : ℕ) (message : Message) → IsRefusal client number message → IsIn message new.world.packets → number ≤ old.log.acked
-  lone_unrefused entries made old new now runs alone same number message is among =
+  lone_unrefused entries made old new now runs alone same none number message is among =
       refused_before client old.log old.world now same number message is
-      (moves_back runs.moves old now runs.possible alone same number message is (subst (λ s. IsIn message s.world.packets) runs.result among))
+      (moves_back runs.moves old now runs.possible (run_apart client entries made old new runs none) alone same number message is (subst (λ s. IsIn message s.world.packets) runs.result among))

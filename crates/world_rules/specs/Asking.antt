@@ -3,7 +3,7 @@ use Rattle.std.specs.Prelude.{◌⊎◌, ℕ, List, [], ◌∷◌, Result, Ok, E
 use Rattle.std.specs.declared.alloc.Global.{Global}
 use Rattle.tree_values.specs.Lists.{IsIn}
 use Rattle.wire_frames.specs.declared.message.Message.{Message}
-use Rattle.wire_frames.specs.declared.message.Message.TheVariants.{Store, Pull}
+use Rattle.wire_frames.specs.declared.message.Message.TheVariants.{Store, Operate, Pull}
 use Rattle.wire_frames.specs.Frame.{Spells, Echoes}
 use Rattle.world_rules.specs.declared.asking.Peer.{Peer}
 use Rattle.world_rules.specs.declared.asking.Peer.TheVariants.{Server, Surrogate}
@@ -14,11 +14,12 @@ use Rattle.world_rules.specs.declared.link.LinkError.{LinkError}
 use Rattle.world_rules.specs.declared.link.LinkError.TheVariants.{Failed as LinkFailed, Memory as LinkMemory}
 use Rattle.world_rules.specs.World.{World, Moved, IsFresh}
 
--- a store and a pull are requests to the server; none goes to a surrogate yet
+-- a store and a pull are requests to the server, an operation is one to the surrogate
 abbrev pub IsRequest : Peer → Message → Type 0
 IsRequest Server (Store client number effects base) = Unit {0}
 IsRequest Server (Pull client number) = Unit {0}
 IsRequest Server _ = ⊥
+IsRequest Surrogate (Operate client sketched) = Unit {0}
 IsRequest Surrogate _ = ⊥
 
 -- the bytes spell a reply to this request

@@ -5,22 +5,30 @@ use Rattle.tree_values.specs.Tree.{Volume, version_at}
 use Rattle.tree_values.specs.Lists.{IsIn}
 use Rattle.vol_tree.specs.Behind.{IsAhead}
 use Rattle.mod_log.specs.declared.log.Entry.{Entry}
+use Rattle.mod_log.specs.declared.sketching.SketchEntry.{SketchEntry}
 use Rattle.mod_log.specs.Log.{Log, tree_at, IsLog, new_log}
 use Rattle.wire_frames.specs.declared.message.Message.{Message}
-use Rattle.wire_frames.specs.declared.message.Message.TheVariants.{Store, Pull, Accepted, Stale, Gap, Snapshot}
+use Rattle.wire_frames.specs.declared.message.Message.TheVariants.{Store, Operate, Pull, Accepted, Stale, Gap, Snapshot, Done}
 use Rattle.wire_frames.specs.Frame.{client_of, IsValid}
 use Rattle.world_rules.specs.declared.asking.Ask.{Ask}
 use Rattle.world_rules.specs.Served.{IsServed}
-use Rattle.world_rules.specs.World.{World, Step, happen, IsReplayed, GoesOnAlone, Moved, IsFresh}
+use Rattle.world_rules.specs.World.{World, Step, Relay, happens, happen, IsReplayed, IsAllowed, IsFree, GoesOnAlone, MovedAlone, Moved, IsFresh}
 use Rattle.world_rules.specs.Asking.{AnswersStand}
-use Rattle.world_rules.specs.InStep.{InStep, MaySend, IsRefusal}
+use Rattle.world_rules.specs.InStep.{InStep, MaySend, IsRefusal, HasNoCollision, HasNoOperation}
 use Rattle.world_rules.specs.Run.{State, kept_at, restarted, AreInStep, Runs, taken_in, own, stores_between, Spares, IsSameAt}
 
 -- ---- in step
 
--- Every run in which the log and what is kept of it begin in step leaves both in step, also where a keeping was refused.
+-- Every run in which the log and what is kept of it begin in step leaves both in step, also where a keeping was refused, and where no
+-- content that was sent is taken for another. Where no operation of the client was sent that is so.
 abbrev pub RunsStayInStep : Type 0
-RunsStayInStep = (client : ℕ) (entries : List Entry) (made : List Ask) (old new : State) → AreInStep client old → Runs client entries made old new → AreInStep client new
+RunsStayInStep = (client : ℕ) (entries : List Entry) (made : List Ask) (old new : State) → AreInStep client old → Runs client entries made old new
+    → HasNoCollision client (old.kept.pending ++ (old.log.pending ++ entries)) new.world.packets → AreInStep client new
+
+-- A message that a surrogate sends keeps in step.
+abbrev pub RelaysKeepInStep : Type 0
+RelaysKeepInStep = (client : ℕ) (log : Log) (world : World) (message : Message) → InStep client log world → IsAllowed (λ sending. ⊥) world (Relay message)
+    → HasNoCollision client log.pending (happens (Relay message) world).packets → InStep client log (happens (Relay message) world)
 
 -- And so does a new beginning with what is kept.
 abbrev pub RestartsStayInStep : Type 0
@@ -31,6 +39,16 @@ abbrev pub NewClientsAreInStep : Type 0
 NewClientsAreInStep = (client : ℕ) (world : World) → world.client ≡ client → 1 ≤ client → client ≤ 64 → IsServed world.served → world.served.last client ≡ 0
     → ((message : Message) → IsIn message world.packets → (client_of message ≢ client) × IsValid message)
     → InStep client new_log world
+
+-- A client without a surrogate sends no operation: each of its operations among the packets was there before.
+abbrev pub OperationsNeedASurrogate : Type 0
+OperationsNeedASurrogate = (client : ℕ) (entries : List Entry) (made : List Ask) (old new : State) (sketched : SketchEntry) → old.world.client ≡ client → Runs client entries made old new
+    → IsIn (Operate client sketched) new.world.packets → IsIn (Operate client sketched) old.world.packets
+
+-- So where none was there, nothing is taken for another.
+abbrev pub ClientsWithoutOperationsNeverCollide : Type 0
+ClientsWithoutOperationsNeverCollide = (client : ℕ) (entries : List Entry) (made : List Ask) (old new : State) (all : List Entry) → old.world.client ≡ client → HasNoOperation client old.world.packets
+    → Runs client entries made old new → HasNoCollision client all new.world.packets
 
 -- While a request is asked that the kept log may send, and what is answered stands, the world goes on by possible moves, in which the
 -- asks are noted.
@@ -64,18 +82,20 @@ SilentClientsRun = (client : ℕ) (log : Log) (old new : World) → GoesOnAlone 
 -- The client's stores that are taken in a run are its entries after the last taken one, in order and each once.
 abbrev pub EntriesAreTakenOnce : Type 0
 EntriesAreTakenOnce = (client : ℕ) (entries : List Entry) (made : List Ask) (old new : State) → InStep client old.log old.world → (runs : Runs client entries made old new)
+    → HasNoCollision client (old.log.pending ++ entries) new.world.packets
     → own client (taken_in runs.moves old)
     ≡ stores_between client old.log.acked (old.world.served.last client) (new.world.served.last client) (old.log.pending ++ entries)
 
 -- The acknowledged number only grows, and pending are, of the entries that were pending or logged, those after it.
 abbrev pub LaterEntriesArePending : Type 0
 LaterEntriesArePending = (client : ℕ) (entries : List Entry) (made : List Ask) (old new : State) → InStep client old.log old.world → Runs client entries made old new
+    → HasNoCollision client (old.log.pending ++ entries) new.world.packets
     → (old.log.acked ≤ new.log.acked) × (new.log.pending ≡ drop (new.log.acked - old.log.acked) (old.log.pending ++ entries))
 
 -- Where only the client's own stores are taken, what is taken are its entries after the last taken one, in order and each once.
 abbrev pub LoneClientsEntriesAreTaken : Type 0
 LoneClientsEntriesAreTaken = (client : ℕ) (entries : List Entry) (made : List Ask) (old new : State) → InStep client old.log old.world → (runs : Runs client entries made old new)
-    → ((message : Message) → IsIn message (taken_in runs.moves old) → client_of message ≡ client)
+    → ((message : Message) → IsIn message (taken_in runs.moves old) → client_of message ≡ client) → HasNoCollision client (old.log.pending ++ entries) new.world.packets
     → taken_in runs.moves old ≡ stores_between client old.log.acked (old.world.served.last client) (new.world.served.last client) (old.log.pending ++ entries)
 
 -- ---- what the client wrote
@@ -87,6 +107,7 @@ SparedPathsAreTheClients = (client : ℕ) (entries : List Entry) (made : List As
     → (runs : Runs client entries made old new)
     → version_at old.world.served.volume path ≡ version_at (tree_at (old.world.served.last client) old.log) path
     → ((message : Message) → IsIn message (taken_in runs.moves old) → client_of message ≢ client → Spares path message)
+    → HasNoCollision client (old.log.pending ++ entries) new.world.packets
     → IsSameAt client new.log new.world path
 
 -- And so has the tree that is kept, where the run began with the client's log kept.
@@ -95,6 +116,7 @@ SparedPathsAreKept = (client : ℕ) (entries : List Entry) (made : List Ask) (ol
     → (runs : Runs client entries made old new)
     → version_at old.world.served.volume path ≡ version_at (tree_at (old.world.served.last client) old.log) path
     → ((message : Message) → IsIn message (taken_in runs.moves old) → client_of message ≢ client → Spares path message)
+    → HasNoCollision client (old.log.pending ++ entries) new.world.packets
     → IsSameAt client new.kept new.world path
 
 -- Where only the client's own stores are taken in a run, and it begins with the client's tree served, it ends with the
@@ -102,7 +124,7 @@ SparedPathsAreKept = (client : ℕ) (entries : List Entry) (made : List Ask) (ol
 abbrev pub LoneClientsAreServedTheirTree : Type 0
 LoneClientsAreServedTheirTree = (client : ℕ) (entries : List Entry) (made : List Ask) (old new : State) → InStep client old.log old.world → (runs : Runs client entries made old new)
     → ((message : Message) → IsIn message (taken_in runs.moves old) → client_of message ≡ client)
-    → old.world.served.volume ≡ tree_at (old.world.served.last client) old.log
+    → old.world.served.volume ≡ tree_at (old.world.served.last client) old.log → HasNoCollision client (old.log.pending ++ entries) new.world.packets
     → new.world.served.volume ≡ tree_at (new.world.served.last client) new.log
 
 -- And so is the tree that is kept.
@@ -110,14 +132,14 @@ abbrev pub LoneClientsTreeIsKept : Type 0
 LoneClientsTreeIsKept = (client : ℕ) (entries : List Entry) (made : List Ask) (old new : State) → AreInStep client old → old.kept ≡ old.log
     → (runs : Runs client entries made old new)
     → ((message : Message) → IsIn message (taken_in runs.moves old) → client_of message ≡ client)
-    → old.world.served.volume ≡ tree_at (old.world.served.last client) old.log
+    → old.world.served.volume ≡ tree_at (old.world.served.last client) old.log → HasNoCollision client (old.log.pending ++ entries) new.world.packets
     → new.world.served.volume ≡ tree_at (new.world.served.last client) new.kept
 
 -- And in such a run none of its entries is refused that was not acknowledged when the run began.
 abbrev pub LoneClientsAreNotRefused : Type 0
 LoneClientsAreNotRefused = (client : ℕ) (entries : List Entry) (made : List Ask) (old new : State) → InStep client old.log old.world → (runs : Runs client entries made old new)
     → ((message : Message) → IsIn message (taken_in runs.moves old) → client_of message ≡ client)
-    → old.world.served.volume ≡ tree_at (old.world.served.last client) old.log
+    → old.world.served.volume ≡ tree_at (old.world.served.last client) old.log → HasNoCollision client (old.log.pending ++ entries) new.world.packets
     → (number : ℕ) (reply : Message) → IsRefusal client number reply → IsIn reply new.world.packets → number ≤ old.log.acked
 
 -- ---- what a world tells
@@ -139,10 +161,23 @@ RunsTellWhatIsTaken = (client : ℕ) (entries : List Entry) (made : List Ask) (o
 abbrev pub RunsTellWhatIsAsked : Type 0
 RunsTellWhatIsAsked = (client : ℕ) (entries : List Entry) (made : List Ask) (old new : State) → Runs client entries made old new → new.world.asks ≡ old.world.asks ++ made
 
+-- While a request is asked it was sent.
+abbrev pub AskedRequestsWereSent : Type 0
+AskedRequestsWereSent = (request : Message) (made : List Ask) (old new : World) → Moved request made old new → made ≢ [] → IsIn request new.packets
+
+-- While a message is asked that is free of the world's client, the world goes on without that client.
+abbrev pub FreeAsksAreNoSends : Type 0
+FreeAsksAreNoSends = (request : Message) (made : List Ask) (old new : World) → IsFree old request → Moved request made old new → MovedAlone made old new
+
 -- What was ever sent stays among the packets.
 abbrev pub PacketsStay : Type 0
 PacketsStay = (client : ℕ) (entries : List Entry) (made : List Ask) (old new : State) (message : Message) → Runs client entries made old new
     → IsIn message old.world.packets → IsIn message new.world.packets
+
+-- What was asked in a run was sent.
+abbrev pub RunsSendWhatIsAsked : Type 0
+RunsSendWhatIsAsked = (client : ℕ) (entries : List Entry) (made : List Ask) (old new : State) (ask : Ask) → Runs client entries made old new → IsIn ask made
+    → IsIn ask.request new.world.packets
 
 -- What was answered in a run was sent, and echoes its request.
 abbrev pub RunsAnswersStand : Type 0
@@ -153,6 +188,10 @@ RunsAnswersStand = (client : ℕ) (entries : List Entry) (made : List Ask) (old 
 -- What was accepted was taken.
 abbrev pub AcceptedEntriesWereTaken : Type 0
 AcceptedEntriesWereTaken = (client : ℕ) (log : Log) (world : World) (number : ℕ) → InStep client log world → IsIn (Accepted client number) world.packets → number ≤ world.served.last client
+
+-- And so was what is done.
+abbrev pub DoneEntriesWereTaken : Type 0
+DoneEntriesWereTaken = (client : ℕ) (log : Log) (world : World) (number : ℕ) → InStep client log world → IsIn (Done client number) world.packets → number ≤ world.served.last client
 
 -- A reply never says that a number of the client was left out.
 abbrev pub NoGapComes : Type 0

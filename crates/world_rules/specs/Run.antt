@@ -60,10 +60,10 @@ MaySendKept client state message = MaySend client state.log message × (state.ke
 
 -- The client sends what its kept log may send, logs an entry with which it has a log, acknowledges on a reply that was sent and accepts
 -- its first pending entry, and pulls a snapshot that was sent, has its acknowledged number as the last and is at no path older than
--- its base. What was answered stands. It may be kept at any time.
+-- its base. What was asked was sent, and what was answered stands. It may be kept at any time.
 abbrev pub IsPossible : ℕ → State → Move → Type 0
 IsPossible client state (Network step) = IsAllowed (MaySendKept client state) state.world step
-IsPossible client state (Notes ask) = AnswerStands state.world ask
+IsPossible client state (Notes ask) = IsIn ask.request state.world.packets × AnswerStands state.world ask
 IsPossible client state (Logs entry) = IsLog (logged entry state.log)
 IsPossible client state (Acknowledges reply) = (state.log.pending ≢ []) × IsAcceptance client (state.log.acked + 1) reply × IsIn reply state.world.packets
 IsPossible client state (Pulls last seen) =

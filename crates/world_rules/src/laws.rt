@@ -1,10 +1,13 @@
 // What holds of every run of a client in its world, as contracts of calls that do nothing.
-ghost use Rattle.world_rules.specs.Laws.{RunsStayInStep, RestartsStayInStep, NewClientsAreInStep, AsksArePossible, PendingStoresAreValid, RunsJoin, RestartsEndRuns, SilentClientsRun, EntriesAreTakenOnce, LaterEntriesArePending, LoneClientsEntriesAreTaken, SparedPathsAreTheClients, SparedPathsAreKept, LoneClientsAreServedTheirTree, LoneClientsTreeIsKept, LoneClientsAreNotRefused, ServedIsReplayed, RunsServeWhatIsTaken, RunsAnswersStand, RunsTellWhatIsTaken, RunsTellWhatIsAsked, PacketsStay, AcceptedEntriesWereTaken, NoGapComes, StaleNamesAPathAhead, RefusalsShowAPathAhead, PullsFindTheirNumber, FreshPullsAreNotOlder};
+ghost use Rattle.world_rules.specs.Laws.{RunsStayInStep, RelaysKeepInStep, RestartsStayInStep, OperationsNeedASurrogate, ClientsWithoutOperationsNeverCollide, NewClientsAreInStep, AsksArePossible, PendingStoresAreValid, RunsJoin, RestartsEndRuns, SilentClientsRun, EntriesAreTakenOnce, LaterEntriesArePending, LoneClientsEntriesAreTaken, SparedPathsAreTheClients, SparedPathsAreKept, LoneClientsAreServedTheirTree, LoneClientsTreeIsKept, LoneClientsAreNotRefused, ServedIsReplayed, RunsServeWhatIsTaken, RunsAnswersStand, RunsSendWhatIsAsked, RunsTellWhatIsTaken, RunsTellWhatIsAsked, AskedRequestsWereSent, FreeAsksAreNoSends, PacketsStay, AcceptedEntriesWereTaken, DoneEntriesWereTaken, NoGapComes, StaleNamesAPathAhead, RefusalsShowAPathAhead, PullsFindTheirNumber, FreshPullsAreNotOlder};
 
-/// Every run from a log in step ends in step, with what is kept of the log, and so does a new beginning with that. A
-/// new client begins in step, asking is a run, and each pending entry can be sent.
+/// Every run from a log in step ends in step, with what is kept of the log, and so does a new beginning with that, and what a
+/// surrogate sends. A new client begins in step and sends no operation, asking is a run, and each pending entry can be sent.
 pub fn runs_stay_in_step()
     ensures runs { RunsStayInStep }
+    ensures relays { RelaysKeepInStep }
+    ensures operations { OperationsNeedASurrogate }
+    ensures apart { ClientsWithoutOperationsNeverCollide }
     ensures restarts { RestartsStayInStep }
     ensures beginning { NewClientsAreInStep }
     ensures asking { AsksArePossible }
@@ -37,13 +40,17 @@ pub fn unshared_paths_are_the_clients()
     ensures unrefused { LoneClientsAreNotRefused }
 {}
 
-/// A world tells what was taken, asked and sent in a run, and what is served follows from it. What was answered stands.
+/// A world tells what was taken, asked and sent in a run, and what is served follows from it. What was asked was sent, and what was
+/// answered stands.
 pub fn worlds_tell_what_happened()
     ensures served { ServedIsReplayed }
     ensures served_after { RunsServeWhatIsTaken }
     ensures answered { RunsAnswersStand }
+    ensures sends { RunsSendWhatIsAsked }
     ensures taken { RunsTellWhatIsTaken }
     ensures asked { RunsTellWhatIsAsked }
+    ensures requests { AskedRequestsWereSent }
+    ensures free { FreeAsksAreNoSends }
     ensures sent { PacketsStay }
 {}
 
@@ -51,6 +58,7 @@ pub fn worlds_tell_what_happened()
 /// version, and a pull finds the client's own number and, where it is fresh, nothing older.
 pub fn replies_are_true()
     ensures accepted { AcceptedEntriesWereTaken }
+    ensures done { DoneEntriesWereTaken }
     ensures gap { NoGapComes }
     ensures stale { StaleNamesAPathAhead }
     ensures refused { RefusalsShowAPathAhead }

@@ -47,6 +47,9 @@ pub trait Link {
     /// What the link tells of itself.
     ghost tells: { Self → LinkTelling };
 
+    /// What else an ask keeps of the link, and asks in a row: what a caller over any link hands on to one who knows this link.
+    ghost keeps: { Self → Self → Type 0 };
+
     /// Asks a peer once: sends the frame of a request to an address, and gives the frame of a reply to it. `Failed` comes
     /// only where the link had trouble in this call; after `Memory` the request may have been sent or not.
     fn ask(&mut self, to: Peer, address: &[u8], frame: &[u8]) -> Result<Vec<u8>, LinkError>
@@ -61,7 +64,12 @@ pub trait Link {
             → IsCalm (tells self.old) (tells self.new)
             → ToldWorlds (tells self.old) (tells self.new)
             (λ old new. IsDirect to address.now request old new result) }
-        ensures cause { HasCause LinkError.Failed (tells self.old).troubles (tells self.new).troubles result };
+        ensures cause { HasCause LinkError.Failed (tells self.old).troubles (tells self.new).troubles result }
+        ensures kept { keeps self.old self.new };
+
+    ghost keeps_none: { (x : Self) → keeps x x };
+
+    ghost keeps_then: { (x y z : Self) → keeps x y → keeps y z → keeps x z };
 }
 
 /// Asks a peer up to eight times, until an ask does not fail, and gives the frame of a reply to the request.
@@ -84,6 +92,7 @@ pub fn ask_eight<L: Link>(
         → ToldWorlds (L.tells link.old) (L.tells link.new)
         (λ old new. IsDirect to address.now request old new result) }
     ensures later { (L.tells link.old).troubles ≤ (L.tells link.new).troubles }
+    ensures kept { L.keeps link.old link.new }
 {
     for _tried in 0..8_usize {
         match link.ask(to, address, frame) {

@@ -30,6 +30,7 @@ pub fn settle<L: Link>(
         → ToldWorlds (L.tells link.old) (L.tells link.new)
         (λ old new. IfOk result (λ reply. IfSome reply (IsFreshReply request.now old new))) }
     ensures later { (L.tells link.old).troubles ≤ (L.tells link.new).troubles }
+    ensures kept { L.keeps link.old link.new }
 {
     let frame = write(alloc, request)?;
     match ask_eight(link, to, address, &frame) {

@@ -14,6 +14,12 @@ struct Dead {
 impl Link for Dead {
     ghost tells = { λ link. record { world = None; troubles = link.troubles } };
 
+    ghost keeps = { λ _ _. Unit {0} };
+
+    ghost keeps_none = { λ _. tt };
+
+    ghost keeps_then = { λ _ _ _ _ _. tt };
+
     fn ask(&mut self, _to: Peer, _address: &[u8], _frame: &[u8]) -> Result<Vec<u8>, LinkError> {
         self.asks = self.asks.saturating_add(1);
         if self.asks == self.without_memory {

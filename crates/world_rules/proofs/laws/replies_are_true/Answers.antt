@@ -1,9 +1,12 @@
-use Rattle.world_rules.proofs.Replying.{accepted_taken, no_gap, stale_ahead, refused_ahead, fresh_newer}
+use Rattle.world_rules.proofs.Replying.{accepted_taken, done_taken, no_gap, stale_ahead, refused_ahead, fresh_newer}
 use Rattle.world_rules.proofs.Runs.{pulled_last}
 use Rattle.world_rules.proofs.laws.replies_are_true.Goals as goal
 
 pub returns-clause-accepted : goal.returns-clause-accepted
 returns-clause-accepted c = accepted_taken
+
+pub returns-clause-done : goal.returns-clause-done
+returns-clause-done c = done_taken
 
 pub returns-clause-gap : goal.returns-clause-gap
 returns-clause-gap c = no_gap

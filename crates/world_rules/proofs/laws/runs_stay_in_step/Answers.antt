@@ -1,9 +1,20 @@
 use Rattle.world_rules.proofs.Runs.{both_in_step, restarts, new_in_step, moved_runs}
+use Rattle.world_rules.proofs.Events.{relayed_in_step}
+use Rattle.world_rules.proofs.Operations.{operated_before, never_collides}
 use Rattle.world_rules.proofs.Sending.{pending_valid}
 use Rattle.world_rules.proofs.laws.runs_stay_in_step.Goals as goal
 
 pub returns-clause-runs : goal.returns-clause-runs
 returns-clause-runs c = both_in_step
+
+pub returns-clause-relays : goal.returns-clause-relays
+returns-clause-relays c = λ client log world message now may none. relayed_in_step client log world message now may.0 may.1 none
+
+pub returns-clause-operations : goal.returns-clause-operations
+returns-clause-operations c = operated_before
+
+pub returns-clause-apart : goal.returns-clause-apart
+returns-clause-apart c = never_collides
 
 pub returns-clause-restarts : goal.returns-clause-restarts
 returns-clause-restarts c = restarts

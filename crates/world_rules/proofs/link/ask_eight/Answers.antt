@@ -47,6 +47,7 @@ loop-tried-preserved g c = record {
   unasked = λ none. absurd (omega (arith, none));
   later = omega (arith, c.in-Err-Failed.ensures.cause.later);
   rose = omega (arith, c.in-Err-Failed.ensures.cause.failed (ap Err c.in-Err-Failed.field-0-is));
+  kept = g.met.L.Link.keeps_then c.args.link.now c.loop-tried.link c.ask.new.self c.loop-tried.invariant.kept c.in-Err-Failed.ensures.kept;
   world = λ request spells.
       let to = c.args.to in
       let address = c.args.address.now in

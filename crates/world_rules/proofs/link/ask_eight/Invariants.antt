@@ -10,5 +10,6 @@ invariant-loop-tried g l = record {
   later : (g.L.Link.tells l.fn.link).troubles ≤ (g.L.Link.tells l.link).troubles;
   unasked : l._tried ≡ 0 → l.link ≡ l.fn.link;
   rose : HadTroubles l._tried (g.L.Link.tells l.fn.link) (g.L.Link.tells l.link);
+  kept : g.L.Link.keeps l.fn.link l.link;
   world : (request : Message) → Spells request l.frame → ToldWorlds (g.L.Link.tells l.fn.link) (g.L.Link.tells l.link) (Failures l.to l.address request l._tried);
 }
