@@ -3,12 +3,11 @@ use Rattle.std.proofs.Common.{◌≡◌, suc, ◌+◌, Bool, true, false, List, 
 use Rattle.std.specs.Prelude.{if◌then◌else◌}
 use Rattle.std.proofs.lemmas.List.{drop-drop}
 use Rattle.mem_net.specs.declared.fate.Fate.{Fate}
-use Rattle.mem_net.specs.declared.fate.Fate.TheVariants.{Pass, LoseRequest, LoseReply, Twice, Old, Late, Inject}
 use Rattle.world_rules.specs.World.{World}
 use Rattle.mem_net.specs.Net.{Net, world_of}
 use Rattle.mem_net.specs.Fates.{decides, deciding, left_after, at_decision, befallen, IsEndOf}
 use Rattle.mem_net.specs.Inside.{MovedFree, KeepsFates, decision, Awaits}
-use Rattle.mem_net.proofs.Network.{free_then, free_as}
+use Rattle.mem_net.proofs.Network.{free_then}
 
 -- ---- one fate
 

@@ -1,10 +1,10 @@
 -- What a delivery makes of the world, late or injected.
-use Rattle.std.proofs.Common.{◌≡◌, ℕ, Bool, true, false, [], ◌∷◌, ◌++◌, Option, Some, Result, Ok, Err, refl, sym, ◌∙◌, ap, subst, arith}
-use Rattle.std.specs.Prelude.{◌==◌, if◌then◌else◌}
+use Rattle.std.proofs.Common.{◌≡◌, Bool, true, false, [], ◌∷◌, ◌++◌, Option, Some, Result, Ok, refl, sym, ◌∙◌, ap, subst}
+use Rattle.std.specs.Prelude.{if◌then◌else◌}
 use Rattle.byte_fields.proofs.Facts.{eq_holds, eq_fails}
 use Rattle.tree_values.specs.Lists.{IsIn}
 use Rattle.wire_frames.specs.declared.message.Message.{Message}
-use Rattle.wire_frames.specs.declared.message.Message.TheVariants.{Store, Pull, Accepted, Stale, Unfit, Gap, Snapshot, Full, Malformed}
+use Rattle.wire_frames.specs.declared.message.Message.TheVariants.{Store, Pull}
 use Rattle.wire_frames.specs.declared.message.FrameError.{FrameError}
 use Rattle.wire_frames.specs.Frame.{client_of, IsValid}
 use Rattle.world_rules.specs.Served.{answer}
@@ -13,7 +13,8 @@ use Rattle.server_core.specs.Holding.{served}
 use Rattle.mem_net.specs.Net.{Net, world_of}
 use Rattle.mem_net.specs.Fates.{delivered_late, injected}
 use Rattle.mem_net.specs.Inside.{MovedFree, is_store}
-use Rattle.mem_net.proofs.Network.{in_push, free_none, free_as, free_then, free_handled, free_other}
+use Rattle.world_rules.proofs.Asks.{IsIn-last}
+use Rattle.mem_net.proofs.Network.{free_none, free_as, free_then, free_handled, free_other}
 
 -- ---- a message joins the packets
 
@@ -21,7 +22,7 @@ pub world-sent : (m : Message) (a d : Net) → d ≡ record a { packets = a.pack
 world-sent m a d sending = ap world_of sending
 
 pub sent_among : (m : Message) (a d : Net) → d ≡ record a { packets = a.packets ++ m ∷ [] } → IsIn m d.packets
-sent_among m a d sending = subst (λ (n : Net). IsIn m n.packets) (sym sending) (in_push m a.packets)
+sent_among m a d sending = subst (λ (n : Net). IsIn m n.packets) (sym sending) (IsIn-last m a.packets)
 
 -- a request was handled, and its answer joined the packets
 pub world-answered : (m reply : Message) (a b d : Net) → world_of b ≡ delivered m false (world_of a) → reply ≡ answer m (served a.server) → d ≡ record b { packets = b.packets ++ reply ∷ [] }
@@ -40,13 +41,7 @@ moved-same a d same = free_as (world_of a) (world_of a) (world_of d) (free_none 
 late_some : (m : Message) (w : World) → IsForServer m → delivered m true w ≡ delivered_late (Some m) w
 late_some (Store client number effects base) w for = refl
 late_some (Pull client number) w for = refl
-late_some (Accepted client number) w for = absurd for
-late_some (Stale client number path theirs ours) w for = absurd for
-late_some (Unfit client number index fault) w for = absurd for
-late_some (Gap client number last) w for = absurd for
-late_some (Snapshot client number last rows) w for = absurd for
-late_some (Full client number index fault) w for = absurd for
-late_some (Malformed code offset) w for = absurd for
+late_some _ w for = absurd for
 
 -- a packet that is a request was delivered
 pub late-delivered : (m : Message) (found : Option Message) (w : World) → found ≡ Some m → IsForServer m → delivered m true w ≡ delivered_late found w
@@ -58,38 +53,17 @@ inject_store : (m : Message) (w : World) → is_store m ≡ true → (client_of 
 inject_store (Store client number effects base) w is other =
     let m = Store client number effects base in
     sym (ap (λ (b : Bool). if b then w else delivered m true (sent m w)) (eq_fails client w.client other))
-inject_store (Pull client number) w is other = absurd (cc)
-inject_store (Accepted client number) w is other = absurd (cc)
-inject_store (Stale client number path theirs ours) w is other = absurd (cc)
-inject_store (Unfit client number index fault) w is other = absurd (cc)
-inject_store (Gap client number last) w is other = absurd (cc)
-inject_store (Snapshot client number last rows) w is other = absurd (cc)
-inject_store (Full client number index fault) w is other = absurd (cc)
-inject_store (Malformed code offset) w is other = absurd (cc)
+inject_store _ w is other = absurd (cc)
 
 inject_own : (m : Message) (w : World) → client_of m ≡ w.client → w ≡ injected (Ok m) w
 inject_own (Store client number effects base) w is =
     let m = Store client number effects base in
     sym (ap (λ (b : Bool). if b then w else delivered m true (sent m w)) (eq_holds client w.client is))
-inject_own (Pull client number) w is = refl
-inject_own (Accepted client number) w is = refl
-inject_own (Stale client number path theirs ours) w is = refl
-inject_own (Unfit client number index fault) w is = refl
-inject_own (Gap client number last) w is = refl
-inject_own (Snapshot client number last rows) w is = refl
-inject_own (Full client number index fault) w is = refl
-inject_own (Malformed code offset) w is = refl
+inject_own _ w is = refl
 
 inject_other : (m : Message) (w : World) → is_store m ≡ false → w ≡ injected (Ok m) w
 inject_other (Store client number effects base) w is = absurd (cc)
-inject_other (Pull client number) w is = refl
-inject_other (Accepted client number) w is = refl
-inject_other (Stale client number path theirs ours) w is = refl
-inject_other (Unfit client number index fault) w is = refl
-inject_other (Gap client number last) w is = refl
-inject_other (Snapshot client number last rows) w is = refl
-inject_other (Full client number index fault) w is = refl
-inject_other (Malformed code offset) w is = refl
+inject_other _ w is = refl
 
 module _ (found : Result Message FrameError) (w : World) where
   as_found : (r : Result Message FrameError) → found ≡ r → injected r w ≡ injected found w

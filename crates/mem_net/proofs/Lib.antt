@@ -2,3 +2,4 @@ pub mod Taking
 pub mod Network
 pub mod Delivering
 pub mod Deciding
+pub mod Spent

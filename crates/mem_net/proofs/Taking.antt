@@ -1,6 +1,6 @@
 -- What the server's numbers tell of the store that it was given, and how its answer fits the request.
 use Rattle.std.proofs.Common.{◌≡◌, ◌≢◌, ℕ, ◌<◌, Bool, true, false, List, [], ◌∷◌, ◌++◌, length, take, Option, Result, refl, ap, subst, arith}
-use Rattle.std.specs.Prelude.{nat_le, ◌==◌, if◌then◌else◌}
+use Rattle.std.specs.Prelude.{if◌then◌else◌}
 use Rattle.byte_fields.proofs.Facts.{eq_itself, not_le_of}
 use Rattle.tree_values.specs.Tree.{Volume}
 use Rattle.tree_values.specs.Effects.{Conflict, apply_all, first_conflict}
@@ -8,7 +8,7 @@ use Rattle.tree_values.specs.declared.node.Effect.{Effect}
 use Rattle.tree_values.specs.declared.node.Base.{Base}
 use Rattle.tree_values.specs.declared.node.TreeError.{TreeError}
 use Rattle.wire_frames.specs.declared.message.Message.{Message}
-use Rattle.wire_frames.specs.declared.message.Message.TheVariants.{Store, Pull, Accepted, Stale, Unfit, Gap, Snapshot, Full, Malformed}
+use Rattle.wire_frames.specs.declared.message.Message.TheVariants.{Store, Pull, Unfit, Full}
 use Rattle.wire_frames.specs.Frame.{Echoes, client_of}
 use Rattle.world_rules.specs.declared.asking.Peer.{Peer}
 use Rattle.world_rules.specs.declared.asking.Peer.TheVariants.{Server, Surrogate}
@@ -59,49 +59,25 @@ module _ (client number : ℕ) (effects : List Effect) (base : List Base) (s : S
 pub taken-none : (m : Message) (s : Served) → IsForServer m → (state_after m s).last (client_of m) ≡ s.last (client_of m) → taken_of m s ≡ []
 taken-none (Store client number effects base) s for same = untaken client number effects base s (verdict client number effects base s) refl same
 taken-none (Pull client number) s for same = refl
-taken-none (Accepted client number) s for same = absurd for
-taken-none (Stale client number path theirs ours) s for same = absurd for
-taken-none (Unfit client number index fault) s for same = absurd for
-taken-none (Gap client number last) s for same = absurd for
-taken-none (Snapshot client number last rows) s for same = absurd for
-taken-none (Full client number index fault) s for same = absurd for
-taken-none (Malformed code offset) s for same = absurd for
+taken-none _ s for same = absurd for
 
 -- where it changes, the store is taken
 pub taken-one : (m : Message) (s : Served) → IsForServer m → (state_after m s).last (client_of m) ≢ s.last (client_of m) → taken_of m s ≡ m ∷ []
 taken-one (Store client number effects base) s for other = is_taken client number effects base s (verdict client number effects base s) other
 taken-one (Pull client number) s for other = absurd (other refl)
-taken-one (Accepted client number) s for other = absurd for
-taken-one (Stale client number path theirs ours) s for other = absurd for
-taken-one (Unfit client number index fault) s for other = absurd for
-taken-one (Gap client number last) s for other = absurd for
-taken-one (Snapshot client number last rows) s for other = absurd for
-taken-one (Full client number index fault) s for other = absurd for
-taken-one (Malformed code offset) s for other = absurd for
+taken-one _ s for other = absurd for
 
 -- the server's answer is a reply to the request
 pub answer-echoes : (m : Message) (s : Served) → IsForServer m → Echoes m (answer m s)
 answer-echoes (Store client number effects base) s for = reply-echoes client number effects base s (verdict client number effects base s)
 answer-echoes (Pull client number) s for = (tt, refl, refl)
-answer-echoes (Accepted client number) s for = absurd for
-answer-echoes (Stale client number path theirs ours) s for = absurd for
-answer-echoes (Unfit client number index fault) s for = absurd for
-answer-echoes (Gap client number last) s for = absurd for
-answer-echoes (Snapshot client number last rows) s for = absurd for
-answer-echoes (Full client number index fault) s for = absurd for
-answer-echoes (Malformed code offset) s for = absurd for
+answer-echoes _ s for = absurd for
 
 -- what may be asked of the server is for it
 asked_of_server : (m : Message) → IsRequest Server m → IsForServer m
 asked_of_server (Store client number effects base) asked = tt
 asked_of_server (Pull client number) asked = tt
-asked_of_server (Accepted client number) asked = absurd asked
-asked_of_server (Stale client number path theirs ours) asked = absurd asked
-asked_of_server (Unfit client number index fault) asked = absurd asked
-asked_of_server (Gap client number last) asked = absurd asked
-asked_of_server (Snapshot client number last rows) asked = absurd asked
-asked_of_server (Full client number index fault) asked = absurd asked
-asked_of_server (Malformed code offset) asked = absurd asked
+asked_of_server _ asked = absurd asked
 
 -- what was read of a request to the server is for it
 pub for_server : (to : Peer) (asked read : Message) → to ≡ Server → asked ≡ read → IsRequest to asked → IsForServer read

@@ -1,4 +1,5 @@
 pub mod Net
 pub mod Fates
+pub mod Spending
 pub mod Inside
 pub mod Laws

@@ -56,12 +56,12 @@ impl MemNet {
     ghost use Rattle.wire_frames.specs.Reading.{frame_of};
     ghost use Rattle.server_core.specs.Holding.{served};
     ghost use Rattle.world_rules.specs.Served.{answer, IsServed};
-    ghost use Rattle.world_rules.specs.World.{Moved, sent, delivered};
+    ghost use Rattle.world_rules.specs.World.{Is, MovedBy, sent, delivered};
     ghost use Rattle.world_rules.specs.Asking.{ask_of};
     ghost use Rattle.mem_net.specs.Net.{Net, world_of, new_world};
     ghost use Rattle.mem_net.specs.Fates.{decides, deciding, left_after, at_decision, befallen, delivered_late, injected};
     ghost use Rattle.mem_net.specs.Fates.{answered, one_more, troubles_after, IsEndOf, IsNoReply};
-    ghost use Rattle.mem_net.specs.Inside.{MovedFree, KeepsFates, decision, Meets, Awaits};
+    ghost use Rattle.mem_net.specs.Inside.{MovedFree, IsSent, KeepsFates, decision, MeetsUnlessMemory, Awaits};
     ghost use Rattle.mem_net.specs.declared.fate.Fate.TheVariants.{Pass, LoseRequest, Old};
 
     /// The network of a client and this server, in which nothing was sent. The asks meet these fates in their order;
@@ -359,10 +359,8 @@ impl MemNet {
         ensures kept { KeepsFates self.old self.new }
     {
         let (message, frame) = reply.open();
-        match self.note(to, address, request, Answer::Reply(message)) {
-            Ok(()) => Ok(frame),
-            Err(_refused) => Err(LinkError::Memory),
-        }
+        self.note(to, address, request, Answer::Reply(message))?;
+        Ok(frame)
     }
 
     /// A request that was sent is handled, and its reply is the answer.
@@ -370,7 +368,7 @@ impl MemNet {
         requires valid { IsValid request }
         requires request { IsForServer request }
         requires sent { IsIn request self.old.packets }
-        ensures met { Meets Pass to address.now request (world_of self.old) (world_of self.new) result }
+        ensures met { MeetsUnlessMemory Pass to address.now request (world_of self.old) (world_of self.new) result }
         ensures kept { KeepsFates self.old self.new }
     {
         match self.deliver(&request) {
@@ -385,18 +383,14 @@ impl MemNet {
     /// A request that was sent has no answer.
     fn lose(&mut self, to: Peer, address: &[u8], request: Message) -> Result<Vec<u8>, LinkError>
         requires { IsIn request self.old.packets }
-        ensures met { Meets LoseRequest to address.now request (world_of self.old) (world_of self.new) result }
+        ensures met { MeetsUnlessMemory LoseRequest to address.now request (world_of self.old) (world_of self.new) result }
         ensures fates { self.new.fates ≡ self.old.fates }
         ensures troubles { self.new.troubles ≡ troubles_after LoseRequest result self.old.troubles }
         ensures later { self.old.troubles ≤ self.new.troubles }
     {
-        match self.note(to, address, request, Answer::Failed) {
-            Ok(()) => {
-                self.trouble();
-                Err(LinkError::Failed)
-            }
-            Err(_refused) => Err(LinkError::Memory),
-        }
+        self.note(to, address, request, Answer::Failed)?;
+        self.trouble();
+        Err(LinkError::Failed)
     }
 
     /// A copy of the packet of this number, where it is a reply to the request.
@@ -420,7 +414,7 @@ impl MemNet {
         request: Message,
     ) -> Result<Vec<u8>, LinkError>
         requires { IsIn request self.old.packets }
-        ensures met { Meets (Old k) to address.now request (world_of self.old) (world_of self.new) result }
+        ensures met { MeetsUnlessMemory (Old k) to address.now request (world_of self.old) (world_of self.new) result }
         ensures fates { self.new.fates ≡ self.old.fates }
         ensures troubles { self.new.troubles ≡ troubles_after (Old k) result self.old.troubles }
         ensures later { self.old.troubles ≤ self.new.troubles }
@@ -451,7 +445,7 @@ impl MemNet {
         requires valid { IsValid request }
         requires request { IsForServer request }
         requires sent { IsIn request self.old.packets }
-        ensures met { Meets fate to address.now request (world_of self.old) (world_of self.new) result }
+        ensures met { MeetsUnlessMemory fate to address.now request (world_of self.old) (world_of self.new) result }
         ensures fates { self.new.fates ≡ self.old.fates }
         ensures troubles { self.new.troubles ≡ troubles_after fate result self.old.troubles }
         ensures later { self.old.troubles ≤ self.new.troubles }
@@ -491,7 +485,8 @@ impl MemNet {
         ensures decides { IfOk result (λ fate. decides fate ≡ true) }
         ensures left { OnOk result (self.new.fates ≡ left_after self.old.fates) }
         ensures reached { OnOk result (world_of self.new ≡ at_decision self.old.fates (sent request.now (world_of self.old))) }
-        ensures moved { Moved request.now [] (world_of self.old) (world_of self.new) }
+        ensures moved { MovedBy (Is request.now) [] (world_of self.old) (world_of self.new) }
+        ensures asking { OnOk result (IsSent request.now (world_of self.old) (world_of self.new)) }
         ensures sent { OnOk result (IsIn request.now self.new.packets) }
         ensures rest { IsEndOf self.new.fates self.old.fates }
         ensures behind { IsEndOf (left_after self.old.fates) self.new.fates }
@@ -523,8 +518,15 @@ impl Link for MemNet {
     ghost use Rattle.world_rules.specs.Asking.{IsRequest, IsReplyTo, AsksOnce, IsDirect};
     ghost use Rattle.mem_net.specs.Net.{world_of};
     ghost use Rattle.mem_net.specs.Fates.{fate_of, at_decision, MeetsFate, LeavesFates, troubles_after};
+    ghost use Rattle.mem_net.specs.Spending.{Spends, spends_none, spends_then};
 
     ghost tells = { λ n. record { world = Some (world_of n); troubles = n.troubles } };
+
+    ghost keeps = { Spends };
+
+    ghost keeps_none = { spends_none };
+
+    ghost keeps_then = { spends_then };
 
     /// Sends the request and takes fates up to the first that decides: that one says what becomes of the ask. An ask of
     /// the surrogate is lost.
@@ -540,6 +542,7 @@ impl Link for MemNet {
             → Told (Some (world_of self.old)) (Some (world_of self.new))
             (λ old new. IsDirect to address.now request old new result) }
         ensures cause { HasCause LinkError.Failed self.old.troubles self.new.troubles result }
+        ensures kept { Spends self.old self.new }
 
         // What the request, the world and the fates make of it.
         ensures fate { (request : Message) → Spells request frame.now

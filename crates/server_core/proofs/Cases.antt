@@ -12,7 +12,7 @@ use Rattle.vol_tree.proofs.Steps.{apply_all-append}
 use Rattle.wire_frames.specs.declared.message.Message.{Message}
 use Rattle.wire_frames.specs.declared.message.Message.TheVariants.{Store, Pull, Accepted, Stale, Unfit, Gap, Full}
 use Rattle.world_rules.specs.Served.{Served, judged, refusal, reply, served_after, with_last}
-use Rattle.server_core.specs.Inside.{is_outdated, conflict_at, EndsAs, Ends}
+use Rattle.server_core.specs.Inside.{is_outdated, conflict_at, EndsAs, EndsNext}
 use Rattle.server_core.specs.Laws.{IsServedAs, IsCurrent, RepeatsChangeNothing, GapsChangeNothing, StaleStoresChangeNothing, FullStoresChangeNothing, UnfitStoresChangeNothing, OtherStoresAreTaken, PullsTellTheRows, OthersAreMalformed}
 
 -- ---- the first path of a base that has another version
@@ -82,7 +82,7 @@ taken client number effects base s new next current found =
 
 -- the end of a next store whose base is current
 pub ended : (client number : ℕ) (effects : List Effect) (base : List Base) (old new : Served) (answered : Message) → number ≡ old.last client + 1 → first_conflict base old.volume ≡ None
-    → Ends client number effects old new answered → IsServedAs (Store client number effects base) old answered new
+    → EndsNext client number effects old new answered → IsServedAs (Store client number effects base) old answered new
 ended client number effects base old new answered next current ends = by (apply_all 0 effects old.volume) refl ends
   where
     by : (applied : Result Volume (ℕ × TreeError)) → apply_all 0 effects old.volume ≡ applied → EndsAs client number old new answered applied → IsServedAs (Store client number effects base) old answered new

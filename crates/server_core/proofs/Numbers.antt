@@ -7,12 +7,12 @@ use Rattle.std.proofs.lemmas.List.{get_or-set_same, get_or-set_other, get_or-rep
 use Rattle.tree_values.specs.Tree.{Volume, IsTree}
 use Rattle.vol_tree.proofs.Behind.{IsTree-empty}
 use Rattle.world_rules.specs.Served.{IsServed, new_served, with_last}
-use Rattle.server_core.specs.Holding.{number_of, served}
+use Rattle.server_core.specs.Holding.{last_number, served}
 
 -- ---- raising a number
 
 raised_at : (last : List ℕ) (client number other : ℕ) (b : Bool) → 1 ≤ client → client ≤ length last → (other == client) ≡ b
-    → number_of (set last (client - 1) number) other ≡ (if b then number else number_of last other)
+    → last_number (set last (client - 1) number) other ≡ (if b then number else last_number last other)
 raised_at last client number zero true low high e = let same : 0 ≡ client = eqb-true 0 client e in absurd (omega arith)
 raised_at last client number zero false low high e = refl
 raised_at last client number (suc k) true low high e =
@@ -24,12 +24,12 @@ raised_at last client number (suc k) false low high e =
     get_or-set_other last (client - 1) k number 0 (λ (same : k ≡ client - 1). other (omega arith))
 
 -- raising one number in the list raises that client's number
-pub number_of-set : (last : List ℕ) (client number : ℕ) → 1 ≤ client → client ≤ length last → number_of (set last (client - 1) number) ≡ with_last (number_of last) client number
-number_of-set last client number low high = λ i. λ other. raised_at last client number other (other == client) low high refl i
+pub last_number-set : (last : List ℕ) (client number : ℕ) → 1 ≤ client → client ≤ length last → last_number (set last (client - 1) number) ≡ with_last (last_number last) client number
+last_number-set last client number low high = λ i. λ other. raised_at last client number other (other == client) low high refl i
 
 pub served-raised : (rows : Volume) (last : List ℕ) (client number : ℕ) → 1 ≤ client → client ≤ length last
-    → served (record { rows = rows; last = set last (client - 1) number }) ≡ record { volume = rows; last = with_last (number_of last) client number }
-served-raised rows last client number low high = let same = number_of-set last client number low high in λ i. record { volume = rows; last = same i }
+    → served (record { rows = rows; last = set last (client - 1) number }) ≡ record { volume = rows; last = with_last (last_number last) client number }
+served-raised rows last client number low high = let same = last_number-set last client number low high in λ i. record { volume = rows; last = same i }
 
 -- ---- a new server
 
@@ -44,12 +44,12 @@ get_or-zeros count k = by (nat_lt k count) refl
     by true e = get_or-replicate count k 0 0 (ltb-true k count e)
     by false e = let past : length (zeros count) ≤ k = rw length-replicate (not_lt_of k count e) in get_or_past (replicate count 0) k 0 past
 
-number_of-zeros : (count client : ℕ) → number_of (replicate count 0) client ≡ 0
-number_of-zeros count zero = refl
-number_of-zeros count (suc k) = get_or-zeros count k
+last_number-zeros : (count client : ℕ) → last_number (replicate count 0) client ≡ 0
+last_number-zeros count zero = refl
+last_number-zeros count (suc k) = get_or-zeros count k
 
 pub served-new : served (record { rows = []; last = replicate 64 0 }) ≡ new_served
-served-new = λ i. record { volume = []; last = λ client. number_of-zeros 64 client i }
+served-new = λ i. record { volume = []; last = λ client. last_number-zeros 64 client i }
 
 new_served-legal : IsServed new_served
 new_served-legal = record { tree = IsTree-empty; small = λ client. omega arith; of_none = refl; of_no_others = λ client above. refl }
@@ -59,13 +59,13 @@ new-legal = subst IsServed (sym served-new) new_served-legal
 
 -- ---- a server of an image
 
-number_of-small : (last : List ℕ) (client : ℕ) → ((i : ℕ) → get_or last i 0 < 2 ^ 64) → number_of last client < 2 ^ 64
-number_of-small last zero small = omega arith
-number_of-small last (suc k) small = small k
+last_number-small : (last : List ℕ) (client : ℕ) → ((i : ℕ) → get_or last i 0 < 2 ^ 64) → last_number last client < 2 ^ 64
+last_number-small last zero small = omega arith
+last_number-small last (suc k) small = small k
 
-number_of-past : (last : List ℕ) (client : ℕ) → length last ≡ 64 → 64 < client → number_of last client ≡ 0
-number_of-past last zero count past = refl
-number_of-past last (suc k) count past = get_or_past last k 0 (omega (arith, count, past))
+last_number-past : (last : List ℕ) (client : ℕ) → length last ≡ 64 → 64 < client → last_number last client ≡ 0
+last_number-past last zero count past = refl
+last_number-past last (suc k) count past = get_or_past last k 0 (omega (arith, count, past))
 
 pub image-legal : (rows : Volume) (last : List ℕ) → IsTree rows → length last ≡ 64 → ((i : ℕ) → get_or last i 0 < 2 ^ 64) → IsServed (served (record { rows = rows; last = last }))
-image-legal rows last tree count small = record { tree = tree; small = λ client. number_of-small last client small; of_none = refl; of_no_others = λ client past. number_of-past last client count past }
+image-legal rows last tree count small = record { tree = tree; small = λ client. last_number-small last client small; of_none = refl; of_no_others = λ client past. last_number-past last client count past }

@@ -11,12 +11,12 @@ pub record Holding : Type 0 where
   pub last : List ℕ
 
 -- the number of a client; 0 for the client number 0, and for one past the end
-abbrev pub number_of : List ℕ → ℕ → ℕ
-number_of last client = slice_index_or (0 ∷ last) client 0
+abbrev pub last_number : List ℕ → ℕ → ℕ
+last_number last client = slice_index_or (0 ∷ last) client 0
 
 -- the served state that it stands for
 abbrev pub served : Holding → Served
-served holding = record { volume = holding.rows; last = number_of holding.last }
+served holding = record { volume = holding.rows; last = last_number holding.last }
 
 -- whether a reply accepts a store
 abbrev pub is_acceptance : Message → Bool

@@ -24,8 +24,8 @@ EndsAs client number old new reply (Ok volume) =
     (reply ≡ Accepted client number) × (new ≡ record { volume = volume; last = with_last old.last client number })
 EndsAs client number old new reply (Err cause) = (reply ≡ refusal client number cause.0 cause.1) × (new ≡ old)
 
-abbrev pub Ends : ℕ → ℕ → List Effect → Served → Served → Message → Type 0
-Ends client number effects old new reply = EndsAs client number old new reply (apply_all 0 effects old.volume)
+abbrev pub EndsNext : ℕ → ℕ → List Effect → Served → Served → Message → Type 0
+EndsNext client number effects old new reply = EndsAs client number old new reply (apply_all 0 effects old.volume)
 
 -- the last number of the client of a store; 0 for any other message
 abbrev pub last_of : Message → Served → ℕ

@@ -6,8 +6,8 @@ use Rattle.world_rules.specs.Served.{Served, new_served}
 use Rattle.server_core.specs.Holding.{Holding, served}
 
 -- the image of what a server holds
-abbrev pub image_of : Holding → ServerImage
-image_of holding = record { last = holding.last; tree = holding.rows }
+abbrev pub server_image : Holding → ServerImage
+server_image holding = record { last = holding.last; tree = holding.rows }
 
 -- what the server of an image holds
 abbrev pub holding_of : ServerImage → Holding

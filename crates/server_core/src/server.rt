@@ -11,7 +11,7 @@ ghost use Rattle.world_rules.specs.Served.{IsServed, new_served, answer, state_a
 ghost use Rattle.server_core.specs.Holding.{Holding, served, is_acceptance};
 ghost use Rattle.server_core.specs.Keeping.{holding_of, IsKeptForServed};
 ghost use Rattle.server_core.specs.Framing.{frame_answer, frame_after, is_any, takes};
-ghost use Rattle.server_core.specs.Inside.{is_outdated, Ends, IsAcceptanceOf, last_of};
+ghost use Rattle.server_core.specs.Inside.{is_outdated, EndsNext, IsAcceptanceOf, last_of};
 
 use std::alloc::{AllocError, Global};
 use std::marker::Model;
@@ -221,7 +221,7 @@ impl Server {
         requires low { 1 ≤ client }
         requires high { client ≤ CLIENTS }
         requires legal { AllByRecursion IsLegalEffect effects.now }
-        ensures ok { IfOk result (Ends client number effects.now (served self.old) (served self.new)) }
+        ensures ok { IfOk result (EndsNext client number effects.now (served self.old) (served self.new)) }
         ensures err { OnErr result (self.new ≡ self.old) }
         ensures kept { IfOk result (λ reply. is_acceptance reply ≡ false → self.new ≡ self.old) }
         ensures legal { IsServed (served self.new) }

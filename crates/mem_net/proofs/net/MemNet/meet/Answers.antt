@@ -1,7 +1,7 @@
 use Rattle.std.proofs.Common.{sym, subst}
 use Rattle.mem_net.specs.declared.fate.Fate.{Fate}
 use Rattle.mem_net.specs.Net.{world_of}
-use Rattle.mem_net.specs.Inside.{Meets}
+use Rattle.mem_net.specs.Inside.{MeetsUnlessMemory}
 use Rattle.mem_net.proofs.Network.{delivered-among, met-lost-reply, met-twice}
 use Rattle.mem_net.proofs.net.MemNet.meet.Goals as goal
 
@@ -18,12 +18,12 @@ pub returns-in-Ok-clause-met : goal.returns-in-Ok-clause-met
 returns-in-Ok-clause-met c =
     let a = world_of c.args.self.now in
     let d = world_of c.lose-in-Ok.new.self in
-    subst (λ (f : Fate). Meets f c.args.to c.args.address.now c.args.request a d c.lose-in-Ok.result) (sym c.in-LoseReply.is)
+    subst (λ (f : Fate). MeetsUnlessMemory f c.args.to c.args.address.now c.args.request a d c.lose-in-Ok.result) (sym c.in-LoseReply.is)
     (met-lost-reply c.args.to c.args.address.now c.args.request a (world_of c.deliver.new.self) d c.requires.request c.requires.sent c.in-Ok.ensures.world c.lose-in-Ok.result c.lose-in-Ok.ensures.met)
 
 pub returns-in-Ok-deliver-clause-met : goal.returns-in-Ok-deliver-clause-met
 returns-in-Ok-deliver-clause-met c =
     let a = world_of c.args.self.now in
     let d = world_of c.pass-in-Ok-deliver.new.self in
-    subst (λ (f : Fate). Meets f c.args.to c.args.address.now c.args.request a d c.pass-in-Ok-deliver.result) (sym c.in-Twice.is)
+    subst (λ (f : Fate). MeetsUnlessMemory f c.args.to c.args.address.now c.args.request a d c.pass-in-Ok-deliver.result) (sym c.in-Twice.is)
     (met-twice c.args.to c.args.address.now c.args.request a (world_of c.deliver-in-Twice.new.self) d c.requires.request c.requires.sent c.in-Ok-deliver.ensures.world c.pass-in-Ok-deliver.result c.pass-in-Ok-deliver.ensures.met)

@@ -1,12 +1,16 @@
-use Rattle.std.proofs.Common.{ℕ, Vec, refl, sym, ◌∙◌, subst, IfOk}
+use Rattle.std.proofs.Common.{◌≡◌, ℕ, [], Vec, refl, sym, ◌∙◌, ap, subst, arith, IfOk}
 use Rattle.std.specs.declared.alloc.Global.{Global}
 use Rattle.outside.specs.Outside.{Rose}
 use Rattle.wire_frames.specs.declared.message.Message.{Message}
 use Rattle.world_rules.specs.declared.asking.Peer.{Peer}
-use Rattle.world_rules.specs.World.{IsForServer}
-use Rattle.world_rules.specs.Asking.{AsksOnce, IsDirect, IsReplyTo, IsRequest}
-use Rattle.mem_net.specs.Net.{world_of}
+use Rattle.world_rules.specs.World.{IsForServer, Is}
+use Rattle.world_rules.specs.Asking.{AsksOnce, IsDirect, IsReplyTo}
+use Rattle.mem_net.specs.declared.fate.Fate.TheVariants.{LoseRequest}
+use Rattle.mem_net.specs.Net.{Net, world_of}
+use Rattle.mem_net.specs.Fates.{fate_of, troubles_after}
+use Rattle.mem_net.specs.Spending.{spends_none}
 use Rattle.mem_net.proofs.Deciding.{left_is_end}
+use Rattle.mem_net.proofs.Spent.{spent_in_want, spent}
 use Rattle.mem_net.proofs.Taking.{for_server, not_the_server}
 use Rattle.mem_net.proofs.Network.{asks_on, asks_once, lost_once, directly_on, asks_directly, replied, same_request}
 use Rattle.mem_net.proofs.net.MemNetLink.ask.Goals as goal
@@ -42,7 +46,7 @@ returns-in-Server-clause-world c = λ request spells.
     let for : IsForServer m = for_server c.args.to c.requires.0 m c.in-Server.is asked c.requires.2 in
     let once = asks_once c.args.to c.args.address.now m for c.in-Ok-reach.decided b d c.meet.result c.in-Ok-reach.ensures.sent c.meet.ensures.met in
     subst (λ (x : Message). AsksOnce c.args.to c.args.address.now x a d c.meet.result) (sym same)
-    (asks_on c.args.to c.args.address.now m a b d c.meet.result c.in-Ok-reach.ensures.moved once)
+    (asks_on c.args.to c.args.address.now m a b d c.meet.result c.in-Ok-reach.ensures.asking once)
 
 pub returns-in-Server-clause-direct : goal.returns-in-Server-clause-direct
 returns-in-Server-clause-direct c = λ request spells to_server quiet.
@@ -55,7 +59,7 @@ returns-in-Server-clause-direct c = λ request spells to_server quiet.
     let asked = same_request m c.requires.0 (c.in-Ok.ensures.only c.requires.0 c.requires.1.0 c.requires.1.1) in
     let for : IsForServer m = for_server c.args.to c.requires.0 m c.in-Server.is asked c.requires.2 in
     subst (λ (x : Message). IsDirect c.args.to c.args.address.now x a d c.meet.result) (sym same)
-    (directly_on c.args.to c.args.address.now m a b d c.meet.result c.in-Ok-reach.ensures.moved
+    (directly_on c.args.to c.args.address.now m a b d c.meet.result c.in-Ok-reach.ensures.asking
     (asks_directly c.args.to c.args.address.now m for c.in-Ok-reach.decided b d before c.meet.result c.in-Ok-reach.ensures.sent c.meet.ensures.met
     (λ rose. quiet (subst (λ (n : ℕ). Rose n c.meet.new.self.troubles) c.in-Ok-reach.ensures.troubles (subst (λ (n : ℕ). Rose before n) (sym c.meet.ensures.troubles) rose)))))
 
@@ -85,7 +89,47 @@ returns-in-Surrogate-clause-world c = λ request spells.
     let same = same_request m request (c.in-Ok.ensures.only request spells.0 spells.1) in
     let once = lost_once c.args.to c.args.address.now m b d c.lose.result c.in-Ok-reach.ensures.sent c.lose.ensures.met in
     subst (λ (x : Message). AsksOnce c.args.to c.args.address.now x a d c.lose.result) (sym same)
-    (asks_on c.args.to c.args.address.now m a b d c.lose.result c.in-Ok-reach.ensures.moved once)
+    (asks_on c.args.to c.args.address.now m a b d c.lose.result c.in-Ok-reach.ensures.asking once)
 
 pub returns-in-Surrogate-clause-direct : goal.returns-in-Surrogate-clause-direct
 returns-in-Surrogate-clause-direct c = λ request spells to_server quiet. absurd (not_the_server (sym c.in-Surrogate.is ∙ to_server))
+
+-- ---- what the ask takes of the network
+
+pub returns-in_default-clause-kept : goal.returns-in_default-clause-kept
+returns-in_default-clause-kept c = spends_none c.args.self.now
+
+pub returns-in_default-reach-clause-kept : goal.returns-in_default-reach-clause-kept
+returns-in_default-reach-clause-kept c =
+    let m = c.in-Ok.request in
+    spent_in_want (Is m) [] c.args.self.now c.reach.new.self c.in_default-reach.ensures.moved c.in_default-reach.ensures.rest c.in_default-reach.ensures.troubles
+
+pub returns-in-Server-clause-kept : goal.returns-in-Server-clause-kept
+returns-in-Server-clause-kept c =
+    let to = c.args.to in
+    let address = c.args.address.now in
+    let m = c.in-Ok.request in
+    let a : Net = c.args.self.now in
+    let b : Net = c.reach.new.self in
+    let d : Net = c.meet.new.self in
+    let asked = same_request m c.requires.0 (c.in-Ok.ensures.only c.requires.0 c.requires.1.0 c.requires.1.1) in
+    let for : IsForServer m = for_server to c.requires.0 m c.in-Server.is asked c.requires.2 in
+    let once = asks_once to address m for c.in-Ok-reach.decided (world_of b) (world_of d) c.meet.result c.in-Ok-reach.ensures.sent c.meet.ensures.met in
+    let met : c.in-Ok-reach.decided ≡ fate_of to a.fates = c.in-Ok-reach.ensures.fate ∙ sym (ap (λ (p : Peer). fate_of p a.fates) c.in-Server.is) in
+    spent to address m a d (c.meet.ensures.fates ∙ c.in-Ok-reach.ensures.left) (omega (arith, c.meet.ensures.later, c.in-Ok-reach.ensures.troubles)) c.meet.result
+    (asks_on to address m (world_of a) (world_of b) (world_of d) c.meet.result c.in-Ok-reach.ensures.asking once)
+    (c.meet.ensures.troubles ∙ (λ i. troubles_after (met i) c.meet.result (c.in-Ok-reach.ensures.troubles i)))
+
+pub returns-in-Surrogate-clause-kept : goal.returns-in-Surrogate-clause-kept
+returns-in-Surrogate-clause-kept c =
+    let to = c.args.to in
+    let address = c.args.address.now in
+    let m = c.in-Ok.request in
+    let a : Net = c.args.self.now in
+    let b : Net = c.reach.new.self in
+    let d : Net = c.lose.new.self in
+    let once = lost_once to address m (world_of b) (world_of d) c.lose.result c.in-Ok-reach.ensures.sent c.lose.ensures.met in
+    let met : LoseRequest ≡ fate_of to a.fates = sym (ap (λ (p : Peer). fate_of p a.fates) c.in-Surrogate.is) in
+    spent to address m a d (c.lose.ensures.fates ∙ c.in-Ok-reach.ensures.left) (omega (arith, c.lose.ensures.later, c.in-Ok-reach.ensures.troubles)) c.lose.result
+    (asks_on to address m (world_of a) (world_of b) (world_of d) c.lose.result c.in-Ok-reach.ensures.asking once)
+    (c.lose.ensures.troubles ∙ (λ i. troubles_after (met i) c.lose.result (c.in-Ok-reach.ensures.troubles i)))

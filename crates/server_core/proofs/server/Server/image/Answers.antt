@@ -4,11 +4,11 @@ use Rattle.std.specs.declared.alloc.Global.{Global}
 use Rattle.std.specs.declared.alloc.AllocError.{AllocError}
 use Rattle.store_image.specs.Image.{IsKeptForServer}
 use Rattle.server_core.specs.Holding.{Holding, served}
-use Rattle.server_core.specs.Keeping.{image_of, IsKeptForServed}
+use Rattle.server_core.specs.Keeping.{server_image, IsKeptForServed}
 use Rattle.server_core.proofs.server.Server.image.Goals as goal
 
-kept_as : (r : Result (Vec ℕ Global) AllocError) (held holding : Holding) → held ≡ holding → IfOk r (λ v. IsKeptForServer (image_of held) v.items) → IfOk r (λ v. IsKeptForServed (served holding) v.items)
-kept_as (Ok v) held holding is kept = record { image = image_of held; kept = kept; serves = ap served is }
+kept_as : (r : Result (Vec ℕ Global) AllocError) (held holding : Holding) → held ≡ holding → IfOk r (λ v. IsKeptForServer (server_image held) v.items) → IfOk r (λ v. IsKeptForServed (served holding) v.items)
+kept_as (Ok v) held holding is kept = record { image = server_image held; kept = kept; serves = ap served is }
 kept_as (Err e) held holding is kept = tt
 
 pub returns : goal.returns
