@@ -31,6 +31,10 @@ told_with (Some x) (Some y) P Q with_it told = with_it x y told
 
 -- ---- whether frames change the state
 
+pub frames_after-append : (xs ys : List (List ℕ)) (s : Served) → frames_after (xs ++ ys) s ≡ frames_after ys (frames_after xs s)
+frames_after-append [] ys s = refl
+frames_after-append (x ∷ xs) ys s = frames_after-append xs ys (frame_after x s)
+
 either : (a b : Bool) → (a || b) ≡ false → (a ≡ false) × (b ≡ false)
 either true b e = absurd (true≢false e)
 either false b e = (refl, e)

@@ -3,24 +3,29 @@ use Rattle.std.proofs.Common.{◌≡◌, ◌≤◌, ◌⊎◌, inl, inr, ℕ, Bo
 use Rattle.std.specs.Prelude.{IfSome}
 use Rattle.std.proofs.lemmas.List.{append-nil}
 use Rattle.outside.specs.Outside.{Told}
-use Rattle.outside.specs.Port.{AddsFrames}
+use Rattle.outside.specs.Port.{Talk}
+use Rattle.port_serving.specs.Serving.{Connection, frames_taken}
+use Rattle.port_serving.specs.Laws.{frames_of, HasTalks}
+use Rattle.port_serving.proofs.Totals.{all_taken, front_taken, none_taken}
 use Rattle.world_rules.specs.Served.{Served}
 use Rattle.server_core.specs.Framing.{frames_after, change}
 use Rattle.server_core.specs.Keeping.{KeepsServed}
 use Rattle.server_prog.specs.declared.run.Stopped.{Stopped}
 use Rattle.server_prog.specs.declared.run.Stopped.TheVariants.{Sink, Keeper, Image, Memory}
-use Rattle.server_prog.specs.Serving.{Connection, KeptAs, Telling, frames_taken}
+use Rattle.server_prog.specs.Serving.{KeptAs, Telling}
 use Rattle.server_prog.specs.Run.{status_of, Opens, IsServed, IsBrokenOff, RunTurn}
-use Rattle.server_prog.specs.Laws.{HasFrames, IsKeptAfter, IsNothingTaken, IsKeptBefore, KeptImagesAreServed}
-use Rattle.server_prog.proofs.Connections.{adds_none, adds_more, frames_after-append}
-use Rattle.server_prog.proofs.Kept.{Kept, told_then, change-append, unchanged, kept_both, PerhapsAs}
-use Rattle.server_prog.proofs.Totals.{same_frames}
+use Rattle.server_prog.specs.Laws.{IsKeptAfter, IsNothingTaken, IsKeptBefore, KeptImagesAreServed}
+use Rattle.server_prog.proofs.Connections.{holds}
+use Rattle.server_prog.proofs.Kept.{Kept, told_then, frames_after-append, change-append, unchanged, kept_both, PerhapsAs}
 
 -- what is told of a keeper that tells
 told : (P : Option (List ℕ) → Option (List ℕ) → Type 0) (a b : Kept) (o n : Option (List ℕ)) → a ≡ Some o → b ≡ Some n → Told a b P → P o n
 told P a b o n is is' kept = subst (λ (k : Kept). Told (Some o) k P) is' (subst (λ (k : Kept). Told k b P) is kept)
 
-module _ (count status : ℕ) (old new : Telling) (written now : Option (List ℕ)) (taken answered : List (List ℕ)) (o n : Option (List ℕ)) (frames : HasFrames taken answered old new) (old_is : old.kept ≡ Some o) (new_is : new.kept ≡ Some n) where
+module _ (count status : ℕ) (old new : Telling) (written now : Option (List ℕ)) (talks : List Talk) (o n : Option (List ℕ)) (has : HasTalks talks old.port new.port) (old_is : old.kept ≡ Some o) (new_is : new.kept ≡ Some n) where
+  abbrev taken : List (List ℕ)
+  taken = frames_of talks
+
   abbrev Ends : Type 0
   Ends = IsNothingTaken status taken o n ⊎ ((first : Served) × KeepsServed o first × (IsKeptAfter taken first o n ⊎ IsKeptBefore status taken first o n))
 
@@ -29,15 +34,16 @@ module _ (count status : ℕ) (old new : Telling) (written now : Option (List �
 
   served : (first : Served) (connections : List Connection) (after : Served) → IsServed count first connections after old new → Ends
   served first connections after is =
-      let same = same_frames old.taken new.taken frames.taken_before (frames_taken connections) taken frames.old_taken frames.new_taken is.serves.taken in
+      let same = all_taken count connections old.port new.port is.port talks has in
       let kept = told (KeptAs (change (frames_taken connections) first) after) old.kept new.kept o n old_is new_is is.serves.kept in
-      inr (first, opened first is.opens, inl (subst (λ (fs : List (List ℕ)). IsKeptAfter fs first o n) same (subst (λ (s : Served). KeptAs (change (frames_taken connections) first) s o n) is.serves.holds kept)))
+      let state = holds connections first after old.kept new.kept is.serves in
+      inr (first, opened first is.opens, inl (subst (λ (fs : List (List ℕ)). IsKeptAfter fs first o n) same (subst (λ (s : Served). KeptAs (change (frames_taken connections) first) s o n) state kept)))
 
   before_serving : (stopped : (status ≡ 5) ⊎ ((status ≡ 6) ⊎ (status ≡ 7))) → new ≡ old → Ends
   before_serving stopped same =
-      let none : [] ≡ taken = same_frames old.taken new.taken frames.taken_before [] taken frames.old_taken frames.new_taken (subst (λ (t : Telling). AddsFrames old.taken t.taken []) (sym same) (adds_none old.taken)) in
+      let none = none_taken old.port new.port (ap (λ (t : Telling). t.port) same) talks has in
       let kept : Some n ≡ Some o = sym new_is ∙ ap (λ (t : Telling). t.kept) same ∙ old_is in
-      inl (record { stopped = stopped; nothing = sym none; same = same_kept n o kept })
+      inl (record { stopped = stopped; nothing = none; same = same_kept n o kept })
     where
       same_kept : (x y : Option (List ℕ)) → Some x ≡ Some y → x ≡ y
       same_kept x y e = cc
@@ -53,18 +59,19 @@ module _ (count status : ℕ) (old new : Telling) (written now : Option (List �
       inr (first, opens, inr (record { stopped = stopped; before = fs; at_hand = h; all = sym all; kept = subst (λ (s : Served). KeptAs (change fs first) s o n) holds kept }))
   finish fs (h ∷ k ∷ more) first after few all holds stopped opens (inl kept) = absurd (omega (arith, few))
 
-  broken_off : (first : Served) (connections : List Connection) (after : Served) (middle : Telling) → (status ≡ 5) ⊎ (status ≡ 7) → IsBrokenOff count first connections after old middle new → Ends
-  broken_off first connections after middle stopped is =
+  broken_off : (first : Served) (connections : List Connection) (after : Served) → (status ≡ 5) ⊎ (status ≡ 7) → IsBrokenOff count first connections after old new → Ends
+  broken_off first connections after stopped is =
       let fs = frames_taken connections in
-      let hs = is.broken.frames in
-      let all = same_frames old.taken new.taken frames.taken_before (fs ++ hs) taken frames.old_taken frames.new_taken (adds_more old.taken middle.taken new.taken fs hs is.serves.taken is.broken.taken) in
+      let hs = is.frames in
+      let all = front_taken count connections hs old.port new.port is.port talks has in
+      let state_then = holds connections first after old.kept is.middle is.serves in
       let last = frames_after hs after in
-      let changes : change (fs ++ hs) first ≡ (change fs first || change hs after) = change-append fs hs first ∙ ap (λ s. change fs first || change hs s) (sym is.serves.holds) in
+      let changes : change (fs ++ hs) first ≡ (change fs first || change hs after) = change-append fs hs first ∙ ap (λ s. change fs first || change hs s) (sym state_then) in
       let idle : change hs after ≡ false → last ≡ after = unchanged hs after in
-      let state : last ≡ frames_after (fs ++ hs) first = ap (frames_after hs) is.serves.holds ∙ sym (frames_after-append fs hs first) in
-      let joined = told_then old.kept middle.kept new.kept (KeptAs (change fs first) after) (PerhapsAs (change hs after) last) (λ x z. KeptAs (change fs first) after x z ⊎ IsKeptAfter (fs ++ hs) first x z)
-      (λ x y z. joins fs hs first after last idle changes state x y z) is.serves.kept is.broken.kept in
-      finish fs hs first after is.broken.few all is.serves.holds stopped (opened first is.opens) (told (λ x z. KeptAs (change fs first) after x z ⊎ IsKeptAfter (fs ++ hs) first x z) old.kept new.kept o n old_is new_is joined)
+      let state : last ≡ frames_after (fs ++ hs) first = ap (frames_after hs) state_then ∙ sym (frames_after-append fs hs first) in
+      let joined = told_then old.kept is.middle new.kept (KeptAs (change fs first) after) (PerhapsAs (change hs after) last) (λ x z. KeptAs (change fs first) after x z ⊎ IsKeptAfter (fs ++ hs) first x z)
+      (λ x y z. joins fs hs first after last idle changes state x y z) is.serves.kept is.kept in
+      finish fs hs first after is.port.at_hand.few all state_then stopped (opened first is.opens) (told (λ x z. KeptAs (change fs first) after x z ⊎ IsKeptAfter (fs ++ hs) first x z) old.kept new.kept o n old_is new_is joined)
     where
       joins : (fs hs : List (List ℕ)) (first after last : Served) → (change hs after ≡ false → last ≡ after) → change (fs ++ hs) first ≡ (change fs first || change hs after) → last ≡ frames_after (fs ++ hs) first → (x y z : Option (List ℕ))
           → KeptAs (change fs first) after x y → PerhapsAs (change hs after) last y z → KeptAs (change fs first) after x z ⊎ IsKeptAfter (fs ++ hs) first x z
@@ -77,11 +84,11 @@ module _ (count status : ℕ) (old new : Telling) (written now : Option (List �
   at_end (Ok done) is turn = served turn.0 turn.1 turn.2 turn.3
   at_end (Err Sink) is turn = served turn.0 turn.1 turn.2 turn.4
   at_end (Err Keeper) is (inl before) = before_serving (inl is) before.0
-  at_end (Err Keeper) is (inr broken) = broken_off broken.0 broken.1 broken.2 broken.3 (inl is) broken.4
+  at_end (Err Keeper) is (inr broken) = broken_off broken.0 broken.1 broken.2 (inl is) broken.3
   at_end (Err Image) is before = before_serving (inr (inl is)) before.0.0
   at_end (Err Memory) is (inl before) = before_serving (inr (inr is)) before.0
   at_end (Err Memory) is (inr (inl line)) = served line.0 line.1 line.2 line.4
-  at_end (Err Memory) is (inr (inr broken)) = broken_off broken.0 broken.1 broken.2 broken.3 (inr is) broken.4
+  at_end (Err Memory) is (inr (inr broken)) = broken_off broken.0 broken.1 broken.2 (inr is) broken.3
 
 pub kept_images_are_served : KeptImagesAreServed
-kept_images_are_served count status old new written now taken answered o n ran frames old_is new_is = at_end count status old new written now taken answered o n frames old_is new_is ran.0 ran.1 ran.2
+kept_images_are_served count status old new written now talks o n ran has old_is new_is = at_end count status old new written now talks o n has old_is new_is ran.0 ran.1 ran.2

@@ -1,5 +1,5 @@
 -- How a run ends.
-use Rattle.std.proofs.Common.{◌≡◌, inl, inr, ℕ, List, length, take, Option, Ok, Err, refl, subst, ap, arith, ◌∙◌}
+use Rattle.std.proofs.Common.{◌≡◌, ◌≤◌, inl, inr, ℕ, List, length, take, Option, Ok, Err, refl, subst, ap, arith, ◌∙◌}
 use Rattle.outside.specs.declared.errors.SinkError.{SinkError}
 use Rattle.outside.specs.declared.errors.SinkError.TheVariants.{Failed, Memory}
 use Rattle.outside.specs.declared.errors.KeepError.{KeepError}
@@ -7,11 +7,12 @@ use Rattle.outside.specs.declared.errors.KeepError.TheVariants as keeps
 use Rattle.std.specs.Prelude.{IsErrOf}
 use Rattle.outside.specs.Outside.{Adds, CountsFault}
 use Rattle.world_rules.specs.Served.{Served}
-use Rattle.server_prog.specs.declared.serving.Tally.{Tally}
+use Rattle.port_serving.specs.declared.serving.Tally.{Tally}
+use Rattle.port_serving.specs.Serving.{last_line, line_of, frames_taken}
 use Rattle.server_prog.specs.declared.run.Stopped.{Stopped}
 use Rattle.server_prog.specs.declared.run.Stopped.TheVariants as stops
-use Rattle.server_prog.specs.Serving.{Telling, frames_taken}
-use Rattle.server_prog.specs.Run.{last_line, line_of, Opens, OpensNone, IsServed, StopsInLine, StopsInServing, RunTurn}
+use Rattle.server_prog.specs.Serving.{Telling}
+use Rattle.server_prog.specs.Run.{Opens, OpensNone, IsServed, StopsInLine, StopsInServing, RunTurn}
 use Rattle.server_prog.specs.Inside.{ServesAll, ServesFront, stopped_by_sink, stopped_by_keeper}
 
 module _ (count : ℕ) (first : Served) (old new : Telling) (written now : Option (List ℕ)) (opens : Opens old.kept first) where
@@ -22,23 +23,23 @@ module _ (count : ℕ) (first : Served) (old new : Telling) (written now : Optio
         ap (λ (n : ℕ). last_line n tally.faults) all.counts.frames ∙ ap (λ (n : ℕ). last_line (length (frames_taken all.connections)) n) all.counts.faults
 
     is_served : IsServed count first all.connections after old new
-    is_served = record { opens = opens; serves = all.serves; most = all.most; ended = all.ended }
+    is_served = record { opens = opens; port = all.port; serves = all.serves }
 
-    stops_in_line : ((bytes : ℕ) × Adds written now (take bytes (last_line tally.frames tally.faults))) → StopsInLine count old new written now
-    stops_in_line front = (first, all.connections, after, front.0, is_served, subst (λ (l : List ℕ). Adds written now (take front.0 l)) line_is front.1)
+    stops_in_line : ((bytes : ℕ) × (bytes ≤ length (last_line tally.frames tally.faults)) × Adds written now (take bytes (last_line tally.frames tally.faults))) → StopsInLine count old new written now
+    stops_in_line front = (first, all.connections, after, front.0, is_served, subst (λ (l : List ℕ). Adds written now (take front.0 l)) line_is front.2)
 
     -- all connections were served, and the last line was written
     pub run_ends : Adds written now (last_line tally.frames tally.faults) → RunTurn count old new written now (Ok tt)
     run_ends line = (first, all.connections, after, is_served, subst (Adds written now) line_is line)
 
     -- the last line was to be written
-    pub run_stops_in_line : (e : SinkError) → ((bytes : ℕ) × Adds written now (take bytes (last_line tally.frames tally.faults))) → RunTurn count old new written now (Err (stopped_by_sink e))
+    pub run_stops_in_line : (e : SinkError) → ((bytes : ℕ) × (bytes ≤ length (last_line tally.frames tally.faults)) × Adds written now (take bytes (last_line tally.frames tally.faults))) → RunTurn count old new written now (Err (stopped_by_sink e))
     run_stops_in_line Failed front = stops_in_line front
     run_stops_in_line Memory front = inr (inl (stops_in_line front))
 
   -- serving was broken off
   pub run_stops_in_serving : (e : KeepError) → ServesFront count first old new → now ≡ written → RunTurn count old new written now (Err (stopped_by_keeper e))
-  run_stops_in_serving e front nothing = by e (first, front.connections, front.after, front.middle, record { opens = opens; serves = front.serves; most = front.most; broken = front.broken }, nothing)
+  run_stops_in_serving e front nothing = by e (first, front.connections, front.after, record { opens = opens; frames = front.frames; port = front.port; middle = front.middle; serves = front.serves; kept = front.kept }, nothing)
     where
       by : (e : KeepError) → StopsInServing count old new written now → RunTurn count old new written now (Err (stopped_by_keeper e))
       by keeps.Failed stops = inr stops

@@ -1,59 +1,56 @@
 -- Words that only contracts below the whole run cite.
-use Rattle.std.specs.Prelude.{◌≡◌, ◌≤◌, ◌<◌, ◌+◌, ◌⊎◌, ℕ, List, [], ◌∷◌, length}
-use Rattle.world_rules.specs.Served.{Served}
+use Rattle.std.specs.Prelude.{◌≡◌, ℕ, List, Option}
+use Rattle.outside.specs.Outside.{Told}
 use Rattle.outside.specs.declared.errors.SinkError.{SinkError}
 use Rattle.outside.specs.declared.errors.SinkError.TheVariants as sinks
 use Rattle.outside.specs.declared.errors.KeepError.{KeepError}
 use Rattle.outside.specs.declared.errors.KeepError.TheVariants as keeps
+use Rattle.port_serving.specs.declared.serving.Came.{Came}
+use Rattle.port_serving.specs.declared.serving.Came.TheVariants as came
+use Rattle.port_serving.specs.declared.serving.Tally.{Tally}
+use Rattle.port_serving.specs.Serving.{Connection, connection_of, Uses, IsAtHand, UsesAll, UsesFront, Counts}
+use Rattle.port_serving.specs.Inside.{UsesSoFar}
+use Rattle.world_rules.specs.Served.{Served}
 use Rattle.server_prog.specs.declared.run.Stopped.{Stopped}
 use Rattle.server_prog.specs.declared.run.Stopped.TheVariants as stops
-use Rattle.server_prog.specs.declared.serving.Came.{Came}
-use Rattle.server_prog.specs.declared.serving.Came.TheVariants as came
-use Rattle.server_prog.specs.declared.serving.Tally.{Tally}
-use Rattle.server_prog.specs.Serving.{Connection, Missed, Unanswered, Answered, Telling, Serves, BreaksOff, frames_taken, failures}
+use Rattle.server_prog.specs.Serving.{PerhapsKept, Serves, Telling}
 
--- one connection was served, or none was left
-abbrev pub ServesNext : Came → Served → Served → Telling → Telling → Type 0
-ServesNext came.NoConnection before after old new = (new.left ≡ 0) × Serves [] before after old new
-ServesNext came.Missed before after old new = Serves (Missed ∷ []) before after old new
-ServesNext came.Unanswered before after old new = (frame : List ℕ) × Serves (Unanswered frame ∷ []) before after old new
-ServesNext came.Answered before after old new = (frame : List ℕ) × Serves (Answered frame ∷ []) before after old new
+-- one connection was used up and served, or none was left
+pub record ServesNext (how : Came) (before after : Served) (old new : Telling) : Type 0 where
+  pub frame : List ℕ
+  pub reply : List ℕ
+  pub uses : Uses (connection_of how frame reply) old.port new.port
+  pub serves : Serves (connection_of how frame reply) before after old.kept new.kept
+  pub none : how ≡ came.NoConnection → new.port.left ≡ 0
 
--- the frames taken, and the calls that failed
-pub record Counts (connections : List Connection) (tally : Tally) : Type 0 where
-  pub frames : tally.frames ≡ length (frames_taken connections)
-  pub faults : tally.faults ≡ failures connections
+-- want of memory, or a fault of the keeper, broke off the connection at hand
+pub record BreaksOff (before : Served) (old new : Telling) : Type 0 where
+  pub frames : List (List ℕ)
+  pub at_hand : IsAtHand frames old.port new.port
+  pub kept : Told old.kept new.kept (PerhapsKept frames before)
 
 -- connections were served and counted, one for each take so far
 pub record ServesSoFar (made : ℕ) (tally : Tally) (before after : Served) (old new : Telling) : Type 0 where
   pub connections : List Connection
-  pub serves : Serves connections before after old new
-  pub counts : Counts connections tally
-  pub takes : length connections ≡ made
+  pub port : UsesSoFar made tally connections old.port new.port
+  pub serves : Serves connections before after old.kept new.kept
 
 -- at the end of the takes, or of the connections
 pub record ServesAll (count : ℕ) (tally : Tally) (before after : Served) (old new : Telling) : Type 0 where
   pub connections : List Connection
-  pub serves : Serves connections before after old new
+  pub port : UsesAll count connections old.port new.port
   pub counts : Counts connections tally
-  pub most : length connections ≤ count
-  pub ended : (length connections ≡ count) ⊎ (new.left ≡ 0)
+  pub serves : Serves connections before after old.kept new.kept
 
 -- broken off for want of memory, or by a fault of the keeper
 pub record ServesFront (count : ℕ) (before : Served) (old new : Telling) : Type 0 where
   pub connections : List Connection
+  pub frames : List (List ℕ)
+  pub port : UsesFront count connections frames old.port new.port
   pub after : Served
-  pub middle : Telling
-  pub serves : Serves connections before after old middle
-  pub most : length connections < count
-  pub broken : BreaksOff after middle new
-
--- the tally with one more take
-abbrev pub tallied : Tally → Came → Tally
-tallied tally came.NoConnection = tally
-tallied tally came.Missed = record { frames = tally.frames; faults = tally.faults + 1 }
-tallied tally came.Unanswered = record { frames = tally.frames + 1; faults = tally.faults + 1 }
-tallied tally came.Answered = record { frames = tally.frames + 1; faults = tally.faults }
+  pub middle : Option (Option (List ℕ))
+  pub serves : Serves connections before after old.kept middle
+  pub kept : Told middle new.kept (PerhapsKept frames after)
 
 -- a fault of the sink, and of the keeper, as the run's end
 abbrev pub stopped_by_sink : SinkError → Stopped

@@ -1,43 +1,24 @@
--- What the connections of a run amount to. Its fall is the number by which the connections left fell.
-use Rattle.std.specs.Prelude.{◌≡◌, ◌≤◌, ◌⊎◌, ℕ, ◌-◌, List, [], ◌∷◌, ◌++◌, length, Option, Some}
-use Rattle.outside.specs.Outside.{raised, Adds}
+-- What the connections of a run amount to, and what is kept of them.
+use Rattle.std.specs.Prelude.{◌≡◌, ◌⊎◌, ℕ, List, [], ◌∷◌, ◌++◌, Option, Some}
+use Rattle.outside.specs.Port.{Talk}
+use Rattle.port_serving.specs.Laws.{frames_of, HasFallen, HasTalks, IsTold}
 use Rattle.world_rules.specs.Served.{Served}
 use Rattle.server_core.specs.Framing.{frames_after, change}
 use Rattle.server_core.specs.Keeping.{KeepsServed}
 use Rattle.server_prog.specs.Serving.{KeptAs, Telling}
-use Rattle.server_prog.specs.Run.{Ran, last_line}
+use Rattle.server_prog.specs.Run.{Ran}
 
-abbrev pub fall : Telling → Telling → ℕ
-fall old new = old.left - new.left
-
--- never more connections are used up than the words say; where serving came to its end, as many, or all that were left
-pub record HasFallen (count status : ℕ) (old new : Telling) : Type 0 where
-  pub fewer : new.left ≤ old.left
-  pub most : fall old new ≤ count
-  pub ended : (status ≡ 0) ⊎ (status ≡ 4) → (fall old new ≡ count) ⊎ (new.left ≡ 0)
+-- serving came to its end
+abbrev pub IsWhole : ℕ → Type 0
+IsWhole status = (status ≡ 0) ⊎ (status ≡ 4)
 
 abbrev pub FallsAreBounded : Type 0
-FallsAreBounded = (count status : ℕ) (old new : Telling) (written now : Option (List ℕ)) → Ran count status old new written now → HasFallen count status old new
+FallsAreBounded = (count status : ℕ) (old new : Telling) (written now : Option (List ℕ)) → Ran count status old new written now → HasFallen count (IsWhole status) old.port new.port
 
--- a port that tells its frames took and answered these in a run
-pub record HasFrames (taken answered : List (List ℕ)) (old new : Telling) : Type 0 where
-  pub taken_before : List (List ℕ)
-  pub answered_before : List (List ℕ)
-  pub old_taken : old.taken ≡ Some taken_before
-  pub new_taken : new.taken ≡ Some (taken_before ++ taken)
-  pub old_answered : old.answered ≡ Some answered_before
-  pub new_answered : new.answered ≡ Some (answered_before ++ answered)
-
--- each connection without an answer is one call of the port that failed, and no other call of it failed; at status 5 or 7 one may
--- be none, that at hand. At status 0 the output ends with the number of frames taken, and that of connections without an answer.
-pub record IsTold (status : ℕ) (taken answered : List (List ℕ)) (old new : Telling) (written now : Option (List ℕ)) : Type 0 where
-  pub all : (status ≡ 0) ⊎ (status ≡ 4) → new.faults ≡ raised (fall old new - length answered) old.faults
-  pub at_hand : (new.faults ≡ raised (fall old new - length answered) old.faults) ⊎ (new.faults ≡ raised (fall old new - length answered - 1) old.faults)
-  pub line : status ≡ 0 → Adds written now (last_line (length taken) (fall old new - length answered))
-
+-- at status 5 or 7 the connection at hand may be without an answer and without a fault; at status 0 the last line was written
 abbrev pub FramesAreCounted : Type 0
-FramesAreCounted = (count status : ℕ) (old new : Telling) (written now : Option (List ℕ)) (taken answered : List (List ℕ))
-    → Ran count status old new written now → HasFrames taken answered old new → IsTold status taken answered old new written now
+FramesAreCounted = (count status : ℕ) (old new : Telling) (written now : Option (List ℕ)) (talks : List Talk)
+    → Ran count status old new written now → HasTalks talks old.port new.port → IsTold (IsWhole status) (status ≡ 0) talks old.port new.port written now
 
 -- the bytes under the name at the end: where a frame of these changed the state, an image of the state after them, and else
 -- those from the start
@@ -61,6 +42,6 @@ pub record IsKeptBefore (status : ℕ) (taken : List (List ℕ)) (first : Served
 -- What is kept at the end of a run is the state after the taken frames. At status 5 or 7 the change of the frame at hand may
 -- be missing.
 abbrev pub KeptImagesAreServed : Type 0
-KeptImagesAreServed = (count status : ℕ) (old new : Telling) (written now : Option (List ℕ)) (taken answered : List (List ℕ)) (o n : Option (List ℕ))
-    → Ran count status old new written now → HasFrames taken answered old new → old.kept ≡ Some o → new.kept ≡ Some n
-    → IsNothingTaken status taken o n ⊎ ((first : Served) × KeepsServed o first × (IsKeptAfter taken first o n ⊎ IsKeptBefore status taken first o n))
+KeptImagesAreServed = (count status : ℕ) (old new : Telling) (written now : Option (List ℕ)) (talks : List Talk) (o n : Option (List ℕ))
+    → Ran count status old new written now → HasTalks talks old.port new.port → old.kept ≡ Some o → new.kept ≡ Some n
+    → IsNothingTaken status (frames_of talks) o n ⊎ ((first : Served) × KeepsServed o first × (IsKeptAfter (frames_of talks) first o n ⊎ IsKeptBefore status (frames_of talks) first o n))

@@ -1,16 +1,18 @@
 -- What a run of the server does by the status that it gives.
-use Rattle.std.specs.Prelude.{◌≡◌, ◌==◌, ◌≤◌, ◌<◌, ◌⊎◌, ◌↔◌, ◌||◌, ℕ, Bool, IsTrue, List, [], ◌∷◌, ◌++◌, length, take, Option, None, IfSome, Result, Ok, Err, codes, decimal}
+use Rattle.std.specs.Prelude.{◌≡◌, ◌==◌, ◌⊎◌, ◌↔◌, ◌||◌, ℕ, Bool, IsTrue, List, [], ◌∷◌, take, Option, None, IfSome, Result, Ok, Err}
 use Rattle.std.specs.List.{list_any}
-use Rattle.outside.specs.Outside.{Adds, Rose, RisesWhere}
+use Rattle.outside.specs.Outside.{Told, Adds, Rose, RisesWhere}
 use Rattle.outside.specs.Keeper.{Images, kept_under}
+use Rattle.outside.specs.Port.{PortTelling}
+use Rattle.port_serving.specs.Serving.{Connection, UsesAll, UsesFront, line_of}
 use Rattle.program_words.specs.Status.{code}
 use Rattle.program_words.specs.declared.status.Status.TheVariants as statuses
 use Rattle.world_rules.specs.Served.{Served}
 use Rattle.server_core.specs.Keeping.{KeepsServed}
 use Rattle.server_prog.specs.declared.run.Stopped.{Stopped}
 use Rattle.server_prog.specs.declared.run.Stopped.TheVariants.{Sink, Keeper, Image, Memory}
-use Rattle.server_prog.specs.Words.{Run, run_of}
-use Rattle.server_prog.specs.Serving.{Connection, Telling, telling, Serves, BreaksOff, frames_taken, failures}
+use Rattle.server_prog.specs.Words.{run_of}
+use Rattle.server_prog.specs.Serving.{PerhapsKept, Serves, Telling, telling}
 
 -- the status of a run that ended so: with its last line, or stopped before
 abbrev pub status_of : Result (Unit {0}) Stopped → ℕ
@@ -29,13 +31,6 @@ is_status status =
 abbrev pub is_exit : ℕ → Bool
 is_exit status = code statuses.CannotListen == status || is_status status
 
--- the line that ends the output: how many frames were taken, and how many calls of the port failed
-abbrev pub last_line : ℕ → ℕ → List ℕ
-last_line frames faults = codes "served " ++ (decimal frames ++ (codes " faults " ++ (decimal faults ++ 10 ∷ [])))
-
-abbrev pub line_of : List Connection → List ℕ
-line_of connections = last_line (length (frames_taken connections)) (failures connections)
-
 -- a server that serves so is kept under the name, where the keeper tells it
 abbrev pub Opens : Option (Option (List ℕ)) → Served → Type 0
 Opens kept first = IfSome kept (λ image. KeepsServed image first)
@@ -44,19 +39,21 @@ Opens kept first = IfSome kept (λ image. KeepsServed image first)
 abbrev pub OpensNone : Option (Option (List ℕ)) → Type 0
 OpensNone kept = IfSome kept (λ image. (state : Served) → KeepsServed image state → ⊥)
 
--- serving came to its end: as many takes were made as the words say, or no connection is left
+-- serving came to its end: as many connections were used up as the words say, or none is left
 pub record IsServed (count : ℕ) (first : Served) (connections : List Connection) (after : Served) (old new : Telling) : Type 0 where
   pub opens : Opens old.kept first
-  pub serves : Serves connections first after old new
-  pub most : length connections ≤ count
-  pub ended : (length connections ≡ count) ⊎ (new.left ≡ 0)
+  pub port : UsesAll count connections old.port new.port
+  pub serves : Serves connections first after old.kept new.kept
 
--- serving was broken off for want of memory, or by a fault of the keeper
-pub record IsBrokenOff (count : ℕ) (first : Served) (connections : List Connection) (after : Served) (old middle new : Telling) : Type 0 where
+-- serving was broken off at a connection for want of memory, or by a fault of the keeper: its frame, where it was taken, is not
+-- answered, and what is kept has its change or not
+pub record IsBrokenOff (count : ℕ) (first : Served) (connections : List Connection) (after : Served) (old new : Telling) : Type 0 where
   pub opens : Opens old.kept first
-  pub serves : Serves connections first after old middle
-  pub most : length connections < count
-  pub broken : BreaksOff after middle new
+  pub frames : List (List ℕ)
+  pub port : UsesFront count connections frames old.port new.port
+  pub middle : Option (Option (List ℕ))
+  pub serves : Serves connections first after old.kept middle
+  pub kept : Told middle new.kept (PerhapsKept frames after)
 
 -- no connection was taken, nothing was kept and nothing written
 abbrev pub StopsBefore : Telling → Telling → Option (List ℕ) → Option (List ℕ) → Type 0
@@ -71,8 +68,8 @@ StopsInLine count old new written now =
 -- a connection was broken off, and nothing was written
 abbrev pub StopsInServing : ℕ → Telling → Telling → Option (List ℕ) → Option (List ℕ) → Type 0
 StopsInServing count old new written now =
-    (first : Served) × (connections : List Connection) × (after : Served) × (middle : Telling)
-    × IsBrokenOff count first connections after old middle new × (now ≡ written)
+    (first : Served) × (connections : List Connection) × (after : Served)
+    × IsBrokenOff count first connections after old new × (now ≡ written)
 
 -- what a run did by how it ended
 abbrev pub RunTurn : ℕ → Telling → Telling → Option (List ℕ) → Option (List ℕ) → Result (Unit {0}) Stopped → Type 0
@@ -89,10 +86,7 @@ Ran count status old new written now = (ended : Result (Unit {0}) Stopped) × (s
 
 -- what a port, a keeper and a sink tell
 pub record Objects : Type 0 where
-  pub left : ℕ
-  pub taken : Option (List (List ℕ))
-  pub answered : Option (List (List ℕ))
-  pub port_faults : ℕ
+  pub port : PortTelling
   pub images : Option Images
   pub keeper_faults : ℕ
   pub written : Option (List ℕ)
@@ -100,10 +94,10 @@ pub record Objects : Type 0 where
 
 -- what is told of the port, and of what is kept under a name
 abbrev pub told_of : List ℕ → Objects → Telling
-told_of name all = telling all.left all.taken all.answered all.port_faults (kept_under name all.images)
+told_of name all = telling all.port (kept_under name all.images)
 
 -- What a run on these words does, by the status that it gives:
--- 0: as many takes were made as the words say, or no connection is left, and the output is the last line;
+-- 0: as many connections were used up as the words say, or none is left, and the output is the last line;
 -- 2: the words are of no form, and nothing was touched;
 -- 4 and 5: a call of the sink or of the keeper failed, and in a run with another status none did;
 -- 6: what is kept is no server's image; 7: memory ran out.

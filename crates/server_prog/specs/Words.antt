@@ -1,7 +1,7 @@
 -- The words behind the program's name.
 use Rattle.std.specs.Prelude.{ℕ, Bool, ◌&&◌, List, [], ◌∷◌, length, Option, None, Some, if◌then◌else◌, nat_lt, codes}
 use Rattle.std.specs.Str.{bytes_eq}
-use Rattle.program_words.specs.Numbers.{printed_number}
+use Rattle.port_serving.specs.Words.{count_of}
 
 -- what the words of a run say: the address at which the server listens, the name under which it is kept, and how many
 -- connections it takes at most
@@ -9,10 +9,6 @@ pub record Run : Type 0 where
   pub address : List ℕ
   pub image : List ℕ
   pub count : ℕ
-
--- the most connections that a run takes
-abbrev pub most_connections : ℕ
-most_connections = 65536
 
 -- the word `run`, and an address and an image that are not empty
 abbrev pub is_run : List ℕ → List ℕ → List ℕ → Bool
@@ -24,5 +20,5 @@ with_count address image (Some count) = Some (record { address = address; image 
 
 -- what `run LISTEN IMAGE COUNT` says; any other words are of no form
 abbrev pub run_of : List (List ℕ) → Option Run
-run_of (run ∷ address ∷ image ∷ count ∷ []) = if is_run run address image then with_count address image (printed_number 1 most_connections count) else None
+run_of (run ∷ address ∷ image ∷ count ∷ []) = if is_run run address image then with_count address image (count_of count) else None
 run_of words = None

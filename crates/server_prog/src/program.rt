@@ -135,8 +135,8 @@ pub fn served<R: Eprint, P: Port, K: Keeper, O: Sink>(
     output: &mut O,
 ) -> ExitCode
     ensures { Ends (map string_bytes words.now) (exit_status result)
-        (record { left = P.left port.old; taken = P.taken port.old; answered = P.answered port.old; port_faults = P.faults port.old; images = K.images keeper.old; keeper_faults = K.faults keeper.old; written = O.written output.old; sink_faults = O.faults output.old })
-        (record { left = P.left port.new; taken = P.taken port.new; answered = P.answered port.new; port_faults = P.faults port.new; images = K.images keeper.new; keeper_faults = K.faults keeper.new; written = O.written output.new; sink_faults = O.faults output.new }) }
+        (record { port = P.tells port.old; images = K.images keeper.old; keeper_faults = K.faults keeper.old; written = O.written output.old; sink_faults = O.faults output.old })
+        (record { port = P.tells port.new; images = K.images keeper.new; keeper_faults = K.faults keeper.new; written = O.written output.new; sink_faults = O.faults output.new }) }
 {
     end(rt, NAME, server_run(alloc, words, port, keeper, output))
 }

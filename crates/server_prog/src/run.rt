@@ -1,21 +1,22 @@
 // A run of the server over its connections.
-ghost use Rattle.std.specs.Prelude.{◌≡◌, ◌≤◌, ℕ, IfOk, OnOk, OnErr, IsErrOf, IsTrue, take, map};
+ghost use Rattle.std.specs.Prelude.{◌≡◌, ◌≤◌, IfOk, IsErrOf, IsTrue, map};
 ghost use Rattle.std.specs.String.{string_bytes};
-ghost use Rattle.outside.specs.Outside.{Adds, CountsFault};
+ghost use Rattle.outside.specs.Outside.{CountsFault};
 ghost use Rattle.outside.specs.Keeper.{kept_under};
 ghost use Rattle.world_rules.specs.Served.{Served};
 ghost use Rattle.server_core.specs.Holding.{served};
 ghost use Rattle.server_core.specs.Keeping.{IsKeptForServed};
 ghost use Rattle.server_prog.specs.Serving.{telling};
-ghost use Rattle.server_prog.specs.Run.{status_of, is_status, last_line, Opens, OpensNone, RunTurn, Ends};
+ghost use Rattle.server_prog.specs.Run.{status_of, is_status, Opens, OpensNone, RunTurn, Ends};
 ghost use Rattle.server_prog.specs.Inside.{stopped_by_keeper, stopped_by_sink};
 
-use crate::serving::{Tally, serve};
+use crate::serving::serve;
 use crate::words::run_words;
-use outside::{KeepError, Keeper, Port, Sink, SinkError, write_all};
+use outside::{KeepError, Keeper, Port, Sink, SinkError};
+use port_serving::write_last;
 use program_words::Status;
 use server_core::Server;
-use std::alloc::{AllocError, Global};
+use std::alloc::Global;
 use store_image::{ImageError, read_server};
 
 /// Why a run ended without its last line.
@@ -68,28 +69,6 @@ fn status_of(ended: Result<(), Stopped>) -> u8
     status.code()
 }
 
-/// The line that ends the output.
-#[tactic(auto, using(std::proofs::Common::append_assoc))]
-fn last_line(alloc: Global, tally: Tally) -> Result<String, AllocError>
-    ensures { IfOk result (λ line. string_bytes line ≡ last_line tally.frames tally.faults) }
-{
-    let (frames, faults) = (tally.frames, tally.faults);
-    format!(in alloc; "served {frames} faults {faults}\n")
-}
-
-/// Writes the line that ends the output.
-fn write_last<O: Sink>(alloc: Global, tally: Tally, output: &mut O) -> Result<(), SinkError>
-    ensures all { OnOk result (Adds (O.written output.old) (O.written output.new) (last_line tally.frames tally.faults)) }
-    ensures front { OnErr result ((bytes : ℕ) × Adds (O.written output.old) (O.written output.new) (take bytes (last_line tally.frames tally.faults))) }
-    ensures cause { CountsFault SinkError.Failed (O.faults output.old) (O.faults output.new) result }
-{
-    let line = match last_line(alloc, tally) {
-        Ok(line) => line,
-        Err(_refused) => return Err(SinkError::Memory),
-    };
-    write_all(output, line.as_bytes())
-}
-
 /// The server that is kept under the name, or a new one where nothing is.
 fn opened<K: Keeper>(alloc: Global, name: &[u8], keeper: &mut K) -> Result<Server, Stopped>
     ensures opens { IfOk result (λ server. Opens (kept_under name.now (K.images keeper.old)) (served server)) }
@@ -130,7 +109,7 @@ fn run<P: Port, K: Keeper, O: Sink>(
     output: &mut O,
 ) -> Result<(), Stopped>
     requires { count ≤ 65536 }
-    ensures turn { RunTurn count (telling (P.left port.old) (P.taken port.old) (P.answered port.old) (P.faults port.old) (kept_under name.now (K.images keeper.old))) (telling (P.left port.new) (P.taken port.new) (P.answered port.new) (P.faults port.new) (kept_under name.now (K.images keeper.new))) (O.written output.old) (O.written output.new) result }
+    ensures turn { RunTurn count (telling (P.tells port.old) (kept_under name.now (K.images keeper.old))) (telling (P.tells port.new) (kept_under name.now (K.images keeper.new))) (O.written output.old) (O.written output.new) result }
     ensures sink { CountsFault Stopped.Sink (O.faults output.old) (O.faults output.new) result }
     ensures keeper { CountsFault Stopped.Keeper (K.faults keeper.old) (K.faults keeper.new) result }
 {
@@ -151,8 +130,8 @@ pub fn server_run<P: Port, O: Sink, K: Keeper>(
     output: &mut O,
 ) -> u8
     ensures { Ends (map string_bytes words.now) result
-        (record { left = P.left port.old; taken = P.taken port.old; answered = P.answered port.old; port_faults = P.faults port.old; images = K.images keeper.old; keeper_faults = K.faults keeper.old; written = O.written output.old; sink_faults = O.faults output.old })
-        (record { left = P.left port.new; taken = P.taken port.new; answered = P.answered port.new; port_faults = P.faults port.new; images = K.images keeper.new; keeper_faults = K.faults keeper.new; written = O.written output.new; sink_faults = O.faults output.new }) }
+        (record { port = P.tells port.old; images = K.images keeper.old; keeper_faults = K.faults keeper.old; written = O.written output.old; sink_faults = O.faults output.old })
+        (record { port = P.tells port.new; images = K.images keeper.new; keeper_faults = K.faults keeper.new; written = O.written output.new; sink_faults = O.faults output.new }) }
 {
     let Some(words) = run_words(words) else {
         return Status::NoForm.code();

@@ -90,8 +90,9 @@ fn a_fault_ends_one_connection(rt: HostRuntime) -> Result<(), Fail> {
     let (status, output) = run(alloc, &["run", "l", "img", "65536"], &mut port)?;
     assert_eq!(rt; status, 0);
     assert_eq!(rt; output.bytes(), b"served 3 faults 2\n".as_slice());
-    assert!(rt; accepts(&port, 1));
-    assert_eq!(rt; port.answered(2), None);
+    assert!(rt; accepts(&port, 0));
+    assert_eq!(rt; port.answered(1), None);
+    assert!(rt; accepts(&port, 2));
     Ok(())
 }
 

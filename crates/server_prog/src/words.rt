@@ -1,11 +1,9 @@
 ghost use Rattle.std.specs.Prelude.{◌≡◌, ◌≤◌, IfSome, MatchOption, None, Some, map};
 ghost use Rattle.std.specs.String.{string_bytes};
-ghost use Rattle.server_prog.specs.Words.{most_connections, run_of, is_run};
+ghost use Rattle.port_serving.specs.Words.{most_connections};
+ghost use Rattle.server_prog.specs.Words.{run_of, is_run};
 
-use program_words::printed_number;
-
-/// The most connections that a run takes.
-const MOST_CONNECTIONS: u32 = 65_536;
+use port_serving::connection_count;
 
 /// What the words of a run say.
 #[derive(Debug, Drop)]
@@ -30,7 +28,7 @@ pub fn run_words(words: &[String]) -> Option<RunWords<'_>>
     if !is_run(run.as_bytes(), address.as_bytes(), image.as_bytes()) {
         return None;
     }
-    match printed_number(count.as_str(), 1, MOST_CONNECTIONS) {
+    match connection_count(count.as_str()) {
         Some(count) => Some(RunWords {
             address: address.as_str(),
             image: image.as_str(),

@@ -8,8 +8,8 @@ use Rattle.server_prog.proofs.run.server_run.Goals as goal
 
 pub returns : goal.returns
 returns g c =
-    let old : List ℕ → Telling = λ image. telling (g.P.Port.left c.args.port.now) (g.P.Port.taken c.args.port.now) (g.P.Port.answered c.args.port.now) (g.P.Port.faults c.args.port.now) (kept_under image (g.K.Keeper.images c.args.keeper.now)) in
-    let new : List ℕ → Telling = λ image. telling (g.P.Port.left c.run.new.port) (g.P.Port.taken c.run.new.port) (g.P.Port.answered c.run.new.port) (g.P.Port.faults c.run.new.port) (kept_under image (g.K.Keeper.images c.run.new.keeper)) in
+    let old : List ℕ → Telling = λ image. telling (g.P.Port.tells c.args.port.now) (kept_under image (g.K.Keeper.images c.args.keeper.now)) in
+    let new : List ℕ → Telling = λ image. telling (g.P.Port.tells c.run.new.port) (kept_under image (g.K.Keeper.images c.run.new.keeper)) in
     let o = g.O.Sink.written c.args.output.now in
     let n = g.O.Sink.written c.run.new.output in
     record {

@@ -1,11 +1,15 @@
-use Rattle.std.proofs.Common.{◌≡◌, ◌<◌, ◌≤◌, ◌∙◌, arith}
+use Rattle.std.proofs.Common.{◌≡◌, ◌<◌, ◌≤◌, ◌∙◌, refl, arith}
 use Rattle.outside.proofs.Writing.{on_err}
-use Rattle.server_prog.proofs.Connections.{so_far_tallied, all_came, all_made, front, fits}
+use Rattle.server_prog.proofs.Connections.{so_far_begins, so_far_next, all_came, all_made, front}
+use Rattle.port_serving.proofs.Connections.{fits}
 use Rattle.server_prog.proofs.serving.serve.Goals as goal
+
+pub loop-take-init : goal.loop-take-init
+loop-take-init g c = record { served = so_far_begins _ _ _ c.new-tally.ensures; faults = refl }
 
 pub loop-take-preserved : goal.loop-take-preserved
 loop-take-preserved g c = record {
-  served = so_far_tallied _ _ _ _ _ _ _ _ _ _ c.in_default.not-NoConnection c.tallied-tally.ensures c.loop-take.invariant.served c.in_ok-came.ensures.ok;
+  served = so_far_next _ _ _ _ _ _ _ _ _ _ c.in_default.not-NoConnection c.tallied-tally.ensures c.loop-take.invariant.served c.in_ok-came.ensures.ok;
   faults = c.in_ok-came.ensures.cause.never (λ is. absurd (cc is)) ∙ c.loop-take.invariant.faults;
 }
 
@@ -14,7 +18,7 @@ returns-in_err-came-clause-err g c = on_err _ _ _ _ (front _ _ _ _ _ _ _ _ c.loo
 
 pub tallied-tally-requires : goal.tallied-tally-requires
 tallied-tally-requires g c =
-    let fit : (c.loop-take.tally.frames < 65536) × (c.loop-take.tally.faults < 65536) = fits _ _ _ _ _ _ (omega (arith, c.loop-take-test.true, c.requires)) c.loop-take.invariant.served in
+    let fit : (c.loop-take.tally.frames < 65536) × (c.loop-take.tally.faults < 65536) = fits _ _ _ _ _ (omega (arith, c.loop-take-test.true, c.requires)) c.loop-take.invariant.served.port in
     record { frames = fit.0; faults = fit.1 }
 
 pub returns-after-loop-take-clause-ok : goal.returns-after-loop-take-clause-ok

@@ -9,7 +9,7 @@ abbrev pub invariant-loop-take : goal.invariant-loop-take
 invariant-loop-take g l = record {
   served :
       ServesSoFar l._take l.tally (served l.fn.server) (served l.server)
-      (telling (g.P.Port.left l.fn.port) (g.P.Port.taken l.fn.port) (g.P.Port.answered l.fn.port) (g.P.Port.faults l.fn.port) (kept_under l.name (g.K.Keeper.images l.fn.keeper)))
-      (telling (g.P.Port.left l.port) (g.P.Port.taken l.port) (g.P.Port.answered l.port) (g.P.Port.faults l.port) (kept_under l.name (g.K.Keeper.images l.keeper)));
+      (telling (g.P.Port.tells l.fn.port) (kept_under l.name (g.K.Keeper.images l.fn.keeper)))
+      (telling (g.P.Port.tells l.port) (kept_under l.name (g.K.Keeper.images l.keeper)));
   faults : g.K.Keeper.faults l.keeper ≡ g.K.Keeper.faults l.fn.keeper;
 }

@@ -1,0 +1,3 @@
+pub mod Connections
+pub mod Talking
+pub mod Totals
