@@ -1,6 +1,6 @@
 // Programs of this machine behind the trait of what runs jobs.
 ghost use Rattle.std.specs.Prelude.{◌≡◌, None, List, IfOk};
-ghost use Rattle.outside.specs.Outside.{Told, HasCause, CountsFault};
+ghost use Rattle.outside.specs.Outside.{Told, CountsFault};
 ghost use Rattle.cmd_capture.specs.declared.runner.Run.{Run};
 ghost use Rattle.cmd_capture.specs.Runs.{AddsRun};
 ghost use Rattle.child_runner.specs.Found.{IsSmall};
@@ -104,9 +104,8 @@ impl<'a, R: Files + Processes + AllocGlobal> Runner for ChildRunner<'a, R> {
 
     fn run(&mut self, work: &[u8], job: &Job) -> Result<Outcome, RunError>
         ensures runs { Told {A = List Run} None None (AddsRun work.now job.now result) }
-        ensures cause { HasCause RunError.Failed self.old.faults self.new.faults result }
+        ensures cause { CountsFault RunError.Failed self.old.faults self.new.faults result }
 
-        ensures counted { CountsFault RunError.Failed self.old.faults self.new.faults result }
         ensures small { IfOk result (λ outcome. IsSmall outcome.rows) }
     {
         match self.run_fresh(work, job) {

@@ -1,7 +1,8 @@
 // A program that is started and waited for.
-ghost use Rattle.std.specs.Prelude.{◌≡◌, ◌∷◌, ◌++◌, true, Some, pos, IfOk, OnOk, string_bytes};
-ghost use Rattle.std.specs.Process.{exit_code, command_program, command_args, command_dir, clears_env, SameProgramAndArgs};
+ghost use Rattle.std.specs.Prelude.{◌≡◌, ◌+◌, ◌<◌, ℕ, List, ◌∷◌, ◌++◌, true, Some, None, option_map, length, take, pos, IfOk, OnOk, string_bytes};
+ghost use Rattle.std.specs.Process.{exit_code, command_program, command_args, command_dir, command_var, clears_env, SameProgramAndArgs, SameOtherVars};
 ghost use Rattle.file_paths.specs.Path.{path_text};
+ghost use Rattle.child_runner.specs.Variables.{TellsVariables};
 
 use crate::texts::{place_in, text_of};
 use cmd_capture::{Command, Env};
@@ -40,7 +41,8 @@ fn status_of(ended: ExitStatus) -> io::Result<u8>
 fn start_of(alloc: Global, folder: &str, command: &Command) -> io::Result<process::Command>
     ensures program { IfOk result (λ start. command_program start ≡ command.now.program) }
     ensures words { IfOk result (λ start. command_args start ≡ command.now.args) }
-    ensures variables { IfOk result (λ start. clears_env start ≡ true) }
+    ensures alone { IfOk result (λ start. clears_env start ≡ true) }
+    ensures variables { IfOk result (λ start. TellsVariables start command.now.env) }
     ensures folder { IfOk result (λ start. command_dir start ≡ Some (folder.now ++ 47 ∷ path_text command.now.cwd)) }
 {
     let program = text_of(command.program.bytes())?;
@@ -75,13 +77,37 @@ fn add_words(start: &mut process::Command, words: &[Content]) -> io::Result<()>
 }
 
 fn add_variables(start: &mut process::Command, variables: &Env) -> io::Result<()>
+    requires { (name : List ℕ) → command_var start.old name ≡ None }
+    ensures variables { OnOk result (TellsVariables start.new variables.now) }
     ensures call { OnOk result (SameProgramAndArgs start.old start.new) }
     ensures clears { OnOk result (clears_env start.new ≡ clears_env start.old) }
 {
     for i in 0..variables.len() {
-        if let Some((key, value)) = variables.get(i) {
-            start.env(text_of(key.bytes())?, text_of(value.bytes())?)?;
-        }
+        add_variable(start, variables, i)?;
     }
+    Ok(())
+}
+
+/// Adds variable `i`, counted from 0.
+fn add_variable(start: &mut process::Command, variables: &Env, i: usize) -> io::Result<()>
+    requires { i < length variables.now }
+    ensures variables { TellsVariables start.old (take i variables.now) → OnOk result (TellsVariables start.new (take (i + 1) variables.now)) }
+    ensures call { OnOk result (SameProgramAndArgs start.old start.new) }
+    ensures clears { OnOk result (clears_env start.new ≡ clears_env start.old) }
+{
+    let Some((key, value)) = variables.get(i) else {
+        unreachable!()
+    };
+    set_variable(start, text_of(key.bytes())?, text_of(value.bytes())?)
+}
+
+/// Sets one variable.
+fn set_variable(start: &mut process::Command, key: &str, value: &str) -> io::Result<()>
+    ensures set { OnOk result (command_var start.new key.now ≡ Some (Some value.now)) }
+    ensures others { OnOk result (SameOtherVars start.old start.new key.now) }
+    ensures call { OnOk result (SameProgramAndArgs start.old start.new) }
+    ensures clears { OnOk result (clears_env start.new ≡ clears_env start.old) }
+{
+    start.env(key, value)?;
     Ok(())
 }
