@@ -1,11 +1,10 @@
 -- How often the keeper failed.
-use Rattle.std.proofs.Common.{◌≡◌, ◌∙◌, ℕ, ◌≤◌, Option, Some, None, Result, Ok, Err, refl, ap, subst, arith}
-use Rattle.std.specs.Prelude.{IsErrOf}
+use Rattle.std.proofs.Common.{◌≡◌, ◌∙◌, ℕ, Option, Some, None, Result, Ok, Err, refl, ap, arith}
 use Rattle.outside.specs.Outside.{Rose, raised, RisesWhere, CountsFault}
 use Rattle.outside.specs.declared.errors.KeepError.{KeepError}
 use Rattle.outside.specs.declared.errors.KeepError.TheVariants as keepers
 use Rattle.wire_frames.specs.declared.message.Message.{Message}
-use Rattle.wire_frames.specs.declared.message.Message.TheVariants.{Store, Pull, Accepted, Stale, Unfit, Gap, Snapshot, Full, Malformed}
+use Rattle.wire_frames.specs.declared.message.Message.TheVariants.{Accepted, Stale, Unfit, Gap, Full}
 use Rattle.client_core.specs.declared.syncing.SyncEnd.{SyncEnd}
 use Rattle.client_core.specs.declared.syncing.SyncEnd.TheVariants as syncs
 use Rattle.client_core.specs.declared.pulling.PullEnd.TheVariants as pulls
@@ -33,10 +32,7 @@ end_by_reply number (Some (Stale client seq path theirs ours)) end by is = absur
 end_by_reply number (Some (Unfit client seq index fault)) end by is = absurd (cc)
 end_by_reply number (Some (Full client seq index fault)) end by is = absurd (cc)
 end_by_reply number (Some (Gap client seq last)) end by is = absurd (cc)
-end_by_reply number (Some (Store client seq effects base)) end by is = absurd (cc)
-end_by_reply number (Some (Pull client seq)) end by is = absurd (cc)
-end_by_reply number (Some (Snapshot client seq last rows)) end by is = absurd (cc)
-end_by_reply number (Some (Malformed code offset)) end by is = absurd (cc)
+end_by_reply number (Some _) end by is = absurd (cc)
 
 -- rows were taken, and the log was to be kept
 pub pulled_rises : (count : ℕ) (r : Result (Unit {0}) KeepError) (before now : ℕ) → CountsFault keepers.Failed before now r → RisesWhere (pulled_end count r ≡ pulls.KeepFault) before now

@@ -1,7 +1,9 @@
 -- How what a client did goes on from call to call.
-use Rattle.std.proofs.Common.{◌≡◌, ◌≢◌, ◌⊎◌, inl, inr, ⊎_elim, ℕ, zero, suc, ◌+◌, List, [], ◌∷◌, ◌++◌, Option, None, Some, Result, Ok, Err, IfOk, refl, sym, ◌∙◌, ap, subst, arith, append_assoc}
+use Rattle.std.proofs.Common.{◌≡◌, ◌≢◌, ◌⊎◌, inl, inr, ⊎_elim, ℕ, ◌+◌, List, [], ◌∷◌, ◌++◌, Option, None, Some, unwrap_or, option_map, Result, Ok, Err, IfOk, refl, sym, ◌∙◌, ap, subst, arith, append_assoc}
 use Rattle.std.proofs.lemmas.List.{append-nil}
 use Rattle.outside.specs.Outside.{Told, RoseBy}
+use Rattle.cmd_capture.specs.declared.runner.Run.{Run}
+use Rattle.cmd_capture.specs.Runs.{RunnerTelling, HasRun}
 use Rattle.outside.specs.Keeper.{Images}
 use Rattle.tree_values.specs.Lists.{IsIn}
 use Rattle.mod_log.specs.declared.log.Entry.{Entry}
@@ -17,21 +19,64 @@ use Rattle.world_rules.proofs.Asks.{told_then}
 use Rattle.world_rules.proofs.Runs.{runs_none, runs_then, runs_once, moved_runs}
 use Rattle.world_rules.proofs.Settled.{failed-append}
 use Rattle.store_image.specs.Image.{Keeps}
-use Rattle.client_core.specs.Trace.{Trace, nothing, followed, asking, changing, logging, last_log, log_before_last, IsLastOrBefore}
+use Rattle.client_core.specs.Trace.{Trace, nothing, followed, asking, changing, logging, running, last_log, log_before_last, IsLastOrBefore}
 use Rattle.client_core.specs.Syncing.{acknowledged_first}
 use Rattle.client_core.specs.Keeping.{OthersStay, IsKept, Kept, Keeping, KeepsLog}
-use Rattle.client_core.specs.Goes.{Goes, stand}
+use Rattle.client_core.specs.Goes.{Goes, stand, no_runner}
 
 -- ---- traces
 
 pub followed-nothing : (trace : Trace) → trace ≡ followed trace nothing
-followed-nothing trace = λ i. record { asks = sym (append-nil trace.asks) i; entries = sym (append-nil trace.entries) i; changes = sym (append-nil trace.changes) i }
+followed-nothing trace =
+    let missed : trace.missed ≡ trace.missed + 0 = omega arith in
+    λ i. record {
+      asks = sym (append-nil trace.asks) i;
+      runs = sym (append-nil trace.runs) i;
+      missed = missed i;
+      entries = sym (append-nil trace.entries) i;
+      changes = sym (append-nil trace.changes) i;
+    }
 
 pub followed-assoc : (a b c : Trace) → followed (followed a b) c ≡ followed a (followed b c)
-followed-assoc a b c = λ i. record { asks = append_assoc a.asks b.asks c.asks i; entries = append_assoc a.entries b.entries c.entries i; changes = append_assoc a.changes b.changes c.changes i }
+followed-assoc a b c =
+    let missed : a.missed + b.missed + c.missed ≡ a.missed + (b.missed + c.missed) = omega arith in
+    λ i. record {
+      asks = append_assoc a.asks b.asks c.asks i;
+      runs = append_assoc a.runs b.runs c.runs i;
+      missed = missed i;
+      entries = append_assoc a.entries b.entries c.entries i;
+      changes = append_assoc a.changes b.changes c.changes i;
+    }
 
 pub changed_so : (changes : List Log) (change : Log) (more : List Log) → changes ≡ change ∷ more → changes ≢ []
 changed_so changes change more is = λ none. absurd (cc (sym none ∙ is))
+
+-- ---- what a runner tells
+
+none_more : (runs : Option (List Run)) → runs ≡ option_map (λ list. list ++ []) runs
+none_more None = refl
+none_more (Some runs) = ap Some (sym (append-nil runs))
+
+more_then : (runs : Option (List Run)) (xs ys : List Run) → option_map (λ list. list ++ ys) (option_map (λ list. list ++ xs) runs) ≡ option_map (λ list. list ++ (xs ++ ys)) runs
+more_then None xs ys = refl
+more_then (Some runs) xs ys = ap Some (append_assoc runs xs ys)
+
+-- a runner that is left alone
+pub has_run_none : (r : RunnerTelling) → HasRun [] 0 r r
+has_run_none r = record { told = none_more r.runs; counted = omega arith }
+
+pub has_run_then : (xs ys : List Run) (m n : ℕ) (p q r : RunnerTelling) → HasRun xs m p q → HasRun ys n q r → HasRun (xs ++ ys) (m + n) p r
+has_run_then xs ys m n p q r first second = record {
+  told = second.told ∙ ap (option_map (λ list. list ++ ys)) first.told ∙ more_then p.runs xs ys;
+  counted = omega (arith, first.counted, second.counted);
+}
+
+-- what made no run of one runner made none of any
+pub has_run_alone : (xs : List Run) (m : ℕ) (r : RunnerTelling) → HasRun xs m no_runner no_runner → HasRun xs m r r
+has_run_alone xs m r alone =
+    let none : [] ≡ xs = ap (λ (told : Option (List Run)). unwrap_or told []) alone.told in
+    let sound : 0 ≡ m = omega (arith, alone.counted) in
+    subst (λ (runs : List Run). HasRun runs m r r) none (subst (λ (n : ℕ). HasRun [] n r r) sound (has_run_none r))
 
 -- ---- what is kept
 
@@ -124,70 +169,114 @@ module _ (name : List ℕ) (client : ℕ) where
 -- ---- stretches of a client's life
 
 module _ (name : List ℕ) (client : ℕ) where
-  pub goes_none : (T : Trace → Type 0) (s : Log) (i : Option Images) (t : ℕ) (w : World) → IsKept i name client s → T nothing → Goes client name T s s s i i t t w w
-  goes_none T s i t w keeps turn = record { trace = nothing; turn = turn; runs = runs_none client (kept_at s w); keeping = keeping_none name client s i keeps; rose = omega arith }
+  pub goes_none : (T : Trace → Type 0) (s : Log) (i : Option Images) (r : RunnerTelling) (t : ℕ) (w : World) → IsKept i name client s → T nothing → Goes client name T s s s i i r r t t w w
+  goes_none T s i r t w keeps turn = record {
+    trace = nothing;
+    turn = turn;
+    runs = runs_none client (kept_at s w);
+    keeping = keeping_none name client s i keeps;
+    has_run = has_run_none r;
+    rose = omega arith;
+  }
 
   -- another relation of the same turns
-  pub goes_as : (T S : Trace → Type 0) (a b k : Log) (i j : Option Images) (t u : ℕ) (v w : World) → Goes client name T a b k i j t u v w → ((trace : Trace) → T trace → S trace)
-      → Goes client name S a b k i j t u v w
-  goes_as T S a b k i j t u v w goes to = record { trace = goes.trace; turn = to goes.trace goes.turn; runs = goes.runs; keeping = goes.keeping; rose = goes.rose }
+  pub goes_as : (T S : Trace → Type 0) (a b k : Log) (i j : Option Images) (p q : RunnerTelling) (t u : ℕ) (v w : World) → Goes client name T a b k i j p q t u v w
+      → ((trace : Trace) → T trace → S trace) → Goes client name S a b k i j p q t u v w
+  goes_as T S a b k i j p q t u v w goes to =
+      record { trace = goes.trace; turn = to goes.trace goes.turn; runs = goes.runs; keeping = goes.keeping; has_run = goes.has_run; rose = goes.rose }
+
+  -- beside any runner, where none was asked
+  pub goes_beside : (T : Trace → Type 0) (a b k : Log) (i j : Option Images) (t u : ℕ) (v w : World) → Goes client name T a b k i j no_runner no_runner t u v w
+      → (r : RunnerTelling) → Goes client name T a b k i j r r t u v w
+  goes_beside T a b k i j t u v w goes r =
+      record { trace = goes.trace; turn = goes.turn; runs = goes.runs; keeping = goes.keeping; has_run = has_run_alone goes.trace.runs goes.trace.missed r goes.has_run; rose = goes.rose }
 
   -- one stretch, at whose end the log is kept, after another
-  pub goes_then : (T S R : Trace → Type 0) (a b c k : Log) (i j l : Option Images) (t u v : ℕ) (x y z : World) → Goes client name T a b b i j t u x y → Goes client name S b c k j l u v y z
-      → ((m n : Trace) → T m → S n → R (followed m n)) → Goes client name R a c k i l t v x z
-  goes_then T S R a b c k i j l t u v x y z first second join = record {
+  pub goes_then : (T S R : Trace → Type 0) (a b c k : Log) (i j l : Option Images) (p q r : RunnerTelling) (t u v : ℕ) (x y z : World) → Goes client name T a b b i j p q t u x y
+      → Goes client name S b c k j l q r u v y z → ((m n : Trace) → T m → S n → R (followed m n)) → Goes client name R a c k i l p r t v x z
+  goes_then T S R a b c k i j l p q r t u v x y z first second join = record {
     trace = followed first.trace second.trace;
     turn = join first.trace second.trace first.turn second.turn;
     runs = runs_then client first.trace.entries second.trace.entries first.trace.asks second.trace.asks (kept_at a x) (kept_at b y) (stand c k z) first.runs second.runs;
     keeping = keeping_then name client a b c k first.trace.changes second.trace.changes i j l first.keeping second.keeping;
+    has_run = has_run_then first.trace.runs second.trace.runs first.trace.missed second.trace.missed p q r first.has_run second.has_run;
     rose = omega (arith, failed-append first.trace.asks second.trace.asks, first.rose, second.rose);
   }
 
   -- the asks of a request that the kept log may send, whose answers stand
-  pub goes_moved : (T : Trace → Type 0) (request : Message) (asks : List Ask) (s : Log) (i : Option Images) (t u : ℕ) (x y : World) → IsKept i name client s → MaySend client s request
-      → Moved request asks x y × AnswersStand y asks → RoseBy (failed_asks asks) t u → T (asking asks) → Goes client name T s s s i i t u x y
-  goes_moved T request asks s i t u x y keeps may moved rose turn = record {
+  pub goes_moved : (T : Trace → Type 0) (request : Message) (asks : List Ask) (s : Log) (i : Option Images) (r : RunnerTelling) (t u : ℕ) (x y : World) → IsKept i name client s → MaySend client s request
+      → Moved request asks x y × AnswersStand y asks → RoseBy (failed_asks asks) t u → T (asking asks) → Goes client name T s s s i i r r t u x y
+  goes_moved T request asks s i r t u x y keeps may moved rose turn = record {
     trace = asking asks;
     turn = turn;
     runs = moved_runs client s request asks x y may moved.0 moved.1;
     keeping = keeping_none name client s i keeps;
+    has_run = has_run_none r;
     rose = rose;
   }
 
   -- and a change of the log by one move, which is not kept yet
-  pub goes_changed : (T : Trace → Type 0) (request : Message) (asks : List Ask) (s next : Log) (i : Option Images) (t u : ℕ) (x y : World) → IsKept i name client s → MaySend client s request
-      → Moved request asks x y × AnswersStand y asks → RoseBy (failed_asks asks) t u → Runs client [] [] (kept_at s y) (stand next s y)
-      → T (followed (asking asks) (changing next)) → Goes client name T s next s i i t u x y
-  goes_changed T request asks s next i t u x y keeps may moved rose runs turn = record {
+  pub goes_changed : (T : Trace → Type 0) (request : Message) (asks : List Ask) (s next : Log) (i : Option Images) (r : RunnerTelling) (t u : ℕ) (x y : World) → IsKept i name client s
+      → MaySend client s request → Moved request asks x y × AnswersStand y asks → RoseBy (failed_asks asks) t u → Runs client [] [] (kept_at s y) (stand next s y)
+      → T (followed (asking asks) (changing next)) → Goes client name T s next s i i r r t u x y
+  goes_changed T request asks s next i r t u x y keeps may moved rose runs turn = record {
     trace = followed (asking asks) (changing next);
     turn = turn;
     runs = runs_then client [] [] asks [] (kept_at s x) (kept_at s y) (stand next s y) (moved_runs client s request asks x y may moved.0 moved.1) runs;
     keeping = keeping_unkept name client s next i keeps;
+    has_run = has_run_none r;
     rose = omega (arith, failed-append asks [], rose);
   }
 
   -- such as the acknowledgement of the first pending entry on a reply that was sent
-  pub goes_acked : (T : Trace → Type 0) (request reply : Message) (asks : List Ask) (s : Log) (i : Option Images) (t u : ℕ) (x y : World) → IsKept i name client s → MaySend client s request
+  pub goes_acked : (T : Trace → Type 0) (request reply : Message) (asks : List Ask) (s : Log) (i : Option Images) (r : RunnerTelling) (t u : ℕ) (x y : World) → IsKept i name client s → MaySend client s request
       → Moved request asks x y × AnswersStand y asks → RoseBy (failed_asks asks) t u → s.pending ≢ [] → IsAcceptance client (s.acked + 1) reply → IsIn reply y.packets
-      → T (followed (asking asks) (changing (acknowledged_first s))) → Goes client name T s (acknowledged_first s) s i i t u x y
-  goes_acked T request reply asks s i t u x y keeps may moved rose some is among turn =
-      goes_changed T request asks s (acknowledged_first s) i t u x y keeps may moved rose (runs_once client (kept_at s y) (Acknowledges reply) (some, is, among)) turn
+      → T (followed (asking asks) (changing (acknowledged_first s))) → Goes client name T s (acknowledged_first s) s i i r r t u x y
+  goes_acked T request reply asks s i r t u x y keeps may moved rose some is among turn =
+      goes_changed T request asks s (acknowledged_first s) i r t u x y keeps may moved rose (runs_once client (kept_at s y) (Acknowledges reply) (some, is, among)) turn
 
   -- an entry that is logged, and not kept yet
-  pub goes_logged : (T : Trace → Type 0) (entry : Entry) (s : Log) (i : Option Images) (t : ℕ) (w : World) → IsKept i name client s → IsLog (logged entry s)
-      → T (logging entry (logged entry s)) → Goes client name T s (logged entry s) s i i t t w w
-  goes_logged T entry s i t w keeps log_is turn = record {
+  pub goes_logged : (T : Trace → Type 0) (entry : Entry) (s : Log) (i : Option Images) (r : RunnerTelling) (t : ℕ) (w : World) → IsKept i name client s → IsLog (logged entry s)
+      → T (logging entry (logged entry s)) → Goes client name T s (logged entry s) s i i r r t t w w
+  goes_logged T entry s i r t w keeps log_is turn = record {
     trace = logging entry (logged entry s);
     turn = turn;
     runs = runs_once client (kept_at s w) (Logs entry) log_is;
     keeping = keeping_unkept name client s (logged entry s) i keeps;
+    has_run = has_run_none r;
+    rose = omega arith;
+  }
+
+  -- a runner that was asked, while the log stood still
+  pub goes_ran : (T : Trace → Type 0) (runs : List Run) (missed : ℕ) (s : Log) (i : Option Images) (p q : RunnerTelling) (t : ℕ) (w : World) → IsKept i name client s → HasRun runs missed p q
+      → T (running runs missed) → Goes client name T s s s i i p q t t w w
+  goes_ran T runs missed s i p q t w keeps has_run turn = record {
+    trace = running runs missed;
+    turn = turn;
+    runs = runs_none client (kept_at s w);
+    keeping = keeping_none name client s i keeps;
+    has_run = has_run;
+    rose = omega arith;
+  }
+
+  -- and then an entry that is logged, and not kept yet
+  pub goes_ran_logged : (T : Trace → Type 0) (runs : List Run) (missed : ℕ) (entry : Entry) (s : Log) (i : Option Images) (p q : RunnerTelling) (t : ℕ) (w : World) → IsKept i name client s
+      → IsLog (logged entry s) → HasRun (runs ++ []) (missed + 0) p q → T (followed (running runs missed) (logging entry (logged entry s)))
+      → Goes client name T s (logged entry s) s i i p q t t w w
+  goes_ran_logged T runs missed entry s i p q t w keeps log_is has_run turn = record {
+    trace = followed (running runs missed) (logging entry (logged entry s));
+    turn = turn;
+    runs = runs_once client (kept_at s w) (Logs entry) log_is;
+    keeping = keeping_unkept name client s (logged entry s) i keeps;
+    has_run = has_run;
     rose = omega arith;
   }
 
   -- What a keeping makes of a stretch that changed the log: the log is kept now, or, where it was refused, perhaps what was kept before.
-  pub goes_saved : {E : Type 0} (T : Trace → Type 0) (a b k : Log) (i j l : Option Images) (t u : ℕ) (x y : World) (r : Result (Unit {0}) E) (goes : Goes client name T a b k i j t u x y)
-      → goes.trace.changes ≢ [] → Told j l (KeepsLog name client b r) → (now : Log) × Goes client name T a b now i l t u x y × IfOk r (λ done. now ≡ b)
-  goes_saved {E} T a b k i j l t u x y r goes some save = by (keeping_saved name client a b k goes.trace.changes some i j l r goes.keeping save)
+  pub goes_saved : {E : Type 0} (T : Trace → Type 0) (a b k : Log) (i j l : Option Images) (p q : RunnerTelling) (t u : ℕ) (x y : World) (r : Result (Unit {0}) E)
+      (goes : Goes client name T a b k i j p q t u x y) → goes.trace.changes ≢ [] → Told j l (KeepsLog name client b r)
+      → (now : Log) × Goes client name T a b now i l p q t u x y × IfOk r (λ done. now ≡ b)
+  goes_saved {E} T a b k i j l p q t u x y r goes some save = by (keeping_saved name client a b k goes.trace.changes some i j l r goes.keeping save)
     where
       sure : (r : Result (Unit {0}) E) → IfOk r (λ done. b ≡ b)
       sure (Ok done) = refl
@@ -198,7 +287,7 @@ module _ (name : List ℕ) (client : ℕ) where
       unsure (Err e) none = tt
 
       by : Keeping name client a b b goes.trace.changes i l ⊎ (IfOk r (λ done. ⊥) × Keeping name client a b k goes.trace.changes i l)
-          → (now : Log) × Goes client name T a b now i l t u x y × IfOk r (λ done. now ≡ b)
+          → (now : Log) × Goes client name T a b now i l p q t u x y × IfOk r (λ done. now ≡ b)
       by (inl now) = (
         b,
         record {
@@ -208,8 +297,9 @@ module _ (name : List ℕ) (client : ℕ) where
               (subst (λ (es : List Entry). Runs client es (goes.trace.asks ++ []) (kept_at a x) (kept_at b y)) (append-nil goes.trace.entries)
               (runs_then client goes.trace.entries [] goes.trace.asks [] (kept_at a x) (stand b k y) (kept_at b y) goes.runs (runs_once client (stand b k y) Saves tt)));
           keeping = now;
+          has_run = goes.has_run;
           rose = goes.rose;
         },
         sure r,
       )
-      by (inr still) = (k, record { trace = goes.trace; turn = goes.turn; runs = goes.runs; keeping = still.1; rose = goes.rose }, unsure r still.0)
+      by (inr still) = (k, record { trace = goes.trace; turn = goes.turn; runs = goes.runs; keeping = still.1; has_run = goes.has_run; rose = goes.rose }, unsure r still.0)

@@ -6,6 +6,7 @@ pub mod Locals
 pub mod Olders
 pub mod Putting
 pub mod Pulls
+pub mod Runs
 pub mod Standing
 pub mod Syncs
 pub mod Truths

@@ -11,7 +11,7 @@ use Rattle.tree_values.specs.declared.node.Row.{Row}
 use Rattle.mod_log.specs.declared.log.Entry.{Entry}
 use Rattle.mod_log.specs.Log.{Log, IsLog, pulled}
 use Rattle.wire_frames.specs.declared.message.Message.{Message}
-use Rattle.wire_frames.specs.declared.message.Message.TheVariants.{Store, Pull, Accepted, Stale, Unfit, Gap, Snapshot, Full, Malformed}
+use Rattle.wire_frames.specs.declared.message.Message.TheVariants.{Pull, Snapshot}
 use Rattle.wire_frames.specs.Frame.{IsValid, Echoes}
 use Rattle.world_rules.specs.declared.asking.Answer.TheVariants.{Reply}
 use Rattle.world_rules.specs.declared.asking.Peer.TheVariants.{Server}
@@ -31,7 +31,7 @@ use Rattle.client_core.specs.declared.pulling.PullEnd.TheVariants as ends
 use Rattle.client_core.specs.Trace.{Trace, followed, asking, changing}
 use Rattle.client_core.specs.Pulling.{pull_of, Meets, pull_change, pulled_end, is_broken_pull, PullsSnapshot, PullAsks, PullEnds}
 use Rattle.client_core.specs.Keeping.{IsKept, Keeping, KeepsLog}
-use Rattle.client_core.specs.Goes.{Goes, Went}
+use Rattle.client_core.specs.Goes.{Goes, Went, no_runner}
 use Rattle.client_core.specs.Causes.{TakesRows, HasPullCause, PullKeeps}
 use Rattle.client_core.specs.Honest.{IsNotOlder}
 use Rattle.client_core.specs.Inside.{MeetsEnds, PullLeaves, first_lower, snapshot_of}
@@ -75,12 +75,12 @@ module _ (client : ℕ) (route : Route) (before : Log) (i : Option Images) (keep
 
   -- what a pull did over the link before it kept anything
   abbrev Asks : PullEnd → Log → LinkTelling → LinkTelling → Type 0
-  Asks end after t u = ToldWorlds t u (λ x y. Goes client name (PullAsks client route before end after) before after before i i t.troubles u.troubles x y)
+  Asks end after t u = ToldWorlds t u (λ x y. Goes client name (PullAsks client route before end after) before after before i i no_runner no_runner t.troubles u.troubles x y)
 
   -- entries are pending
   pub pull_waits : (count : ℕ) → before.pending ≢ [] → count ≡ length before.pending → (t : LinkTelling) → Asks (ends.Pending count) before t t
   pull_waits count some is t =
-      told_start t.world (λ x y. Goes client name (PullAsks client route before (ends.Pending count) before) before before before i i t.troubles t.troubles x y) (λ w. goes_none name client (PullAsks client route before (ends.Pending count) before) before i t.troubles w keeps (inl (some, is, refl, refl)))
+      told_start t.world (λ x y. Goes client name (PullAsks client route before (ends.Pending count) before) before before before i i no_runner no_runner t.troubles t.troubles x y) (λ w. goes_none name client (PullAsks client route before (ends.Pending count) before) before i no_runner t.troubles w keeps (inl (some, is, refl, refl)))
 
   module _ (none : before.pending ≡ []) (t u : LinkTelling) where
     abbrev request : Message
@@ -92,8 +92,8 @@ module _ (client : ℕ) (route : Route) (before : Log) (i : Option Images) (keep
     -- the asks of a settling, which change nothing
     asked : (end : PullEnd) (result : Result (Option Message) AllocError) (done : Settled Server route.server request t u result) → PullAsks client route before end before (asking done.asks) → Pulls_so end before
     asked end result done turn = told_as t.world u.world (λ x y. Moved request done.asks x y × AnswersStand y done.asks)
-        (λ x y. Goes client name (PullAsks client route before end before) before before before i i t.troubles u.troubles x y) done.told
-        (λ x y moved. goes_moved name client (PullAsks client route before end before) request done.asks before i t.troubles u.troubles x y keeps (pull_sends client before none) moved done.rose turn)
+        (λ x y. Goes client name (PullAsks client route before end before) before before before i i no_runner no_runner t.troubles u.troubles x y) done.told
+        (λ x y moved. goes_moved name client (PullAsks client route before end before) request done.asks before i no_runner t.troubles u.troubles x y keeps (pull_sends client before none) moved done.rose turn)
 
     -- eight asks failed
     pub pull_unanswered : Settled Server route.server request t u (Ok None) → Pulls_so ends.Unanswered before
@@ -113,10 +113,10 @@ module _ (client : ℕ) (route : Route) (before : Log) (i : Option Images) (keep
           let after : Log = pulled seen before in
           let is_last : last ≡ before.acked = met.0 in
           told_as t.world u.world (λ x y. Moved request done.asks x y × AnswersStand y done.asks)
-          (λ x y. Goes client name (PullAsks client route before (ends.Pulled count) after) before after before i i t.troubles u.troubles x y) done.told
+          (λ x y. Goes client name (PullAsks client route before (ends.Pulled count) after) before after before i i no_runner no_runner t.troubles u.troubles x y) done.told
           (λ x y moved.
           let stands = settled_stands route.server request y (Some (Snapshot client before.acked last seen)) done.asks done.settling moved.1 in
-          goes_changed name client (PullAsks client route before (ends.Pulled count) after) request done.asks before after i t.troubles u.troubles x y keeps (pull_sends client before none) moved done.rose
+          goes_changed name client (PullAsks client route before (ends.Pulled count) after) request done.asks before after i no_runner t.troubles u.troubles x y keeps (pull_sends client before none) moved done.rose
           (runs_once client (kept_at before y) (Pulls last seen) (none, is_last, stands.0, met.1))
           (inl (snapshot (ends.Pulled count) after (followed (asking done.asks) (changing after)) met refl)))
 
@@ -184,9 +184,9 @@ module _ (before : Log) (none : before.pending ≡ []) (last : ℕ) (seen : Volu
 
 module _ (client : ℕ) (route : Route) (before after : Log) (i l : Option Images) (t u : ℕ) where
   -- rows were taken, and the log was to be kept
-  pulled_kept : (x y : World) (count : ℕ) (r : Result (Unit {0}) KeepError) → Goes client route.image (PullAsks client route before (ends.Pulled count) after) before after before i i t u x y
-      → Told i l (KeepsLog route.image client after r) → (kept : Log) × Goes client route.image (PullEnds client route before (pulled_end count r) after kept) before after kept i l t u x y
-  pulled_kept x y count r goes save = by r (goes_saved route.image client (PullAsks client route before (ends.Pulled count) after) before after before i i l t u x y r goes (changed goes.trace goes.turn) save)
+  pulled_kept : (x y : World) (count : ℕ) (r : Result (Unit {0}) KeepError) → Goes client route.image (PullAsks client route before (ends.Pulled count) after) before after before i i no_runner no_runner t u x y
+      → Told i l (KeepsLog route.image client after r) → (kept : Log) × Goes client route.image (PullEnds client route before (pulled_end count r) after kept) before after kept i l no_runner no_runner t u x y
+  pulled_kept x y count r goes save = by r (goes_saved route.image client (PullAsks client route before (ends.Pulled count) after) before after before i i l no_runner no_runner t u x y r goes (changed goes.trace goes.turn) save)
     where
       changed : (trace : Trace) → PullAsks client route before (ends.Pulled count) after trace → trace.changes ≢ []
       changed trace (inl turn) = changed_so trace.changes after [] (ap (λ (n : Trace). n.changes) turn.trace_is)
@@ -196,31 +196,31 @@ module _ (client : ℕ) (route : Route) (before after : Log) (i l : Option Image
       snapshot trace (inl turn) = turn
       snapshot trace (inr broken) = absurd (cc (broken.0))
 
-      by : (r : Result (Unit {0}) KeepError) → (now : Log) × Goes client route.image (PullAsks client route before (ends.Pulled count) after) before after now i l t u x y × IfOk r (λ done. now ≡ after)
-          → (kept : Log) × Goes client route.image (PullEnds client route before (pulled_end count r) after kept) before after kept i l t u x y
+      by : (r : Result (Unit {0}) KeepError) → (now : Log) × Goes client route.image (PullAsks client route before (ends.Pulled count) after) before after now i l no_runner no_runner t u x y × IfOk r (λ done. now ≡ after)
+          → (kept : Log) × Goes client route.image (PullEnds client route before (pulled_end count r) after kept) before after kept i l no_runner no_runner t u x y
       by (Ok done) saved = (
         saved.0,
-        goes_as route.image client (PullAsks client route before (ends.Pulled count) after) (PullEnds client route before (ends.Pulled count) after saved.0) before after saved.0 i l t u x y saved.1
+        goes_as route.image client (PullAsks client route before (ends.Pulled count) after) (PullEnds client route before (ends.Pulled count) after saved.0) before after saved.0 i l no_runner no_runner t u x y saved.1
             (λ trace turn. inl (snapshot trace turn, saved.2)),
       )
       by (Err keepers.Failed) saved = (
         saved.0,
-        goes_as route.image client (PullAsks client route before (ends.Pulled count) after) (PullEnds client route before ends.KeepFault after saved.0) before after saved.0 i l t u x y saved.1
+        goes_as route.image client (PullAsks client route before (ends.Pulled count) after) (PullEnds client route before ends.KeepFault after saved.0) before after saved.0 i l no_runner no_runner t u x y saved.1
             (λ trace turn. inr (refl, inr (count, snapshot trace turn))),
       )
       by (Err keepers.Memory) saved = (
         saved.0,
-        goes_as route.image client (PullAsks client route before (ends.Pulled count) after) (PullEnds client route before ends.Memory after saved.0) before after saved.0 i l t u x y saved.1
+        goes_as route.image client (PullAsks client route before (ends.Pulled count) after) (PullEnds client route before ends.Memory after saved.0) before after saved.0 i l no_runner no_runner t u x y saved.1
             (λ trace turn. inr (refl, inr (count, snapshot trace turn))),
       )
 
 -- and over the link
 pub pulled_went : (client : ℕ) (route : Route) (before after : Log) (i l : Option Images) (t u : LinkTelling) (count : ℕ) (r : Result (Unit {0}) KeepError) → Told i l (KeepsLog route.image client after r)
-    → ToldWorlds t u (λ x y. Goes client route.image (PullAsks client route before (ends.Pulled count) after) before after before i i t.troubles u.troubles x y)
+    → ToldWorlds t u (λ x y. Goes client route.image (PullAsks client route before (ends.Pulled count) after) before after before i i no_runner no_runner t.troubles u.troubles x y)
     → Went client route.image (PullEnds client route before (pulled_end count r) after) before after i l t u
 pulled_went client route before after i l t u count r save goes =
-    told_as t.world u.world (λ x y. Goes client route.image (PullAsks client route before (ends.Pulled count) after) before after before i i t.troubles u.troubles x y)
-    (λ x y. (kept : Log) × Goes client route.image (PullEnds client route before (pulled_end count r) after kept) before after kept i l t.troubles u.troubles x y) goes
+    told_as t.world u.world (λ x y. Goes client route.image (PullAsks client route before (ends.Pulled count) after) before after before i i no_runner no_runner t.troubles u.troubles x y)
+    (λ x y. (kept : Log) × Goes client route.image (PullEnds client route before (pulled_end count r) after kept) before after kept i l no_runner no_runner t.troubles u.troubles x y) goes
     (λ x y did. pulled_kept client route before after i l t.troubles u.troubles x y count r did save)
 
 -- ends that are no Pulled
@@ -240,20 +240,20 @@ module _ (before after : Log) where
 
 -- a pull that changed nothing
 unpulled_kept : (client : ℕ) (route : Route) (before after : Log) (i : Option Images) (t u : ℕ) (x y : World) (end : PullEnd) → IsUnpulled end → PullLeaves end before after
-    → Goes client route.image (PullAsks client route before end after) before after before i i t u x y → (kept : Log) × Goes client route.image (PullEnds client route before end after kept) before after kept i i t u x y
+    → Goes client route.image (PullAsks client route before end after) before after before i i no_runner no_runner t u x y → (kept : Log) × Goes client route.image (PullEnds client route before end after kept) before after kept i i no_runner no_runner t u x y
 unpulled_kept client route before after i t u x y end other leaves goes =
-    (before, goes_as route.image client (PullAsks client route before end after) (PullEnds client route before end after before) before after before i i t u x y goes (λ trace turn. kept_so trace turn))
+    (before, goes_as route.image client (PullAsks client route before end after) (PullEnds client route before end after before) before after before i i no_runner no_runner t u x y goes (λ trace turn. kept_so trace turn))
   where
     kept_so : (trace : Trace) → PullAsks client route before end after trace → PullEnds client route before end after before trace
     kept_so trace (inl turn) = inl (turn, sym (leaves_same before after end other leaves))
     kept_so trace (inr broken) = inr (ap is_broken_pull broken.0, inl broken.1)
 
 pub unpulled_went : (client : ℕ) (route : Route) (before after : Log) (i : Option Images) (t u : LinkTelling) (end : PullEnd) → IsUnpulled end → PullLeaves end before after
-    → ToldWorlds t u (λ x y. Goes client route.image (PullAsks client route before end after) before after before i i t.troubles u.troubles x y)
+    → ToldWorlds t u (λ x y. Goes client route.image (PullAsks client route before end after) before after before i i no_runner no_runner t.troubles u.troubles x y)
     → Went client route.image (PullEnds client route before end after) before after i i t u
 unpulled_went client route before after i t u end other leaves goes =
-    told_as t.world u.world (λ x y. Goes client route.image (PullAsks client route before end after) before after before i i t.troubles u.troubles x y)
-    (λ x y. (kept : Log) × Goes client route.image (PullEnds client route before end after kept) before after kept i i t.troubles u.troubles x y) goes
+    told_as t.world u.world (λ x y. Goes client route.image (PullAsks client route before end after) before after before i i no_runner no_runner t.troubles u.troubles x y)
+    (λ x y. (kept : Log) × Goes client route.image (PullEnds client route before end after kept) before after kept i i no_runner no_runner t.troubles u.troubles x y) goes
     (λ x y did. unpulled_kept client route before after i t.troubles u.troubles x y end other leaves did)
 
 -- what is kept behind a pull
@@ -304,26 +304,12 @@ found_snapshot client acked (Some (Snapshot of number then rows)) last seen told
     let same_last : then ≡ last = ap (λ (o : Option (ℕ × Volume)). (unwrap_or o (0, [])).0) (sym is) in
     let same_rows : rows ≡ seen = ap (λ (o : Option (ℕ × Volume)). (unwrap_or o (0, [])).1) (sym is) in
     λ i. Some (Snapshot (sym told.1.1 i) (sym told.1.2 i) (same_last i) (same_rows i))
-found_snapshot client acked (Some (Store of number effects base)) last seen told is = absurd told.1.0
-found_snapshot client acked (Some (Pull of number)) last seen told is = absurd told.1.0
-found_snapshot client acked (Some (Accepted of number)) last seen told is = absurd told.1.0
-found_snapshot client acked (Some (Stale of number path theirs ours)) last seen told is = absurd told.1.0
-found_snapshot client acked (Some (Unfit of number index fault)) last seen told is = absurd told.1.0
-found_snapshot client acked (Some (Gap of number beyond)) last seen told is = absurd told.1.0
-found_snapshot client acked (Some (Full of number index fault)) last seen told is = absurd told.1.0
-found_snapshot client acked (Some (Malformed code offset)) last seen told is = absurd told.1.0
+found_snapshot client acked (Some _) last seen told is = absurd told.1.0
 
 pub found_none : (client acked : ℕ) (reply : Option Message) → IfSome reply (λ m. IsValid m × Echoes (Pull client acked) m) → None ≡ snapshot_of reply → reply ≡ None
 found_none client acked None told is = refl
 found_none client acked (Some (Snapshot of number then rows)) told is = absurd (cc)
-found_none client acked (Some (Store of number effects base)) told is = absurd told.1.0
-found_none client acked (Some (Pull of number)) told is = absurd told.1.0
-found_none client acked (Some (Accepted of number)) told is = absurd told.1.0
-found_none client acked (Some (Stale of number path theirs ours)) told is = absurd told.1.0
-found_none client acked (Some (Unfit of number index fault)) told is = absurd told.1.0
-found_none client acked (Some (Gap of number beyond)) told is = absurd told.1.0
-found_none client acked (Some (Full of number index fault)) told is = absurd told.1.0
-found_none client acked (Some (Malformed code offset)) told is = absurd told.1.0
+found_none client acked (Some _) told is = absurd told.1.0
 
 pulled_not_older : (count : ℕ) (r : Result (Unit {0}) KeepError) → IsNotOlder (pulled_end count r)
 pulled_not_older count (Ok done) = λ path theirs ours is. absurd (cc)

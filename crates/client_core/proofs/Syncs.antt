@@ -8,7 +8,7 @@ use Rattle.outside.specs.declared.errors.KeepError.TheVariants as keepers
 use Rattle.mod_log.specs.declared.log.Entry.{Entry}
 use Rattle.mod_log.specs.Log.{Log, IsLog}
 use Rattle.wire_frames.specs.declared.message.Message.{Message}
-use Rattle.wire_frames.specs.declared.message.Message.TheVariants.{Store, Pull, Accepted, Stale, Unfit, Gap, Snapshot, Full, Malformed}
+use Rattle.wire_frames.specs.declared.message.Message.TheVariants.{Accepted, Stale, Unfit, Gap, Full}
 use Rattle.wire_frames.specs.Frame.{IsValid, Echoes, number_of}
 use Rattle.world_rules.specs.declared.asking.Peer.TheVariants.{Server}
 use Rattle.world_rules.specs.World.{World, Moved}
@@ -22,7 +22,7 @@ use Rattle.client_core.specs.declared.syncing.SyncEnd.TheVariants as ends
 use Rattle.client_core.specs.Trace.{Trace, followed, asking, changing, last_log}
 use Rattle.client_core.specs.Syncing.{store_of, IsFirst, Acknowledges, acknowledged_first, end_by, unkept_end, is_broken_sync, SyncEnds}
 use Rattle.client_core.specs.Keeping.{IsKept, Keeping, KeepsLog}
-use Rattle.client_core.specs.Goes.{Goes, Went}
+use Rattle.client_core.specs.Goes.{Goes, Went, no_runner}
 use Rattle.client_core.specs.Causes.{HasSyncCause, AcknowledgeFirsts, SyncKeeps}
 use Rattle.client_core.proofs.Going.{followed-nothing, changed_so, keeping_none, keeping_then, keeping_unkept, keeping_saved, kept_now, goes_none, goes_as, goes_then, goes_moved, goes_acked, goes_saved}
 use Rattle.client_core.proofs.Firsts.{first_number, first_some, may_send}
@@ -36,14 +36,7 @@ module _ (client : ℕ) (entry : Entry) where
   pub goes_on : (reply : Option Message) → None ≡ end_by entry.seq reply → IfSome reply (λ m. IsValid m × Echoes store m) → reply ≡ Some (Accepted client entry.seq)
   goes_on None on told = absurd (cc)
   goes_on (Some (Accepted of number)) on told = λ i. Some (Accepted (sym told.1.1 i) (sym told.1.2 i))
-  goes_on (Some (Store of number effects base)) on told = absurd (cc)
-  goes_on (Some (Pull of number)) on told = absurd (cc)
-  goes_on (Some (Stale of number path theirs ours)) on told = absurd (cc)
-  goes_on (Some (Unfit of number index fault)) on told = absurd (cc)
-  goes_on (Some (Gap of number last)) on told = absurd (cc)
-  goes_on (Some (Snapshot of number last rows)) on told = absurd (cc)
-  goes_on (Some (Full of number index fault)) on told = absurd (cc)
-  goes_on (Some (Malformed code offset)) on told = absurd (cc)
+  goes_on (Some _) on told = absurd (cc)
 
   module _ (log : Log) (t v p q : ℕ) (end : SyncEnd) (some : log.pending ≢ []) (next : entry.seq ≡ log.acked + 1) where
     refused : (reply : Message) (is : SyncEnd) → IsValid reply → entry.seq ≡ number_of reply → end_by (log.acked + 1) (Some reply) ≡ Some is
@@ -68,10 +61,7 @@ module _ (client : ℕ) (entry : Entry) where
     has_cause (Some (Gap of number last)) is told rose =
         let same : ends.Behind (log.acked + 1) last ≡ end = cc in
         subst (λ (e : SyncEnd). HasSyncCause e log t v p q) same (refused (Gap of number last) (ends.Behind (log.acked + 1) last) told.0 told.1.2 refl)
-    has_cause (Some (Store of number effects base)) is told rose = absurd told.1.0
-    has_cause (Some (Pull of number)) is told rose = absurd told.1.0
-    has_cause (Some (Snapshot of number last rows)) is told rose = absurd told.1.0
-    has_cause (Some (Malformed code offset)) is told rose = absurd told.1.0
+    has_cause (Some _) is told rose = absurd told.1.0
 
 -- a sync after which nothing is pending, and in which no keeping failed
 pub settled_end : (end : SyncEnd) (after : Log) (t v p q : ℕ) → HasSyncCause end after t v p q → after.pending ≡ [] → (Rose p q → ⊥) → (end ≡ ends.Synced after.acked) ⊎ (end ≡ ends.Memory)
@@ -165,19 +155,19 @@ module _ (client : ℕ) (route : Route) (before : Log) where
 
   -- and what it did over the link, each log being kept
   abbrev pub WentSoFar : Log → Option Images → Option Images → LinkTelling → LinkTelling → Type 0
-  WentSoFar mid i j t u = ToldWorlds t u (λ x y. Goes client name (Acked mid) before mid mid i j t.troubles u.troubles x y)
+  WentSoFar mid i j t u = ToldWorlds t u (λ x y. Goes client name (Acked mid) before mid mid i j no_runner no_runner t.troubles u.troubles x y)
 
   pub acked_none : (i : Option Images) (t : LinkTelling) → IsKept i name client before → WentSoFar before i i t t
   acked_none i t keeps =
-      told_start t.world (λ x y. Goes client name (Acked before) before before before i i t.troubles t.troubles x y) (λ w. goes_none name client (Acked before) before i t.troubles w keeps (0, (refl, refl)))
+      told_start t.world (λ x y. Goes client name (Acked before) before before before i i no_runner no_runner t.troubles t.troubles x y) (λ w. goes_none name client (Acked before) before i no_runner t.troubles w keeps (0, (refl, refl)))
 
   -- nothing is pending
   pub sync_synced : (mid : Log) (i j : Option Images) (t u : LinkTelling) → mid.pending ≡ [] → WentSoFar mid i j t u → Went client name (SyncEnds client route before (ends.Synced mid.acked) mid) before mid i j t u
   sync_synced mid i j t u none so_far =
-      told_as t.world u.world (λ x y. Goes client name (Acked mid) before mid mid i j t.troubles u.troubles x y) _ so_far
+      told_as t.world u.world (λ x y. Goes client name (Acked mid) before mid mid i j no_runner no_runner t.troubles u.troubles x y) _ so_far
       (λ x y goes. (
         mid,
-        goes_as name client (Acked mid) (SyncEnds client route before (ends.Synced mid.acked) mid mid) before mid mid i j t.troubles u.troubles x y goes
+        goes_as name client (Acked mid) (SyncEnds client route before (ends.Synced mid.acked) mid mid) before mid mid i j no_runner no_runner t.troubles u.troubles x y goes
             (λ m acked. inl ((acked.0, m, [], acked.1, inl (none, refl, refl), followed-nothing m), refl)),
       ))
 
@@ -192,22 +182,22 @@ module _ (client : ℕ) (route : Route) (before : Log) where
     pub sync_ends : (came : Option Message) (end : SyncEnd) → Settled Server route.server shipped u v (Ok came) → Some end ≡ end_by entry.seq came
         → Went client name (SyncEnds client route before end mid) before mid i j t v
     sync_ends came end done by =
-        told_then t.world u.world v.world (λ x y. Goes client name (Acked mid) before mid mid i j t.troubles u.troubles x y) (λ y z. Moved shipped done.asks y z × AnswersStand z done.asks) _ so_far done.told
+        told_then t.world u.world v.world (λ x y. Goes client name (Acked mid) before mid mid i j no_runner no_runner t.troubles u.troubles x y) (λ y z. Moved shipped done.asks y z × AnswersStand z done.asks) _ so_far done.told
         (λ x y z goes moved.
-        let last = goes_moved name client (λ (n : Trace). n ≡ asking done.asks) shipped done.asks mid j u.troubles v.troubles y z keeps (may_send client mid entry is first) moved done.rose refl in (
+        let last = goes_moved name client (λ (n : Trace). n ≡ asking done.asks) shipped done.asks mid j no_runner u.troubles v.troubles y z keeps (may_send client mid entry is first) moved done.rose refl in (
           mid,
-          goes_then name client (Acked mid) (λ (n : Trace). n ≡ asking done.asks) (SyncEnds client route before end mid mid) before mid mid mid i j j t.troubles u.troubles v.troubles x y z goes last
+          goes_then name client (Acked mid) (λ (n : Trace). n ≡ asking done.asks) (SyncEnds client route before end mid mid) before mid mid mid i j j no_runner no_runner no_runner t.troubles u.troubles v.troubles x y z goes last
               (λ m n acked is. inl ((acked.0, m, done.asks, acked.1, inr (record { entry = entry; first = first; came = came; settling = done.settling; end_is = sym by }), ap (followed m) is), refl)),
         ))
 
     -- memory was wanted in it
     pub sync_breaks : (e : AllocError) → Settled Server route.server shipped u v (Err e) → Went client name (SyncEnds client route before ends.Memory mid) before mid i j t v
     sync_breaks e done =
-        told_then t.world u.world v.world (λ x y. Goes client name (Acked mid) before mid mid i j t.troubles u.troubles x y) (λ y z. Moved shipped done.asks y z × AnswersStand z done.asks) _ so_far done.told
+        told_then t.world u.world v.world (λ x y. Goes client name (Acked mid) before mid mid i j no_runner no_runner t.troubles u.troubles x y) (λ y z. Moved shipped done.asks y z × AnswersStand z done.asks) _ so_far done.told
         (λ x y z goes moved.
-        let last = goes_moved name client (λ (n : Trace). n ≡ asking done.asks) shipped done.asks mid j u.troubles v.troubles y z keeps (may_send client mid entry is first) moved done.rose refl in (
+        let last = goes_moved name client (λ (n : Trace). n ≡ asking done.asks) shipped done.asks mid j no_runner u.troubles v.troubles y z keeps (may_send client mid entry is first) moved done.rose refl in (
           mid,
-          goes_then name client (Acked mid) (λ (n : Trace). n ≡ asking done.asks) (SyncEnds client route before ends.Memory mid mid) before mid mid mid i j j t.troubles u.troubles v.troubles x y z goes last
+          goes_then name client (Acked mid) (λ (n : Trace). n ≡ asking done.asks) (SyncEnds client route before ends.Memory mid mid) before mid mid mid i j j no_runner no_runner no_runner t.troubles u.troubles v.troubles x y z goes last
               (λ m n acked is. inr (refl, (acked.0, m, done.asks, acked.1, inr (entry, first, done.settling), ap (followed m) is))),
         ))
 
@@ -216,16 +206,16 @@ module _ (client : ℕ) (route : Route) (before : Log) where
       change = followed (asking done.asks) (changing acked)
 
       -- the entry was acknowledged, and the log was to be kept
-      acked_saved : (l : Option Images) (r : Result (Unit {0}) KeepError) → Told j l (KeepsLog name client acked r) → (x y z : World) → Goes client name (Acked mid) before mid mid i j t.troubles u.troubles x y
+      acked_saved : (l : Option Images) (r : Result (Unit {0}) KeepError) → Told j l (KeepsLog name client acked r) → (x y z : World) → Goes client name (Acked mid) before mid mid i j no_runner no_runner t.troubles u.troubles x y
           → Moved shipped done.asks y z × AnswersStand z done.asks
-          → (kept : Log) × Goes client name (Acked acked) before acked kept i l t.troubles v.troubles x z × IfOk r (λ done. kept ≡ acked)
+          → (kept : Log) × Goes client name (Acked acked) before acked kept i l no_runner no_runner t.troubles v.troubles x z × IfOk r (λ done. kept ≡ acked)
       acked_saved l r save x y z goes moved =
           let stands = settled_stands route.server shipped z (Some (Accepted client entry.seq)) done.asks done.settling moved.1 in
-          let last = goes_acked name client (λ (n : Trace). n ≡ change) shipped (Accepted client entry.seq) done.asks mid j u.troubles v.troubles y z keeps (may_send client mid entry is first) moved done.rose
+          let last = goes_acked name client (λ (n : Trace). n ≡ change) shipped (Accepted client entry.seq) done.asks mid j no_runner u.troubles v.troubles y z keeps (may_send client mid entry is first) moved done.rose
           (first_some mid.pending entry first) (refl, first_number mid entry is first) stands.0 refl in
-          let saved = goes_saved name client (λ (n : Trace). n ≡ change) mid acked mid j j l u.troubles v.troubles y z r last (changed_so last.trace.changes acked [] (ap (λ (n : Trace). n.changes) last.turn)) save in (
+          let saved = goes_saved name client (λ (n : Trace). n ≡ change) mid acked mid j j l no_runner no_runner u.troubles v.troubles y z r last (changed_so last.trace.changes acked [] (ap (λ (n : Trace). n.changes) last.turn)) save in (
             saved.0,
-            goes_then name client (Acked mid) (λ (n : Trace). n ≡ change) (Acked acked) before mid acked saved.0 i j l t.troubles u.troubles v.troubles x y z goes saved.1
+            goes_then name client (Acked mid) (λ (n : Trace). n ≡ change) (Acked acked) before mid acked saved.0 i j l no_runner no_runner no_runner t.troubles u.troubles v.troubles x y z goes saved.1
                 (λ m n so ends. (
                   suc so.0,
                   (
@@ -244,20 +234,20 @@ module _ (client : ℕ) (route : Route) (before : Log) where
       pub acked_more : (l : Option Images) (r : Result (Unit {0}) KeepError) → Told j l (KeepsLog name client acked r) → IfOk r (λ kept. WentSoFar acked i l t v)
       acked_more l (Err e) save = tt
       acked_more l (Ok kept) save =
-          told_then t.world u.world v.world (λ x y. Goes client name (Acked mid) before mid mid i j t.troubles u.troubles x y) (λ y z. Moved shipped done.asks y z × AnswersStand z done.asks)
-          (λ x z. Goes client name (Acked acked) before acked acked i l t.troubles v.troubles x z) so_far done.told
+          told_then t.world u.world v.world (λ x y. Goes client name (Acked mid) before mid mid i j no_runner no_runner t.troubles u.troubles x y) (λ y z. Moved shipped done.asks y z × AnswersStand z done.asks)
+          (λ x z. Goes client name (Acked acked) before acked acked i l no_runner no_runner t.troubles v.troubles x z) so_far done.told
           (λ x y z goes moved.
           let saved = acked_saved l (Ok kept) save x y z goes moved in
-          subst (λ (k : Log). Goes client name (Acked acked) before acked k i l t.troubles v.troubles x z) saved.2 saved.1)
+          subst (λ (k : Log). Goes client name (Acked acked) before acked k i l no_runner no_runner t.troubles v.troubles x z) saved.2 saved.1)
 
       pub sync_unkept : (l : Option Images) (e : KeepError) → Told j l (KeepsLog {E = KeepError} name client acked (Err e))
           → Went client name (SyncEnds client route before (unkept_end e) acked) before acked i l t v
       sync_unkept l e save =
-          told_then t.world u.world v.world (λ x y. Goes client name (Acked mid) before mid mid i j t.troubles u.troubles x y) (λ y z. Moved shipped done.asks y z × AnswersStand z done.asks) _ so_far done.told
+          told_then t.world u.world v.world (λ x y. Goes client name (Acked mid) before mid mid i j no_runner no_runner t.troubles u.troubles x y) (λ y z. Moved shipped done.asks y z × AnswersStand z done.asks) _ so_far done.told
           (λ x y z goes moved.
           let saved = acked_saved l (Err e) save x y z goes moved in (
             saved.0,
-            goes_as name client (Acked acked) (SyncEnds client route before (unkept_end e) acked saved.0) before acked saved.0 i l t.troubles v.troubles x z saved.1
+            goes_as name client (Acked acked) (SyncEnds client route before (unkept_end e) acked saved.0) before acked saved.0 i l no_runner no_runner t.troubles v.troubles x z saved.1
                 (λ m acked. inr (broken e, (acked.0, m, [], acked.1, inl refl, followed-nothing m))),
           ))
         where

@@ -1,13 +1,14 @@
 -- What the ends of syncs and pulls tell a client that is in step.
-use Rattle.std.proofs.Common.{true, false, ◌≡◌, ◌⊎◌, inl, inr, ⊎_elim, ℕ, ◌+◌, ◌≤◌, List, [], ◌++◌, Option, Some, None, refl, sym, ap, subst, arith}
+use Rattle.std.proofs.Common.{true, false, ◌≡◌, ◌⊎◌, inl, inr, ⊎_elim, ℕ, zero, suc, ◌+◌, ◌≤◌, List, [], ◌++◌, Option, Some, None, refl, sym, ◌∙◌, ap, subst, arith}
+use Rattle.std.proofs.lemmas.List.{append-nil}
 use Rattle.outside.specs.Outside.{Rose}
 use Rattle.outside.specs.Keeper.{Images}
-use Rattle.tree_values.specs.Tree.{version_at}
+use Rattle.cmd_capture.specs.Runs.{RunnerTelling}
 use Rattle.tree_values.specs.Lists.{IsIn}
 use Rattle.mod_log.specs.declared.log.Entry.{Entry}
 use Rattle.mod_log.specs.Log.{Log, tree_at}
 use Rattle.wire_frames.specs.declared.message.Message.{Message}
-use Rattle.wire_frames.specs.declared.message.Message.TheVariants.{Store, Pull, Accepted, Stale, Unfit, Gap, Snapshot, Full, Malformed}
+use Rattle.wire_frames.specs.declared.message.Message.TheVariants.{Accepted, Stale, Unfit, Gap, Snapshot, Full}
 use Rattle.wire_frames.specs.Frame.{client_of, Echoes}
 use Rattle.world_rules.specs.declared.asking.Peer.TheVariants.{Server}
 use Rattle.world_rules.specs.declared.asking.Ask.{Ask}
@@ -15,7 +16,7 @@ use Rattle.world_rules.specs.World.{World}
 use Rattle.world_rules.specs.Telling.{LinkTelling, IsCalm}
 use Rattle.world_rules.specs.Asking.{AnswersStand}
 use Rattle.world_rules.specs.Settling.{IsSettling, failed_asks}
-use Rattle.world_rules.specs.InStep.{InStep}
+use Rattle.world_rules.specs.InStep.{InStep, HasNoCollision}
 use Rattle.world_rules.specs.Run.{kept_at, taken_in}
 use Rattle.world_rules.proofs.Asks.{told_as, answers_front, answers_end}
 use Rattle.world_rules.proofs.Settled.{failed-append, failed-failures}
@@ -28,18 +29,43 @@ use Rattle.client_core.specs.declared.route.Route.{Route}
 use Rattle.client_core.specs.declared.pulling.PullEnd.{PullEnd}
 use Rattle.client_core.specs.declared.pulling.PullEnd.TheVariants as pulls
 use Rattle.client_core.specs.Trace.{Trace, followed, asking}
-use Rattle.client_core.specs.Syncing.{store_of, end_by, EntryTurn, EndsSync, SyncTurn, SyncEnds, is_broken_sync}
+use Rattle.client_core.specs.Syncing.{store_of, end_by, EntryTurn, Acknowledges, EndsSync, SyncTurn, SyncEnds, is_broken_sync}
 use Rattle.client_core.specs.Pulling.{pull_of, PullTurn, PullEnds, is_broken_pull}
 use Rattle.client_core.specs.Causes.{HasSyncCause}
-use Rattle.client_core.specs.Goes.{Goes, Went, stand}
-use Rattle.client_core.specs.Honest.{FromInStep, IsOvertaken, IsTrueSync, IsComplete, IsNotOtherLast}
+use Rattle.client_core.specs.Goes.{Goes, Went, stand, no_runner}
+use Rattle.client_core.specs.Honest.{FromInStepApart, IsOvertaken, IsTrueSync, IsComplete, IsNotOtherLast}
 use Rattle.client_core.proofs.Firsts.{first_number}
 use Rattle.client_core.proofs.Standing.{settled_stands}
 
+-- ---- nothing is logged
+
+-- so there are no more entries than those that were pending
+no_more : (client : ℕ) (pending entries : List Entry) (world : World) → entries ≡ [] → HasNoCollision client pending world.packets → HasNoCollision client (pending ++ entries) world.packets
+no_more client pending entries world none apart =
+    subst (λ (es : List Entry). HasNoCollision client (pending ++ es) world.packets) (sym none)
+    (subst (λ (es : List Entry). HasNoCollision client es world.packets) (sym (append-nil pending)) apart)
+
+both_no : (xs ys : List Entry) → xs ≡ [] → ys ≡ [] → xs ++ ys ≡ []
+both_no xs ys none is = ap (λ (es : List Entry). es ++ ys) none ∙ is
+
+acknowledges_none : (client : ℕ) (route : Route) (count : ℕ) (before after : Log) (trace : Trace) → Acknowledges client route count before after trace → trace.entries ≡ []
+acknowledges_none client route zero before after trace so = ap (λ (n : Trace). n.entries) so.1
+acknowledges_none client route (suc count) before after trace so =
+    ap (λ (n : Trace). n.entries) so.6 ∙ both_no so.1.entries [] (acknowledges_none client route count before so.0 so.1 so.3) refl
+
+pub sync_logs_none : (client : ℕ) (route : Route) (before after kept : Log) (end : SyncEnd) (trace : Trace) → SyncEnds client route before end after kept trace → trace.entries ≡ []
+sync_logs_none client route before after kept end trace (inl turn) =
+    ap (λ (n : Trace). n.entries) turn.0.5 ∙ both_no turn.0.1.entries [] (acknowledges_none client route turn.0.0 before after turn.0.1 turn.0.3) refl
+sync_logs_none client route before after kept end trace (inr broken) =
+    ap (λ (n : Trace). n.entries) broken.1.5 ∙ both_no broken.1.1.entries [] (acknowledges_none client route broken.1.0 before after broken.1.1 broken.1.3) refl
+
+-- ---- in step
+
 -- what a client did keeps it in step
-pub goes_in_step : (client : ℕ) (name : List ℕ) (T : Trace → Type 0) (before after kept : Log) (i j : Option Images) (t u : ℕ) (x y : World) → Goes client name T before after kept i j t u x y
-    → InStep client before x → InStep client after y
-goes_in_step client name T before after kept i j t u x y goes now = runs_in_step client goes.trace.entries goes.trace.asks (kept_at before x) (stand after kept y) now goes.runs
+pub goes_in_step : (client : ℕ) (name : List ℕ) (T : Trace → Type 0) (before after kept : Log) (i j : Option Images) (runner ran : RunnerTelling) (t u : ℕ) (x y : World)
+    → (goes : Goes client name T before after kept i j runner ran t u x y)
+    → InStep client before x → HasNoCollision client (before.pending ++ goes.trace.entries) y.packets → InStep client after y
+goes_in_step client name T before after kept i j runner ran t u x y goes now apart = runs_in_step client goes.trace.entries goes.trace.asks (kept_at before x) (stand after kept y) now goes.runs apart
 
 module _ (client : ℕ) (entry : Entry) (log : Log) (world : World) (next : entry.seq ≡ log.acked + 1) (now : InStep client log world) where
   abbrev store : Message
@@ -62,10 +88,7 @@ module _ (client : ℕ) (entry : Entry) (log : Log) (world : World) (next : entr
       subst (λ (e : SyncEnd). IsTrueSync e client log world) same (refused_ahead client log world (Full of number index fault) now (sym told.1, echoed_number number told.2) among)
   true_end (Gap of number last) end is among told =
       absurd (no_gap client log world number last now (subst (λ (c : ℕ). IsIn (Gap c number last) world.packets) (sym told.1) among))
-  true_end (Store of number effects base) end is among told = absurd told.0
-  true_end (Pull of number) end is among told = absurd told.0
-  true_end (Snapshot of number last rows) end is among told = absurd told.0
-  true_end (Malformed code offset) end is among told = absurd told.0
+  true_end _ end is among told = absurd told.0
 
   -- a reply that ends a sync shows what others wrote
   overtaken : (reply : Message) (end : SyncEnd) → Some end ≡ end_by entry.seq (Some reply) → IsIn reply world.packets → Echoes store reply → IsOvertaken client log world
@@ -75,10 +98,7 @@ module _ (client : ℕ) (entry : Entry) (log : Log) (world : World) (next : entr
   overtaken (Full of number index fault) end is among told = refused_ahead client log world (Full of number index fault) now (sym told.1, echoed_number number told.2) among
   overtaken (Gap of number last) end is among told =
       absurd (no_gap client log world number last now (subst (λ (c : ℕ). IsIn (Gap c number last) world.packets) (sym told.1) among))
-  overtaken (Store of number effects base) end is among told = absurd told.0
-  overtaken (Pull of number) end is among told = absurd told.0
-  overtaken (Snapshot of number last rows) end is among told = absurd told.0
-  overtaken (Malformed code offset) end is among told = absurd told.0
+  overtaken _ end is among told = absurd told.0
 
 -- ---- the turns of a sync, where their answers stand
 
@@ -111,14 +131,7 @@ module _ (client : ℕ) (route : Route) (log : Log) (end : SyncEnd) (asks : List
 module _ (client : ℕ) (number : ℕ) (log : Log) (world : World) (now : InStep client log world) (seq last : ℕ) where
   no_behind : (reply : Message) → IsIn reply world.packets → client ≡ client_of reply → end_by number (Some reply) ≡ Some (ends.Behind seq last) → ⊥
   no_behind (Gap of refused beyond) among mine is = no_gap client log world refused beyond now (subst (λ (c : ℕ). IsIn (Gap c refused beyond) world.packets) (sym mine) among)
-  no_behind (Accepted of accepted) among mine is = absurd (cc)
-  no_behind (Store of stored effects base) among mine is = absurd (cc)
-  no_behind (Pull of known) among mine is = absurd (cc)
-  no_behind (Stale of refused path theirs ours) among mine is = absurd (cc)
-  no_behind (Unfit of refused index fault) among mine is = absurd (cc)
-  no_behind (Full of refused index fault) among mine is = absurd (cc)
-  no_behind (Snapshot of known then rows) among mine is = absurd (cc)
-  no_behind (Malformed code offset) among mine is = absurd (cc)
+  no_behind _ among mine is = absurd (cc)
 
 -- ---- a whole sync
 
@@ -191,28 +204,31 @@ broken_memory (ends.Behind number last) after t v p q is cause sound = absurd (c
 
 module _ (client : ℕ) (name : List ℕ) (route : Route) (before after : Log) (end : SyncEnd) (i j : Option Images) where
   -- of what a client did
-  module _ (kept : Log) (t u : ℕ) (x y : World) (goes : Goes client name (SyncEnds client route before end after kept) before after kept i j t u x y) where
+  module _ (kept : Log) (runner ran : RunnerTelling) (t u : ℕ) (x y : World) (goes : Goes client name (SyncEnds client route before end after kept) before after kept i j runner ran t u x y) where
     stands : AnswersStand y goes.trace.asks
     stands = run_answers client goes.trace.entries goes.trace.asks (kept_at before x) (stand after kept y) goes.runs
 
     few_failed : (Rose t u → ⊥) → 8 ≤ failed_asks goes.trace.asks → ⊥
     few_failed calm eight = calm (omega (arith, goes.rose, eight))
 
-    goes_true : InStep client before x → IsTrueSync end client after y
-    goes_true now = by goes.turn
+    apart_then : HasNoCollision client before.pending y.packets → HasNoCollision client (before.pending ++ goes.trace.entries) y.packets
+    apart_then apart = no_more client before.pending goes.trace.entries y (sync_logs_none client route before after kept end goes.trace goes.turn) apart
+
+    goes_true : InStep client before x → HasNoCollision client before.pending y.packets → IsTrueSync end client after y
+    goes_true now apart = by goes.turn
       where
         then : InStep client after y
-        then = goes_in_step client name (SyncEnds client route before end after kept) before after kept i j t u x y goes now
+        then = goes_in_step client name (SyncEnds client route before end after kept) before after kept i j runner ran t u x y goes now (apart_then apart)
 
         by : SyncEnds client route before end after kept goes.trace → IsTrueSync end client after y
         by (inl turn) = sync_true client route before after end goes.trace y turn.0 stands then
         by (inr broken) = broken_true client after y end broken.0
 
-    goes_complete : InStep client before x → (Rose t u → ⊥) → (IsOvertaken client after y → ⊥) → ((end ≡ ends.Synced after.acked) × (after.pending ≡ [])) ⊎ (is_broken_sync end ≡ true)
-    goes_complete now calm none_ahead = by goes.turn
+    goes_complete : InStep client before x → HasNoCollision client before.pending y.packets → (Rose t u → ⊥) → (IsOvertaken client after y → ⊥) → ((end ≡ ends.Synced after.acked) × (after.pending ≡ [])) ⊎ (is_broken_sync end ≡ true)
+    goes_complete now apart calm none_ahead = by goes.turn
       where
         then : InStep client after y
-        then = goes_in_step client name (SyncEnds client route before end after kept) before after kept i j t u x y goes now
+        then = goes_in_step client name (SyncEnds client route before end after kept) before after kept i j runner ran t u x y goes now (apart_then apart)
 
         by : SyncEnds client route before end after kept goes.trace → ((end ≡ ends.Synced after.acked) × (after.pending ≡ [])) ⊎ (is_broken_sync end ≡ true)
         by (inl turn) = inl (sync_complete client route before after end goes.trace y turn.0 stands then (few_failed calm) none_ahead)
@@ -220,23 +236,24 @@ module _ (client : ℕ) (name : List ℕ) (route : Route) (before after : Log) (
 
   -- over any link
   module _ (t u : LinkTelling) (went : Went client name (SyncEnds client route before end after) before after i j t u) where
-    pub went_true : FromInStep client before t u (IsTrueSync end client after)
-    went_true = told_as t.world u.world _ _ went (λ x y goes. goes_true goes.0 t.troubles u.troubles x y goes.1)
+    pub went_true : FromInStepApart client before t u (IsTrueSync end client after)
+    went_true = told_as t.world u.world _ _ went (λ x y goes. goes_true goes.0 no_runner no_runner t.troubles u.troubles x y goes.1)
 
-    pub went_complete : (p q : ℕ) → HasSyncCause end after t.troubles u.troubles p q → IsCalm t u → (Rose p q → ⊥) → FromInStep client before t u (IsComplete end client after)
+    pub went_complete : (p q : ℕ) → HasSyncCause end after t.troubles u.troubles p q → IsCalm t u → (Rose p q → ⊥) → FromInStepApart client before t u (IsComplete end client after)
     went_complete p q cause calm sound = told_as t.world u.world _ _ went
-        (λ x y goes now none_ahead. ⊎_elim (λ all. inl all) (λ broken. inr (broken_memory end after t.troubles u.troubles p q broken cause sound)) (goes_complete goes.0 t.troubles u.troubles x y goes.1 now calm none_ahead))
+        (λ x y goes now apart none_ahead. ⊎_elim (λ all. inl all) (λ broken. inr (broken_memory end after t.troubles u.troubles p q broken cause sound)) (goes_complete goes.0 no_runner no_runner t.troubles u.troubles x y goes.1 now apart calm none_ahead))
 
-pub calm_complete : (client : ℕ) (route : Route) (name : List ℕ) (before after kept : Log) (end : SyncEnd) (images images_now : Option Images) (troubles later : ℕ) (old new : World)
-    → (goes : Goes client name (SyncEnds client route before end after kept) before after kept images images_now troubles later old new)
-    → InStep client before old → (Rose troubles later → ⊥)
+pub calm_complete : (client : ℕ) (route : Route) (name : List ℕ) (before after kept : Log) (end : SyncEnd) (images images_now : Option Images) (runner ran : RunnerTelling) (troubles later : ℕ) (old new : World)
+    → (goes : Goes client name (SyncEnds client route before end after kept) before after kept images images_now runner ran troubles later old new)
+    → InStep client before old → HasNoCollision client before.pending new.packets → (Rose troubles later → ⊥)
     → ((message : Message) → IsIn message (taken_in goes.runs.moves (kept_at before old)) → client_of message ≡ client)
     → old.served.volume ≡ tree_at (old.served.last client) before
     → ((end ≡ ends.Synced after.acked) × (after.pending ≡ [])) ⊎ (is_broken_sync end ≡ true)
-calm_complete client route name before after kept end images images_now troubles later old new goes now calm alone served =
-    goes_complete client name route before after end images images_now kept troubles later old new goes now calm
+calm_complete client route name before after kept end images images_now runner ran troubles later old new goes now apart calm alone served =
+    goes_complete client name route before after end images images_now kept runner ran troubles later old new goes now apart calm
     (never_ahead new.served.volume (tree_at (new.served.last client) after)
-    (lone_tree client goes.trace.entries goes.trace.asks (kept_at before old) (stand after kept new) now goes.runs alone served))
+    (lone_tree client goes.trace.entries goes.trace.asks (kept_at before old) (stand after kept new) now goes.runs alone served
+    (no_more client before.pending goes.trace.entries new (sync_logs_none client route before after kept end goes.trace goes.turn) apart)))
 
 -- ---- a pull
 
@@ -258,14 +275,17 @@ module _ (client : ℕ) (route : Route) (before after : Log) where
   unpulled_log : (other acked : ℕ) (trace : Trace) → PullTurn client route before (pulls.OtherLast other acked) after trace → after ≡ before
   unpulled_log other acked trace turn = turn.met.3
 
-  goes_not_other : (name : List ℕ) (end : PullEnd) (kept : Log) (i j : Option Images) (t u : ℕ) (x y : World) → Goes client name (PullEnds client route before end after kept) before after kept i j t u x y
-      → InStep client before x → IsNotOtherLast end
-  goes_not_other name end kept i j t u x y goes now last acked is = by goes.turn
+  goes_not_other : (name : List ℕ) (end : PullEnd) (kept : Log) (i j : Option Images) (t u : ℕ) (x y : World)
+      → Goes client name (PullEnds client route before end after kept) before after kept i j no_runner no_runner t u x y
+      → InStep client before x → HasNoCollision client before.pending y.packets → IsNotOtherLast end
+  goes_not_other name end kept i j t u x y goes now apart last acked is = by goes.turn
     where
       by : PullEnds client route before end after kept goes.trace → ⊥
       by (inl turn) =
           let met : PullTurn client route before (pulls.OtherLast last acked) after goes.trace = subst (λ (e : PullEnd). PullTurn client route before e after goes.trace) is turn.0 in
-          let later : InStep client after y = goes_in_step client name (PullEnds client route before end after kept) before after kept i j t u x y goes now in
+          let none : goes.trace.entries ≡ [] = ap (λ (n : Trace). n.entries) met.trace_is in
+          let later : InStep client after y = goes_in_step client name (PullEnds client route before end after kept) before after kept i j no_runner no_runner t u x y goes now
+          (no_more client before.pending goes.trace.entries y none apart) in
           pull_met_last (pulls.OtherLast last acked) goes.trace y met (run_answers client goes.trace.entries goes.trace.asks (kept_at before x) (stand after kept y) goes.runs)
           (subst (λ (log : Log). InStep client log y) (unpulled_log last acked goes.trace met) later) last acked refl
       by (inr broken) =
@@ -273,5 +293,5 @@ module _ (client : ℕ) (route : Route) (before after : Log) where
           absurd (cc (quiet, broken.0))
 
   pub pull_not_other : (name : List ℕ) (end : PullEnd) (i j : Option Images) (t u : LinkTelling) → Went client name (PullEnds client route before end after) before after i j t u
-      → FromInStep client before t u (λ new. IsNotOtherLast end)
-  pull_not_other name end i j t u went = told_as t.world u.world _ _ went (λ x y goes now. goes_not_other name end goes.0 i j t.troubles u.troubles x y goes.1 now)
+      → FromInStepApart client before t u (λ new. IsNotOtherLast end)
+  pull_not_other name end i j t u went = told_as t.world u.world _ _ went (λ x y goes now apart. goes_not_other name end goes.0 i j t.troubles u.troubles x y goes.1 now apart)

@@ -6,7 +6,7 @@ use Rattle.vol_tree.specs.Behind.{IsAhead}
 use Rattle.mod_log.specs.Log.{Log, tree_at}
 use Rattle.world_rules.specs.World.{World}
 use Rattle.world_rules.specs.Telling.{LinkTelling, ToldWorlds}
-use Rattle.world_rules.specs.InStep.{InStep}
+use Rattle.world_rules.specs.InStep.{InStep, HasNoCollision}
 use Rattle.client_core.specs.declared.syncing.SyncEnd.{SyncEnd}
 use Rattle.client_core.specs.declared.syncing.SyncEnd.TheVariants.{Stale, Unfit, Full, Behind, Synced, Memory}
 use Rattle.client_core.specs.declared.pulling.PullEnd.{PullEnd}
@@ -15,6 +15,10 @@ use Rattle.client_core.specs.declared.pulling.PullEnd.TheVariants.{OtherLast, Ol
 -- where a client was in step with the world before, this holds of the world after
 abbrev pub FromInStep : ℕ → Log → LinkTelling → LinkTelling → (World → Type 0) → Type 0
 FromInStep client before old new claim = ToldWorlds old new (λ v w. InStep client before v → claim w)
+
+-- the same, where at the end no content of the client's stores is taken for another one that its operations carry
+abbrev pub FromInStepApart : ℕ → Log → LinkTelling → LinkTelling → (World → Type 0) → Type 0
+FromInStepApart client before old new claim = ToldWorlds old new (λ v w. InStep client before v → HasNoCollision client before.pending w.packets → claim w)
 
 -- the client's tree after its last entry that the server took
 abbrev pub taken_tree : ℕ → Log → World → Volume

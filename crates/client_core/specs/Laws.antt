@@ -2,13 +2,14 @@
 use Rattle.std.specs.Prelude.{◌≡◌, ◌⊎◌, ℕ, true, List, [], Option}
 use Rattle.outside.specs.Outside.{Rose}
 use Rattle.outside.specs.Keeper.{Images}
+use Rattle.cmd_capture.specs.Runs.{RunnerTelling}
 use Rattle.tree_values.specs.Lists.{IsIn}
 use Rattle.mod_log.specs.Log.{Log, tree_at}
 use Rattle.wire_frames.specs.declared.message.Message.{Message}
 use Rattle.wire_frames.specs.Frame.{client_of}
 use Rattle.world_rules.specs.World.{World}
 use Rattle.world_rules.specs.Asking.{AnswersStand}
-use Rattle.world_rules.specs.InStep.{InStep}
+use Rattle.world_rules.specs.InStep.{InStep, HasNoCollision}
 use Rattle.world_rules.specs.Run.{taken_in, kept_at}
 use Rattle.client_core.specs.declared.route.Route.{Route}
 use Rattle.client_core.specs.declared.syncing.SyncEnd.{SyncEnd}
@@ -35,12 +36,12 @@ abbrev pub PullsMeetTheirLast : Type 0
 PullsMeetTheirLast = (client : ℕ) (route : Route) (before after : Log) (end : PullEnd) (trace : Trace) (world : World)
     → PullTurn client route before end after trace → AnswersStand world trace.asks → InStep client before world → IsNotOtherLast end
 
--- A sync without trouble, in which no other client's store was taken, and before which the served tree was the client's after its last
--- taken entry, ends with all entries acknowledged, or was broken off.
+-- A sync without trouble, in which no other client's store was taken, in which no content is taken for another, and before which the
+-- served tree was the client's after its last taken entry, ends with all entries acknowledged, or was broken off.
 abbrev pub CalmSyncsAreComplete : Type 0
-CalmSyncsAreComplete = (client : ℕ) (route : Route) (name : List ℕ) (before after kept : Log) (end : SyncEnd) (images images_now : Option Images) (troubles later : ℕ) (old new : World)
-    → (goes : Goes client name (SyncEnds client route before end after kept) before after kept images images_now troubles later old new)
-    → InStep client before old → (Rose troubles later → ⊥)
+CalmSyncsAreComplete = (client : ℕ) (route : Route) (name : List ℕ) (before after kept : Log) (end : SyncEnd) (images images_now : Option Images) (runner ran : RunnerTelling) (troubles later : ℕ) (old new : World)
+    → (goes : Goes client name (SyncEnds client route before end after kept) before after kept images images_now runner ran troubles later old new)
+    → InStep client before old → HasNoCollision client before.pending new.packets → (Rose troubles later → ⊥)
     → ((message : Message) → IsIn message (taken_in goes.runs.moves (kept_at before old)) → client_of message ≡ client)
     → old.served.volume ≡ tree_at (old.served.last client) before
     → ((end ≡ Synced after.acked) × (after.pending ≡ [])) ⊎ (is_broken_sync end ≡ true)

@@ -7,5 +7,6 @@ pub mod Keeping
 pub mod Laws
 pub mod Logging
 pub mod Pulling
+pub mod Running
 pub mod Syncing
 pub mod Trace

@@ -1,34 +1,48 @@
 -- What a call or a stretch of a session did.
-use Rattle.std.specs.Prelude.{◌≡◌, ◌⊎◌, List, [], ◌∷◌, ◌++◌}
+use Rattle.std.specs.Prelude.{◌≡◌, ◌⊎◌, ℕ, ◌+◌, List, [], ◌∷◌, ◌++◌}
+use Rattle.cmd_capture.specs.declared.runner.Run.{Run}
 use Rattle.mod_log.specs.declared.log.Entry.{Entry}
 use Rattle.mod_log.specs.Log.{Log}
 use Rattle.world_rules.specs.declared.asking.Ask.{Ask}
 
--- Each in order: the asks that were made, the entries that were logged, and the log after each change. A change is one entry
--- that is logged, one that is acknowledged, or one pull that replaced the base.
+-- Each in order: the asks that were made, the runs that a runner gave, the entries that were logged, and the log after each change.
+-- A change is one entry that is logged, one that is acknowledged, or one pull that replaced the base.
 pub record Trace : Type 0 where
   pub asks : List Ask
+  pub runs : List Run
+  -- how many runs failed
+  pub missed : ℕ
   pub entries : List Entry
   pub changes : List Log
 
 abbrev pub nothing : Trace
-nothing = record { asks = []; entries = []; changes = [] }
+nothing = record { asks = []; runs = []; missed = 0; entries = []; changes = [] }
 
 -- one trace, and then another
 abbrev pub followed : Trace → Trace → Trace
-followed earlier later = record { asks = earlier.asks ++ later.asks; entries = earlier.entries ++ later.entries; changes = earlier.changes ++ later.changes }
+followed earlier later = record {
+  asks = earlier.asks ++ later.asks;
+  runs = earlier.runs ++ later.runs;
+  missed = earlier.missed + later.missed;
+  entries = earlier.entries ++ later.entries;
+  changes = earlier.changes ++ later.changes;
+}
 
 -- these asks, which change nothing
 abbrev pub asking : List Ask → Trace
-asking asks = record { asks = asks; entries = []; changes = [] }
+asking asks = record { asks = asks; runs = []; missed = 0; entries = []; changes = [] }
 
 -- a change of the log to this one
 abbrev pub changing : Log → Trace
-changing after = record { asks = []; entries = []; changes = after ∷ [] }
+changing after = record { asks = []; runs = []; missed = 0; entries = []; changes = after ∷ [] }
 
 -- an entry that is logged, and the log then
 abbrev pub logging : Entry → Log → Trace
-logging entry after = record { asks = []; entries = entry ∷ []; changes = after ∷ [] }
+logging entry after = record { asks = []; runs = []; missed = 0; entries = entry ∷ []; changes = after ∷ [] }
+
+-- these runs, and so many that failed
+abbrev pub running : List Run → ℕ → Trace
+running runs missed = record { asks = []; runs = runs; missed = missed; entries = []; changes = [] }
 
 -- ---- the logs that changes lead to
 

@@ -1,5 +1,5 @@
 // A client: its number and its log.
-ghost use Rattle.std.specs.Prelude.{◌≡◌, ◌≢◌, ◌≤◌, [], ◌∷◌, Ok, Err, IfOk, IfErr, OnOk, OnErr};
+ghost use Rattle.std.specs.Prelude.{◌≡◌, ◌≢◌, ◌≤◌, [], ◌∷◌, None, Ok, Err, IfOk, IfErr, OnOk, OnErr};
 ghost use Rattle.outside.specs.Outside.{Told, CountsFault};
 ghost use Rattle.mod_log.specs.Log.{Log, IsLog, new_log};
 ghost use Rattle.mod_log.specs.Append.{appended};
@@ -81,9 +81,9 @@ impl Client {
     ///
     /// The refusal of the log. The client is then as before.
     pub fn local(&mut self, effect: Effect) -> Result<u64, LogError>
-        ensures ok { OnOk result (appended (effect ∷ []) self.old.log ≡ Ok self.new.log) }
+        ensures ok { OnOk result (appended None (effect ∷ []) self.old.log ≡ Ok self.new.log) }
         ensures seq { IfOk result (λ seq. seq ≡ (local_entry effect self.old.log).seq) }
-        ensures err { IfErr result (λ e. e ≢ LogError.Memory → appended (effect ∷ []) self.old.log ≡ Err e) }
+        ensures err { IfErr result (λ e. e ≢ LogError.Memory → appended None (effect ∷ []) self.old.log ≡ Err e) }
         ensures unchanged { OnErr result (self.new ≡ self.old) }
         ensures number { self.new.number ≡ self.old.number }
         ensures log { IsLog self.new.log }
@@ -91,7 +91,7 @@ impl Client {
         let tree = self.log.tree();
         let mut effects = Effects::new(tree.allocator());
         effects.push(effect)?;
-        self.log.append(effects)
+        self.log.append(None, effects)
     }
 
     /// Keeps the client under a name.

@@ -6,13 +6,12 @@ mod keeping;
 mod laws;
 mod pulling;
 mod route;
+mod running;
 mod syncing;
 
 pub use client::Client;
 pub use laws::ends_are_true;
 pub use pulling::PullEnd;
 pub use route::Route;
+pub use running::RunEnd;
 pub use syncing::SyncEnd;
-
-#[cfg(test)]
-mod tests;

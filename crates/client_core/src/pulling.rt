@@ -9,10 +9,10 @@ ghost use Rattle.world_rules.specs.declared.asking.Peer.TheVariants.{Server};
 ghost use Rattle.world_rules.specs.Telling.{ToldWorlds, IsCalm};
 ghost use Rattle.world_rules.specs.Settling.{Settled, IsFreshReply};
 ghost use Rattle.client_core.specs.Pulling.{PullAsks, PullEnds, pulled_end};
-ghost use Rattle.client_core.specs.Goes.{Goes, Went};
+ghost use Rattle.client_core.specs.Goes.{Goes, Went, no_runner};
 ghost use Rattle.client_core.specs.Causes.{HasPullCause, PullKeeps};
 ghost use Rattle.client_core.specs.Keeping.{IsKept};
-ghost use Rattle.client_core.specs.Honest.{FromInStep, IsNotOtherLast, IsNotOlder};
+ghost use Rattle.client_core.specs.Honest.{FromInStep, FromInStepApart, IsNotOtherLast, IsNotOlder};
 ghost use Rattle.client_core.specs.Inside.{first_lower, MeetsEnds, PullLeaves, snapshot_of};
 
 use crate::keeping::keep_log;
@@ -76,7 +76,7 @@ impl Client {
         // where entries are pending, nothing is asked
         ensures waits { self.old.log.pending ≢ [] → link.new ≡ link.old }
         // to a client in step the server has no other last number
-        ensures honest { FromInStep self.old.number self.old.log (L.tells link.old) (L.tells link.new) (λ new. IsNotOtherLast result) }
+        ensures honest { FromInStepApart self.old.number self.old.log (L.tells link.old) (L.tells link.new) (λ new. IsNotOtherLast result) }
         // and without trouble no older rows
         ensures fresh { IsCalm (L.tells link.old) (L.tells link.new)
             → FromInStep self.old.number self.old.log (L.tells link.old) (L.tells link.new) (λ new. IsNotOlder result) }
@@ -112,7 +112,7 @@ fn pull_log<L: Link>(client: u8, route: &Route, log: &mut Log, link: &mut L) -> 
     ensures world { (images : Option Images) → IsKept images route.now.image client log.old
         → ToldWorlds (L.tells link.old) (L.tells link.new)
         (λ old new. Goes client route.now.image (PullAsks client route.now log.old result log.new) log.old log.new log.old
-        images images (L.tells link.old).troubles (L.tells link.new).troubles old new) }
+        images images no_runner no_runner (L.tells link.old).troubles (L.tells link.new).troubles old new) }
     ensures cause { (faults now : ℕ)
         → HasPullCause result log.old log.new (L.tells link.old).troubles (L.tells link.new).troubles faults now }
     ensures leaves { PullLeaves result log.old log.new }

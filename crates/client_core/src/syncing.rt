@@ -9,7 +9,7 @@ ghost use Rattle.client_core.specs.Syncing.{store_of, end_by, SyncEnds, unkept_e
 ghost use Rattle.client_core.specs.Goes.{Went};
 ghost use Rattle.client_core.specs.Causes.{HasSyncCause, AcknowledgesSome, SyncKeeps};
 ghost use Rattle.client_core.specs.Keeping.{IsKept};
-ghost use Rattle.client_core.specs.Honest.{FromInStep, IsTrueSync, IsComplete};
+ghost use Rattle.client_core.specs.Honest.{FromInStepApart, IsTrueSync, IsComplete};
 
 use crate::keeping::keep_log;
 use crate::{Client, Route};
@@ -84,12 +84,12 @@ impl Client {
         ensures keeps { SyncKeeps route.now.image self.old.number self.old.log result self.new.log
             (K.images keeper.old) (K.images keeper.new) }
         // to a client in step the server is never behind, and a refusal shows what others wrote
-        ensures honest { FromInStep self.old.number self.old.log (L.tells link.old) (L.tells link.new)
+        ensures honest { FromInStepApart self.old.number self.old.log (L.tells link.old) (L.tells link.new)
             (IsTrueSync result self.old.number self.new.log) }
         // without trouble and faults, and where others wrote nothing newer, all is acknowledged
         ensures complete { IsCalm (L.tells link.old) (L.tells link.new)
             → (Rose (K.faults keeper.old) (K.faults keeper.new) → ⊥)
-            → FromInStep self.old.number self.old.log (L.tells link.old) (L.tells link.new)
+            → FromInStepApart self.old.number self.old.log (L.tells link.old) (L.tells link.new)
             (IsComplete result self.old.number self.new.log) }
         // and where nothing is pending at the end and no keeping failed, that is how it ends, but for want of memory
         ensures settled { self.new.log.pending ≡ [] → (Rose (K.faults keeper.old) (K.faults keeper.new) → ⊥)
@@ -190,6 +190,9 @@ fn end_by(number: u64, reply: Option<Message>) -> Option<SyncEnd>
             fault,
         }),
         Some(Message::Gap { last, .. }) => Some(SyncEnd::Behind { seq: number, last }),
-        Some(_) => Some(SyncEnd::Unanswered { seq: number }),
+        Some(other) => {
+            drop(other);
+            Some(SyncEnd::Unanswered { seq: number })
+        }
     }
 }

@@ -1,20 +1,28 @@
 -- Two runs, the second begun on what the first left kept, leave together what one run leaves.
-use Rattle.std.proofs.Common.{◌≡◌, ◌⊎◌, inl, inr, ⊎_elim, ℕ, zero, suc, ◌+◌, ◌-◌, ◌≤◌, List, [], ◌∷◌, ◌++◌, length, drop, Option, Result, Ok, Err, refl, sym, ◌∙◌, ap, subst, arith, length-append}
+use Rattle.std.proofs.Common.{◌≡◌, ◌⊎◌, inl, inr, ⊎_elim, ℕ, zero, suc, ◌+◌, ◌-◌, ◌≤◌, List, [], ◌∷◌, ◌++◌, length, drop, Option, Some, None, Result, Ok, Err, refl, sym, ◌∙◌, ap, subst, arith, length-append}
 use Rattle.std.proofs.lemmas.List.{append-nil}
 use Rattle.file_paths.specs.declared.path.PathError.{PathError}
 use Rattle.tree_values.specs.declared.node.Effect.{Effect}
+use Rattle.cmd_capture.specs.declared.command.Command.{Command}
+use Rattle.cmd_capture.specs.declared.capturing.CaptureError.{CaptureError}
+use Rattle.cmd_capture.specs.Capture.{capture}
 use Rattle.mod_log.specs.declared.log.Entry.{Entry}
 use Rattle.mod_log.specs.declared.log.LogError.{LogError}
 use Rattle.mod_log.specs.Log.{Log, logged}
 use Rattle.world_rules.specs.declared.asking.Ask.{Ask}
 use Rattle.world_rules.specs.World.{World, GoesOnAlone}
-use Rattle.world_rules.specs.InStep.{InStep}
+use Rattle.world_rules.specs.InStep.{InStep, HasNoOperation}
 use Rattle.world_rules.specs.Run.{kept_at}
 use Rattle.world_rules.proofs.Runs.{runs_then, counted_later}
+use Rattle.world_rules.proofs.Operations.{never_collides}
 use Rattle.world_rules.proofs.Restarts.{restart_runs, alone_runs}
 use Rattle.client_core.specs.declared.route.Route.{Route}
 use Rattle.client_core.specs.declared.pulling.PullEnd.{PullEnd}
 use Rattle.client_core.specs.declared.pulling.PullEnd.TheVariants.{Pulled, Pending, OtherLast, Older, Unanswered, KeepFault, Memory}
+use Rattle.client_core.specs.declared.running.RunEnd.{RunEnd}
+use Rattle.client_core.specs.declared.running.RunEnd.TheVariants as runs
+use Rattle.client_core.specs.Running as commands
+use Rattle.client_core.specs.Running.{origin_of, changes_of, run_entry}
 use Rattle.client_core.specs.Trace.{Trace, nothing, followed, asking, last_log, log_before_last, IsLastOrBefore}
 use Rattle.client_core.specs.Logging.{local_entry, LocalTurn}
 use Rattle.client_core.specs.Syncing.{IsFirst, Acknowledges}
@@ -29,7 +37,7 @@ use Rattle.shell_lang.specs.declared.answer.Answer.{Answer}
 use Rattle.client_prog.specs.declared.input.InputEnd.{InputEnd}
 use Rattle.client_prog.specs.declared.run.Stop.{Stop}
 use Rattle.client_prog.specs.declared.run.Stop.TheVariants as stops
-use Rattle.client_session.specs.Session.{SessionState, opened, put_effect, make_effect, remove_effect, move_effect, LogTurn, LineTurn, BreaksOff, Broken, BreaksChain}
+use Rattle.client_session.specs.Session.{SessionState, opened, put_effect, make_effect, remove_effect, move_effect, LogTurn, CommandTurn, LineTurn, BreaksCommand, BreaksOff, Broken, BreaksChain}
 use Rattle.client_prog.specs.Run.{asked_for, Handles, RunTurn}
 use Rattle.client_prog.specs.Headline.{Around, Ran}
 use Rattle.client_prog.specs.Composing.{LeaveTogether}
@@ -121,6 +129,21 @@ pull_knows client route before (Older path theirs ours) after trace turn = snaps
 pull_knows client route before KeepFault after trace turn = snapshot_knows client route before KeepFault after trace turn
 pull_knows client route before Memory after trace turn = snapshot_knows client route before Memory after trace turn
 
+-- ---- a run
+
+run_knows : (work : List ℕ) (command : Command) (before : Log) (end : RunEnd) (after : Log) (trace : Trace) → commands.RunTurn work command before end after trace → AtMostOne before after trace.changes
+run_knows work command before (runs.Logged seq status) after trace turn =
+    let entry : Entry = run_entry command turn.0 before in
+    let same : logged entry before ≡ after = appended-is (Some (origin_of command turn.0)) (changes_of turn.0) before after turn.2.1 in
+    inr (ap (λ (t : Trace). t.changes) turn.3, omega (arith, ap last_number same, length-append before.pending (entry ∷ [])))
+run_knows work command before (runs.Nothing status) after trace turn = still before after trace.changes turn.2.3 (ap (λ (t : Trace). t.changes) turn.3)
+run_knows work command before (runs.OddTree n) after trace turn = still before after trace.changes turn.2.1 (ap (λ (t : Trace). t.changes) turn.3)
+run_knows work command before (runs.Clash path) after trace turn = still before after trace.changes turn.2.2 (ap (λ (t : Trace). t.changes) turn.3)
+run_knows work command before (runs.Refused refusal) after trace turn = still before after trace.changes turn.2.2 (ap (λ (t : Trace). t.changes) turn.3)
+run_knows work command before (runs.NoJob fault) after trace turn = still before after trace.changes turn.1 (ap (λ (t : Trace). t.changes) turn.2)
+run_knows work command before runs.NotRun after trace turn = still before after trace.changes turn.1 (ap (λ (t : Trace). t.changes) turn.2)
+run_knows work command before runs.Memory after trace turn = absurd turn.2
+
 -- ---- a line
 
 module _ (before after : SessionState) (trace : Trace) where
@@ -133,13 +156,22 @@ module _ (before after : SessionState) (trace : Trace) where
   local_knows : (effect : Effect) (result : Result ℕ LogError) → LocalTurn effect before.client.log result after.client.log trace → LineKnows
   local_knows effect (Ok number) turn =
       let entry : Entry = local_entry effect before.client.log in
-      let same : logged entry before.client.log ≡ after.client.log = appended-is (effect ∷ []) before.client.log after.client.log turn.0 in
+      let same : logged entry before.client.log ≡ after.client.log = appended-is None (effect ∷ []) before.client.log after.client.log turn.0 in
       inr (ap (λ (t : Trace). t.changes) turn.2, omega (arith, ap last_number same, length-append before.client.log.pending (entry ∷ [])))
   local_knows effect (Err refusal) turn = still before.client.log after.client.log trace.changes turn.1 (ap (λ (t : Trace). t.changes) turn.2)
 
   log_knows : (named : Result Effect PathError) (answer : Option Answer) → LogTurn named before answer after trace → LineKnows
   log_knows (Ok effect) answer turn = local_knows effect turn.0 turn.1
   log_knows (Err refusal) answer turn = untouched turn.1 turn.2
+
+  command_knows : (route : Route) (made : Result Command CaptureError) (answer : Option Answer) → CommandTurn route made before answer after trace → LineKnows
+  command_knows route (Ok command) answer turn = run_knows route.work command before.client.log turn.0 after.client.log trace turn.1
+  command_knows route (Err refusal) answer turn = untouched turn.1 turn.2
+
+  command_breaks : (route : Route) (made : Result Command CaptureError) → BreaksCommand route made before.client.log after.client.log trace → LineKnows
+  command_breaks route (Ok command) breaks =
+      still before.client.log after.client.log trace.changes breaks.1 (⊎_elim (λ none. ap (λ (t : Trace). t.changes) none) (λ given. ap (λ (t : Trace). t.changes) given.2) breaks.0)
+  command_breaks route (Err refusal) breaks = absurd breaks
 
   line_knows : (route : Route) (line : Result Line LineError) (answer : Option Answer) → LineTurn route before line answer after trace → LineKnows
   line_knows route (Err refusal) answer turn = untouched turn.1 turn.2
@@ -152,6 +184,7 @@ module _ (before after : SessionState) (trace : Trace) where
   line_knows route (Ok (lines.List word)) answer turn = untouched turn.1 turn.2
   line_knows route (Ok (lines.Enter word)) answer turn =
       still before.client.log after.client.log trace.changes (ap (λ (s : SessionState). s.client.log) turn.1) (ap (λ (t : Trace). t.changes) turn.2)
+  line_knows route (Ok (lines.Run words)) answer turn = command_knows route (capture words before.folder) answer turn
   line_knows route (Ok lines.Status) answer turn = untouched turn.1 turn.2
   line_knows route (Ok lines.Sync) answer turn =
       acknowledged_then before.client.number route turn.1.0 before.client.log after.client.log turn.1.1 trace turn.1.2 turn.1.3 turn.1.5
@@ -168,6 +201,7 @@ module _ (before after : SessionState) (trace : Trace) where
   breaks_knows route (Ok (lines.Cat word)) breaks = absurd breaks
   breaks_knows route (Ok (lines.List word)) breaks = absurd breaks
   breaks_knows route (Ok (lines.Enter word)) breaks = absurd breaks
+  breaks_knows route (Ok (lines.Run words)) breaks = command_breaks route (capture words before.folder) breaks
   breaks_knows route (Ok lines.Status) breaks = absurd breaks
   breaks_knows route (Ok lines.Sync) breaks = acknowledged_then before.client.number route breaks.0 before.client.log after.client.log breaks.1 trace breaks.2 breaks.3 breaks.5
   breaks_knows route (Ok lines.Pull) breaks =
@@ -204,18 +238,20 @@ module _ (route : Route) (before after : SessionState) (kept : Log) where
   run_kept left rest o n answers (Err stop) trace turn =
       ⊎_elim (λ did. handled_kept stop did.0 answers trace did.4) (λ closing. all_kept closing.1.3.1) turn.3
 
-pub runs_compose : (client : ℕ) (route other_route : Route) (start : Log) (around around_now other other_now : Around) (status other_status : ℕ) (old middle begun new : World) → InStep client start old
+pub runs_compose : (client : ℕ) (route other_route : Route) (start : Log) (around around_now other other_now : Around) (status other_status : ℕ) (old middle begun new : World) → InStep client start old → HasNoOperation client old.packets
     → (first : Ran client route start around around_now status old middle) → GoesOnAlone middle begun
     → (second : Ran client other_route first.kept other other_now other_status begun new)
     → LeaveTogether client start second.after.client.log second.kept status first.goes.trace.entries second.goes.trace.entries old new
-runs_compose client route other_route start around around_now other other_now status other_status old middle begun new in_step first alone second =
+runs_compose client route other_route start around around_now other other_now status other_status old middle begun new in_step no_operation first alone second =
     let did = first.goes.trace in
     let does = second.goes.trace in
     let last = first.after.client.log in
     let kept = first.kept in
     let part = restart_runs client did.entries did.asks (kept_at start old) (stand last kept middle) refl first.goes.runs in
-    let whole = counted_later client did.entries did.asks (kept_at start old) (stand last kept middle) in_step first.goes.runs in
-    let held = counted_later client part.0 did.asks (kept_at start old) (kept_at kept middle) in_step part.3 in
+    let whole = counted_later client did.entries did.asks (kept_at start old) (stand last kept middle) in_step first.goes.runs
+    (never_collides client did.entries did.asks (kept_at start old) (stand last kept middle) (start.pending ++ did.entries) in_step.about no_operation first.goes.runs) in
+    let held = counted_later client part.0 did.asks (kept_at start old) (kept_at kept middle) in_step part.3
+    (never_collides client part.0 did.asks (kept_at start old) (kept_at kept middle) (start.pending ++ part.0) in_step.about no_operation part.3) in
     let sum = ap length part.2 ∙ length-append part.0 part.1 in
     let lacks = run_kept route (opened client start) first.after kept around.left around_now.left around.written around_now.written first.answers first.ended did first.goes.turn in
     let joined = runs_then client part.0 does.entries did.asks does.asks (kept_at start old) (kept_at kept middle) (stand second.after.client.log second.kept new) part.3
@@ -228,5 +264,6 @@ runs_compose client route other_route start around around_now other other_now st
       none = λ not_five not_seven.
           let same : kept ≡ last = first.kept_last not_five not_seven ∙ sym first.goes.keeping.last in
           none_pending part.1 (omega (arith, whole, held, sum, ap last_number same));
-      leaves = leaves client (part.0 ++ does.entries) (did.asks ++ does.asks) start second.after.client.log second.kept old new in_step joined;
+      leaves = leaves client (part.0 ++ does.entries) (did.asks ++ does.asks) start second.after.client.log second.kept old new in_step joined
+          (never_collides client (part.0 ++ does.entries) (did.asks ++ does.asks) (kept_at start old) (stand second.after.client.log second.kept new) (start.pending ++ (part.0 ++ does.entries)) in_step.about no_operation joined);
     }

@@ -1,7 +1,9 @@
 -- What a run answers where its log was in step when it began.
-use Rattle.std.proofs.Common.{◌≡◌, ◌⊎◌, inl, inr, ⊎_elim, ℕ, zero, suc, ◌≤◌, List, [], ◌∷◌, ◌++◌, Option, Some, Result, Ok, Err, refl, sym, ap, subst, arith}
+use Rattle.std.proofs.Common.{◌≡◌, ◌⊎◌, inl, inr, ⊎_elim, ℕ, zero, suc, ◌+◌, ◌≤◌, List, [], ◌∷◌, ◌++◌, Option, Some, Result, Ok, Err, refl, sym, ap, subst, arith}
 use Rattle.std.proofs.lemmas.List.{append-nil}
+use Rattle.std.specs.List.{count_by}
 use Rattle.outside.specs.Outside.{RoseBy, Rose}
+use Rattle.cmd_capture.specs.Runs.{RunnerTelling, HasRun}
 use Rattle.tree_values.specs.Lists.{IsIn}
 use Rattle.mod_log.specs.Log.{Log}
 use Rattle.wire_frames.specs.declared.message.Message.{Message}
@@ -20,7 +22,8 @@ use Rattle.shell_lang.specs.declared.line.Line.{Line}
 use Rattle.shell_lang.specs.declared.line.LineError.{LineError}
 use Rattle.shell_lang.specs.declared.answer.Answer.{Answer}
 use Rattle.shell_lang.specs.declared.answer.Answer.TheVariants.{Behind}
-use Rattle.client_session.specs.Session.{SessionState, Chain, BreaksChain, LeavesPending}
+use Rattle.client_session.specs.Session.{SessionState, Chain, BreaksChain, LeavesPending, is_unrun}
+use Rattle.client_session.proofs.Counted.{unrun_lines_are_counted}
 use Rattle.client_session.proofs.Answered.{Stand, Gapless, Unrefused, IsPast, stand_parts, never_behind, all_synced}
 use Rattle.client_prog.specs.declared.input.InputEnd.{InputEnd}
 use Rattle.client_prog.specs.declared.run.Stop.{Stop}
@@ -33,13 +36,14 @@ use Rattle.client_prog.specs.Run.{asked_for, HandlesAll, Handles, RunTurn}
 abbrev SessionAnswers : Route → SessionState → List (Option Answer) → Trace → Type 0
 SessionAnswers route before answers trace =
     (asked : List (Result Line LineError)) × (after : SessionState) × (earlier later : Trace) × Chain route before asked answers after earlier × (trace.asks ≡ earlier.asks ++ later.asks)
+    × (trace.missed ≡ earlier.missed + later.missed)
 
 module _ (route : Route) (before after : SessionState) (kept : Log) (answers : List (Option Answer)) (trace : Trace) where
   all_handled : (lines : List (List ℕ)) → HandlesAll route before lines answers after kept trace → SessionAnswers route before answers trace
-  all_handled lines all = (asked_for lines, after, trace, nothing, all.0, sym (append-nil trace.asks))
+  all_handled lines all = (asked_for lines, after, trace, nothing, all.0, sym (append-nil trace.asks), omega arith)
 
   some_handled : (lines : List (List ℕ)) → BreaksChain route before (asked_for lines) answers after kept trace → SessionAnswers route before answers trace
-  some_handled lines breaks = (breaks.0, breaks.2, breaks.3, breaks.4, breaks.6, ap (λ (t : Trace). t.asks) breaks.9)
+  some_handled lines breaks = (breaks.0, breaks.2, breaks.3, breaks.4, breaks.6, ap (λ (t : Trace). t.asks) breaks.9, ap (λ (t : Trace). t.missed) breaks.9)
 
   handled : (stop : Stop) (lines : List (List ℕ)) → Handles stop route before lines answers after kept trace → SessionAnswers route before answers trace
   handled Sink lines all = all_handled lines all
@@ -49,6 +53,15 @@ module _ (route : Route) (before after : SessionState) (kept : Log) (answers : L
   session_of : (left rest o n : Option (List ℕ)) (ended : Result InputEnd Stop) → RunTurn route before left rest answers o n ended after kept trace → SessionAnswers route before answers trace
   session_of left rest o n (Ok end) turn = all_handled turn.0 turn.3
   session_of left rest o n (Err stop) turn = ⊎_elim (λ stops. handled stop stops.0 stops.4) (λ closing. all_handled turn.0 closing.1.3) turn.3
+
+  -- the lines that were answered `not run` are no more than the runs that failed
+  pub few_unrun : (left rest o n : Option (List ℕ)) (ended : Result InputEnd Stop) → RunTurn route before left rest answers o n ended after kept trace → count_by is_unrun answers ≤ trace.missed
+  few_unrun left rest o n ended turn =
+      let session = session_of left rest o n ended turn in
+      omega (arith, unrun_lines_are_counted route before session.0 answers session.1 session.2 session.4, session.6)
+
+pub unrun_rose : (answers : List (Option Answer)) (trace : Trace) (old new : RunnerTelling) → count_by is_unrun answers ≤ trace.missed → HasRun trace.runs trace.missed old new → RoseBy (count_by is_unrun answers) old.faults new.faults
+unrun_rose answers trace old new few ran = omega (arith, few, ran.counted)
 
 -- ---- the replies
 

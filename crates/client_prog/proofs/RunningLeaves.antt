@@ -1,13 +1,15 @@
 -- What a run of a client leaves.
-use Rattle.std.proofs.Common.{◌≡◌, ◌≢◌, ⊎_elim, ℕ, List, Option, Result, Ok, Err, refl, ◌∙◌}
+use Rattle.std.proofs.Common.{◌≡◌, ◌≢◌, ⊎_elim, ℕ, List, ◌++◌, Option, Result, Ok, Err, refl, ◌∙◌}
 use Rattle.mod_log.specs.declared.log.Entry.{Entry}
 use Rattle.mod_log.specs.Log.{Log}
 use Rattle.world_rules.specs.declared.asking.Ask.{Ask}
 use Rattle.world_rules.specs.World.{World}
-use Rattle.world_rules.specs.InStep.{InStep}
+use Rattle.world_rules.specs.InStep.{InStep, HasNoCollision}
 use Rattle.world_rules.specs.Run.{Runs, kept_at, AreInStep, taken_in}
 use Rattle.world_rules.specs.Settling.{failed_asks}
 use Rattle.world_rules.proofs.Runs.{both_in_step, runs_in_step, run_taken, entries_in_order, path_is_kept, lone_kept, pending_later, run_asked, run_answers}
+use Rattle.world_rules.proofs.Colliding.{kept_none}
+use Rattle.world_rules.proofs.Operations.{operated_before}
 use Rattle.world_rules.proofs.Unrefused.{lone_unrefused}
 use Rattle.client_prog.specs.declared.input.InputEnd.{InputEnd}
 use Rattle.client_prog.specs.declared.run.Stop.{Stop}
@@ -15,23 +17,22 @@ use Rattle.client_prog.specs.declared.run.Stop.TheVariants.{Sink, Keeper, Memory
 use Rattle.client_core.specs.declared.route.Route.{Route}
 use Rattle.client_core.specs.Trace.{Trace}
 use Rattle.client_core.specs.Keeping.{IsKept}
-use Rattle.client_core.specs.Goes.{stand}
+use Rattle.client_core.specs.Goes.{Goes, stand}
+use Rattle.client_core.proofs.Going.{goes_none}
 use Rattle.shell_lang.specs.declared.answer.Answer.{Answer}
 use Rattle.client_session.specs.Session.{SessionState, opened}
-use Rattle.client_session.specs.Doing.{Does}
 use Rattle.client_prog.specs.Run.{status_of, Handles, RunTurn}
 use Rattle.client_prog.specs.InsideRun.{RunAnswers}
 use Rattle.client_prog.specs.Headline.{Leaves, Around, Ran}
-use Rattle.client_session.proofs.Doing.{does_none}
 use Rattle.client_session.proofs.Answered.{log_past}
-use Rattle.client_prog.proofs.RunningAnswers.{unbehind, synced, none_failed}
+use Rattle.client_prog.proofs.RunningAnswers.{unbehind, synced, none_failed, few_unrun, unrun_rose}
 use Rattle.client_prog.proofs.RunningEnds.{run_nothing}
 
 module _ (client : ℕ) (entries : List Entry) (asks : List Ask) (start last kept : Log) (old new : World) where
-  pub leaves : InStep client start old → Runs client entries asks (kept_at start old) (stand last kept new) → Leaves client start last kept entries old new
-  leaves now runs =
+  pub leaves : InStep client start old → Runs client entries asks (kept_at start old) (stand last kept new) → HasNoCollision client (start.pending ++ entries) new.packets → Leaves client start last kept entries old new
+  leaves now runs none =
       let both : AreInStep client (kept_at start old) = record { in_memory = now; kept = now } in
-      let end : AreInStep client (stand last kept new) = both_in_step client entries asks (kept_at start old) (stand last kept new) both runs in
+      let end : AreInStep client (stand last kept new) = both_in_step client entries asks (kept_at start old) (stand last kept new) both runs (kept_none client entries (kept_at start old) (stand last kept new) refl none) in
       record {
         taken = taken_in runs.moves (kept_at start old);
         since = run_taken client entries asks (kept_at start old) (stand last kept new) runs;
@@ -40,10 +41,10 @@ module _ (client : ℕ) (entries : List Entry) (asks : List Ask) (start last kep
         not_lower = end.kept.not_lower;
         not_higher = end.kept.not_higher.at_most_ahead;
         within = end.kept.not_higher.at_most_logged;
-        pending = (pending_later client entries asks (kept_at start old) (stand last kept new) now runs).1;
-        once = entries_in_order client entries asks (kept_at start old) (stand last kept new) now runs;
-        spared = λ path same spare. path_is_kept client entries asks (kept_at start old) (stand last kept new) path both refl runs same spare;
-        alone = λ same own_only. lone_kept client entries asks (kept_at start old) (stand last kept new) both refl runs own_only same;
+        pending = (pending_later client entries asks (kept_at start old) (stand last kept new) now runs none).1;
+        once = entries_in_order client entries asks (kept_at start old) (stand last kept new) now runs none;
+        spared = λ path same spare. path_is_kept client entries asks (kept_at start old) (stand last kept new) path both refl runs same spare none;
+        alone = λ same own_only. lone_kept client entries asks (kept_at start old) (stand last kept new) both refl runs own_only same none;
       }
 
 -- ---- what is kept at the end
@@ -62,11 +63,10 @@ module _ (route : Route) (before after : SessionState) (left rest o n : Option (
 -- a run that goes so, from a log that is kept on
 module _ (client : ℕ) (route : Route) (start : Log) (around around_now : Around) where
   pub ran : (ended : Result InputEnd Stop) (after : SessionState) (kept : Log) (status : ℕ) (x y : World) → status ≡ status_of ended
-      → Does route.image (RunAnswers route (opened client start) around.left around_now.left around.written around_now.written ended after kept) (opened client start) after kept around.images around_now.images
-      around.troubles around_now.troubles x y → Ran client route start around around_now status x y
+      → Goes client route.image (RunAnswers route (opened client start) around.left around_now.left around.written around_now.written ended after kept) start after.client.log kept around.images around_now.images
+      around.runner around_now.runner around.troubles around_now.troubles x y → Ran client route start around around_now status x y
   unfolding leaves
-  ran ended after kept status x y is does =
-      let goes = does.goes in
+  ran ended after kept status x y is goes =
       let answers = goes.turn.0 in
       record {
         ended = ended;
@@ -74,24 +74,27 @@ module _ (client : ℕ) (route : Route) (start : Log) (around around_now : Aroun
         answers = answers;
         after = after;
         kept = kept;
-        goes = record { trace = goes.trace; turn = goes.turn.1; runs = goes.runs; keeping = goes.keeping; rose = goes.rose };
+        goes = record { trace = goes.trace; turn = goes.turn.1; runs = goes.runs; keeping = goes.keeping; has_run = goes.has_run; rose = goes.rose };
         kept_last = λ other more.
             kept_at_end route (opened client start) after around.left around_now.left around.written around_now.written kept ended answers goes.trace (λ five. absurd (other (is ∙ five))) (λ seven. absurd (more (is ∙ seven))) goes.turn.1
             ∙ goes.keeping.last;
+        unrun = unrun_rose answers goes.trace around.runner around_now.runner
+            (few_unrun route (opened client start) after kept answers goes.trace around.left around_now.left around.written around_now.written ended goes.turn.1) goes.has_run;
         asked = run_asked client goes.trace.entries goes.trace.asks (kept_at start x) (stand after.client.log kept y) goes.runs;
-        leaves = λ now. leaves client goes.trace.entries goes.trace.asks start after.client.log kept x y now goes.runs;
-        honest = λ now.
-            unbehind client route (opened client start) after kept answers goes.trace around.left around_now.left around.written around_now.written ended after.client.log y refl (at_end goes.runs now)
+        unoperated = λ now sketched among. operated_before client goes.trace.entries goes.trace.asks (kept_at start x) (stand after.client.log kept y) sketched now.about goes.runs among;
+        leaves = λ now apart. leaves client goes.trace.entries goes.trace.asks start after.client.log kept x y now goes.runs apart;
+        honest = λ now apart.
+            unbehind client route (opened client start) after kept answers goes.trace around.left around_now.left around.written around_now.written ended after.client.log y refl (at_end goes.runs now apart)
             (run_answers client goes.trace.entries goes.trace.asks (kept_at start x) (stand after.client.log kept y) goes.runs) goes.turn.1;
-        calm = λ now same own_only quiet.
-            synced client route (opened client start) after kept answers goes.trace around.left around_now.left around.written around_now.written ended after.client.log y refl (at_end goes.runs now)
+        calm = λ now apart same own_only quiet.
+            synced client route (opened client start) after kept answers goes.trace around.left around_now.left around.written around_now.written ended after.client.log y refl (at_end goes.runs now apart)
             (run_answers client goes.trace.entries goes.trace.asks (kept_at start x) (stand after.client.log kept y) goes.runs) goes.turn.1 start.acked
-            (lone_unrefused client goes.trace.entries goes.trace.asks (kept_at start x) (stand after.client.log kept y) now goes.runs own_only same)
+            (lone_unrefused client goes.trace.entries goes.trace.asks (kept_at start x) (stand after.client.log kept y) now goes.runs own_only same apart)
             (log_past start now.log_is) (none_failed (failed_asks goes.trace.asks) around.troubles around_now.troubles goes.rose quiet);
       }
     where
-      at_end : Runs client does.goes.trace.entries does.goes.trace.asks (kept_at start x) (stand after.client.log kept y) → InStep client start x → InStep client after.client.log y
-      at_end runs now = runs_in_step client does.goes.trace.entries does.goes.trace.asks (kept_at start x) (stand after.client.log kept y) now runs
+      at_end : Runs client goes.trace.entries goes.trace.asks (kept_at start x) (stand after.client.log kept y) → InStep client start x → HasNoCollision client (start.pending ++ goes.trace.entries) y.packets → InStep client after.client.log y
+      at_end runs now apart = runs_in_step client goes.trace.entries goes.trace.asks (kept_at start x) (stand after.client.log kept y) now runs apart
 
 -- a run that did nothing
 pub nothing_ran : (client : ℕ) (route : Route) (start : Log) (around : Around) (stop : Stop) (status : ℕ) (x : World) → IsKept around.images route.image client start → status ≡ status_of (Err stop)
@@ -99,5 +102,5 @@ pub nothing_ran : (client : ℕ) (route : Route) (start : Log) (around : Around)
 nothing_ran client route start around stop status x keeps is =
     let first = opened client start in
     ran client route start around around (Err stop) first start status x x is
-    (does_none route.image (RunAnswers route first around.left around.left around.written around.written (Err stop) first start) first around.images around.troubles x keeps
+    (goes_none route.image client (RunAnswers route first around.left around.left around.written around.written (Err stop) first start) start around.images around.runner around.troubles x keeps
     (run_nothing stop route first around.left around.written))

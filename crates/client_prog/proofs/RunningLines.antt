@@ -43,11 +43,17 @@ texts_then [] ys s t first second = subst (AreTexts ys) (sym (ap (λ (u : List �
 texts_then (x ∷ xs) ys s t first second =
     (first.0, first.1 ++ t, first.2, texts_then xs ys first.1 t first.3 second, ap (λ (u : List ℕ). u ++ t) first.4 ∙ append_assoc first.0 first.1 t)
 
+-- a trace behind nothing
+nothing-followed : (trace : Trace) → followed nothing trace ≡ trace
+nothing-followed trace =
+    let missed : 0 + trace.missed ≡ trace.missed = omega arith in
+    λ i. record { asks = trace.asks; runs = trace.runs; missed = missed i; entries = trace.entries; changes = trace.changes }
+
 module _ (route : Route) where
   pub chain_then : (a b c : SessionState) (ls ms : List (Result Line LineError)) (s t : List (Option Answer)) (p q : Trace) → Chain route a ls s b p → Chain route b ms t c q → Chain route a (ls ++ ms) (s ++ t) c (followed p q)
   chain_then a b c [] ms s t p q first second =
       subst (λ (x : List (Option Answer)). Chain route a ms x c (followed p q)) (sym (ap (λ (x : List (Option Answer)). x ++ t) first.0))
-      (subst (λ (r : Trace). Chain route a ms t c r) (sym (ap (λ (r : Trace). followed r q) first.2))
+      (subst (λ (r : Trace). Chain route a ms t c r) (sym (ap (λ (r : Trace). followed r q) first.2 ∙ nothing-followed q))
       (subst (λ (x : SessionState). Chain route x ms t c q) first.1 second))
   chain_then a b c (l ∷ ls) ms s t p q first second = (
     first.0,
@@ -152,7 +158,7 @@ module _ (route : Route) where
   line_unread a line o = ([], ([], line ∷ [], [], refl, inl ((refl, refl, refl), refl), refl, (0, adds_nothing o)))
 
   one_broken : (a b : SessionState) (k : Log) (line : List ℕ) (p : Trace) → Broken route a (read_line line) b p → IsLastOrBefore a.client.log p.changes k → BreaksChain route a (asked_for (line ∷ [])) [] b k p
-  one_broken a b k line p broken behind = ([], read_line line, a, nothing, p, refl, (refl, refl, refl), broken, behind, refl)
+  one_broken a b k line p broken behind = ([], read_line line, a, nothing, p, refl, (refl, refl, refl), broken, behind, sym (nothing-followed p))
 
   -- it was broken off
   pub line_broken : (a b : SessionState) (k : Log) (line : List ℕ) (o : Option (List ℕ)) (e : KeepError) (p : Trace) → LineEnds route a (read_line line) (Err e) b k p → IsLastOrBefore a.client.log p.changes k

@@ -4,7 +4,7 @@ use Rattle.std.specs.Prelude.{IfSome}
 use Rattle.outside.specs.Outside.{Told, Rose}
 use Rattle.outside.specs.Keeper.{Images}
 use Rattle.mod_log.specs.Log.{Log}
-use Rattle.world_rules.specs.Telling.{LinkTelling, ToldWorlds}
+use Rattle.world_rules.specs.Telling.{ToldWorlds}
 use Rattle.world_rules.proofs.Asks.{told_start, told_as}
 use Rattle.client_core.specs.Client.{Client}
 use Rattle.client_core.specs.Keeping.{IsKept, TellsKept, IsKeptOfNone}
@@ -17,7 +17,7 @@ use Rattle.client_prog.specs.declared.opening.Unopened.{Unopened}
 use Rattle.client_prog.specs.declared.opening.Unopened.TheVariants.{Keeper, Image, Memory}
 use Rattle.client_prog.specs.Words.{Invocation}
 use Rattle.client_session.specs.Session.{SessionState, opened}
-use Rattle.client_session.specs.Doing.{Does, WentDoing}
+use Rattle.client_session.specs.Doing.{Telling, Does, WentDoing}
 use Rattle.client_prog.specs.Opening.{status_unopened}
 use Rattle.client_prog.specs.Run.{status_of, route_of, IsRead}
 use Rattle.client_prog.specs.InsideRun.{RunAnswers}
@@ -75,15 +75,15 @@ none_read u status left is = subst (λ (n : ℕ). Told left left (IsRead n)) (sy
 -- ---- the session of a run
 
 -- what is told at a moment
-abbrev pub around : Option (List ℕ) → Option (List ℕ) → Option Images → LinkTelling → Around
-around left written images telling = record { left = left; written = written; images = images; troubles = telling.troubles }
+abbrev pub around : Option (List ℕ) → Option (List ℕ) → Option Images → Telling → Around
+around left written images told = record { left = left; written = written; images = images; runner = told.runner; troubles = told.link.troubles }
 
 -- Over a keeper that tells its images, from the log that is kept.
-abbrev pub RanFrom : Option Images → Option Images → Option (List ℕ) → Option (List ℕ) → Option (List ℕ) → Option (List ℕ) → ℕ → LinkTelling → LinkTelling → Invocation → Type 0
+abbrev pub RanFrom : Option Images → Option Images → Option (List ℕ) → Option (List ℕ) → Option (List ℕ) → Option (List ℕ) → ℕ → Telling → Telling → Invocation → Type 0
 RanFrom i j left rest o n status t u run =
-    (start : Log) → TellsKept i run.image run.client start → ToldWorlds t u (Ran run.client (route_of run) start (around left o i t) (around rest n j u) status)
+    (start : Log) → TellsKept i run.image run.client start → ToldWorlds t.link u.link (Ran run.client (route_of run) start (around left o i t) (around rest n j u) status)
 
-pub opened_ran : (run : Invocation) (client : Client) (i j : Option Images) (left rest o n : Option (List ℕ)) (ended : Result InputEnd Stop) (after : SessionState) (status : ℕ) (t u : LinkTelling)
+pub opened_ran : (run : Invocation) (client : Client) (i j : Option Images) (left rest o n : Option (List ℕ)) (ended : Result InputEnd Stop) (after : SessionState) (status : ℕ) (t u : Telling)
     → client.number ≡ run.client → ((start : Log) → TellsKept i run.image run.client start → client.log ≡ start) → status ≡ status_of ended
     → WentDoing (route_of run).image (RunAnswers (route_of run) (opened client.number client.log) left rest o n ended after) (opened client.number client.log) after i j t u
     → RanFrom i j left rest o n status t u run
@@ -92,19 +92,19 @@ opened_ran run client i j left rest o n ended after status t u number only is we
     let goes : WentDoing route.image (RunAnswers route (opened run.client start) left rest o n ended after) (opened run.client start) after i j t u =
     subst (λ (log : Log). WentDoing route.image (RunAnswers route (opened run.client log) left rest o n ended after) (opened run.client log) after i j t u) (only start told)
     (subst (λ (m : ℕ). WentDoing route.image (RunAnswers route (opened m client.log) left rest o n ended after) (opened m client.log) after i j t u) number went) in
-    told_as t.world u.world (λ x y. (kept : Log) × Does route.image (RunAnswers route (opened run.client start) left rest o n ended after kept) (opened run.client start) after kept i j t.troubles u.troubles x y)
+    told_as t.link.world u.link.world (λ x y. (kept : Log) × Does route.image (RunAnswers route (opened run.client start) left rest o n ended after kept) (opened run.client start) after kept i j t u x y)
     (Ran run.client route start (around left o i t) (around rest n j u) status) goes
-    (λ x y did. ran run.client route start (around left o i t) (around rest n j u) ended after did.0 status x y is did.1)
+    (λ x y did. ran run.client route start (around left o i t) (around rest n j u) ended after did.0 status x y is did.1.goes)
 
-stopped_ran : (stop : Stop) (run : Invocation) (i : Option Images) (left o : Option (List ℕ)) (status : ℕ) (t : LinkTelling) → status ≡ status_of (Err stop) → RanFrom i i left left o o status t t run
+stopped_ran : (stop : Stop) (run : Invocation) (i : Option Images) (left o : Option (List ℕ)) (status : ℕ) (t : Telling) → status ≡ status_of (Err stop) → RanFrom i i left left o o status t t run
 stopped_ran stop run i left o status t is = λ start told.
-    told_start t.world (Ran run.client (route_of run) start (around left o i t) (around left o i t) status)
+    told_start t.link.world (Ran run.client (route_of run) start (around left o i t) (around left o i t) status)
     (λ x. nothing_ran run.client (route_of run) start (around left o i t) stop status x (tells_so i run.image run.client start told) is)
 
-pub wanted_ran : (run : Invocation) (i : Option Images) (left o : Option (List ℕ)) (t : LinkTelling) → RanFrom i i left left o o 7 t t run
+pub wanted_ran : (run : Invocation) (i : Option Images) (left o : Option (List ℕ)) (t : Telling) → RanFrom i i left left o o 7 t t run
 wanted_ran run i left o t = stopped_ran stops.Memory run i left o 7 t refl
 
-pub unopened_ran : (run : Invocation) (u : Unopened) (i j : Option Images) (left o : Option (List ℕ)) (status : ℕ) (t : LinkTelling) → status ≡ status_unopened u → j ≡ i
+pub unopened_ran : (run : Invocation) (u : Unopened) (i j : Option Images) (left o : Option (List ℕ)) (status : ℕ) (t : Telling) → status ≡ status_unopened u → j ≡ i
     → (u ≡ Image → (start : Log) → TellsKept i run.image run.client start → ⊥) → RanFrom i j left left o o status t t run
 unopened_ran run u i j left o status t is same image =
     subst (λ (k : Option Images). RanFrom i k left left o o status t t run) (sym same) (by u is image)

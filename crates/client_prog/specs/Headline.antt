@@ -1,17 +1,21 @@
 -- What a whole run of a client leaves at the server and under its name, whatever the network lost, repeated or reordered.
 use Rattle.std.specs.Prelude.{◌≡◌, ◌≢◌, ℕ, ◌+◌, ◌-◌, ◌≤◌, List, ◌++◌, length, drop, Option, Some, Result}
-use Rattle.outside.specs.Outside.{Rose}
+use Rattle.std.specs.List.{count_by}
+use Rattle.outside.specs.Outside.{RoseBy, Rose}
 use Rattle.outside.specs.Keeper.{Images}
 use Rattle.file_paths.specs.Path.{FilePath}
 use Rattle.tree_values.specs.Tree.{version_at}
 use Rattle.tree_values.specs.Lists.{IsIn}
 use Rattle.mod_log.specs.declared.log.Entry.{Entry}
 use Rattle.mod_log.specs.Log.{Log, tree_at}
+use Rattle.mod_log.specs.declared.sketching.SketchEntry.{SketchEntry}
 use Rattle.wire_frames.specs.declared.message.Message.{Message}
+use Rattle.wire_frames.specs.declared.message.Message.TheVariants.{Operate}
 use Rattle.wire_frames.specs.Frame.{client_of}
 use Rattle.world_rules.specs.World.{World}
-use Rattle.world_rules.specs.InStep.{InStep}
+use Rattle.world_rules.specs.InStep.{InStep, HasNoCollision}
 use Rattle.world_rules.specs.Run.{own, stores_between, Spares, IsSameAt}
+use Rattle.cmd_capture.specs.Runs.{RunnerTelling}
 use Rattle.client_prog.specs.declared.input.InputEnd.{InputEnd}
 use Rattle.client_prog.specs.declared.run.Stop.{Stop}
 use Rattle.client_core.specs.declared.route.Route.{Route}
@@ -19,7 +23,7 @@ use Rattle.client_core.specs.Trace.{last_log}
 use Rattle.client_core.specs.Goes.{Goes}
 use Rattle.shell_lang.specs.declared.answer.Answer.{Answer}
 use Rattle.shell_lang.specs.declared.answer.Answer.TheVariants.{Behind}
-use Rattle.client_session.specs.Session.{SessionState, opened, LeavesPending}
+use Rattle.client_session.specs.Session.{SessionState, opened, LeavesPending, is_unrun}
 use Rattle.client_prog.specs.Run.{RunTurn, status_of}
 
 -- the number of the client's last entry that the server took
@@ -55,15 +59,17 @@ pub record Leaves (client : ℕ) (start log kept : Log) (entries : List Entry) (
   pub alone : old.served.volume ≡ tree_at (last_taken client old) start → AreAllOf client taken → new.served.volume ≡ tree_at (last_taken client new) kept
 
 -- what the objects that a run is given tell at one moment: the bytes that are left of the input, the text of the output, what is
--- kept under each name, and how often the link had trouble
+-- kept under each name, the runner's runs and faults, and how often the link had trouble
 pub record Around : Type 0 where
   pub left : Option (List ℕ)
   pub written : Option (List ℕ)
   pub images : Option Images
+  pub runner : RunnerTelling
   pub troubles : ℕ
 
 -- A run over objects that tell what they hold, where this log was kept at the start: one session over the lines that were handled, in
--- which the client, what is kept of it and the world went on together, and what it leaves where that log was in step.
+-- which the client, what is kept of it, what the runner tells and the world went on together, and what it leaves where that log was in
+-- step. The runs that the runner tells grew by just those of the session.
 pub record Ran (client : ℕ) (route : Route) (start : Log) (around around_now : Around) (status : ℕ) (old new : World) : Type 0 where
   pub ended : Result InputEnd Stop
   pub status_is : status ≡ status_of ended
@@ -73,14 +79,19 @@ pub record Ran (client : ℕ) (route : Route) (start : Log) (around around_now :
   -- what is kept at the end: the keeper's bytes are kept for it, and are as before where nothing was changed
   pub kept : Log
   pub goes : Goes client route.image (RunTurn route (opened client start) around.left around_now.left answers around.written around_now.written ended after kept)
-      start after.client.log kept around.images around_now.images around.troubles around_now.troubles old new
+      start after.client.log kept around.images around_now.images around.runner around_now.runner around.troubles around_now.troubles old new
   -- it is the client's log after the last change, but where a keeping was refused or memory ran out, perhaps the one before that change
   pub kept_last : status ≢ 5 → status ≢ 7 → kept ≡ last_log start goes.trace.changes
+  -- at most as many lines were answered `not run` as the runner failed in the run
+  pub unrun : RoseBy (count_by is_unrun answers) around.runner.faults around_now.runner.faults
   -- the world notes just the asks of the session
   pub asked : new.asks ≡ old.asks ++ goes.trace.asks
-  pub leaves : InStep client start old → Leaves client start after.client.log kept goes.trace.entries old new
+  -- it sends no operation: each of its operations among the packets was there before
+  pub unoperated : InStep client start old → (sketched : SketchEntry) → IsIn (Operate client sketched) new.packets → IsIn (Operate client sketched) old.packets
+  -- what it leaves where no content that was sent is taken for another, as is so where no operation of the client was sent
+  pub leaves : InStep client start old → HasNoCollision client (start.pending ++ goes.trace.entries) new.packets → Leaves client start after.client.log kept goes.trace.entries old new
   -- to a client whose log was in step the server is never behind
-  pub honest : InStep client start old → (seq last : ℕ) → IsIn (Some (Behind seq last)) answers → ⊥
+  pub honest : InStep client start old → HasNoCollision client (start.pending ++ goes.trace.entries) new.packets → (seq last : ℕ) → IsIn (Some (Behind seq last)) answers → ⊥
   -- where the client's tree was served, nobody else wrote, and the link had no trouble, every sync came through
-  pub calm : (begun : InStep client start old) → old.served.volume ≡ tree_at (last_taken client old) start → AreAllOf client (leaves begun).taken
+  pub calm : (begun : InStep client start old) (apart : HasNoCollision client (start.pending ++ goes.trace.entries) new.packets) → old.served.volume ≡ tree_at (last_taken client old) start → AreAllOf client (leaves begun apart).taken
       → (Rose around.troubles around_now.troubles → ⊥) → (answer : Option Answer) → IsIn answer answers → LeavesPending answer → ⊥

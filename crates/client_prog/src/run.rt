@@ -13,7 +13,8 @@ ghost use Rattle.client_session.specs.Session.{IsText};
 ghost use Rattle.client_prog.specs.Opening.{status_unopened};
 ghost use Rattle.client_prog.specs.Run.{status_of, is_status, route_of, is_quit, quits, has_quit, up_to_quit, end_of, closing_line, closing_at, IsRead};
 ghost use Rattle.client_prog.specs.Headline.{Ran};
-ghost use Rattle.client_session.specs.Doing.{WentDoing};
+ghost use Rattle.client_session.specs.Doing.{WentDoing, beside};
+ghost use Rattle.client_core.specs.Goes.{telling};
 ghost use Rattle.client_prog.specs.InsideRun.{AnswersLines, HasUnfinished, TakesInput, AnswersInput, RunAnswers};
 
 use crate::input::{InputEnd, LineReader, MAX_INPUT};
@@ -21,6 +22,7 @@ use crate::opening::{Unopened, open};
 use crate::words::{RunWords, run_words};
 use client_core::Route;
 use client_session::Session;
+use cmd_capture::Runner;
 use outside::{KeepError, Keeper, Sink, SinkError, Source, write_all};
 use shell_lang::{Answer, Line, LineError, has_no_memory, read_line, text_of};
 use std::alloc::{AllocError, Global};
@@ -126,53 +128,57 @@ fn text(alloc: Global, answer: Option<Answer>) -> Result<Vec<u8>, AllocError>
 }
 
 /// Does what a line asks for, writes its answer, and says whether it quits.
-fn answer<O: Sink, K: Keeper, L: Link>(
+fn answer<O: Sink, K: Keeper, R: Runner, L: Link>(
     alloc: Global,
     route: &Route,
     session: &mut Session,
     line: &[u8],
     output: &mut O,
     keeper: &mut K,
+    runner: &mut R,
     link: &mut L,
 ) -> Result<bool, Stop>
     requires { IsKept (K.images keeper.old) route.now.image session.old.client.number session.old.client.log }
-    ensures world { WentDoing route.now.image (AnswersLines route.now session.old (line.now ∷ []) (O.written output.old) (O.written output.new) result session.new) session.old session.new (K.images keeper.old) (K.images keeper.new) (L.tells link.old) (L.tells link.new) }
+    ensures world { WentDoing route.now.image (AnswersLines route.now session.old (line.now ∷ []) (O.written output.old) (O.written output.new) result session.new) session.old session.new (K.images keeper.old) (K.images keeper.new) (beside (L.tells link.old) (telling (R.runs runner.old) (R.faults runner.old))) (beside (L.tells link.new) (telling (R.runs runner.new) (R.faults runner.new))) }
     ensures quit { IfOk result (λ quit. quit ≡ quits line.now) }
     ensures kept { IfOk result (λ done. IsKept (K.images keeper.new) route.now.image session.new.client.number session.new.client.log) }
     ensures later { (L.tells link.old).troubles ≤ (L.tells link.new).troubles }
+    ensures runner_later { R.faults runner.old ≤ R.faults runner.new }
     ensures cause { CountsFault Stop.Sink (O.faults output.old) (O.faults output.new) result }
     ensures keeper { CountsFault Stop.Keeper (K.faults keeper.old) (K.faults keeper.new) result }
 {
     let asked = asked(alloc, line)?;
     let quit = is_quit(&asked);
-    let answer = session.answer(alloc, route, asked, link, keeper)?;
+    let answer = session.answer(alloc, route, asked, link, keeper, runner)?;
     let text = text(alloc, answer)?;
     write_all(output, &text)?;
     Ok(quit)
 }
 
 /// Answers the lines that are there, up to the last line end or the first that quits, and says whether one quits.
-fn answer_lines<O: Sink, K: Keeper, L: Link>(
+fn answer_lines<O: Sink, K: Keeper, R: Runner, L: Link>(
     alloc: Global,
     route: &Route,
     session: &mut Session,
     reader: &mut LineReader,
     output: &mut O,
     keeper: &mut K,
+    runner: &mut R,
     link: &mut L,
 ) -> Result<bool, Stop>
     requires { IsKept (K.images keeper.old) route.now.image session.old.client.number session.old.client.log }
-    ensures world { WentDoing route.now.image (AnswersLines route.now session.old (up_to_quit (whole_lines reader.old.bytes)) (O.written output.old) (O.written output.new) result session.new) session.old session.new (K.images keeper.old) (K.images keeper.new) (L.tells link.old) (L.tells link.new) }
+    ensures world { WentDoing route.now.image (AnswersLines route.now session.old (up_to_quit (whole_lines reader.old.bytes)) (O.written output.old) (O.written output.new) result session.new) session.old session.new (K.images keeper.old) (K.images keeper.new) (beside (L.tells link.old) (telling (R.runs runner.old) (R.faults runner.old))) (beside (L.tells link.new) (telling (R.runs runner.new) (R.faults runner.new))) }
     ensures quit { IfOk result (λ quit. quit ≡ has_quit (whole_lines reader.old.bytes)) }
     ensures left { IfOk result (λ quit. quit ≡ false → HasUnfinished reader.old reader.new) }
     ensures kept { IfOk result (λ done. IsKept (K.images keeper.new) route.now.image session.new.client.number session.new.client.log) }
     ensures later { (L.tells link.old).troubles ≤ (L.tells link.new).troubles }
+    ensures runner_later { R.faults runner.old ≤ R.faults runner.new }
     ensures cause { CountsFault Stop.Sink (O.faults output.old) (O.faults output.new) result }
     ensures keeper { CountsFault Stop.Keeper (K.faults keeper.old) (K.faults keeper.new) result }
 {
     while let Some(line) = reader.first_line() {
         let end = line.len() + 1;
-        let quit = answer(alloc, route, session, line, output, keeper, link)?;
+        let quit = answer(alloc, route, session, line, output, keeper, runner, link)?;
         if quit {
             return Ok(true);
         }
@@ -182,20 +188,22 @@ fn answer_lines<O: Sink, K: Keeper, L: Link>(
 }
 
 /// Reads the input piece by piece up to a line that quits, and answers the lines of each piece before it reads on.
-fn answer_input<I: Source, O: Sink, K: Keeper, L: Link>(
+fn answer_input<I: Source, O: Sink, K: Keeper, R: Runner, L: Link>(
     alloc: Global,
     route: &Route,
     session: &mut Session,
     input: &mut I,
     output: &mut O,
     keeper: &mut K,
+    runner: &mut R,
     link: &mut L,
 ) -> Result<InputEnd, Stop>
     requires { IsKept (K.images keeper.old) route.now.image session.old.client.number session.old.client.log }
-    ensures world { WentDoing route.now.image (AnswersInput route.now session.old (I.left input.old) (I.left input.new) (O.written output.old) (O.written output.new) result session.new) session.old session.new (K.images keeper.old) (K.images keeper.new) (L.tells link.old) (L.tells link.new) }
+    ensures world { WentDoing route.now.image (AnswersInput route.now session.old (I.left input.old) (I.left input.new) (O.written output.old) (O.written output.new) result session.new) session.old session.new (K.images keeper.old) (K.images keeper.new) (beside (L.tells link.old) (telling (R.runs runner.old) (R.faults runner.old))) (beside (L.tells link.new) (telling (R.runs runner.new) (R.faults runner.new))) }
     ensures input { TakesInput (I.left input.old) (I.left input.new) result }
     ensures kept { IfOk result (λ done. IsKept (K.images keeper.new) route.now.image session.new.client.number session.new.client.log) }
     ensures later { (L.tells link.old).troubles ≤ (L.tells link.new).troubles }
+    ensures runner_later { R.faults runner.old ≤ R.faults runner.new }
     ensures source { I.faults input.old ≤ I.faults input.new }
     ensures source_cause { result ≡ Ok InputEnd.Failed → Rose (I.faults input.old) (I.faults input.new) }
     ensures cause { CountsFault Stop.Sink (O.faults output.old) (O.faults output.new) result }
@@ -204,19 +212,30 @@ fn answer_input<I: Source, O: Sink, K: Keeper, L: Link>(
     let mut reader = LineReader::new(alloc);
     loop {
         let end = reader.read_piece(input)?;
-        let quit = answer_lines(alloc, route, session, &mut reader, output, keeper, link)?;
+        let quit = answer_lines(
+            alloc,
+            route,
+            session,
+            &mut reader,
+            output,
+            keeper,
+            runner,
+            link,
+        )?;
         if quit {
             return Ok(InputEnd::Read);
         }
         if let Some(end) = end {
-            answer_last(alloc, route, session, &reader, end, output, keeper, link)?;
+            answer_last(
+                alloc, route, session, &reader, end, output, keeper, runner, link,
+            )?;
             return Ok(end);
         }
     }
 }
 
 /// At the end of the input answers the bytes behind its last line end, where there are any.
-fn answer_last<O: Sink, K: Keeper, L: Link>(
+fn answer_last<O: Sink, K: Keeper, R: Runner, L: Link>(
     alloc: Global,
     route: &Route,
     session: &mut Session,
@@ -224,12 +243,14 @@ fn answer_last<O: Sink, K: Keeper, L: Link>(
     end: InputEnd,
     output: &mut O,
     keeper: &mut K,
+    runner: &mut R,
     link: &mut L,
 ) -> Result<(), Stop>
     requires { IsKept (K.images keeper.old) route.now.image session.old.client.number session.old.client.log }
-    ensures world { WentDoing route.now.image (AnswersLines route.now session.old (last_at end reader.now.bytes) (O.written output.old) (O.written output.new) result session.new) session.old session.new (K.images keeper.old) (K.images keeper.new) (L.tells link.old) (L.tells link.new) }
+    ensures world { WentDoing route.now.image (AnswersLines route.now session.old (last_at end reader.now.bytes) (O.written output.old) (O.written output.new) result session.new) session.old session.new (K.images keeper.old) (K.images keeper.new) (beside (L.tells link.old) (telling (R.runs runner.old) (R.faults runner.old))) (beside (L.tells link.new) (telling (R.runs runner.new) (R.faults runner.new))) }
     ensures kept { IfOk result (λ done. IsKept (K.images keeper.new) route.now.image session.new.client.number session.new.client.log) }
     ensures later { (L.tells link.old).troubles ≤ (L.tells link.new).troubles }
+    ensures runner_later { R.faults runner.old ≤ R.faults runner.new }
     ensures cause { CountsFault Stop.Sink (O.faults output.old) (O.faults output.new) result }
     ensures keeper { CountsFault Stop.Keeper (K.faults keeper.old) (K.faults keeper.new) result }
 {
@@ -241,6 +262,7 @@ fn answer_last<O: Sink, K: Keeper, L: Link>(
             reader.bytes(),
             output,
             keeper,
+            runner,
             link,
         ),
         InputEnd::Failed | InputEnd::TooLong => Ok(()),
@@ -248,26 +270,28 @@ fn answer_last<O: Sink, K: Keeper, L: Link>(
 }
 
 /// Answers a line without an end, which is none where it has no bytes.
-fn answer_unfinished<O: Sink, K: Keeper, L: Link>(
+fn answer_unfinished<O: Sink, K: Keeper, R: Runner, L: Link>(
     alloc: Global,
     route: &Route,
     session: &mut Session,
     line: &[u8],
     output: &mut O,
     keeper: &mut K,
+    runner: &mut R,
     link: &mut L,
 ) -> Result<(), Stop>
     requires { IsKept (K.images keeper.old) route.now.image session.old.client.number session.old.client.log }
-    ensures world { WentDoing route.now.image (AnswersLines route.now session.old (last_line line.now) (O.written output.old) (O.written output.new) result session.new) session.old session.new (K.images keeper.old) (K.images keeper.new) (L.tells link.old) (L.tells link.new) }
+    ensures world { WentDoing route.now.image (AnswersLines route.now session.old (last_line line.now) (O.written output.old) (O.written output.new) result session.new) session.old session.new (K.images keeper.old) (K.images keeper.new) (beside (L.tells link.old) (telling (R.runs runner.old) (R.faults runner.old))) (beside (L.tells link.new) (telling (R.runs runner.new) (R.faults runner.new))) }
     ensures kept { IfOk result (λ done. IsKept (K.images keeper.new) route.now.image session.new.client.number session.new.client.log) }
     ensures later { (L.tells link.old).troubles ≤ (L.tells link.new).troubles }
+    ensures runner_later { R.faults runner.old ≤ R.faults runner.new }
     ensures cause { CountsFault Stop.Sink (O.faults output.old) (O.faults output.new) result }
     ensures keeper { CountsFault Stop.Keeper (K.faults keeper.old) (K.faults keeper.new) result }
 {
     if line.is_empty() {
         return Ok(());
     }
-    answer(alloc, route, session, line, output, keeper, link)?;
+    answer(alloc, route, session, line, output, keeper, runner, link)?;
     Ok(())
 }
 
@@ -304,25 +328,27 @@ fn closing(alloc: Global, session: &Session) -> Result<Vec<u8>, AllocError>
 }
 
 /// Answers the input of a client, and closes the output.
-fn run<I: Source, O: Sink, K: Keeper, L: Link>(
+fn run<I: Source, O: Sink, K: Keeper, R: Runner, L: Link>(
     alloc: Global,
     session: &mut Session,
     route: &Route,
     input: &mut I,
     output: &mut O,
     keeper: &mut K,
+    runner: &mut R,
     link: &mut L,
 ) -> Result<InputEnd, Stop>
     requires { IsKept (K.images keeper.old) route.now.image session.old.client.number session.old.client.log }
-    ensures world { WentDoing route.now.image (RunAnswers route.now session.old (I.left input.old) (I.left input.new) (O.written output.old) (O.written output.new) result session.new) session.old session.new (K.images keeper.old) (K.images keeper.new) (L.tells link.old) (L.tells link.new) }
+    ensures world { WentDoing route.now.image (RunAnswers route.now session.old (I.left input.old) (I.left input.new) (O.written output.old) (O.written output.new) result session.new) session.old session.new (K.images keeper.old) (K.images keeper.new) (beside (L.tells link.old) (telling (R.runs runner.old) (R.faults runner.old))) (beside (L.tells link.new) (telling (R.runs runner.new) (R.faults runner.new))) }
     ensures input { TakesInput (I.left input.old) (I.left input.new) result }
     ensures later { (L.tells link.old).troubles ≤ (L.tells link.new).troubles }
+    ensures runner_later { R.faults runner.old ≤ R.faults runner.new }
     ensures source_later { I.faults input.old ≤ I.faults input.new }
     ensures source { result ≡ Ok InputEnd.Failed → Rose (I.faults input.old) (I.faults input.new) }
     ensures sink { CountsFault Stop.Sink (O.faults output.old) (O.faults output.new) result }
     ensures keeper { CountsFault Stop.Keeper (K.faults keeper.old) (K.faults keeper.new) result }
 {
-    let end = answer_input(alloc, route, session, input, output, keeper, link)?;
+    let end = answer_input(alloc, route, session, input, output, keeper, runner, link)?;
     close(alloc, session, end, output)?;
     Ok(end)
 }
@@ -352,7 +378,8 @@ fn route_of(alloc: Global, words: &RunWords<'_>) -> Result<Route, AllocError>
 }
 
 /// Runs the client on its words: opens what is kept of it, reads lines, answers each before it reads on, and ships what they
-/// log to the server. The client is kept after each change, before the line is answered and before more is asked.
+/// log to the server. The client is kept after each change, before the line is answered and before more is asked. Its commands
+/// are run by the runner, in the work folder of the words.
 /// The status that it gives:
 ///
 /// - 0: every line was answered, up to the first that quits where one does, and the output ends with
@@ -364,31 +391,33 @@ fn route_of(alloc: Global, words: &RunWords<'_>) -> Result<Route, AllocError>
 /// - 6: what is kept is no client's image, or another client's, and nothing was touched;
 /// - 7: memory ran out;
 /// - 8: the input has more than 16,777,216 bytes; the whole lines within them were answered, and none of them quits.
-pub fn client_run<I: Source, O: Sink, K: Keeper, L: Link>(
+pub fn client_run<I: Source, O: Sink, K: Keeper, R: Runner, L: Link>(
     alloc: Global,
     words: &[String],
     input: &mut I,
     output: &mut O,
     keeper: &mut K,
+    runner: &mut R,
     link: &mut L,
 ) -> u8
     ensures form { result ≡ 2 ↔ run_of (map string_bytes words.now) ≡ None }
     ensures known { IsTrue (is_status result) }
-    ensures untouched { run_of (map string_bytes words.now) ≡ None → (I.left input.new ≡ I.left input.old) × (I.faults input.new ≡ I.faults input.old) × (O.written output.new ≡ O.written output.old) × (O.faults output.new ≡ O.faults output.old) × (K.images keeper.new ≡ K.images keeper.old) × (K.faults keeper.new ≡ K.faults keeper.old) × (L.tells link.new ≡ L.tells link.old) }
+    ensures untouched { run_of (map string_bytes words.now) ≡ None → (I.left input.new ≡ I.left input.old) × (I.faults input.new ≡ I.faults input.old) × (O.written output.new ≡ O.written output.old) × (O.faults output.new ≡ O.faults output.old) × (K.images keeper.new ≡ K.images keeper.old) × (K.faults keeper.new ≡ K.faults keeper.old) × (R.runs runner.new ≡ R.runs runner.old) × (R.faults runner.new ≡ R.faults runner.old) × (L.tells link.new ≡ L.tells link.old) }
     // what is kept of no such client is left as it is, and nothing else is touched
-    ensures unopened { result ≡ 6 → (I.left input.new ≡ I.left input.old) × (I.faults input.new ≡ I.faults input.old) × (O.written output.new ≡ O.written output.old) × (O.faults output.new ≡ O.faults output.old) × (K.images keeper.new ≡ K.images keeper.old) × (L.tells link.new ≡ L.tells link.old) }
+    ensures unopened { result ≡ 6 → (I.left input.new ≡ I.left input.old) × (I.faults input.new ≡ I.faults input.old) × (O.written output.new ≡ O.written output.old) × (O.faults output.new ≡ O.faults output.old) × (K.images keeper.new ≡ K.images keeper.old) × (R.runs runner.new ≡ R.runs runner.old) × (R.faults runner.new ≡ R.faults runner.old) × (L.tells link.new ≡ L.tells link.old) }
     ensures image { IfSome (run_of (map string_bytes words.now)) (λ run. result ≡ 6 → (start : Log) → TellsKept (K.images keeper.old) run.image run.client start → ⊥) }
     ensures no_image { IfSome (run_of (map string_bytes words.now)) (λ run. IsKeptOfNone (K.images keeper.old) run.image run.client → (result ≡ 5) ⊎ (result ≡ 6) ⊎ (result ≡ 7)) }
     // no count of faults or troubles falls
     ensures source_later { I.faults input.old ≤ I.faults input.new }
     ensures later { (L.tells link.old).troubles ≤ (L.tells link.new).troubles }
+    ensures runner_later { R.faults runner.old ≤ R.faults runner.new }
     ensures source { result ≡ 3 → Rose (I.faults input.old) (I.faults input.new) }
     // the sink failed once where it stopped the run, and else never; and so did the keeper
     ensures sink { RisesWhere (result ≡ 4) (O.faults output.old) (O.faults output.new) }
     ensures keeper { RisesWhere (result ≡ 5) (K.faults keeper.old) (K.faults keeper.new) }
     ensures input { Told (I.left input.old) (I.left input.new) (IsRead result) }
     ensures complete { IfSome (run_of (map string_bytes words.now)) (λ run. IfSome (I.left input.old) (λ bytes. (start : Log) → TellsKept (K.images keeper.old) run.image run.client start → length bytes ≤ MAX_INPUT → (Rose (I.faults input.old) (I.faults input.new) → ⊥) → (Rose (O.faults output.old) (O.faults output.new) → ⊥) → (Rose (K.faults keeper.old) (K.faults keeper.new) → ⊥) → (result ≡ 0) ⊎ (result ≡ 7))) }
-    ensures session { IfSome (run_of (map string_bytes words.now)) (λ run. (start : Log) → TellsKept (K.images keeper.old) run.image run.client start → ToldWorlds (L.tells link.old) (L.tells link.new) (Ran run.client (route_of run) start (record { left = I.left input.old; written = O.written output.old; images = K.images keeper.old; troubles = (L.tells link.old).troubles }) (record { left = I.left input.new; written = O.written output.new; images = K.images keeper.new; troubles = (L.tells link.new).troubles }) result)) }
+    ensures session { IfSome (run_of (map string_bytes words.now)) (λ run. (start : Log) → TellsKept (K.images keeper.old) run.image run.client start → ToldWorlds (L.tells link.old) (L.tells link.new) (Ran run.client (route_of run) start (record { left = I.left input.old; written = O.written output.old; images = K.images keeper.old; runner = telling (R.runs runner.old) (R.faults runner.old); troubles = (L.tells link.old).troubles }) (record { left = I.left input.new; written = O.written output.new; images = K.images keeper.new; runner = telling (R.runs runner.new) (R.faults runner.new); troubles = (L.tells link.new).troubles }) result)) }
 {
     let Some(words) = run_words(words) else {
         return 2;
@@ -400,7 +429,16 @@ pub fn client_run<I: Source, O: Sink, K: Keeper, L: Link>(
     match open(alloc, words.client, route.image.bytes(), keeper) {
         Ok(client) => {
             let mut session = Session::new(alloc, client);
-            let ended = run(alloc, &mut session, &route, input, output, keeper, link);
+            let ended = run(
+                alloc,
+                &mut session,
+                &route,
+                input,
+                output,
+                keeper,
+                runner,
+                link,
+            );
             drop(session);
             drop(route);
             status_of(ended)

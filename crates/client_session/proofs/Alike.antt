@@ -1,6 +1,7 @@
--- The lines and the asks of a session make all of it.
-use Rattle.std.proofs.Common.{◌≡◌, ◌≢◌, ◌⊎◌, inl, inr, ℕ, zero, suc, ◌<◌, ◌≤◌, List, [], ◌∷◌, ◌++◌, length, Option, None, Some, Result, Ok, Err, refl, sym, ◌∙◌, ap, subst, arith, append_assoc}
+-- The lines, the asks and the runs of a session make all of it.
+use Rattle.std.proofs.Common.{◌≡◌, ◌≢◌, ◌⊎◌, inl, inr, ℕ, zero, suc, ◌<◌, ◌≤◌, Bool, true, false, nat_lt, List, [], ◌∷◌, ◌++◌, length, map, find, Option, None, Some, Result, Ok, Err, refl, sym, ◌∙◌, ap, subst, arith, append_assoc}
 use Rattle.std.proofs.lemmas.List.{append-nil}
+use Rattle.std.proofs.lemmas.Bool.Decides.{nat_tests}
 use Rattle.std.specs.declared.cmp.Ordering.{Ordering}
 use Rattle.std.specs.declared.cmp.Ordering.TheVariants.{Less, Equal, Greater}
 use Rattle.std.specs.Ordering.{ordering_reverse}
@@ -9,9 +10,21 @@ use Rattle.file_paths.specs.declared.path.PathError.{PathError}
 use Rattle.file_paths.proofs.Order.{paths_total, same_path}
 use Rattle.tree_values.specs.Tree.{Volume, version_at}
 use Rattle.tree_values.specs.declared.node.Effect.{Effect}
+use Rattle.cmd_capture.specs.declared.command.Command.{Command}
+use Rattle.cmd_capture.specs.declared.job.Job.{Job}
+use Rattle.cmd_capture.specs.declared.job.RawRow.{RawRow}
+use Rattle.cmd_capture.specs.declared.runner.Run.{Run}
+use Rattle.cmd_capture.specs.declared.capturing.CaptureError.{CaptureError}
+use Rattle.cmd_capture.specs.Capture.{capture}
+use Rattle.cmd_capture.specs.Rows.{AreLegal, IsFirstOdd}
+use Rattle.work_area.specs.declared.jobs.JobError.{JobError}
+use Rattle.work_area.specs.declared.rows.RowsFault.TheVariants as rows_faults
+use Rattle.work_area.specs.Jobs.{job_of}
+use Rattle.work_area.specs.Changes.{clashes, first_path}
+use Rattle.work_area.specs.Outcomes.{IsRowsFault}
 use Rattle.mod_log.specs.declared.log.Entry.{Entry}
 use Rattle.mod_log.specs.declared.log.LogError.{LogError}
-use Rattle.mod_log.specs.Log.{Log, pulled}
+use Rattle.mod_log.specs.Log.{Log, tree_of, pulled}
 use Rattle.wire_frames.specs.declared.message.Message.{Message}
 use Rattle.wire_frames.specs.declared.message.Message.TheVariants.{Snapshot}
 use Rattle.world_rules.specs.declared.asking.Peer.TheVariants.{Server}
@@ -21,17 +34,22 @@ use Rattle.client_core.specs.declared.route.Route.{Route}
 use Rattle.client_core.specs.declared.syncing.SyncEnd.{SyncEnd}
 use Rattle.client_core.specs.declared.pulling.PullEnd.{PullEnd}
 use Rattle.client_core.specs.declared.pulling.PullEnd.TheVariants.{Pulled, Pending, OtherLast, Older, Unanswered, KeepFault, Memory}
-use Rattle.client_core.specs.Trace.{Trace, nothing, followed, asking, changing, logging}
+use Rattle.client_core.specs.declared.running.RunEnd.{RunEnd}
+use Rattle.client_core.specs.declared.running.RunEnd.TheVariants as runs
+use Rattle.client_core.specs.Trace.{Trace, nothing, followed, asking, changing, logging, running}
+use Rattle.client_core.specs.Running.{IsRunOf, changes_of, first_clash, RanEnd, ran_trace, RunTurn}
 use Rattle.client_core.specs.Logging.{local_entry, LocalTurn}
 use Rattle.client_core.specs.Syncing.{store_of, IsFirst, acknowledged_first, end_by, EntryTurn, Acknowledges, EndsSync, SyncTurn}
 use Rattle.client_core.specs.Pulling.{pull_of, IsFirstOlder, Meets, pull_change, PullsSnapshot, PullTurn}
 use Rattle.client_core.proofs.Going.{followed-nothing, followed-assoc}
+use Rattle.client_core.proofs.Runs.{ran_alone}
 use Rattle.shell_lang.specs.declared.line.Line.{Line}
 use Rattle.shell_lang.specs.declared.line.Line.TheVariants as lines
 use Rattle.shell_lang.specs.declared.line.LineError.{LineError}
 use Rattle.shell_lang.specs.declared.answer.Answer.{Answer}
-use Rattle.client_session.specs.Session.{SessionState, with_log, put_effect, make_effect, remove_effect, move_effect, sync_answer, pull_answer, local_answer, LogTurn, LineTurn, Chain}
-use Rattle.client_session.specs.Laws.{AsksMakeSessions}
+use Rattle.client_session.specs.Session.{SessionState, with_log, put_effect, make_effect, remove_effect, move_effect, sync_answer, pull_answer, local_answer, run_answer, is_unrun, LogTurn, CommandTurn, LineTurn, Chain}
+use Rattle.client_session.specs.Laws.{AsksAndRunsMakeSessions}
+use Rattle.client_session.proofs.Counted.{local_other}
 use Rattle.client_session.proofs.Settlings.{same_settling}
 
 -- ---- the turn of an entry
@@ -236,74 +254,264 @@ module _ (client : ℕ) (route : Route) (before : Log) where
         same.2,
       )
 
+-- ---- a run
+
+-- the run with this index is the first odd one
+first_odd : (raws : List RawRow) (m n : ℕ) → IsFirstOdd raws m → IsFirstOdd raws n → m ≡ n
+first_odd raws m n p q = by (nat_lt m n) (nat_lt n m) refl refl
+  where
+    by : (less more : Bool) → nat_lt m n ≡ less → nat_lt n m ≡ more → m ≡ n
+    by true more less_is more_is = absurd (cc (sym p.odd ∙ q.first m (grind (arith, nat_tests))))
+    by false true less_is more_is = absurd (cc (sym q.odd ∙ p.first n (grind (arith, nat_tests))))
+    by false false less_is more_is = grind (arith, nat_tests)
+
+same_odd : (raws : List RawRow) (i j : ℕ) → IsRowsFault raws (rows_faults.OddTree i) → IsRowsFault raws (rows_faults.OddTree j) → i ≡ j
+same_odd raws i j p q = let one : p.0 ≡ q.0 = first_odd raws p.0 q.0 p.2 q.2 in cc (p.1, q.1, one)
+
+odd_or_legal : (raws : List RawRow) (i : ℕ) → IsRowsFault raws (rows_faults.OddTree i) → AreLegal raws → ⊥
+odd_or_legal raws i odd legal = absurd (cc (sym odd.2.odd ∙ legal odd.0 odd.2.within))
+
+none_clash : (before : Log) (run : Run) (effect : Effect) → changes_of run ≡ [] → first_clash before run ≡ Some effect → ⊥
+none_clash before run effect none is = absurd (cc (sym (ap (find (clashes (tree_of before) run.job.rows)) none) ∙ is))
+
+-- what is made of a run is told by the run
+same_ran : (command : Command) (before : Log) (run : Run) (d e : RunEnd) (a b : Log) → RanEnd command before run d a → RanEnd command before run e b → (d ≡ e) × (a ≡ b)
+same_ran command before run (runs.OddTree i) (runs.OddTree j) a b p q =
+    (ap runs.OddTree (same_odd run.outcome.rows i j p.0 q.0), p.1 ∙ sym q.1)
+same_ran command before run (runs.OddTree i) (runs.Nothing s) a b p q = absurd (odd_or_legal run.outcome.rows i p.0 q.0)
+same_ran command before run (runs.OddTree i) (runs.Clash path) a b p q = absurd (odd_or_legal run.outcome.rows i p.0 q.0)
+same_ran command before run (runs.OddTree i) (runs.Refused f) a b p q = absurd (odd_or_legal run.outcome.rows i p.0 q.0.legal)
+same_ran command before run (runs.OddTree i) (runs.Logged n s) a b p q = absurd (odd_or_legal run.outcome.rows i p.0 q.0.legal)
+same_ran command before run (runs.Nothing s) (runs.OddTree j) a b p q = absurd (odd_or_legal run.outcome.rows j q.0 p.0)
+same_ran command before run (runs.Nothing s) (runs.Nothing t) a b p q = (ap runs.Nothing (p.2 ∙ sym q.2), p.3 ∙ sym q.3)
+same_ran command before run (runs.Nothing s) (runs.Clash path) a b p q = absurd (none_clash before run q.1.0 p.1 q.1.1)
+same_ran command before run (runs.Nothing s) (runs.Refused f) a b p q = absurd (q.0.some p.1)
+same_ran command before run (runs.Nothing s) (runs.Logged n t) a b p q = absurd (q.0.some p.1)
+same_ran command before run (runs.Clash path) (runs.OddTree j) a b p q = absurd (odd_or_legal run.outcome.rows j q.0 p.0)
+same_ran command before run (runs.Clash path) (runs.Nothing t) a b p q = absurd (none_clash before run p.1.0 q.1 p.1.1)
+same_ran command before run (runs.Clash path) (runs.Clash other) a b p q =
+    let one : p.1.0 ≡ q.1.0 = cc (sym p.1.1 ∙ q.1.1) in
+    (ap runs.Clash (p.1.2 ∙ ap first_path one ∙ sym q.1.2), p.2 ∙ sym q.2)
+same_ran command before run (runs.Clash path) (runs.Refused f) a b p q = absurd (cc (sym p.1.1 ∙ q.0.clear))
+same_ran command before run (runs.Clash path) (runs.Logged n t) a b p q = absurd (cc (sym p.1.1 ∙ q.0.clear))
+same_ran command before run (runs.Refused f) (runs.OddTree j) a b p q = absurd (odd_or_legal run.outcome.rows j q.0 p.0.legal)
+same_ran command before run (runs.Refused f) (runs.Nothing t) a b p q = absurd (p.0.some q.1)
+same_ran command before run (runs.Refused f) (runs.Clash other) a b p q = absurd (cc (sym q.1.1 ∙ p.0.clear))
+same_ran command before run (runs.Refused f) (runs.Refused g) a b p q = let one : f ≡ g = cc (sym p.1 ∙ q.1) in (ap runs.Refused one, p.2 ∙ sym q.2)
+same_ran command before run (runs.Refused f) (runs.Logged n t) a b p q = absurd (cc (sym p.1 ∙ q.1))
+same_ran command before run (runs.Logged n s) (runs.OddTree j) a b p q = absurd (odd_or_legal run.outcome.rows j q.0 p.0.legal)
+same_ran command before run (runs.Logged n s) (runs.Nothing t) a b p q = absurd (p.0.some q.1)
+same_ran command before run (runs.Logged n s) (runs.Clash other) a b p q = absurd (cc (sym q.1.1 ∙ p.0.clear))
+same_ran command before run (runs.Logged n s) (runs.Refused g) a b p q = absurd (cc (sym p.1 ∙ q.1))
+same_ran command before run (runs.Logged n s) (runs.Logged m t) a b p q =
+    let log : a ≡ b = cc (sym p.1 ∙ q.1) in
+    (ap (λ (k : ℕ). runs.Logged k s) (p.2 ∙ sym q.2) ∙ ap (runs.Logged m) (p.3 ∙ sym q.3), log)
+same_ran command before run (runs.NoJob f) e a b p q = absurd p
+same_ran command before run runs.NotRun e a b p q = absurd p
+same_ran command before run runs.Memory e a b p q = absurd p
+same_ran command before run d (runs.NoJob f) a b p q = absurd q
+same_ran command before run d runs.NotRun a b p q = absurd q
+same_ran command before run d runs.Memory a b p q = absurd q
+
+-- it is never told as `not run`
+ran_other : (command : Command) (before : Log) (run : Run) (end : RunEnd) (after : Log) → RanEnd command before run end after → is_unrun (run_answer end) ≡ false
+ran_other command before run (runs.OddTree i) after ran = refl
+ran_other command before run (runs.Nothing s) after ran = refl
+ran_other command before run (runs.Clash path) after ran = refl
+ran_other command before run (runs.Refused f) after ran = local_other (Err f)
+ran_other command before run (runs.Logged n s) after ran = refl
+ran_other command before run (runs.NoJob f) after ran = absurd ran
+ran_other command before run runs.NotRun after ran = absurd ran
+ran_other command before run runs.Memory after ran = absurd ran
+
+ran_asks : (command : Command) (before : Log) (run : Run) (end : RunEnd) (after : Log) → (ran_trace command before run end after).asks ≡ []
+ran_asks command before run (runs.Logged n s) after = refl
+ran_asks command before run (runs.OddTree i) after = refl
+ran_asks command before run (runs.Nothing s) after = refl
+ran_asks command before run (runs.Clash path) after = refl
+ran_asks command before run (runs.Refused f) after = refl
+ran_asks command before run (runs.NoJob f) after = refl
+ran_asks command before run runs.NotRun after = refl
+ran_asks command before run runs.Memory after = refl
+
+-- how a command goes: it has no job, or is not run, or is run
+abbrev HasNoJob : Command → Log → RunEnd → Log → Trace → Type 0
+HasNoJob command before end after trace = (fault : JobError) × (job_of (tree_of before) command ≡ Err fault) × (end ≡ runs.NoJob fault) × (after ≡ before) × (trace ≡ nothing)
+
+abbrev IsNotRun : Command → Log → RunEnd → Log → Trace → Type 0
+IsNotRun command before end after trace = (job : Job) × (job_of (tree_of before) command ≡ Ok job) × (end ≡ runs.NotRun) × (after ≡ before) × (trace ≡ running [] 1)
+
+abbrev IsRun : List ℕ → Command → Log → RunEnd → Log → Trace → Type 0
+IsRun work command before end after trace = (run : Run) × IsRunOf work command before run × RanEnd command before run end after × (trace ≡ ran_trace command before run end after)
+
+run_kind : (work : List ℕ) (command : Command) (before : Log) (end : RunEnd) (after : Log) (trace : Trace) → RunTurn work command before end after trace
+    → HasNoJob command before end after trace ⊎ IsNotRun command before end after trace ⊎ IsRun work command before end after trace
+run_kind work command before (runs.NoJob f) after trace turn = inl (f, turn.0, refl, turn.1, turn.2)
+run_kind work command before runs.NotRun after trace turn = inr (inl (turn.0.0, turn.0.1, refl, turn.1, turn.2))
+run_kind work command before (runs.Logged n s) after trace turn = inr (inr turn)
+run_kind work command before (runs.OddTree i) after trace turn = inr (inr turn)
+run_kind work command before (runs.Nothing s) after trace turn = inr (inr turn)
+run_kind work command before (runs.Clash path) after trace turn = inr (inr turn)
+run_kind work command before (runs.Refused f) after trace turn = inr (inr turn)
+run_kind work command before runs.Memory after trace turn = inr (inr turn)
+
+abbrev first_run : Run → List Run → Run
+first_run other [] = other
+first_run other (run ∷ more) = run
+
+abbrev all_but_first : List Run → List Run
+all_but_first [] = []
+all_but_first (run ∷ more) = more
+
 -- ---- a line
 
-abbrev Same : Option Answer → Option Answer → SessionState → SessionState → Trace → Trace → List Ask → List Ask → Type 0
-Same x y a b p q m n = (x ≡ y) × (a ≡ b) × (p ≡ q) × (m ≡ n)
+-- the same answer, state and trace, and the same asks and runs behind it
+abbrev Same : Option Answer → Option Answer → SessionState → SessionState → Trace → Trace → List Ask → List Ask → List Run → List Run → Type 0
+Same x y a b p q m n g h = (x ≡ y) × (a ≡ b) × (p ≡ q) × (m ≡ n) × (g ≡ h)
 
-module _ (before a b : SessionState) (x y : Option Answer) (p q : Trace) (m n : List Ask) (is : p.asks ++ m ≡ q.asks ++ n) where
-  -- lines that ask nothing
-  quiet : (told : Option Answer) (s : SessionState) (t : Trace) → t.asks ≡ [] → x ≡ told → a ≡ s → p ≡ t → y ≡ told → b ≡ s → q ≡ t → Same x y a b p q m n
-  quiet told s t none xs ks ps ys bs qs =
-      let left : p.asks ≡ [] = ap (λ (r : Trace). r.asks) ps ∙ none in
-      let right : q.asks ≡ [] = ap (λ (r : Trace). r.asks) qs ∙ none in
-      (xs ∙ sym ys, ks ∙ sym bs, ps ∙ sym qs, sym (ap (λ (l : List Ask). l ++ m) left) ∙ is ∙ ap (λ (l : List Ask). l ++ n) right)
+module _ (before a b : SessionState) (x y : Option Answer) (p q : Trace) (m n : List Ask) (g h : List Run) (is : p.asks ++ m ≡ q.asks ++ n) (ran : p.runs ++ g ≡ q.runs ++ h) where
+  -- of lines with these runs
+  behind_runs : (rs : List Run) → p.runs ≡ rs → q.runs ≡ rs → g ≡ h
+  behind_runs rs left right = same_behind rs (sym (ap (λ (l : List Run). l ++ g) left) ∙ ran ∙ ap (λ (l : List Run). l ++ h) right)
+    where
+      same_behind : (rs : List Run) → rs ++ g ≡ rs ++ h → g ≡ h
+      same_behind [] same = same
+      same_behind (r ∷ rs) same = same_behind rs (ap all_but_first same)
+
+  behind_asks : p.asks ≡ [] → q.asks ≡ [] → m ≡ n
+  behind_asks left right = sym (ap (λ (l : List Ask). l ++ m) left) ∙ is ∙ ap (λ (l : List Ask). l ++ n) right
+
+  -- lines that ask nothing and run nothing
+  quiet : (told : Option Answer) (s : SessionState) (t : Trace) → t.asks ≡ [] → t.runs ≡ [] → x ≡ told → a ≡ s → p ≡ t → y ≡ told → b ≡ s → q ≡ t → Same x y a b p q m n g h
+  quiet told s t none still xs ks ps ys bs qs = (
+    xs ∙ sym ys,
+    ks ∙ sym bs,
+    ps ∙ sym qs,
+    behind_asks (ap (λ (r : Trace). r.asks) ps ∙ none) (ap (λ (r : Trace). r.asks) qs ∙ none),
+    behind_runs [] (ap (λ (r : Trace). r.runs) ps ∙ still) (ap (λ (r : Trace). r.runs) qs ∙ still),
+  )
 
   same_local : (effect : Effect) (r s : Result ℕ LogError) → LocalTurn effect before.client.log r a.client.log p → LocalTurn effect before.client.log s b.client.log q → a ≡ with_log before a.client.log → b ≡ with_log before b.client.log
-      → x ≡ local_answer r → y ≡ local_answer s → Same x y a b p q m n
+      → x ≡ local_answer r → y ≡ local_answer s → Same x y a b p q m n g h
   same_local effect (Ok i) (Ok j) t u ks bs xs ys =
       let log : b.client.log ≡ a.client.log = cc (sym u.0 ∙ t.0) in
-      quiet (local_answer (Ok i)) (with_log before a.client.log) (logging (local_entry effect before.client.log) a.client.log) refl xs ks t.2
+      quiet (local_answer (Ok i)) (with_log before a.client.log) (logging (local_entry effect before.client.log) a.client.log) refl refl xs ks t.2
       (ys ∙ ap (λ (k : ℕ). local_answer (Ok k)) (u.1 ∙ sym t.1)) (bs ∙ ap (with_log before) log) (u.2 ∙ ap (logging (local_entry effect before.client.log)) log)
   same_local effect (Ok i) (Err f) t u ks bs xs ys = absurd (cc (sym t.0 ∙ u.0))
   same_local effect (Err e) (Ok j) t u ks bs xs ys = absurd (cc (sym t.0 ∙ u.0))
   same_local effect (Err e) (Err f) t u ks bs xs ys =
       let one : f ≡ e = cc (sym u.0 ∙ t.0) in
-      quiet (local_answer (Err e)) (with_log before before.client.log) nothing refl xs (ks ∙ ap (with_log before) t.1) t.2 (ys ∙ ap (λ (c : LogError). local_answer (Err c)) one) (bs ∙ ap (with_log before) u.1) u.2
+      quiet (local_answer (Err e)) (with_log before before.client.log) nothing refl refl xs (ks ∙ ap (with_log before) t.1) t.2 (ys ∙ ap (λ (c : LogError). local_answer (Err c)) one) (bs ∙ ap (with_log before) u.1) u.2
 
-  same_log : (named : Result Effect PathError) → LogTurn named before x a p → LogTurn named before y b q → Same x y a b p q m n
+  same_log : (named : Result Effect PathError) → LogTurn named before x a p → LogTurn named before y b q → Same x y a b p q m n g h
   same_log (Ok effect) t u = same_local effect t.0 u.0 t.1 u.1 t.2 u.2 t.3 u.3
-  same_log (Err refusal) t u = quiet _ before nothing refl t.0 t.1 t.2 u.0 u.1 u.2
+  same_log (Err refusal) t u = quiet _ before nothing refl refl t.0 t.1 t.2 u.0 u.1 u.2
 
-  same_line : (route : Route) (line : Result Line LineError) → LineTurn route before line x a p → LineTurn route before line y b q → Same x y a b p q m n
-  same_line route (Err refusal) t u = quiet _ before nothing refl t.0 t.1 t.2 u.0 u.1 u.2
-  same_line route (Ok lines.Empty) t u = quiet None before nothing refl t.0 t.1 t.2 u.0 u.1 u.2
-  same_line route (Ok (lines.Put word text)) t u = same_log (put_effect before.folder word text) t u
-  same_line route (Ok (lines.Make word)) t u = same_log (make_effect before.folder word) t u
-  same_line route (Ok (lines.Remove word)) t u = same_log (remove_effect before.folder word) t u
-  same_line route (Ok (lines.Move from to)) t u = same_log (move_effect before.folder from to) t u
-  same_line route (Ok (lines.Cat word)) t u = quiet _ before nothing refl t.0 t.1 t.2 u.0 u.1 u.2
-  same_line route (Ok (lines.List word)) t u = quiet _ before nothing refl t.0 t.1 t.2 u.0 u.1 u.2
-  same_line route (Ok (lines.Enter word)) t u = quiet _ _ nothing refl t.0 t.1 t.2 u.0 u.1 u.2
-  same_line route (Ok lines.Status) t u = quiet _ before nothing refl t.0 t.1 t.2 u.0 u.1 u.2
-  same_line route (Ok lines.Quit) t u = quiet None before nothing refl t.0 t.1 t.2 u.0 u.1 u.2
-  same_line route (Ok lines.Sync) t u =
+  -- lines of one trace
+  same_behind : p ≡ q → g ≡ h
+  same_behind same = behind_runs q.runs (ap (λ (r : Trace). r.runs) same) refl
+
+  -- lines that run a command, of which none or both were not run
+  module _ (work : List ℕ) (command : Command) (one : is_unrun x ≡ is_unrun y) (d e : RunEnd) (shown : x ≡ run_answer d) (told : y ≡ run_answer e) (left : a ≡ with_log before a.client.log) (right : b ≡ with_log before b.client.log) where
+    same_ending : d ≡ e → a.client.log ≡ b.client.log → p ≡ q → p.asks ≡ [] → Same x y a b p q m n g h
+    same_ending ends logs traces none = (
+      shown ∙ ap run_answer ends ∙ sym told,
+      left ∙ ap (with_log before) logs ∙ sym right,
+      traces,
+      behind_asks none (sym (ap (λ (r : Trace). r.asks) traces) ∙ none),
+      same_behind traces,
+    )
+
+    one_ran : (run : Run) → d ≡ runs.NotRun → RanEnd command before.client.log run e b.client.log → ⊥
+    one_ran run unrun end = absurd (cc (sym (ap is_unrun (shown ∙ ap run_answer unrun)) ∙ one ∙ ap is_unrun told ∙ ran_other command before.client.log run e b.client.log end))
+
+    other_ran : (run : Run) → e ≡ runs.NotRun → RanEnd command before.client.log run d a.client.log → ⊥
+    other_ran run unrun end = absurd (cc (sym (ap is_unrun (told ∙ ap run_answer unrun)) ∙ sym one ∙ ap is_unrun shown ∙ ran_other command before.client.log run d a.client.log end))
+
+    same_run : HasNoJob command before.client.log d a.client.log p ⊎ IsNotRun command before.client.log d a.client.log p ⊎ IsRun work command before.client.log d a.client.log p
+        → HasNoJob command before.client.log e b.client.log q ⊎ IsNotRun command before.client.log e b.client.log q ⊎ IsRun work command before.client.log e b.client.log q → Same x y a b p q m n g h
+    same_run (inl t) (inl u) = let fault : t.0 ≡ u.0 = cc (sym t.1 ∙ u.1) in same_ending (t.2 ∙ ap runs.NoJob fault ∙ sym u.2) (t.3 ∙ sym u.3) (t.4 ∙ sym u.4) (ap (λ (r : Trace). r.asks) t.4)
+    same_run (inl t) (inr (inl u)) = absurd (cc (sym t.1 ∙ u.1))
+    same_run (inl t) (inr (inr u)) = absurd (cc (sym t.1 ∙ u.1.job_is))
+    same_run (inr (inl t)) (inl u) = absurd (cc (sym t.1 ∙ u.1))
+    same_run (inr (inr t)) (inl u) = absurd (cc (sym u.1 ∙ t.1.job_is))
+    same_run (inr (inl t)) (inr (inl u)) = same_ending (t.2 ∙ sym u.2) (t.3 ∙ sym u.3) (t.4 ∙ sym u.4) (ap (λ (r : Trace). r.asks) t.4)
+    same_run (inr (inl t)) (inr (inr u)) = absurd (one_ran u.0 t.2 u.2)
+    same_run (inr (inr t)) (inr (inl u)) = absurd (other_ran t.0 u.2 t.2)
+    same_run (inr (inr t)) (inr (inr u)) =
+        let log = before.client.log in
+        let first : t.0 ∷ g ≡ u.0 ∷ h =
+        sym (ap (λ (l : List Run). l ++ g) (ap (λ (r : Trace). r.runs) t.3 ∙ ran_alone command log t.0 d a.client.log)) ∙ ran ∙ ap (λ (l : List Run). l ++ h) (ap (λ (r : Trace). r.runs) u.3 ∙ ran_alone command log u.0 e b.client.log) in
+        let run : t.0 ≡ u.0 = ap (first_run t.0) first in
+        let ends = same_ran command log u.0 d e a.client.log b.client.log (subst (λ (r : Run). RanEnd command log r d a.client.log) run t.2) u.2 in
+        let traces : p ≡ q = t.3 ∙ ap (λ (r : Run). ran_trace command log r d a.client.log) run ∙ ap (λ (f : RunEnd). ran_trace command log u.0 f a.client.log) ends.0 ∙ ap (ran_trace command log u.0 e) ends.1 ∙ sym u.3 in
+        same_ending ends.0 ends.1 traces (ap (λ (r : Trace). r.asks) t.3 ∙ ran_asks command log t.0 d a.client.log)
+
+  same_command : (route : Route) (made : Result Command CaptureError) → is_unrun x ≡ is_unrun y → CommandTurn route made before x a p → CommandTurn route made before y b q → Same x y a b p q m n g h
+  same_command route (Ok command) one t u =
+      same_run route.work command one t.0 u.0 t.3 u.3 t.2 u.2 (run_kind route.work command before.client.log t.0 a.client.log p t.1) (run_kind route.work command before.client.log u.0 b.client.log q u.1)
+  same_command route (Err refusal) one t u = quiet _ before nothing refl refl t.0 t.1 t.2 u.0 u.1 u.2
+
+  same_line : (route : Route) (line : Result Line LineError) → is_unrun x ≡ is_unrun y → LineTurn route before line x a p → LineTurn route before line y b q → Same x y a b p q m n g h
+  same_line route (Err refusal) one t u = quiet _ before nothing refl refl t.0 t.1 t.2 u.0 u.1 u.2
+  same_line route (Ok lines.Empty) one t u = quiet None before nothing refl refl t.0 t.1 t.2 u.0 u.1 u.2
+  same_line route (Ok (lines.Put word text)) one t u = same_log (put_effect before.folder word text) t u
+  same_line route (Ok (lines.Make word)) one t u = same_log (make_effect before.folder word) t u
+  same_line route (Ok (lines.Remove word)) one t u = same_log (remove_effect before.folder word) t u
+  same_line route (Ok (lines.Move from to)) one t u = same_log (move_effect before.folder from to) t u
+  same_line route (Ok (lines.Cat word)) one t u = quiet _ before nothing refl refl t.0 t.1 t.2 u.0 u.1 u.2
+  same_line route (Ok (lines.List word)) one t u = quiet _ before nothing refl refl t.0 t.1 t.2 u.0 u.1 u.2
+  same_line route (Ok (lines.Enter word)) one t u = quiet _ _ nothing refl refl t.0 t.1 t.2 u.0 u.1 u.2
+  same_line route (Ok (lines.Run words)) one t u = same_command route (capture words before.folder) one t u
+  same_line route (Ok lines.Status) one t u = quiet _ before nothing refl refl t.0 t.1 t.2 u.0 u.1 u.2
+  same_line route (Ok lines.Quit) one t u = quiet None before nothing refl refl t.0 t.1 t.2 u.0 u.1 u.2
+  same_line route (Ok lines.Sync) one t u =
       let same = same_sync_turn before.client.number route before.client.log a.client.log b.client.log t.0 u.0 p q m n t.1 u.1 is in
-      (t.3 ∙ ap sync_answer same.0 ∙ sym u.3, t.2 ∙ ap (with_log before) same.1 ∙ sym u.2, same.2, same.3)
-  same_line route (Ok lines.Pull) t u =
+      (t.3 ∙ ap sync_answer same.0 ∙ sym u.3, t.2 ∙ ap (with_log before) same.1 ∙ sym u.2, same.2, same.3, same_behind same.2)
+  same_line route (Ok lines.Pull) one t u =
       let client = before.client.number in
       let log = before.client.log in
       let same = same_pull client route log t.0 u.0 a.client.log b.client.log p q m n (kind_of client route log t.0 a.client.log p t.1) (kind_of client route log u.0 b.client.log q u.1) is in
-      (t.3 ∙ ap pull_answer same.0 ∙ sym u.3, t.2 ∙ ap (with_log before) same.1 ∙ sym u.2, same.2, same.3)
+      (t.3 ∙ ap pull_answer same.0 ∙ sym u.3, t.2 ∙ ap (with_log before) same.1 ∙ sym u.2, same.2, same.3, same_behind same.2)
 
 -- ---- a session
 
-same_chain : (route : Route) (before : SessionState) (asked : List (Result Line LineError)) (xs ys : List (Option Answer)) (a b : SessionState) (p q : Trace) (m n : List Ask) → Chain route before asked xs a p
-    → Chain route before asked ys b q → p.asks ++ m ≡ q.asks ++ n → (xs ≡ ys) × (a ≡ b) × (p ≡ q) × (m ≡ n)
-same_chain route before [] xs ys a b p q m n s t is =
-    (s.0 ∙ sym t.0, s.1 ∙ sym t.1, s.2 ∙ sym t.2, sym (ap (λ (r : Trace). r.asks ++ m) s.2) ∙ is ∙ ap (λ (r : Trace). r.asks ++ n) t.2)
-same_chain route before (line ∷ asked) xs ys a b p q m n s t is =
+abbrev first_is : List Bool → Bool
+first_is [] = false
+first_is (b ∷ bs) = b
+
+abbrev but_first : List Bool → List Bool
+but_first [] = []
+but_first (b ∷ bs) = bs
+
+first_unrun : (x y : Option Answer) (xs ys : List (Option Answer)) → map is_unrun (x ∷ xs) ≡ map is_unrun (y ∷ ys) → (is_unrun x ≡ is_unrun y) × (map is_unrun xs ≡ map is_unrun ys)
+first_unrun x y xs ys same = (ap first_is same, ap but_first same)
+
+same_chain : (route : Route) (before : SessionState) (asked : List (Result Line LineError)) (xs ys : List (Option Answer)) (a b : SessionState) (p q : Trace) (m n : List Ask) (g h : List Run) → Chain route before asked xs a p
+    → Chain route before asked ys b q → p.asks ++ m ≡ q.asks ++ n → p.runs ++ g ≡ q.runs ++ h → map is_unrun xs ≡ map is_unrun ys → (xs ≡ ys) × (a ≡ b) × (p ≡ q) × (m ≡ n) × (g ≡ h)
+same_chain route before [] xs ys a b p q m n g h s t is ran same = (
+  s.0 ∙ sym t.0,
+  s.1 ∙ sym t.1,
+  s.2 ∙ sym t.2,
+  sym (ap (λ (r : Trace). r.asks ++ m) s.2) ∙ is ∙ ap (λ (r : Trace). r.asks ++ n) t.2,
+  sym (ap (λ (r : Trace). r.runs ++ g) s.2) ∙ ran ∙ ap (λ (r : Trace). r.runs ++ h) t.2,
+)
+same_chain route before (line ∷ asked) xs ys a b p q m n g h s t is ran same =
     let whole : s.1.asks ++ (s.2.asks ++ m) ≡ t.1.asks ++ (t.2.asks ++ n) =
     sym (append_assoc s.1.asks s.2.asks m) ∙ sym (ap (λ (r : Trace). r.asks ++ m) s.8) ∙ is ∙ ap (λ (r : Trace). r.asks ++ n) t.8 ∙ append_assoc t.1.asks t.2.asks n in
-    let one = same_line before s.0 t.0 s.3 t.3 s.1 t.1 (s.2.asks ++ m) (t.2.asks ++ n) whole route line s.5 t.5 in
+    let all : s.1.runs ++ (s.2.runs ++ g) ≡ t.1.runs ++ (t.2.runs ++ h) =
+    sym (append_assoc s.1.runs s.2.runs g) ∙ sym (ap (λ (r : Trace). r.runs ++ g) s.8) ∙ ran ∙ ap (λ (r : Trace). r.runs ++ h) t.8 ∙ append_assoc t.1.runs t.2.runs h in
+    let unrun = first_unrun s.3 t.3 s.4 t.4 (sym (ap (map is_unrun) s.7) ∙ same ∙ ap (map is_unrun) t.7) in
+    let one = same_line before s.0 t.0 s.3 t.3 s.1 t.1 (s.2.asks ++ m) (t.2.asks ++ n) (s.2.runs ++ g) (t.2.runs ++ h) whole all route line unrun.0 s.5 t.5 in
     let later = subst (λ (z : SessionState). Chain route z asked t.4 b t.2) (sym one.1) t.6 in
-    let rest = same_chain route s.0 asked s.4 t.4 a b s.2 t.2 m n s.6 later one.3 in (
+    let rest = same_chain route s.0 asked s.4 t.4 a b s.2 t.2 m n g h s.6 later one.3 one.4 unrun.1 in (
       s.7 ∙ ap (λ (x : Option Answer). x ∷ s.4) one.0 ∙ ap (λ (l : List (Option Answer)). t.3 ∷ l) rest.0 ∙ sym t.7,
       rest.1,
       s.8 ∙ ap (λ (r : Trace). followed r s.2) one.2 ∙ ap (followed t.1) rest.2 ∙ sym t.8,
       rest.3,
+      rest.4,
     )
 
-pub asks_make_sessions : AsksMakeSessions
-asks_make_sessions route before asked xs ys a b p q s t is =
-    let same = same_chain route before asked xs ys a b p q [] [] s t (ap (λ (l : List Ask). l ++ []) is) in (same.0, same.1, same.2)
+pub asks_and_runs_make_sessions : AsksAndRunsMakeSessions
+asks_and_runs_make_sessions route before asked xs ys a b p q s t is ran same =
+    let all = same_chain route before asked xs ys a b p q [] [] [] [] s t (ap (λ (l : List Ask). l ++ []) is) (ap (λ (l : List Run). l ++ []) ran) same in (all.0, all.1, all.2)

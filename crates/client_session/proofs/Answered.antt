@@ -10,6 +10,12 @@ use Rattle.tree_values.specs.declared.node.Effect.{Effect}
 use Rattle.tree_values.specs.declared.node.Node.{Node}
 use Rattle.tree_values.specs.declared.node.Node.TheVariants as nodes
 use Rattle.vol_tree.proofs.Behind.{IsIn-left, IsIn-right}
+use Rattle.cmd_capture.specs.declared.command.Command.{Command}
+use Rattle.cmd_capture.specs.declared.capturing.CaptureError.{CaptureError}
+use Rattle.cmd_capture.specs.declared.capturing.CaptureError.TheVariants as captures
+use Rattle.cmd_capture.specs.Capture.{capture}
+use Rattle.work_area.specs.declared.jobs.JobError.{JobError}
+use Rattle.work_area.specs.declared.jobs.JobError.TheVariants as jobs
 use Rattle.mod_log.specs.declared.log.Entry.{Entry}
 use Rattle.mod_log.specs.declared.log.LogError.{LogError}
 use Rattle.mod_log.specs.declared.log.LogError.TheVariants as logs
@@ -29,6 +35,8 @@ use Rattle.client_core.specs.declared.syncing.SyncEnd.{SyncEnd}
 use Rattle.client_core.specs.declared.syncing.SyncEnd.TheVariants as syncs
 use Rattle.client_core.specs.declared.pulling.PullEnd.{PullEnd}
 use Rattle.client_core.specs.declared.pulling.PullEnd.TheVariants as pulls
+use Rattle.client_core.specs.declared.running.RunEnd.{RunEnd}
+use Rattle.client_core.specs.declared.running.RunEnd.TheVariants as runs
 use Rattle.client_core.specs.Trace.{Trace, followed, asking}
 use Rattle.world_rules.proofs.Settled.{failed-append, failed-failures}
 use Rattle.client_core.specs.Syncing.{store_of, IsFirst, end_by, EndsSync, SyncTurn}
@@ -37,7 +45,7 @@ use Rattle.shell_lang.specs.declared.line.Line.TheVariants as lines
 use Rattle.shell_lang.specs.declared.line.LineError.{LineError}
 use Rattle.shell_lang.specs.declared.answer.Answer.{Answer}
 use Rattle.shell_lang.specs.declared.answer.Answer.TheVariants as answers
-use Rattle.client_session.specs.Session.{SessionState, put_effect, make_effect, remove_effect, move_effect, sync_answer, pull_answer, local_answer, word_answer, status_answer, LogTurn, LineTurn, Chain, LeavesPending}
+use Rattle.client_session.specs.Session.{SessionState, put_effect, make_effect, remove_effect, move_effect, sync_answer, pull_answer, local_answer, word_answer, capture_answer, job_answer, run_answer, status_answer, LogTurn, CommandTurn, LineTurn, Chain, LeavesPending}
 use Rattle.client_session.specs.Looking.{found_at, shown, listed, entered, about, cat_answer, list_answer, enter_answer}
 use Rattle.client_session.specs.Laws.{IsChange, ChangesLeadTo}
 use Rattle.client_session.proofs.Changing.{line_leads, line_number}
@@ -94,6 +102,32 @@ pull_quiet pulls.Unanswered leaves = leaves
 pull_quiet pulls.KeepFault leaves = leaves
 pull_quiet pulls.Memory leaves = leaves
 
+capture_quiet : (refusal : CaptureError) → LeavesPending (capture_answer refusal) → ⊥
+capture_quiet captures.Memory leaves = leaves
+capture_quiet captures.NoProgram leaves = leaves
+capture_quiet (captures.BadOption i) leaves = leaves
+capture_quiet (captures.BadInput i) leaves = leaves
+capture_quiet (captures.BadEnv i) leaves = leaves
+capture_quiet (captures.BadTemplate i) leaves = leaves
+capture_quiet captures.NotAbsolute leaves = leaves
+capture_quiet (captures.ZeroByte i) leaves = leaves
+capture_quiet (captures.CommandTooLong n) leaves = leaves
+
+job_quiet : (refusal : JobError) → LeavesPending (job_answer refusal) → ⊥
+job_quiet (jobs.NoFolder path) leaves = leaves
+job_quiet (jobs.NoInput i) leaves = leaves
+job_quiet jobs.Memory leaves = leaves
+
+run_quiet : (end : RunEnd) → LeavesPending (run_answer end) → ⊥
+run_quiet (runs.Logged seq status) leaves = leaves
+run_quiet (runs.Nothing status) leaves = leaves
+run_quiet (runs.NoJob refusal) leaves = job_quiet refusal leaves
+run_quiet runs.NotRun leaves = leaves
+run_quiet (runs.OddTree i) leaves = leaves
+run_quiet (runs.Clash path) leaves = leaves
+run_quiet (runs.Refused refusal) leaves = local_quiet (Err refusal) leaves
+run_quiet runs.Memory leaves = leaves
+
 module _ (route : Route) (before after : SessionState) (trace : Trace) (answer : Option Answer) (leaves : LeavesPending answer) where
   abbrev WasSync : Type 0
   WasSync = (end : SyncEnd) × SyncTurn before.client.number route before.client.log end after.client.log trace × (answer ≡ sync_answer end)
@@ -105,6 +139,10 @@ module _ (route : Route) (before after : SessionState) (trace : Trace) (answer :
   log_quiet : (named : Result Effect PathError) → LogTurn named before answer after trace → WasSync
   log_quiet (Ok effect) turn = not_so (local_answer turn.0) turn.3 (local_quiet turn.0)
   log_quiet (Err refusal) turn = not_so (word_answer refusal) turn.0 (word_quiet refusal)
+
+  command_quiet : (made : Result Command CaptureError) → CommandTurn route made before answer after trace → WasSync
+  command_quiet (Ok command) turn = not_so (run_answer turn.0) turn.3 (run_quiet turn.0)
+  command_quiet (Err refusal) turn = not_so (capture_answer refusal) turn.0 (capture_quiet refusal)
 
   only_syncs : (line : Result Line LineError) → LineTurn route before line answer after trace → WasSync
   only_syncs (Err refusal) turn = not_so _ turn.0 (λ none. none)
@@ -121,6 +159,7 @@ module _ (route : Route) (before after : SessionState) (trace : Trace) (answer :
   only_syncs (Ok (lines.Enter word)) turn =
       let tree : Volume = tree_of before.client.log in
       not_so (Some (enter_answer tree before.folder word)) turn.0 (about_quiet (resolved before.folder word) (λ path. entered path (found_at tree path)) (λ path. entered_quiet path (found_at tree path)))
+  only_syncs (Ok (lines.Run words)) turn = command_quiet (capture words before.folder) turn
   only_syncs (Ok lines.Status) turn = not_so (Some (status_answer before)) turn.0 (λ none. none)
   only_syncs (Ok lines.Sync) turn = (turn.0, turn.1, turn.3)
   only_syncs (Ok lines.Pull) turn = not_so (pull_answer turn.0) turn.3 (pull_quiet turn.0)
@@ -180,6 +219,9 @@ module _ (packets : List Message) (client : ℕ) (route : Route) (after : Log) (
       gapless n beyond (subst (λ (c : ℕ). IsIn (messages.Gap c n beyond) packets) (sym settling.3.1) (reply_stands (messages.Gap of n beyond) settling))
   not_a_gap (Some (messages.Store of n effects base)) seq last gapless settling is = settling.3.0
   not_a_gap (Some (messages.Pull of n)) seq last gapless settling is = settling.3.0
+  not_a_gap (Some (messages.Operate of sketched)) seq last gapless settling is = settling.3.0
+  not_a_gap (Some (messages.Done of n)) seq last gapless settling is = settling.3.0
+  not_a_gap (Some (messages.Declined of n why)) seq last gapless settling is = settling.3.0
   not_a_gap (Some (messages.Snapshot of n then seen)) seq last gapless settling is = settling.3.0
   not_a_gap (Some (messages.Malformed code offset)) seq last gapless settling is = settling.3.0
 
@@ -201,6 +243,9 @@ module _ (packets : List Message) (client : ℕ) (route : Route) (after : Log) (
       gapless n beyond (subst (λ (c : ℕ). IsIn (messages.Gap c n beyond) packets) (sym settling.3.1) (reply_stands (messages.Gap of n beyond) settling))
   accepted from (Some (messages.Store of n effects base)) end gapless none above calm settling is = settling.3.0
   accepted from (Some (messages.Pull of n)) end gapless none above calm settling is = settling.3.0
+  accepted from (Some (messages.Operate of sketched)) end gapless none above calm settling is = settling.3.0
+  accepted from (Some (messages.Done of n)) end gapless none above calm settling is = settling.3.0
+  accepted from (Some (messages.Declined of n why)) end gapless none above calm settling is = settling.3.0
   accepted from (Some (messages.Snapshot of n then seen)) end gapless none above calm settling is = settling.3.0
   accepted from (Some (messages.Malformed code offset)) end gapless none above calm settling is = settling.3.0
 

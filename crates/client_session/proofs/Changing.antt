@@ -1,8 +1,11 @@
 -- What the lines of a session change of the log.
-use Rattle.std.proofs.Common.{◌≡◌, inl, inr, ℕ, zero, suc, List, [], ◌∷◌, ◌++◌, Option, Result, Ok, Err, refl, sym, ◌∙◌, ap, subst}
+use Rattle.std.proofs.Common.{◌≡◌, inl, inr, ℕ, zero, suc, List, [], ◌∷◌, ◌++◌, Option, Some, None, Result, Ok, Err, refl, sym, ◌∙◌, ap, subst}
 use Rattle.std.proofs.lemmas.List.{append-nil}
 use Rattle.file_paths.specs.declared.path.PathError.{PathError}
 use Rattle.tree_values.specs.declared.node.Effect.{Effect}
+use Rattle.cmd_capture.specs.declared.command.Command.{Command}
+use Rattle.cmd_capture.specs.declared.capturing.CaptureError.{CaptureError}
+use Rattle.cmd_capture.specs.Capture.{capture}
 use Rattle.mod_log.specs.declared.log.Entry.{Entry}
 use Rattle.mod_log.specs.declared.log.LogError.{LogError}
 use Rattle.mod_log.specs.Log.{Log}
@@ -10,6 +13,9 @@ use Rattle.world_rules.specs.declared.asking.Ask.{Ask}
 use Rattle.client_core.specs.declared.route.Route.{Route}
 use Rattle.client_core.specs.declared.pulling.PullEnd.{PullEnd}
 use Rattle.client_core.specs.declared.pulling.PullEnd.TheVariants.{Pulled, Pending, OtherLast, Older, Unanswered, KeepFault, Memory}
+use Rattle.client_core.specs.declared.running.RunEnd.{RunEnd}
+use Rattle.client_core.specs.declared.running.RunEnd.TheVariants as runs
+use Rattle.client_core.specs.Running.{origin_of, changes_of, run_entry, RunTurn}
 use Rattle.client_core.specs.Trace.{Trace, nothing, followed, asking}
 use Rattle.client_core.specs.Logging.{local_entry, LocalTurn}
 use Rattle.client_core.specs.Syncing.{Acknowledges}
@@ -19,7 +25,7 @@ use Rattle.shell_lang.specs.declared.line.Line.{Line}
 use Rattle.shell_lang.specs.declared.line.Line.TheVariants as lines
 use Rattle.shell_lang.specs.declared.line.LineError.{LineError}
 use Rattle.shell_lang.specs.declared.answer.Answer.{Answer}
-use Rattle.client_session.specs.Session.{SessionState, with_log, put_effect, make_effect, remove_effect, move_effect, LogTurn, LineTurn, Chain}
+use Rattle.client_session.specs.Session.{SessionState, with_log, put_effect, make_effect, remove_effect, move_effect, LogTurn, CommandTurn, LineTurn, Chain}
 use Rattle.client_session.specs.Laws.{IsChange, ChangesLeadTo, SessionsChangeSo}
 
 leads_then : (a b c : Log) (xs ys : List Log) → ChangesLeadTo a xs b → ChangesLeadTo b ys c → ChangesLeadTo a (xs ++ ys) c
@@ -59,6 +65,21 @@ pull_leads client route before (Older path theirs ours) after trace turn = snaps
 pull_leads client route before KeepFault after trace turn = snapshot_leads client route before KeepFault after trace turn
 pull_leads client route before Memory after trace turn = snapshot_leads client route before Memory after trace turn
 
+-- ---- a run
+
+run_leads : (work : List ℕ) (command : Command) (before : Log) (end : RunEnd) (after : Log) (trace : Trace) → RunTurn work command before end after trace → ChangesLeadTo before trace.changes after
+run_leads work command before (runs.Logged seq status) after trace turn =
+    let entry : Entry = run_entry command turn.0 before in
+    subst (λ (t : Trace). ChangesLeadTo before t.changes after) (sym turn.3)
+    (inl (entry, refl, sym (appended-is (Some (origin_of command turn.0)) (changes_of turn.0) before after turn.2.1)), refl)
+run_leads work command before (runs.Nothing status) after trace turn = subst (λ (t : Trace). ChangesLeadTo before t.changes after) (sym turn.3) turn.2.3
+run_leads work command before (runs.OddTree n) after trace turn = subst (λ (t : Trace). ChangesLeadTo before t.changes after) (sym turn.3) turn.2.1
+run_leads work command before (runs.Clash path) after trace turn = subst (λ (t : Trace). ChangesLeadTo before t.changes after) (sym turn.3) turn.2.2
+run_leads work command before (runs.Refused refusal) after trace turn = subst (λ (t : Trace). ChangesLeadTo before t.changes after) (sym turn.3) turn.2.2
+run_leads work command before (runs.NoJob fault) after trace turn = still before after trace turn.1 turn.2
+run_leads work command before runs.NotRun after trace turn = subst (λ (t : Trace). ChangesLeadTo before t.changes after) (sym turn.2) turn.1
+run_leads work command before runs.Memory after trace turn = absurd turn.2
+
 -- ---- a line
 
 module _ (before after : SessionState) (trace : Trace) where
@@ -72,12 +93,16 @@ module _ (before after : SessionState) (trace : Trace) where
   local_leads effect (Ok number) turn =
       let entry : Entry = local_entry effect before.client.log in
       subst (λ (t : Trace). ChangesLeadTo before.client.log t.changes after.client.log) (sym turn.2)
-      (inl (entry, refl, sym (appended-is (effect ∷ []) before.client.log after.client.log turn.0)), refl)
+      (inl (entry, refl, sym (appended-is None (effect ∷ []) before.client.log after.client.log turn.0)), refl)
   local_leads effect (Err refusal) turn = still before.client.log after.client.log trace turn.1 turn.2
 
   log_leads : (named : Result Effect PathError) (answer : Option Answer) → LogTurn named before answer after trace → LineLeads
   log_leads (Ok effect) answer turn = local_leads effect turn.0 turn.1
   log_leads (Err refusal) answer turn = untouched turn.1 turn.2
+
+  command_leads : (route : Route) (made : Result Command CaptureError) (answer : Option Answer) → CommandTurn route made before answer after trace → LineLeads
+  command_leads route (Ok command) answer turn = run_leads route.work command before.client.log turn.0 after.client.log trace turn.1
+  command_leads route (Err refusal) answer turn = untouched turn.1 turn.2
 
   pub line_leads : (route : Route) (line : Result Line LineError) (answer : Option Answer) → LineTurn route before line answer after trace → LineLeads
   line_leads route (Err refusal) answer turn = untouched turn.1 turn.2
@@ -89,6 +114,7 @@ module _ (before after : SessionState) (trace : Trace) where
   line_leads route (Ok (lines.Cat word)) answer turn = untouched turn.1 turn.2
   line_leads route (Ok (lines.List word)) answer turn = untouched turn.1 turn.2
   line_leads route (Ok (lines.Enter word)) answer turn = still before.client.log after.client.log trace (ap (λ (s : SessionState). s.client.log) turn.1) turn.2
+  line_leads route (Ok (lines.Run words)) answer turn = command_leads route (capture words before.folder) answer turn
   line_leads route (Ok lines.Status) answer turn = untouched turn.1 turn.2
   line_leads route (Ok lines.Sync) answer turn =
       let synced = turn.1 in
@@ -106,6 +132,10 @@ module _ (before after : SessionState) (trace : Trace) where
   log_number (Ok effect) answer turn = with_number before after.client.log after turn.2
   log_number (Err refusal) answer turn = ap (λ (s : SessionState). s.client.number) turn.1
 
+  command_number : (route : Route) (made : Result Command CaptureError) (answer : Option Answer) → CommandTurn route made before answer after trace → after.client.number ≡ before.client.number
+  command_number route (Ok command) answer turn = with_number before after.client.log after turn.2
+  command_number route (Err refusal) answer turn = ap (λ (s : SessionState). s.client.number) turn.1
+
   pub line_number : (route : Route) (line : Result Line LineError) (answer : Option Answer) → LineTurn route before line answer after trace → after.client.number ≡ before.client.number
   line_number route (Err refusal) answer turn = ap (λ (s : SessionState). s.client.number) turn.1
   line_number route (Ok lines.Empty) answer turn = ap (λ (s : SessionState). s.client.number) turn.1
@@ -116,6 +146,7 @@ module _ (before after : SessionState) (trace : Trace) where
   line_number route (Ok (lines.Cat word)) answer turn = ap (λ (s : SessionState). s.client.number) turn.1
   line_number route (Ok (lines.List word)) answer turn = ap (λ (s : SessionState). s.client.number) turn.1
   line_number route (Ok (lines.Enter word)) answer turn = ap (λ (s : SessionState). s.client.number) turn.1
+  line_number route (Ok (lines.Run words)) answer turn = command_number route (capture words before.folder) answer turn
   line_number route (Ok lines.Status) answer turn = ap (λ (s : SessionState). s.client.number) turn.1
   line_number route (Ok lines.Sync) answer turn = with_number before after.client.log after turn.2
   line_number route (Ok lines.Pull) answer turn = with_number before after.client.log after turn.2

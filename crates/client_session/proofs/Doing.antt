@@ -3,52 +3,52 @@ use Rattle.std.proofs.Common.{◌≡◌, ℕ, List, Option, refl, ◌∙◌, sub
 use Rattle.outside.specs.Keeper.{Images}
 use Rattle.mod_log.specs.Log.{Log}
 use Rattle.world_rules.specs.World.{World}
-use Rattle.world_rules.specs.Telling.{LinkTelling, ToldWorlds}
+use Rattle.world_rules.specs.Telling.{ToldWorlds}
 use Rattle.world_rules.proofs.Asks.{told_start, told_as, told_then}
 use Rattle.client_core.specs.Trace.{Trace, nothing, followed, IsLastOrBefore}
 use Rattle.client_core.specs.Keeping.{IsKept}
 use Rattle.client_core.specs.Goes.{Goes}
 use Rattle.client_core.proofs.Going.{goes_none, goes_then}
 use Rattle.client_session.specs.Session.{SessionState}
-use Rattle.client_session.specs.Doing.{Does, WentDoing}
+use Rattle.client_session.specs.Doing.{Telling, Does, WentDoing}
 
 -- over a link that tells its world, a session did what these turns say, and the client is kept at the end
-abbrev pub WentKept : List ℕ → (Trace → Type 0) → SessionState → SessionState → Option Images → Option Images → LinkTelling → LinkTelling → Type 0
-WentKept name turns before after images now old new = ToldWorlds old new (λ v w. Does name turns before after after.client.log images now old.troubles new.troubles v w)
+abbrev pub WentKept : List ℕ → (Trace → Type 0) → SessionState → SessionState → Option Images → Option Images → Telling → Telling → Type 0
+WentKept name turns before after images now old new = ToldWorlds old.link new.link (λ v w. Does name turns before after after.client.log images now old new v w)
 
 module _ (name : List ℕ) where
-  pub does_none : (T : Trace → Type 0) (s : SessionState) (i : Option Images) (t : ℕ) (w : World) → IsKept i name s.client.number s.client.log → T nothing → Does name T s s s.client.log i i t t w w
-  does_none T s i t w keeps turn = record { number = refl; goes = goes_none name s.client.number T s.client.log i t w keeps turn }
+  pub does_none : (T : Trace → Type 0) (s : SessionState) (i : Option Images) (t : Telling) (w : World) → IsKept i name s.client.number s.client.log → T nothing → Does name T s s s.client.log i i t t w w
+  does_none T s i t w keeps turn = record { number = refl; goes = goes_none name s.client.number T s.client.log i t.runner t.link.troubles w keeps turn }
 
   -- another relation of the same turns
-  pub does_as : (T S : Trace → Type 0) (a b : SessionState) (k : Log) (i j : Option Images) (t u : ℕ) (v w : World) → Does name T a b k i j t u v w
+  pub does_as : (T S : Trace → Type 0) (a b : SessionState) (k : Log) (i j : Option Images) (t u : Telling) (v w : World) → Does name T a b k i j t u v w
       → ((trace : Trace) → T trace → IsLastOrBefore a.client.log trace.changes k → S trace) → Does name S a b k i j t u v w
   does_as T S a b k i j t u v w does to = record {
     number = does.number;
-    goes = record { trace = does.goes.trace; turn = to does.goes.trace does.goes.turn does.goes.keeping.behind; runs = does.goes.runs; keeping = does.goes.keeping; rose = does.goes.rose };
+    goes = record { trace = does.goes.trace; turn = to does.goes.trace does.goes.turn does.goes.keeping.behind; runs = does.goes.runs; keeping = does.goes.keeping; has_run = does.goes.has_run; rose = does.goes.rose };
   }
 
   -- one stretch, at whose end the client is kept, after another
-  pub does_then : (T S R : Trace → Type 0) (a b c : SessionState) (k : Log) (i j l : Option Images) (t u v : ℕ) (x y z : World) → Does name T a b b.client.log i j t u x y → Does name S b c k j l u v y z
+  pub does_then : (T S R : Trace → Type 0) (a b c : SessionState) (k : Log) (i j l : Option Images) (t u v : Telling) (x y z : World) → Does name T a b b.client.log i j t u x y → Does name S b c k j l u v y z
       → ((m n : Trace) → T m → S n → IsLastOrBefore b.client.log n.changes k → R (followed m n)) → Does name R a c k i l t v x z
   does_then T S R a b c k i j l t u v x y z first second join =
       let kept_so = λ (trace : Trace). S trace × IsLastOrBefore b.client.log trace.changes k in
       let after : Does name kept_so b c k j l u v y z = does_as S kept_so b c k j l u v y z second (λ trace turn behind. (turn, behind)) in
       record {
         number = second.number ∙ first.number;
-        goes = goes_then name a.client.number T kept_so R a.client.log b.client.log c.client.log k i j l t u v x y z first.goes
-            (subst (λ (n : ℕ). Goes n name kept_so b.client.log c.client.log k j l u v y z) first.number after.goes) (λ m n p q. join m n p q.0 q.1);
+        goes = goes_then name a.client.number T kept_so R a.client.log b.client.log c.client.log k i j l t.runner u.runner v.runner t.link.troubles u.link.troubles v.link.troubles x y z first.goes
+            (subst (λ (n : ℕ). Goes n name kept_so b.client.log c.client.log k j l u.runner v.runner u.link.troubles v.link.troubles y z) first.number after.goes) (λ m n p q. join m n p q.0 q.1);
       }
 
   -- a stretch whose turns say that the client is kept at its end
-  pub does_kept : (T : Log → Trace → Type 0) (a b : SessionState) (i j : Option Images) (t u : ℕ) (v w : World) → (k : Log) × Does name (T k) a b k i j t u v w
+  pub does_kept : (T : Log → Trace → Type 0) (a b : SessionState) (i j : Option Images) (t u : Telling) (v w : World) → (k : Log) × Does name (T k) a b k i j t u v w
       → ((k : Log) (trace : Trace) → T k trace → k ≡ b.client.log) → Does name (T b.client.log) a b b.client.log i j t u v w
   does_kept T a b i j t u v w does is =
       let same : does.0 ≡ b.client.log = is does.0 does.1.goes.trace does.1.goes.turn in
       subst (λ (k : Log). Does name (T k) a b k i j t u v w) same does.1
 
   -- one stretch, at whose end the client is kept, after another that says what is kept at its end
-  pub does_next : (T : Trace → Type 0) (S R : Log → Trace → Type 0) (a b c : SessionState) (i j l : Option Images) (t u v : ℕ) (x y z : World) → Does name T a b b.client.log i j t u x y
+  pub does_next : (T : Trace → Type 0) (S R : Log → Trace → Type 0) (a b c : SessionState) (i j l : Option Images) (t u v : Telling) (x y z : World) → Does name T a b b.client.log i j t u x y
       → (k : Log) × Does name (S k) b c k j l u v y z → ((k : Log) (m n : Trace) → T m → S k n → R k (followed m n)) → (k : Log) × Does name (R k) a c k i l t v x z
   does_next T S R a b c i j l t u v x y z first second join =
       (second.0, does_then T (S second.0) (R second.0) a b c second.0 i j l t u v x y z first second.1 (λ m n p q behind. join second.0 m n p q))
@@ -56,39 +56,39 @@ module _ (name : List ℕ) where
   -- ---- over a link
 
   -- nothing was done
-  pub went_none : (T : Log → Trace → Type 0) (s : SessionState) (i : Option Images) (t : LinkTelling) → IsKept i name s.client.number s.client.log → T s.client.log nothing → WentDoing name T s s i i t t
+  pub went_none : (T : Log → Trace → Type 0) (s : SessionState) (i : Option Images) (t : Telling) → IsKept i name s.client.number s.client.log → T s.client.log nothing → WentDoing name T s s i i t t
   went_none T s i t keeps turn =
-      told_start t.world (λ v w. (kept : Log) × Does name (T kept) s s kept i i t.troubles t.troubles v w) (λ x. (s.client.log, does_none (T s.client.log) s i t.troubles x keeps turn))
+      told_start t.link.world (λ v w. (kept : Log) × Does name (T kept) s s kept i i t t v w) (λ x. (s.client.log, does_none (T s.client.log) s i t x keeps turn))
 
-  pub kept_none : (T : Trace → Type 0) (s : SessionState) (i : Option Images) (t : LinkTelling) → IsKept i name s.client.number s.client.log → T nothing → WentKept name T s s i i t t
+  pub kept_none : (T : Trace → Type 0) (s : SessionState) (i : Option Images) (t : Telling) → IsKept i name s.client.number s.client.log → T nothing → WentKept name T s s i i t t
   kept_none T s i t keeps turn =
-      told_start t.world (λ v w. Does name T s s s.client.log i i t.troubles t.troubles v w) (λ x. does_none T s i t.troubles x keeps turn)
+      told_start t.link.world (λ v w. Does name T s s s.client.log i i t t v w) (λ x. does_none T s i t x keeps turn)
 
   -- another relation of the same turns
-  pub went_as : (T S : Log → Trace → Type 0) (a b : SessionState) (i j : Option Images) (t u : LinkTelling) → WentDoing name T a b i j t u
+  pub went_as : (T S : Log → Trace → Type 0) (a b : SessionState) (i j : Option Images) (t u : Telling) → WentDoing name T a b i j t u
       → ((k : Log) (trace : Trace) → T k trace → IsLastOrBefore a.client.log trace.changes k → S k trace) → WentDoing name S a b i j t u
   went_as T S a b i j t u went to =
-      told_as t.world u.world (λ v w. (kept : Log) × Does name (T kept) a b kept i j t.troubles u.troubles v w) (λ v w. (kept : Log) × Does name (S kept) a b kept i j t.troubles u.troubles v w) went
-      (λ v w did. (did.0, does_as (T did.0) (S did.0) a b did.0 i j t.troubles u.troubles v w did.1 (to did.0)))
+      told_as t.link.world u.link.world (λ v w. (kept : Log) × Does name (T kept) a b kept i j t u v w) (λ v w. (kept : Log) × Does name (S kept) a b kept i j t u v w) went
+      (λ v w did. (did.0, does_as (T did.0) (S did.0) a b did.0 i j t u v w did.1 (to did.0)))
 
-  pub kept_as : (T : Trace → Type 0) (S : Log → Trace → Type 0) (a b : SessionState) (i j : Option Images) (t u : LinkTelling) → WentKept name T a b i j t u
+  pub kept_as : (T : Trace → Type 0) (S : Log → Trace → Type 0) (a b : SessionState) (i j : Option Images) (t u : Telling) → WentKept name T a b i j t u
       → ((trace : Trace) → T trace → S b.client.log trace) → WentDoing name S a b i j t u
   kept_as T S a b i j t u went to =
-      told_as t.world u.world (λ v w. Does name T a b b.client.log i j t.troubles u.troubles v w) (λ v w. (kept : Log) × Does name (S kept) a b kept i j t.troubles u.troubles v w) went
-      (λ v w did. (b.client.log, does_as T (S b.client.log) a b b.client.log i j t.troubles u.troubles v w did (λ trace turn behind. to trace turn)))
+      told_as t.link.world u.link.world (λ v w. Does name T a b b.client.log i j t u v w) (λ v w. (kept : Log) × Does name (S kept) a b kept i j t u v w) went
+      (λ v w did. (b.client.log, does_as T (S b.client.log) a b b.client.log i j t u v w did (λ trace turn behind. to trace turn)))
 
   -- one stretch, at whose end the client is kept, after another of the same kind
-  pub kept_then : (T R : Trace → Type 0) (S : Log → Trace → Type 0) (a b c : SessionState) (i j l : Option Images) (t u v : LinkTelling) → WentKept name T a b i j t u → WentDoing name S b c j l u v
+  pub kept_then : (T R : Trace → Type 0) (S : Log → Trace → Type 0) (a b c : SessionState) (i j l : Option Images) (t u v : Telling) → WentKept name T a b i j t u → WentDoing name S b c j l u v
       → ((k : Log) (n : Trace) → S k n → k ≡ c.client.log) → ((m n : Trace) → T m → S c.client.log n → R (followed m n)) → WentKept name R a c i l t v
   kept_then T R S a b c i j l t u v first second is join =
-      told_then t.world u.world v.world (λ x y. Does name T a b b.client.log i j t.troubles u.troubles x y) (λ x y. (kept : Log) × Does name (S kept) b c kept j l u.troubles v.troubles x y)
-      (λ x y. Does name R a c c.client.log i l t.troubles v.troubles x y) first second
-      (λ x y z p q. does_then T (S c.client.log) R a b c c.client.log i j l t.troubles u.troubles v.troubles x y z p (does_kept S b c j l u.troubles v.troubles y z q is) (λ m n f s behind. join m n f s))
+      told_then t.link.world u.link.world v.link.world (λ x y. Does name T a b b.client.log i j t u x y) (λ x y. (kept : Log) × Does name (S kept) b c kept j l u v x y)
+      (λ x y. Does name R a c c.client.log i l t v x y) first second
+      (λ x y z p q. does_then T (S c.client.log) R a b c c.client.log i j l t u v x y z p (does_kept S b c j l u v y z q is) (λ m n f s behind. join m n f s))
 
   -- and after another that says what is kept at its end
-  pub kept_next : (T : Trace → Type 0) (S R : Log → Trace → Type 0) (a b c : SessionState) (i j l : Option Images) (t u v : LinkTelling) → WentKept name T a b i j t u → WentDoing name S b c j l u v
+  pub kept_next : (T : Trace → Type 0) (S R : Log → Trace → Type 0) (a b c : SessionState) (i j l : Option Images) (t u v : Telling) → WentKept name T a b i j t u → WentDoing name S b c j l u v
       → ((k : Log) (m n : Trace) → T m → S k n → R k (followed m n)) → WentDoing name R a c i l t v
   kept_next T S R a b c i j l t u v first second join =
-      told_then t.world u.world v.world (λ x y. Does name T a b b.client.log i j t.troubles u.troubles x y) (λ x y. (kept : Log) × Does name (S kept) b c kept j l u.troubles v.troubles x y)
-      (λ x y. (kept : Log) × Does name (R kept) a c kept i l t.troubles v.troubles x y) first second
-      (λ x y z p q. does_next T S R a b c i j l t.troubles u.troubles v.troubles x y z p q join)
+      told_then t.link.world u.link.world v.link.world (λ x y. Does name T a b b.client.log i j t u x y) (λ x y. (kept : Log) × Does name (S kept) b c kept j l u v x y)
+      (λ x y. (kept : Log) × Does name (R kept) a c kept i l t v x y) first second
+      (λ x y z p q. does_next T S R a b c i j l t u v x y z p q join)

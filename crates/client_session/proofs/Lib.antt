@@ -1,6 +1,8 @@
 pub mod Alike
 pub mod Answered
 pub mod Changing
+pub mod Commanding
+pub mod Counted
 pub mod Doing
 pub mod Found
 pub mod Settlings

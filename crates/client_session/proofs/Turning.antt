@@ -27,8 +27,10 @@ use Rattle.client_core.specs.Logging.{local_entry, LocalEnds}
 use Rattle.client_core.specs.Syncing.{SyncEnds, is_broken_sync}
 use Rattle.client_core.specs.Pulling.{PullEnds, is_broken_pull}
 use Rattle.client_core.specs.Keeping.{IsKept, KeepsLog}
+use Rattle.cmd_capture.specs.Runs.{RunnerTelling, HasRun}
+use Rattle.client_core.specs.Goes.{no_runner}
 use Rattle.client_core.specs.Goes.{Goes, Went}
-use Rattle.client_core.proofs.Going.{changed_so, kept_now, goes_none, goes_as, goes_saved}
+use Rattle.client_core.proofs.Going.{changed_so, kept_now, goes_none, goes_as, goes_beside, goes_saved}
 use Rattle.client_core.proofs.Locals.{local_goes}
 use Rattle.shell_lang.specs.declared.line.Line.{Line}
 use Rattle.shell_lang.specs.declared.line.Line.TheVariants.{Enter, Status, Sync, Pull}
@@ -37,7 +39,7 @@ use Rattle.shell_lang.specs.declared.answer.Answer.{Answer}
 use Rattle.shell_lang.specs.declared.answer.Answer.TheVariants as answers
 use Rattle.client_session.specs.Session.{SessionState, with_log, with_folder, LogTurn, LineTurn, local_answer, word_answer, status_answer, sync_answer, pull_answer}
 use Rattle.client_session.specs.Looking.{enter_answer, folder_by}
-use Rattle.client_session.specs.Doing.{Does, WentDoing, LineEnds}
+use Rattle.client_session.specs.Doing.{Telling, beside, Does, WentDoing, LineEnds}
 use Rattle.client_session.specs.Inside.{IsGiven, GivesEffect, LogEnds, Logs, LogsMade}
 use Rattle.client_session.specs.Causes.{HasLineCause, is_sync_fault, is_pull_fault, answered}
 use Rattle.client_session.proofs.Doing.{does_none, does_as}
@@ -45,7 +47,7 @@ use Rattle.client_session.proofs.Doing.{does_none, does_as}
 -- what a line that asks nothing of the server does in any world, where the keeper's images were these and are those now
 abbrev pub Quietly : List ℕ → SessionState → Result Line LineError → Result (Option Answer) KeepError → SessionState → Option Images → Option Images → Type 0
 Quietly name before line result after images now =
-    (route : Route) (troubles : ℕ) (world : World) → (kept : Log) × Does name (LineEnds route before line result after kept) before after kept images now troubles troubles world world
+    (route : Route) (told : Telling) (world : World) → (kept : Log) × Does name (LineEnds route before line result after kept) before after kept images now told told world world
 
 -- a state of the same client in the same folder has another log at most
 pub same_but_log : (before after : SessionState) → after.client.number ≡ before.client.number → after.folder ≡ before.folder → after ≡ with_log before after.client.log
@@ -59,25 +61,25 @@ kept_ok name client log None None done told = tt
 kept_ok name client log None (Some j) done told = absurd (cc)
 
 -- some world
-a_world : World
+pub a_world : World
 a_world = record { client = 1; opening = new_served; taken = []; served = new_served; packets = []; asks = [] }
 
 module _ (name : List ℕ) (i : Option Images) where
   -- ---- a line that asks nothing of the server
 
   -- over each link it does the same
-  pub quietly_told : (before : SessionState) (line : Result Line LineError) (r : Result (Option Answer) KeepError) (after : SessionState) (j : Option Images) → Quietly name before line r after i j → (route : Route) (t : LinkTelling)
+  pub quietly_told : (before : SessionState) (line : Result Line LineError) (r : Result (Option Answer) KeepError) (after : SessionState) (j : Option Images) → Quietly name before line r after i j → (route : Route) (t : Telling)
       → WentDoing name (LineEnds route before line r after) before after i j t t
   quietly_told before line r after j quiet route t =
-      told_start t.world (λ x y. (kept : Log) × Does name (LineEnds route before line r after kept) before after kept i j t.troubles t.troubles x y) (quiet route t.troubles)
+      told_start t.link.world (λ x y. (kept : Log) × Does name (LineEnds route before line r after kept) before after kept i j t t x y) (quiet route t)
 
   -- and so it has its turn over any link
-  pub quietly_caused : (before : SessionState) (line : Result Line LineError) (r : Result (Option Answer) KeepError) (after : SessionState) (j : Option Images) → Quietly name before line r after i j → (route : Route)
-      → (kept : Log) × (trace : Trace) × LineEnds route before line r after kept trace
-  quietly_caused before line r after j quiet route = let here = quiet route 0 a_world in (here.0, here.1.goes.trace, here.1.goes.turn)
+  pub quietly_caused : (before : SessionState) (line : Result Line LineError) (r : Result (Option Answer) KeepError) (after : SessionState) (j : Option Images) → Quietly name before line r after i j → (route : Route) (t : Telling)
+      → (kept : Log) × (trace : Trace) × LineEnds route before line r after kept trace × HasRun trace.runs trace.missed t.runner t.runner
+  quietly_caused before line r after j quiet route t = let here = quiet route t a_world in (here.0, here.1.goes.trace, here.1.goes.turn, here.1.goes.has_run)
 
   -- as what the line reads as
-  pub line_world : (route : Route) (before : SessionState) (read line : Result Line LineError) (r : Result (Option Answer) KeepError) (after : SessionState) (j : Option Images) (t : LinkTelling) → read ≡ line
+  pub line_world : (route : Route) (before : SessionState) (read line : Result Line LineError) (r : Result (Option Answer) KeepError) (after : SessionState) (j : Option Images) (t : Telling) → read ≡ line
       → Quietly name before line r after i j → WentDoing name (LineEnds route before read r after) before after i j t t
   line_world route before read line r after j t is quiet =
       subst (λ (l : Result Line LineError). WentDoing name (LineEnds route before l r after) before after i j t t) (sym is) (quietly_told before line r after j quiet route t)
@@ -112,7 +114,7 @@ module _ (name : List ℕ) (i : Option Images) where
           before.client.log,
           record {
             number = refl;
-            goes = goes_none name before.client.number (LineEnds route before (Ok (Enter word)) (Ok given) there before.client.log) before.client.log i t w keeps ((is, refl, refl), refl);
+            goes = goes_none name before.client.number (LineEnds route before (Ok (Enter word)) (Ok given) there before.client.log) before.client.log i t.runner t.link.troubles w keeps ((is, refl, refl), refl);
           },
         ))
     enter_quietly after word (Err e) is entered same = subst (λ (s : SessionState). Quietly name before (Ok (Enter word)) (Err e) s i i) (sym same) (breaks_quietly (Ok (Enter word)) e)
@@ -160,7 +162,7 @@ module _ (name : List ℕ) (i : Option Images) where
 
       -- the log refused the effect
       pub refusal_given : (made : Result Effect PathError) (refusal : LogError) (told : Option Answer) (r : Result (Option Answer) KeepError) → made ≡ Ok effect → told ≡ local_answer (Err refusal) → IsGiven told r
-          → (refusal ≢ logs.Memory → appended (effect ∷ []) before.client.log ≡ Err refusal) → after.client ≡ before.client → IsLog after.client.log → LogsMade name made before r after i i
+          → (refusal ≢ logs.Memory → appended None (effect ∷ []) before.client.log ≡ Err refusal) → after.client ≡ before.client → IsLog after.client.log → LogsMade name made before r after i i
       refusal_given made refusal (Some answer) (Ok given) is shown gave err same is_log = λ named gives.
           let is_named : named ≡ Ok effect = subst (λ (m : Result Effect PathError). GivesEffect m named) is gives in
           let log_same : after.client.log ≡ before.client.log = ap (λ (c : Client). c.log) same in
@@ -170,8 +172,8 @@ module _ (name : List ℕ) (i : Option Images) where
             before.client.log,
             record {
               number = number;
-              goes = goes_as name before.client.number (LocalEnds effect before.client.log (Err refusal) after.client.log) (LogEnds (Ok effect) before (Ok (Some answer)) after before.client.log) before.client.log after.client.log before.client.log i i t t w w
-                  (local_goes name before.client.number effect before.client.log after.client.log i keeps (Err refusal) tt tt err log_same is_log t w)
+              goes = goes_as name before.client.number (LocalEnds effect before.client.log (Err refusal) after.client.log) (LogEnds (Ok effect) before (Ok (Some answer)) after before.client.log) before.client.log after.client.log before.client.log i i t.runner t.runner t.link.troubles t.link.troubles w w
+                  (local_goes name before.client.number effect before.client.log after.client.log i keeps (Err refusal) tt tt err log_same is_log t.runner t.link.troubles w)
                   (λ trace turn. (refused_turn refusal answer shown trace turn, sym log_same));
             },
           )))
@@ -183,7 +185,7 @@ module _ (name : List ℕ) (i : Option Images) where
       refusal_given made refusal None (Ok given) is shown gave err same is_log = absurd gave
 
       -- it was logged, and the client was to be kept
-      module _ (seq : ℕ) (j : Option Images) (ok : appended (effect ∷ []) before.client.log ≡ Ok after.client.log) (shown : seq ≡ (local_entry effect before.client.log).seq) (is_log : IsLog after.client.log) where
+      module _ (seq : ℕ) (j : Option Images) (ok : appended None (effect ∷ []) before.client.log ≡ Ok after.client.log) (shown : seq ≡ (local_entry effect before.client.log).seq) (is_log : IsLog after.client.log) where
         local_changes : (trace : Trace) → LocalEnds effect before.client.log (Ok seq) after.client.log trace → trace.changes ≢ []
         local_changes trace (inl turn) = changed_so trace.changes after.client.log [] (ap (λ (n : Trace). n.changes) turn.2)
         local_changes trace (inr memory) = absurd (cc (memory.0))
@@ -192,11 +194,11 @@ module _ (name : List ℕ) (i : Option Images) where
         logged_turn trace (inl turn) = (Ok seq, turn, same_but_log before after number folder, refl)
         logged_turn trace (inr memory) = absurd (cc (memory.0))
 
-        goes_kept : (r : Result (Unit {0}) KeepError) → Told i j (KeepsLog name before.client.number after.client.log r) → (t : ℕ) (w : World)
-            → (kept : Log) × Goes before.client.number name (LocalEnds effect before.client.log (Ok seq) after.client.log) before.client.log after.client.log kept i j t t w w × IfOk r (λ done. kept ≡ after.client.log)
+        goes_kept : (r : Result (Unit {0}) KeepError) → Told i j (KeepsLog name before.client.number after.client.log r) → (t : Telling) (w : World)
+            → (kept : Log) × Goes before.client.number name (LocalEnds effect before.client.log (Ok seq) after.client.log) before.client.log after.client.log kept i j t.runner t.runner t.link.troubles t.link.troubles w w × IfOk r (λ done. kept ≡ after.client.log)
         goes_kept r save t w =
-            let goes = local_goes name before.client.number effect before.client.log after.client.log i keeps (Ok seq) ok shown tt tt is_log t w in
-            goes_saved name before.client.number (LocalEnds effect before.client.log (Ok seq) after.client.log) before.client.log after.client.log before.client.log i i j t t w w r goes (local_changes goes.trace goes.turn) save
+            let goes = local_goes name before.client.number effect before.client.log after.client.log i keeps (Ok seq) ok shown tt tt is_log t.runner t.link.troubles w in
+            goes_saved name before.client.number (LocalEnds effect before.client.log (Ok seq) after.client.log) before.client.log after.client.log before.client.log i i j t.runner t.runner t.link.troubles t.link.troubles w w r goes (local_changes goes.trace goes.turn) save
 
         pub logged_kept : (made : Result Effect PathError) (done : Unit {0}) → made ≡ Ok effect → Told i j (KeepsLog {E = KeepError} name before.client.number after.client.log (Ok done))
             → LogsMade name made before (Ok (Some (answers.Logged seq))) after i j
@@ -208,7 +210,7 @@ module _ (name : List ℕ) (i : Option Images) where
               saved.0,
               record {
                 number = number;
-                goes = goes_as name before.client.number (LocalEnds effect before.client.log (Ok seq) after.client.log) (LogEnds (Ok effect) before (Ok (Some (answers.Logged seq))) after saved.0) before.client.log after.client.log saved.0 i j t t w w
+                goes = goes_as name before.client.number (LocalEnds effect before.client.log (Ok seq) after.client.log) (LogEnds (Ok effect) before (Ok (Some (answers.Logged seq))) after saved.0) before.client.log after.client.log saved.0 i j t.runner t.runner t.link.troubles t.link.troubles w w
                     saved.1 (λ trace turn. (logged_turn trace turn, saved.2));
               },
             ))
@@ -222,7 +224,7 @@ module _ (name : List ℕ) (i : Option Images) where
               saved.0,
               record {
                 number = number;
-                goes = goes_as name before.client.number (LocalEnds effect before.client.log (Ok seq) after.client.log) (LogEnds (Ok effect) before (Err e) after saved.0) before.client.log after.client.log saved.0 i j t t w w
+                goes = goes_as name before.client.number (LocalEnds effect before.client.log (Ok seq) after.client.log) (LogEnds (Ok effect) before (Err e) after saved.0) before.client.log after.client.log saved.0 i j t.runner t.runner t.link.troubles t.link.troubles w w
                     saved.1 (λ trace turn. inr (Some (answers.Logged seq), logged_turn trace turn));
               },
             ))
@@ -262,17 +264,18 @@ broken_silent (syncs.Behind seq last) is = absurd (cc)
 broken_silent syncs.KeepFault is = refl
 broken_silent syncs.Memory is = refl
 
-module _ (route : Route) (before after : SessionState) (k : Log) (i j : Option Images) (t u : ℕ) (x y : World) (number : after.client.number ≡ before.client.number) (folder : after.folder ≡ before.folder) (end : SyncEnd)
-    (goes : Goes before.client.number route.image (SyncEnds before.client.number route before.client.log end after.client.log k) before.client.log after.client.log k i j t u x y) where
+module _ (route : Route) (before after : SessionState) (k : Log) (i j : Option Images) (t u : LinkTelling) (x y : World) (number : after.client.number ≡ before.client.number) (folder : after.folder ≡ before.folder) (end : SyncEnd)
+    (goes : Goes before.client.number route.image (SyncEnds before.client.number route before.client.log end after.client.log k) before.client.log after.client.log k i j no_runner no_runner t.troubles u.troubles x y) (runner : RunnerTelling) where
   abbrev Did : Result (Option Answer) KeepError → Type 0
-  Did r = (kept : Log) × Does route.image (LineEnds route before (Ok Sync) r after kept) before after kept i j t u x y
+  Did r = (kept : Log) × Does route.image (LineEnds route before (Ok Sync) r after kept) before after kept i j (beside t runner) (beside u runner) x y
 
   sync_as : (r : Result (Option Answer) KeepError) → ((trace : Trace) → SyncEnds before.client.number route before.client.log end after.client.log k trace → LineEnds route before (Ok Sync) r after k trace) → Did r
   sync_as r to = (
     k,
     record {
       number = number;
-      goes = goes_as route.image before.client.number (SyncEnds before.client.number route before.client.log end after.client.log k) (LineEnds route before (Ok Sync) r after k) before.client.log after.client.log k i j t u x y goes to;
+      goes = goes_as route.image before.client.number (SyncEnds before.client.number route before.client.log end after.client.log k) (LineEnds route before (Ok Sync) r after k) before.client.log after.client.log k i j runner runner t.troubles u.troubles x y
+          (goes_beside route.image before.client.number (SyncEnds before.client.number route before.client.log end after.client.log k) before.client.log after.client.log k i j t.troubles u.troubles x y goes runner) to;
     },
   )
 
@@ -296,16 +299,16 @@ module _ (route : Route) (before after : SessionState) (k : Log) (i j : Option I
 pub sync_went : (route : Route) (before after : SessionState) (i j : Option Images) (t u : LinkTelling) (number : after.client.number ≡ before.client.number) (folder : after.folder ≡ before.folder) (end : SyncEnd)
     (fault : Bool) (told : Option Answer) (r : Result (Option Answer) KeepError) → told ≡ sync_answer end → r ≡ answered fault told
     → Went before.client.number route.image (SyncEnds before.client.number route before.client.log end after.client.log) before.client.log after.client.log i j t u
-    → WentDoing route.image (LineEnds route before (Ok Sync) r after) before after i j t u
-sync_went route before after i j t u number folder end fault told r shown is went =
-    told_as t.world u.world (λ x y. (kept : Log) × Goes before.client.number route.image (SyncEnds before.client.number route before.client.log end after.client.log kept) before.client.log after.client.log kept i j t.troubles u.troubles x y)
-    (λ x y. (kept : Log) × Does route.image (LineEnds route before (Ok Sync) r after kept) before after kept i j t.troubles u.troubles x y) went
-    (λ x y did. sync_given route before after did.0 i j t.troubles u.troubles x y number folder end did.1 fault told r shown is)
+    → (runner : RunnerTelling) → WentDoing route.image (LineEnds route before (Ok Sync) r after) before after i j (beside t runner) (beside u runner)
+sync_went route before after i j t u number folder end fault told r shown is went runner =
+    told_as t.world u.world (λ x y. (kept : Log) × Goes before.client.number route.image (SyncEnds before.client.number route before.client.log end after.client.log kept) before.client.log after.client.log kept i j no_runner no_runner t.troubles u.troubles x y)
+    (λ x y. (kept : Log) × Does route.image (LineEnds route before (Ok Sync) r after kept) before after kept i j (beside t runner) (beside u runner) x y) went
+    (λ x y did. sync_given route before after did.0 i j t u x y number folder end did.1 runner fault told r shown is)
 
 pub sync_cause : (route : Route) (before after : SessionState) (t u : LinkTelling) (p q : ℕ) (number : after.client.number ≡ before.client.number) (folder : after.folder ≡ before.folder)
     → AcknowledgesSome before.client.log after.client.log → (end : SyncEnd) (fault : Bool) (told : Option Answer) (r : Result (Option Answer) KeepError) → told ≡ sync_answer end → fault ≡ is_sync_fault end
-    → r ≡ answered fault told → HasSyncCause end after.client.log t.troubles u.troubles p q → HasLineCause route before (Ok Sync) r after t u p q
-sync_cause route before after t u p q number folder some end fault told r shown faulty is cause =
+    → r ≡ answered fault told → HasSyncCause end after.client.log t.troubles u.troubles p q → ((runner : RunnerTelling) → HasLineCause route before (Ok Sync) r after (beside t runner) (beside u runner) p q)
+sync_cause route before after t u p q number folder some end fault told r shown faulty is cause runner =
     (same_but_log before after number folder, some, (end, is ∙ ap (λ (b : Bool). answered b told) faulty ∙ ap (answered (is_sync_fault end)) shown, cause))
 
 -- the keeper's faults are counted by the answer as by the end
@@ -357,17 +360,18 @@ broken_unsaid pulls.Unanswered is = absurd (cc)
 broken_unsaid pulls.KeepFault is = refl
 broken_unsaid pulls.Memory is = refl
 
-module _ (route : Route) (before after : SessionState) (k : Log) (i j : Option Images) (t u : ℕ) (x y : World) (number : after.client.number ≡ before.client.number) (folder : after.folder ≡ before.folder) (end : PullEnd)
-    (goes : Goes before.client.number route.image (PullEnds before.client.number route before.client.log end after.client.log k) before.client.log after.client.log k i j t u x y) where
+module _ (route : Route) (before after : SessionState) (k : Log) (i j : Option Images) (t u : LinkTelling) (x y : World) (number : after.client.number ≡ before.client.number) (folder : after.folder ≡ before.folder) (end : PullEnd)
+    (goes : Goes before.client.number route.image (PullEnds before.client.number route before.client.log end after.client.log k) before.client.log after.client.log k i j no_runner no_runner t.troubles u.troubles x y) (runner : RunnerTelling) where
   abbrev Pulls_so : Result (Option Answer) KeepError → Type 0
-  Pulls_so r = (kept : Log) × Does route.image (LineEnds route before (Ok Pull) r after kept) before after kept i j t u x y
+  Pulls_so r = (kept : Log) × Does route.image (LineEnds route before (Ok Pull) r after kept) before after kept i j (beside t runner) (beside u runner) x y
 
   pull_as : (r : Result (Option Answer) KeepError) → ((trace : Trace) → PullEnds before.client.number route before.client.log end after.client.log k trace → LineEnds route before (Ok Pull) r after k trace) → Pulls_so r
   pull_as r to = (
     k,
     record {
       number = number;
-      goes = goes_as route.image before.client.number (PullEnds before.client.number route before.client.log end after.client.log k) (LineEnds route before (Ok Pull) r after k) before.client.log after.client.log k i j t u x y goes to;
+      goes = goes_as route.image before.client.number (PullEnds before.client.number route before.client.log end after.client.log k) (LineEnds route before (Ok Pull) r after k) before.client.log after.client.log k i j runner runner t.troubles u.troubles x y
+          (goes_beside route.image before.client.number (PullEnds before.client.number route before.client.log end after.client.log k) before.client.log after.client.log k i j t.troubles u.troubles x y goes runner) to;
     },
   )
 
@@ -391,16 +395,16 @@ module _ (route : Route) (before after : SessionState) (k : Log) (i j : Option I
 pub pull_went : (route : Route) (before after : SessionState) (i j : Option Images) (t u : LinkTelling) (number : after.client.number ≡ before.client.number) (folder : after.folder ≡ before.folder) (end : PullEnd)
     (fault : Bool) (told : Option Answer) (r : Result (Option Answer) KeepError) → told ≡ pull_answer end → r ≡ answered fault told
     → Went before.client.number route.image (PullEnds before.client.number route before.client.log end after.client.log) before.client.log after.client.log i j t u
-    → WentDoing route.image (LineEnds route before (Ok Pull) r after) before after i j t u
-pull_went route before after i j t u number folder end fault told r shown is went =
-    told_as t.world u.world (λ x y. (kept : Log) × Goes before.client.number route.image (PullEnds before.client.number route before.client.log end after.client.log kept) before.client.log after.client.log kept i j t.troubles u.troubles x y)
-    (λ x y. (kept : Log) × Does route.image (LineEnds route before (Ok Pull) r after kept) before after kept i j t.troubles u.troubles x y) went
-    (λ x y did. pull_given route before after did.0 i j t.troubles u.troubles x y number folder end did.1 fault told r shown is)
+    → (runner : RunnerTelling) → WentDoing route.image (LineEnds route before (Ok Pull) r after) before after i j (beside t runner) (beside u runner)
+pull_went route before after i j t u number folder end fault told r shown is went runner =
+    told_as t.world u.world (λ x y. (kept : Log) × Goes before.client.number route.image (PullEnds before.client.number route before.client.log end after.client.log kept) before.client.log after.client.log kept i j no_runner no_runner t.troubles u.troubles x y)
+    (λ x y. (kept : Log) × Does route.image (LineEnds route before (Ok Pull) r after kept) before after kept i j (beside t runner) (beside u runner) x y) went
+    (λ x y did. pull_given route before after did.0 i j t u x y number folder end did.1 runner fault told r shown is)
 
 pub pull_cause : (route : Route) (before after : SessionState) (t u : LinkTelling) (p q : ℕ) (number : after.client.number ≡ before.client.number) (folder : after.folder ≡ before.folder)
     → (end : PullEnd) (fault : Bool) (told : Option Answer) (r : Result (Option Answer) KeepError) → told ≡ pull_answer end → fault ≡ is_pull_fault end
-    → r ≡ answered fault told → HasPullCause end before.client.log after.client.log t.troubles u.troubles p q → HasLineCause route before (Ok Pull) r after t u p q
-pull_cause route before after t u p q number folder end fault told r shown faulty is cause =
+    → r ≡ answered fault told → HasPullCause end before.client.log after.client.log t.troubles u.troubles p q → ((runner : RunnerTelling) → HasLineCause route before (Ok Pull) r after (beside t runner) (beside u runner) p q)
+pull_cause route before after t u p q number folder end fault told r shown faulty is cause runner =
     (same_but_log before after number folder, (end, is ∙ ap (λ (b : Bool). answered b told) faulty ∙ ap (answered (is_pull_fault end)) shown, cause))
 
 pub pull_counts : (p q : ℕ) (end : PullEnd) (fault : Bool) (told : Option Answer) (r : Result (Option Answer) KeepError) → told ≡ pull_answer end → fault ≡ is_pull_fault end → r ≡ answered fault told

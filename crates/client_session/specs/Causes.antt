@@ -3,20 +3,20 @@ use Rattle.std.specs.Prelude.{◌≡◌, ℕ, Bool, true, false, Option, None, S
 use Rattle.outside.specs.declared.errors.KeepError.{KeepError}
 use Rattle.outside.specs.declared.errors.KeepError.TheVariants as keepers
 use Rattle.mod_log.specs.Log.{Log}
-use Rattle.world_rules.specs.Telling.{LinkTelling}
 use Rattle.client_core.specs.declared.route.Route.{Route}
 use Rattle.client_core.specs.declared.syncing.SyncEnd.{SyncEnd}
 use Rattle.client_core.specs.declared.syncing.SyncEnd.TheVariants as syncs
 use Rattle.client_core.specs.declared.pulling.PullEnd.{PullEnd}
 use Rattle.client_core.specs.declared.pulling.PullEnd.TheVariants as pulls
 use Rattle.client_core.specs.Trace.{Trace}
+use Rattle.cmd_capture.specs.Runs.{HasRun}
 use Rattle.client_core.specs.Causes.{HasSyncCause, HasPullCause, AcknowledgesSome}
 use Rattle.shell_lang.specs.declared.line.Line.{Line}
-use Rattle.shell_lang.specs.declared.line.Line.TheVariants.{Sync, Pull}
+use Rattle.shell_lang.specs.declared.line.Line.TheVariants.{Run, Sync, Pull}
 use Rattle.shell_lang.specs.declared.line.LineError.{LineError}
 use Rattle.shell_lang.specs.declared.answer.Answer.{Answer}
 use Rattle.client_session.specs.Session.{SessionState, with_log, sync_answer, pull_answer}
-use Rattle.client_session.specs.Doing.{LineEnds}
+use Rattle.client_session.specs.Doing.{Telling, LineEnds}
 
 -- whether a keeping failed in a sync
 abbrev pub is_sync_fault : SyncEnd → Bool
@@ -34,14 +34,20 @@ answered true answer = Err keepers.Failed
 answered false None = Err keepers.Memory
 answered false (Some answer) = Ok (Some answer)
 
+-- whether a line asks for a run
+abbrev pub is_run : Result Line LineError → Bool
+is_run (Ok (Run words)) = true
+is_run line = false
+
 -- A sync acknowledges some entries and a pull may replace the base, and nothing else of the session changes; each ends with a cause,
--- and is answered so. Every other line has its turn, or was broken off.
-abbrev pub HasLineCause : Route → SessionState → Result Line LineError → Result (Option Answer) KeepError → SessionState → LinkTelling → LinkTelling → ℕ → ℕ → Type 0
+-- and is answered so. Every other line has its turn, or was broken off; what its runs were, the runner tells, and its faults rose
+-- where a line was answered `not run`.
+abbrev pub HasLineCause : Route → SessionState → Result Line LineError → Result (Option Answer) KeepError → SessionState → Telling → Telling → ℕ → ℕ → Type 0
 HasLineCause route before (Ok Sync) result after old new faults faults_now =
     (after ≡ with_log before after.client.log) × AcknowledgesSome before.client.log after.client.log
-    × ((end : SyncEnd) × (result ≡ answered (is_sync_fault end) (sync_answer end)) × HasSyncCause end after.client.log old.troubles new.troubles faults faults_now)
+    × ((end : SyncEnd) × (result ≡ answered (is_sync_fault end) (sync_answer end)) × HasSyncCause end after.client.log old.link.troubles new.link.troubles faults faults_now)
 HasLineCause route before (Ok Pull) result after old new faults faults_now =
     (after ≡ with_log before after.client.log)
     × ((end : PullEnd) × (result ≡ answered (is_pull_fault end) (pull_answer end))
-    × HasPullCause end before.client.log after.client.log old.troubles new.troubles faults faults_now)
-HasLineCause route before line result after old new faults faults_now = (kept : Log) × (trace : Trace) × LineEnds route before line result after kept trace
+    × HasPullCause end before.client.log after.client.log old.link.troubles new.link.troubles faults faults_now)
+HasLineCause route before line result after old new faults faults_now = (kept : Log) × (trace : Trace) × LineEnds route before line result after kept trace × HasRun trace.runs trace.missed old.runner new.runner

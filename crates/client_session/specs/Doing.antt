@@ -7,22 +7,31 @@ use Rattle.world_rules.specs.World.{World}
 use Rattle.world_rules.specs.Telling.{LinkTelling, ToldWorlds}
 use Rattle.client_core.specs.declared.route.Route.{Route}
 use Rattle.client_core.specs.Trace.{Trace}
+use Rattle.cmd_capture.specs.Runs.{RunnerTelling}
 use Rattle.client_core.specs.Goes.{Goes}
 use Rattle.shell_lang.specs.declared.line.Line.{Line}
 use Rattle.shell_lang.specs.declared.line.LineError.{LineError}
 use Rattle.shell_lang.specs.declared.answer.Answer.{Answer}
 use Rattle.client_session.specs.Session.{SessionState, LineTurn, Broken}
 
+-- what the link and the runner of a session tell at one moment
+pub record Telling : Type 0 where
+  pub link : LinkTelling
+  pub runner : RunnerTelling
+
+abbrev pub beside : LinkTelling → RunnerTelling → Telling
+beside link runner = record { link = link; runner = runner }
+
 -- Between two moments a session did what these turns say: it is the same client's, and this client, what is kept of it under the
--- name and the world went on together.
-pub record Does (name : List ℕ) (turns : Trace → Type 0) (before after : SessionState) (kept : Log) (images images_now : Option Images) (troubles now : ℕ) (old new : World) : Type 0 where
+-- name, what the runner tells and the world went on together.
+pub record Does (name : List ℕ) (turns : Trace → Type 0) (before after : SessionState) (kept : Log) (images images_now : Option Images) (told now : Telling) (old new : World) : Type 0 where
   pub number : after.client.number ≡ before.client.number
-  pub goes : Goes before.client.number name turns before.client.log after.client.log kept images images_now troubles now old new
+  pub goes : Goes before.client.number name turns before.client.log after.client.log kept images images_now told.runner now.runner told.link.troubles now.link.troubles old new
 
 -- Over a link that tells its world, a session did what these turns of what is kept at the end say.
-abbrev pub WentDoing : List ℕ → (Log → Trace → Type 0) → SessionState → SessionState → Option Images → Option Images → LinkTelling → LinkTelling → Type 0
+abbrev pub WentDoing : List ℕ → (Log → Trace → Type 0) → SessionState → SessionState → Option Images → Option Images → Telling → Telling → Type 0
 WentDoing name turns before after images images_now old new =
-    ToldWorlds old new (λ v w. (kept : Log) × Does name (turns kept) before after kept images images_now old.troubles new.troubles v w)
+    ToldWorlds old.link new.link (λ v w. (kept : Log) × Does name (turns kept) before after kept images images_now old new v w)
 
 -- a line that was answered and after which the log is kept, or one that was broken off
 abbrev pub LineEnds : Route → SessionState → Result Line LineError → Result (Option Answer) KeepError → SessionState → Log → Trace → Type 0

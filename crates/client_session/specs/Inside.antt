@@ -1,4 +1,4 @@
--- Words that only contracts of private functions cite, of lines that log.
+-- Words that only contracts of private functions cite, of lines that log or run.
 use Rattle.std.specs.Prelude.{◌≡◌, ◌≢◌, ◌⊎◌, ℕ, ⊤, List, Option, Some, None, Result, Ok, Err}
 use Rattle.outside.specs.Keeper.{Images}
 use Rattle.outside.specs.declared.errors.KeepError.{KeepError}
@@ -7,11 +7,17 @@ use Rattle.mod_log.specs.Log.{Log}
 use Rattle.file_paths.specs.declared.path.PathError.{PathError}
 use Rattle.file_paths.specs.declared.path.PathError.TheVariants.{Memory}
 use Rattle.tree_values.specs.declared.node.Effect.{Effect}
+use Rattle.cmd_capture.specs.declared.command.Command.{Command}
+use Rattle.cmd_capture.specs.Capture.{capture}
 use Rattle.world_rules.specs.World.{World}
+use Rattle.world_rules.specs.Telling.{LinkTelling}
+use Rattle.client_core.specs.declared.route.Route.{Route}
+use Rattle.cmd_capture.specs.Runs.{RunnerTelling}
 use Rattle.client_core.specs.Trace.{Trace, nothing}
+use Rattle.shell_lang.specs.declared.line.Line.TheVariants.{Run as RunLine}
 use Rattle.shell_lang.specs.declared.answer.Answer.{Answer}
 use Rattle.client_session.specs.Session.{SessionState, LogTurn}
-use Rattle.client_session.specs.Doing.{Does}
+use Rattle.client_session.specs.Doing.{Telling, beside, Does, LineEnds}
 
 -- an answer is given where there is one, and else memory was wanted
 abbrev pub IsGiven : Option Answer → Result (Option Answer) KeepError → Type 0
@@ -34,8 +40,20 @@ LogEnds named before (Err error) after kept trace =
 -- what it does in any world, where the keeper's images were these and are those now
 abbrev pub Logs : List ℕ → Result Effect PathError → SessionState → Result (Option Answer) KeepError → SessionState → Option Images → Option Images → Type 0
 Logs name named before result after images now =
-    (troubles : ℕ) (world : World) → (kept : Log) × Does name (LogEnds named before result after kept) before after kept images now troubles troubles world world
+    (told : Telling) (world : World) → (kept : Log) × Does name (LogEnds named before result after kept) before after kept images now told told world world
 
 -- the same of an effect that was made, whatever it was made of
 abbrev pub LogsMade : List ℕ → Result Effect PathError → SessionState → Result (Option Answer) KeepError → SessionState → Option Images → Option Images → Type 0
 LogsMade name made before result after images now = (named : Result Effect PathError) → GivesEffect made named → Logs name named before result after images now
+
+-- What a command of a line does in any world, where the keeper's images and what the runner tells were these and are those now: the
+-- line has its turn, or is broken off.
+abbrev pub RunsLine : Route → List (List ℕ) → SessionState → Result (Option Answer) KeepError → SessionState → Option Images → Option Images → RunnerTelling → RunnerTelling → Type 0
+RunsLine route words before result after images now runner ran =
+    (link : LinkTelling) (world : World)
+    → (kept : Log) × Does route.image (LineEnds route before (Ok (RunLine words)) result after kept) before after kept images now (beside link runner) (beside link ran) world world
+
+-- the same of a command, whatever words made it
+abbrev pub RunsMade : Route → Command → SessionState → Result (Option Answer) KeepError → SessionState → Option Images → Option Images → RunnerTelling → RunnerTelling → Type 0
+RunsMade route command before result after images now runner ran =
+    (words : List (List ℕ)) → capture words before.folder ≡ Ok command → RunsLine route words before result after images now runner ran

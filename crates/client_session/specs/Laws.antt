@@ -1,5 +1,6 @@
 -- What holds of every session.
-use Rattle.std.specs.Prelude.{◌≡◌, ◌⊎◌, ◌+◌, length, List, [], ◌∷◌, Option, Result}
+use Rattle.std.specs.Prelude.{◌≡◌, ◌⊎◌, ◌+◌, ◌≤◌, length, List, [], ◌∷◌, map, Option, Result}
+use Rattle.std.specs.List.{count_by}
 use Rattle.tree_values.specs.Tree.{Volume}
 use Rattle.mod_log.specs.declared.log.Entry.{Entry}
 use Rattle.mod_log.specs.Log.{Log, logged, pulled}
@@ -9,7 +10,8 @@ use Rattle.client_core.specs.Syncing.{acknowledged_first}
 use Rattle.shell_lang.specs.declared.line.Line.{Line}
 use Rattle.shell_lang.specs.declared.line.LineError.{LineError}
 use Rattle.shell_lang.specs.declared.answer.Answer.{Answer}
-use Rattle.client_session.specs.Session.{SessionState, Chain}
+use Rattle.client_session.specs.Causes.{is_run}
+use Rattle.client_session.specs.Session.{SessionState, Chain, is_unrun}
 
 -- one entry with the next number is logged, the first pending one is acknowledged, or the base is replaced by a pull
 abbrev pub IsChange : Log → Log → Type 0
@@ -26,7 +28,18 @@ abbrev pub SessionsChangeSo : Type 0
 SessionsChangeSo = (route : Route) (before : SessionState) (lines : List (Result Line LineError)) (answers : List (Option Answer)) (after : SessionState) (trace : Trace)
     → Chain route before lines answers after trace → ChangesLeadTo before.client.log trace.changes after.client.log
 
--- Its lines and its asks make a session: from one state on they leave only one way to answer, to log and to change.
-abbrev pub AsksMakeSessions : Type 0
-AsksMakeSessions = (route : Route) (before : SessionState) (lines : List (Result Line LineError)) (xs ys : List (Option Answer)) (a b : SessionState) (p q : Trace)
-    → Chain route before lines xs a p → Chain route before lines ys b q → p.asks ≡ q.asks → (xs ≡ ys) × (a ≡ b) × (p ≡ q)
+-- Its lines, its asks, its runs and which lines were not run make a session: from one state on they leave only one way to answer, to
+-- log and to change.
+abbrev pub AsksAndRunsMakeSessions : Type 0
+AsksAndRunsMakeSessions = (route : Route) (before : SessionState) (lines : List (Result Line LineError)) (xs ys : List (Option Answer)) (a b : SessionState) (p q : Trace)
+    → Chain route before lines xs a p → Chain route before lines ys b q → p.asks ≡ q.asks → p.runs ≡ q.runs → map is_unrun xs ≡ map is_unrun ys → (xs ≡ ys) × (a ≡ b) × (p ≡ q)
+
+-- The lines that were answered `not run` are as many as the runs that failed.
+abbrev pub UnrunLinesAreCounted : Type 0
+UnrunLinesAreCounted = (route : Route) (before : SessionState) (lines : List (Result Line LineError)) (answers : List (Option Answer)) (after : SessionState) (trace : Trace)
+    → Chain route before lines answers after trace → count_by is_unrun answers ≡ trace.missed
+
+-- Each run, failed ones too, is of a line `run`, and no line has two.
+abbrev pub LinesRunOnce : Type 0
+LinesRunOnce = (route : Route) (before : SessionState) (lines : List (Result Line LineError)) (answers : List (Option Answer)) (after : SessionState) (trace : Trace)
+    → Chain route before lines answers after trace → length trace.runs + trace.missed ≤ count_by is_run lines

@@ -1,10 +1,16 @@
 -- A session: what each line logs, asks of the server and answers. It knows no memory and no keeper, and nothing of how its input comes.
-use Rattle.std.specs.Prelude.{◌≡◌, ◌⊎◌, ℕ, List, [], ◌∷◌, ◌++◌, length, Option, None, Some, Result, Ok, Err}
+use Rattle.std.specs.Prelude.{◌≡◌, ◌⊎◌, ℕ, Bool, true, false, List, [], ◌∷◌, ◌++◌, length, Option, None, Some, Result, Ok, Err}
 use Rattle.file_paths.specs.Path.{FilePath, resolved}
 use Rattle.file_paths.specs.declared.path.PathError.{PathError}
 use Rattle.file_paths.specs.declared.path.PathError.TheVariants as paths
 use Rattle.tree_values.specs.declared.node.Effect.{Effect}
 use Rattle.tree_values.specs.declared.node.Effect.TheVariants as effects
+use Rattle.cmd_capture.specs.declared.command.Command.{Command}
+use Rattle.cmd_capture.specs.declared.capturing.CaptureError.{CaptureError}
+use Rattle.cmd_capture.specs.declared.capturing.CaptureError.TheVariants as captures
+use Rattle.cmd_capture.specs.Capture.{capture}
+use Rattle.work_area.specs.declared.jobs.JobError.{JobError}
+use Rattle.work_area.specs.declared.jobs.JobError.TheVariants as jobs
 use Rattle.mod_log.specs.declared.log.LogError.{LogError}
 use Rattle.mod_log.specs.declared.log.LogError.TheVariants as logs
 use Rattle.mod_log.specs.Log.{Log, tree_of}
@@ -13,15 +19,18 @@ use Rattle.client_core.specs.declared.syncing.SyncEnd.{SyncEnd}
 use Rattle.client_core.specs.declared.syncing.SyncEnd.TheVariants as ends
 use Rattle.client_core.specs.declared.pulling.PullEnd.{PullEnd}
 use Rattle.client_core.specs.declared.pulling.PullEnd.TheVariants as pulls
+use Rattle.client_core.specs.declared.running.RunEnd.{RunEnd}
+use Rattle.client_core.specs.declared.running.RunEnd.TheVariants as runs
 use Rattle.client_core.specs.Client.{Client}
 use Rattle.client_core.specs.Trace.{Trace, nothing, followed, IsLastOrBefore}
 use Rattle.client_core.specs.Logging.{LocalTurn}
+use Rattle.client_core.specs.Running.{RunTurn, BreaksRun}
 use Rattle.client_core.specs.Syncing.{SyncTurn, BreaksSync}
 use Rattle.client_core.specs.Pulling.{PullTurn, BreaksPull}
 use Rattle.shell_lang.specs.Commands.{put_content}
 use Rattle.shell_lang.specs.Texts.{text_of, HasNoMemory}
 use Rattle.shell_lang.specs.declared.line.Line.{Line}
-use Rattle.shell_lang.specs.declared.line.Line.TheVariants.{Empty, Put, Make, Remove, Move, Cat, List as Ls, Enter, Status, Sync, Pull, Quit}
+use Rattle.shell_lang.specs.declared.line.Line.TheVariants.{Empty, Put, Make, Remove, Move, Cat, List as Ls, Enter, Run as RunLine, Status, Sync, Pull, Quit}
 use Rattle.shell_lang.specs.declared.line.LineError.{LineError}
 use Rattle.shell_lang.specs.declared.answer.Answer.{Answer}
 use Rattle.shell_lang.specs.declared.answer.Answer.TheVariants as answers
@@ -102,6 +111,27 @@ abbrev pub word_answer : PathError → Option Answer
 word_answer paths.Memory = None
 word_answer refusal = Some (answers.Refused (faults.Path refusal))
 
+-- how words that make no command are answered
+abbrev pub capture_answer : CaptureError → Option Answer
+capture_answer captures.Memory = None
+capture_answer refusal = Some (answers.Refused (faults.Capture refusal))
+
+-- how a command without a job is answered
+abbrev pub job_answer : JobError → Option Answer
+job_answer jobs.Memory = None
+job_answer refusal = Some (answers.Refused (faults.Job refusal))
+
+-- how a run is answered; want of memory has no answer
+abbrev pub run_answer : RunEnd → Option Answer
+run_answer (runs.Logged seq status) = Some (answers.Ran seq status)
+run_answer (runs.Nothing status) = Some (answers.Nothing status)
+run_answer (runs.NoJob refusal) = job_answer refusal
+run_answer runs.NotRun = Some answers.NotRun
+run_answer (runs.OddTree i) = Some (answers.OddTree i)
+run_answer (runs.Clash path) = Some (answers.Clash path)
+run_answer (runs.Refused refusal) = local_answer (Err refusal)
+run_answer runs.Memory = None
+
 -- the acknowledged number, and how many entries are pending
 abbrev pub status_answer : SessionState → Answer
 status_answer state = answers.Status state.client.log.acked (length state.client.log.pending)
@@ -125,6 +155,13 @@ LogTurn (Err refusal) before answer after trace = (answer ≡ word_answer refusa
 abbrev pub EnterTurn : Answer → SessionState → Option Answer → SessionState → Trace → Type 0
 EnterTurn told before answer after trace = (answer ≡ Some told) × (after ≡ with_folder before (folder_by told before.folder)) × (trace ≡ nothing)
 
+-- a command is run once at most, and what it changed is logged or refused; or the words make none
+abbrev pub CommandTurn : Route → Result Command CaptureError → SessionState → Option Answer → SessionState → Trace → Type 0
+CommandTurn route (Ok command) before answer after trace =
+    (end : RunEnd) × RunTurn route.work command before.client.log end after.client.log trace
+    × (after ≡ with_log before after.client.log) × (answer ≡ run_answer end)
+CommandTurn route (Err refusal) before answer after trace = (answer ≡ capture_answer refusal) × (after ≡ before) × (trace ≡ nothing)
+
 -- What a line comes to, by what it reads as: the state before it, its answer, the state after it, and what was done.
 abbrev pub LineTurn : Route → SessionState → Result Line LineError → Option Answer → SessionState → Trace → Type 0
 LineTurn route before (Err refusal) answer after trace = Tells (answers.Refused (faults.Line refusal)) before answer after trace
@@ -136,6 +173,7 @@ LineTurn route before (Ok (Move from to)) answer after trace = LogTurn (move_eff
 LineTurn route before (Ok (Cat word)) answer after trace = Tells (cat_answer (tree_of before.client.log) before.folder word) before answer after trace
 LineTurn route before (Ok (Ls word)) answer after trace = Tells (list_answer (tree_of before.client.log) before.folder word) before answer after trace
 LineTurn route before (Ok (Enter word)) answer after trace = EnterTurn (enter_answer (tree_of before.client.log) before.folder word) before answer after trace
+LineTurn route before (Ok (RunLine words)) answer after trace = CommandTurn route (capture words before.folder) before answer after trace
 LineTurn route before (Ok Status) answer after trace = Tells (status_answer before) before answer after trace
 LineTurn route before (Ok Sync) answer after trace =
     (end : SyncEnd) × SyncTurn before.client.number route before.client.log end after.client.log trace
@@ -175,10 +213,23 @@ LeavesPending (Some (answers.Unanswered seq)) = Unit {0}
 LeavesPending (Some (answers.Behind seq last)) = Unit {0}
 LeavesPending answer = ⊥
 
+-- ---- lines that are not run
+
+-- whether a line is answered `not run`
+abbrev pub is_unrun : Option Answer → Bool
+is_unrun (Some answers.NotRun) = true
+is_unrun answer = false
+
 -- ---- lines that are broken off, since memory was wanted or a keeping was refused
 
--- a sync or a pull is broken off in between
+-- a command may have been run, and nothing was made of it
+abbrev pub BreaksCommand : Route → Result Command CaptureError → Log → Log → Trace → Type 0
+BreaksCommand route (Ok command) before after trace = BreaksRun route.work command before trace × (after ≡ before)
+BreaksCommand route (Err refusal) before after trace = ⊥
+
+-- a run, a sync or a pull is broken off in between
 abbrev pub BreaksOff : Route → SessionState → Result Line LineError → Log → Trace → Type 0
+BreaksOff route before (Ok (RunLine words)) after trace = BreaksCommand route (capture words before.folder) before.client.log after trace
 BreaksOff route before (Ok Sync) after trace = BreaksSync before.client.number route before.client.log after trace
 BreaksOff route before (Ok Pull) after trace = BreaksPull before.client.number route before.client.log after trace
 BreaksOff route before line after trace = ⊥

@@ -1,5 +1,5 @@
 // Laws of sessions.
-ghost use Rattle.client_session.specs.Laws.{SessionsChangeSo, AsksMakeSessions};
+ghost use Rattle.client_session.specs.Laws.{SessionsChangeSo, AsksAndRunsMakeSessions, UnrunLinesAreCounted, LinesRunOnce};
 
 /// Law: what a session changes of the log are entries that it logs, acknowledgements of the first pending one and pulls, one
 /// after the other, and its log is what they lead to.
@@ -7,7 +7,14 @@ pub fn sessions_change_so()
     ensures { SessionsChangeSo }
 {}
 
-/// Law: a session is what its lines and its asks make it, since each settling ends with its first reply or with eight failures.
-pub fn asks_make_sessions()
-    ensures { AsksMakeSessions }
+/// Law: a session is what its lines, its asks and its runs make it, and which of its lines were not run; since each settling ends
+/// with its first reply or with eight failures, and what becomes of a run is told by the run.
+pub fn asks_and_runs_make_sessions()
+    ensures { AsksAndRunsMakeSessions }
+{}
+
+/// Law: the lines that were answered `not run` are just the runs that failed, and each other run is of one line `run`.
+pub fn unrun_lines_are_counted()
+    ensures unrun { UnrunLinesAreCounted }
+    ensures once { LinesRunOnce }
 {}

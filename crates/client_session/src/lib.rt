@@ -5,7 +5,8 @@
 mod effects;
 mod laws;
 mod looking;
+mod running;
 mod session;
 
-pub use laws::{asks_make_sessions, sessions_change_so};
+pub use laws::{asks_and_runs_make_sessions, sessions_change_so, unrun_lines_are_counted};
 pub use session::Session;

@@ -1,18 +1,21 @@
 // The turns of a session's lines.
-ghost use Rattle.std.specs.Prelude.{◌≡◌, ◌≢◌, ◌≤◌, Some, Ok, Err, IfOk, OnErr};
+ghost use Rattle.std.specs.Prelude.{◌≡◌, ◌≢◌, ◌≤◌, false, Some, Ok, Err, IfOk, OnErr};
 ghost use Rattle.std.specs.Option.{option_copied};
 ghost use Rattle.outside.specs.Outside.{CountsFault};
 ghost use Rattle.mod_log.specs.Log.{tree_of};
 ghost use Rattle.client_core.specs.Keeping.{IsKept};
 ghost use Rattle.client_session.specs.Session.{opened, put_effect, make_effect, remove_effect, move_effect, with_folder, local_answer, word_answer, sync_answer, pull_answer, status_answer};
 ghost use Rattle.client_session.specs.Looking.{cat_answer, list_answer, enter_answer, folder_by};
-ghost use Rattle.client_session.specs.Doing.{WentDoing, LineEnds};
-ghost use Rattle.client_session.specs.Causes.{HasLineCause, is_sync_fault, is_pull_fault, answered};
+ghost use Rattle.cmd_capture.specs.Runs.{RunnerTelling};
+ghost use Rattle.client_core.specs.Goes.{telling};
+ghost use Rattle.client_session.specs.Doing.{beside, WentDoing, LineEnds};
+ghost use Rattle.client_session.specs.Causes.{HasLineCause, is_run, is_sync_fault, is_pull_fault, answered};
 ghost use Rattle.client_session.specs.Inside.{IsGiven, Logs, LogsMade};
 
 use crate::effects::{make_effect, move_effect, put_effect, remove_effect};
 use crate::looking::{cat, enter, list};
 use client_core::{Client, PullEnd, Route, SyncEnd};
+use cmd_capture::Runner;
 use mod_log::LogError;
 use outside::{KeepError, Keeper};
 use shell_lang::{Answer, Fault, Line, LineError};
@@ -24,8 +27,8 @@ use world_rules::Link;
 /// A user's session: the client, and the current folder.
 #[derive(Drop)]
 pub struct Session {
-    client: Client,
-    folder: Path,
+    pub(crate) client: Client,
+    pub(crate) folder: Path,
 }
 
 impl Model for Session {
@@ -48,25 +51,28 @@ impl Session {
     }
 
     /// Does what a line asks for, keeps the client where it logs, syncs or pulls, and gives its answer; the empty line and
-    /// `quit` have none.
+    /// `quit` have none. Only a line `run` asks the runner for something, and once at most.
     ///
     /// # Errors
     ///
-    /// Want of memory, or a keeping that failed. The line may then have done nothing, all but answer, or a part of its sync or
-    /// pull; what is kept is the client after the last change or before it.
-    pub fn answer<L: Link, K: Keeper>(
+    /// Want of memory, or a keeping that failed. The line may then have done nothing, all but answer, or a part of its run, sync
+    /// or pull; what is kept is the client after the last change or before it.
+    pub fn answer<L: Link, K: Keeper, R: Runner>(
         &mut self,
         alloc: Global,
         route: &Route,
         line: Result<Line, LineError>,
         link: &mut L,
         keeper: &mut K,
+        runner: &mut R,
     ) -> Result<Option<Answer>, KeepError>
         requires { IsKept (K.images keeper.old) route.now.image self.old.client.number self.old.client.log }
-        ensures world { WentDoing route.now.image (LineEnds route.now self.old line result self.new) self.old self.new (K.images keeper.old) (K.images keeper.new) (L.tells link.old) (L.tells link.new) }
-        ensures cause { HasLineCause route.now self.old line result self.new (L.tells link.old) (L.tells link.new) (K.faults keeper.old) (K.faults keeper.new) }
+        ensures world { WentDoing route.now.image (LineEnds route.now self.old line result self.new) self.old self.new (K.images keeper.old) (K.images keeper.new) (beside (L.tells link.old) (telling (R.runs runner.old) (R.faults runner.old))) (beside (L.tells link.new) (telling (R.runs runner.new) (R.faults runner.new))) }
+        ensures cause { HasLineCause route.now self.old line result self.new (beside (L.tells link.old) (telling (R.runs runner.old) (R.faults runner.old))) (beside (L.tells link.new) (telling (R.runs runner.new) (R.faults runner.new))) (K.faults keeper.old) (K.faults keeper.new) }
         ensures kept { IfOk result (λ answer. IsKept (K.images keeper.new) route.now.image self.new.client.number self.new.client.log) }
         ensures later { (L.tells link.old).troubles ≤ (L.tells link.new).troubles }
+        ensures runner_later { R.faults runner.old ≤ R.faults runner.new }
+        ensures runner { is_run line ≡ false → telling (R.runs runner.new) (R.faults runner.new) ≡ telling (R.runs runner.old) (R.faults runner.old) }
         ensures keeper { CountsFault KeepError.Failed (K.faults keeper.old) (K.faults keeper.new) result }
     {
         let image = route.image.bytes();
@@ -81,6 +87,7 @@ impl Session {
             Ok(Line::Cat(path)) => self.cat(alloc, &path),
             Ok(Line::List(path)) => self.list(alloc, path.as_ref()),
             Ok(Line::Enter(path)) => self.enter(alloc, &path),
+            Ok(Line::Run(words)) => self.run(alloc, &words, route, keeper, runner),
             Ok(Line::Status) => Ok(Some(self.status())),
             Ok(Line::Sync) => self.sync(route, link, keeper),
             Ok(Line::Pull) => self.pull(route, link, keeper),
@@ -235,8 +242,8 @@ impl Session {
         keeper: &mut K,
     ) -> Result<Option<Answer>, KeepError>
         requires { IsKept (K.images keeper.old) route.now.image self.old.client.number self.old.client.log }
-        ensures world { WentDoing route.now.image (LineEnds route.now self.old (Ok Line.Sync) result self.new) self.old self.new (K.images keeper.old) (K.images keeper.new) (L.tells link.old) (L.tells link.new) }
-        ensures cause { HasLineCause route.now self.old (Ok Line.Sync) result self.new (L.tells link.old) (L.tells link.new) (K.faults keeper.old) (K.faults keeper.new) }
+        ensures world { (runner : RunnerTelling) → WentDoing route.now.image (LineEnds route.now self.old (Ok Line.Sync) result self.new) self.old self.new (K.images keeper.old) (K.images keeper.new) (beside (L.tells link.old) runner) (beside (L.tells link.new) runner) }
+        ensures cause { (runner : RunnerTelling) → HasLineCause route.now self.old (Ok Line.Sync) result self.new (beside (L.tells link.old) runner) (beside (L.tells link.new) runner) (K.faults keeper.old) (K.faults keeper.new) }
         ensures kept { IfOk result (λ answer. IsKept (K.images keeper.new) route.now.image self.new.client.number self.new.client.log) }
         ensures later { (L.tells link.old).troubles ≤ (L.tells link.new).troubles }
         ensures keeper { CountsFault KeepError.Failed (K.faults keeper.old) (K.faults keeper.new) result }
@@ -254,8 +261,8 @@ impl Session {
         keeper: &mut K,
     ) -> Result<Option<Answer>, KeepError>
         requires { IsKept (K.images keeper.old) route.now.image self.old.client.number self.old.client.log }
-        ensures world { WentDoing route.now.image (LineEnds route.now self.old (Ok Line.Pull) result self.new) self.old self.new (K.images keeper.old) (K.images keeper.new) (L.tells link.old) (L.tells link.new) }
-        ensures cause { HasLineCause route.now self.old (Ok Line.Pull) result self.new (L.tells link.old) (L.tells link.new) (K.faults keeper.old) (K.faults keeper.new) }
+        ensures world { (runner : RunnerTelling) → WentDoing route.now.image (LineEnds route.now self.old (Ok Line.Pull) result self.new) self.old self.new (K.images keeper.old) (K.images keeper.new) (beside (L.tells link.old) runner) (beside (L.tells link.new) runner) }
+        ensures cause { (runner : RunnerTelling) → HasLineCause route.now self.old (Ok Line.Pull) result self.new (beside (L.tells link.old) runner) (beside (L.tells link.new) runner) (K.faults keeper.old) (K.faults keeper.new) }
         ensures kept { IfOk result (λ answer. IsKept (K.images keeper.new) route.now.image self.new.client.number self.new.client.log) }
         ensures later { (L.tells link.old).troubles ≤ (L.tells link.new).troubles }
         ensures keeper { CountsFault KeepError.Failed (K.faults keeper.old) (K.faults keeper.new) result }
@@ -267,7 +274,7 @@ impl Session {
 }
 
 /// An answer that is there; where there is none, memory was wanted.
-fn given(answer: Option<Answer>) -> Result<Option<Answer>, KeepError>
+pub(crate) fn given(answer: Option<Answer>) -> Result<Option<Answer>, KeepError>
     ensures { IsGiven answer result }
 {
     match answer {
@@ -305,7 +312,7 @@ fn answered(fault: bool, answer: Option<Answer>) -> Result<Option<Answer>, KeepE
 }
 
 /// How an effect is answered that the log refused; want of memory has no answer.
-fn local_refusal(refusal: LogError) -> Option<Answer>
+pub(crate) fn local_refusal(refusal: LogError) -> Option<Answer>
     ensures { result ≡ local_answer (Err refusal) }
 {
     match refusal {

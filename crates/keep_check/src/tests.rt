@@ -264,7 +264,7 @@ fn image_of(alloc: Global, client: u8, acked: u64) -> Result<Vec<u8>, Fail>
 {
     let effects = put(alloc)?;
     let mut log = Log::new(acked, Tree::new(alloc));
-    let appended = log.append(effects);
+    let appended = log.append(None, effects);
     let image = write_client(client, &log);
     drop(log);
     let _number = appended?;

@@ -3,8 +3,10 @@
 #![tactic(auto)]
 
 mod account;
+mod outcomes;
 mod probe;
 
+pub use outcomes::giving;
 pub use probe::{
     Fails, Probe, account_of, account_on, account_over, told, told_on, told_with, words_of,
 };

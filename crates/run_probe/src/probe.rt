@@ -2,6 +2,7 @@
 
 use crate::account::{account_of_network, rows_of_server, write_text};
 use client_prog::client_run;
+use cmd_capture::{ScriptAnswer, ScriptRunner};
 use mem_net::{Fate, MemNet};
 use outside::{Keeper, MemKeeper, MemSink, MemSource};
 use server_core::Server;
@@ -11,11 +12,13 @@ use vol_tree::TryCopy;
 /// The name under which the client's image is kept.
 const IMAGE: &[u8] = b"image";
 
-/// What lies outside client 1 and stays there between its runs: what it keeps, and the network to its server.
+/// What lies outside client 1 and stays there between its runs: what it keeps, what runs its commands, and the network to its
+/// server.
 #[derive(Drop)]
 pub struct Probe {
     alloc: Global,
     keeper: MemKeeper,
+    runner: ScriptRunner,
     net: MemNet,
 }
 
@@ -51,7 +54,13 @@ impl Probe {
         fates: Vec<Fate>,
     ) -> Result<Probe, AllocError> {
         let net = MemNet::new(alloc, 1, server, fates)?;
-        Ok(Probe { alloc, keeper, net })
+        let runner = ScriptRunner::new(alloc, Vec::new(alloc));
+        Ok(Probe {
+            alloc,
+            keeper,
+            runner,
+            net,
+        })
     }
 
     /// Nothing is kept, the server is new, and nothing fails or is lost.
@@ -73,6 +82,11 @@ impl Probe {
         };
         let server = self.net.server().copy()?;
         Probe::keeping(self.alloc, keeper, server, Vec::new(self.alloc))
+    }
+
+    /// From now on its commands come to these answers, in order, and behind them each changes nothing and ends with 0.
+    pub fn answer_runs(&mut self, answers: Vec<ScriptAnswer>) {
+        self.runner = ScriptRunner::new(self.alloc, answers);
     }
 
     /// Nothing is kept any more.
@@ -116,6 +130,7 @@ impl Probe {
             &mut source,
             &mut output,
             &mut self.keeper,
+            &mut self.runner,
             &mut self.net,
         );
         let mut told = output.bytes().to_vec(self.alloc)?;

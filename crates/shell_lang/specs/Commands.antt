@@ -14,7 +14,7 @@ use Rattle.shell_lang.specs.declared.command.Command.TheVariants as commands
 abbrev pub all_commands : List Command
 all_commands =
     commands.Put ∷ commands.Make ∷ commands.Remove ∷ commands.Move ∷ commands.Cat ∷ commands.List
-    ∷ commands.Enter ∷ commands.Status ∷ commands.Sync ∷ commands.Pull ∷ commands.Quit ∷ []
+    ∷ commands.Enter ∷ commands.Run ∷ commands.Status ∷ commands.Sync ∷ commands.Pull ∷ commands.Quit ∷ []
 
 -- the word that names a command
 abbrev pub command_word : Command → List ℕ
@@ -25,6 +25,7 @@ command_word commands.Move = codes "mv"
 command_word commands.Cat = codes "cat"
 command_word commands.List = codes "ls"
 command_word commands.Enter = codes "cd"
+command_word commands.Run = codes "run"
 command_word commands.Status = codes "status"
 command_word commands.Sync = codes "sync"
 command_word commands.Pull = codes "pull"
@@ -60,6 +61,7 @@ line_of commands.Cat words = with_one lines.Cat words
 line_of commands.List [] = Ok (lines.List None)
 line_of commands.List (w ∷ ws) = with_one (λ path. lines.List (Some path)) (w ∷ ws)
 line_of commands.Enter words = with_one lines.Enter words
+line_of commands.Run words = Ok (lines.Run words)
 line_of commands.Status words = with_none lines.Status words
 line_of commands.Sync words = with_none lines.Sync words
 line_of commands.Pull words = with_none lines.Pull words

@@ -7,6 +7,10 @@ use Rattle.tree_values.specs.declared.node.TreeError.{TreeError}
 use Rattle.tree_values.specs.declared.node.TreeError.TheVariants as trees
 use Rattle.mod_log.specs.declared.log.LogError.{LogError}
 use Rattle.mod_log.specs.declared.log.LogError.TheVariants as logs
+use Rattle.cmd_capture.specs.declared.capturing.CaptureError.{CaptureError}
+use Rattle.cmd_capture.specs.declared.capturing.CaptureError.TheVariants as captures
+use Rattle.work_area.specs.declared.jobs.JobError.{JobError}
+use Rattle.work_area.specs.declared.jobs.JobError.TheVariants as jobs
 use Rattle.shell_lang.specs.declared.line.LineError.{LineError}
 use Rattle.shell_lang.specs.declared.line.LineError.TheVariants as lines
 use Rattle.shell_lang.specs.declared.answer.Fault.{Fault}
@@ -96,11 +100,45 @@ log_fault_values logs.LastNumber = []
 log_fault_values (logs.Tree i refusal) = tree_fault_values refusal
 log_fault_values logs.Memory = []
 
+abbrev pub capture_fault_name : CaptureError → List ℕ
+capture_fault_name captures.NoProgram = codes "NoProgram"
+capture_fault_name (captures.BadOption i) = codes "BadOption"
+capture_fault_name (captures.BadInput i) = codes "BadInput"
+capture_fault_name (captures.BadEnv i) = codes "BadEnv"
+capture_fault_name (captures.BadTemplate i) = codes "BadTemplate"
+capture_fault_name captures.NotAbsolute = codes "NotAbsolute"
+capture_fault_name (captures.ZeroByte i) = codes "ZeroByte"
+capture_fault_name (captures.CommandTooLong n) = codes "CommandTooLong"
+capture_fault_name captures.Memory = codes "Memory"
+
+abbrev pub capture_fault_values : CaptureError → List ℕ
+capture_fault_values captures.NoProgram = []
+capture_fault_values (captures.BadOption i) = number i
+capture_fault_values (captures.BadInput i) = number i
+capture_fault_values (captures.BadEnv i) = number i
+capture_fault_values (captures.BadTemplate i) = number i
+capture_fault_values captures.NotAbsolute = []
+capture_fault_values (captures.ZeroByte i) = number i
+capture_fault_values (captures.CommandTooLong n) = number n
+capture_fault_values captures.Memory = []
+
+abbrev pub job_fault_name : JobError → List ℕ
+job_fault_name (jobs.NoFolder p) = codes "NoFolder"
+job_fault_name (jobs.NoInput i) = codes "NoInput"
+job_fault_name jobs.Memory = codes "Memory"
+
+abbrev pub job_fault_values : JobError → List ℕ
+job_fault_values (jobs.NoFolder p) = path p
+job_fault_values (jobs.NoInput i) = number i
+job_fault_values jobs.Memory = []
+
 abbrev pub fault_name : Fault → List ℕ
 fault_name (faults.Path refusal) = path_fault_name refusal
 fault_name (faults.Line refusal) = line_fault_name refusal
 fault_name (faults.Tree refusal) = tree_fault_name refusal
 fault_name (faults.Log refusal) = log_fault_name refusal
+fault_name (faults.Capture refusal) = capture_fault_name refusal
+fault_name (faults.Job refusal) = job_fault_name refusal
 fault_name (faults.NotFolder p) = codes "NotFolder"
 fault_name (faults.Pending n) = codes "Pending"
 
@@ -109,6 +147,8 @@ fault_values (faults.Path refusal) = path_fault_values refusal
 fault_values (faults.Line refusal) = line_fault_values refusal
 fault_values (faults.Tree refusal) = tree_fault_values refusal
 fault_values (faults.Log refusal) = log_fault_values refusal
+fault_values (faults.Capture refusal) = capture_fault_values refusal
+fault_values (faults.Job refusal) = job_fault_values refusal
 fault_values (faults.NotFolder p) = path p
 fault_values (faults.Pending n) = number n
 
@@ -125,5 +165,7 @@ IsShown (faults.Path refusal) = refusal ≢ paths.Memory
 IsShown (faults.Line refusal) = refusal ≢ lines.Memory
 IsShown (faults.Tree refusal) = refusal ≢ trees.Memory
 IsShown (faults.Log refusal) = (refusal ≢ logs.Memory) × ((i : ℕ) → refusal ≢ logs.Tree i trees.Memory)
+IsShown (faults.Capture refusal) = refusal ≢ captures.Memory
+IsShown (faults.Job refusal) = refusal ≢ jobs.Memory
 IsShown (faults.NotFolder p) = ⊤
 IsShown (faults.Pending n) = ⊤

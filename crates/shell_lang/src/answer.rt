@@ -5,9 +5,11 @@ ghost use Rattle.shell_lang.specs.Faults.{IsShown};
 ghost use Rattle.shell_lang.specs.Texts.{HasNoMemory};
 
 use crate::line::LineError;
+use cmd_capture::CaptureError;
 use mod_log::LogError;
 use std::alloc::AllocError;
 use vol_tree::{Content, List, Path, PathError, TreeError, TryCopy};
+use work_area::JobError;
 
 /// Something that stands in a folder.
 #[derive(Debug, Drop)]
@@ -36,6 +38,10 @@ pub enum Fault {
     Line(LineError),
     Tree(TreeError),
     Log(LogError),
+    /// The words of a line `run` are no command.
+    Capture(CaptureError),
+    /// The command has no job.
+    Job(JobError),
     /// A file stands at this path, where a folder is wanted.
     NotFolder(Path),
     /// So many entries are pending, and the line wants none.
@@ -55,6 +61,21 @@ pub enum Answer {
     Listing(Children),
     /// The current folder.
     At(Path),
+    /// The command ended with this status, and what it changed made the entry with this number.
+    Ran {
+        seq: u64,
+        status: u8,
+    },
+    /// The command ended with this status and changed nothing.
+    Nothing {
+        status: u8,
+    },
+    /// The command was not run.
+    NotRun,
+    /// The row of this index that the command left has no place in a tree.
+    OddTree(u32),
+    /// What the command changed at this path would touch what stands beside its job.
+    Clash(Path),
     /// The last number that is acknowledged, and how many entries are pending.
     Status {
         acked: u64,
@@ -131,5 +152,7 @@ fn is_shown(fault: &Fault) -> bool
             | Fault::Line(LineError::Memory)
             | Fault::Tree(TreeError::Memory)
             | Fault::Log(LogError::Memory | LogError::Tree(_, TreeError::Memory))
+            | Fault::Capture(CaptureError::Memory)
+            | Fault::Job(JobError::Memory)
     )
 }

@@ -7,6 +7,7 @@ ghost use Rattle.shell_lang.specs.Commands.{command_word, command_of, line_of, l
 use crate::line::{Line, LineError};
 use crate::words::split_words;
 use byte_fields::saturate_u32;
+use cmd_capture::Words;
 use std::alloc::{AllocError, Global};
 use vol_tree::{Content, TryCopy};
 
@@ -20,6 +21,7 @@ pub(crate) enum Command {
     Cat,
     List,
     Enter,
+    Run,
     Status,
     Sync,
     Pull,
@@ -27,7 +29,7 @@ pub(crate) enum Command {
 }
 
 /// All commands that a line may name.
-const COMMANDS: [Command; 11] = [
+const COMMANDS: [Command; 12] = [
     Command::Put,
     Command::Make,
     Command::Remove,
@@ -35,6 +37,7 @@ const COMMANDS: [Command; 11] = [
     Command::Cat,
     Command::List,
     Command::Enter,
+    Command::Run,
     Command::Status,
     Command::Sync,
     Command::Pull,
@@ -54,6 +57,7 @@ impl Command {
             Command::Cat => b"cat",
             Command::List => b"ls",
             Command::Enter => b"cd",
+            Command::Run => b"run",
             Command::Status => b"status",
             Command::Sync => b"sync",
             Command::Pull => b"pull",
@@ -127,10 +131,22 @@ fn line_of(alloc: Global, command: Command, words: &[Content]) -> Result<Line, L
         (Command::List, []) => Ok(Line::List(None)),
         (Command::List, [path]) => Ok(Line::List(Some(path.copy()?))),
         (Command::Enter, [path]) => Ok(Line::Enter(path.copy()?)),
+        (Command::Run, words) => Ok(Line::Run(copies_of(alloc, words)?)),
         (Command::Status, []) => Ok(Line::Status),
         (Command::Sync, []) => Ok(Line::Sync),
         (Command::Pull, []) => Ok(Line::Pull),
         (Command::Quit, []) => Ok(Line::Quit),
         _ => Err(LineError::WrongCount(saturate_u32(words.len()))),
     }
+}
+
+/// Copies of the words.
+fn copies_of(alloc: Global, words: &[Content]) -> Result<Words, AllocError>
+    ensures { IfOk result (λ copied. copied ≡ words.now) }
+{
+    let mut copied = Words::new(alloc);
+    for word in words {
+        copied.push(word.copy()?)?;
+    }
+    Ok(copied)
 }

@@ -3,14 +3,17 @@
 ghost use Rattle.std.specs.Prelude.{◌≡◌, ◌++◌, OnOk};
 ghost use Rattle.shell_lang.specs.Faults.{path_fault_name, path_fault_values, line_fault_name, line_fault_values, tree_fault_name};
 ghost use Rattle.shell_lang.specs.Faults.{tree_fault_values, log_fault_name, log_fault_values, tree_fault_text, fault_name};
+ghost use Rattle.shell_lang.specs.Faults.{capture_fault_name, capture_fault_values, job_fault_name, job_fault_values};
 ghost use Rattle.shell_lang.specs.Faults.{fault_values, fault_text};
 
 use crate::answer::Fault;
 use crate::line::LineError;
 use crate::value::{put_number, put_path};
+use cmd_capture::CaptureError;
 use mod_log::LogError;
 use std::alloc::AllocError;
 use vol_tree::{PathError, TreeError};
+use work_area::JobError;
 
 /// Adds the words of a refusal.
 ///
@@ -155,6 +158,58 @@ fn put_log_values(out: &mut Vec<u8>, fault: &LogError) -> Result<(), AllocError>
     Ok(())
 }
 
+fn capture_name(fault: &CaptureError) -> &'static [u8]
+    ensures { result.now ≡ capture_fault_name fault.now }
+{
+    match fault {
+        CaptureError::NoProgram => b"NoProgram",
+        CaptureError::BadOption(_) => b"BadOption",
+        CaptureError::BadInput(_) => b"BadInput",
+        CaptureError::BadEnv(_) => b"BadEnv",
+        CaptureError::BadTemplate(_) => b"BadTemplate",
+        CaptureError::NotAbsolute => b"NotAbsolute",
+        CaptureError::ZeroByte(_) => b"ZeroByte",
+        CaptureError::CommandTooLong(_) => b"CommandTooLong",
+        CaptureError::Memory => b"Memory",
+    }
+}
+
+fn put_capture_values(out: &mut Vec<u8>, fault: &CaptureError) -> Result<(), AllocError>
+    ensures { OnOk result (out.new.items ≡ out.old.items ++ capture_fault_values fault.now) }
+{
+    match fault {
+        CaptureError::BadOption(i)
+        | CaptureError::BadInput(i)
+        | CaptureError::BadEnv(i)
+        | CaptureError::BadTemplate(i)
+        | CaptureError::ZeroByte(i) => put_number(out, u64::from(*i))?,
+        CaptureError::CommandTooLong(n) => put_number(out, *n)?,
+        CaptureError::NoProgram | CaptureError::NotAbsolute | CaptureError::Memory => {}
+    }
+    Ok(())
+}
+
+fn job_name(fault: &JobError) -> &'static [u8]
+    ensures { result.now ≡ job_fault_name fault.now }
+{
+    match fault {
+        JobError::NoFolder(_) => b"NoFolder",
+        JobError::NoInput(_) => b"NoInput",
+        JobError::Memory => b"Memory",
+    }
+}
+
+fn put_job_values(out: &mut Vec<u8>, fault: &JobError) -> Result<(), AllocError>
+    ensures { OnOk result (out.new.items ≡ out.old.items ++ job_fault_values fault.now) }
+{
+    match fault {
+        JobError::NoFolder(path) => put_path(out, path)?,
+        JobError::NoInput(i) => put_number(out, u64::from(*i))?,
+        JobError::Memory => {}
+    }
+    Ok(())
+}
+
 fn fault_name(fault: &Fault) -> &'static [u8]
     ensures { result.now ≡ fault_name fault.now }
 {
@@ -163,6 +218,8 @@ fn fault_name(fault: &Fault) -> &'static [u8]
         Fault::Line(fault) => line_name(fault),
         Fault::Tree(fault) => tree_name(fault),
         Fault::Log(fault) => log_name(fault),
+        Fault::Capture(fault) => capture_name(fault),
+        Fault::Job(fault) => job_name(fault),
         Fault::NotFolder(_) => b"NotFolder",
         Fault::Pending(_) => b"Pending",
     }
@@ -176,6 +233,8 @@ fn put_fault_values(out: &mut Vec<u8>, fault: &Fault) -> Result<(), AllocError>
         Fault::Line(fault) => put_line_values(out, fault)?,
         Fault::Tree(fault) => put_tree_values(out, fault)?,
         Fault::Log(fault) => put_log_values(out, fault)?,
+        Fault::Capture(fault) => put_capture_values(out, fault)?,
+        Fault::Job(fault) => put_job_values(out, fault)?,
         Fault::NotFolder(path) => put_path(out, path)?,
         Fault::Pending(n) => put_number(out, u64::from(*n))?,
     }

@@ -3,6 +3,7 @@
 ghost use Rattle.std.specs.Prelude.{◌≡◌};
 ghost use Rattle.shell_lang.specs.declared.line.LineError.TheVariants.{Memory};
 
+use cmd_capture::Words;
 use std::alloc::AllocError;
 use thiserror::Error;
 use vol_tree::Content;
@@ -53,6 +54,8 @@ pub enum Line {
     List(Option<Content>),
     /// The folder at this path as the current folder.
     Enter(Content),
+    /// The run of the command that these words make.
+    Run(Words),
     /// How far the log is acknowledged.
     Status,
     /// What is logged is to be sent to the server.

@@ -1,8 +1,10 @@
 use super::*;
+use cmd_capture::CaptureError;
 use mod_log::LogError;
 use std::alloc::Global;
 use std::test::Fail;
 use vol_tree::{Content, Path, PathError, TreeError, TryCopy};
+use work_area::JobError;
 
 /// Whether the line puts this text at this path.
 fn puts(alloc: Global, line: &[u8], path: &[u8], text: &[u8]) -> Result<bool, Fail> {
@@ -28,6 +30,26 @@ fn lists(alloc: Global, line: &[u8], path: &[u8]) -> Result<bool, Fail> {
     Ok(same)
 }
 
+/// Whether the line runs the command of these words.
+fn runs(alloc: Global, line: &[u8], words: &[&[u8]]) -> Result<bool, Fail> {
+    let read = read_line(alloc, line)?;
+    let same = match &read {
+        Line::Run(given) => are_words(given.as_slice(), words),
+        _ => false,
+    };
+    drop(read);
+    Ok(same)
+}
+
+/// Whether these are the words.
+fn are_words(given: &[Content], words: &[&[u8]]) -> bool {
+    given.len() == words.len()
+        && given
+            .iter()
+            .zip(words)
+            .all(|(word, bytes)| word.bytes() == *bytes)
+}
+
 /// A letter for a line without a path.
 fn letter(alloc: Global, line: &[u8]) -> Result<u8, Fail> {
     let read = read_line(alloc, line)?;
@@ -49,6 +71,14 @@ fn lines_are_read(rt: HostRuntime) -> Result<(), Fail> {
     assert!(rt; puts(alloc, b"put a 'b c'", b"a", b"b c")?);
     assert!(rt; moves(alloc, b"'mv' a b/c", b"a", b"b/c")?);
     assert!(rt; lists(alloc, b"ls d", b"d")?);
+    assert!(rt; runs(alloc, b"run", &[])?);
+    assert!(rt;
+        runs(
+            alloc,
+            b"run in=d -- /b 'a b'",
+            &[b"in=d", b"--", b"/b", b"a b"]
+        )?
+    );
     let rows: [(&[u8], u8); 4] = [(b"", b'e'), (b"ls", b'l'), (b"pull", b'p'), (b"quit", b'q')];
     for (line, expected) in rows {
         assert_eq!(rt; letter(alloc, line)?, expected);
@@ -59,7 +89,7 @@ fn lines_are_read(rt: HostRuntime) -> Result<(), Fail> {
 #[test]
 fn lines_are_refused(rt: HostRuntime) -> Result<(), Fail> {
     let alloc = rt.alloc();
-    let rows: [(&[u8], &[u8]); 15] = [
+    let rows: [(&[u8], &[u8]); 16] = [
         (b"put a", b"refused WrongCount 1\n"),
         (b"ls a b", b"refused WrongCount 2\n"),
         (b"status x", b"refused WrongCount 1\n"),
@@ -73,7 +103,8 @@ fn lines_are_refused(rt: HostRuntime) -> Result<(), Fail> {
         (b"copy  'a", b"refused BadWord 1\n"),
         (b"copy a b", b"refused UnknownWord\n"),
         (b"'' a", b"refused UnknownWord\n"),
-        (b"run x", b"refused UnknownWord\n"),
+        (b"runs x", b"refused UnknownWord\n"),
+        (b"run a  b", b"refused BadWord 2\n"),
         (b"pull x", b"refused WrongCount 1\n"),
     ];
     for (line, text) in &rows {
@@ -219,6 +250,56 @@ fn answers_are_printed(rt: HostRuntime) -> Result<(), Fail> {
         fault: TreeError::FileTooLarge(8_388_609),
     };
     assert!(rt; is_printed(alloc, unfit, b"unfit 4 0 FileTooLarge 8388609\n")?);
+    Ok(())
+}
+
+#[test]
+fn runs_are_printed(rt: HostRuntime) -> Result<(), Fail> {
+    let alloc = rt.alloc();
+    let (seq, status) = (7, 255);
+    assert!(rt; is_printed(alloc, Answer::Ran { seq, status }, b"logged 7 status 255\n")?);
+    assert!(rt;
+        is_printed(
+            alloc,
+            Answer::Nothing { status: 1 },
+            b"nothing logged status 1\n"
+        )?
+    );
+    assert!(rt; is_printed(alloc, Answer::NotRun, b"not run\n")?);
+    assert!(rt; is_printed(alloc, Answer::OddTree(3), b"odd tree 3\n")?);
+    assert!(rt; is_printed(alloc, Answer::Clash(path(alloc)?), b"clash d/x\n")?);
+    Ok(())
+}
+
+#[test]
+fn refused_commands_are_printed(rt: HostRuntime) -> Result<(), Fail> {
+    let alloc = rt.alloc();
+    let rows: [(CaptureError, &[u8]); 8] = [
+        (CaptureError::NoProgram, b"refused NoProgram\n"),
+        (CaptureError::BadOption(0), b"refused BadOption 0\n"),
+        (CaptureError::BadInput(1), b"refused BadInput 1\n"),
+        (CaptureError::BadEnv(2), b"refused BadEnv 2\n"),
+        (CaptureError::BadTemplate(3), b"refused BadTemplate 3\n"),
+        (CaptureError::NotAbsolute, b"refused NotAbsolute\n"),
+        (CaptureError::ZeroByte(4), b"refused ZeroByte 4\n"),
+        (
+            CaptureError::CommandTooLong(65_537),
+            b"refused CommandTooLong 65537\n",
+        ),
+    ];
+    for (fault, text) in &rows {
+        assert!(rt; is_refused(alloc, Fault::Capture(*fault), *text)?);
+    }
+    let folder = JobError::NoFolder(path(alloc)?);
+    assert!(rt; is_refused(alloc, Fault::Job(folder), b"refused NoFolder d/x\n")?);
+    assert!(rt;
+        is_refused(
+            alloc,
+            Fault::Job(JobError::NoInput(2)),
+            b"refused NoInput 2\n"
+        )?
+    );
+    assert!(rt; !is_refused(alloc, Fault::Job(JobError::Memory), b"refused\n")?);
     Ok(())
 }
 

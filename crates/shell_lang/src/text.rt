@@ -33,8 +33,12 @@ fn answer_name(answer: &Answer) -> &'static [u8]
 {
     match answer {
         Answer::Text(_) | Answer::Listing(_) => b"",
-        Answer::Logged { .. } => b"logged",
+        Answer::Logged { .. } | Answer::Ran { .. } => b"logged",
         Answer::At(_) => b"at /",
+        Answer::Nothing { .. } => b"nothing logged status",
+        Answer::NotRun => b"not run",
+        Answer::OddTree(_) => b"odd tree",
+        Answer::Clash(_) => b"clash",
         Answer::Status { .. } => b"acknowledged",
         Answer::Synced(_) => b"synced",
         Answer::Stale { .. } => b"stale",
@@ -62,8 +66,11 @@ fn put_values(out: &mut Vec<u8>, answer: &Answer) -> Result<(), AllocError>
         | Answer::Unanswered { seq: n }
         | Answer::Synced(n)
         | Answer::OtherLast(n) => put_number(out, *n)?,
-        Answer::Pulled(count) => put_number(out, u64::from(*count))?,
-        Answer::PullUnanswered => {}
+        Answer::Ran { seq, status } => put_ran(out, *seq, *status)?,
+        Answer::Nothing { status } => put_number(out, u64::from(*status))?,
+        Answer::Pulled(n) | Answer::OddTree(n) => put_number(out, u64::from(*n))?,
+        Answer::Clash(path) => put_path(out, path)?,
+        Answer::NotRun | Answer::PullUnanswered => {}
         Answer::Status { acked, pending } => put_status(out, *acked, *pending)?,
         Answer::Behind { seq, last } => {
             put_number(out, *seq)?;
@@ -84,6 +91,17 @@ fn put_values(out: &mut Vec<u8>, answer: &Answer) -> Result<(), AllocError>
         }
         Answer::Refused(fault) => put_fault(out, fault)?,
     }
+    Ok(())
+}
+
+/// The number of a command's entry, and the command's status.
+#[tactic(auto, using(std::proofs::Common::append_assoc))]
+fn put_ran(out: &mut Vec<u8>, seq: u64, status: u8) -> Result<(), AllocError>
+    ensures { OnOk result (out.new.items ≡ out.old.items ++ (number seq ++ (codes " status" ++ number status))) }
+{
+    put_number(out, seq)?;
+    out.extend_from_slice(b" status")?;
+    put_number(out, u64::from(status))?;
     Ok(())
 }
 

@@ -1,4 +1,4 @@
-use Rattle.std.proofs.Common.{◌≡◌, ◌≢◌, inl, ℕ, Ok, Err, Some, None, Option, IfSome, [], refl, ap, sym, subst, arith}
+use Rattle.std.proofs.Common.{◌≡◌, ◌≢◌, inl, ℕ, Ok, Err, Some, None, Option, IfSome, [], refl, sym, subst, arith}
 use Rattle.wire_frames.specs.declared.message.Message.{Message}
 use Rattle.wire_frames.specs.declared.message.Message.TheVariants.{Pull, Snapshot}
 use Rattle.wire_frames.specs.Frame.{IsValid, Echoes}

@@ -1,4 +1,4 @@
-use Rattle.std.proofs.Common.{◌≡◌, ℕ, List, IfOk, IfSome, subst}
+use Rattle.std.proofs.Common.{ℕ, List, subst}
 use Rattle.wire_frames.specs.declared.message.Message.TheVariants.{Pull}
 use Rattle.world_rules.specs.declared.asking.Peer.TheVariants.{Server}
 use Rattle.world_rules.specs.Telling.{LinkTelling}

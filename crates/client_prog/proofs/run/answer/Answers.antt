@@ -4,7 +4,8 @@ use Rattle.outside.specs.Outside.{Adds}
 use Rattle.shell_lang.specs.Commands.{read_line}
 use Rattle.shell_lang.specs.declared.line.Line.{Line}
 use Rattle.shell_lang.specs.declared.line.LineError.{LineError}
-use Rattle.client_session.specs.Doing.{WentDoing, LineEnds}
+use Rattle.client_core.specs.Goes.{telling}
+use Rattle.client_session.specs.Doing.{WentDoing, LineEnds, beside}
 use Rattle.client_session.proofs.Doing.{went_none, went_as}
 use Rattle.client_prog.specs.declared.run.Stop.TheVariants.{Memory}
 use Rattle.client_prog.specs.declared.run.Stop.TheVariants as stops
@@ -21,7 +22,7 @@ returns-in_err-asked-clause-world g c =
     let a = c.args.session.now in
     let line = c.args.line.now in
     let o = g.O.Sink.written c.args.output.now in
-    rw (p.1, p.2) (went_none r.image (AnswersLines {T = Bool} r a (line ∷ []) o o (Err Memory) a) a (g.K.Keeper.images c.args.keeper.now) (g.L.Link.tells c.args.link.now) c.requires (line_unread r a line o))
+    rw (p.1, p.2) (went_none r.image (AnswersLines {T = Bool} r a (line ∷ []) o o (Err Memory) a) a (g.K.Keeper.images c.args.keeper.now) (beside (g.L.Link.tells c.args.link.now) (telling (g.R.Runner.runs c.args.runner.now) (g.R.Runner.faults c.args.runner.now))) c.requires (line_unread r a line o))
 
 pub returns-in_err-answer-clause-world : goal.returns-in_err-answer-clause-world
 returns-in_err-answer-clause-world g c =
@@ -29,8 +30,8 @@ returns-in_err-answer-clause-world g c =
     let r = c.args.route.now in
     let a = c.args.session.now in
     let b = c.answer.new.self in
-    let t = g.L.Link.tells c.args.link.now in
-    let u = g.L.Link.tells c.answer.new.link in
+    let t = beside (g.L.Link.tells c.args.link.now) (telling (g.R.Runner.runs c.args.runner.now) (g.R.Runner.faults c.args.runner.now)) in
+    let u = beside (g.L.Link.tells c.answer.new.link) (telling (g.R.Runner.runs c.answer.new.runner) (g.R.Runner.faults c.answer.new.runner)) in
     let i = g.K.Keeper.images c.args.keeper.now in
     let j = g.K.Keeper.images c.answer.new.keeper in
     let o = g.O.Sink.written c.args.output.now in
@@ -47,8 +48,8 @@ returns-in_err-text-clause-world g c =
     let r = c.args.route.now in
     let a = c.args.session.now in
     let b = c.answer.new.self in
-    let t = g.L.Link.tells c.args.link.now in
-    let u = g.L.Link.tells c.answer.new.link in
+    let t = beside (g.L.Link.tells c.args.link.now) (telling (g.R.Runner.runs c.args.runner.now) (g.R.Runner.faults c.args.runner.now)) in
+    let u = beside (g.L.Link.tells c.answer.new.link) (telling (g.R.Runner.runs c.answer.new.runner) (g.R.Runner.faults c.answer.new.runner)) in
     let i = g.K.Keeper.images c.args.keeper.now in
     let j = g.K.Keeper.images c.answer.new.keeper in
     let o = g.O.Sink.written c.args.output.now in
@@ -64,8 +65,8 @@ returns-clause-world g c =
     let r = c.args.route.now in
     let a = c.args.session.now in
     let b = c.answer.new.self in
-    let t = g.L.Link.tells c.args.link.now in
-    let u = g.L.Link.tells c.answer.new.link in
+    let t = beside (g.L.Link.tells c.args.link.now) (telling (g.R.Runner.runs c.args.runner.now) (g.R.Runner.faults c.args.runner.now)) in
+    let u = beside (g.L.Link.tells c.answer.new.link) (telling (g.R.Runner.runs c.answer.new.runner) (g.R.Runner.faults c.answer.new.runner)) in
     let i = g.K.Keeper.images c.args.keeper.now in
     let j = g.K.Keeper.images c.answer.new.keeper in
     let o = g.O.Sink.written c.args.output.now in
@@ -85,8 +86,8 @@ returns-in_err-write_all-clause-world g c =
     let r = c.args.route.now in
     let a = c.args.session.now in
     let b = c.answer.new.self in
-    let t = g.L.Link.tells c.args.link.now in
-    let u = g.L.Link.tells c.answer.new.link in
+    let t = beside (g.L.Link.tells c.args.link.now) (telling (g.R.Runner.runs c.args.runner.now) (g.R.Runner.faults c.args.runner.now)) in
+    let u = beside (g.L.Link.tells c.answer.new.link) (telling (g.R.Runner.runs c.answer.new.runner) (g.R.Runner.faults c.answer.new.runner)) in
     let i = g.K.Keeper.images c.args.keeper.now in
     let j = g.K.Keeper.images c.answer.new.keeper in
     let o = g.O.Sink.written c.args.output.now in

@@ -1,6 +1,8 @@
 use Rattle.std.proofs.Common.{◌≡◌, Bool, false, true, ◌++◌, ◌∷◌, [], Ok, Err, refl, sym, ap, ◌∙◌, subst, arith}
 use Rattle.std.proofs.lemmas.Result.{err_from_is_err_and}
 use Rattle.shell_lang.specs.Lines.{whole_lines, parts}
+use Rattle.client_core.specs.Goes.{telling}
+use Rattle.client_session.specs.Doing.{beside}
 use Rattle.client_session.proofs.Doing.{WentKept, kept_none, kept_as, kept_then, kept_next}
 use Rattle.client_prog.specs.declared.input.InputEnd.TheVariants.{Read}
 use Rattle.client_prog.specs.declared.input.InputEnd.{InputEnd}
@@ -25,11 +27,12 @@ loop-reader-init g c =
       no_line = ap (λ (x : Reading). parts x.bytes) c.new-reader.ensures ∙ ap (λ (x : Reading). x.bytes ∷ []) (sym c.new-reader.ensures);
       taken = ([], reads_none left reader c.new-reader.ensures);
       later = omega arith;
+      runner_later = omega arith;
       source_later = omega arith;
       sink_same = refl;
       keeper_same = refl;
       kept = c.requires;
-      world = kept_none r.image (AnswersSoFar r a left left reader o o a) a (g.K.Keeper.images c.args.keeper.now) (g.L.Link.tells c.args.link.now) c.requires (so_far_none r a left o reader c.new-reader.ensures);
+      world = kept_none r.image (AnswersSoFar r a left left reader o o a) a (g.K.Keeper.images c.args.keeper.now) (beside (g.L.Link.tells c.args.link.now) (telling (g.R.Runner.runs c.args.runner.now) (g.R.Runner.faults c.args.runner.now))) c.requires (so_far_none r a left o reader c.new-reader.ensures);
     }
 
 pub returns-in_err-end-clause-world : goal.returns-in_err-end-clause-world
@@ -46,7 +49,7 @@ returns-in_err-end-clause-world g c =
     let old = c.loop-reader.reader in
     let lost = c.in_err-end.ensures.err in
     rw (x.1, x.2) (kept_as r.image (AnswersSoFar r a left mid old o m b) (AnswersInput r a left rest o m (Err Memory) b) a b (g.K.Keeper.images c.args.keeper.now) (g.K.Keeper.images c.loop-reader.keeper)
-    (g.L.Link.tells c.args.link.now) (g.L.Link.tells c.loop-reader.link) c.loop-reader.invariant.world
+    (beside (g.L.Link.tells c.args.link.now) (telling (g.R.Runner.runs c.args.runner.now) (g.R.Runner.faults c.args.runner.now))) (beside (g.L.Link.tells c.loop-reader.link) (telling (g.R.Runner.runs c.loop-reader.runner) (g.R.Runner.faults c.loop-reader.runner))) c.loop-reader.invariant.world
     (λ p so_far. so_far_lost r a left o mid rest old lost.0 b m p c.loop-reader.invariant.few lost.1 lost.2 so_far))
 
 pub returns-in_err-end-clause-input : goal.returns-in_err-end-clause-input
@@ -63,9 +66,9 @@ returns-then-quit-clause-world g c =
     let a = c.args.session.now in
     let b = c.loop-reader.session in
     let d = c.answer_lines.new.session in
-    let t = g.L.Link.tells c.args.link.now in
-    let u = g.L.Link.tells c.loop-reader.link in
-    let v = g.L.Link.tells c.answer_lines.new.link in
+    let t = beside (g.L.Link.tells c.args.link.now) (telling (g.R.Runner.runs c.args.runner.now) (g.R.Runner.faults c.args.runner.now)) in
+    let u = beside (g.L.Link.tells c.loop-reader.link) (telling (g.R.Runner.runs c.loop-reader.runner) (g.R.Runner.faults c.loop-reader.runner)) in
+    let v = beside (g.L.Link.tells c.answer_lines.new.link) (telling (g.R.Runner.runs c.answer_lines.new.runner) (g.R.Runner.faults c.answer_lines.new.runner)) in
     let i = g.K.Keeper.images c.args.keeper.now in
     let j = g.K.Keeper.images c.loop-reader.keeper in
     let l = g.K.Keeper.images c.answer_lines.new.keeper in
@@ -95,9 +98,9 @@ returns-in_err-quit-clause-world g c =
     let a = c.args.session.now in
     let b = c.loop-reader.session in
     let d = c.answer_lines.new.session in
-    let t = g.L.Link.tells c.args.link.now in
-    let u = g.L.Link.tells c.loop-reader.link in
-    let v = g.L.Link.tells c.answer_lines.new.link in
+    let t = beside (g.L.Link.tells c.args.link.now) (telling (g.R.Runner.runs c.args.runner.now) (g.R.Runner.faults c.args.runner.now)) in
+    let u = beside (g.L.Link.tells c.loop-reader.link) (telling (g.R.Runner.runs c.loop-reader.runner) (g.R.Runner.faults c.loop-reader.runner)) in
+    let v = beside (g.L.Link.tells c.answer_lines.new.link) (telling (g.R.Runner.runs c.answer_lines.new.runner) (g.R.Runner.faults c.answer_lines.new.runner)) in
     let i = g.K.Keeper.images c.args.keeper.now in
     let j = g.K.Keeper.images c.loop-reader.keeper in
     let l = g.K.Keeper.images c.answer_lines.new.keeper in
@@ -129,9 +132,9 @@ returns-in_err-answer_last-clause-world g c =
     let a = c.args.session.now in
     let b = c.loop-reader.session in
     let d = c.answer_lines.new.session in
-    let t = g.L.Link.tells c.args.link.now in
-    let u = g.L.Link.tells c.loop-reader.link in
-    let v = g.L.Link.tells c.answer_lines.new.link in
+    let t = beside (g.L.Link.tells c.args.link.now) (telling (g.R.Runner.runs c.args.runner.now) (g.R.Runner.faults c.args.runner.now)) in
+    let u = beside (g.L.Link.tells c.loop-reader.link) (telling (g.R.Runner.runs c.loop-reader.runner) (g.R.Runner.faults c.loop-reader.runner)) in
+    let v = beside (g.L.Link.tells c.answer_lines.new.link) (telling (g.R.Runner.runs c.answer_lines.new.runner) (g.R.Runner.faults c.answer_lines.new.runner)) in
     let i = g.K.Keeper.images c.args.keeper.now in
     let j = g.K.Keeper.images c.loop-reader.keeper in
     let l = g.K.Keeper.images c.answer_lines.new.keeper in
@@ -144,7 +147,7 @@ returns-in_err-answer_last-clause-world g c =
     let old = c.loop-reader.reader in
     let new = c.read_piece.new.self in
     let e = c.answer_last.new.session in
-    let w = g.L.Link.tells c.answer_last.new.link in
+    let w = beside (g.L.Link.tells c.answer_last.new.link) (telling (g.R.Runner.runs c.answer_last.new.runner) (g.R.Runner.faults c.answer_last.new.runner)) in
     let h = g.K.Keeper.images c.answer_last.new.keeper in
     let k = g.O.Sink.written c.answer_last.new.output in
     let final = c.answer_lines.new.reader in
@@ -175,9 +178,9 @@ returns-in-Some-clause-world g c =
     let a = c.args.session.now in
     let b = c.loop-reader.session in
     let d = c.answer_lines.new.session in
-    let t = g.L.Link.tells c.args.link.now in
-    let u = g.L.Link.tells c.loop-reader.link in
-    let v = g.L.Link.tells c.answer_lines.new.link in
+    let t = beside (g.L.Link.tells c.args.link.now) (telling (g.R.Runner.runs c.args.runner.now) (g.R.Runner.faults c.args.runner.now)) in
+    let u = beside (g.L.Link.tells c.loop-reader.link) (telling (g.R.Runner.runs c.loop-reader.runner) (g.R.Runner.faults c.loop-reader.runner)) in
+    let v = beside (g.L.Link.tells c.answer_lines.new.link) (telling (g.R.Runner.runs c.answer_lines.new.runner) (g.R.Runner.faults c.answer_lines.new.runner)) in
     let i = g.K.Keeper.images c.args.keeper.now in
     let j = g.K.Keeper.images c.loop-reader.keeper in
     let l = g.K.Keeper.images c.answer_lines.new.keeper in
@@ -190,7 +193,7 @@ returns-in-Some-clause-world g c =
     let old = c.loop-reader.reader in
     let new = c.read_piece.new.self in
     let e = c.answer_last.new.session in
-    let w = g.L.Link.tells c.answer_last.new.link in
+    let w = beside (g.L.Link.tells c.answer_last.new.link) (telling (g.R.Runner.runs c.answer_last.new.runner) (g.R.Runner.faults c.answer_last.new.runner)) in
     let h = g.K.Keeper.images c.answer_last.new.keeper in
     let k = g.O.Sink.written c.answer_last.new.output in
     let final = c.answer_lines.new.reader in
@@ -232,9 +235,9 @@ loop-reader-preserved g c =
     let a = c.args.session.now in
     let b = c.loop-reader.session in
     let d = c.answer_lines.new.session in
-    let t = g.L.Link.tells c.args.link.now in
-    let u = g.L.Link.tells c.loop-reader.link in
-    let v = g.L.Link.tells c.answer_lines.new.link in
+    let t = beside (g.L.Link.tells c.args.link.now) (telling (g.R.Runner.runs c.args.runner.now) (g.R.Runner.faults c.args.runner.now)) in
+    let u = beside (g.L.Link.tells c.loop-reader.link) (telling (g.R.Runner.runs c.loop-reader.runner) (g.R.Runner.faults c.loop-reader.runner)) in
+    let v = beside (g.L.Link.tells c.answer_lines.new.link) (telling (g.R.Runner.runs c.answer_lines.new.runner) (g.R.Runner.faults c.answer_lines.new.runner)) in
     let i = g.K.Keeper.images c.args.keeper.now in
     let j = g.K.Keeper.images c.loop-reader.keeper in
     let l = g.K.Keeper.images c.answer_lines.new.keeper in
@@ -255,6 +258,7 @@ loop-reader-preserved g c =
       no_line = left_is.no_line;
       taken = (taken.0 ++ whole_lines new.bytes, reads_more left mid rest old new final taken.0 c.in_ok-end.end c.loop-reader.invariant.few c.in_ok-end.ensures.ok left_is none taken.1);
       later = omega (arith, c.answer_lines.ensures.later);
+      runner_later = omega (arith, c.answer_lines.ensures.runner_later);
       source_later = omega (arith, c.read_piece.ensures.later);
       sink_same = c.in_ok-quit.ensures.cause.never (λ is. absurd (cc (is))) ∙ c.loop-reader.invariant.sink_same;
       keeper_same = c.in_ok-quit.ensures.keeper.never (λ is. absurd (cc (is))) ∙ c.loop-reader.invariant.keeper_same;

@@ -2,6 +2,8 @@ use Rattle.std.proofs.Common.{◌≡◌, Bool, true, false, [], ◌∷◌, ◌++
 use Rattle.std.proofs.lemmas.Result.{err_from_is_err_and}
 use Rattle.shell_lang.specs.Lines.{whole_lines, BeginsWithLine, parts}
 use Rattle.shell_lang.proofs.Cutting.{all_lines_taken}
+use Rattle.client_core.specs.Goes.{telling}
+use Rattle.client_session.specs.Doing.{beside}
 use Rattle.client_session.proofs.Doing.{kept_none, kept_as, kept_then, kept_next}
 use Rattle.client_prog.specs.declared.run.Stop.TheVariants as stops
 use Rattle.client_prog.specs.Input.{Reading}
@@ -21,10 +23,11 @@ loop-line-init g c =
       count = refl;
       cut = ([], (refl, refl));
       later = omega arith;
+      runner_later = omega arith;
       sink_same = refl;
       keeper_same = refl;
       kept = c.requires;
-      world = kept_none r.image (AnswersFront r a bytes bytes o o a) a (g.K.Keeper.images c.args.keeper.now) (g.L.Link.tells c.args.link.now) c.requires (front_none r a bytes o);
+      world = kept_none r.image (AnswersFront r a bytes bytes o o a) a (g.K.Keeper.images c.args.keeper.now) (beside (g.L.Link.tells c.args.link.now) (telling (g.R.Runner.runs c.args.runner.now) (g.R.Runner.faults c.args.runner.now))) c.requires (front_none r a bytes o);
     }
 
 pub loop-line-preserved : goal.loop-line-preserved
@@ -33,9 +36,9 @@ loop-line-preserved g c =
     let a = c.args.session.now in
     let b = c.loop-line.session in
     let d = c.answer.new.session in
-    let t = g.L.Link.tells c.args.link.now in
-    let u = g.L.Link.tells c.loop-line.link in
-    let v = g.L.Link.tells c.answer.new.link in
+    let t = beside (g.L.Link.tells c.args.link.now) (telling (g.R.Runner.runs c.args.runner.now) (g.R.Runner.faults c.args.runner.now)) in
+    let u = beside (g.L.Link.tells c.loop-line.link) (telling (g.R.Runner.runs c.loop-line.runner) (g.R.Runner.faults c.loop-line.runner)) in
+    let v = beside (g.L.Link.tells c.answer.new.link) (telling (g.R.Runner.runs c.answer.new.runner) (g.R.Runner.faults c.answer.new.runner)) in
     let i = g.K.Keeper.images c.args.keeper.now in
     let j = g.K.Keeper.images c.loop-line.keeper in
     let l = g.K.Keeper.images c.answer.new.keeper in
@@ -55,6 +58,7 @@ loop-line-preserved g c =
       count = ap (λ (x : Reading). x.count) c.pass.ensures ∙ c.loop-line.invariant.count;
       cut = (lines.0 ++ line ∷ [], line_cut bytes left line lines.0 lines.1 begins behind is goes_on);
       later = omega (arith, c.answer.ensures.later);
+      runner_later = omega (arith, c.answer.ensures.runner_later);
       sink_same = c.in_ok-quit.ensures.cause.never (λ is. absurd (cc (is))) ∙ c.loop-line.invariant.sink_same;
       keeper_same = c.in_ok-quit.ensures.keeper.never (λ is. absurd (cc (is))) ∙ c.loop-line.invariant.keeper_same;
       kept = c.in_ok-quit.ensures.kept;
@@ -69,9 +73,9 @@ returns-then-quit-clause-world g c =
     let a = c.args.session.now in
     let b = c.loop-line.session in
     let d = c.answer.new.session in
-    let t = g.L.Link.tells c.args.link.now in
-    let u = g.L.Link.tells c.loop-line.link in
-    let v = g.L.Link.tells c.answer.new.link in
+    let t = beside (g.L.Link.tells c.args.link.now) (telling (g.R.Runner.runs c.args.runner.now) (g.R.Runner.faults c.args.runner.now)) in
+    let u = beside (g.L.Link.tells c.loop-line.link) (telling (g.R.Runner.runs c.loop-line.runner) (g.R.Runner.faults c.loop-line.runner)) in
+    let v = beside (g.L.Link.tells c.answer.new.link) (telling (g.R.Runner.runs c.answer.new.runner) (g.R.Runner.faults c.answer.new.runner)) in
     let i = g.K.Keeper.images c.args.keeper.now in
     let j = g.K.Keeper.images c.loop-line.keeper in
     let l = g.K.Keeper.images c.answer.new.keeper in
@@ -100,9 +104,9 @@ returns-in_err-quit-clause-world g c =
     let a = c.args.session.now in
     let b = c.loop-line.session in
     let d = c.answer.new.session in
-    let t = g.L.Link.tells c.args.link.now in
-    let u = g.L.Link.tells c.loop-line.link in
-    let v = g.L.Link.tells c.answer.new.link in
+    let t = beside (g.L.Link.tells c.args.link.now) (telling (g.R.Runner.runs c.args.runner.now) (g.R.Runner.faults c.args.runner.now)) in
+    let u = beside (g.L.Link.tells c.loop-line.link) (telling (g.R.Runner.runs c.loop-line.runner) (g.R.Runner.faults c.loop-line.runner)) in
+    let v = beside (g.L.Link.tells c.answer.new.link) (telling (g.R.Runner.runs c.answer.new.runner) (g.R.Runner.faults c.answer.new.runner)) in
     let i = g.K.Keeper.images c.args.keeper.now in
     let j = g.K.Keeper.images c.loop-line.keeper in
     let l = g.K.Keeper.images c.answer.new.keeper in
@@ -129,7 +133,7 @@ returns-clause-world g c =
     let left = c.loop-line.reader.bytes in
     let none : parts left ≡ left ∷ [] = c.in_default.ensures in
     kept_as r.image (AnswersFront r a bytes left o m b) (AnswersLines r a (up_to_quit (whole_lines bytes)) o m (Ok false) b) a b (g.K.Keeper.images c.args.keeper.now) (g.K.Keeper.images c.loop-line.keeper)
-    (g.L.Link.tells c.args.link.now) (g.L.Link.tells c.loop-line.link) c.loop-line.invariant.world
+    (beside (g.L.Link.tells c.args.link.now) (telling (g.R.Runner.runs c.args.runner.now) (g.R.Runner.faults c.args.runner.now))) (beside (g.L.Link.tells c.loop-line.link) (telling (g.R.Runner.runs c.loop-line.runner) (g.R.Runner.faults c.loop-line.runner))) c.loop-line.invariant.world
     (λ p front. (front_done r a bytes o left b m p none front, refl))
 
 pub returns-clause-quit : goal.returns-clause-quit

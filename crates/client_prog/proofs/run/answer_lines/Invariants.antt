@@ -1,5 +1,7 @@
 use Rattle.std.proofs.Common.{◌≡◌, ◌≤◌, ℕ, List, length}
 use Rattle.client_core.specs.Keeping.{IsKept}
+use Rattle.client_core.specs.Goes.{telling}
+use Rattle.client_session.specs.Doing.{beside}
 use Rattle.client_session.proofs.Doing.{WentKept}
 use Rattle.client_prog.specs.InsideRun.{CutsFront, AnswersFront}
 use Rattle.client_prog.proofs.run.answer_lines.Given as goal
@@ -9,10 +11,11 @@ invariant-loop-line g l = record {
   count : l.reader.count ≡ l.fn.reader.count;
   cut : (lines : List (List ℕ)) × CutsFront l.fn.reader.bytes l.reader.bytes lines;
   later : (g.L.Link.tells l.fn.link).troubles ≤ (g.L.Link.tells l.link).troubles;
+  runner_later : g.R.Runner.faults l.fn.runner ≤ g.R.Runner.faults l.runner;
   sink_same : g.O.Sink.faults l.output ≡ g.O.Sink.faults l.fn.output;
   keeper_same : g.K.Keeper.faults l.keeper ≡ g.K.Keeper.faults l.fn.keeper;
   kept : IsKept (g.K.Keeper.images l.keeper) l.route.image l.session.client.number l.session.client.log;
-  world : WentKept l.route.image (AnswersFront l.route l.fn.session l.fn.reader.bytes l.reader.bytes (g.O.Sink.written l.fn.output) (g.O.Sink.written l.output) l.session) l.fn.session l.session (g.K.Keeper.images l.fn.keeper) (g.K.Keeper.images l.keeper) (g.L.Link.tells l.fn.link) (g.L.Link.tells l.link);
+  world : WentKept l.route.image (AnswersFront l.route l.fn.session l.fn.reader.bytes l.reader.bytes (g.O.Sink.written l.fn.output) (g.O.Sink.written l.output) l.session) l.fn.session l.session (g.K.Keeper.images l.fn.keeper) (g.K.Keeper.images l.keeper) (beside (g.L.Link.tells l.fn.link) (telling (g.R.Runner.runs l.fn.runner) (g.R.Runner.faults l.fn.runner))) (beside (g.L.Link.tells l.link) (telling (g.R.Runner.runs l.runner) (g.R.Runner.faults l.runner)));
 }
 
 abbrev pub decreases-loop-line : goal.decreases-loop-line

@@ -12,7 +12,8 @@ use Rattle.client_prog.specs.Words.{Invocation}
 use Rattle.client_session.specs.Session.{SessionState, opened}
 use Rattle.client_prog.specs.Opening.{status_unopened}
 use Rattle.client_prog.specs.Run.{route_of, status_of, IsRead}
-use Rattle.client_session.specs.Doing.{WentDoing}
+use Rattle.client_core.specs.Goes.{telling}
+use Rattle.client_session.specs.Doing.{WentDoing, beside}
 use Rattle.client_prog.specs.InsideRun.{RunAnswers}
 use Rattle.client_prog.proofs.Counting.{sink_status, keeper_status, sink_unopened, keeper_unopened, rose}
 use Rattle.client_prog.proofs.RunningEnds.{is_read, ends_well}
@@ -28,7 +29,7 @@ returns-in-Err-clause-session g c =
     let left = g.I.Source.left c.args.input.now in
     let o = g.O.Sink.written c.args.output.now in
     let i = g.K.Keeper.images c.args.keeper.now in
-    let t = g.L.Link.tells c.args.link.now in
+    let t = beside (g.L.Link.tells c.args.link.now) (telling (g.R.Runner.runs c.args.runner.now) (g.R.Runner.faults c.args.runner.now)) in
     subst (λ (f : Option Invocation). IfSome f (RanFrom i i left left o o 7 t t)) (sym c.in-Some.ensures.form) (wanted_ran run i left o t)
 
 -- ---- a client was opened
@@ -53,7 +54,7 @@ returns-in-Ok-open-clause-session g c =
     let left = g.I.Source.left c.args.input.now in
     let o = g.O.Sink.written c.args.output.now in
     let i = g.K.Keeper.images c.args.keeper.now in
-    let t = g.L.Link.tells c.args.link.now in
+    let t = beside (g.L.Link.tells c.args.link.now) (telling (g.R.Runner.runs c.args.runner.now) (g.R.Runner.faults c.args.runner.now)) in
     let at : c.bytes.result.now ≡ run.image = c.bytes.ensures.value ∙ ap (λ (r : Route). r.image) c.in-Ok.ensures in
     let client = c.in-Ok-open.client in
     let ended = c.run-ended.result in
@@ -62,7 +63,7 @@ returns-in-Ok-open-clause-session g c =
     let rest = g.I.Source.left c.run-ended.new.input in
     let n = g.O.Sink.written c.run-ended.new.output in
     let j = g.K.Keeper.images c.run-ended.new.keeper in
-    let u = g.L.Link.tells c.run-ended.new.link in
+    let u = beside (g.L.Link.tells c.run-ended.new.link) (telling (g.R.Runner.runs c.run-ended.new.runner) (g.R.Runner.faults c.run-ended.new.runner)) in
     let after = c.run-ended.new.session in
     let went : WentDoing (route_of run).image (RunAnswers (route_of run) (opened client.number client.log) left rest o n ended after) (opened client.number client.log) after i j t u =
     subst (λ (s : SessionState). WentDoing (route_of run).image (RunAnswers (route_of run) s left rest o n ended after) s after i j t u) c.new-session.ensures
@@ -141,7 +142,7 @@ returns-in-Err-open-clause-session g c =
     let left = g.I.Source.left c.args.input.now in
     let o = g.O.Sink.written c.args.output.now in
     let i = g.K.Keeper.images c.args.keeper.now in
-    let t = g.L.Link.tells c.args.link.now in
+    let t = beside (g.L.Link.tells c.args.link.now) (telling (g.R.Runner.runs c.args.runner.now) (g.R.Runner.faults c.args.runner.now)) in
     let at : c.bytes.result.now ≡ run.image = c.bytes.ensures.value ∙ ap (λ (r : Route). r.image) c.in-Ok.ensures in
     let unopened = c.in-Err-open.unopened in
     let status = c.status_unopened.result in

@@ -1,5 +1,7 @@
 use Rattle.std.proofs.Common.{◌≢◌, Ok, Err, ap}
 use Rattle.std.proofs.lemmas.Result.{err_from_is_err_and}
+use Rattle.client_core.specs.Goes.{telling}
+use Rattle.client_session.specs.Doing.{beside}
 use Rattle.client_session.proofs.Doing.{went_as}
 use Rattle.client_prog.specs.declared.run.Stop.TheVariants.{Keeper}
 use Rattle.client_prog.specs.InsideRun.{AnswersInput, RunAnswers}
@@ -12,8 +14,8 @@ returns-in_err-end-clause-world g c =
     let r = c.args.route.now in
     let a = c.args.session.now in
     let b = c.answer_input.new.session in
-    let t = g.L.Link.tells c.args.link.now in
-    let u = g.L.Link.tells c.answer_input.new.link in
+    let t = beside (g.L.Link.tells c.args.link.now) (telling (g.R.Runner.runs c.args.runner.now) (g.R.Runner.faults c.args.runner.now)) in
+    let u = beside (g.L.Link.tells c.answer_input.new.link) (telling (g.R.Runner.runs c.answer_input.new.runner) (g.R.Runner.faults c.answer_input.new.runner)) in
     let i = g.K.Keeper.images c.args.keeper.now in
     let j = g.K.Keeper.images c.answer_input.new.keeper in
     let o = g.O.Sink.written c.args.output.now in
@@ -29,8 +31,8 @@ returns-clause-world g c =
     let r = c.args.route.now in
     let a = c.args.session.now in
     let b = c.answer_input.new.session in
-    let t = g.L.Link.tells c.args.link.now in
-    let u = g.L.Link.tells c.answer_input.new.link in
+    let t = beside (g.L.Link.tells c.args.link.now) (telling (g.R.Runner.runs c.args.runner.now) (g.R.Runner.faults c.args.runner.now)) in
+    let u = beside (g.L.Link.tells c.answer_input.new.link) (telling (g.R.Runner.runs c.answer_input.new.runner) (g.R.Runner.faults c.answer_input.new.runner)) in
     let i = g.K.Keeper.images c.args.keeper.now in
     let j = g.K.Keeper.images c.answer_input.new.keeper in
     let o = g.O.Sink.written c.args.output.now in
@@ -48,8 +50,8 @@ returns-in_err-close-clause-world g c =
     let r = c.args.route.now in
     let a = c.args.session.now in
     let b = c.answer_input.new.session in
-    let t = g.L.Link.tells c.args.link.now in
-    let u = g.L.Link.tells c.answer_input.new.link in
+    let t = beside (g.L.Link.tells c.args.link.now) (telling (g.R.Runner.runs c.args.runner.now) (g.R.Runner.faults c.args.runner.now)) in
+    let u = beside (g.L.Link.tells c.answer_input.new.link) (telling (g.R.Runner.runs c.answer_input.new.runner) (g.R.Runner.faults c.answer_input.new.runner)) in
     let i = g.K.Keeper.images c.args.keeper.now in
     let j = g.K.Keeper.images c.answer_input.new.keeper in
     let o = g.O.Sink.written c.args.output.now in

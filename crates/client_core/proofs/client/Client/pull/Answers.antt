@@ -5,7 +5,7 @@ use Rattle.client_core.specs.Client.{Client}
 use Rattle.client_core.specs.declared.pulling.PullEnd.{PullEnd}
 use Rattle.client_core.specs.declared.pulling.PullEnd.TheVariants.{KeepFault}
 use Rattle.client_core.specs.Inside.{PullLeaves}
-use Rattle.client_core.specs.Pulling.{PullEnds, pulled_end}
+use Rattle.client_core.specs.Pulling.{PullEnds}
 use Rattle.client_core.specs.Keeping.{IsKept, KeepsLog}
 use Rattle.client_core.specs.Causes.{HasPullCause, PullKeeps}
 use Rattle.client_core.specs.Goes.{Went}

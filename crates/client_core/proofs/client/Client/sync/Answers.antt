@@ -1,4 +1,4 @@
-use Rattle.std.proofs.Common.{◌≡◌, ◌∙◌, ◌+◌, ℕ, List, Ok, Err, Some, Option, refl, ap, sym, subst, arith}
+use Rattle.std.proofs.Common.{◌≡◌, ◌∙◌, ℕ, List, Ok, Err, Some, Option, refl, ap, sym, subst, arith}
 use Rattle.outside.specs.Outside.{Told, RisesWhere}
 use Rattle.outside.specs.declared.errors.KeepError.{KeepError}
 use Rattle.mod_log.specs.Log.{Log, acknowledged}

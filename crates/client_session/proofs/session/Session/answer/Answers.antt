@@ -1,6 +1,6 @@
 use Rattle.std.proofs.Common.{◌≡◌, ℕ, List, Option, None, Some, Result, Ok, Err, IfOk, refl, sym, ◌∙◌, ap, subst, arith}
 use Rattle.shell_lang.specs.declared.line.Line.{Line}
-use Rattle.shell_lang.specs.declared.line.Line.TheVariants.{Empty, Put, Make, Remove, Move, Cat, List as Ls, Enter, Status, Quit}
+use Rattle.shell_lang.specs.declared.line.Line.TheVariants.{Empty, Put, Make, Remove, Move, Cat, List as Ls, Enter, Run as RunLine, Status, Sync, Pull, Quit}
 use Rattle.shell_lang.specs.declared.line.LineError.{LineError}
 use Rattle.shell_lang.specs.declared.answer.Answer.TheVariants.{Refused}
 use Rattle.shell_lang.specs.declared.answer.Fault.TheVariants as faults
@@ -8,9 +8,12 @@ use Rattle.mod_log.specs.Log.{tree_of}
 use Rattle.client_core.specs.Keeping.{IsKept}
 use Rattle.client_session.specs.Session.{put_effect, make_effect, remove_effect, move_effect}
 use Rattle.client_session.specs.Looking.{list_answer}
-use Rattle.client_session.specs.Inside.{Logs}
-use Rattle.client_session.specs.Causes.{HasLineCause}
+use Rattle.client_core.specs.Goes.{telling}
+use Rattle.client_session.specs.Doing.{beside, WentDoing, LineEnds}
+use Rattle.client_session.specs.Inside.{Logs, RunsLine}
+use Rattle.client_session.specs.Causes.{HasLineCause, is_run}
 use Rattle.client_session.proofs.Turning.{line_world, quietly_caused, tells_quietly, silent_quietly, told_quietly, logs_quietly, enter_quietly, enter_kept, status_quietly, unkept}
+use Rattle.client_session.proofs.Commanding.{run_went, run_caused}
 use Rattle.client_session.proofs.session.Session.answer.Goals as goal
 
 pub returns-in-Err-clause-world : goal.returns-in-Err-clause-world
@@ -18,7 +21,7 @@ returns-in-Err-clause-world g c =
     let s = c.args.self.now in
     let route = c.args.route.now in
     let i = g.K.Keeper.images c.args.keeper.now in
-    let t = g.L.Link.tells c.args.link.now in
+    let t = beside (g.L.Link.tells c.args.link.now) (telling (g.R.Runner.runs c.args.runner.now) (g.R.Runner.faults c.args.runner.now)) in
     line_world route.image i route s c.args.line (Err c.in-Err.refusal) (Ok (Some (Refused (faults.Line c.in-Err.refusal)))) s i t c.in-Err.is
     (tells_quietly route.image i s c.requires (Err c.in-Err.refusal) (Some (Refused (faults.Line c.in-Err.refusal))) (λ r. (refl, refl, refl)))
 
@@ -27,16 +30,16 @@ returns-in-Err-clause-cause g c =
     let s = c.args.self.now in
     let route = c.args.route.now in
     let i = g.K.Keeper.images c.args.keeper.now in
-    let t = g.L.Link.tells c.args.link.now in
+    let t = beside (g.L.Link.tells c.args.link.now) (telling (g.R.Runner.runs c.args.runner.now) (g.R.Runner.faults c.args.runner.now)) in
     subst (λ (l : Result Line LineError). HasLineCause route s l (Ok (Some (Refused (faults.Line c.in-Err.refusal)))) s t t (g.K.Keeper.faults c.args.keeper.now) (g.K.Keeper.faults c.args.keeper.now)) (sym c.in-Err.is)
-    (quietly_caused route.image i s (Err c.in-Err.refusal) (Ok (Some (Refused (faults.Line c.in-Err.refusal)))) s i (tells_quietly route.image i s c.requires (Err c.in-Err.refusal) (Some (Refused (faults.Line c.in-Err.refusal))) (λ r. (refl, refl, refl))) route)
+    (quietly_caused route.image i s (Err c.in-Err.refusal) (Ok (Some (Refused (faults.Line c.in-Err.refusal)))) s i (tells_quietly route.image i s c.requires (Err c.in-Err.refusal) (Some (Refused (faults.Line c.in-Err.refusal))) (λ r. (refl, refl, refl))) route t)
 
 pub returns-in-Ok-Put-clause-world : goal.returns-in-Ok-Put-clause-world
 returns-in-Ok-Put-clause-world g c =
     let s = c.args.self.now in
     let route = c.args.route.now in
     let i = g.K.Keeper.images c.args.keeper.now in
-    let t = g.L.Link.tells c.args.link.now in
+    let t = beside (g.L.Link.tells c.args.link.now) (telling (g.R.Runner.runs c.args.runner.now) (g.R.Runner.faults c.args.runner.now)) in
     let j = g.K.Keeper.images c.put.new.keeper in
     line_world route.image i route s c.args.line (Ok (Put c.in-Ok-Put.path c.in-Ok-Put.text)) c.put.result c.put.new.self j t (c.in-Ok-Put.is ∙ ap Ok c.in-Ok-Put.field-0-is)
     (logs_quietly route.image i (put_effect s.folder c.in-Ok-Put.path c.in-Ok-Put.text) s (Ok (Put c.in-Ok-Put.path c.in-Ok-Put.text)) c.put.result c.put.new.self j (λ r answer trace turn. turn) (subst (λ (n : List ℕ). Logs n (put_effect s.folder c.in-Ok-Put.path c.in-Ok-Put.text) s c.put.result c.put.new.self i j) c.bytes-image.ensures.value c.put.ensures.logs))
@@ -46,10 +49,10 @@ returns-in-Ok-Put-clause-cause g c =
     let s = c.args.self.now in
     let route = c.args.route.now in
     let i = g.K.Keeper.images c.args.keeper.now in
-    let t = g.L.Link.tells c.args.link.now in
+    let t = beside (g.L.Link.tells c.args.link.now) (telling (g.R.Runner.runs c.args.runner.now) (g.R.Runner.faults c.args.runner.now)) in
     let j = g.K.Keeper.images c.put.new.keeper in
     subst (λ (l : Result Line LineError). HasLineCause route s l c.put.result c.put.new.self t t (g.K.Keeper.faults c.args.keeper.now) (g.K.Keeper.faults c.put.new.keeper)) (sym (c.in-Ok-Put.is ∙ ap Ok c.in-Ok-Put.field-0-is))
-    (quietly_caused route.image i s (Ok (Put c.in-Ok-Put.path c.in-Ok-Put.text)) c.put.result c.put.new.self j (logs_quietly route.image i (put_effect s.folder c.in-Ok-Put.path c.in-Ok-Put.text) s (Ok (Put c.in-Ok-Put.path c.in-Ok-Put.text)) c.put.result c.put.new.self j (λ r answer trace turn. turn) (subst (λ (n : List ℕ). Logs n (put_effect s.folder c.in-Ok-Put.path c.in-Ok-Put.text) s c.put.result c.put.new.self i j) c.bytes-image.ensures.value c.put.ensures.logs)) route)
+    (quietly_caused route.image i s (Ok (Put c.in-Ok-Put.path c.in-Ok-Put.text)) c.put.result c.put.new.self j (logs_quietly route.image i (put_effect s.folder c.in-Ok-Put.path c.in-Ok-Put.text) s (Ok (Put c.in-Ok-Put.path c.in-Ok-Put.text)) c.put.result c.put.new.self j (λ r answer trace turn. turn) (subst (λ (n : List ℕ). Logs n (put_effect s.folder c.in-Ok-Put.path c.in-Ok-Put.text) s c.put.result c.put.new.self i j) c.bytes-image.ensures.value c.put.ensures.logs)) route t)
 
 pub put-requires : goal.put-requires
 put-requires g c = subst (λ (n : List ℕ). IsKept (g.K.Keeper.images c.args.keeper.now) n c.args.self.now.client.number c.args.self.now.client.log) (sym c.bytes-image.ensures.value) c.requires
@@ -63,7 +66,7 @@ returns-in-Ok-Make-clause-world g c =
     let s = c.args.self.now in
     let route = c.args.route.now in
     let i = g.K.Keeper.images c.args.keeper.now in
-    let t = g.L.Link.tells c.args.link.now in
+    let t = beside (g.L.Link.tells c.args.link.now) (telling (g.R.Runner.runs c.args.runner.now) (g.R.Runner.faults c.args.runner.now)) in
     let j = g.K.Keeper.images c.make.new.keeper in
     line_world route.image i route s c.args.line (Ok (Make c.in-Ok-Make.path)) c.make.result c.make.new.self j t (c.in-Ok-Make.is ∙ ap Ok c.in-Ok-Make.field-0-is)
     (logs_quietly route.image i (make_effect s.folder c.in-Ok-Make.path) s (Ok (Make c.in-Ok-Make.path)) c.make.result c.make.new.self j (λ r answer trace turn. turn) (subst (λ (n : List ℕ). Logs n (make_effect s.folder c.in-Ok-Make.path) s c.make.result c.make.new.self i j) c.bytes-image.ensures.value c.make.ensures.logs))
@@ -73,10 +76,10 @@ returns-in-Ok-Make-clause-cause g c =
     let s = c.args.self.now in
     let route = c.args.route.now in
     let i = g.K.Keeper.images c.args.keeper.now in
-    let t = g.L.Link.tells c.args.link.now in
+    let t = beside (g.L.Link.tells c.args.link.now) (telling (g.R.Runner.runs c.args.runner.now) (g.R.Runner.faults c.args.runner.now)) in
     let j = g.K.Keeper.images c.make.new.keeper in
     subst (λ (l : Result Line LineError). HasLineCause route s l c.make.result c.make.new.self t t (g.K.Keeper.faults c.args.keeper.now) (g.K.Keeper.faults c.make.new.keeper)) (sym (c.in-Ok-Make.is ∙ ap Ok c.in-Ok-Make.field-0-is))
-    (quietly_caused route.image i s (Ok (Make c.in-Ok-Make.path)) c.make.result c.make.new.self j (logs_quietly route.image i (make_effect s.folder c.in-Ok-Make.path) s (Ok (Make c.in-Ok-Make.path)) c.make.result c.make.new.self j (λ r answer trace turn. turn) (subst (λ (n : List ℕ). Logs n (make_effect s.folder c.in-Ok-Make.path) s c.make.result c.make.new.self i j) c.bytes-image.ensures.value c.make.ensures.logs)) route)
+    (quietly_caused route.image i s (Ok (Make c.in-Ok-Make.path)) c.make.result c.make.new.self j (logs_quietly route.image i (make_effect s.folder c.in-Ok-Make.path) s (Ok (Make c.in-Ok-Make.path)) c.make.result c.make.new.self j (λ r answer trace turn. turn) (subst (λ (n : List ℕ). Logs n (make_effect s.folder c.in-Ok-Make.path) s c.make.result c.make.new.self i j) c.bytes-image.ensures.value c.make.ensures.logs)) route t)
 
 pub make-requires : goal.make-requires
 make-requires g c = subst (λ (n : List ℕ). IsKept (g.K.Keeper.images c.args.keeper.now) n c.args.self.now.client.number c.args.self.now.client.log) (sym c.bytes-image.ensures.value) c.requires
@@ -90,7 +93,7 @@ returns-in-Ok-Remove-clause-world g c =
     let s = c.args.self.now in
     let route = c.args.route.now in
     let i = g.K.Keeper.images c.args.keeper.now in
-    let t = g.L.Link.tells c.args.link.now in
+    let t = beside (g.L.Link.tells c.args.link.now) (telling (g.R.Runner.runs c.args.runner.now) (g.R.Runner.faults c.args.runner.now)) in
     let j = g.K.Keeper.images c.remove.new.keeper in
     line_world route.image i route s c.args.line (Ok (Remove c.in-Ok-Remove.path)) c.remove.result c.remove.new.self j t (c.in-Ok-Remove.is ∙ ap Ok c.in-Ok-Remove.field-0-is)
     (logs_quietly route.image i (remove_effect s.folder c.in-Ok-Remove.path) s (Ok (Remove c.in-Ok-Remove.path)) c.remove.result c.remove.new.self j (λ r answer trace turn. turn) (subst (λ (n : List ℕ). Logs n (remove_effect s.folder c.in-Ok-Remove.path) s c.remove.result c.remove.new.self i j) c.bytes-image.ensures.value c.remove.ensures.logs))
@@ -100,10 +103,10 @@ returns-in-Ok-Remove-clause-cause g c =
     let s = c.args.self.now in
     let route = c.args.route.now in
     let i = g.K.Keeper.images c.args.keeper.now in
-    let t = g.L.Link.tells c.args.link.now in
+    let t = beside (g.L.Link.tells c.args.link.now) (telling (g.R.Runner.runs c.args.runner.now) (g.R.Runner.faults c.args.runner.now)) in
     let j = g.K.Keeper.images c.remove.new.keeper in
     subst (λ (l : Result Line LineError). HasLineCause route s l c.remove.result c.remove.new.self t t (g.K.Keeper.faults c.args.keeper.now) (g.K.Keeper.faults c.remove.new.keeper)) (sym (c.in-Ok-Remove.is ∙ ap Ok c.in-Ok-Remove.field-0-is))
-    (quietly_caused route.image i s (Ok (Remove c.in-Ok-Remove.path)) c.remove.result c.remove.new.self j (logs_quietly route.image i (remove_effect s.folder c.in-Ok-Remove.path) s (Ok (Remove c.in-Ok-Remove.path)) c.remove.result c.remove.new.self j (λ r answer trace turn. turn) (subst (λ (n : List ℕ). Logs n (remove_effect s.folder c.in-Ok-Remove.path) s c.remove.result c.remove.new.self i j) c.bytes-image.ensures.value c.remove.ensures.logs)) route)
+    (quietly_caused route.image i s (Ok (Remove c.in-Ok-Remove.path)) c.remove.result c.remove.new.self j (logs_quietly route.image i (remove_effect s.folder c.in-Ok-Remove.path) s (Ok (Remove c.in-Ok-Remove.path)) c.remove.result c.remove.new.self j (λ r answer trace turn. turn) (subst (λ (n : List ℕ). Logs n (remove_effect s.folder c.in-Ok-Remove.path) s c.remove.result c.remove.new.self i j) c.bytes-image.ensures.value c.remove.ensures.logs)) route t)
 
 pub remove-requires : goal.remove-requires
 remove-requires g c = subst (λ (n : List ℕ). IsKept (g.K.Keeper.images c.args.keeper.now) n c.args.self.now.client.number c.args.self.now.client.log) (sym c.bytes-image.ensures.value) c.requires
@@ -117,7 +120,7 @@ returns-in-Ok-Move-clause-world g c =
     let s = c.args.self.now in
     let route = c.args.route.now in
     let i = g.K.Keeper.images c.args.keeper.now in
-    let t = g.L.Link.tells c.args.link.now in
+    let t = beside (g.L.Link.tells c.args.link.now) (telling (g.R.Runner.runs c.args.runner.now) (g.R.Runner.faults c.args.runner.now)) in
     let j = g.K.Keeper.images c.relocate.new.keeper in
     line_world route.image i route s c.args.line (Ok (Move c.in-Ok-Move.from c.in-Ok-Move.to)) c.relocate.result c.relocate.new.self j t (c.in-Ok-Move.is ∙ ap Ok c.in-Ok-Move.field-0-is)
     (logs_quietly route.image i (move_effect s.folder c.in-Ok-Move.from c.in-Ok-Move.to) s (Ok (Move c.in-Ok-Move.from c.in-Ok-Move.to)) c.relocate.result c.relocate.new.self j (λ r answer trace turn. turn) (subst (λ (n : List ℕ). Logs n (move_effect s.folder c.in-Ok-Move.from c.in-Ok-Move.to) s c.relocate.result c.relocate.new.self i j) c.bytes-image.ensures.value c.relocate.ensures.logs))
@@ -127,10 +130,10 @@ returns-in-Ok-Move-clause-cause g c =
     let s = c.args.self.now in
     let route = c.args.route.now in
     let i = g.K.Keeper.images c.args.keeper.now in
-    let t = g.L.Link.tells c.args.link.now in
+    let t = beside (g.L.Link.tells c.args.link.now) (telling (g.R.Runner.runs c.args.runner.now) (g.R.Runner.faults c.args.runner.now)) in
     let j = g.K.Keeper.images c.relocate.new.keeper in
     subst (λ (l : Result Line LineError). HasLineCause route s l c.relocate.result c.relocate.new.self t t (g.K.Keeper.faults c.args.keeper.now) (g.K.Keeper.faults c.relocate.new.keeper)) (sym (c.in-Ok-Move.is ∙ ap Ok c.in-Ok-Move.field-0-is))
-    (quietly_caused route.image i s (Ok (Move c.in-Ok-Move.from c.in-Ok-Move.to)) c.relocate.result c.relocate.new.self j (logs_quietly route.image i (move_effect s.folder c.in-Ok-Move.from c.in-Ok-Move.to) s (Ok (Move c.in-Ok-Move.from c.in-Ok-Move.to)) c.relocate.result c.relocate.new.self j (λ r answer trace turn. turn) (subst (λ (n : List ℕ). Logs n (move_effect s.folder c.in-Ok-Move.from c.in-Ok-Move.to) s c.relocate.result c.relocate.new.self i j) c.bytes-image.ensures.value c.relocate.ensures.logs)) route)
+    (quietly_caused route.image i s (Ok (Move c.in-Ok-Move.from c.in-Ok-Move.to)) c.relocate.result c.relocate.new.self j (logs_quietly route.image i (move_effect s.folder c.in-Ok-Move.from c.in-Ok-Move.to) s (Ok (Move c.in-Ok-Move.from c.in-Ok-Move.to)) c.relocate.result c.relocate.new.self j (λ r answer trace turn. turn) (subst (λ (n : List ℕ). Logs n (move_effect s.folder c.in-Ok-Move.from c.in-Ok-Move.to) s c.relocate.result c.relocate.new.self i j) c.bytes-image.ensures.value c.relocate.ensures.logs)) route t)
 
 pub relocate-requires : goal.relocate-requires
 relocate-requires g c = subst (λ (n : List ℕ). IsKept (g.K.Keeper.images c.args.keeper.now) n c.args.self.now.client.number c.args.self.now.client.log) (sym c.bytes-image.ensures.value) c.requires
@@ -144,7 +147,7 @@ returns-in-Ok-Cat-clause-world g c =
     let s = c.args.self.now in
     let route = c.args.route.now in
     let i = g.K.Keeper.images c.args.keeper.now in
-    let t = g.L.Link.tells c.args.link.now in
+    let t = beside (g.L.Link.tells c.args.link.now) (telling (g.R.Runner.runs c.args.runner.now) (g.R.Runner.faults c.args.runner.now)) in
     line_world route.image i route s c.args.line (Ok (Cat c.in-Ok-Cat.path)) c.cat.result s i t (c.in-Ok-Cat.is ∙ ap Ok c.in-Ok-Cat.field-0-is)
     (told_quietly route.image i s c.requires (Ok (Cat c.in-Ok-Cat.path)) _ c.cat.result (λ r. (refl, refl, refl)) c.cat.ensures.answer)
 
@@ -153,16 +156,16 @@ returns-in-Ok-Cat-clause-cause g c =
     let s = c.args.self.now in
     let route = c.args.route.now in
     let i = g.K.Keeper.images c.args.keeper.now in
-    let t = g.L.Link.tells c.args.link.now in
+    let t = beside (g.L.Link.tells c.args.link.now) (telling (g.R.Runner.runs c.args.runner.now) (g.R.Runner.faults c.args.runner.now)) in
     subst (λ (l : Result Line LineError). HasLineCause route s l c.cat.result s t t (g.K.Keeper.faults c.args.keeper.now) (g.K.Keeper.faults c.args.keeper.now)) (sym (c.in-Ok-Cat.is ∙ ap Ok c.in-Ok-Cat.field-0-is))
-    (quietly_caused route.image i s (Ok (Cat c.in-Ok-Cat.path)) c.cat.result s i (told_quietly route.image i s c.requires (Ok (Cat c.in-Ok-Cat.path)) _ c.cat.result (λ r. (refl, refl, refl)) c.cat.ensures.answer) route)
+    (quietly_caused route.image i s (Ok (Cat c.in-Ok-Cat.path)) c.cat.result s i (told_quietly route.image i s c.requires (Ok (Cat c.in-Ok-Cat.path)) _ c.cat.result (λ r. (refl, refl, refl)) c.cat.ensures.answer) route t)
 
 pub returns-in-Ok-List-clause-world : goal.returns-in-Ok-List-clause-world
 returns-in-Ok-List-clause-world g c =
     let s = c.args.self.now in
     let route = c.args.route.now in
     let i = g.K.Keeper.images c.args.keeper.now in
-    let t = g.L.Link.tells c.args.link.now in
+    let t = beside (g.L.Link.tells c.args.link.now) (telling (g.R.Runner.runs c.args.runner.now) (g.R.Runner.faults c.args.runner.now)) in
     line_world route.image i route s c.args.line (Ok (Ls c.in-Ok-List.path)) c.list.result s i t (c.in-Ok-List.is ∙ ap Ok c.in-Ok-List.field-0-is)
     (told_quietly route.image i s c.requires (Ok (Ls c.in-Ok-List.path)) (Some (list_answer (tree_of s.client.log) s.folder c.in-Ok-List.path)) c.list.result (λ r. (refl, refl, refl))
     (subst (λ (word : Option (List ℕ)). IfOk c.list.result (λ given. given ≡ Some (list_answer (tree_of s.client.log) s.folder word))) c.as_ref.ensures.value c.list.ensures.answer))
@@ -172,17 +175,17 @@ returns-in-Ok-List-clause-cause g c =
     let s = c.args.self.now in
     let route = c.args.route.now in
     let i = g.K.Keeper.images c.args.keeper.now in
-    let t = g.L.Link.tells c.args.link.now in
+    let t = beside (g.L.Link.tells c.args.link.now) (telling (g.R.Runner.runs c.args.runner.now) (g.R.Runner.faults c.args.runner.now)) in
     subst (λ (l : Result Line LineError). HasLineCause route s l c.list.result s t t (g.K.Keeper.faults c.args.keeper.now) (g.K.Keeper.faults c.args.keeper.now)) (sym (c.in-Ok-List.is ∙ ap Ok c.in-Ok-List.field-0-is))
     (quietly_caused route.image i s (Ok (Ls c.in-Ok-List.path)) c.list.result s i (told_quietly route.image i s c.requires (Ok (Ls c.in-Ok-List.path)) (Some (list_answer (tree_of s.client.log) s.folder c.in-Ok-List.path)) c.list.result (λ r. (refl, refl, refl))
-    (subst (λ (word : Option (List ℕ)). IfOk c.list.result (λ given. given ≡ Some (list_answer (tree_of s.client.log) s.folder word))) c.as_ref.ensures.value c.list.ensures.answer)) route)
+    (subst (λ (word : Option (List ℕ)). IfOk c.list.result (λ given. given ≡ Some (list_answer (tree_of s.client.log) s.folder word))) c.as_ref.ensures.value c.list.ensures.answer)) route t)
 
 pub returns-in-Ok-Enter-clause-world : goal.returns-in-Ok-Enter-clause-world
 returns-in-Ok-Enter-clause-world g c =
     let s = c.args.self.now in
     let route = c.args.route.now in
     let i = g.K.Keeper.images c.args.keeper.now in
-    let t = g.L.Link.tells c.args.link.now in
+    let t = beside (g.L.Link.tells c.args.link.now) (telling (g.R.Runner.runs c.args.runner.now) (g.R.Runner.faults c.args.runner.now)) in
     line_world route.image i route s c.args.line (Ok (Enter c.in-Ok-Enter.path)) c.enter.result c.enter.new.self i t (c.in-Ok-Enter.is ∙ ap Ok c.in-Ok-Enter.field-0-is)
     (enter_quietly route.image i s c.requires c.enter.new.self c.in-Ok-Enter.path c.enter.result c.enter.ensures.ok c.enter.ensures.folder c.enter.ensures.err)
 
@@ -191,9 +194,9 @@ returns-in-Ok-Enter-clause-cause g c =
     let s = c.args.self.now in
     let route = c.args.route.now in
     let i = g.K.Keeper.images c.args.keeper.now in
-    let t = g.L.Link.tells c.args.link.now in
+    let t = beside (g.L.Link.tells c.args.link.now) (telling (g.R.Runner.runs c.args.runner.now) (g.R.Runner.faults c.args.runner.now)) in
     subst (λ (l : Result Line LineError). HasLineCause route s l c.enter.result c.enter.new.self t t (g.K.Keeper.faults c.args.keeper.now) (g.K.Keeper.faults c.args.keeper.now)) (sym (c.in-Ok-Enter.is ∙ ap Ok c.in-Ok-Enter.field-0-is))
-    (quietly_caused route.image i s (Ok (Enter c.in-Ok-Enter.path)) c.enter.result c.enter.new.self i (enter_quietly route.image i s c.requires c.enter.new.self c.in-Ok-Enter.path c.enter.result c.enter.ensures.ok c.enter.ensures.folder c.enter.ensures.err) route)
+    (quietly_caused route.image i s (Ok (Enter c.in-Ok-Enter.path)) c.enter.result c.enter.new.self i (enter_quietly route.image i s c.requires c.enter.new.self c.in-Ok-Enter.path c.enter.result c.enter.ensures.ok c.enter.ensures.folder c.enter.ensures.err) route t)
 
 pub returns-in-Ok-Enter-clause-kept : goal.returns-in-Ok-Enter-clause-kept
 returns-in-Ok-Enter-clause-kept g c =
@@ -207,7 +210,7 @@ returns-in-Ok-Status-clause-world g c =
     let s = c.args.self.now in
     let route = c.args.route.now in
     let i = g.K.Keeper.images c.args.keeper.now in
-    let t = g.L.Link.tells c.args.link.now in
+    let t = beside (g.L.Link.tells c.args.link.now) (telling (g.R.Runner.runs c.args.runner.now) (g.R.Runner.faults c.args.runner.now)) in
     line_world route.image i route s c.args.line (Ok Status) (Ok (Some c.status.result)) s i t (c.in-Ok-Status.is ∙ ap Ok c.in-Ok-Status.field-0-is)
     (status_quietly route.image i s c.requires c.status.result c.status.ensures)
 
@@ -216,16 +219,16 @@ returns-in-Ok-Status-clause-cause g c =
     let s = c.args.self.now in
     let route = c.args.route.now in
     let i = g.K.Keeper.images c.args.keeper.now in
-    let t = g.L.Link.tells c.args.link.now in
+    let t = beside (g.L.Link.tells c.args.link.now) (telling (g.R.Runner.runs c.args.runner.now) (g.R.Runner.faults c.args.runner.now)) in
     subst (λ (l : Result Line LineError). HasLineCause route s l (Ok (Some c.status.result)) s t t (g.K.Keeper.faults c.args.keeper.now) (g.K.Keeper.faults c.args.keeper.now)) (sym (c.in-Ok-Status.is ∙ ap Ok c.in-Ok-Status.field-0-is))
-    (quietly_caused route.image i s (Ok Status) (Ok (Some c.status.result)) s i (status_quietly route.image i s c.requires c.status.result c.status.ensures) route)
+    (quietly_caused route.image i s (Ok Status) (Ok (Some c.status.result)) s i (status_quietly route.image i s c.requires c.status.result c.status.ensures) route t)
 
 pub returns-in-Ok-Empty-clause-world : goal.returns-in-Ok-Empty-clause-world
 returns-in-Ok-Empty-clause-world g c =
     let s = c.args.self.now in
     let route = c.args.route.now in
     let i = g.K.Keeper.images c.args.keeper.now in
-    let t = g.L.Link.tells c.args.link.now in
+    let t = beside (g.L.Link.tells c.args.link.now) (telling (g.R.Runner.runs c.args.runner.now) (g.R.Runner.faults c.args.runner.now)) in
     line_world route.image i route s c.args.line (Ok Empty) (Ok None) s i t (c.in-Ok-Empty.is ∙ ap Ok c.in-Ok-Empty.field-0-is)
     (silent_quietly route.image i s c.requires (Ok Empty) (λ r. (refl, refl, refl)))
 
@@ -234,16 +237,16 @@ returns-in-Ok-Empty-clause-cause g c =
     let s = c.args.self.now in
     let route = c.args.route.now in
     let i = g.K.Keeper.images c.args.keeper.now in
-    let t = g.L.Link.tells c.args.link.now in
+    let t = beside (g.L.Link.tells c.args.link.now) (telling (g.R.Runner.runs c.args.runner.now) (g.R.Runner.faults c.args.runner.now)) in
     subst (λ (l : Result Line LineError). HasLineCause route s l (Ok None) s t t (g.K.Keeper.faults c.args.keeper.now) (g.K.Keeper.faults c.args.keeper.now)) (sym (c.in-Ok-Empty.is ∙ ap Ok c.in-Ok-Empty.field-0-is))
-    (quietly_caused route.image i s (Ok Empty) (Ok None) s i (silent_quietly route.image i s c.requires (Ok Empty) (λ r. (refl, refl, refl))) route)
+    (quietly_caused route.image i s (Ok Empty) (Ok None) s i (silent_quietly route.image i s c.requires (Ok Empty) (λ r. (refl, refl, refl))) route t)
 
 pub returns-in-Ok-Quit-clause-world : goal.returns-in-Ok-Quit-clause-world
 returns-in-Ok-Quit-clause-world g c =
     let s = c.args.self.now in
     let route = c.args.route.now in
     let i = g.K.Keeper.images c.args.keeper.now in
-    let t = g.L.Link.tells c.args.link.now in
+    let t = beside (g.L.Link.tells c.args.link.now) (telling (g.R.Runner.runs c.args.runner.now) (g.R.Runner.faults c.args.runner.now)) in
     line_world route.image i route s c.args.line (Ok Quit) (Ok None) s i t (c.in-Ok-Quit.is ∙ ap Ok c.in-Ok-Quit.field-0-is)
     (silent_quietly route.image i s c.requires (Ok Quit) (λ r. (refl, refl, refl)))
 
@@ -252,9 +255,9 @@ returns-in-Ok-Quit-clause-cause g c =
     let s = c.args.self.now in
     let route = c.args.route.now in
     let i = g.K.Keeper.images c.args.keeper.now in
-    let t = g.L.Link.tells c.args.link.now in
+    let t = beside (g.L.Link.tells c.args.link.now) (telling (g.R.Runner.runs c.args.runner.now) (g.R.Runner.faults c.args.runner.now)) in
     subst (λ (l : Result Line LineError). HasLineCause route s l (Ok None) s t t (g.K.Keeper.faults c.args.keeper.now) (g.K.Keeper.faults c.args.keeper.now)) (sym (c.in-Ok-Quit.is ∙ ap Ok c.in-Ok-Quit.field-0-is))
-    (quietly_caused route.image i s (Ok Quit) (Ok None) s i (silent_quietly route.image i s c.requires (Ok Quit) (λ r. (refl, refl, refl))) route)
+    (quietly_caused route.image i s (Ok Quit) (Ok None) s i (silent_quietly route.image i s c.requires (Ok Quit) (λ r. (refl, refl, refl))) route t)
 
 pub returns-in-Ok-Cat-clause-keeper : goal.returns-in-Ok-Cat-clause-keeper
 returns-in-Ok-Cat-clause-keeper g c = unkept c.cat.result (g.K.Keeper.faults c.args.keeper.now) c.cat.ensures.memory
@@ -264,3 +267,70 @@ returns-in-Ok-List-clause-keeper g c = unkept c.list.result (g.K.Keeper.faults c
 
 pub returns-in-Ok-Enter-clause-keeper : goal.returns-in-Ok-Enter-clause-keeper
 returns-in-Ok-Enter-clause-keeper g c = unkept c.enter.result (g.K.Keeper.faults c.args.keeper.now) c.enter.ensures.memory
+
+pub returns-in-Ok-Run-clause-world : goal.returns-in-Ok-Run-clause-world
+returns-in-Ok-Run-clause-world g c =
+    let s = c.args.self.now in
+    let route = c.args.route.now in
+    let i = g.K.Keeper.images c.args.keeper.now in
+    let j = g.K.Keeper.images c.run.new.keeper in
+    let p = telling (g.R.Runner.runs c.args.runner.now) (g.R.Runner.faults c.args.runner.now) in
+    let q = telling (g.R.Runner.runs c.run.new.runner) (g.R.Runner.faults c.run.new.runner) in
+    let t = g.L.Link.tells c.args.link.now in
+    subst (λ (l : Result Line LineError). WentDoing route.image (LineEnds route s l c.run.result c.run.new.self) s c.run.new.self i j (beside t p) (beside t q)) (sym (c.in-Ok-Run.is ∙ ap Ok c.in-Ok-Run.field-0-is))
+    (run_went route c.in-Ok-Run.words s c.run.new.self c.run.result i j p q c.run.ensures.runs t)
+
+pub returns-in-Ok-Run-clause-cause : goal.returns-in-Ok-Run-clause-cause
+returns-in-Ok-Run-clause-cause g c =
+    let s = c.args.self.now in
+    let route = c.args.route.now in
+    let i = g.K.Keeper.images c.args.keeper.now in
+    let j = g.K.Keeper.images c.run.new.keeper in
+    let p = telling (g.R.Runner.runs c.args.runner.now) (g.R.Runner.faults c.args.runner.now) in
+    let q = telling (g.R.Runner.runs c.run.new.runner) (g.R.Runner.faults c.run.new.runner) in
+    let t = g.L.Link.tells c.args.link.now in
+    subst (λ (l : Result Line LineError). HasLineCause route s l c.run.result c.run.new.self (beside t p) (beside t q) (g.K.Keeper.faults c.args.keeper.now) (g.K.Keeper.faults c.run.new.keeper)) (sym (c.in-Ok-Run.is ∙ ap Ok c.in-Ok-Run.field-0-is))
+    (run_caused route c.in-Ok-Run.words s c.run.new.self c.run.result i j p q c.run.ensures.runs t)
+
+pub returns-in-Ok-Run-clause-runner : goal.returns-in-Ok-Run-clause-runner
+returns-in-Ok-Run-clause-runner g c = λ no. absurd (cc (sym (ap is_run (c.in-Ok-Run.is ∙ ap Ok c.in-Ok-Run.field-0-is)) ∙ no))
+
+pub returns-in-Ok-Sync-clause-world : goal.returns-in-Ok-Sync-clause-world
+returns-in-Ok-Sync-clause-world g c =
+    let s = c.args.self.now in
+    let route = c.args.route.now in
+    let i = g.K.Keeper.images c.args.keeper.now in
+    let j = g.K.Keeper.images c.sync.new.keeper in
+    let ran = telling (g.R.Runner.runs c.args.runner.now) (g.R.Runner.faults c.args.runner.now) in
+    let t = beside (g.L.Link.tells c.args.link.now) ran in
+    let u = beside (g.L.Link.tells c.sync.new.link) ran in
+    subst (λ (l : Result Line LineError). WentDoing route.image (LineEnds route s l c.sync.result c.sync.new.self) s c.sync.new.self i j t u) (sym (c.in-Ok-Sync.is ∙ ap Ok c.in-Ok-Sync.field-0-is)) (c.sync.ensures.world ran)
+
+pub returns-in-Ok-Sync-clause-cause : goal.returns-in-Ok-Sync-clause-cause
+returns-in-Ok-Sync-clause-cause g c =
+    let s = c.args.self.now in
+    let route = c.args.route.now in
+    let ran = telling (g.R.Runner.runs c.args.runner.now) (g.R.Runner.faults c.args.runner.now) in
+    let t = beside (g.L.Link.tells c.args.link.now) ran in
+    let u = beside (g.L.Link.tells c.sync.new.link) ran in
+    subst (λ (l : Result Line LineError). HasLineCause route s l c.sync.result c.sync.new.self t u (g.K.Keeper.faults c.args.keeper.now) (g.K.Keeper.faults c.sync.new.keeper)) (sym (c.in-Ok-Sync.is ∙ ap Ok c.in-Ok-Sync.field-0-is)) (c.sync.ensures.cause ran)
+
+pub returns-in-Ok-Pull-clause-world : goal.returns-in-Ok-Pull-clause-world
+returns-in-Ok-Pull-clause-world g c =
+    let s = c.args.self.now in
+    let route = c.args.route.now in
+    let i = g.K.Keeper.images c.args.keeper.now in
+    let j = g.K.Keeper.images c.pull.new.keeper in
+    let ran = telling (g.R.Runner.runs c.args.runner.now) (g.R.Runner.faults c.args.runner.now) in
+    let t = beside (g.L.Link.tells c.args.link.now) ran in
+    let u = beside (g.L.Link.tells c.pull.new.link) ran in
+    subst (λ (l : Result Line LineError). WentDoing route.image (LineEnds route s l c.pull.result c.pull.new.self) s c.pull.new.self i j t u) (sym (c.in-Ok-Pull.is ∙ ap Ok c.in-Ok-Pull.field-0-is)) (c.pull.ensures.world ran)
+
+pub returns-in-Ok-Pull-clause-cause : goal.returns-in-Ok-Pull-clause-cause
+returns-in-Ok-Pull-clause-cause g c =
+    let s = c.args.self.now in
+    let route = c.args.route.now in
+    let ran = telling (g.R.Runner.runs c.args.runner.now) (g.R.Runner.faults c.args.runner.now) in
+    let t = beside (g.L.Link.tells c.args.link.now) ran in
+    let u = beside (g.L.Link.tells c.pull.new.link) ran in
+    subst (λ (l : Result Line LineError). HasLineCause route s l c.pull.result c.pull.new.self t u (g.K.Keeper.faults c.args.keeper.now) (g.K.Keeper.faults c.pull.new.keeper)) (sym (c.in-Ok-Pull.is ∙ ap Ok c.in-Ok-Pull.field-0-is)) (c.pull.ensures.cause ran)

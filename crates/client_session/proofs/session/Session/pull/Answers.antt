@@ -2,7 +2,7 @@ use Rattle.std.proofs.Common.{ℕ, Ok, IfOk, refl, sym, subst}
 use Rattle.client_core.specs.Keeping.{IsKept}
 use Rattle.shell_lang.specs.declared.line.Line.TheVariants.{Pull}
 use Rattle.client_session.specs.Session.{SessionState}
-use Rattle.client_session.specs.Doing.{WentDoing, LineEnds}
+use Rattle.client_session.specs.Doing.{beside, WentDoing, LineEnds}
 use Rattle.client_session.specs.Causes.{HasLineCause}
 use Rattle.client_session.proofs.Turning.{pull_went, pull_cause, pull_kept, pull_counts}
 use Rattle.client_session.proofs.session.Session.pull.Goals as goal
@@ -17,8 +17,9 @@ returns-clause-world g c =
     let t = g.L.Link.tells c.args.link.now in
     let u = g.L.Link.tells c.pull-end.new.link in
     let r = c.answered.result in
-    subst (λ (s : SessionState). WentDoing route.image (LineEnds route s (Ok Pull) r after) s after i j t u) c.self.view_is
-    (pull_went route before after i j t u c.pull-end.ensures.number refl c.pull-end.result c.is_pull_fault-fault.result c.pull_answer.result r c.pull_answer.ensures c.answered.ensures c.pull-end.ensures.world)
+    λ runner.
+    subst (λ (s : SessionState). WentDoing route.image (LineEnds route s (Ok Pull) r after) s after i j (beside t runner) (beside u runner)) c.self.view_is
+    (pull_went route before after i j t u c.pull-end.ensures.number refl c.pull-end.result c.is_pull_fault-fault.result c.pull_answer.result r c.pull_answer.ensures c.answered.ensures c.pull-end.ensures.world runner)
 
 pub returns-clause-cause : goal.returns-clause-cause
 returns-clause-cause g c =
@@ -30,9 +31,10 @@ returns-clause-cause g c =
     let p = g.K.Keeper.faults c.args.keeper.now in
     let q = g.K.Keeper.faults c.pull-end.new.keeper in
     let r = c.answered.result in
-    subst (λ (s : SessionState). HasLineCause route s (Ok Pull) r after t u p q) c.self.view_is
+    λ runner.
+    subst (λ (s : SessionState). HasLineCause route s (Ok Pull) r after (beside t runner) (beside u runner) p q) c.self.view_is
     (pull_cause route before after t u p q c.pull-end.ensures.number refl c.pull-end.result c.is_pull_fault-fault.result c.pull_answer.result r c.pull_answer.ensures c.is_pull_fault-fault.ensures c.answered.ensures
-    c.pull-end.ensures.cause)
+    c.pull-end.ensures.cause runner)
 
 pub returns-clause-kept : goal.returns-clause-kept
 returns-clause-kept g c =

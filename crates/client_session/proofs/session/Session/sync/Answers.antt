@@ -2,7 +2,7 @@ use Rattle.std.proofs.Common.{ℕ, Ok, IfOk, refl, sym, subst}
 use Rattle.client_core.specs.Keeping.{IsKept}
 use Rattle.shell_lang.specs.declared.line.Line.TheVariants.{Sync}
 use Rattle.client_session.specs.Session.{SessionState}
-use Rattle.client_session.specs.Doing.{WentDoing, LineEnds}
+use Rattle.client_session.specs.Doing.{beside, WentDoing, LineEnds}
 use Rattle.client_session.specs.Causes.{HasLineCause}
 use Rattle.client_session.proofs.Turning.{sync_went, sync_cause, sync_kept, sync_counts}
 use Rattle.client_session.proofs.session.Session.sync.Goals as goal
@@ -17,8 +17,9 @@ returns-clause-world g c =
     let t = g.L.Link.tells c.args.link.now in
     let u = g.L.Link.tells c.sync-end.new.link in
     let r = c.answered.result in
-    subst (λ (s : SessionState). WentDoing route.image (LineEnds route s (Ok Sync) r after) s after i j t u) c.self.view_is
-    (sync_went route before after i j t u c.sync-end.ensures.number refl c.sync-end.result c.is_sync_fault-fault.result c.sync_answer.result r c.sync_answer.ensures c.answered.ensures c.sync-end.ensures.world)
+    λ runner.
+    subst (λ (s : SessionState). WentDoing route.image (LineEnds route s (Ok Sync) r after) s after i j (beside t runner) (beside u runner)) c.self.view_is
+    (sync_went route before after i j t u c.sync-end.ensures.number refl c.sync-end.result c.is_sync_fault-fault.result c.sync_answer.result r c.sync_answer.ensures c.answered.ensures c.sync-end.ensures.world runner)
 
 pub returns-clause-cause : goal.returns-clause-cause
 returns-clause-cause g c =
@@ -30,9 +31,10 @@ returns-clause-cause g c =
     let p = g.K.Keeper.faults c.args.keeper.now in
     let q = g.K.Keeper.faults c.sync-end.new.keeper in
     let r = c.answered.result in
-    subst (λ (s : SessionState). HasLineCause route s (Ok Sync) r after t u p q) c.self.view_is
+    λ runner.
+    subst (λ (s : SessionState). HasLineCause route s (Ok Sync) r after (beside t runner) (beside u runner) p q) c.self.view_is
     (sync_cause route before after t u p q c.sync-end.ensures.number refl c.sync-end.ensures.log c.sync-end.result c.is_sync_fault-fault.result c.sync_answer.result r c.sync_answer.ensures c.is_sync_fault-fault.ensures c.answered.ensures
-    c.sync-end.ensures.cause)
+    c.sync-end.ensures.cause runner)
 
 pub returns-clause-kept : goal.returns-clause-kept
 returns-clause-kept g c =

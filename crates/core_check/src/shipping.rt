@@ -1,9 +1,13 @@
-ghost use Rattle.std.specs.Prelude.{None, IfSome};
-ghost use Rattle.wire_frames.specs.Frame.{IsValid, Echoes};
+//! Logging, syncing and pulling, over links that answer nothing or all.
 
-use crate::*;
+ghost use Rattle.std.specs.Prelude.{◌≡◌, None, IfSome, IfOk, IfErr};
+ghost use Rattle.wire_frames.specs.Frame.{IsValid, Echoes};
+ghost use Rattle.world_rules.specs.Asking.{IsReplyTo};
+
+use client_core::{Client, PullEnd, Route, SyncEnd};
 use outside::{KeepError, Keeper};
 use std::alloc::Global;
+use std::rt::HostRuntime;
 use std::test::Fail;
 use vol_tree::{Content, Effect, Path, Rows};
 use wire_frames::{Message, read, write};
@@ -36,6 +40,12 @@ struct Dead {
 impl Link for Dead {
     ghost tells = { λ link. record { world = None; troubles = link.troubles } };
 
+    ghost keeps = { λ _ _. Unit {0} };
+
+    ghost keeps_none = { λ _. tt };
+
+    ghost keeps_then = { λ _ _ _ _ _. tt };
+
     fn ask(&mut self, _to: Peer, _address: &[u8], _frame: &[u8]) -> Result<Vec<u8>, LinkError> {
         self.troubles = self.troubles.saturating_add(1);
         Err(LinkError::Failed)
@@ -52,19 +62,48 @@ struct Willing {
 impl Link for Willing {
     ghost tells = { λ link. record { world = None; troubles = 0 } };
 
+    ghost keeps = { λ _ _. Unit {0} };
+
+    ghost keeps_none = { λ _. tt };
+
+    ghost keeps_then = { λ _ _ _ _ _. tt };
+
     fn ask(&mut self, _to: Peer, _address: &[u8], frame: &[u8]) -> Result<Vec<u8>, LinkError> {
-        let request = match read(self.alloc, frame) {
-            Ok(request) => request,
-            Err(_refused) => return Err(LinkError::Memory),
-        };
-        let reply = match reply_to(self.alloc, &request, self.ahead) {
-            Some(reply) => reply,
-            None => return Err(LinkError::Memory),
-        };
-        match write(self.alloc, &reply) {
-            Ok(bytes) => Ok(bytes),
-            Err(_refused) => Err(LinkError::Memory),
+        match read(self.alloc, frame) {
+            Ok(request) => answer(self.alloc, request, self.ahead),
+            Err(refused) => {
+                drop(refused);
+                Err(LinkError::Memory)
+            }
         }
+    }
+}
+
+/// The frame of the reply to a request, which ends here.
+fn answer(alloc: Global, request: Message, ahead: u64) -> Result<Vec<u8>, LinkError>
+    requires { IsValid request }
+    ensures reply { IfOk result (λ bytes. IsReplyTo request bytes.items) }
+    ensures cause { IfErr result (λ e. e ≡ LinkError.Memory) }
+{
+    let answered = answer_to(alloc, &request, ahead);
+    drop(request);
+    answered
+}
+
+/// The frame of the reply to a request.
+fn answer_to(alloc: Global, request: &Message, ahead: u64) -> Result<Vec<u8>, LinkError>
+    requires { IsValid request.now }
+    ensures reply { IfOk result (λ bytes. IsReplyTo request.now bytes.items) }
+    ensures cause { IfErr result (λ e. e ≡ LinkError.Memory) }
+{
+    let Some(reply) = reply_to(alloc, request, ahead) else {
+        return Err(LinkError::Memory);
+    };
+    let written = write(alloc, &reply);
+    drop(reply);
+    match written {
+        Ok(bytes) => Ok(bytes),
+        Err(_refused) => Err(LinkError::Memory),
     }
 }
 

@@ -1,0 +1,244 @@
+-- What running a command makes of the client and the world.
+use Rattle.std.proofs.Common.{false, ◌≡◌, ◌≢◌, ◌⊎◌, inl, inr, ℕ, ◌+◌, length, List, [], ◌∷◌, ◌++◌, Option, Some, None, option_map, Ok, Err, refl, sym, ◌∙◌, ap, subst, arith}
+use Rattle.outside.specs.Outside.{Told, RisesWhere, CountsFault}
+use Rattle.sha2.specs.Sha256.{sha256}
+use Rattle.outside.specs.Keeper.{Images}
+use Rattle.tree_values.specs.declared.node.Effect.{Effect}
+use Rattle.cmd_capture.specs.declared.command.Command.{Command}
+use Rattle.cmd_capture.specs.declared.job.Job.{Job}
+use Rattle.cmd_capture.specs.declared.job.Outcome.{Outcome}
+use Rattle.cmd_capture.specs.declared.runner.Run.{Run}
+use Rattle.cmd_capture.specs.declared.runner.RunError.{RunError}
+use Rattle.cmd_capture.specs.declared.runner.RunError.TheVariants as run_errors
+use Rattle.cmd_capture.specs.Spelling.{job as spelled_job}
+use Rattle.cmd_capture.specs.Runs.{AddsRun, RunnerTelling, HasRun}
+use Rattle.work_area.specs.declared.jobs.JobError.{JobError}
+use Rattle.work_area.specs.declared.jobs.JobError.TheVariants as job_errors
+use Rattle.work_area.specs.declared.rows.RowsFault.{RowsFault}
+use Rattle.work_area.specs.declared.rows.RowsFault.TheVariants as rows_faults
+use Rattle.work_area.specs.Jobs.{job_of}
+use Rattle.work_area.specs.Outcomes.{IsRowsFault}
+use Rattle.work_area.specs.Changes.{first_path}
+use Rattle.mod_log.specs.declared.origin.Origin.{Origin}
+use Rattle.mod_log.specs.Append.{appended}
+use Rattle.mod_log.specs.declared.log.Entry.{Entry}
+use Rattle.mod_log.specs.declared.log.LogError.{LogError}
+use Rattle.mod_log.specs.Log.{Log, IsLog, tree_of, logged}
+use Rattle.world_rules.specs.World.{World}
+use Rattle.client_core.specs.declared.running.RunEnd.{RunEnd}
+use Rattle.client_core.specs.declared.running.RunEnd.TheVariants as ends
+use Rattle.client_core.specs.Trace.{Trace, nothing, followed, logging, running}
+use Rattle.client_core.specs.Keeping.{IsKept}
+use Rattle.client_core.specs.Running.{changes_of, first_clash, origin_of, run_entry, run_logged, IsLoggable, RanEnd, ran_trace, RunTurn, BreaksRun, RunEnds, has_logged, RunsCommand}
+use Rattle.client_core.specs.Inside.{ran, RanEnds, IsUnlogged, unrun_end, jobless_end, odd_end}
+use Rattle.client_core.specs.Goes.{Goes, telling}
+use Rattle.client_core.proofs.Going.{has_run_none, changed_so, goes_ran, goes_ran_logged}
+use Rattle.client_core.proofs.Counting.{unrisen}
+use Rattle.client_core.proofs.Locals.{appended-is}
+
+-- ---- what the runner tells
+
+told_runs : (old new : Option (List Run)) (xs : List Run) → Told old new (λ a b. b ≡ a ++ xs) → new ≡ option_map (λ list. list ++ xs) old
+told_runs None new xs told = told
+told_runs (Some old) None xs told = absurd told
+told_runs (Some old) (Some new) xs told = ap Some told
+
+pub ran_alone : (command : Command) (before : Log) (run : Run) (end : RunEnd) (after : Log) → (ran_trace command before run end after).runs ≡ run ∷ []
+ran_alone command before run (ends.Logged seq status) after = refl
+ran_alone command before run (ends.Nothing status) after = refl
+ran_alone command before run (ends.NoJob fault) after = refl
+ran_alone command before run ends.NotRun after = refl
+ran_alone command before run (ends.OddTree i) after = refl
+ran_alone command before run (ends.Clash path) after = refl
+ran_alone command before run (ends.Refused refusal) after = refl
+ran_alone command before run ends.Memory after = refl
+
+pub none_missed : (command : Command) (before : Log) (run : Run) (end : RunEnd) (after : Log) → (ran_trace command before run end after).missed ≡ 0
+none_missed command before run (ends.Logged seq status) after = refl
+none_missed command before run (ends.Nothing status) after = refl
+none_missed command before run (ends.NoJob fault) after = refl
+none_missed command before run ends.NotRun after = refl
+none_missed command before run (ends.OddTree i) after = refl
+none_missed command before run (ends.Clash path) after = refl
+none_missed command before run (ends.Refused refusal) after = refl
+none_missed command before run ends.Memory after = refl
+
+-- ---- how a command ends
+
+module _ (work : List ℕ) (command : Command) (before : Log) where
+  -- there is no job
+  pub jobless : (fault : JobError) (r : RunnerTelling) → (fault ≢ job_errors.Memory → job_of (tree_of before) command ≡ Err fault) → RunsCommand work command before (jobless_end fault) before r r
+  jobless job_errors.Memory r why = record { trace = nothing; turn = inr (refl, refl, inl refl); has_run = has_run_none r }
+  jobless (job_errors.NoFolder path) r why = record { trace = nothing; turn = inl (why (λ is. absurd (cc)), refl, refl); has_run = has_run_none r }
+  jobless (job_errors.NoInput i) r why = record { trace = nothing; turn = inl (why (λ is. absurd (cc)), refl, refl); has_run = has_run_none r }
+
+  module _ (job : Job) (is : job_of (tree_of before) command ≡ Ok job) (old new : Option (List Run)) (f g : ℕ) where
+    -- there was no run
+    pub unrun : (error : RunError) → Told old new (AddsRun {E = RunError} work job (Err error)) → CountsFault {T = Outcome} run_errors.Failed f g (Err error)
+        → RunsCommand work command before (unrun_end error) before (telling old f) (telling new g)
+    unrun run_errors.Failed told cause = record {
+      trace = running [] 1;
+      turn = inl ((job, is), refl, refl);
+      has_run = record { told = told_runs old new [] told; counted = cause.once refl };
+    }
+    unrun run_errors.Memory told cause = record {
+      trace = nothing;
+      turn = inr (refl, refl, inl refl);
+      has_run = record { told = told_runs old new [] told; counted = omega (arith, cause.never (λ is. absurd (cc))) };
+    }
+
+    -- there was one
+    module _ (outcome : Outcome) (told : Told old new (AddsRun {E = RunError} work job (Ok outcome))) (cause : CountsFault {T = Outcome} run_errors.Failed f g (Ok outcome)) where
+      abbrev run : Run
+      run = ran work job outcome
+
+      turned : (end : RunEnd) (after : Log) → RanEnd command before run end after → RunTurn work command before end after (ran_trace command before run end after)
+      turned (ends.Logged seq status) after did = (run, record { work_is = refl; job_is = is }, did, refl)
+      turned (ends.Nothing status) after did = (run, record { work_is = refl; job_is = is }, did, refl)
+      turned (ends.NoJob fault) after did = absurd did
+      turned ends.NotRun after did = absurd did
+      turned (ends.OddTree i) after did = (run, record { work_is = refl; job_is = is }, did, refl)
+      turned (ends.Clash path) after did = (run, record { work_is = refl; job_is = is }, did, refl)
+      turned (ends.Refused refusal) after did = (run, record { work_is = refl; job_is = is }, did, refl)
+      turned ends.Memory after did = absurd did
+
+      pub given : (end : RunEnd) (after : Log) → RanEnds command before run end after → RunsCommand work command before end after (telling old f) (telling new g)
+      given end after (inl did) = record {
+        trace = ran_trace command before run end after;
+        turn = inl (turned end after did);
+        has_run = record {
+          told = subst (λ (runs : List Run). new ≡ option_map (λ list. list ++ runs) old) (sym (ran_alone command before run end after)) (told_runs old new (run ∷ []) told);
+          counted = omega (arith, cause.never (λ is. absurd (cc)), none_missed command before run end after);
+        };
+      }
+      given end after (inr broken) = record {
+        trace = running (run ∷ []) 0;
+        turn = inr (broken.0, broken.1, inr (run, record { work_is = refl; job_is = is }, refl));
+        has_run = record { told = told_runs old new (run ∷ []) told; counted = omega (arith, cause.never (λ is. absurd (cc))) };
+      }
+
+-- ---- how often the runner failed
+
+-- a runner that gave an outcome did not fail
+pub given_faults : (outcome : Outcome) (f g : ℕ) (command : Command) (before : Log) (run : Run) (end : RunEnd) (after : Log) → CountsFault {E = RunError} run_errors.Failed f g (Ok outcome)
+    → RanEnds command before run end after → RisesWhere (end ≡ ends.NotRun) f g
+given_faults outcome f g command before run end after cause ends_so = unrisen (end ≡ ends.NotRun) f g (other ends_so) (cause.never (λ is. absurd (cc)))
+  where
+    other : RanEnds command before run end after → end ≡ ends.NotRun → ⊥
+    other (inr broken) is = absurd (cc (is, broken.0))
+    other (inl did) is = subst (λ (e : RunEnd). RanEnd command before run e after) is did
+
+pub unrun_faults : (error : RunError) (f g : ℕ) → CountsFault {T = Outcome} run_errors.Failed f g (Err error) → RisesWhere (unrun_end error ≡ ends.NotRun) f g
+unrun_faults run_errors.Failed f g cause = record { later = cause.later; once = λ is. cause.once refl; never = λ not. absurd (not refl) }
+unrun_faults run_errors.Memory f g cause = unrisen (ends.Memory ≡ ends.NotRun) f g (λ is. absurd (cc)) (cause.never (λ is. absurd (cc)))
+
+pub jobless_faults : (fault : JobError) (f : ℕ) → RisesWhere (jobless_end fault ≡ ends.NotRun) f f
+jobless_faults job_errors.Memory f = unrisen (ends.Memory ≡ ends.NotRun) f f (λ is. absurd (cc)) refl
+jobless_faults (job_errors.NoFolder path) f = unrisen (ends.NoJob (job_errors.NoFolder path) ≡ ends.NotRun) f f (λ is. absurd (cc)) refl
+jobless_faults (job_errors.NoInput i) f = unrisen (ends.NoJob (job_errors.NoInput i) ≡ ends.NotRun) f f (λ is. absurd (cc)) refl
+
+-- ---- what is as before
+
+module _ (work : List ℕ) (command : Command) (before after : Log) where
+  turn_same : (end : RunEnd) (trace : Trace) → RunTurn work command before end after trace → has_logged end ≡ false → after ≡ before
+  turn_same (ends.Logged seq status) trace turn none = absurd (cc)
+  turn_same (ends.Nothing status) trace turn none = turn.2.3
+  turn_same (ends.NoJob fault) trace turn none = turn.1
+  turn_same ends.NotRun trace turn none = turn.1
+  turn_same (ends.OddTree i) trace turn none = turn.2.1
+  turn_same (ends.Clash path) trace turn none = turn.2.2
+  turn_same (ends.Refused refusal) trace turn none = turn.2.2
+  turn_same ends.Memory trace turn none = absurd turn.2
+
+  -- a log that got no entry
+  pub unlogged_same : (end : RunEnd) (trace : Trace) → RunEnds work command before end after trace → has_logged end ≡ false → after ≡ before
+  unlogged_same end trace (inl turn) none = turn_same end trace turn none
+  unlogged_same end trace (inr broken) none = broken.1
+
+-- ---- what is made of a run
+
+module _ (log : Log) (run : Run) where
+  pub nothing_is : (status : ℕ) → run.outcome.status ≡ status → changes_of run ≡ [] → IsUnlogged log run (Some (ends.Nothing status))
+  nothing_is status same none = λ legal command. inl (legal, none, sym same, refl)
+
+  pub clash_is : (effect : Effect) (end : RunEnd) → first_clash log run ≡ Some effect → (end ≡ ends.Clash (first_path effect)) ⊎ (end ≡ ends.Memory) → IsUnlogged log run (Some end)
+  clash_is effect end found (inl is) = λ legal command. subst (λ (e : RunEnd). RanEnds command log run e log) (sym is) (inl (legal, (effect, found, refl), refl))
+  clash_is effect end found (inr is) = λ legal command. inr (is, refl)
+
+  module _ (command : Command) (print : List ℕ) (status : ℕ) (job : Job) (effects : List Effect) (job_is : run.job ≡ job) (status_is : run.outcome.status ≡ status) (print_is : print ≡ sha256 (spelled_job job))
+      (loggable : IsLoggable log run) (effects_are : effects ≡ changes_of run) where
+    abbrev made : Origin
+    made = record { command = command; job_print = print; status = status }
+
+    origin_is : made ≡ origin_of command run
+    origin_is =
+        let told : print ≡ sha256 (spelled_job run.job) = print_is ∙ ap (λ (j : Job). sha256 (spelled_job j)) (sym job_is) in
+        λ i. record { command = command; job_print = told i; status = sym status_is i }
+
+    appends : appended (Some made) effects log ≡ run_logged command run log
+    appends = ap (λ (o : Origin). appended (Some o) effects log) origin_is ∙ ap (λ (es : List Effect). appended (Some (origin_of command run)) es log) effects_are
+
+    pub logged_is : (seq : ℕ) (after : Log) → appended (Some made) effects log ≡ Ok after → seq ≡ log.acked + length log.pending + 1 → RanEnds command log run (ends.Logged seq status) after
+    logged_is seq after is number = inl (loggable, sym appends ∙ is, number, sym status_is)
+
+    pub refused_is : (refusal : LogError) (after : Log) → appended (Some made) effects log ≡ Err refusal → after ≡ log → RanEnds command log run (ends.Refused refusal) after
+    refused_is refusal after is same = inl (loggable, sym appends ∙ is, same)
+
+  pub odd_is : (fault : RowsFault) → IsRowsFault run.outcome.rows fault → (command : Command) → RanEnds command log run (odd_end fault) log
+  odd_is (rows_faults.OddTree i) is command = inl (is, refl)
+  odd_is rows_faults.Memory is command = inr (refl, refl)
+
+-- ---- in every world
+
+module _ (name : List ℕ) (client : ℕ) (work : List ℕ) (command : Command) (before : Log) (i : Option Images) (keeps : IsKept i name client before) (p q : RunnerTelling) (t : ℕ) (w : World) where
+  -- the log stood still
+  still_goes : (T : Trace → Type 0) (after : Log) (runs : List Run) (missed : ℕ) (trace : Trace) → after ≡ before → trace ≡ running runs missed → T trace → HasRun trace.runs trace.missed p q
+      → Goes client name T before after before i i p q t t w w
+  still_goes T after runs missed trace same is turn has_run =
+      subst (λ (next : Log). Goes client name T before next before i i p q t t w w) (sym same)
+      (goes_ran name client T runs missed before i p q t w keeps (subst (λ (n : Trace). HasRun n.runs n.missed p q) is has_run) (subst T is turn))
+
+  -- an entry was logged
+  logs_goes : (run : Run) (seq status : ℕ) (after : Log) (trace : Trace) → run_logged command run before ≡ Ok after → trace ≡ ran_trace command before run (ends.Logged seq status) after
+      → RunEnds work command before (ends.Logged seq status) after trace → HasRun trace.runs trace.missed p q → IsLog after
+      → Goes client name (RunEnds work command before (ends.Logged seq status) after) before after before i i p q t t w w
+  logs_goes run seq status after trace is shown turn has_run log_is =
+      let entry : Entry = run_entry command run before in
+      let end : RunEnd = ends.Logged seq status in
+      let same : logged entry before ≡ after = appended-is (Some (origin_of command run)) (changes_of run) before after is in
+      let seen : trace ≡ followed (running (run ∷ []) 0) (logging entry (logged entry before)) =
+      subst (λ (next : Log). trace ≡ followed (running (run ∷ []) 0) (logging entry next)) (sym same) shown in
+      subst (λ (next : Log). Goes client name (RunEnds work command before end after) before next before i i p q t t w w) same
+      (goes_ran_logged name client (RunEnds work command before end after) (run ∷ []) 0 entry before i p q t w keeps (subst IsLog (sym same) log_is)
+      (subst (λ (n : Trace). HasRun n.runs n.missed p q) seen has_run) (subst (RunEnds work command before end after) seen turn))
+
+  -- what `run_command` makes of the client, in every world
+  pub run_goes : (end : RunEnd) (after : Log) → RunsCommand work command before end after p q → IsLog after → Goes client name (RunEnds work command before end after) before after before i i p q t t w w
+  run_goes end after did log_is = by did.turn
+    where
+      T : Trace → Type 0
+      T = RunEnds work command before end after
+
+      turned : (e : RunEnd) → RunTurn work command before e after did.trace → RunEnds work command before e after did.trace
+          → Goes client name (RunEnds work command before e after) before after before i i p q t t w w
+      turned (ends.Logged seq status) turn all = logs_goes turn.0 seq status after did.trace turn.2.1 turn.3 all did.has_run log_is
+      turned (ends.Nothing status) turn all = still_goes (RunEnds work command before (ends.Nothing status) after) after (turn.0 ∷ []) 0 did.trace turn.2.3 turn.3 all did.has_run
+      turned (ends.NoJob fault) turn all = still_goes (RunEnds work command before (ends.NoJob fault) after) after [] 0 did.trace turn.1 turn.2 all did.has_run
+      turned ends.NotRun turn all = still_goes (RunEnds work command before ends.NotRun after) after [] 1 did.trace turn.1 turn.2 all did.has_run
+      turned (ends.OddTree n) turn all = still_goes (RunEnds work command before (ends.OddTree n) after) after (turn.0 ∷ []) 0 did.trace turn.2.1 turn.3 all did.has_run
+      turned (ends.Clash path) turn all = still_goes (RunEnds work command before (ends.Clash path) after) after (turn.0 ∷ []) 0 did.trace turn.2.2 turn.3 all did.has_run
+      turned (ends.Refused refusal) turn all = still_goes (RunEnds work command before (ends.Refused refusal) after) after (turn.0 ∷ []) 0 did.trace turn.2.2 turn.3 all did.has_run
+      turned ends.Memory turn all = absurd turn.2
+
+      broken : BreaksRun work command before did.trace → after ≡ before → Goes client name T before after before i i p q t t w w
+      broken (inl none) same = still_goes T after [] 0 did.trace same none did.turn did.has_run
+      broken (inr given) same = still_goes T after (given.0 ∷ []) 0 did.trace same given.2 did.turn did.has_run
+
+      by : RunEnds work command before end after did.trace → Goes client name T before after before i i p q t t w w
+      by (inl turn) = turned end turn did.turn
+      by (inr why) = broken why.2 why.1
+
+-- an entry that was logged is a change
+pub run_changed : (work : List ℕ) (command : Command) (before after : Log) (seq status : ℕ) (trace : Trace) → RunEnds work command before (ends.Logged seq status) after trace → trace.changes ≢ []
+run_changed work command before after seq status trace (inl turn) = changed_so trace.changes after [] (ap (λ (n : Trace). n.changes) turn.3)
+run_changed work command before after seq status trace (inr broken) = absurd (cc broken.0)

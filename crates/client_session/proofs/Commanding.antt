@@ -1,0 +1,168 @@
+-- What a line that runs a command makes of the client, of what is kept of it, of what the runner tells and of the world.
+use Rattle.std.proofs.Common.{◌≡◌, ◌≢◌, inl, inr, ℕ, Bool, true, false, List, [], ◌∷◌, ◌++◌, Option, Some, None, Result, Ok, Err, IfOk, IfErr, refl, sym, ◌∙◌, ap, subst}
+use Rattle.outside.specs.Outside.{Told}
+use Rattle.outside.specs.Keeper.{Images}
+use Rattle.outside.specs.declared.errors.KeepError.{KeepError}
+use Rattle.outside.specs.declared.errors.KeepError.TheVariants as keepers
+use Rattle.cmd_capture.specs.declared.command.Command.{Command}
+use Rattle.cmd_capture.specs.declared.capturing.CaptureError.{CaptureError}
+use Rattle.cmd_capture.specs.declared.capturing.CaptureError.TheVariants as captures
+use Rattle.cmd_capture.specs.Capture.{capture}
+use Rattle.mod_log.specs.Log.{Log, IsLog}
+use Rattle.world_rules.specs.World.{World}
+use Rattle.world_rules.specs.Telling.{LinkTelling}
+use Rattle.world_rules.proofs.Asks.{told_start}
+use Rattle.client_core.specs.declared.route.Route.{Route}
+use Rattle.client_core.specs.declared.running.RunEnd.{RunEnd}
+use Rattle.client_core.specs.declared.running.RunEnd.TheVariants as ends
+use Rattle.client_core.specs.Trace.{Trace, nothing}
+use Rattle.cmd_capture.specs.Runs.{RunnerTelling, HasRun}
+use Rattle.client_core.specs.Running.{RunEnds, RunsCommand, has_logged}
+use Rattle.client_core.specs.Keeping.{IsKept, KeepsLog}
+use Rattle.client_core.specs.Goes.{Goes}
+use Rattle.client_core.proofs.Going.{changed_so, goes_as, goes_saved}
+use Rattle.client_core.proofs.Runs.{run_goes}
+use Rattle.shell_lang.specs.declared.line.Line.TheVariants.{Run as RunLine}
+use Rattle.shell_lang.specs.declared.answer.Answer.{Answer}
+use Rattle.shell_lang.specs.declared.answer.Answer.TheVariants as answers
+use Rattle.client_session.specs.Session.{SessionState, with_log, CommandTurn, LineTurn, BreaksCommand, Broken, capture_answer, run_answer}
+use Rattle.client_session.specs.Doing.{beside, Does, WentDoing, LineEnds}
+use Rattle.client_session.specs.Inside.{IsGiven, RunsLine, RunsMade}
+use Rattle.client_session.proofs.Doing.{does_none}
+use Rattle.client_session.proofs.Turning.{a_world, same_but_log}
+
+-- ---- over a link
+
+module _ (route : Route) (words : List (List ℕ)) (before after : SessionState) (r : Result (Option Answer) KeepError) (i j : Option Images) (p q : RunnerTelling) (runs : RunsLine route words before r after i j p q) (t : LinkTelling) where
+  pub run_went : WentDoing route.image (LineEnds route before (Ok (RunLine words)) r after) before after i j (beside t p) (beside t q)
+  run_went = told_start t.world (λ x y. (kept : Log) × Does route.image (LineEnds route before (Ok (RunLine words)) r after kept) before after kept i j (beside t p) (beside t q) x y) (runs t)
+
+  pub run_caused : (kept : Log) × (trace : Trace) × LineEnds route before (Ok (RunLine words)) r after kept trace × HasRun trace.runs trace.missed p q
+  run_caused = let here = runs t a_world in (here.0, here.1.goes.trace, here.1.goes.turn, here.1.goes.has_run)
+
+-- ---- words that make no command
+
+module _ (route : Route) (words : List (List ℕ)) (before : SessionState) (i : Option Images) (keeps : IsKept i route.image before.client.number before.client.log) (p : RunnerTelling) where
+  named_refusal : (refusal : CaptureError) (answer : Answer) → capture_answer refusal ≡ Some answer → refusal ≢ captures.Memory
+  named_refusal refusal answer is memory = absurd (cc (ap capture_answer memory, is))
+
+  pub capture_given : (refusal : CaptureError) (told : Option Answer) (r : Result (Option Answer) KeepError) → (refusal ≢ captures.Memory → capture words before.folder ≡ Err refusal) → told ≡ capture_answer refusal
+      → IsGiven told r → RunsLine route words before r before i i p p
+  capture_given refusal (Some answer) (Ok given) refused shown gave = λ link world.
+      let is : capture words before.folder ≡ Err refusal = refused (named_refusal refusal answer (sym shown)) in
+      let turn : LineTurn route before (Ok (RunLine words)) (Some answer) before nothing =
+      subst (λ (c : Result Command CaptureError). CommandTurn route c before (Some answer) before nothing) (sym is) (shown, refl, refl) in
+      subst (λ (a : Option Answer). (kept : Log) × Does route.image (LineEnds route before (Ok (RunLine words)) (Ok a) before kept) before before kept i i (beside link p) (beside link p) world world) (sym gave)
+      (before.client.log, does_none route.image (LineEnds route before (Ok (RunLine words)) (Ok (Some answer)) before before.client.log) before i (beside link p) world keeps (turn, refl))
+  capture_given refusal None (Err keepers.Memory) refused shown gave = λ link world.
+      (before.client.log, does_none route.image (LineEnds route before (Ok (RunLine words)) (Err keepers.Memory) before before.client.log) before i (beside link p) world keeps (inl (refl, refl)))
+  capture_given refusal None (Err keepers.Failed) refused shown gave = absurd gave
+  capture_given refusal (Some answer) (Err e) refused shown gave = absurd gave
+  capture_given refusal None (Ok given) refused shown gave = absurd gave
+
+-- ---- a command
+
+-- what holds whatever is answered
+pub whatever : (r : Result (Option Answer) KeepError) (K : Type 0) → K → IfOk r (λ answer. K)
+whatever (Ok answer) K is = is
+whatever (Err e) K is = tt
+
+-- an end that is logged is answered
+logged_answer : (end : RunEnd) → has_logged end ≡ true → run_answer end ≡ None → ⊥
+logged_answer (ends.Logged seq status) logged is = absurd (cc (is))
+logged_answer (ends.Nothing status) logged is = absurd (cc (logged))
+logged_answer (ends.NoJob fault) logged is = absurd (cc (logged))
+logged_answer ends.NotRun logged is = absurd (cc (logged))
+logged_answer (ends.OddTree n) logged is = absurd (cc (logged))
+logged_answer (ends.Clash path) logged is = absurd (cc (logged))
+logged_answer (ends.Refused refusal) logged is = absurd (cc (logged))
+logged_answer ends.Memory logged is = absurd (cc (logged))
+
+-- and changes the log
+logged_changes : (work : List ℕ) (command : Command) (before : Log) (end : RunEnd) (after : Log) (trace : Trace) → has_logged end ≡ true → RunEnds work command before end after trace → trace.changes ≢ []
+logged_changes work command before (ends.Logged seq status) after trace logged (inl turn) = changed_so trace.changes after [] (ap (λ (t : Trace). t.changes) turn.3)
+logged_changes work command before end after trace logged (inr broken) = absurd (cc (sym logged ∙ ap has_logged broken.0))
+logged_changes work command before (ends.Nothing status) after trace logged (inl turn) = absurd (cc (logged))
+logged_changes work command before (ends.NoJob fault) after trace logged (inl turn) = absurd (cc (logged))
+logged_changes work command before ends.NotRun after trace logged (inl turn) = absurd (cc (logged))
+logged_changes work command before (ends.OddTree n) after trace logged (inl turn) = absurd (cc (logged))
+logged_changes work command before (ends.Clash path) after trace logged (inl turn) = absurd (cc (logged))
+logged_changes work command before (ends.Refused refusal) after trace logged (inl turn) = absurd (cc (logged))
+logged_changes work command before ends.Memory after trace logged (inl turn) = absurd (cc (logged))
+
+module _ (route : Route) (command : Command) (before after : SessionState) (number : after.client.number ≡ before.client.number) (folder : after.folder ≡ before.folder) (end : RunEnd) where
+  abbrev Ends : Trace → Type 0
+  Ends = RunEnds route.work command before.client.log end after.client.log
+
+  answered_turn : (words : List (List ℕ)) → capture words before.folder ≡ Ok command → (answer : Answer) → run_answer end ≡ Some answer → (trace : Trace) → Ends trace → LineTurn route before (Ok (RunLine words)) (Some answer) after trace
+  answered_turn words made answer told trace (inl turn) =
+      subst (λ (c : Result Command CaptureError). CommandTurn route c before (Some answer) after trace) (sym made) (end, turn, same_but_log before after number folder, sym told)
+  answered_turn words made answer told trace (inr broken) = absurd (cc (ap run_answer broken.0, told))
+
+  broken_turn : (words : List (List ℕ)) → capture words before.folder ≡ Ok command → (trace : Trace) → Ends trace → Broken route before (Ok (RunLine words)) after trace
+  broken_turn words made trace (inl turn) =
+      inr (inl (run_answer end, subst (λ (c : Result Command CaptureError). CommandTurn route c before (run_answer end) after trace) (sym made) (end, turn, same_but_log before after number folder, refl)))
+  broken_turn words made trace (inr broken) =
+      inr (inr (subst (λ (c : Result Command CaptureError). BreaksCommand route c before.client.log after.client.log trace) (sym made) (broken.2, broken.1), same_but_log before after number folder))
+
+  module _ (i : Option Images) (p q : RunnerTelling) (keeps : IsKept i route.image before.client.number before.client.log) (did : RunsCommand route.work command before.client.log end after.client.log p q) (is_log : IsLog after.client.log) where
+    went : (t : ℕ) (w : World) → Goes before.client.number route.image Ends before.client.log after.client.log before.client.log i i p q t t w w
+    went t w = run_goes route.image before.client.number route.work command before.client.log i keeps p q t w end after.client.log did is_log
+
+    -- the log is as before
+    pub run_given : (told : Option Answer) (r : Result (Option Answer) KeepError) → told ≡ run_answer end → IsGiven told r → after.client.log ≡ before.client.log → RunsMade route command before r after i i p q
+    run_given (Some answer) (Ok given) shown gave same = λ words made link world.
+        subst (λ (a : Option Answer). (kept : Log) × Does route.image (LineEnds route before (Ok (RunLine words)) (Ok a) after kept) before after kept i i (beside link p) (beside link q) world world) (sym gave) (
+          before.client.log,
+          record {
+            number = number;
+            goes = goes_as route.image before.client.number Ends (LineEnds route before (Ok (RunLine words)) (Ok (Some answer)) after before.client.log) before.client.log after.client.log before.client.log i i p q link.troubles link.troubles world world
+                (went link.troubles world) (λ trace turn. (answered_turn words made answer (sym shown) trace turn, sym same));
+          },
+        )
+    run_given None (Err keepers.Memory) shown gave same = λ words made link world. (
+      before.client.log,
+      record {
+        number = number;
+        goes = goes_as route.image before.client.number Ends (LineEnds route before (Ok (RunLine words)) (Err keepers.Memory) after before.client.log) before.client.log after.client.log before.client.log i i p q link.troubles link.troubles world world
+            (went link.troubles world) (λ trace turn. broken_turn words made trace turn);
+      },
+    )
+    run_given None (Err keepers.Failed) shown gave same = absurd gave
+    run_given (Some answer) (Err e) shown gave same = absurd gave
+    run_given None (Ok given) shown gave same = absurd gave
+
+    -- the log was changed, and was to be kept
+    module _ (logged : has_logged end ≡ true) (j : Option Images) where
+      saved : (r : Result (Unit {0}) KeepError) → Told i j (KeepsLog route.image before.client.number after.client.log r) → (t : ℕ) (w : World)
+          → (kept : Log) × Goes before.client.number route.image Ends before.client.log after.client.log kept i j p q t t w w × IfOk r (λ done. kept ≡ after.client.log)
+      saved r save t w =
+          let goes = went t w in
+          goes_saved route.image before.client.number Ends before.client.log after.client.log before.client.log i i j p q t t w w r goes
+          (logged_changes route.work command before.client.log end after.client.log goes.trace logged goes.turn) save
+
+      pub run_kept : (done : Unit {0}) (told : Option Answer) (r : Result (Option Answer) KeepError) → told ≡ run_answer end → IsGiven told r
+          → Told i j (KeepsLog {E = KeepError} route.image before.client.number after.client.log (Ok done)) → RunsMade route command before r after i j p q
+      run_kept done (Some answer) (Ok given) shown gave save = λ words made link world.
+          let all = saved (Ok done) save link.troubles world in
+          subst (λ (a : Option Answer). (kept : Log) × Does route.image (LineEnds route before (Ok (RunLine words)) (Ok a) after kept) before after kept i j (beside link p) (beside link q) world world) (sym gave) (
+            all.0,
+            record {
+              number = number;
+              goes = goes_as route.image before.client.number Ends (LineEnds route before (Ok (RunLine words)) (Ok (Some answer)) after all.0) before.client.log after.client.log all.0 i j p q link.troubles link.troubles world world
+                  all.1 (λ trace turn. (answered_turn words made answer (sym shown) trace turn, all.2));
+            },
+          )
+      run_kept done None r shown gave save = absurd (logged_answer end logged (sym shown))
+      run_kept done (Some answer) (Err e) shown gave save = absurd gave
+
+      pub run_unkept : (e : KeepError) → Told i j (KeepsLog {E = KeepError} route.image before.client.number after.client.log (Err e)) → RunsMade route command before (Err e) after i j p q
+      run_unkept e save = λ words made link world.
+          let all = saved (Err e) save link.troubles world in (
+            all.0,
+            record {
+              number = number;
+              goes = goes_as route.image before.client.number Ends (LineEnds route before (Ok (RunLine words)) (Err e) after all.0) before.client.log after.client.log all.0 i j p q link.troubles link.troubles world world
+                  all.1 (λ trace turn. broken_turn words made trace turn);
+            },
+          )

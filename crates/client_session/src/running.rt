@@ -1,0 +1,109 @@
+// The turns of lines that run commands.
+ghost use Rattle.std.specs.Prelude.{◌≡◌, ◌≤◌, Err, IfOk};
+ghost use Rattle.outside.specs.Outside.{CountsFault};
+ghost use Rattle.cmd_capture.specs.Spelling.{IsCommand};
+ghost use Rattle.client_core.specs.Keeping.{IsKept};
+ghost use Rattle.client_core.specs.Goes.{telling};
+ghost use Rattle.client_core.specs.Running.{has_logged};
+ghost use Rattle.client_session.specs.Session.{capture_answer, job_answer, run_answer};
+ghost use Rattle.client_session.specs.Inside.{RunsLine, RunsMade};
+
+use crate::session::{Session, given, local_refusal};
+use client_core::{Route, RunEnd};
+use cmd_capture::{CaptureError, Command, Runner, Words, capture};
+use outside::{KeepError, Keeper};
+use shell_lang::{Answer, Fault};
+use std::alloc::Global;
+use work_area::JobError;
+
+impl Session {
+    /// Runs the command that a line's words make in the current folder, or answers why they make none.
+    pub(crate) fn run<K: Keeper, R: Runner>(
+        &mut self,
+        alloc: Global,
+        words: &Words,
+        route: &Route,
+        keeper: &mut K,
+        runner: &mut R,
+    ) -> Result<Option<Answer>, KeepError>
+        requires { IsKept (K.images keeper.old) route.now.image self.old.client.number self.old.client.log }
+        ensures runs { RunsLine route.now words.now self.old result self.new (K.images keeper.old) (K.images keeper.new) (telling (R.runs runner.old) (R.faults runner.old)) (telling (R.runs runner.new) (R.faults runner.new)) }
+        ensures kept { IfOk result (λ answer. IsKept (K.images keeper.new) route.now.image self.new.client.number self.new.client.log) }
+        ensures later { R.faults runner.old ≤ R.faults runner.new }
+        ensures keeper { CountsFault KeepError.Failed (K.faults keeper.old) (K.faults keeper.new) result }
+    {
+        match capture(alloc, words, &self.folder) {
+            Ok(command) => self.run_command(command, route, keeper, runner),
+            Err(refusal) => given(capture_answer(refusal)),
+        }
+    }
+
+    /// Runs a command, keeps the client where the run is logged, and answers how it ended.
+    fn run_command<K: Keeper, R: Runner>(
+        &mut self,
+        command: Command,
+        route: &Route,
+        keeper: &mut K,
+        runner: &mut R,
+    ) -> Result<Option<Answer>, KeepError>
+        requires command { IsCommand command }
+        requires kept { IsKept (K.images keeper.old) route.now.image self.old.client.number self.old.client.log }
+        ensures runs { RunsMade route.now command self.old result self.new (K.images keeper.old) (K.images keeper.new) (telling (R.runs runner.old) (R.faults runner.old)) (telling (R.runs runner.new) (R.faults runner.new)) }
+        ensures kept { IfOk result (λ answer. IsKept (K.images keeper.new) route.now.image self.new.client.number self.new.client.log) }
+        ensures later { R.faults runner.old ≤ R.faults runner.new }
+        ensures keeper { CountsFault KeepError.Failed (K.faults keeper.old) (K.faults keeper.new) result }
+    {
+        let end = self.client.run_command(command, route.work.bytes(), runner);
+        if !has_logged(&end) {
+            return given(run_answer(end));
+        }
+        if let Err(refused) = self.client.keep(route.image.bytes(), keeper) {
+            drop(end);
+            return Err(refused);
+        }
+        given(run_answer(end))
+    }
+}
+
+/// Whether a run that ends so is an entry of the log now.
+fn has_logged(end: &RunEnd) -> bool
+    ensures { result ≡ has_logged end.now }
+{
+    matches!(end, RunEnd::Logged { .. })
+}
+
+/// How words that make no command are answered; want of memory has no answer.
+fn capture_answer(refusal: CaptureError) -> Option<Answer>
+    ensures { result ≡ capture_answer refusal }
+{
+    match refusal {
+        CaptureError::Memory => None,
+        refusal => Some(Answer::Refused(Fault::Capture(refusal))),
+    }
+}
+
+/// How a command without a job is answered; want of memory has no answer.
+fn job_answer(refusal: JobError) -> Option<Answer>
+    ensures { result ≡ job_answer refusal }
+{
+    match refusal {
+        JobError::Memory => None,
+        refusal => Some(Answer::Refused(Fault::Job(refusal))),
+    }
+}
+
+/// How a run is answered; want of memory has no answer.
+fn run_answer(end: RunEnd) -> Option<Answer>
+    ensures { result ≡ run_answer end }
+{
+    match end {
+        RunEnd::Logged { seq, status } => Some(Answer::Ran { seq, status }),
+        RunEnd::Nothing { status } => Some(Answer::Nothing { status }),
+        RunEnd::NoJob(refusal) => job_answer(refusal),
+        RunEnd::NotRun => Some(Answer::NotRun),
+        RunEnd::OddTree(i) => Some(Answer::OddTree(i)),
+        RunEnd::Clash(path) => Some(Answer::Clash(path)),
+        RunEnd::Refused(refusal) => local_refusal(refusal),
+        RunEnd::Memory => None,
+    }
+}

@@ -1,0 +1,7 @@
+//! Tests of the client: what its calls log, ask and run.
+#![tactic(auto)]
+
+#[cfg(test)]
+mod running;
+#[cfg(test)]
+mod shipping;

@@ -1,0 +1,5 @@
+use Rattle.std.specs.Prelude.{◌≡◌, take}
+use Rattle.shell_lang.proofs.command.copies_of.Given as goal
+
+abbrev pub invariant-loop-word : goal.invariant-loop-word
+invariant-loop-word l = l.copied ≡ take l.word-index l.words
