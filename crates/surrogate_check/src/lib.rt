@@ -1,0 +1,9 @@
+//! Tests of handlings over a network in memory, with frames from outside.
+#![tactic(auto)]
+
+#[cfg(test)]
+mod bytes;
+#[cfg(test)]
+mod repairs;
+#[cfg(test)]
+mod tests;

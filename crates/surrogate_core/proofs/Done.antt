@@ -1,0 +1,131 @@
+-- When a handling ends as done.
+use Rattle.std.proofs.Common.{◌≡◌, ◌⊎◌, inl, inr, ⊎_elim, ℕ, zero, suc, Bool, true, false, List, [], ◌∷◌, ◌++◌, Option, Some, None, Result, Ok, Err, sym, ◌∙◌, ap, subst}
+use Rattle.std.specs.Prelude.{find}
+use Rattle.std.specs.List.{flat_map}
+use Rattle.std.proofs.Math.ListN.{replicate}
+use Rattle.tree_values.specs.Tree.{Volume}
+use Rattle.tree_values.specs.Lists.{IsIn}
+use Rattle.cmd_capture.specs.declared.runner.Run.{Run}
+use Rattle.cmd_capture.specs.declared.job.Job.{Job}
+use Rattle.cmd_capture.specs.declared.job.Outcome.{Outcome}
+use Rattle.work_area.specs.Changes.{clashes}
+use Rattle.replay_judge.specs.declared.verdict.Verdict.TheVariants as verdicts
+use Rattle.replay_judge.specs.Judgement.{IsJudgement}
+use Rattle.replay_judge.specs.Laws.{AgreementsFill, OneJudgement}
+use Rattle.wire_frames.specs.declared.cause.Cause.TheVariants.{NoMemory}
+use Rattle.wire_frames.specs.declared.message.Message.TheVariants.{Accepted, Done}
+use Rattle.wire_frames.specs.declared.cause.Cause.{Cause}
+use Rattle.wire_frames.specs.declared.message.Message.{Message}
+use Rattle.world_rules.specs.declared.asking.Peer.TheVariants.{Server}
+use Rattle.world_rules.specs.declared.asking.Answer.TheVariants.{Reply, Failed, Memory}
+use Rattle.world_rules.specs.Settling.{IsSettling, failures, settled}
+use Rattle.world_rules.specs.Asking.{ask_of}
+use Rattle.world_rules.specs.declared.asking.Answer.{Answer}
+use Rattle.world_rules.specs.declared.asking.Ask.{Ask}
+use Rattle.surrogate_core.specs.declared.step.Step.TheVariants as steps
+use Rattle.surrogate_core.specs.Handling.{Phase, Idle, Fetching, Holding, Reaction, answering, declining, job_for, held_by, unless_clash, unless_unfit, after_verdict, AfterJob, runs_of, HandlesReply, HandlesCome, Round, IsRound, GoesOn}
+use Rattle.surrogate_core.specs.Laws.{EndsAs, AgreedTriesAskTheStore, AcceptedHandlingsAreDone}
+use Rattle.surrogate_core.proofs.Copies.{keeps_the_copy}
+use Rattle.surrogate_core.specs.declared.step.Step.{Step}
+
+-- ---- an agreement is asked of the server
+
+abbrev first_run : List Run → Run → Run
+first_run [] run = run
+first_run (x ∷ xs) run = x
+
+pub agreed_tries_ask : OneJudgement → AgreedTriesAskTheStore
+agreed_tries_ask one pulled tried new client sketched work run effects reaction tries judged free fits =
+    ⊎_elim (λ came. by pulled (job_for tried sketched) tries.ran tries.runs_are came) (λ none. inr none) tries.came
+  where
+    by : (pulled : Bool) (job : Result Job Cause) (ran : Option Outcome) → run ∷ [] ≡ runs_of work job ran → AfterJob pulled tried client sketched job ran reaction
+        → (reaction ≡ after_verdict tried client sketched (Ok (record { effects = effects; copy = new }))) ⊎ (reaction ≡ declining tried client sketched.seq NoMemory)
+    by pulled (Ok job) (Some outcome) e came =
+        let is_job : run.job ≡ job = ap (λ l. (first_run l run).job) e in
+        let is_outcome : run.outcome ≡ outcome = ap (λ l. (first_run l run).outcome) e in
+        let as_run : IsJudgement sketched job outcome (verdicts.Agree effects) =
+        subst (λ j. IsJudgement sketched j outcome (verdicts.Agree effects)) is_job (subst (λ o. IsJudgement sketched run.job o (verdicts.Agree effects)) is_outcome judged) in
+        let same : came.0 ≡ verdicts.Agree effects = one sketched job outcome came.0 (verdicts.Agree effects) came.1 as_run in
+        inl (came.2
+        ∙ ap (λ v. after_verdict tried client sketched (held_by tried job v)) same
+        ∙ ap (λ c. after_verdict tried client sketched (unless_clash tried effects c)) (subst (λ j. find (clashes tried j.rows) effects ≡ None) is_job free)
+        ∙ ap (λ r. after_verdict tried client sketched (unless_unfit effects r)) fits)
+    by pulled (Ok job) None e came = absurd (cc)
+    by true (Err cause) ran e came = absurd (cc)
+    by false (Err cause) ran e came = absurd (cc)
+
+-- ---- an acceptance ends as done
+
+apart : (x : Ask) (xs ys : List Ask) → IsIn x (xs ++ ys) → IsIn x xs ⊎ IsIn x ys
+apart x [] ys among = inr among
+apart x (y ∷ xs) ys (inl is) = inl (inl is)
+apart x (y ∷ xs) ys (inr among) = ⊎_elim (λ a. inl (inr a)) (λ b. inr b) (apart x xs ys among)
+
+failed_in : (ask one : Ask) (count : ℕ) → IsIn ask (replicate count one) → ask ≡ one
+failed_in ask one zero among = absurd among
+failed_in ask one (suc count) (inl is) = is
+failed_in ask one (suc count) (inr among) = failed_in ask one count among
+
+abbrev message_of : Answer → Message → Message
+message_of (Reply reply) m = reply
+message_of Failed m = m
+message_of Memory m = m
+
+abbrev IsAnswered : Answer → Type 0
+IsAnswered (Reply reply) = Unit {0}
+IsAnswered Failed = ⊥
+IsAnswered Memory = ⊥
+
+-- an ask of a settling that was answered, was answered so
+answered_so : (server : List ℕ) (request reply m : Message) (failed : ℕ) (ask : Ask) → IsIn ask (settled Server server request failed reply) → ask.answer ≡ Reply m → reply ≡ m
+answered_so server request reply m failed ask among e = by (apart ask (failures Server server request failed) (ask_of Server server request (Reply reply) ∷ []) among)
+  where
+    by : IsIn ask (failures Server server request failed) ⊎ IsIn ask (ask_of Server server request (Reply reply) ∷ []) → reply ≡ m
+    by (inl front) = absurd (subst IsAnswered (sym e ∙ ap (λ a. a.answer) (failed_in ask (ask_of Server server request Failed) failed front)) tt)
+    by (inr (inl is)) = ap (λ a. message_of a m) (sym (ap (λ a. a.answer) is) ∙ e)
+    by (inr (inr none)) = absurd none
+
+module _ (server work : List ℕ) (ask : Ask) (k m : ℕ) (e : ask.answer ≡ Reply (Accepted k m)) where
+  abbrev IsDone : Reaction → Type 0
+  IsDone reaction = (now : Volume) × (c n : ℕ) × (reaction ≡ answering now (Done c n))
+
+  came_done : (phase : Phase) (now : Volume) (runs : List Run) (reaction : Reaction) → HandlesReply phase now (Accepted k m) work runs reaction → IsDone reaction
+  came_done Idle now runs reaction handles = absurd handles
+  came_done (Fetching c s) now runs reaction handles = absurd handles
+  came_done (Holding c n before) now runs reaction handles = (now, c, n, handles.0)
+
+  settled_done : (request : Message) (phase : Phase) (now : Volume) (asks : List Ask) (came : Option Message) (runs : List Run) (reaction : Reaction) → IsIn ask asks
+      → IsSettling Server server request came asks → HandlesCome (record { copy = now; phase = phase }) came work runs reaction → IsDone reaction
+  settled_done request phase now asks None runs reaction among settles handles =
+      absurd (subst IsAnswered (sym e ∙ ap (λ a. a.answer) (failed_in ask (ask_of Server server request Failed) 8 (subst (IsIn ask) settles among))) tt)
+  settled_done request phase now asks (Some reply) runs reaction among settles handles =
+      came_done phase now runs reaction (subst (λ r. HandlesReply phase now r work runs reaction)
+      (answered_so server request reply (Accepted k m) settles.0 ask (subst (IsIn ask) settles.4 among) e) handles)
+
+  round_done : (step : Step) (phase : Phase) (now : Volume) (round : Round) → IsIn ask round.asks
+      → IsRound server work (record { step = step; after = record { copy = now; phase = phase } }) round → IsDone round.after
+  round_done (steps.Answer reply) phase now round among is = absurd is
+  round_done (steps.Ask request) phase now round among is = settled_done request phase now round.asks round.came round.runs round.after among is.0 is.1
+
+  stops : (first last : Reaction) (rounds : List Round) → IsDone first → GoesOn server work first rounds last → IsDone last
+  stops first last [] done goes = subst IsDone (sym goes) done
+  stops first last (round ∷ rounds) done goes = absurd (subst (λ r. IsRound server work r round) done.3 goes.0)
+
+  goes_done : (rounds : List Round) (first last : Reaction) → IsIn ask (flat_map (λ round. round.asks) rounds) → GoesOn server work first rounds last → IsDone last
+  goes_done [] first last among goes = absurd among
+  goes_done (round ∷ rounds) first last among goes =
+      ⊎_elim
+      (λ here. stops round.after last rounds (round_done first.step first.after.phase first.after.copy round here goes.0) goes.1)
+      (λ later. goes_done rounds round.after last later goes.1)
+      (apart ask round.asks (flat_map (λ r. r.asks) rounds) among)
+
+abbrev answer_of : Step → Message → Message
+answer_of (steps.Answer reply) m = reply
+answer_of (steps.Ask request) m = m
+
+pub accepted_handlings : AgreementsFill → AcceptedHandlingsAreDone
+accepted_handlings agreements_fill server work copy after client sketched runs asks reply ask c n handling among e =
+    let done = goes_done server work ask c n e handling.rounds handling.first (answering after reply) (subst (IsIn ask) handling.asks_are among) handling.goes_on in
+    let is : reply ≡ Done done.1 done.2 = ap (λ r. answer_of r.step reply) done.3 in
+    let ends = subst (EndsAs client sketched copy asks after) is (keeps_the_copy agreements_fill client sketched copy server work runs asks reply after handling) in
+    is ∙ ap (λ a. Done a done.2) ends.0 ∙ ap (Done client) ends.1

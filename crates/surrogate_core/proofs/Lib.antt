@@ -1,0 +1,11 @@
+pub mod Valid
+pub mod Faults
+pub mod Trying
+pub mod Copies
+pub mod Once
+pub mod Causes
+pub mod Done
+pub mod Free
+pub mod Following
+pub mod Served
+pub mod Silent

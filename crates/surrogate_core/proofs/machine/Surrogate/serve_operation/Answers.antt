@@ -1,0 +1,42 @@
+use Rattle.surrogate_core.specs.declared.step.Step.TheVariants as steps
+use Rattle.surrogate_core.proofs.Served.{begun, at_step, awaits, waits, served_to, serves_more, serves_broken}
+use Rattle.surrogate_core.proofs.machine.Surrogate.serve_operation.Goals as goal
+
+pub asking-init : goal.asking-init
+asking-init g c = record {
+  serving = begun c.args.server.now c.args.work.now c.args.self.now.copy c.args.client c.args.sketched (record { step = c.try_on-step.result; after = c.try_on-step.new.self }) _ _ _ c.try_on-step.ensures.steps;
+  sent = c.try_on-step.ensures.sent;
+  kept = g.met.L.Link.keeps_none c.args.link.now;
+}
+
+pub returns-in-Answer-clause-idle : goal.returns-in-Answer-clause-idle
+returns-in-Answer-clause-idle g c =
+    let serving = at_step c.args.server.now c.args.work.now c.args.self.now.copy c.args.client c.args.sketched c.asking.self _ _ _ _ c.asking.step (steps.Answer c.in-Answer.reply) c.in-Answer.is c.asking.invariant.serving in
+    waits c.args.server.now c.args.work.now c.args.self.now.copy c.args.client c.args.sketched c.asking.self _ _ _ _ c.in-Answer.reply serving
+
+pub returns-in-Answer-clause-served : goal.returns-in-Answer-clause-served
+returns-in-Answer-clause-served g c =
+    let serving = at_step c.args.server.now c.args.work.now c.args.self.now.copy c.args.client c.args.sketched c.asking.self _ _ _ _ c.asking.step (steps.Answer c.in-Answer.reply) c.in-Answer.is c.asking.invariant.serving in
+    served_to c.args.server.now c.args.work.now c.args.self.now.copy c.args.client c.args.sketched c.asking.self _ _ _ _ c.in-Answer.reply serving
+
+pub follow-followed-requires-clause-awaits : goal.follow-followed-requires-clause-awaits
+follow-followed-requires-clause-awaits g c =
+    let serving = at_step c.args.server.now c.args.work.now c.args.self.now.copy c.args.client c.args.sketched c.asking.self _ _ _ _ c.asking.step (steps.Ask c.in-Ask.asked) c.in-Ask.is c.asking.invariant.serving in
+    awaits c.args.server.now c.args.work.now c.args.self.now.copy c.args.client c.args.sketched c.asking.self _ _ _ _ c.in-Ask.asked serving
+
+pub returns-in-Err-clause-kept : goal.returns-in-Err-clause-kept
+returns-in-Err-clause-kept g c = g.met.L.Link.keeps_then c.args.link.now c.asking.link c.follow-followed.new.link c.asking.invariant.kept c.follow-followed.ensures.kept
+
+pub returns-in-Err-clause-served : goal.returns-in-Err-clause-served
+returns-in-Err-clause-served g c =
+    let serving = at_step c.args.server.now c.args.work.now c.args.self.now.copy c.args.client c.args.sketched c.asking.self _ _ _ _ c.asking.step (steps.Ask c.in-Ask.asked) c.in-Ask.is c.asking.invariant.serving in
+    serves_broken c.args.server.now c.args.work.now c.args.self.now.copy c.args.client c.args.sketched c.asking.self _ _ _ _ c.in-Ask.asked serving _ c.in-Err.refused c.follow-followed.new.self _ c.in-Err.ensures.breaks c.in-Err.ensures.taken_back c.in-Err.ensures.unrun
+
+pub asking-preserved : goal.asking-preserved
+asking-preserved g c =
+    let serving = at_step c.args.server.now c.args.work.now c.args.self.now.copy c.args.client c.args.sketched c.asking.self _ _ _ _ c.asking.step (steps.Ask c.in-Ask.asked) c.in-Ask.is c.asking.invariant.serving in
+    record {
+      serving = serves_more c.args.server.now c.args.work.now c.args.self.now.copy c.args.client c.args.sketched c.asking.self _ _ _ _ c.in-Ask.asked serving _ (record { step = c.in-Ok.next; after = c.follow-followed.new.self }) _ c.in-Ok.ensures.follows;
+      sent = c.in-Ok.ensures.sent;
+      kept = g.met.L.Link.keeps_then c.args.link.now c.asking.link c.follow-followed.new.link c.asking.invariant.kept c.follow-followed.ensures.kept;
+    }

@@ -1,0 +1,114 @@
+// Operations that are handled over a link.
+ghost use Rattle.std.specs.Prelude.{◌≡◌, ◌<◌, IfOk, OnErr};
+ghost use Rattle.wire_frames.specs.Frame.{IsValid};
+ghost use Rattle.wire_frames.specs.declared.message.Message.TheVariants.{Operate};
+ghost use Rattle.world_rules.specs.Asking.{IsRequest};
+ghost use Rattle.surrogate_core.specs.declared.step.Step.TheVariants as steps;
+ghost use Rattle.surrogate_core.specs.Handling.{Idle, idle, copy_before, IsSent};
+ghost use Rattle.surrogate_core.specs.Serving.{telling, Serves};
+ghost use Rattle.surrogate_core.specs.Inside.{Awaits, Follows, Breaks, asks_left};
+
+use crate::machine::{Surrogate, operation};
+use crate::step::Step;
+use cmd_capture::Runner;
+use mod_log::SketchEntry;
+use std::alloc::AllocError;
+use wire_frames::Message;
+use world_rules::{Link, Peer, settle};
+
+impl Surrogate {
+    /// Handles an operation to its answer: tries it on the copy, and asks the server at the address. Any other message is
+    /// malformed.
+    ///
+    /// # Errors
+    ///
+    /// Where memory runs out while the server is asked. What was open is taken back then.
+    pub fn serve<R: Runner, L: Link>(
+        &mut self,
+        request: Message,
+        work: &[u8],
+        runner: &mut R,
+        link: &mut L,
+        server: &[u8],
+    ) -> Result<Message, AllocError>
+        requires idle { self.old.phase ≡ Idle }
+        requires valid { IsValid request }
+        ensures idle { self.new.phase ≡ Idle }
+        ensures reply { IfOk result IsValid }
+        ensures kept { L.keeps link.old link.new }
+        ensures served { Serves server.now work.now self.old.copy request result self.new.copy (telling (R.runs runner.old) (R.faults runner.old)) (telling (R.runs runner.new) (R.faults runner.new)) (L.tells link.old) (L.tells link.new) }
+    {
+        match operation(request) {
+            Some((client, sketched)) => {
+                self.serve_operation(client, sketched, work, runner, link, server)
+            }
+            None => Ok(Message::Malformed { code: 7, offset: 0 }),
+        }
+    }
+
+    fn serve_operation<R: Runner, L: Link>(
+        &mut self,
+        client: u8,
+        sketched: SketchEntry,
+        work: &[u8],
+        runner: &mut R,
+        link: &mut L,
+        server: &[u8],
+    ) -> Result<Message, AllocError>
+        requires idle { self.old.phase ≡ Idle }
+        requires valid { IsValid (Operate client sketched) }
+        ensures idle { self.new.phase ≡ Idle }
+        ensures reply { IfOk result IsValid }
+        ensures kept { L.keeps link.old link.new }
+        ensures served { Serves server.now work.now self.old.copy (Operate client sketched) result self.new.copy (telling (R.runs runner.old) (R.faults runner.old)) (telling (R.runs runner.new) (R.faults runner.new)) (L.tells link.old) (L.tells link.new) }
+    {
+        let mut step = self.try_on(false, client, sketched, work, runner);
+        'asking: loop {
+            match step {
+                Step::Answer(reply) => return Ok(reply),
+                Step::Ask(asked) => {
+                    let followed = self.follow(&asked, work, runner, link, server);
+                    drop(asked);
+                    step = match followed {
+                        Ok(next) => next,
+                        Err(refused) => return Err(refused),
+                    };
+                }
+            }
+        }
+    }
+
+    /// Settles the request with the server, and goes on with its reply or with none.
+    ///
+    /// # Errors
+    ///
+    /// Where memory runs out in the settling. What was open is taken back then.
+    fn follow<R: Runner, L: Link>(
+        &mut self,
+        asked: &Message,
+        work: &[u8],
+        runner: &mut R,
+        link: &mut L,
+        server: &[u8],
+    ) -> Result<Step, AllocError>
+        requires awaits { Awaits self.old.phase asked.now }
+        requires valid { IsValid asked.now }
+        requires request { IsRequest Peer.Server asked.now }
+        ensures follows { IfOk result (λ step. Follows server.now work.now asked.now (record { step = steps.Ask asked.now; after = self.old }) (record { step = step; after = self.new }) (telling (R.runs runner.old) (R.faults runner.old)) (telling (R.runs runner.new) (R.faults runner.new)) (L.tells link.old) (L.tells link.new)) }
+        ensures sent { IfOk result IsSent }
+        ensures fewer { IfOk result (λ step. asks_left self.new.phase < asks_left self.old.phase) }
+        ensures breaks { OnErr result (Breaks server.now asked.now (L.tells link.old) (L.tells link.new)) }
+        ensures taken_back { OnErr result (self.new ≡ idle (copy_before self.old)) }
+        ensures unrun { OnErr result (telling (R.runs runner.new) (R.faults runner.new) ≡ telling (R.runs runner.old) (R.faults runner.old)) }
+        ensures kept { L.keeps link.old link.new }
+    {
+        match settle(self.allocator(), link, Peer::Server, server, asked) {
+            Ok(Some(reply)) => Ok(self.on_server(reply, work, runner)),
+            Ok(None) => Ok(self.on_silence()),
+            Err(refused) => {
+                self.give_up();
+                Err(refused)
+            }
+        }
+    }
+}

@@ -1,0 +1,6 @@
+mod Doing
+mod Connections
+mod Running
+mod Totals
+mod Alone
+mod Silent

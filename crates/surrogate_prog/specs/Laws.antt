@@ -1,0 +1,59 @@
+-- What holds of every run of the surrogate.
+use Rattle.std.specs.Prelude.{◌≡◌, ◌≤◌, ◌⊎◌, ℕ, ◌*◌, Bool, true, false, List, [], ◌∷◌, count_by, Option, Ok}
+use Rattle.outside.specs.Port.{Talk}
+use Rattle.port_serving.specs.Laws.{HasFallen, HasTalks, IsTold}
+use Rattle.tree_values.specs.Tree.{Volume}
+use Rattle.tree_values.specs.Lists.{IsIn}
+use Rattle.mod_log.specs.declared.sketching.SketchEntry.{SketchEntry}
+use Rattle.wire_frames.specs.declared.cause.Cause.{Cause}
+use Rattle.wire_frames.specs.declared.cause.Cause.TheVariants.{NoServer}
+use Rattle.wire_frames.specs.declared.message.Message.{Message}
+use Rattle.wire_frames.specs.declared.message.Message.TheVariants.{Operate, Declined}
+use Rattle.wire_frames.specs.Frame.{frame}
+use Rattle.wire_frames.specs.Reading.{frame_of}
+use Rattle.world_rules.specs.World.{World, MovedBy, MovedAlone}
+use Rattle.world_rules.specs.declared.asking.Ask.{Ask}
+use Rattle.world_rules.specs.Settling.{failed_asks}
+use Rattle.surrogate_prog.specs.Words.{Run}
+use Rattle.surrogate_prog.specs.Serving.{Doings, AnyAsks, ServesFrames}
+use Rattle.surrogate_prog.specs.Run.{Telling, Ran}
+
+-- serving came to its end
+abbrev pub IsWhole : ℕ → Type 0
+IsWhole status = (status ≡ 0) ⊎ (status ≡ 4)
+
+abbrev pub FallsAreBounded : Type 0
+FallsAreBounded = (run : Run) (status : ℕ) (old new : Telling) (written now : Option (List ℕ)) → Ran run status old new written now → HasFallen run.count (IsWhole status) old.port new.port
+
+-- at status 7 the connection at hand may be without an answer and without a fault; at status 0 the last line was written
+abbrev pub FramesAreCounted : Type 0
+FramesAreCounted = (run : Run) (status : ℕ) (old new : Telling) (written now : Option (List ℕ)) (talks : List Talk)
+    → Ran run status old new written now → HasTalks talks old.port new.port → IsTold (IsWhole status) (status ≡ 0) talks old.port new.port written now
+
+-- the operations of a client among the frames had been sent when the world was so
+abbrev pub WereSent : List (List ℕ) → World → Type 0
+WereSent frames world = (bytes : List ℕ) (client : ℕ) (sketched : SketchEntry) → IsIn bytes frames → frame_of bytes ≡ Ok (Operate client sketched) → client ≡ world.client → IsIn (Operate client sketched) world.packets
+
+-- what a surrogate asks for these frames are no sendings of the world's client
+abbrev pub RunsMoveAlone : Type 0
+RunsMoveAlone = (frames : List (List ℕ)) (asks : List Ask) (old new : World) → WereSent frames old → MovedBy (AnyAsks frames) asks old new → MovedAlone asks old new
+
+-- an operation that is declined since no server answered
+abbrev pub silent_cause : Cause → Bool
+silent_cause NoServer = true
+silent_cause cause = false
+
+abbrev pub is_silent : Message → Bool
+is_silent (Declined client number cause) = silent_cause cause
+is_silent reply = false
+
+-- these are the replies that the answering frames spell, in order
+abbrev pub SpellAll : List Message → List (List ℕ × List ℕ) → Type 0
+SpellAll [] [] = Unit {0}
+SpellAll (reply ∷ replies) (pair ∷ pairs) = (pair.1 ≡ frame reply) × SpellAll replies pairs
+SpellAll replies pairs = ⊥
+
+-- eight asks at least failed for each of the replies that tells so
+abbrev pub SilentServersFailedEight : Type 0
+SilentServersFailedEight = (server work : List ℕ) (copy after : Volume) (pairs : List (List ℕ × List ℕ)) (did : Doings) → ServesFrames server work copy pairs did after
+    → (replies : List Message) × SpellAll replies pairs × (8 * count_by is_silent replies ≤ failed_asks did.asks)

@@ -1,0 +1,5 @@
+pub mod Words
+pub mod Serving
+pub mod Run
+pub mod Inside
+pub mod Laws

@@ -1,0 +1,20 @@
+// What holds of every run: functions that do nothing, whose contracts are laws.
+ghost use Rattle.surrogate_prog.specs.Laws.{FallsAreBounded, FramesAreCounted, SilentServersFailedEight, RunsMoveAlone};
+
+/// Law: how many connections a run uses up, and how the frames taken and answered, the faults of the port and the last line
+/// follow from one another.
+pub fn connections_are_counted()
+    ensures falls { FallsAreBounded }
+    ensures frames { FramesAreCounted }
+{}
+
+/// Law: for each operation that is declined since no server answered, eight asks failed.
+pub fn silence_has_its_cause()
+    ensures { SilentServersFailedEight }
+{}
+
+/// Law: where each operation of the world's client that was taken had been sent, the world moves as a surrogate may move it, and
+/// its client sends nothing.
+pub fn worlds_move_alone()
+    ensures { RunsMoveAlone }
+{}

@@ -1,0 +1,16 @@
+//! The surrogate program: connections of a port, each with one frame in and one frame out, and commands that are run again.
+#![tactic(auto)]
+
+mod laws;
+mod program;
+mod run;
+mod serving;
+mod words;
+
+pub use laws::{connections_are_counted, silence_has_its_cause, worlds_move_alone};
+pub use program::{served, surrogate_main, surrogate_program};
+pub use run::surrogate_run;
+pub use words::{RunWords, run_words};
+
+#[cfg(test)]
+mod tests;

@@ -1,0 +1,113 @@
+// A run of the surrogate over its connections.
+ghost use Rattle.std.specs.Prelude.{◌≡◌, ◌≤◌, IsTrue, map};
+ghost use Rattle.std.specs.String.{string_bytes};
+ghost use Rattle.outside.specs.Outside.{CountsFault};
+ghost use Rattle.surrogate_prog.specs.Serving.{told};
+ghost use Rattle.surrogate_prog.specs.Run.{status_of, is_status, telling, RunTurn, Ends};
+ghost use Rattle.surrogate_prog.specs.Inside.{stopped_by_sink};
+
+use crate::serving::{Route, serve};
+use crate::words::{RunWords, run_words};
+use cmd_capture::Runner;
+use outside::{Port, Sink, SinkError};
+use port_serving::write_last;
+use program_words::Status;
+use std::alloc::{AllocError, Global};
+use surrogate_core::Surrogate;
+use world_rules::Link;
+
+/// Why a run ended without its last line.
+#[derive(Clone, Copy, Debug)]
+pub(crate) enum Stopped {
+    /// The sink failed.
+    Sink,
+    /// Memory ran out.
+    Memory,
+}
+
+impl From<SinkError> for Stopped {
+    ghost from_gives = { λ error stopped. stopped ≡ stopped_by_sink error };
+
+    fn from(error: SinkError) -> Stopped {
+        match error {
+            SinkError::Failed => Stopped::Sink,
+            SinkError::Memory => Stopped::Memory,
+        }
+    }
+}
+
+impl From<AllocError> for Stopped {
+    ghost use Rattle.surrogate_prog.specs.declared.run.Stopped.TheVariants.{Memory};
+
+    ghost from_gives = { λ _ stopped. stopped ≡ Memory };
+
+    fn from(_: AllocError) -> Stopped {
+        Stopped::Memory
+    }
+}
+
+/// The status of a run that ended so.
+fn status_of(ended: Result<(), Stopped>) -> u8
+    ensures status { result ≡ status_of ended }
+    ensures known { IsTrue (is_status result) }
+{
+    let status = match ended {
+        Ok(()) => Status::Done,
+        Err(Stopped::Sink) => Status::SinkFailed,
+        Err(Stopped::Memory) => Status::NoMemory,
+    };
+    status.code()
+}
+
+/// Serves from a copy without rows, and writes the last line.
+fn run<P: Port, R: Runner, L: Link, O: Sink>(
+    alloc: Global,
+    words: &RunWords<'_>,
+    port: &mut P,
+    link: &mut L,
+    runner: &mut R,
+    output: &mut O,
+) -> Result<(), Stopped>
+    requires { words.now.count ≤ 65536 }
+    ensures turn { RunTurn (record { address = words.now.address.now; server = words.now.server.now; work = words.now.work.now; count = words.now.count }) (telling (P.tells port.old) (told (R.runs runner.old) (R.faults runner.old) (L.tells link.old))) (telling (P.tells port.new) (told (R.runs runner.new) (R.faults runner.new) (L.tells link.new))) (O.written output.old) (O.written output.new) result }
+    ensures sink { CountsFault Stopped.Sink (O.faults output.old) (O.faults output.new) result }
+{
+    let route = Route {
+        server: words.server.as_bytes(),
+        work: words.work.as_bytes(),
+    };
+    let mut surrogate = Surrogate::new(alloc);
+    let served = serve(
+        alloc,
+        &mut surrogate,
+        port,
+        &route,
+        words.count,
+        runner,
+        link,
+    );
+    drop(surrogate);
+    write_last(alloc, served?, output)?;
+    Ok(())
+}
+
+/// Runs the surrogate on its words: takes frames from a port, and answers each by a handling of its message before it takes the
+/// next one. A handling may run a command in the folder of the words, and ask the server of the words. A fault of the port ends
+/// one connection alone. It gives a status.
+pub fn surrogate_run<P: Port, O: Sink, R: Runner, L: Link>(
+    alloc: Global,
+    words: &[String],
+    port: &mut P,
+    link: &mut L,
+    runner: &mut R,
+    output: &mut O,
+) -> u8
+    ensures { Ends (map string_bytes words.now) result
+        (record { port = P.tells port.old; outside = told (R.runs runner.old) (R.faults runner.old) (L.tells link.old); written = O.written output.old; sink_faults = O.faults output.old })
+        (record { port = P.tells port.new; outside = told (R.runs runner.new) (R.faults runner.new) (L.tells link.new); written = O.written output.new; sink_faults = O.faults output.new }) }
+{
+    let Some(words) = run_words(words) else {
+        return Status::NoForm.code();
+    };
+    status_of(run(alloc, &words, port, link, runner, output))
+}
