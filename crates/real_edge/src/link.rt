@@ -140,6 +140,12 @@ fn refusal_of(error: io::Error) -> LinkError {
 impl<'a, N: Net + Clock> Link for TcpLink<'a, N> {
     ghost tells = { λ l. record { world = None; troubles = l.troubles } };
 
+    ghost keeps = { λ _ _. Unit {0} };
+
+    ghost keeps_none = { λ _. tt };
+
+    ghost keeps_then = { λ _ _ _ _ _. tt };
+
     fn ask(&mut self, _to: Peer, address: &[u8], frame: &[u8]) -> Result<Vec<u8>, LinkError>
         requires { (request : Message) × Spells request frame.now × IsRequest _to request }
         ensures reply { (request : Message) → Spells request frame.now
@@ -150,6 +156,7 @@ impl<'a, N: Net + Clock> Link for TcpLink<'a, N> {
             → (Rose self.old.troubles self.new.troubles → ⊥)
             → Told {A = World} None None (λ old new. IsDirect _to address.now request old new result) }
         ensures cause { HasCause LinkError.Failed self.old.troubles self.new.troubles result }
+        ensures kept { Unit {0} }
 
         ensures counted { CountsFault LinkError.Failed self.old.troubles self.new.troubles result }
     {

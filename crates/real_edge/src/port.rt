@@ -1,8 +1,8 @@
 // Connections over TCP.
-ghost use Rattle.std.specs.Prelude.{◌≡◌, ◌-◌, ◌↔◌, List, ℕ, [], None, Ok, Err, IfOk, OnOk, OnErr, IsErr};
+ghost use Rattle.std.specs.Prelude.{◌≡◌, ◌-◌, ◌↔◌, None, Ok, Err, IfOk, OnOk, OnErr, IsErr};
 ghost use Rattle.std.specs.Io.KnownBytes.{Appends};
-ghost use Rattle.outside.specs.Outside.{CountsFault};
-ghost use Rattle.outside.specs.Port.{AddsFrames, frames_of_take, frames_of_answer};
+ghost use Rattle.outside.specs.Outside.{Told, CountsFault};
+ghost use Rattle.outside.specs.Port.{AddsTalks, talks_begun, Answers};
 ghost use Rattle.real_edge.specs.Pace.{StartsBy, of_request};
 ghost use Rattle.real_edge.specs.Port.{connections};
 
@@ -139,19 +139,12 @@ fn counted<T>(came: io::Result<T>, faults: &mut u64) -> Result<T, PortError>
 }
 
 impl<'a, N: Net + Clock> Port for TcpPort<'a, N> {
-    ghost left = { λ p. p.left };
-
-    ghost taken = { λ _. None };
-
-    ghost answered = { λ _. None };
-
-    ghost faults = { λ p. p.faults };
+    ghost tells = { λ p. record { left = p.left; talks = None; faults = p.faults } };
 
     fn take(&mut self) -> Result<Option<Vec<u8>>, PortError>
         ensures left { self.new.left ≡ self.old.left - 1 }
         ensures none { (result ≡ Ok None) ↔ (self.old.left ≡ 0) }
-        ensures taken { AddsFrames None None (frames_of_take result) }
-        ensures answered { AddsFrames None None [] }
+        ensures talks { AddsTalks None None (talks_begun result) }
         ensures cause { CountsFault PortError.Failed self.old.faults self.new.faults result }
     {
         if self.left == 0 {
@@ -167,8 +160,7 @@ impl<'a, N: Net + Clock> Port for TcpPort<'a, N> {
 
     fn answer(&mut self, frame: &[u8]) -> Result<(), PortError>
         ensures left { self.new.left ≡ self.old.left }
-        ensures taken { AddsFrames None None [] }
-        ensures answered { AddsFrames None None (frames_of_answer frame.now result) }
+        ensures talks { Told None None (Answers frame.now result) }
         ensures cause { CountsFault PortError.Failed self.old.faults self.new.faults result }
     {
         let sent = reply(self.talk.take(), frame);

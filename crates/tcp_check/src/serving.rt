@@ -1,46 +1,68 @@
-// Servers, and where they listen.
+// A server in this program.
 use outside::Keeper;
 use real_edge::{StdSink, TcpPort};
 use server_prog::server_run;
 use std::alloc::{AllocError, Global};
 use std::io;
 use std::net::Net;
+use std::process::{Child, OpenProcess, Processes};
+use std::rt::{Env, Files};
 use std::time::Clock;
+use tcp_probe::{CLIENT, SERVED, bound, print_ended, start_client_at};
 
-/// An address at which nothing listens any more.
-pub(crate) fn free_address<R: AllocGlobal + Net + Clock>(rt: &R) -> io::Result<String> {
-    let port = TcpPort::bind(rt.alloc(), rt, "127.0.0.1:0")?;
-    address_of(rt.alloc(), &port)
-}
-
-pub(crate) fn address_of<R: Net + Clock>(
-    alloc: Global,
-    port: &TcpPort<'_, R>,
-) -> io::Result<String> {
-    let number = port.number()?;
-    Ok(format!(in alloc; "127.0.0.1:{number}")?)
-}
-
-/// Runs a server that takes so many connections, and closes its port.
+/// Runs a server that takes so many connections of the port.
 pub(crate) fn serve<R: AllocGlobal + Net + Clock + Print, K: Keeper>(
     rt: &R,
-    image: &str,
     count: &str,
-    mut port: TcpPort<'_, R>,
+    port: &mut TcpPort<'_, R>,
     keeper: &mut K,
 ) -> io::Result<()> {
-    let alloc = rt.alloc();
-    let words = server_words(alloc, image, count)?;
+    let words = server_words(rt.alloc(), count)?;
     let mut output = StdSink::new(io::writer(rt));
-    let status = server_run(alloc, &words, &mut port, keeper, &mut output);
-    drop(port);
+    let status = server_run(rt.alloc(), &words, port, keeper, &mut output);
+    drop(output);
+    drop(words);
     println!(rt; "server: status {status}")
 }
 
-fn server_words(alloc: Global, image: &str, count: &str) -> Result<Vec<String>, AllocError> {
+fn server_words(alloc: Global, count: &str) -> Result<Vec<String>, AllocError> {
     let mut words = Vec::new(alloc);
-    for word in ["run", "listen", image, count] {
+    for word in ["run", "listen", SERVED, count] {
         words.push(String::from_str(alloc, word)?)?;
     }
     Ok(words)
+}
+
+/// Serves one connection of a client, from what the keeper has, and prints how both end.
+pub(crate) fn serve_a_client_from<
+    R: Processes + Files + Env + AllocGlobal + Net + Clock + Print,
+    K: Keeper,
+>(rt: &R, keeper: &mut K) -> io::Result<()> {
+    let mut port = bound(rt)?;
+    match start_client_at(rt, &port) {
+        Ok(client) => {
+            let served = serve(rt, "1", &mut port, keeper);
+            drop(port);
+            print_client(rt, served, client)
+        }
+        Err(error) => {
+            drop(port);
+            Err(error)
+        }
+    }
+}
+
+/// Prints how a client ended that was served.
+fn print_client<R: AllocGlobal + Print, P: OpenProcess + Drop>(
+    rt: &R,
+    served: io::Result<()>,
+    client: Child<P>,
+) -> io::Result<()> {
+    match served {
+        Ok(()) => print_ended(rt, CLIENT, client),
+        Err(error) => {
+            drop(client);
+            Err(error)
+        }
+    }
 }

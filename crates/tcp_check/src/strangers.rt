@@ -1,8 +1,9 @@
 // Peers that send no message.
+use real_edge::TcpPort;
 use std::io;
-use std::io::{Read, Write};
-use std::net::{Net, OpenStream, Shutdown, TcpStream};
-use wire_frames::{Message, read};
+use std::net::Net;
+use std::time::Clock;
+use tcp_probe::{address_of, call_on, print_answer};
 
 /// A peer that connects, sends these bytes, and listens.
 #[derive(Clone, Copy)]
@@ -48,27 +49,44 @@ pub(crate) const FALSE_REPLIES: [&[u8]; 8] = [
     b"\0\0\0\x0b\x01\x03\x01\0\0\0\0\0\0\0\x01",
 ];
 
-/// Connects, sends the bytes, and ends its writing.
-pub(crate) fn call_on<R: Net>(rt: &R, address: &str, bytes: &[u8]) -> io::Result<R::Stream> {
-    let mut stream = TcpStream::connect(rt, address)?;
-    stream.write_all(bytes)?;
-    stream.shutdown(Shutdown::Write)?;
-    Ok(stream)
+/// Calls on the port as each of the strangers.
+pub(crate) fn call_all<R: AllocGlobal + Net + Clock>(
+    rt: &R,
+    port: &TcpPort<'_, R>,
+) -> io::Result<Vec<R::Stream>> {
+    let address = address_of(rt.alloc(), port)?;
+    let mut streams = Vec::new(rt.alloc());
+    let called = add_all(rt, &address, &mut streams);
+    drop(address);
+    match called {
+        Ok(()) => Ok(streams),
+        Err(error) => {
+            drop(streams);
+            Err(error)
+        }
+    }
 }
 
-/// Prints what the peer was answered.
-pub(crate) fn print_answer<R: AllocGlobal + Print, S: Read + Drop>(
-    rt: &R,
-    name: &str,
-    mut stream: S,
-) -> io::Result<()> {
-    let mut answer = Vec::new(rt.alloc());
-    stream.read_to_end(&mut answer)?;
-    match read(rt.alloc(), &answer) {
-        Ok(Message::Malformed { code, offset }) => println!(rt;
-            "{name}: malformed {code} {offset}"
-        ),
-        Ok(_) => println!(rt; "{name}: a message"),
-        Err(refused) => println!(rt; "{name}: {refused}"),
+fn add_all<R: Net>(rt: &R, address: &str, streams: &mut Vec<R::Stream>) -> io::Result<()> {
+    for stranger in VISITS {
+        let stream = call_on(rt, address, stranger.bytes)?;
+        streams.push(stream)?;
     }
+    Ok(())
+}
+
+/// Prints what each stranger was answered that was served.
+pub(crate) fn print_answers<R: AllocGlobal + Net + Print>(
+    rt: &R,
+    served: io::Result<()>,
+    streams: Vec<R::Stream>,
+) -> io::Result<()> {
+    if let Err(error) = served {
+        drop(streams);
+        return Err(error);
+    }
+    for (stranger, stream) in VISITS.iter().zip(streams) {
+        print_answer(rt, stranger.name, stream)?;
+    }
+    Ok(())
 }

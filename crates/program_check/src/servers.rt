@@ -1,0 +1,138 @@
+// Servers as programs.
+use crate::clients::with_a_full_output;
+use real_edge::TcpPort;
+use std::fs::File;
+use std::io::ErrorKind;
+use std::net::Net;
+use std::process::{Child, OpenProcess, Processes};
+use std::rt::{Env, Files};
+use std::time::{Clock, Duration};
+use std::{io, thread};
+use tcp_probe::{
+    SERVED, SERVER, address_of, bound, call_on, call_slowly, command_of, forget, free_address,
+    print_answer, print_ended, run_client, spawned,
+};
+
+/// How often a server is called until it listens.
+const CALLS: usize = 200;
+
+/// How many milliseconds are waited in between.
+const BETWEEN_MILLIS: u64 = 50;
+
+/// A request, which the slow stranger sends in two parts.
+const REQUEST: &[u8] = b"\0\0\0\x0b\x01\x03\x01\0\0\0\0\0\0\0\x01";
+
+/// Runs a server at a free address, which a stranger, a slow peer and a client call.
+pub(crate) fn serve_at_a_free_address<
+    R: Processes + Files + Env + AllocGlobal + Net + Clock + Print,
+>(rt: &R) -> io::Result<()> {
+    forget(rt);
+    println!(rt; "-- servers as programs")?;
+    let address = free_address(rt)?;
+    let shown = serve_at(rt, &address);
+    drop(address);
+    shown
+}
+
+fn serve_at<R: Processes + Files + Env + AllocGlobal + Net + Clock + Print>(
+    rt: &R,
+    address: &str,
+) -> io::Result<()> {
+    let server = start_server(rt, address, "3")?;
+    match call_thrice(rt, address) {
+        Ok(()) => print_ended(rt, SERVER, server),
+        Err(error) => {
+            drop(server);
+            Err(error)
+        }
+    }
+}
+
+fn start_server<R: Processes + Files + Env + AllocGlobal>(
+    rt: &R,
+    address: &str,
+    count: &str,
+) -> io::Result<Child<R::Started>> {
+    let command = command_of(rt, SERVER, &["run", address, SERVED, count])?;
+    spawned(rt, command)
+}
+
+fn call_thrice<R: Processes + Files + Env + AllocGlobal + Net + Clock + Print>(
+    rt: &R,
+    address: &str,
+) -> io::Result<()> {
+    call_once_it_listens(rt, address)?;
+    let stream = call_slowly(rt, address, REQUEST)?;
+    print_answer(rt, "a slow request", stream)?;
+    run_client(rt, address)
+}
+
+/// Calls the server without a byte, once it listens.
+fn call_once_it_listens<R: AllocGlobal + Net + Clock + Print>(
+    rt: &R,
+    address: &str,
+) -> io::Result<()> {
+    for _ in 0..CALLS {
+        match call_on(rt, address, b"") {
+            Ok(stream) => return print_answer(rt, "nothing", stream),
+            Err(_) => thread::sleep(rt, Duration::from_millis(BETWEEN_MILLIS)),
+        }
+    }
+    Err(io::Error::from(ErrorKind::TimedOut))
+}
+
+/// Runs a server at an address at which this program listens. The error tells the number of the port, so the status alone is
+/// printed.
+pub(crate) fn serve_at_an_address_in_use<
+    R: Processes + Files + Env + AllocGlobal + Net + Clock + Print,
+>(rt: &R) -> io::Result<()> {
+    let port = bound(rt)?;
+    let shown = serve_beside(rt, &port);
+    drop(port);
+    shown
+}
+
+fn serve_beside<R: Processes + Files + Env + AllocGlobal + Net + Clock + Print>(
+    rt: &R,
+    port: &TcpPort<'_, R>,
+) -> io::Result<()> {
+    let address = address_of(rt.alloc(), port)?;
+    let server = start_server(rt, &address, "1");
+    drop(address);
+    print_status(rt, server?)
+}
+
+fn print_status<R: AllocGlobal + Print, P: OpenProcess + Drop>(
+    rt: &R,
+    server: Child<P>,
+) -> io::Result<()> {
+    let end = server.wait_with_output(rt.alloc())?;
+    let status = end.status;
+    drop(end);
+    println!(rt; "at an address in use: {status}")
+}
+
+/// Runs a server whose output is full.
+pub(crate) fn serve_with_a_full_output<
+    R: Processes + Files<File = File> + Env + AllocGlobal + Net + Clock + Print,
+>(rt: &R) -> io::Result<()> {
+    let address = free_address(rt)?;
+    let shown = serve_fully(rt, &address);
+    drop(address);
+    shown
+}
+
+fn serve_fully<R: Processes + Files<File = File> + Env + AllocGlobal + Net + Clock + Print>(
+    rt: &R,
+    address: &str,
+) -> io::Result<()> {
+    let command = command_of(rt, SERVER, &["run", address, SERVED, "1"])?;
+    let server = with_a_full_output(rt, command)?;
+    match call_once_it_listens(rt, address) {
+        Ok(()) => print_ended(rt, SERVER, server),
+        Err(error) => {
+            drop(server);
+            Err(error)
+        }
+    }
+}

@@ -1,0 +1,16 @@
+//! What the programs that show clients and servers over loopback share: how such a program starts itself once more as
+//! another, where servers listen, and what is shown of what was started.
+#![tactic(auto)]
+
+mod calling;
+mod places;
+mod playing;
+mod starting;
+
+pub use calling::{call_on, call_slowly, print_answer};
+pub use places::{IMAGE, SERVED, address_of, bound, forget, free_address};
+pub use playing::run_as;
+pub use starting::{
+    CLIENT, SERVER, client_command, command_of, lone_client_command, print_ended, run_client,
+    run_lone_client, spawned, start_client_at, started, type_to,
+};

@@ -1,0 +1,61 @@
+// Where servers listen, and where images are kept.
+use real_edge::TcpPort;
+use std::alloc::Global;
+use std::net::Net;
+use std::rt::Files;
+use std::time::Clock;
+use std::{fs, io};
+
+/// The image of each client.
+pub const IMAGE: &str = "image";
+
+/// The image of each server that keeps one.
+pub const SERVED: &str = "served";
+
+/// All that belongs to both.
+const FILES: [&str; 6] = [
+    IMAGE,
+    "image.new",
+    "image.lock",
+    SERVED,
+    "served.new",
+    "served.lock",
+];
+
+/// Removes what a client or a server left.
+pub fn forget<R: Files>(rt: &R) {
+    for file in FILES {
+        let _removed = fs::remove_file(rt, file);
+    }
+}
+
+/// A port at an address that was free.
+///
+/// # Errors
+///
+/// The platform's.
+pub fn bound<R: AllocGlobal + Net + Clock>(rt: &R) -> io::Result<TcpPort<'_, R>> {
+    TcpPort::bind(rt.alloc(), rt, "127.0.0.1:0")
+}
+
+/// An address at which nothing listens any more.
+///
+/// # Errors
+///
+/// The platform's.
+pub fn free_address<R: AllocGlobal + Net + Clock>(rt: &R) -> io::Result<String> {
+    let port = bound(rt)?;
+    let address = address_of(rt.alloc(), &port);
+    drop(port);
+    address
+}
+
+/// The address of a port.
+///
+/// # Errors
+///
+/// The platform's.
+pub fn address_of<R: Net + Clock>(alloc: Global, port: &TcpPort<'_, R>) -> io::Result<String> {
+    let number = port.number()?;
+    Ok(format!(in alloc; "127.0.0.1:{number}")?)
+}

@@ -1,0 +1,204 @@
+// This very program, started once more as the client or the server.
+use crate::places::{IMAGE, address_of, free_address};
+use real_edge::TcpPort;
+use std::io::Write;
+use std::net::Net;
+use std::path::Path;
+use std::process::{Child, Command, OpenProcess, Output, Processes, Stdio};
+use std::rt::{Env, Files};
+use std::time::Clock;
+use std::{env, io};
+
+/// The first word of this program where it is the client.
+pub const CLIENT: &str = "client";
+
+/// The first word of this program where it is the server.
+pub const SERVER: &str = "server";
+
+/// How the name of a loader begins. Where one runs this program, it finds what it loads beside itself, and this program's
+/// name is the first word.
+const LOADER: &str = "ld-";
+
+/// What a client is to do: a file is put, and shipped.
+const INPUT: &[u8] = b"put a hello\nsync\n";
+
+/// A command that starts this very program as another with these words, its streams in pipes.
+///
+/// # Errors
+///
+/// The platform's, where this program's path or its words cannot be had, and want of memory.
+pub fn command_of<R: Files + Env + AllocGlobal>(
+    rt: &R,
+    program: &str,
+    words: &[&str],
+) -> io::Result<Command> {
+    let mut command = own_command(rt)?;
+    match add_all(rt, &mut command, program, words) {
+        Ok(()) => Ok(command),
+        Err(error) => {
+            drop(command);
+            Err(error)
+        }
+    }
+}
+
+/// What starts this very program, or the loader that runs it.
+fn own_command<R: Files + Env + AllocGlobal>(rt: &R) -> io::Result<Command> {
+    let running = env::current_exe(rt)?;
+    let made = Command::new(rt.alloc(), running.as_path());
+    drop(running);
+    Ok(made?)
+}
+
+fn add_all<R: Files + Env + AllocGlobal>(
+    rt: &R,
+    command: &mut Command,
+    program: &str,
+    words: &[&str],
+) -> io::Result<()> {
+    add_loader_words(rt, command)?;
+    command.arg(program)?;
+    command.args(words)?;
+    command.stdin(Stdio::piped());
+    command.stdout(Stdio::piped());
+    command.stderr(Stdio::piped());
+    Ok(())
+}
+
+/// Adds what a loader is told, where one runs this program.
+fn add_loader_words<R: Files + Env + AllocGlobal>(rt: &R, command: &mut Command) -> io::Result<()> {
+    let running = env::current_exe(rt)?;
+    let added = match (running.file_name(), running.parent()) {
+        (Some(name), Some(folder)) if name.starts_with(LOADER) => add_folder(rt, command, folder),
+        _ => Ok(()),
+    };
+    drop(running);
+    added
+}
+
+fn add_folder<R: Env + AllocGlobal>(
+    rt: &R,
+    command: &mut Command,
+    folder: Path<'_>,
+) -> io::Result<()> {
+    command.arg("--library-path")?.arg(folder)?;
+    command.args(env::args(rt)?.take(1))?;
+    Ok(())
+}
+
+/// A command that starts a client of the server at this address.
+///
+/// # Errors
+///
+/// As `command_of`.
+pub fn client_command<R: Files + Env + AllocGlobal>(rt: &R, address: &str) -> io::Result<Command> {
+    command_of(rt, CLIENT, &["run", "1", IMAGE, address, "-", "work"])
+}
+
+/// A command that starts a client whose server does not listen.
+///
+/// # Errors
+///
+/// As `command_of`.
+pub fn lone_client_command<R: Files + Env + AllocGlobal + Net + Clock>(
+    rt: &R,
+) -> io::Result<Command> {
+    let address = free_address(rt)?;
+    let command = client_command(rt, &address);
+    drop(address);
+    command
+}
+
+/// Starts a program.
+///
+/// # Errors
+///
+/// The platform's.
+pub fn spawned<R: Processes>(rt: &R, mut command: Command) -> io::Result<Child<R::Started>> {
+    let started = command.spawn(rt);
+    drop(command);
+    started
+}
+
+/// Starts a client, and types what it is to do.
+///
+/// # Errors
+///
+/// The platform's.
+pub fn started<R: Processes>(rt: &R, command: Command) -> io::Result<Child<R::Started>> {
+    let mut client = spawned(rt, command)?;
+    type_to(&mut client);
+    Ok(client)
+}
+
+/// Types what a client is to do. One with other words reads nothing.
+pub fn type_to<P: OpenProcess + Drop>(client: &mut Child<P>) {
+    if let Some(mut stdin) = client.stdin.take() {
+        let _written = stdin.write_all(INPUT);
+    }
+}
+
+/// Starts a client of the server at this port, and types what it is to do.
+///
+/// # Errors
+///
+/// The platform's.
+pub fn start_client_at<R: Processes + Files + Env + AllocGlobal + Net + Clock>(
+    rt: &R,
+    port: &TcpPort<'_, R>,
+) -> io::Result<Child<R::Started>> {
+    let address = address_of(rt.alloc(), port)?;
+    let command = client_command(rt, &address);
+    drop(address);
+    started(rt, command?)
+}
+
+/// Runs a client of the server at this address to its end, and prints that.
+///
+/// # Errors
+///
+/// The platform's.
+pub fn run_client<R: Processes + Files + Env + AllocGlobal + Print>(
+    rt: &R,
+    address: &str,
+) -> io::Result<()> {
+    let command = client_command(rt, address)?;
+    let client = started(rt, command)?;
+    print_ended(rt, CLIENT, client)
+}
+
+/// Runs a client whose server does not listen to its end, and prints that.
+///
+/// # Errors
+///
+/// The platform's.
+pub fn run_lone_client<R: Processes + Files + Env + AllocGlobal + Net + Clock + Print>(
+    rt: &R,
+) -> io::Result<()> {
+    let command = lone_client_command(rt)?;
+    let client = started(rt, command)?;
+    print_ended(rt, CLIENT, client)
+}
+
+/// Waits for the end of a program, and prints what it wrote and its status.
+///
+/// # Errors
+///
+/// The platform's.
+pub fn print_ended<R: AllocGlobal + Print, P: OpenProcess + Drop>(
+    rt: &R,
+    program: &str,
+    child: Child<P>,
+) -> io::Result<()> {
+    let end = child.wait_with_output(rt.alloc())?;
+    let printed = print_end(rt, program, &end);
+    drop(end);
+    printed
+}
+
+fn print_end<R: Print>(rt: &R, program: &str, end: &Output) -> io::Result<()> {
+    io::writer(rt).write_all(&end.stdout)?;
+    io::writer(rt).write_all(&end.stderr)?;
+    let status = end.status;
+    println!(rt; "{program}: {status}")
+}
