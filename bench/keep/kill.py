@@ -60,6 +60,8 @@ class Model:
         word, *rest = line.split(" ")
         if word == "sync":
             return f"synced {self.count()}"
+        if word == "run":
+            return self.run(rest)
         path = rest[0]
         target = rest[1] if word == "mv" else path
         parent = os.path.dirname(target)
@@ -82,11 +84,28 @@ class Model:
         return self.log([(path, None), (target, self.node(path))])
 
 
+    def run(self, words):
+        """The answer to a run in the root: of the shell, which writes a text to a file, or of rm, which removes all at a path."""
+        if words[-3] == "/bin/rm":
+            gone = [it for it in self.trees[-1] if f"{it}/".startswith(f"{words[-1]}/") and self.node(it) is not None]
+            changes, status = [(it, None) for it in sorted(gone, key=lambda it: it.split("/"), reverse=True)], 0 if gone else 1
+        else:
+            text, path = words[-6], words[-4]
+            fits = self.is_folder(os.path.dirname(path)) and self.node(path) != "folder"
+            node = text.encode() + b"\n"
+            changes, status = [(path, node)] if fits and self.node(path) != node else [], 0 if fits else 3
+        return f"{self.log(changes)} status {status}" if changes else f"nothing logged status {status}"
+
+
 def random_line(number):
     def path():
         return os.path.join(random.choice(["", *FOLDERS]), random.choice(FILES))
 
-    word = random.choices(["put", "mkdir", "mv", "rm", "sync"], [9, 3, 3, 3, 4])[0]
+    word = random.choices(["put", "mkdir", "mv", "rm", "run", "sync"], [9, 3, 3, 3, 7, 4])[0]
+    if word == "run" and random.random() < 0.2:
+        return f"run -- /bin/rm -r {random.choice([path(), random.choice(FOLDERS)])}"
+    if word == "run":
+        return f"run env=PATH=/usr/bin:/bin -- /bin/sh -c 'echo ran{number} > {path()} || exit 3'"
     if word == "put":
         return f"put {path()} text{number}"
     if word == "mv":

@@ -1,12 +1,12 @@
 #!/usr/bin/env bash
-# Kills the client, the server, or both, with kill -9 at random moments of sessions of 50 lines (put, mkdir, mv, rm, sync), and goes on
+# Kills the client, the server, or both, with kill -9 at random moments of sessions of 50 lines (put, mkdir, mv, rm, run, sync), and goes on
 # from the images that are left. Against a small model in Python: nothing that was answered is lost, nothing is applied twice, and
 # both programs go on. It ends with 1 and the seed at the first difference.
 #
 #   bench/keep/kill.sh [MOMENTS [SEED]]       200 moments of a random seed, where nothing else is said
 #   CLIENT=.. SERVER=.. bench/keep/kill.sh    over these programs; else the proved ones are built
 #
-# It wants the Debian packages bash and python3, and listens at 127.0.0.1 alone.
+# It wants the Debian packages bash, coreutils, dash and python3, and listens at 127.0.0.1 alone.
 set -eu
 here=$(cd "$(dirname "$0")" && pwd)
 top="$here/../.."
