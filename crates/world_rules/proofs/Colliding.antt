@@ -1,5 +1,5 @@
 -- Where no content is taken for another at the end of some moves, none is on the way.
-use Rattle.std.proofs.Common.{◌≡◌, ◌⊎◌, inl, inr, ⊎_elim, ℕ, zero, suc, ◌+◌, ◌-◌, List, [], ◌∷◌, ◌++◌, drop, sym, subst, append_assoc}
+use Rattle.std.proofs.Common.{◌≡◌, ◌⊎◌, inl, inr, ⊎_elim, ℕ, zero, suc, ◌+◌, ◌-◌, Bool, List, [], ◌∷◌, ◌++◌, drop, sym, subst, append_assoc}
 use Rattle.tree_values.specs.Lists.{IsIn}
 use Rattle.vol_tree.proofs.Behind.{IsIn-left, IsIn-right}
 use Rattle.mod_log.specs.declared.log.Entry.{Entry}
@@ -126,15 +126,15 @@ module _ (client : ℕ) where
 
   -- ---- of whole runs
 
-  pub run_apart : (entries : List Entry) (made : List Ask) (old new : State) (runs : Runs client entries made old new) → HasNoCollision client (old.log.pending ++ entries) new.world.packets
+  pub run_apart : (ships : Bool) (entries : List Entry) (made : List Ask) (old new : State) (runs : Runs client ships entries made old new) → HasNoCollision client (old.log.pending ++ entries) new.world.packets
       → IsApart runs.moves old
-  run_apart entries made old new runs none =
+  run_apart ships entries made old new runs none =
       subst (λ es. HasNoCollision client (old.log.pending ++ es) (moved_by runs.moves old).world.packets) (sym runs.entries)
       (subst (λ s. HasNoCollision client (old.log.pending ++ entries) s.world.packets) runs.result none)
 
-  pub run_both_apart : (entries : List Entry) (made : List Ask) (old new : State) (runs : Runs client entries made old new)
+  pub run_both_apart : (ships : Bool) (entries : List Entry) (made : List Ask) (old new : State) (runs : Runs client ships entries made old new)
       → HasNoCollision client (old.kept.pending ++ (old.log.pending ++ entries)) new.world.packets → AreApart runs.moves old
-  run_both_apart entries made old new runs none =
+  run_both_apart ships entries made old new runs none =
       subst (λ es. HasNoCollision client (old.kept.pending ++ (old.log.pending ++ es)) (moved_by runs.moves old).world.packets) (sym runs.entries)
       (subst (λ s. HasNoCollision client (old.kept.pending ++ (old.log.pending ++ entries)) s.world.packets) runs.result none)
 

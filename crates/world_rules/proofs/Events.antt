@@ -15,7 +15,7 @@ use Rattle.vol_tree.proofs.Behind.{IsBehind-refl, IsBehind-after, applied-change
 use Rattle.mod_log.specs.declared.log.Entry.{Entry}
 use Rattle.mod_log.specs.Log.{Log, tree_at}
 use Rattle.wire_frames.specs.declared.message.Message.{Message}
-use Rattle.wire_frames.specs.declared.message.Message.TheVariants.{Store, Pull, Unfit, Full}
+use Rattle.wire_frames.specs.declared.message.Message.TheVariants.{Store, Operate, Pull, Unfit, Full}
 use Rattle.wire_frames.specs.Frame.{client_of, IsValid}
 use Rattle.world_rules.specs.Served.{Served, IsServed, with_last, Verdict, Repeated, Early, Outdated, Refused, Taken, judged, verdict, is_want_of_room, reply, served_after, answer, state_after, taken_if, taken_of}
 use Rattle.world_rules.specs.World.{World, Step, Send, Deliver, Other, Relay, sent, delivered, happens, noted, IsForServer, IsLicensed, IsAllowed}
@@ -255,12 +255,15 @@ delivery_steps client log world message false now for among =
 
 -- ---- a message that the client sends
 
-sent_fits : (client acked : ℕ) (tree : _) (pending : List Entry) (last : ℕ) (volume : _) (message : Message) → acked ≤ last
-    → MaySend client (record { acked = acked; base = tree; pending = pending }) message → IsFitting (record { acked = acked; base = tree; pending = pending }) last volume message
-sent_fits client acked tree [] last volume (Store of number effects base) low may = absurd may.2.1
-sent_fits client acked tree (entry ∷ entries) last volume (Store of number effects base) low may = (record { at_most_next = omega (arith, may.1); at_most_logged = omega (arith, may.1) }, λ above. may.2)
-sent_fits client acked tree pending last volume (Pull of number) low may = omega (arith, may.1)
-sent_fits client acked tree pending last volume _ low may = absurd may
+sent_fits : (client : ℕ) (ships : Bool) (acked : ℕ) (tree : _) (pending : List Entry) (last : ℕ) (volume : _) (message : Message) → acked ≤ last
+    → MaySend client ships (record { acked = acked; base = tree; pending = pending }) message → IsFitting (record { acked = acked; base = tree; pending = pending }) last volume message
+sent_fits client ships acked tree [] last volume (Store of number effects base) low may = absurd may.2.1
+sent_fits client ships acked tree (entry ∷ entries) last volume (Store of number effects base) low may = (record { at_most_next = omega (arith, may.1); at_most_logged = omega (arith, may.1) }, λ above. may.2)
+sent_fits client ships acked tree [] last volume (Operate of sketched) low may = absurd may.2.1
+sent_fits client ships acked tree (entry ∷ entries) last volume (Operate of sketched) low may =
+    (record { at_most_next = omega (arith, may.1); at_most_logged = omega (arith, may.1) }, λ above. may.2)
+sent_fits client ships acked tree pending last volume (Pull of number) low may = omega (arith, may.1)
+sent_fits client ships acked tree pending last volume _ low may = absurd may
 
 -- a valid message joins
 joined_in_step : (client : ℕ) (log : Log) (world : World) (message : Message) → InStep client log world → IsValid message
@@ -269,11 +272,11 @@ joined_in_step client log world message now valid fits =
     in_step client log (sent message world) now.about now.own_number (valid_pushed world.packets message now.valid valid) now.served_is
     (joined client log (world.served.last client) world.served.volume world.packets message (agree client log world now) fits)
 
-pub sent_in_step : (client : ℕ) (log : Log) (world : World) (message : Message) → InStep client log world → MaySend client log message → InStep client log (sent message world)
-sent_in_step client log world message now may =
+pub sent_in_step : (client : ℕ) (ships : Bool) (log : Log) (world : World) (message : Message) → InStep client log world → MaySend client ships log message → InStep client log (sent message world)
+sent_in_step client ships log world message now may =
     joined_in_step client log world message now
-    (sent_valid client log.acked log.base log.pending message now.own_number.0 now.own_number.1 now.log_is may)
-    (λ own. sent_fits client log.acked log.base log.pending (world.served.last client) world.served.volume message now.not_lower may)
+    (sent_valid client ships log.acked log.base log.pending message now.own_number.0 now.own_number.1 now.log_is may)
+    (λ own. sent_fits client ships log.acked log.base log.pending (world.served.last client) world.served.volume message now.not_lower may)
 
 -- ---- a message of another client
 
@@ -294,12 +297,12 @@ relayed_in_step client log world message now may valid none =
 sending_steps : (client : ℕ) (log : Log) (world : World) (message : Message) → InStep client log (sent message world) → Stepped client log world (sent message world) []
 sending_steps client log world message now = record { in_step = now; takes = inl (refl, refl); same = λ path spared e. e }
 
-pub steps_on : (client : ℕ) (log : Log) (world : World) (step : Step) → InStep client log world → IsAllowed (MaySend client log) world step
+pub steps_on : (client : ℕ) (ships : Bool) (log : Log) (world : World) (step : Step) → InStep client log world → IsAllowed (MaySend client ships log) world step
     → HasNoCollision client log.pending (happens step world).packets → Stepped client log world (happens step world) (taken_by step world.served)
-steps_on client log world (Send message) now may none = sending_steps client log world message (sent_in_step client log world message now may)
-steps_on client log world (Deliver message joins) now may none = delivery_steps client log world message joins now may.0 may.1
-steps_on client log world (Other message) now may none = sending_steps client log world message (other_in_step client log world message now may.0 may.1)
-steps_on client log world (Relay message) now may none = sending_steps client log world message (relayed_in_step client log world message now may.0 may.1 none)
+steps_on client ships log world (Send message) now may none = sending_steps client log world message (sent_in_step client ships log world message now may)
+steps_on client ships log world (Deliver message joins) now may none = delivery_steps client log world message joins now may.0 may.1
+steps_on client ships log world (Other message) now may none = sending_steps client log world message (other_in_step client log world message now may.0 may.1)
+steps_on client ships log world (Relay message) now may none = sending_steps client log world message (relayed_in_step client log world message now may.0 may.1 none)
 
 pub noted_in_step : (client : ℕ) (log : Log) (world : World) (made : List Ask) → InStep client log world → InStep client log (noted made world)
 noted_in_step client log world made now = in_step client log (noted made world) now.about now.own_number now.valid now.served_is (agree client log world now)

@@ -1,5 +1,5 @@
--- A client sends no operation of its own accord.
-use Rattle.std.proofs.Common.{◌≡◌, ◌≢◌, ⊎_elim, ℕ, Bool, true, false, List, [], ◌∷◌, ◌++◌, refl, sym, ◌∙◌, subst}
+-- A client without a surrogate sends no operation.
+use Rattle.std.proofs.Common.{◌≡◌, ◌≢◌, ⊎_elim, ℕ, Bool, true, false, true≢false, List, [], ◌∷◌, ◌++◌, refl, sym, ◌∙◌, subst}
 use Rattle.std.specs.Prelude.{if◌then◌else◌}
 use Rattle.tree_values.specs.Lists.{IsIn}
 use Rattle.mod_log.specs.declared.log.Entry.{Entry}
@@ -23,8 +23,8 @@ IsOperation client _ = ⊥
 
 -- ---- what joins the packets is no operation of the client
 
-sent_is_none : (client : ℕ) (log : Log) (message : Message) → MaySend client log message → IsOperation client message → ⊥
-sent_is_none client log (Operate of sketched) may is = may
+sent_is_none : (client : ℕ) (log : Log) (message : Message) → MaySend client false log message → IsOperation client message → ⊥
+sent_is_none client log (Operate of sketched) may is = absurd (true≢false (sym may.3))
 sent_is_none client log _ may is = is
 
 relay_is_none : (client : ℕ) (packets : List Message) (message : Message) → IsLicensed client packets message → IsOperation client message → ⊥
@@ -59,7 +59,7 @@ module _ (client : ℕ) (sketched : SketchEntry) where
   before_joined message packets other among =
       ⊎_elim (λ old. old) (λ here. absurd (other (subst (IsOperation client) here refl))) (IsIn-push (Operate client sketched) message packets among)
 
-  before_step : (state : State) (step : Step) → state.world.client ≡ client → IsAllowed (MaySendKept client state) state.world step
+  before_step : (state : State) (step : Step) → state.world.client ≡ client → IsAllowed (MaySendKept client false state) state.world step
       → IsIn (Operate client sketched) (happens step state.world).packets → IsIn (Operate client sketched) state.world.packets
   before_step state (Send message) about may among = before_joined message state.world.packets (sent_is_none client state.log message may.0) among
   before_step state (Deliver message true) about may among = before_joined (answer message state.world.served) state.world.packets (answer_is_none client message state.world.served may.0) among
@@ -68,7 +68,7 @@ module _ (client : ℕ) (sketched : SketchEntry) where
   before_step state (Relay message) about may among =
       before_joined message state.world.packets (relay_is_none client state.world.packets message (subst (λ c. IsLicensed c state.world.packets message) about may.0)) among
 
-  before_move : (state : State) (move : Move) → state.world.client ≡ client → IsPossible client state move
+  before_move : (state : State) (move : Move) → state.world.client ≡ client → IsPossible client false state move
       → IsIn (Operate client sketched) (moved move state).world.packets → IsIn (Operate client sketched) state.world.packets
   before_move state (Network step) about may among = before_step state step about may among
   before_move state (Notes ask) about may among = among
@@ -85,17 +85,17 @@ module _ (client : ℕ) (sketched : SketchEntry) where
   about_move state (Pulls last seen) = refl
   about_move state Saves = refl
 
-  before_moves : (moves : List Move) (state : State) → state.world.client ≡ client → AllPossible client state moves
+  before_moves : (moves : List Move) (state : State) → state.world.client ≡ client → AllPossible client false state moves
       → IsIn (Operate client sketched) (moved_by moves state).world.packets → IsIn (Operate client sketched) state.world.packets
   before_moves [] state about may among = among
   before_moves (move ∷ moves) state about may among =
       before_move state move about may.0 (before_moves moves (moved move state) (about_move state move ∙ about) may.1 among)
 
-pub operated_before : (client : ℕ) (entries : List Entry) (made : List Ask) (old new : State) (sketched : SketchEntry) → old.world.client ≡ client → Runs client entries made old new
+pub operated_before : (client : ℕ) (entries : List Entry) (made : List Ask) (old new : State) (sketched : SketchEntry) → old.world.client ≡ client → Runs client false entries made old new
     → IsIn (Operate client sketched) new.world.packets → IsIn (Operate client sketched) old.world.packets
 operated_before client entries made old new sketched about runs among =
     before_moves client sketched runs.moves old about runs.possible (subst (λ s. IsIn (Operate client sketched) s.world.packets) runs.result among)
 
 pub never_collides : (client : ℕ) (entries : List Entry) (made : List Ask) (old new : State) (all : List Entry) → old.world.client ≡ client → HasNoOperation client old.world.packets
-    → Runs client entries made old new → HasNoCollision client all new.world.packets
+    → Runs client false entries made old new → HasNoCollision client all new.world.packets
 never_collides client entries made old new all about none runs sketched among = absurd (none sketched (operated_before client entries made old new sketched about runs among))

@@ -1,5 +1,5 @@
 -- The served state is always the opening one after the taken stores.
-use Rattle.std.proofs.Common.{◌≡◌, ℕ, List, [], ◌∷◌, ◌++◌, refl, sym, ◌∙◌, ap, subst}
+use Rattle.std.proofs.Common.{◌≡◌, ℕ, Bool, List, [], ◌∷◌, ◌++◌, refl, sym, ◌∙◌, ap, subst}
 use Rattle.wire_frames.specs.declared.message.Message.{Message}
 use Rattle.wire_frames.specs.declared.message.Message.TheVariants.{Store, Pull}
 use Rattle.world_rules.specs.Served.{Served, Verdict, Repeated, Early, Outdated, Refused, Taken, verdict, served_after, state_after, taken_if, taken_of, replay}
@@ -50,5 +50,5 @@ moves_replayed : (moves : List Move) (state : State) → IsReplayed state.world 
 moves_replayed [] state is = is
 moves_replayed (move ∷ moves) state is = moves_replayed moves (moved move state) (move_replayed state move is)
 
-pub run_replayed : (client : ℕ) (entries : List Entry) (made : List Ask) (old new : State) → Runs client entries made old new → IsReplayed old.world → IsReplayed new.world
-run_replayed client entries made old new runs is = subst (λ s. IsReplayed s.world) (sym runs.result) (moves_replayed runs.moves old is)
+pub run_replayed : (client : ℕ) (ships : Bool) (entries : List Entry) (made : List Ask) (old new : State) → Runs client ships entries made old new → IsReplayed old.world → IsReplayed new.world
+run_replayed client ships entries made old new runs is = subst (λ s. IsReplayed s.world) (sym runs.result) (moves_replayed runs.moves old is)

@@ -1,5 +1,5 @@
 -- What the replies say to a client in step.
-use Rattle.std.proofs.Common.{◌≡◌, ℕ, ◌+◌, ◌<◌, ◌≤◌, List, [], ◌++◌, length, refl, sym, ap, subst, arith}
+use Rattle.std.proofs.Common.{◌≡◌, ℕ, ◌+◌, ◌<◌, ◌≤◌, false, List, [], ◌++◌, length, refl, sym, ap, subst, arith}
 use Rattle.file_paths.specs.Path.{FilePath}
 use Rattle.tree_values.specs.Tree.{Volume, version_at}
 use Rattle.tree_values.specs.Lists.{IsIn}
@@ -25,7 +25,7 @@ pub fresh_newer : (client : ℕ) (log : Log) (made : List Ask) (old new : World)
     → IsFresh (Pull client log.acked) (Snapshot client log.acked last seen) made old new → version_at log.base path ≤ version_at seen path
 fresh_newer client log made old new last seen path now none fresh =
     let then : InStep client log fresh.moment =
-    runs_in_step client [] [] (kept_at log old) (kept_at log fresh.moment) now (moved_by_runs client log (Pull client log.acked) [] old fresh.moment (refl, refl, none) fresh.before (λ ask among. absurd among) tt)
+    runs_in_step client false [] [] (kept_at log old) (kept_at log fresh.moment) now (moved_by_runs client false log (Pull client log.acked) [] old fresh.moment (refl, refl, none) fresh.before (λ ask among. absurd among) tt)
     (subst (λ es. HasNoCollision client (es ++ []) fresh.moment.packets) (sym none) (none_collides client fresh.moment.packets)) in
     let same : fresh.moment.served.volume ≡ seen = cc (fresh.is) in
     subst (λ v. version_at log.base path ≤ version_at v path) same (answered_newer client log fresh.moment path then none)

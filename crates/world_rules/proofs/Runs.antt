@@ -1,6 +1,6 @@
 -- Every run of a client in its world keeps its log in step, takes the client's entries in order, and leaves what it wrote alone.
-use Rattle.std.proofs.Common.{true, ◌≡◌, ◌≢◌, inl, inr, ⊎_elim, ℕ, zero, suc, ◌+◌, ◌-◌, ◌≤◌, List, [], ◌∷◌, ◌++◌, length, take, drop, refl, sym, ◌∙◌, ap, subst, arith, append_assoc, append-nil, length-append, length-drop, length-take}
-use Rattle.std.specs.Prelude.{Bool, ◌==◌, if◌then◌else◌}
+use Rattle.std.proofs.Common.{true, false, true≢false, ◌≡◌, ◌≢◌, inl, inr, ⊎_elim, ℕ, zero, suc, ◌+◌, ◌-◌, ◌≤◌, List, [], ◌∷◌, ◌++◌, length, take, drop, refl, sym, ◌∙◌, ap, subst, arith, append_assoc, append-nil, length-append, length-drop, length-take}
+use Rattle.std.specs.Prelude.{Bool, IsTrue, ◌==◌, if◌then◌else◌}
 use Rattle.std.proofs.lemmas.Bool.Decides.{nat_tests}
 use Rattle.std.proofs.lemmas.List.{length-take-le, take-append-le, drop-append-le, drop_all}
 use Rattle.std.proofs.lemmas.List.Elements.{filter-append}
@@ -13,7 +13,7 @@ use Rattle.vol_tree.proofs.Behind.{IsIn-left, IsIn-right, applied_all-tree, same
 use Rattle.mod_log.specs.declared.log.Entry.{Entry}
 use Rattle.mod_log.specs.Log.{Log, IsLog, AreEntriesOf, after, tree_at, acknowledged, pulled, new_log}
 use Rattle.wire_frames.specs.declared.message.Message.{Message}
-use Rattle.wire_frames.specs.declared.message.Message.TheVariants.{Store, Accepted, Snapshot, Done}
+use Rattle.wire_frames.specs.declared.message.Message.TheVariants.{Store, Operate, Pull, Accepted, Snapshot, Done}
 use Rattle.wire_frames.specs.Frame.{client_of, IsValid}
 use Rattle.world_rules.specs.declared.asking.Ask.{Ask}
 use Rattle.world_rules.specs.Served.{IsServed}
@@ -54,59 +54,59 @@ same_world : (client : ℕ) (log next : Log) (world : World) → InStep client l
 same_world client log next world now agrees = in_step client next world now.about now.own_number now.valid now.served_is agrees
 
 -- what the kept log may send, the log in memory may send, and so may the kept one
-pub allowed_log : (client : ℕ) (state : State) (step : Step) → IsAllowed (MaySendKept client state) state.world step → IsAllowed (MaySend client state.log) state.world step
-allowed_log client state (Send message) may = may.0
-allowed_log client state (Deliver message joins) may = may
-allowed_log client state (Other message) may = may
-allowed_log client state (Relay message) may = may
+pub allowed_log : (client : ℕ) (ships : Bool) (state : State) (step : Step) → IsAllowed (MaySendKept client ships state) state.world step → IsAllowed (MaySend client ships state.log) state.world step
+allowed_log client ships state (Send message) may = may.0
+allowed_log client ships state (Deliver message joins) may = may
+allowed_log client ships state (Other message) may = may
+allowed_log client ships state (Relay message) may = may
 
-pub allowed_kept : (client : ℕ) (state : State) (step : Step) → IsAllowed (MaySendKept client state) state.world step → IsAllowed (MaySend client state.kept) state.world step
-allowed_kept client state (Send message) may = subst (λ log. MaySend client log message) (sym may.1) may.0
-allowed_kept client state (Deliver message joins) may = may
-allowed_kept client state (Other message) may = may
-allowed_kept client state (Relay message) may = may
+pub allowed_kept : (client : ℕ) (ships : Bool) (state : State) (step : Step) → IsAllowed (MaySendKept client ships state) state.world step → IsAllowed (MaySend client ships state.kept) state.world step
+allowed_kept client ships state (Send message) may = subst (λ log. MaySend client ships log message) (sym may.1) may.0
+allowed_kept client ships state (Deliver message joins) may = may
+allowed_kept client ships state (Other message) may = may
+allowed_kept client ships state (Relay message) may = may
 
-pub move_keeps : (client : ℕ) (state : State) (move : Move) → InStep client state.log state.world → IsPossible client state move
+pub move_keeps : (client : ℕ) (ships : Bool) (state : State) (move : Move) → InStep client state.log state.world → IsPossible client ships state move
     → HasNoCollision client state.log.pending (moved move state).world.packets → InStep client (moved move state).log (moved move state).world
-move_keeps client state (Network step) now may none = (steps_on client state.log state.world step now (allowed_log client state step may) none).in_step
-move_keeps client state (Notes ask) now may none = noted_in_step client state.log state.world (ask ∷ []) now
-move_keeps client state (Logs entry) now may none = same_world client state.log _ state.world now (logged_agree client state.log _ _ _ (agree client state.log state.world now) entry may)
-move_keeps client state (Acknowledges reply) now may none = same_world client state.log _ state.world now
+move_keeps client ships state (Network step) now may none = (steps_on client ships state.log state.world step now (allowed_log client ships state step may) none).in_step
+move_keeps client ships state (Notes ask) now may none = noted_in_step client state.log state.world (ask ∷ []) now
+move_keeps client ships state (Logs entry) now may none = same_world client state.log _ state.world now (logged_agree client state.log _ _ _ (agree client state.log state.world now) entry may)
+move_keeps client ships state (Acknowledges reply) now may none = same_world client state.log _ state.world now
     (acknowledged_pending client state.log.acked state.log.base state.log.pending _ _ _ may.0
     (accepted_at_most client state.log state.world (state.log.acked + 1) reply now may.1 may.2)
     (agree client state.log state.world now))
-move_keeps client state (Pulls last seen) now may none = same_world client state.log _ state.world now
+move_keeps client ships state (Pulls last seen) now may none = same_world client state.log _ state.world now
     (pulled_idle client state.log.acked state.log.base state.log.pending seen _ _ _ last may.0 may.2 (agree client state.log state.world now))
-move_keeps client state Saves now may none = now
+move_keeps client ships state Saves now may none = now
 
-pub moves_keep : (client : ℕ) (moves : List Move) (state : State) → InStep client state.log state.world → AllPossible client state moves → IsApart client moves state → InStep client (moved_by moves state).log (moved_by moves state).world
-moves_keep client [] state now may apart = now
-moves_keep client (move ∷ moves) state now may apart =
-    moves_keep client moves (moved move state) (move_keeps client state move now may.0 (apart_here client move moves state apart)) may.1 (apart_next client move moves state apart)
+pub moves_keep : (client : ℕ) (ships : Bool) (moves : List Move) (state : State) → InStep client state.log state.world → AllPossible client ships state moves → IsApart client moves state → InStep client (moved_by moves state).log (moved_by moves state).world
+moves_keep client ships [] state now may apart = now
+moves_keep client ships (move ∷ moves) state now may apart =
+    moves_keep client ships moves (moved move state) (move_keeps client ships state move now may.0 (apart_here client move moves state apart)) may.1 (apart_next client move moves state apart)
 
 -- ---- and so does what is kept
 
-kept_moves : (client : ℕ) (state : State) (move : Move) → AreInStep client state → IsPossible client state move → HasNoCollision client state.kept.pending (moved move state).world.packets → InStep client (moved move state).kept (moved move state).world
-kept_moves client state (Network step) now may none = (steps_on client state.kept state.world step now.kept (allowed_kept client state step may) none).in_step
-kept_moves client state (Notes ask) now may none = noted_in_step client state.kept state.world (ask ∷ []) now.kept
-kept_moves client state (Logs entry) now may none = now.kept
-kept_moves client state (Acknowledges reply) now may none = now.kept
-kept_moves client state (Pulls last seen) now may none = now.kept
-kept_moves client state Saves now may none = now.in_memory
+kept_moves : (client : ℕ) (ships : Bool) (state : State) (move : Move) → AreInStep client state → IsPossible client ships state move → HasNoCollision client state.kept.pending (moved move state).world.packets → InStep client (moved move state).kept (moved move state).world
+kept_moves client ships state (Network step) now may none = (steps_on client ships state.kept state.world step now.kept (allowed_kept client ships state step may) none).in_step
+kept_moves client ships state (Notes ask) now may none = noted_in_step client state.kept state.world (ask ∷ []) now.kept
+kept_moves client ships state (Logs entry) now may none = now.kept
+kept_moves client ships state (Acknowledges reply) now may none = now.kept
+kept_moves client ships state (Pulls last seen) now may none = now.kept
+kept_moves client ships state Saves now may none = now.in_memory
 
-both_keep : (client : ℕ) (state : State) (move : Move) → AreInStep client state → IsPossible client state move
+both_keep : (client : ℕ) (ships : Bool) (state : State) (move : Move) → AreInStep client state → IsPossible client ships state move
     → HasNoCollision client state.log.pending (moved move state).world.packets → HasNoCollision client state.kept.pending (moved move state).world.packets → AreInStep client (moved move state)
-both_keep client state move now may none none_kept = record { in_memory = move_keeps client state move now.in_memory may none; kept = kept_moves client state move now may none_kept }
+both_keep client ships state move now may none none_kept = record { in_memory = move_keeps client ships state move now.in_memory may none; kept = kept_moves client ships state move now may none_kept }
 
 -- both logs stay in step in the first of some moves
-keep_first : (client : ℕ) (move : Move) (moves : List Move) (state : State) → AreInStep client state → IsPossible client state move → AreApart client (move ∷ moves) state → AreInStep client (moved move state)
-keep_first client move moves state now may apart =
-    both_keep client state move now may (apart_here client move moves state (apart_in_memory client (move ∷ moves) state apart)) (kept_apart client move moves state apart)
+keep_first : (client : ℕ) (ships : Bool) (move : Move) (moves : List Move) (state : State) → AreInStep client state → IsPossible client ships state move → AreApart client (move ∷ moves) state → AreInStep client (moved move state)
+keep_first client ships move moves state now may apart =
+    both_keep client ships state move now may (apart_here client move moves state (apart_in_memory client (move ∷ moves) state apart)) (kept_apart client move moves state apart)
 
-moves_keep_both : (client : ℕ) (moves : List Move) (state : State) → AreInStep client state → AllPossible client state moves → AreApart client moves state → AreInStep client (moved_by moves state)
-moves_keep_both client [] state now may apart = now
-moves_keep_both client (move ∷ moves) state now may apart =
-    moves_keep_both client moves (moved move state) (keep_first client move moves state now may.0 apart) may.1 (both_apart client move moves state apart)
+moves_keep_both : (client : ℕ) (ships : Bool) (moves : List Move) (state : State) → AreInStep client state → AllPossible client ships state moves → AreApart client moves state → AreInStep client (moved_by moves state)
+moves_keep_both client ships [] state now may apart = now
+moves_keep_both client ships (move ∷ moves) state now may apart =
+    moves_keep_both client ships moves (moved move state) (keep_first client ships move moves state now may.0 apart) may.1 (both_apart client move moves state apart)
 
 -- ---- the taken stores of the client are its entries, in order
 
@@ -230,30 +230,30 @@ module _ (client acked first : ℕ) (low : acked ≤ first) where
   InOrder-nil : (state : State) (entered : List Entry) (taken : List Message) → InOrder state entered taken → InOrder state (entered ++ []) (taken ++ [])
   InOrder-nil state entered taken told = subst (λ es. InOrder state es (taken ++ [])) (sym (append-nil entered)) (subst (λ ms. InOrder state entered ms) (sym (append-nil taken)) told)
 
-  move_in_order : (state : State) (move : Move) (entered : List Entry) (taken : List Message)
-      → InStep client state.log state.world → IsPossible client state move → HasNoCollision client state.log.pending (moved move state).world.packets
+  move_in_order : (ships : Bool) (state : State) (move : Move) (entered : List Entry) (taken : List Message)
+      → InStep client state.log state.world → IsPossible client ships state move → HasNoCollision client state.log.pending (moved move state).world.packets
       → InOrder state entered taken → InOrder (moved move state) (entered ++ entry_in move) (taken ++ taken_in_move move state)
-  move_in_order state (Network step) entered taken now may none told =
-      let on = steps_on client state.log state.world step now (allowed_log client state step may) none in
+  move_in_order ships state (Network step) entered taken now may none told =
+      let on = steps_on client ships state.log state.world step now (allowed_log client ships state step may) none in
       subst (λ es. InOrder (moved (Network step) state) es (taken ++ taken_by step state.world.served)) (sym (append-nil entered))
       (step_in_order state step entered taken (taken_by step state.world.served) on.takes told)
-  move_in_order state (Notes ask) entered taken now may none told =
+  move_in_order ships state (Notes ask) entered taken now may none told =
       InOrder-nil _ entered taken (record { above = told.above; within = told.within; last_above = told.last_above; pending = told.pending; own_taken = told.own_taken })
-  move_in_order state (Logs entry) entered taken now may none told = logs_in_order state entry entered taken now told
-  move_in_order state (Acknowledges reply) entered taken now may none told = InOrder-nil _ entered taken (acknowledged_in_order state.world state.kept state.log.acked state.log.base state.log.pending entered taken may.0 told)
-  move_in_order state (Pulls last seen) entered taken now may none told =
+  move_in_order ships state (Logs entry) entered taken now may none told = logs_in_order state entry entered taken now told
+  move_in_order ships state (Acknowledges reply) entered taken now may none told = InOrder-nil _ entered taken (acknowledged_in_order state.world state.kept state.log.acked state.log.base state.log.pending entered taken may.0 told)
+  move_in_order ships state (Pulls last seen) entered taken now may none told =
       InOrder-nil _ entered taken (record { above = told.above; within = told.within; last_above = told.last_above; pending = told.pending; own_taken = told.own_taken })
-  move_in_order state Saves entered taken now may none told =
+  move_in_order ships state Saves entered taken now may none told =
       InOrder-nil _ entered taken (record { above = told.above; within = told.within; last_above = told.last_above; pending = told.pending; own_taken = told.own_taken })
 
-  moves_in_order : (moves : List Move) (state : State) (entered : List Entry) (taken : List Message)
-      → InStep client state.log state.world → AllPossible client state moves → IsApart client moves state
+  moves_in_order : (ships : Bool) (moves : List Move) (state : State) (entered : List Entry) (taken : List Message)
+      → InStep client state.log state.world → AllPossible client ships state moves → IsApart client moves state
       → InOrder state entered taken → InOrder (moved_by moves state) (entered ++ entries_in moves) (taken ++ taken_in moves state)
-  moves_in_order [] state entered taken now may apart told = InOrder-nil state entered taken told
-  moves_in_order (move ∷ moves) state entered taken now may apart told =
+  moves_in_order ships [] state entered taken now may apart told = InOrder-nil state entered taken told
+  moves_in_order ships (move ∷ moves) state entered taken now may apart told =
       let none = apart_here client move moves state apart in
-      let rest = moves_in_order moves (moved move state) (entered ++ entry_in move) (taken ++ taken_in_move move state)
-      (move_keeps client state move now may.0 none) may.1 (apart_next client move moves state apart) (move_in_order state move entered taken now may.0 none told) in
+      let rest = moves_in_order ships moves (moved move state) (entered ++ entry_in move) (taken ++ taken_in_move move state)
+      (move_keeps client ships state move now may.0 none) may.1 (apart_next client move moves state apart) (move_in_order ships state move entered taken now may.0 none told) in
       subst (λ es. InOrder (moved_by moves (moved move state)) es (taken ++ taken_in (move ∷ moves) state)) (append_assoc entered (entry_in move) (entries_in moves))
       (subst (λ ms. InOrder (moved_by moves (moved move state)) ((entered ++ entry_in move) ++ entries_in moves) ms) (append_assoc taken (taken_in_move move state) (taken_in moves (moved move state))) rest)
 
@@ -286,66 +286,66 @@ pulled_same client log seen last volume packets upto path none among newer now e
 abbrev pub AllSpare : ℕ → FilePath → List Message → Type 0
 AllSpare client path taken = (message : Message) → IsIn message taken → client_of message ≢ client → Spares path message
 
-move_spares : (client : ℕ) (path : FilePath) (state : State) (move : Move) → AllSpare client path (taken_in_move move state)
-    → InStep client state.log state.world → IsPossible client state move → HasNoCollision client state.log.pending (moved move state).world.packets
+move_spares : (client : ℕ) (ships : Bool) (path : FilePath) (state : State) (move : Move) → AllSpare client path (taken_in_move move state)
+    → InStep client state.log state.world → IsPossible client ships state move → HasNoCollision client state.log.pending (moved move state).world.packets
     → IsSameVersion client state.log state.world path → IsSameVersion client (moved move state).log (moved move state).world path
-move_spares client path state (Network step) spare now may none same = (steps_on client state.log state.world step now (allowed_log client state step may) none).same path spare same
-move_spares client path state (Notes ask) spare now may none same = same
-move_spares client path state (Logs entry) spare now may none same = ap (λ t. version_at t path) (tree_at-logged client state.log _ _ _ (agree client state.log state.world now) entry) ∙ same
-move_spares client path state (Acknowledges reply) spare now may none same =
+move_spares client ships path state (Network step) spare now may none same = (steps_on client ships state.log state.world step now (allowed_log client ships state step may) none).same path spare same
+move_spares client ships path state (Notes ask) spare now may none same = same
+move_spares client ships path state (Logs entry) spare now may none same = ap (λ t. version_at t path) (tree_at-logged client state.log _ _ _ (agree client state.log state.world now) entry) ∙ same
+move_spares client ships path state (Acknowledges reply) spare now may none same =
     acknowledged_same client state.log.acked state.log.base state.log.pending _ _ _ path may.0
     (accepted_at_most client state.log state.world (state.log.acked + 1) reply now may.1 may.2) (agree client state.log state.world now) same
-move_spares client path state (Pulls last seen) spare now may none same = pulled_same client state.log seen _ _ _ last path may.0 may.2 (may.3 path) (agree client state.log state.world now) same
-move_spares client path state Saves spare now may none same = same
+move_spares client ships path state (Pulls last seen) spare now may none same = pulled_same client state.log seen _ _ _ last path may.0 may.2 (may.3 path) (agree client state.log state.world now) same
+move_spares client ships path state Saves spare now may none same = same
 
-moves_spare : (client : ℕ) (path : FilePath) (moves : List Move) (state : State) → AllSpare client path (taken_in moves state)
-    → InStep client state.log state.world → AllPossible client state moves → IsApart client moves state
+moves_spare : (client : ℕ) (ships : Bool) (path : FilePath) (moves : List Move) (state : State) → AllSpare client path (taken_in moves state)
+    → InStep client state.log state.world → AllPossible client ships state moves → IsApart client moves state
     → IsSameVersion client state.log state.world path → IsSameVersion client (moved_by moves state).log (moved_by moves state).world path
-moves_spare client path [] state spare now may apart same = same
-moves_spare client path (move ∷ moves) state spare now may apart same =
+moves_spare client ships path [] state spare now may apart same = same
+moves_spare client ships path (move ∷ moves) state spare now may apart same =
     let none = apart_here client move moves state apart in
-    let next = move_keeps client state move now may.0 none in
-    let same_next = move_spares client path state move (λ message among. spare message (IsIn-left message _ _ among)) now may.0 none same in
-    moves_spare client path moves (moved move state) (λ message among. spare message (IsIn-right message _ _ among)) next may.1 (apart_next client move moves state apart) same_next
+    let next = move_keeps client ships state move now may.0 none in
+    let same_next = move_spares client ships path state move (λ message among. spare message (IsIn-left message _ _ among)) now may.0 none same in
+    moves_spare client ships path moves (moved move state) (λ message among. spare message (IsIn-right message _ _ among)) next may.1 (apart_next client move moves state apart) same_next
 
 -- what is kept has the path's version, too
-kept_spares : (client : ℕ) (path : FilePath) (state : State) (move : Move) → AllSpare client path (taken_in_move move state) → AreInStep client state → IsPossible client state move
+kept_spares : (client : ℕ) (ships : Bool) (path : FilePath) (state : State) (move : Move) → AllSpare client path (taken_in_move move state) → AreInStep client state → IsPossible client ships state move
     → HasNoCollision client state.kept.pending (moved move state).world.packets → IsSameVersion client state.log state.world path → IsSameVersion client state.kept state.world path → IsSameVersion client (moved move state).kept (moved move state).world path
-kept_spares client path state (Network step) spare now may none same kept = (steps_on client state.kept state.world step now.kept (allowed_kept client state step may) none).same path spare kept
-kept_spares client path state (Notes ask) spare now may none same kept = kept
-kept_spares client path state (Logs entry) spare now may none same kept = kept
-kept_spares client path state (Acknowledges reply) spare now may none same kept = kept
-kept_spares client path state (Pulls last seen) spare now may none same kept = kept
-kept_spares client path state Saves spare now may none same kept = same
+kept_spares client ships path state (Network step) spare now may none same kept = (steps_on client ships state.kept state.world step now.kept (allowed_kept client ships state step may) none).same path spare kept
+kept_spares client ships path state (Notes ask) spare now may none same kept = kept
+kept_spares client ships path state (Logs entry) spare now may none same kept = kept
+kept_spares client ships path state (Acknowledges reply) spare now may none same kept = kept
+kept_spares client ships path state (Pulls last seen) spare now may none same kept = kept
+kept_spares client ships path state Saves spare now may none same kept = same
 
-kept_moves_spare : (client : ℕ) (path : FilePath) (moves : List Move) (state : State) → AllSpare client path (taken_in moves state) → AreInStep client state → AllPossible client state moves → AreApart client moves state
+kept_moves_spare : (client : ℕ) (ships : Bool) (path : FilePath) (moves : List Move) (state : State) → AllSpare client path (taken_in moves state) → AreInStep client state → AllPossible client ships state moves → AreApart client moves state
     → IsSameVersion client state.log state.world path → IsSameVersion client state.kept state.world path → IsSameVersion client (moved_by moves state).kept (moved_by moves state).world path
-kept_moves_spare client path [] state spare now may apart same kept = kept
-kept_moves_spare client path (move ∷ moves) state spare now may apart same kept =
+kept_moves_spare client ships path [] state spare now may apart same kept = kept
+kept_moves_spare client ships path (move ∷ moves) state spare now may apart same kept =
     let first = λ (message : Message) (among : IsIn message (taken_in_move move state)). spare message (IsIn-left message _ _ among) in
-    kept_moves_spare client path moves (moved move state) (λ message among. spare message (IsIn-right message _ _ among)) (keep_first client move moves state now may.0 apart) may.1
+    kept_moves_spare client ships path moves (moved move state) (λ message among. spare message (IsIn-right message _ _ among)) (keep_first client ships move moves state now may.0 apart) may.1
     (both_apart client move moves state apart)
-    (move_spares client path state move first now.in_memory may.0 (apart_here client move moves state (apart_in_memory client (move ∷ moves) state apart)) same)
-    (kept_spares client path state move first now may.0 (kept_apart client move moves state apart) same kept)
+    (move_spares client ships path state move first now.in_memory may.0 (apart_here client move moves state (apart_in_memory client (move ∷ moves) state apart)) same)
+    (kept_spares client ships path state move first now may.0 (kept_apart client move moves state apart) same kept)
 
 -- ---- whole runs
 
-pub both_in_step : (client : ℕ) (entries : List Entry) (made : List Ask) (old new : State) → AreInStep client old → Runs client entries made old new
+pub both_in_step : (client : ℕ) (ships : Bool) (entries : List Entry) (made : List Ask) (old new : State) → AreInStep client old → Runs client ships entries made old new
     → HasNoCollision client (old.kept.pending ++ (old.log.pending ++ entries)) new.world.packets → AreInStep client new
-both_in_step client entries made old new now runs none =
-    subst (AreInStep client) (sym runs.result) (moves_keep_both client runs.moves old now runs.possible (run_both_apart client entries made old new runs none))
+both_in_step client ships entries made old new now runs none =
+    subst (AreInStep client) (sym runs.result) (moves_keep_both client ships runs.moves old now runs.possible (run_both_apart client ships entries made old new runs none))
 
 pub restarts : (client : ℕ) (state : State) → AreInStep client state → AreInStep client (restarted state)
 restarts client state now = record { in_memory = now.kept; kept = now.kept }
 
-pub runs_in_step : (client : ℕ) (entries : List Entry) (made : List Ask) (old new : State) → InStep client old.log old.world → Runs client entries made old new
+pub runs_in_step : (client : ℕ) (ships : Bool) (entries : List Entry) (made : List Ask) (old new : State) → InStep client old.log old.world → Runs client ships entries made old new
     → HasNoCollision client (old.log.pending ++ entries) new.world.packets → InStep client new.log new.world
-runs_in_step client entries made old new now runs none =
-    subst (λ s. InStep client s.log s.world) (sym runs.result) (moves_keep client runs.moves old now runs.possible (run_apart client entries made old new runs none))
+runs_in_step client ships entries made old new now runs none =
+    subst (λ s. InStep client s.log s.world) (sym runs.result) (moves_keep client ships runs.moves old now runs.possible (run_apart client ships entries made old new runs none))
 
-in_order_at_end : (client : ℕ) (entries : List Entry) (made : List Ask) (old new : State) (now : InStep client old.log old.world) → (runs : Runs client entries made old new)
+in_order_at_end : (client : ℕ) (ships : Bool) (entries : List Entry) (made : List Ask) (old new : State) (now : InStep client old.log old.world) → (runs : Runs client ships entries made old new)
     → HasNoCollision client (old.log.pending ++ entries) new.world.packets → InOrder client old.log.acked (old.world.served.last client) now.not_lower new (old.log.pending ++ entries) (taken_in runs.moves old)
-in_order_at_end client entries made old new now runs none =
+in_order_at_end client ships entries made old new now runs none =
     let acked = old.log.acked in
     let last = old.world.served.last client in
     let zero_is : acked - acked ≡ 0 = omega arith in
@@ -360,42 +360,42 @@ in_order_at_end client entries made old new now runs none =
     } in
     subst (λ es. InOrder client acked last now.not_lower new (old.log.pending ++ es) (taken_in runs.moves old)) runs.entries
     (subst (λ s. InOrder client acked last now.not_lower s (old.log.pending ++ entries_in runs.moves) (taken_in runs.moves old)) (sym runs.result)
-    (moves_in_order client acked last now.not_lower runs.moves old old.log.pending [] now runs.possible (run_apart client entries made old new runs none) told))
+    (moves_in_order client acked last now.not_lower ships runs.moves old old.log.pending [] now runs.possible (run_apart client ships entries made old new runs none) told))
 
-pub entries_in_order : (client : ℕ) (entries : List Entry) (made : List Ask) (old new : State) → InStep client old.log old.world → (runs : Runs client entries made old new)
+pub entries_in_order : (client : ℕ) (ships : Bool) (entries : List Entry) (made : List Ask) (old new : State) → InStep client old.log old.world → (runs : Runs client ships entries made old new)
     → HasNoCollision client (old.log.pending ++ entries) new.world.packets
     → own client (taken_in runs.moves old) ≡ stores_between client old.log.acked (old.world.served.last client) (new.world.served.last client) (old.log.pending ++ entries)
-entries_in_order client entries made old new now runs none = (in_order_at_end client entries made old new now runs none).own_taken
+entries_in_order client ships entries made old new now runs none = (in_order_at_end client ships entries made old new now runs none).own_taken
 
-pub pending_later : (client : ℕ) (entries : List Entry) (made : List Ask) (old new : State) → InStep client old.log old.world → Runs client entries made old new → HasNoCollision client (old.log.pending ++ entries) new.world.packets
+pub pending_later : (client : ℕ) (ships : Bool) (entries : List Entry) (made : List Ask) (old new : State) → InStep client old.log old.world → Runs client ships entries made old new → HasNoCollision client (old.log.pending ++ entries) new.world.packets
     → (old.log.acked ≤ new.log.acked) × (new.log.pending ≡ drop (new.log.acked - old.log.acked) (old.log.pending ++ entries))
-pending_later client entries made old new now runs none = let told = in_order_at_end client entries made old new now runs none in (told.above, told.pending)
+pending_later client ships entries made old new now runs none = let told = in_order_at_end client ships entries made old new now runs none in (told.above, told.pending)
 
 -- no entry is lost: the last number, acknowledged or pending, grew by those that were logged
-pub counted_later : (client : ℕ) (entries : List Entry) (made : List Ask) (old new : State) → InStep client old.log old.world → Runs client entries made old new → HasNoCollision client (old.log.pending ++ entries) new.world.packets
+pub counted_later : (client : ℕ) (ships : Bool) (entries : List Entry) (made : List Ask) (old new : State) → InStep client old.log old.world → Runs client ships entries made old new → HasNoCollision client (old.log.pending ++ entries) new.world.packets
     → new.log.acked + length new.log.pending ≡ old.log.acked + length old.log.pending + length entries
-counted_later client entries made old new now runs none =
-    let told = in_order_at_end client entries made old new now runs none in
+counted_later client ships entries made old new now runs none =
+    let told = in_order_at_end client ships entries made old new now runs none in
     omega (arith, told.above, told.within, ap length told.pending, length-drop (new.log.acked - old.log.acked) (old.log.pending ++ entries), length-append old.log.pending entries)
 
-pub path_is_same : (client : ℕ) (entries : List Entry) (made : List Ask) (old new : State) (path : FilePath) → InStep client old.log old.world → (runs : Runs client entries made old new)
+pub path_is_same : (client : ℕ) (ships : Bool) (entries : List Entry) (made : List Ask) (old new : State) (path : FilePath) → InStep client old.log old.world → (runs : Runs client ships entries made old new)
     → version_at old.world.served.volume path ≡ version_at (tree_at (old.world.served.last client) old.log) path → AllSpare client path (taken_in runs.moves old)
     → HasNoCollision client (old.log.pending ++ entries) new.world.packets → IsSameAt client new.log new.world path
-path_is_same client entries made old new path now runs e spare none =
-    let same = moves_spare client path runs.moves old spare now runs.possible (run_apart client entries made old new runs none) (sym e) in
+path_is_same client ships entries made old new path now runs e spare none =
+    let same = moves_spare client ships path runs.moves old spare now runs.possible (run_apart client ships entries made old new runs none) (sym e) in
     let same_new = subst (λ s. IsSameVersion client s.log s.world path) (sym runs.result) same in
-    let end = runs_in_step client entries made old new now runs none in
+    let end = runs_in_step client ships entries made old new now runs none in
     record { version = sym same_new; node = sym (end.behind.nodes path same_new) }
 
-pub path_is_kept : (client : ℕ) (entries : List Entry) (made : List Ask) (old new : State) (path : FilePath) → AreInStep client old → old.kept ≡ old.log → (runs : Runs client entries made old new)
+pub path_is_kept : (client : ℕ) (ships : Bool) (entries : List Entry) (made : List Ask) (old new : State) (path : FilePath) → AreInStep client old → old.kept ≡ old.log → (runs : Runs client ships entries made old new)
     → version_at old.world.served.volume path ≡ version_at (tree_at (old.world.served.last client) old.log) path → AllSpare client path (taken_in runs.moves old)
     → HasNoCollision client (old.log.pending ++ entries) new.world.packets → IsSameAt client new.kept new.world path
-path_is_kept client entries made old new path now begins runs e spare none =
+path_is_kept client ships entries made old new path now begins runs e spare none =
     let none_kept = kept_none client entries old new begins none in
     let same_kept = subst (λ log. IsSameVersion client log old.world path) (sym begins) (sym e) in
-    let same = kept_moves_spare client path runs.moves old spare now runs.possible (run_both_apart client entries made old new runs none_kept) (sym e) same_kept in
+    let same = kept_moves_spare client ships path runs.moves old spare now runs.possible (run_both_apart client ships entries made old new runs none_kept) (sym e) same_kept in
     let same_new = subst (λ s. IsSameVersion client s.kept s.world path) (sym runs.result) same in
-    let end = (both_in_step client entries made old new now runs none_kept).kept in
+    let end = (both_in_step client ships entries made old new now runs none_kept).kept in
     record { version = sym same_new; node = sym (end.behind.nodes path same_new) }
 
 -- ---- a client that writes alone
@@ -416,21 +416,21 @@ served_tree client log world now at =
     sym (same_volume (tree_at (world.served.last client) log) world.served.volume now.behind (tree_at-tree (world.served.last client) log now.log_is) now.served_is.tree
     (λ path. omega (arith, (at path).version)))
 
-pub lone_tree : (client : ℕ) (entries : List Entry) (made : List Ask) (old new : State) → InStep client old.log old.world → (runs : Runs client entries made old new)
+pub lone_tree : (client : ℕ) (ships : Bool) (entries : List Entry) (made : List Ask) (old new : State) → InStep client old.log old.world → (runs : Runs client ships entries made old new)
     → ((message : Message) → IsIn message (taken_in runs.moves old) → client_of message ≡ client)
     → old.world.served.volume ≡ tree_at (old.world.served.last client) old.log → HasNoCollision client (old.log.pending ++ entries) new.world.packets
     → new.world.served.volume ≡ tree_at (new.world.served.last client) new.log
-lone_tree client entries made old new now runs alone same none =
-    served_tree client new.log new.world (runs_in_step client entries made old new now runs none)
-    (λ path. path_is_same client entries made old new path now runs (ap (λ v. version_at v path) same) (λ message among differ. absurd (differ (alone message among))) none)
+lone_tree client ships entries made old new now runs alone same none =
+    served_tree client new.log new.world (runs_in_step client ships entries made old new now runs none)
+    (λ path. path_is_same client ships entries made old new path now runs (ap (λ v. version_at v path) same) (λ message among differ. absurd (differ (alone message among))) none)
 
-pub lone_kept : (client : ℕ) (entries : List Entry) (made : List Ask) (old new : State) → AreInStep client old → old.kept ≡ old.log → (runs : Runs client entries made old new)
+pub lone_kept : (client : ℕ) (ships : Bool) (entries : List Entry) (made : List Ask) (old new : State) → AreInStep client old → old.kept ≡ old.log → (runs : Runs client ships entries made old new)
     → ((message : Message) → IsIn message (taken_in runs.moves old) → client_of message ≡ client)
     → old.world.served.volume ≡ tree_at (old.world.served.last client) old.log → HasNoCollision client (old.log.pending ++ entries) new.world.packets
     → new.world.served.volume ≡ tree_at (new.world.served.last client) new.kept
-lone_kept client entries made old new now begins runs alone same none =
-    served_tree client new.kept new.world (both_in_step client entries made old new now runs (kept_none client entries old new begins none)).kept
-    (λ path. path_is_kept client entries made old new path now begins runs (ap (λ v. version_at v path) same) (λ message among differ. absurd (differ (alone message among))) none)
+lone_kept client ships entries made old new now begins runs alone same none =
+    served_tree client new.kept new.world (both_in_step client ships entries made old new now runs (kept_none client entries old new begins none)).kept
+    (λ path. path_is_kept client ships entries made old new path now begins runs (ap (λ v. version_at v path) same) (λ message among differ. absurd (differ (alone message among))) none)
 
 test_is : (client : ℕ) (message : Message) → client_of message ≡ client → (client_of message == client) ≡ true
 test_is client message is = grind (arith, nat_tests)
@@ -441,10 +441,10 @@ own-all client (message ∷ messages) alone =
     let P : Bool → Type 0 = λ b. (if b then message ∷ own client messages else own client messages) ≡ message ∷ messages in
     subst P (sym (test_is client message (alone message (inl refl)))) (ap (λ rest. message ∷ rest) (own-all client messages (λ other among. alone other (inr among))))
 
-pub lone_entries : (client : ℕ) (entries : List Entry) (made : List Ask) (old new : State) → InStep client old.log old.world → (runs : Runs client entries made old new)
+pub lone_entries : (client : ℕ) (ships : Bool) (entries : List Entry) (made : List Ask) (old new : State) → InStep client old.log old.world → (runs : Runs client ships entries made old new)
     → ((message : Message) → IsIn message (taken_in runs.moves old) → client_of message ≡ client) → HasNoCollision client (old.log.pending ++ entries) new.world.packets
     → taken_in runs.moves old ≡ stores_between client old.log.acked (old.world.served.last client) (new.world.served.last client) (old.log.pending ++ entries)
-lone_entries client entries made old new now runs alone none = sym (own-all client (taken_in runs.moves old) alone) ∙ entries_in_order client entries made old new now runs none
+lone_entries client ships entries made old new now runs alone none = sym (own-all client (taken_in runs.moves old) alone) ∙ entries_in_order client ships entries made old new now runs none
 
 -- ---- a new client
 
@@ -476,9 +476,9 @@ moved_by-append : (before after : List Move) (state : State) → moved_by (befor
 moved_by-append [] after state = refl
 moved_by-append (move ∷ before) after state = moved_by-append before after (moved move state)
 
-AllPossible-append : (client : ℕ) (before after : List Move) (state : State) → AllPossible client state before → AllPossible client (moved_by before state) after → AllPossible client state (before ++ after)
-AllPossible-append client [] after state first second = second
-AllPossible-append client (move ∷ before) after state first second = (first.0, AllPossible-append client before after (moved move state) first.1 second)
+AllPossible-append : (client : ℕ) (ships : Bool) (before after : List Move) (state : State) → AllPossible client ships state before → AllPossible client ships (moved_by before state) after → AllPossible client ships state (before ++ after)
+AllPossible-append client ships [] after state first second = second
+AllPossible-append client ships (move ∷ before) after state first second = (first.0, AllPossible-append client ships before after (moved move state) first.1 second)
 
 entries_in-append : (before after : List Move) → entries_in (before ++ after) ≡ entries_in before ++ entries_in after
 entries_in-append [] after = refl
@@ -488,62 +488,95 @@ asks_in-append : (before after : List Move) → asks_in (before ++ after) ≡ as
 asks_in-append [] after = refl
 asks_in-append (move ∷ before) after = ap (λ asks. ask_in move ++ asks) (asks_in-append before after) ∙ sym (append_assoc (ask_in move) (asks_in before) (asks_in after))
 
-pub runs_none : (client : ℕ) (state : State) → Runs client [] [] state state
-runs_none client state = record { moves = []; entries = refl; asks = refl; possible = tt; result = refl }
+pub runs_none : (client : ℕ) (ships : Bool) (state : State) → Runs client ships [] [] state state
+runs_none client ships state = record { moves = []; entries = refl; asks = refl; possible = tt; result = refl }
 
-pub runs_then : (client : ℕ) (es fs : List Entry) (m n : List Ask) (old mid new : State) → Runs client es m old mid → Runs client fs n mid new → Runs client (es ++ fs) (m ++ n) old new
-runs_then client es fs m n old mid new first second = record {
+pub runs_then : (client : ℕ) (ships : Bool) (es fs : List Entry) (m n : List Ask) (old mid new : State) → Runs client ships es m old mid → Runs client ships fs n mid new → Runs client ships (es ++ fs) (m ++ n) old new
+runs_then client ships es fs m n old mid new first second = record {
   moves = first.moves ++ second.moves;
   entries = entries_in-append first.moves second.moves ∙ ap (λ gs. gs ++ entries_in second.moves) first.entries ∙ ap (λ gs. es ++ gs) second.entries;
   asks = asks_in-append first.moves second.moves ∙ ap (λ asks. asks ++ asks_in second.moves) first.asks ∙ ap (λ asks. m ++ asks) second.asks;
-  possible = AllPossible-append client first.moves second.moves old first.possible (subst (λ s. AllPossible client s second.moves) first.result second.possible);
+  possible = AllPossible-append client ships first.moves second.moves old first.possible (subst (λ s. AllPossible client ships s second.moves) first.result second.possible);
   result = second.result ∙ ap (moved_by second.moves) first.result ∙ sym (moved_by-append first.moves second.moves old);
 }
 
 -- one possible move
-pub runs_once : (client : ℕ) (state : State) (move : Move) → IsPossible client state move → Runs client (entry_in move) (ask_in move) state (moved move state)
-runs_once client state move may = record { moves = move ∷ []; entries = append-nil (entry_in move); asks = append-nil (ask_in move); possible = (may, tt); result = refl }
+pub runs_once : (client : ℕ) (ships : Bool) (state : State) (move : Move) → IsPossible client ships state move → Runs client ships (entry_in move) (ask_in move) state (moved move state)
+runs_once client ships state move may = record { moves = move ∷ []; entries = append-nil (entry_in move); asks = append-nil (ask_in move); possible = (may, tt); result = refl }
+
+-- ---- a client that may ship more
+
+may_send_more : (client : ℕ) (ships more : Bool) (log : Log) (message : Message) → (IsTrue ships → IsTrue more) → MaySend client ships log message → MaySend client more log message
+may_send_more client ships more log (Store of number effects base) grows may = may
+may_send_more client ships more log (Operate of sketched) grows may = (may.0, may.1, may.2, grows may.3)
+may_send_more client ships more log (Pull of number) grows may = may
+may_send_more client ships more log _ grows may = absurd may
+
+allowed_more : (client : ℕ) (ships more : Bool) (state : State) (step : Step) → (IsTrue ships → IsTrue more) → IsAllowed (MaySendKept client ships state) state.world step → IsAllowed (MaySendKept client more state) state.world step
+allowed_more client ships more state (Send message) grows may = (may_send_more client ships more state.log message grows may.0, may.1)
+allowed_more client ships more state (Deliver message joins) grows may = may
+allowed_more client ships more state (Other message) grows may = may
+allowed_more client ships more state (Relay message) grows may = may
+
+possible_more : (client : ℕ) (ships more : Bool) (state : State) (move : Move) → (IsTrue ships → IsTrue more) → IsPossible client ships state move → IsPossible client more state move
+possible_more client ships more state (Network step) grows may = allowed_more client ships more state step grows may
+possible_more client ships more state (Notes ask) grows may = may
+possible_more client ships more state (Logs entry) grows may = may
+possible_more client ships more state (Acknowledges reply) grows may = may
+possible_more client ships more state (Pulls last seen) grows may = may
+possible_more client ships more state Saves grows may = may
+
+all_more : (client : ℕ) (ships more : Bool) (moves : List Move) (state : State) → (IsTrue ships → IsTrue more) → AllPossible client ships state moves → AllPossible client more state moves
+all_more client ships more [] state grows may = tt
+all_more client ships more (move ∷ moves) state grows may = (possible_more client ships more state move grows may.0, all_more client ships more moves (moved move state) grows may.1)
+
+pub runs_more : (client : ℕ) (ships more : Bool) (entries : List Entry) (made : List Ask) (old new : State) → (IsTrue ships → IsTrue more) → Runs client ships entries made old new → Runs client more entries made old new
+runs_more client ships more entries made old new grows runs =
+    record { moves = runs.moves; entries = runs.entries; asks = runs.asks; possible = all_more client ships more runs.moves old grows runs.possible; result = runs.result }
+
+pub runs_without : (client : ℕ) (ships : Bool) (entries : List Entry) (made : List Ask) (old new : State) → Runs client false entries made old new → Runs client ships entries made old new
+runs_without client ships entries made old new runs = runs_more client false ships entries made old new (λ never. absurd (true≢false (sym never))) runs
 
 -- ---- what a link tells of one request that the kept log may send
 
-request_allowed : (client : ℕ) (log : Log) (request : Message) (world : World) (step : Step) → MaySend client log request → IsAllowed (Is request) world step → IsAllowed (MaySendKept client (kept_at log world)) world step
-request_allowed client log request world (Send message) may is = (subst (MaySend client log) (sym is) may, refl)
-request_allowed client log request world (Deliver message joins) may is = is
-request_allowed client log request world (Other message) may is = is
-request_allowed client log request world (Relay message) may is = is
+request_allowed : (client : ℕ) (ships : Bool) (log : Log) (request : Message) (world : World) (step : Step) → MaySend client ships log request → IsAllowed (Is request) world step → IsAllowed (MaySendKept client ships (kept_at log world)) world step
+request_allowed client ships log request world (Send message) may is = (subst (MaySend client ships log) (sym is) may, refl)
+request_allowed client ships log request world (Deliver message joins) may is = is
+request_allowed client ships log request world (Other message) may is = is
+request_allowed client ships log request world (Relay message) may is = is
 
-steps_run : (client : ℕ) (log : Log) (request : Message) (steps : List Step) (world : World) → MaySend client log request → AreAllowed (Is request) world steps
-    → Runs client [] [] (kept_at log world) (kept_at log (happen steps world))
-steps_run client log request [] world may are = runs_none client (kept_at log world)
-steps_run client log request (step ∷ steps) world may are =
-    runs_then client [] [] [] [] (kept_at log world) (kept_at log (happens step world)) (kept_at log (happen steps (happens step world)))
-    (runs_once client (kept_at log world) (Network step) (request_allowed client log request world step may are.0))
-    (steps_run client log request steps (happens step world) may are.1)
+steps_run : (client : ℕ) (ships : Bool) (log : Log) (request : Message) (steps : List Step) (world : World) → MaySend client ships log request → AreAllowed (Is request) world steps
+    → Runs client ships [] [] (kept_at log world) (kept_at log (happen steps world))
+steps_run client ships log request [] world may are = runs_none client ships (kept_at log world)
+steps_run client ships log request (step ∷ steps) world may are =
+    runs_then client ships [] [] [] [] (kept_at log world) (kept_at log (happens step world)) (kept_at log (happen steps (happens step world)))
+    (runs_once client ships (kept_at log world) (Network step) (request_allowed client ships log request world step may are.0))
+    (steps_run client ships log request steps (happens step world) may are.1)
 
-notes_run : (client : ℕ) (log : Log) (made : List Ask) (world : World) → ((ask : Ask) → IsIn ask made → IsIn ask.request world.packets) → AnswersStand world made → Runs client [] made (kept_at log world) (kept_at log (noted made world))
-notes_run client log [] world sent stand =
-    subst (λ w. Runs client [] [] (kept_at log world) (kept_at log w)) (sym (noted-none world)) (runs_none client (kept_at log world))
-notes_run client log (ask ∷ made) world sent stand =
-    let rest = notes_run client log made (noted (ask ∷ []) world) (λ other among. sent other (inr among)) (answers_stay made world (noted (ask ∷ []) world) (λ message among. among) stand.1) in
-    subst (λ w. Runs client [] (ask ∷ made) (kept_at log world) (kept_at log w)) (noted-noted (ask ∷ []) made world)
-    (runs_then client [] [] (ask ∷ []) made (kept_at log world) (kept_at log (noted (ask ∷ []) world)) (kept_at log (noted made (noted (ask ∷ []) world)))
-    (runs_once client (kept_at log world) (Notes ask) (sent ask (inl refl), stand.0)) rest)
+notes_run : (client : ℕ) (ships : Bool) (log : Log) (made : List Ask) (world : World) → ((ask : Ask) → IsIn ask made → IsIn ask.request world.packets) → AnswersStand world made → Runs client ships [] made (kept_at log world) (kept_at log (noted made world))
+notes_run client ships log [] world sent stand =
+    subst (λ w. Runs client ships [] [] (kept_at log world) (kept_at log w)) (sym (noted-none world)) (runs_none client ships (kept_at log world))
+notes_run client ships log (ask ∷ made) world sent stand =
+    let rest = notes_run client ships log made (noted (ask ∷ []) world) (λ other among. sent other (inr among)) (answers_stay made world (noted (ask ∷ []) world) (λ message among. among) stand.1) in
+    subst (λ w. Runs client ships [] (ask ∷ made) (kept_at log world) (kept_at log w)) (noted-noted (ask ∷ []) made world)
+    (runs_then client ships [] [] (ask ∷ []) made (kept_at log world) (kept_at log (noted (ask ∷ []) world)) (kept_at log (noted made (noted (ask ∷ []) world)))
+    (runs_once client ships (kept_at log world) (Notes ask) (sent ask (inl refl), stand.0)) rest)
 
 -- while a request is asked that the kept log may send, and what is answered stands, the world goes on by possible moves
-pub moved_by_runs : (client : ℕ) (log : Log) (request : Message) (made : List Ask) (old new : World) → MaySend client log request → MovedBy (Is request) made old new
+pub moved_by_runs : (client : ℕ) (ships : Bool) (log : Log) (request : Message) (made : List Ask) (old new : World) → MaySend client ships log request → MovedBy (Is request) made old new
     → ((ask : Ask) → IsIn ask made → IsIn ask.request new.packets) → AnswersStand new made
-    → Runs client [] made (kept_at log old) (kept_at log new)
-moved_by_runs client log request made old new may moves sent stand =
-    subst (λ w. Runs client [] made (kept_at log old) (kept_at log w)) (sym moves.result)
-    (runs_then client [] [] [] made (kept_at log old) (kept_at log (happen moves.steps old)) (kept_at log (noted made (happen moves.steps old)))
-    (steps_run client log request moves.steps old may moves.allowed)
-    (notes_run client log made (happen moves.steps old) (λ ask among. subst (λ w. IsIn ask.request w.packets) moves.result (sent ask among))
+    → Runs client ships [] made (kept_at log old) (kept_at log new)
+moved_by_runs client ships log request made old new may moves sent stand =
+    subst (λ w. Runs client ships [] made (kept_at log old) (kept_at log w)) (sym moves.result)
+    (runs_then client ships [] [] [] made (kept_at log old) (kept_at log (happen moves.steps old)) (kept_at log (noted made (happen moves.steps old)))
+    (steps_run client ships log request moves.steps old may moves.allowed)
+    (notes_run client ships log made (happen moves.steps old) (λ ask among. subst (λ w. IsIn ask.request w.packets) moves.result (sent ask among))
     (answers_stay made (noted made (happen moves.steps old)) (happen moves.steps old) (λ message among. among) (subst (λ w. AnswersStand w made) moves.result stand))))
 
-pub moved_runs : (client : ℕ) (log : Log) (request : Message) (made : List Ask) (old new : World) → MaySend client log request → Moved request made old new → AnswersStand new made
-    → Runs client [] made (kept_at log old) (kept_at log new)
-moved_runs client log request made old new may moved stand =
-    moved_by_runs client log request made old new may moved.moves
+pub moved_runs : (client : ℕ) (ships : Bool) (log : Log) (request : Message) (made : List Ask) (old new : World) → MaySend client ships log request → Moved request made old new → AnswersStand new made
+    → Runs client ships [] made (kept_at log old) (kept_at log new)
+moved_runs client ships log request made old new may moved stand =
+    moved_by_runs client ships log request made old new may moved.moves
     (λ ask among. subst (λ m. IsIn m new.packets) (sym (moved.asked ask among)) (asked_among request made old new moved (λ none. subst (IsIn ask) none among))) stand
 
 -- ---- the world's list of taken stores grows by those of the run
@@ -567,8 +600,8 @@ taken_grows [] state = sym (append-nil state.world.taken)
 taken_grows (move ∷ moves) state =
     taken_grows moves (moved move state) ∙ ap (λ ts. ts ++ taken_in moves (moved move state)) (taken_by_move move state) ∙ append_assoc state.world.taken (taken_in_move move state) (taken_in moves (moved move state))
 
-pub run_taken : (client : ℕ) (entries : List Entry) (made : List Ask) (old new : State) → (runs : Runs client entries made old new) → new.world.taken ≡ old.world.taken ++ taken_in runs.moves old
-run_taken client entries made old new runs = ap (λ s. s.world.taken) runs.result ∙ taken_grows runs.moves old
+pub run_taken : (client : ℕ) (ships : Bool) (entries : List Entry) (made : List Ask) (old new : State) → (runs : Runs client ships entries made old new) → new.world.taken ≡ old.world.taken ++ taken_in runs.moves old
+run_taken client ships entries made old new runs = ap (λ s. s.world.taken) runs.result ∙ taken_grows runs.moves old
 
 -- ---- the world's asks grow by those of the run
 
@@ -591,18 +624,18 @@ asks_grow [] state = sym (append-nil state.world.asks)
 asks_grow (move ∷ moves) state =
     asks_grow moves (moved move state) ∙ ap (λ asks. asks ++ asks_in moves) (asked_by_move move state) ∙ append_assoc state.world.asks (ask_in move) (asks_in moves)
 
-pub run_asked : (client : ℕ) (entries : List Entry) (made : List Ask) (old new : State) → Runs client entries made old new → new.world.asks ≡ old.world.asks ++ made
-run_asked client entries made old new runs = ap (λ s. s.world.asks) runs.result ∙ asks_grow runs.moves old ∙ ap (λ asks. old.world.asks ++ asks) runs.asks
+pub run_asked : (client : ℕ) (ships : Bool) (entries : List Entry) (made : List Ask) (old new : State) → Runs client ships entries made old new → new.world.asks ≡ old.world.asks ++ made
+run_asked client ships entries made old new runs = ap (λ s. s.world.asks) runs.result ∙ asks_grow runs.moves old ∙ ap (λ asks. old.world.asks ++ asks) runs.asks
 
 -- ---- each packet stays
 
-pub run_packets : (client : ℕ) (entries : List Entry) (made : List Ask) (old new : State) (message : Message) → Runs client entries made old new → IsIn message old.world.packets → IsIn message new.world.packets
-run_packets client entries made old new message runs among = subst (λ s. IsIn message s.world.packets) (sym runs.result) (packets_stay runs.moves old message among)
+pub run_packets : (client : ℕ) (ships : Bool) (entries : List Entry) (made : List Ask) (old new : State) (message : Message) → Runs client ships entries made old new → IsIn message old.world.packets → IsIn message new.world.packets
+run_packets client ships entries made old new message runs among = subst (λ s. IsIn message s.world.packets) (sym runs.result) (packets_stay runs.moves old message among)
 
 -- ---- what was answered stands
 
-module _ (client : ℕ) where
-  answer_in : (move : Move) (moves : List Move) (state : State) → IsPossible client state move → AnswersStand (moved_by moves (moved move state)).world (ask_in move)
+module _ (client : ℕ) (ships : Bool) where
+  answer_in : (move : Move) (moves : List Move) (state : State) → IsPossible client ships state move → AnswersStand (moved_by moves (moved move state)).world (ask_in move)
   answer_in (Notes ask) moves state may =
       answers_stay (ask ∷ []) state.world (moved_by moves (moved (Notes ask) state)).world (λ message among. packets_stay moves (moved (Notes ask) state) message among) (may.1, tt)
   answer_in (Network step) moves state may = tt
@@ -611,17 +644,17 @@ module _ (client : ℕ) where
   answer_in (Pulls last seen) moves state may = tt
   answer_in Saves moves state may = tt
 
-  answers_in : (moves : List Move) (state : State) → AllPossible client state moves → AnswersStand (moved_by moves state).world (asks_in moves)
+  answers_in : (moves : List Move) (state : State) → AllPossible client ships state moves → AnswersStand (moved_by moves state).world (asks_in moves)
   answers_in [] state may = tt
   answers_in (move ∷ moves) state may = answers_append (ask_in move) (asks_in moves) (moved_by moves (moved move state)).world (answer_in move moves state may.0) (answers_in moves (moved move state) may.1)
 
-  pub run_answers : (entries : List Entry) (made : List Ask) (old new : State) → Runs client entries made old new → AnswersStand new.world made
+  pub run_answers : (entries : List Entry) (made : List Ask) (old new : State) → Runs client ships entries made old new → AnswersStand new.world made
   run_answers entries made old new runs =
       subst (λ s. AnswersStand s.world made) (sym runs.result) (subst (AnswersStand (moved_by runs.moves old).world) runs.asks (answers_in runs.moves old runs.possible))
 
   -- ---- what was asked was sent
 
-  request_in : (move : Move) (moves : List Move) (state : State) (ask : Ask) → IsPossible client state move → IsIn ask (ask_in move) → IsIn ask.request (moved_by moves (moved move state)).world.packets
+  request_in : (move : Move) (moves : List Move) (state : State) (ask : Ask) → IsPossible client ships state move → IsIn ask (ask_in move) → IsIn ask.request (moved_by moves (moved move state)).world.packets
   request_in (Notes asked) moves state ask may (inl is) =
       subst (λ a. IsIn a.request (moved_by moves (moved (Notes asked) state)).world.packets) (sym is) (packets_stay moves (moved (Notes asked) state) asked.request may.0)
   request_in (Notes asked) moves state ask may (inr among) = absurd among
@@ -631,11 +664,11 @@ module _ (client : ℕ) where
   request_in (Pulls last seen) moves state ask may among = absurd among
   request_in Saves moves state ask may among = absurd among
 
-  requests_in : (moves : List Move) (state : State) (ask : Ask) → AllPossible client state moves → IsIn ask (asks_in moves) → IsIn ask.request (moved_by moves state).world.packets
+  requests_in : (moves : List Move) (state : State) (ask : Ask) → AllPossible client ships state moves → IsIn ask (asks_in moves) → IsIn ask.request (moved_by moves state).world.packets
   requests_in [] state ask may among = absurd among
   requests_in (move ∷ moves) state ask may among =
       ⊎_elim (λ here. request_in move moves state ask may.0 here) (λ later. requests_in moves (moved move state) ask may.1 later) (in_either ask (ask_in move) (asks_in moves) among)
 
-  pub run_requests : (entries : List Entry) (made : List Ask) (old new : State) (ask : Ask) → Runs client entries made old new → IsIn ask made → IsIn ask.request new.world.packets
+  pub run_requests : (entries : List Entry) (made : List Ask) (old new : State) (ask : Ask) → Runs client ships entries made old new → IsIn ask made → IsIn ask.request new.world.packets
   run_requests entries made old new ask runs among =
       subst (λ s. IsIn ask.request s.world.packets) (sym runs.result) (requests_in runs.moves old ask runs.possible (subst (IsIn ask) (sym runs.asks) among))

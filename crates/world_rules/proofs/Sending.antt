@@ -1,6 +1,6 @@
 -- What a client may send is valid.
 use Rattle.std.proofs.Common.{◌≡◌, inl, inr, ℕ, ◌+◌, ◌≤◌, true, List, [], ◌∷◌, ◌++◌, length, map, refl, sym, ap, subst, arith}
-use Rattle.std.specs.Prelude.{nat_le, ◌&&◌}
+use Rattle.std.specs.Prelude.{Bool, nat_le, ◌&&◌}
 use Rattle.std.specs.List.{AllByRecursion}
 use Rattle.std.proofs.lemmas.Bool.Decides.{nat_tests}
 use Rattle.file_paths.specs.Path.{FilePath, IsPath}
@@ -14,10 +14,14 @@ use Rattle.tree_values.specs.declared.node.Base.{Base}
 use Rattle.tree_values.proofs.Distinct.{in_distinct}
 use Rattle.vol_tree.proofs.Behind.{applied_all-tree}
 use Rattle.mod_log.specs.declared.log.Entry.{Entry}
+use Rattle.mod_log.specs.declared.sketching.SketchEntry.{SketchEntry}
 use Rattle.mod_log.specs.Log.{Log, IsLog, IsEntryOf, AreEntriesOf}
+use Rattle.mod_log.specs.Origin.{MadeByFits}
+use Rattle.mod_log.specs.Sketched.{IsSketchOf}
 use Rattle.wire_frames.specs.declared.message.Message.{Message}
-use Rattle.wire_frames.specs.declared.message.Message.TheVariants.{Store, Pull}
+use Rattle.wire_frames.specs.declared.message.Message.TheVariants.{Store, Operate, Pull}
 use Rattle.wire_frames.specs.Frame.{IsValid}
+use Rattle.wire_frames.proofs.Standing.{sketched_stores}
 use Rattle.world_rules.specs.InStep.{MaySend}
 use Rattle.world_rules.proofs.Replies.{legal_effects, version-small}
 
@@ -96,16 +100,33 @@ module _ (client : ℕ) (low : 1 ≤ client) (high : client ≤ 64) where
   pub pending_valid : (log : Log) (entry : Entry) → IsLog log → IsIn entry log.pending → IsValid (Store client entry.seq entry.effects entry.base)
   pending_valid log entry log_is among = stores_valid (log.acked + 1) log.base log.pending entry (omega arith) (omega (arith, log_is.last)) log_is.base_is log_is.entries among
 
-pub sent_valid : (client acked : ℕ) (tree : Volume) (pending : List Entry) (message : Message) → 1 ≤ client → client ≤ 64 → IsLog (record { acked = acked; base = tree; pending = pending })
-    → MaySend client (record { acked = acked; base = tree; pending = pending }) message → IsValid message
-sent_valid client acked tree pending (Store of number effects base) low high log_is may =
+-- ---- operations
+
+-- what made an entry has a spelling
+made_each : (number : ℕ) (tree : Volume) (entries : List Entry) (entry : Entry) → AreEntriesOf number tree entries → IsIn entry entries → MadeByFits entry.origin
+made_each number tree [] entry are among = absurd among
+made_each number tree (first ∷ entries) entry are (inl is) = subst (λ (e : Entry). MadeByFits e.origin) (sym is) are.0.origin_fits
+made_each number tree (first ∷ entries) entry are (inr among) = made_each (number + 1) (changed_all first.effects tree) entries entry are.1 among
+
+pub operation_valid : (client : ℕ) → 1 ≤ client → client ≤ 64 → (log : Log) (entry : Entry) (sketched : SketchEntry) → IsLog log → IsIn entry log.pending → IsSketchOf entry sketched → IsValid (Operate client sketched)
+operation_valid client low high log entry sketched log_is among is =
+    sketched_stores client entry sketched (pending_valid client low high log entry log_is among) (made_each (log.acked + 1) log.base log.pending entry log_is.entries among) is
+
+-- ---- what a client sends
+
+pub sent_valid : (client : ℕ) (ships : Bool) (acked : ℕ) (tree : Volume) (pending : List Entry) (message : Message) → 1 ≤ client → client ≤ 64 → IsLog (record { acked = acked; base = tree; pending = pending })
+    → MaySend client ships (record { acked = acked; base = tree; pending = pending }) message → IsValid message
+sent_valid client ships acked tree pending (Store of number effects base) low high log_is may =
     let at = may.2 in
     let same : Store client at.0.seq at.0.effects at.0.base ≡ Store of number effects base = λ i. Store (sym may.0 i) (at.2 i) (sym at.3 i) (sym at.4 i) in
     subst IsValid same (pending_valid client low high (record { acked = acked; base = tree; pending = pending }) at.0 log_is at.1)
-sent_valid client acked tree pending (Pull of number) low high log_is may = record {
+sent_valid client ships acked tree pending (Operate of sketched) low high log_is may =
+    subst (λ (c : ℕ). IsValid (Operate c sketched)) (sym may.0)
+    (operation_valid client low high (record { acked = acked; base = tree; pending = pending }) may.2.0 sketched log_is may.2.1 may.2.2)
+sent_valid client ships acked tree pending (Pull of number) low high log_is may = record {
   client_fits = subst (λ c. (nat_le 1 c && nat_le c 64) ≡ true) (sym may.0) (client_ok client low high);
   number_fits = refl;
   number_small = omega (arith, may.1, log_is.last);
   body_fits = tt;
 }
-sent_valid client acked tree pending _ low high log_is may = absurd may
+sent_valid client ships acked tree pending _ low high log_is may = absurd may

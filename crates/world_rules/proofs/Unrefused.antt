@@ -11,7 +11,7 @@ use Rattle.vol_tree.proofs.Behind.{IsIn-left, IsIn-right}
 use Rattle.mod_log.specs.declared.log.Entry.{Entry}
 use Rattle.mod_log.specs.Log.{Log, tree_at}
 use Rattle.wire_frames.specs.declared.message.Message.{Message}
-use Rattle.wire_frames.specs.declared.message.Message.TheVariants.{Store, Pull, Stale, Unfit, Full}
+use Rattle.wire_frames.specs.declared.message.Message.TheVariants.{Store, Operate, Pull, Stale, Unfit, Full}
 use Rattle.wire_frames.specs.Frame.{client_of}
 use Rattle.world_rules.specs.declared.asking.Ask.{Ask}
 use Rattle.world_rules.specs.Served.{judged, is_want_of_room, reply, answer}
@@ -36,10 +36,11 @@ refusal_client client number (Unfit of refused index fault) is = is.0
 refusal_client client number (Full of refused index fault) is = is.0
 refusal_client client number _ is = absurd is
 
-sent_refuses_none : (client : ℕ) (log : Log) (number : ℕ) (message : Message) → MaySend client log message → IsRefusal client number message → ⊥
-sent_refuses_none client log number (Store of stored effects base) may is = is
-sent_refuses_none client log number (Pull of known) may is = is
-sent_refuses_none client log number _ may is = may
+sent_refuses_none : (client : ℕ) (ships : Bool) (log : Log) (number : ℕ) (message : Message) → MaySend client ships log message → IsRefusal client number message → ⊥
+sent_refuses_none client ships log number (Store of stored effects base) may is = is
+sent_refuses_none client ships log number (Operate of sketched) may is = is
+sent_refuses_none client ships log number (Pull of known) may is = is
+sent_refuses_none client ships log number _ may is = may
 
 -- a refusal of the client's entry is in step at most with the next number
 refused_number : (client : ℕ) (log : Log) (world : World) (number : ℕ) (message : Message) → InStep client log world → IsRefusal client number message → IsIn message world.packets → number ≤ log.acked + 1
@@ -83,18 +84,18 @@ refuses_later client number of stored last false None (Err cause) false e is = b
 
 module _ (client : ℕ) (log : Log) (world : World) (now : InStep client log world) where
   -- in a step after which the served tree is the client's
-  step_back : (step : Step) → IsAllowed (MaySend client log) world step → InStep client log (happens step world)
+  step_back : (ships : Bool) (step : Step) → IsAllowed (MaySend client ships log) world step → InStep client log (happens step world)
       → (happens step world).served.volume ≡ tree_at ((happens step world).served.last client) log
       → (number : ℕ) (message : Message) → IsRefusal client number message → IsIn message (happens step world).packets → IsIn message world.packets
-  step_back (Send m) may next same number message is among =
-      ⊎_elim (λ old. old) (λ (here : message ≡ m). absurd (sent_refuses_none client log number m may (subst (IsRefusal client number) here is))) (IsIn-push message m world.packets among)
-  step_back (Other m) may next same number message is among =
+  step_back ships (Send m) may next same number message is among =
+      ⊎_elim (λ old. old) (λ (here : message ≡ m). absurd (sent_refuses_none client ships log number m may (subst (IsRefusal client number) here is))) (IsIn-push message m world.packets among)
+  step_back ships (Other m) may next same number message is among =
       ⊎_elim (λ old. old) (λ (here : message ≡ m). absurd (may.0 (refusal_client client number m (subst (IsRefusal client number) here is) ∙ sym now.about))) (IsIn-push message m world.packets among)
-  step_back (Relay m) may next same number message is among =
+  step_back ships (Relay m) may next same number message is among =
       ⊎_elim (λ old. old) (λ (here : message ≡ m). absurd (relay_refuses_none client number world.packets m (subst (λ (c : ℕ). IsLicensed c world.packets m) now.about may.0) (subst (IsRefusal client number) here is)))
       (IsIn-push message m world.packets among)
-  step_back (Deliver m false) may next same number message is among = among
-  step_back (Deliver m true) may next same number message is among =
+  step_back ships (Deliver m false) may next same number message is among = among
+  step_back ships (Deliver m true) may next same number message is among =
       ⊎_elim (λ old. old) (λ (here : message ≡ answer m world.served). absurd (answered m may.0 may.1 next same (subst (IsRefusal client number) here is) (subst (λ (x : Message). IsIn x (happens (Deliver m true) world).packets) here among)))
       (IsIn-push message (answer m world.served) world.packets among)
     where
@@ -109,44 +110,44 @@ module _ (client : ℕ) (log : Log) (world : World) (now : InStep client log wor
       answered (Pull of known) for sent next same is among = is
       answered _ for sent next same is among = for
 
-module _ (client : ℕ) where
+module _ (client : ℕ) (ships : Bool) where
   abbrev IsTheirs : State → Type 0
   IsTheirs state = state.world.served.volume ≡ tree_at (state.world.served.last client) state.log
 
-  move_theirs : (move : Move) (state : State) → InStep client state.log state.world → IsPossible client state move → IsApart client (move ∷ []) state
+  move_theirs : (move : Move) (state : State) → InStep client state.log state.world → IsPossible client ships state move → IsApart client (move ∷ []) state
       → ((message : Message) → IsIn message (taken_in_move move state) → client_of message ≡ client) → IsTheirs state → IsTheirs (moved move state)
   move_theirs move state now may apart alone same =
-      lone_tree client (entry_in move) (ask_in move) state (moved move state) now
+      lone_tree client ships (entry_in move) (ask_in move) state (moved move state) now
       (record { moves = move ∷ []; entries = append-nil (entry_in move); asks = append-nil (ask_in move); possible = (may, tt); result = refl })
       (λ message among. alone message (subst (IsIn message) (append-nil (taken_in_move move state)) among)) same
       (subst (λ (es : List Entry). HasNoCollision client (state.log.pending ++ es) (moved move state).world.packets) (append-nil (entry_in move)) apart)
 
-  move_back : (move : Move) (state : State) → InStep client state.log state.world → IsPossible client state move → HasNoCollision client state.log.pending (moved move state).world.packets → IsTheirs (moved move state)
+  move_back : (move : Move) (state : State) → InStep client state.log state.world → IsPossible client ships state move → HasNoCollision client state.log.pending (moved move state).world.packets → IsTheirs (moved move state)
       → (number : ℕ) (message : Message) → IsRefusal client number message → IsIn message (moved move state).world.packets → IsIn message state.world.packets
   move_back (Network step) state now may none same number message is among =
-      step_back client state.log state.world now step (allowed_log client state step may) (move_keeps client state (Network step) now may none) same number message is among
+      step_back client state.log state.world now ships step (allowed_log client ships state step may) (move_keeps client ships state (Network step) now may none) same number message is among
   move_back (Notes ask) state now may none same number message is among = among
   move_back (Logs entry) state now may none same number message is among = among
   move_back (Acknowledges reply) state now may none same number message is among = among
   move_back (Pulls last seen) state now may none same number message is among = among
   move_back Saves state now may none same number message is among = among
 
-  moves_back : (moves : List Move) (state : State) → InStep client state.log state.world → AllPossible client state moves → IsApart client moves state
+  moves_back : (moves : List Move) (state : State) → InStep client state.log state.world → AllPossible client ships state moves → IsApart client moves state
       → ((message : Message) → IsIn message (taken_in moves state) → client_of message ≡ client) → IsTheirs state
       → (number : ℕ) (message : Message) → IsRefusal client number message → IsIn message (moved_by moves state).world.packets → IsIn message state.world.packets
   moves_back [] state now may apart alone same number message is among = among
   moves_back (move ∷ moves) state now may apart alone same number message is among =
       let none = apart_here client move moves state apart in
-      let after = move_keeps client state move now may.0 none in
+      let after = move_keeps client ships state move now may.0 none in
       let theirs = move_theirs move state now may.0 (apart_first client move moves state apart) (λ m at. alone m (IsIn-left m _ _ at)) same in
       move_back move state now may.0 none theirs number message is
       (moves_back moves (moved move state) after may.1 (apart_next client move moves state apart) (λ m at. alone m (IsIn-right m _ _ at)) theirs number message is among)
 
-  pub lone_unrefused : (entries : List Entry) (made : List Ask) (old new : State) → InStep client old.log old.world → (runs : Runs client entries made old new)
+  pub lone_unrefused : (entries : List Entry) (made : List Ask) (old new : State) → InStep client old.log old.world → (runs : Runs client ships entries made old new)
       → ((message : Message) → IsIn message (taken_in runs.moves old) → client_of message ≡ client)
       → old.world.served.volume ≡ tree_at (old.world.served.last client) old.log
       → HasNoCollision client (old.log.pending ++ entries) new.world.packets
       → (number : ℕ) (message : Message) → IsRefusal client number message → IsIn message new.world.packets → number ≤ old.log.acked
   lone_unrefused entries made old new now runs alone same none number message is among =
       refused_before client old.log old.world now same number message is
-      (moves_back runs.moves old now runs.possible (run_apart client entries made old new runs none) alone same number message is (subst (λ s. IsIn message s.world.packets) runs.result among))
+      (moves_back runs.moves old now runs.possible (run_apart client ships entries made old new runs none) alone same number message is (subst (λ s. IsIn message s.world.packets) runs.result among))

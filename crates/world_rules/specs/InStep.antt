@@ -1,6 +1,6 @@
 -- When a client's log and the world fit together: the server is at most one entry ahead of what the client knows, and at no
 -- path behind what the client's tree was after that entry.
-use Rattle.std.specs.Prelude.{◌≡◌, ℕ, ◌+◌, ◌<◌, ◌≤◌, List, [], length, IsSome}
+use Rattle.std.specs.Prelude.{◌≡◌, ℕ, ◌+◌, ◌<◌, ◌≤◌, Bool, IsTrue, List, [], length, IsSome}
 use Rattle.tree_values.specs.Tree.{Volume, version_at, IsTree}
 use Rattle.vol_tree.specs.Behind.{IsBehind, IsAhead}
 use Rattle.tree_values.specs.Lists.{IsIn}
@@ -94,11 +94,13 @@ HasNoOperation client packets = (sketched : SketchEntry) → IsIn (Operate clien
 
 -- ---- what the client sends
 
--- The client ships its first pending entry, or pulls where nothing is pending. It sends no operation.
-abbrev pub MaySend : ℕ → Log → Message → Type 0
-MaySend client log (Store of number effects base) = (of ≡ client) × (number ≡ log.acked + 1) × IsPendingAt log number effects base
-MaySend client log (Pull of number) = (of ≡ client) × (number ≡ log.acked) × (log.pending ≡ [])
-MaySend client log _ = ⊥
+-- The client ships its first pending entry, as a store or, where it has a surrogate, as an operation; or it pulls where nothing is
+-- pending.
+abbrev pub MaySend : ℕ → Bool → Log → Message → Type 0
+MaySend client ships log (Store of number effects base) = (of ≡ client) × (number ≡ log.acked + 1) × IsPendingAt log number effects base
+MaySend client ships log (Operate of sketched) = (of ≡ client) × (sketched.seq ≡ log.acked + 1) × IsSketchPending log sketched × IsTrue ships
+MaySend client ships log (Pull of number) = (of ≡ client) × (number ≡ log.acked) × (log.pending ≡ [])
+MaySend client ships log _ = ⊥
 
 -- the reply says that the client's entry of this number was taken
 abbrev pub IsAcceptance : ℕ → ℕ → Message → Type 0

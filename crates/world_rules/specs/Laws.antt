@@ -1,5 +1,5 @@
 -- What holds of every run of a client in its world.
-use Rattle.std.specs.Prelude.{◌≡◌, ◌≢◌, ℕ, ◌+◌, ◌-◌, ◌<◌, ◌≤◌, List, [], ◌++◌, drop}
+use Rattle.std.specs.Prelude.{◌≡◌, ◌≢◌, ℕ, ◌+◌, ◌-◌, ◌<◌, ◌≤◌, Bool, false, List, [], ◌++◌, drop}
 use Rattle.file_paths.specs.Path.{FilePath}
 use Rattle.tree_values.specs.Tree.{Volume, version_at}
 use Rattle.tree_values.specs.Lists.{IsIn}
@@ -7,6 +7,7 @@ use Rattle.vol_tree.specs.Behind.{IsAhead}
 use Rattle.mod_log.specs.declared.log.Entry.{Entry}
 use Rattle.mod_log.specs.declared.sketching.SketchEntry.{SketchEntry}
 use Rattle.mod_log.specs.Log.{Log, tree_at, IsLog, new_log}
+use Rattle.mod_log.specs.Sketched.{IsSketchOf}
 use Rattle.wire_frames.specs.declared.message.Message.{Message}
 use Rattle.wire_frames.specs.declared.message.Message.TheVariants.{Store, Operate, Pull, Accepted, Stale, Gap, Snapshot, Done}
 use Rattle.wire_frames.specs.Frame.{client_of, IsValid}
@@ -22,7 +23,7 @@ use Rattle.world_rules.specs.Run.{State, kept_at, restarted, AreInStep, Runs, ta
 -- Every run in which the log and what is kept of it begin in step leaves both in step, also where a keeping was refused, and where no
 -- content that was sent is taken for another. Where no operation of the client was sent that is so.
 abbrev pub RunsStayInStep : Type 0
-RunsStayInStep = (client : ℕ) (entries : List Entry) (made : List Ask) (old new : State) → AreInStep client old → Runs client entries made old new
+RunsStayInStep = (client : ℕ) (ships : Bool) (entries : List Entry) (made : List Ask) (old new : State) → AreInStep client old → Runs client ships entries made old new
     → HasNoCollision client (old.kept.pending ++ (old.log.pending ++ entries)) new.world.packets → AreInStep client new
 
 -- A message that a surrogate sends keeps in step.
@@ -42,59 +43,68 @@ NewClientsAreInStep = (client : ℕ) (world : World) → world.client ≡ client
 
 -- A client without a surrogate sends no operation: each of its operations among the packets was there before.
 abbrev pub OperationsNeedASurrogate : Type 0
-OperationsNeedASurrogate = (client : ℕ) (entries : List Entry) (made : List Ask) (old new : State) (sketched : SketchEntry) → old.world.client ≡ client → Runs client entries made old new
+OperationsNeedASurrogate = (client : ℕ) (entries : List Entry) (made : List Ask) (old new : State) (sketched : SketchEntry) → old.world.client ≡ client → Runs client false entries made old new
     → IsIn (Operate client sketched) new.world.packets → IsIn (Operate client sketched) old.world.packets
 
 -- So where none was there, nothing is taken for another.
 abbrev pub ClientsWithoutOperationsNeverCollide : Type 0
 ClientsWithoutOperationsNeverCollide = (client : ℕ) (entries : List Entry) (made : List Ask) (old new : State) (all : List Entry) → old.world.client ≡ client → HasNoOperation client old.world.packets
-    → Runs client entries made old new → HasNoCollision client all new.world.packets
+    → Runs client false entries made old new → HasNoCollision client all new.world.packets
 
 -- While a request is asked that the kept log may send, and what is answered stands, the world goes on by possible moves, in which the
 -- asks are noted.
 abbrev pub AsksArePossible : Type 0
-AsksArePossible = (client : ℕ) (log : Log) (request : Message) (made : List Ask) (old new : World) → MaySend client log request → Moved request made old new → AnswersStand new made
-    → Runs client [] made (kept_at log old) (kept_at log new)
+AsksArePossible = (client : ℕ) (ships : Bool) (log : Log) (request : Message) (made : List Ask) (old new : World) → MaySend client ships log request → Moved request made old new → AnswersStand new made
+    → Runs client ships [] made (kept_at log old) (kept_at log new)
 
 -- The store of each pending entry is a valid message.
 abbrev pub PendingStoresAreValid : Type 0
 PendingStoresAreValid = (client : ℕ) → 1 ≤ client → client ≤ 64 → (log : Log) (entry : Entry) → IsLog log → IsIn entry log.pending → IsValid (Store client entry.seq entry.effects entry.base)
 
+-- And so is the operation of each that a command made.
+abbrev pub PendingOperationsAreValid : Type 0
+PendingOperationsAreValid = (client : ℕ) → 1 ≤ client → client ≤ 64 → (log : Log) (entry : Entry) (sketched : SketchEntry) → IsLog log → IsIn entry log.pending → IsSketchOf entry sketched
+    → IsValid (Operate client sketched)
+
 -- ---- runs one after the other
 
 -- Two runs, the second from where the first ended, are a run.
 abbrev pub RunsJoin : Type 0
-RunsJoin = (client : ℕ) (earlier later : List Entry) (made more : List Ask) (old middle new : State) → Runs client earlier made old middle → Runs client later more middle new
-    → Runs client (earlier ++ later) (made ++ more) old new
+RunsJoin = (client : ℕ) (ships : Bool) (earlier later : List Entry) (made more : List Ask) (old middle new : State) → Runs client ships earlier made old middle → Runs client ships later more middle new
+    → Runs client ships (earlier ++ later) (made ++ more) old new
 
 -- A new beginning with what is kept is the end of a run, too: of one in which what was not kept was not done. In it the first of the
 -- entries were logged, and the same was asked, in the same world.
 abbrev pub RestartsEndRuns : Type 0
-RestartsEndRuns = (client : ℕ) (entries : List Entry) (made : List Ask) (old new : State) → old.kept ≡ old.log → Runs client entries made old new
-    → (kept unkept : List Entry) × (entries ≡ kept ++ unkept) × Runs client kept made old (restarted new)
+RestartsEndRuns = (client : ℕ) (ships : Bool) (entries : List Entry) (made : List Ask) (old new : State) → old.kept ≡ old.log → Runs client ships entries made old new
+    → (kept unkept : List Entry) × (entries ≡ kept ++ unkept) × Runs client ships kept made old (restarted new)
 
 -- And so is a world that went on without its client.
 abbrev pub SilentClientsRun : Type 0
-SilentClientsRun = (client : ℕ) (log : Log) (old new : World) → GoesOnAlone old new → Runs client [] [] (kept_at log old) (kept_at log new)
+SilentClientsRun = (client : ℕ) (ships : Bool) (log : Log) (old new : World) → GoesOnAlone old new → Runs client ships [] [] (kept_at log old) (kept_at log new)
+
+-- A run of a client without a surrogate is one of a client with a surrogate, too.
+abbrev pub RunsNeedNoSurrogate : Type 0
+RunsNeedNoSurrogate = (client : ℕ) (ships : Bool) (entries : List Entry) (made : List Ask) (old new : State) → Runs client false entries made old new → Runs client ships entries made old new
 
 -- ---- entries
 
 -- The client's stores that are taken in a run are its entries after the last taken one, in order and each once.
 abbrev pub EntriesAreTakenOnce : Type 0
-EntriesAreTakenOnce = (client : ℕ) (entries : List Entry) (made : List Ask) (old new : State) → InStep client old.log old.world → (runs : Runs client entries made old new)
+EntriesAreTakenOnce = (client : ℕ) (ships : Bool) (entries : List Entry) (made : List Ask) (old new : State) → InStep client old.log old.world → (runs : Runs client ships entries made old new)
     → HasNoCollision client (old.log.pending ++ entries) new.world.packets
     → own client (taken_in runs.moves old)
     ≡ stores_between client old.log.acked (old.world.served.last client) (new.world.served.last client) (old.log.pending ++ entries)
 
 -- The acknowledged number only grows, and pending are, of the entries that were pending or logged, those after it.
 abbrev pub LaterEntriesArePending : Type 0
-LaterEntriesArePending = (client : ℕ) (entries : List Entry) (made : List Ask) (old new : State) → InStep client old.log old.world → Runs client entries made old new
+LaterEntriesArePending = (client : ℕ) (ships : Bool) (entries : List Entry) (made : List Ask) (old new : State) → InStep client old.log old.world → Runs client ships entries made old new
     → HasNoCollision client (old.log.pending ++ entries) new.world.packets
     → (old.log.acked ≤ new.log.acked) × (new.log.pending ≡ drop (new.log.acked - old.log.acked) (old.log.pending ++ entries))
 
 -- Where only the client's own stores are taken, what is taken are its entries after the last taken one, in order and each once.
 abbrev pub LoneClientsEntriesAreTaken : Type 0
-LoneClientsEntriesAreTaken = (client : ℕ) (entries : List Entry) (made : List Ask) (old new : State) → InStep client old.log old.world → (runs : Runs client entries made old new)
+LoneClientsEntriesAreTaken = (client : ℕ) (ships : Bool) (entries : List Entry) (made : List Ask) (old new : State) → InStep client old.log old.world → (runs : Runs client ships entries made old new)
     → ((message : Message) → IsIn message (taken_in runs.moves old) → client_of message ≡ client) → HasNoCollision client (old.log.pending ++ entries) new.world.packets
     → taken_in runs.moves old ≡ stores_between client old.log.acked (old.world.served.last client) (new.world.served.last client) (old.log.pending ++ entries)
 
@@ -103,8 +113,8 @@ LoneClientsEntriesAreTaken = (client : ℕ) (entries : List Entry) (made : List 
 -- A path whose version was the client's, and that no other client's taken store touches, has at the end what the client's
 -- tree had after the entries that were taken.
 abbrev pub SparedPathsAreTheClients : Type 0
-SparedPathsAreTheClients = (client : ℕ) (entries : List Entry) (made : List Ask) (old new : State) (path : FilePath) → InStep client old.log old.world
-    → (runs : Runs client entries made old new)
+SparedPathsAreTheClients = (client : ℕ) (ships : Bool) (entries : List Entry) (made : List Ask) (old new : State) (path : FilePath) → InStep client old.log old.world
+    → (runs : Runs client ships entries made old new)
     → version_at old.world.served.volume path ≡ version_at (tree_at (old.world.served.last client) old.log) path
     → ((message : Message) → IsIn message (taken_in runs.moves old) → client_of message ≢ client → Spares path message)
     → HasNoCollision client (old.log.pending ++ entries) new.world.packets
@@ -112,8 +122,8 @@ SparedPathsAreTheClients = (client : ℕ) (entries : List Entry) (made : List As
 
 -- And so has the tree that is kept, where the run began with the client's log kept.
 abbrev pub SparedPathsAreKept : Type 0
-SparedPathsAreKept = (client : ℕ) (entries : List Entry) (made : List Ask) (old new : State) (path : FilePath) → AreInStep client old → old.kept ≡ old.log
-    → (runs : Runs client entries made old new)
+SparedPathsAreKept = (client : ℕ) (ships : Bool) (entries : List Entry) (made : List Ask) (old new : State) (path : FilePath) → AreInStep client old → old.kept ≡ old.log
+    → (runs : Runs client ships entries made old new)
     → version_at old.world.served.volume path ≡ version_at (tree_at (old.world.served.last client) old.log) path
     → ((message : Message) → IsIn message (taken_in runs.moves old) → client_of message ≢ client → Spares path message)
     → HasNoCollision client (old.log.pending ++ entries) new.world.packets
@@ -122,22 +132,22 @@ SparedPathsAreKept = (client : ℕ) (entries : List Entry) (made : List Ask) (ol
 -- Where only the client's own stores are taken in a run, and it begins with the client's tree served, it ends with the
 -- client's tree after the entries that were taken.
 abbrev pub LoneClientsAreServedTheirTree : Type 0
-LoneClientsAreServedTheirTree = (client : ℕ) (entries : List Entry) (made : List Ask) (old new : State) → InStep client old.log old.world → (runs : Runs client entries made old new)
+LoneClientsAreServedTheirTree = (client : ℕ) (ships : Bool) (entries : List Entry) (made : List Ask) (old new : State) → InStep client old.log old.world → (runs : Runs client ships entries made old new)
     → ((message : Message) → IsIn message (taken_in runs.moves old) → client_of message ≡ client)
     → old.world.served.volume ≡ tree_at (old.world.served.last client) old.log → HasNoCollision client (old.log.pending ++ entries) new.world.packets
     → new.world.served.volume ≡ tree_at (new.world.served.last client) new.log
 
 -- And so is the tree that is kept.
 abbrev pub LoneClientsTreeIsKept : Type 0
-LoneClientsTreeIsKept = (client : ℕ) (entries : List Entry) (made : List Ask) (old new : State) → AreInStep client old → old.kept ≡ old.log
-    → (runs : Runs client entries made old new)
+LoneClientsTreeIsKept = (client : ℕ) (ships : Bool) (entries : List Entry) (made : List Ask) (old new : State) → AreInStep client old → old.kept ≡ old.log
+    → (runs : Runs client ships entries made old new)
     → ((message : Message) → IsIn message (taken_in runs.moves old) → client_of message ≡ client)
     → old.world.served.volume ≡ tree_at (old.world.served.last client) old.log → HasNoCollision client (old.log.pending ++ entries) new.world.packets
     → new.world.served.volume ≡ tree_at (new.world.served.last client) new.kept
 
 -- And in such a run none of its entries is refused that was not acknowledged when the run began.
 abbrev pub LoneClientsAreNotRefused : Type 0
-LoneClientsAreNotRefused = (client : ℕ) (entries : List Entry) (made : List Ask) (old new : State) → InStep client old.log old.world → (runs : Runs client entries made old new)
+LoneClientsAreNotRefused = (client : ℕ) (ships : Bool) (entries : List Entry) (made : List Ask) (old new : State) → InStep client old.log old.world → (runs : Runs client ships entries made old new)
     → ((message : Message) → IsIn message (taken_in runs.moves old) → client_of message ≡ client)
     → old.world.served.volume ≡ tree_at (old.world.served.last client) old.log → HasNoCollision client (old.log.pending ++ entries) new.world.packets
     → (number : ℕ) (reply : Message) → IsRefusal client number reply → IsIn reply new.world.packets → number ≤ old.log.acked
@@ -150,16 +160,16 @@ ServedIsReplayed = (steps : List Step) (world : World) → IsReplayed world → 
 
 -- And so it is after each run.
 abbrev pub RunsServeWhatIsTaken : Type 0
-RunsServeWhatIsTaken = (client : ℕ) (entries : List Entry) (made : List Ask) (old new : State) → Runs client entries made old new → IsReplayed old.world → IsReplayed new.world
+RunsServeWhatIsTaken = (client : ℕ) (ships : Bool) (entries : List Entry) (made : List Ask) (old new : State) → Runs client ships entries made old new → IsReplayed old.world → IsReplayed new.world
 
 -- What a world took in a run is what it had taken before, and what is taken in the run.
 abbrev pub RunsTellWhatIsTaken : Type 0
-RunsTellWhatIsTaken = (client : ℕ) (entries : List Entry) (made : List Ask) (old new : State) → (runs : Runs client entries made old new)
+RunsTellWhatIsTaken = (client : ℕ) (ships : Bool) (entries : List Entry) (made : List Ask) (old new : State) → (runs : Runs client ships entries made old new)
     → new.world.taken ≡ old.world.taken ++ taken_in runs.moves old
 
 -- What was asked in a world is what had been asked before, and what is asked in the run.
 abbrev pub RunsTellWhatIsAsked : Type 0
-RunsTellWhatIsAsked = (client : ℕ) (entries : List Entry) (made : List Ask) (old new : State) → Runs client entries made old new → new.world.asks ≡ old.world.asks ++ made
+RunsTellWhatIsAsked = (client : ℕ) (ships : Bool) (entries : List Entry) (made : List Ask) (old new : State) → Runs client ships entries made old new → new.world.asks ≡ old.world.asks ++ made
 
 -- While a request is asked it was sent.
 abbrev pub AskedRequestsWereSent : Type 0
@@ -171,17 +181,17 @@ FreeAsksAreNoSends = (request : Message) (made : List Ask) (old new : World) →
 
 -- What was ever sent stays among the packets.
 abbrev pub PacketsStay : Type 0
-PacketsStay = (client : ℕ) (entries : List Entry) (made : List Ask) (old new : State) (message : Message) → Runs client entries made old new
+PacketsStay = (client : ℕ) (ships : Bool) (entries : List Entry) (made : List Ask) (old new : State) (message : Message) → Runs client ships entries made old new
     → IsIn message old.world.packets → IsIn message new.world.packets
 
 -- What was asked in a run was sent.
 abbrev pub RunsSendWhatIsAsked : Type 0
-RunsSendWhatIsAsked = (client : ℕ) (entries : List Entry) (made : List Ask) (old new : State) (ask : Ask) → Runs client entries made old new → IsIn ask made
+RunsSendWhatIsAsked = (client : ℕ) (ships : Bool) (entries : List Entry) (made : List Ask) (old new : State) (ask : Ask) → Runs client ships entries made old new → IsIn ask made
     → IsIn ask.request new.world.packets
 
 -- What was answered in a run was sent, and echoes its request.
 abbrev pub RunsAnswersStand : Type 0
-RunsAnswersStand = (client : ℕ) (entries : List Entry) (made : List Ask) (old new : State) → Runs client entries made old new → AnswersStand new.world made
+RunsAnswersStand = (client : ℕ) (ships : Bool) (entries : List Entry) (made : List Ask) (old new : State) → Runs client ships entries made old new → AnswersStand new.world made
 
 -- ---- what replies tell
 

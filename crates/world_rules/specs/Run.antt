@@ -1,5 +1,5 @@
 -- A client and the world as both go on: what the network does, what the client does to its log, and what is kept of it.
-use Rattle.std.specs.Prelude.{◌≡◌, ◌≢◌, ℕ, ◌+◌, ◌-◌, ◌==◌, ◌≤◌, List, [], ◌∷◌, ◌++◌, take, drop, filter}
+use Rattle.std.specs.Prelude.{◌≡◌, ◌≢◌, ℕ, ◌+◌, ◌-◌, ◌==◌, ◌≤◌, Bool, List, [], ◌∷◌, ◌++◌, take, drop, filter}
 use Rattle.file_paths.specs.Path.{FilePath}
 use Rattle.tree_values.specs.Effects.{touched_all}
 use Rattle.tree_values.specs.Tree.{Volume, version_at, node_at}
@@ -54,27 +54,27 @@ moved (Acknowledges reply) state = record { log = acknowledged (state.log.acked 
 moved (Pulls last seen) state = record { log = pulled seen state.log; kept = state.kept; world = state.world }
 moved Saves state = kept_at state.log state.world
 
--- the client sends what its log may send, and only while this very log is kept
-abbrev pub MaySendKept : ℕ → State → Message → Type 0
-MaySendKept client state message = MaySend client state.log message × (state.kept ≡ state.log)
+-- The client sends what its log may send, operations where it has a surrogate, and only while this very log is kept.
+abbrev pub MaySendKept : ℕ → Bool → State → Message → Type 0
+MaySendKept client ships state message = MaySend client ships state.log message × (state.kept ≡ state.log)
 
 -- The client sends what its kept log may send, logs an entry with which it has a log, acknowledges on a reply that was sent and accepts
 -- its first pending entry, and pulls a snapshot that was sent, has its acknowledged number as the last and is at no path older than
 -- its base. What was asked was sent, and what was answered stands. It may be kept at any time.
-abbrev pub IsPossible : ℕ → State → Move → Type 0
-IsPossible client state (Network step) = IsAllowed (MaySendKept client state) state.world step
-IsPossible client state (Notes ask) = IsIn ask.request state.world.packets × AnswerStands state.world ask
-IsPossible client state (Logs entry) = IsLog (logged entry state.log)
-IsPossible client state (Acknowledges reply) = (state.log.pending ≢ []) × IsAcceptance client (state.log.acked + 1) reply × IsIn reply state.world.packets
-IsPossible client state (Pulls last seen) =
+abbrev pub IsPossible : ℕ → Bool → State → Move → Type 0
+IsPossible client ships state (Network step) = IsAllowed (MaySendKept client ships state) state.world step
+IsPossible client ships state (Notes ask) = IsIn ask.request state.world.packets × AnswerStands state.world ask
+IsPossible client ships state (Logs entry) = IsLog (logged entry state.log)
+IsPossible client ships state (Acknowledges reply) = (state.log.pending ≢ []) × IsAcceptance client (state.log.acked + 1) reply × IsIn reply state.world.packets
+IsPossible client ships state (Pulls last seen) =
     (state.log.pending ≡ []) × (last ≡ state.log.acked) × IsIn (Snapshot client state.log.acked last seen) state.world.packets
     × ((path : FilePath) → version_at state.log.base path ≤ version_at seen path)
-IsPossible client state Saves = Unit {0}
+IsPossible client ships state Saves = Unit {0}
 
 -- each move is possible after those before it
-abbrev pub AllPossible : ℕ → State → List Move → Type 0
-AllPossible client state [] = Unit {0}
-AllPossible client state (move ∷ moves) = IsPossible client state move × AllPossible client (moved move state) moves
+abbrev pub AllPossible : ℕ → Bool → State → List Move → Type 0
+AllPossible client ships state [] = Unit {0}
+AllPossible client ships state (move ∷ moves) = IsPossible client ships state move × AllPossible client ships (moved move state) moves
 
 -- the state after these moves, one after the other
 abbrev pub moved_by : List Move → State → State
@@ -145,9 +145,9 @@ pub record AreInStep (client : ℕ) (state : State) : Type 0 where
   pub kept : InStep client state.kept state.world
 
 -- The state went on by possible moves, in which these entries were logged and these asks were made.
-pub record Runs (client : ℕ) (logged_entries : List Entry) (made : List Ask) (old new : State) : Type 0 where
+pub record Runs (client : ℕ) (ships : Bool) (logged_entries : List Entry) (made : List Ask) (old new : State) : Type 0 where
   pub moves : List Move
   pub entries : entries_in moves ≡ logged_entries
   pub asks : asks_in moves ≡ made
-  pub possible : AllPossible client old moves
+  pub possible : AllPossible client ships old moves
   pub result : new ≡ moved_by moves old

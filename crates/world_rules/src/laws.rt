@@ -1,8 +1,9 @@
 // What holds of every run of a client in its world, as contracts of calls that do nothing.
-ghost use Rattle.world_rules.specs.Laws.{RunsStayInStep, RelaysKeepInStep, RestartsStayInStep, OperationsNeedASurrogate, ClientsWithoutOperationsNeverCollide, NewClientsAreInStep, AsksArePossible, PendingStoresAreValid, RunsJoin, RestartsEndRuns, SilentClientsRun, EntriesAreTakenOnce, LaterEntriesArePending, LoneClientsEntriesAreTaken, SparedPathsAreTheClients, SparedPathsAreKept, LoneClientsAreServedTheirTree, LoneClientsTreeIsKept, LoneClientsAreNotRefused, ServedIsReplayed, RunsServeWhatIsTaken, RunsAnswersStand, RunsSendWhatIsAsked, RunsTellWhatIsTaken, RunsTellWhatIsAsked, AskedRequestsWereSent, FreeAsksAreNoSends, PacketsStay, AcceptedEntriesWereTaken, DoneEntriesWereTaken, NoGapComes, StaleNamesAPathAhead, RefusalsShowAPathAhead, PullsFindTheirNumber, FreshPullsAreNotOlder};
+ghost use Rattle.world_rules.specs.Laws.{RunsStayInStep, RelaysKeepInStep, RestartsStayInStep, OperationsNeedASurrogate, ClientsWithoutOperationsNeverCollide, NewClientsAreInStep, AsksArePossible, PendingStoresAreValid, PendingOperationsAreValid, RunsNeedNoSurrogate, RunsJoin, RestartsEndRuns, SilentClientsRun, EntriesAreTakenOnce, LaterEntriesArePending, LoneClientsEntriesAreTaken, SparedPathsAreTheClients, SparedPathsAreKept, LoneClientsAreServedTheirTree, LoneClientsTreeIsKept, LoneClientsAreNotRefused, ServedIsReplayed, RunsServeWhatIsTaken, RunsAnswersStand, RunsSendWhatIsAsked, RunsTellWhatIsTaken, RunsTellWhatIsAsked, AskedRequestsWereSent, FreeAsksAreNoSends, PacketsStay, AcceptedEntriesWereTaken, DoneEntriesWereTaken, NoGapComes, StaleNamesAPathAhead, RefusalsShowAPathAhead, PullsFindTheirNumber, FreshPullsAreNotOlder};
 
 /// Every run from a log in step ends in step, with what is kept of the log, and so does a new beginning with that, and what a
-/// surrogate sends. A new client begins in step and sends no operation, asking is a run, and each pending entry can be sent.
+/// surrogate sends. A client without a surrogate sends no operation. A new client begins in step, asking is a run, and each pending
+/// entry can be sent as a store, and as an operation where a command made it.
 pub fn runs_stay_in_step()
     ensures runs { RunsStayInStep }
     ensures relays { RelaysKeepInStep }
@@ -12,14 +13,16 @@ pub fn runs_stay_in_step()
     ensures beginning { NewClientsAreInStep }
     ensures asking { AsksArePossible }
     ensures stores { PendingStoresAreValid }
+    ensures shipping { PendingOperationsAreValid }
 {}
 
-/// Runs one after the other are a run, also where the client begins anew with what is kept, and where others went on without it
-/// in between.
+/// Runs one after the other are a run, also where the client begins anew with what is kept, where others went on without it in
+/// between, and where it has a surrogate in one of them alone.
 pub fn runs_go_on()
     ensures joined { RunsJoin }
     ensures restarted { RestartsEndRuns }
     ensures alone { SilentClientsRun }
+    ensures surrogate { RunsNeedNoSurrogate }
 {}
 
 /// The server takes the client's entries in order, each once, and those that are not acknowledged are
