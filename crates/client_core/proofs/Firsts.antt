@@ -1,5 +1,5 @@
 -- The first pending entry: it has the next number, and its store may be sent.
-use Rattle.std.proofs.Common.{◌≡◌, ◌≢◌, inl, ℕ, ◌+◌, ◌-◌, ◌<◌, ◌≤◌, List, [], ◌∷◌, length, drop, Some, None, slice_get, refl, sym, ◌∙◌, ap, arith}
+use Rattle.std.proofs.Common.{Bool, false, ◌≡◌, ◌≢◌, inl, ℕ, ◌+◌, ◌-◌, ◌<◌, ◌≤◌, List, [], ◌∷◌, length, drop, Some, None, slice_get, refl, sym, ◌∙◌, ap, arith}
 use Rattle.tree_values.specs.Tree.{Volume}
 use Rattle.tree_values.specs.Lists.{IsIn}
 use Rattle.mod_log.specs.declared.log.Entry.{Entry}
@@ -37,11 +37,11 @@ first_in (e ∷ entries) entry first = inl (sym first)
 pub first_number : (log : Log) (entry : Entry) → IsLog log → IsFirst entry log.pending → entry.seq ≡ log.acked + 1
 first_number log entry is first = numbered (log.acked + 1) log.base log.pending entry is.entries first
 
-pub may_send : (client : ℕ) (log : Log) (entry : Entry) → IsLog log → IsFirst entry log.pending → MaySend client log (store_of client entry)
-may_send client log entry is first = (refl, first_number log entry is first, (entry, first_in log.pending entry first, refl, refl, refl))
+pub may_send : (client : ℕ) (ships : Bool) (log : Log) (entry : Entry) → IsLog log → IsFirst entry log.pending → MaySend client ships log (store_of client entry)
+may_send client ships log entry is first = (refl, first_number log entry is first, (entry, first_in log.pending entry first, refl, refl, refl))
 
 pub store_valid : (client : ℕ) (log : Log) (entry : Entry) → 1 ≤ client → client ≤ 64 → IsLog log → IsFirst entry log.pending → IsValid (store_of client entry)
-store_valid client log entry low high is first = sent_valid client log.acked log.base log.pending (store_of client entry) low high is (may_send client log entry is first)
+store_valid client log entry low high is first = sent_valid client false log.acked log.base log.pending (store_of client entry) low high is (may_send client false log entry is first)
 
 acknowledged-length : (number : ℕ) (acked : ℕ) (base : Volume) (pending : List Entry) (entry : Entry) → number ≡ acked + 1 → IsFirst entry pending
     → length (acknowledged number (record { acked = acked; base = base; pending = pending })).pending < length pending

@@ -1,5 +1,5 @@
 -- How what a client did goes on from call to call.
-use Rattle.std.proofs.Common.{◌≡◌, ◌≢◌, ◌⊎◌, inl, inr, ⊎_elim, ℕ, ◌+◌, List, [], ◌∷◌, ◌++◌, Option, None, Some, unwrap_or, option_map, Result, Ok, Err, IfOk, refl, sym, ◌∙◌, ap, subst, arith, append_assoc}
+use Rattle.std.proofs.Common.{Bool, ◌≡◌, ◌≢◌, ◌⊎◌, inl, inr, ⊎_elim, ℕ, ◌+◌, List, [], ◌∷◌, ◌++◌, Option, None, Some, unwrap_or, option_map, Result, Ok, Err, IfOk, refl, sym, ◌∙◌, ap, subst, arith, append_assoc}
 use Rattle.std.proofs.lemmas.List.{append-nil}
 use Rattle.outside.specs.Outside.{Told, RoseBy}
 use Rattle.cmd_capture.specs.declared.runner.Run.{Run}
@@ -168,48 +168,48 @@ module _ (name : List ℕ) (client : ℕ) where
 
 -- ---- stretches of a client's life
 
-module _ (name : List ℕ) (client : ℕ) where
-  pub goes_none : (T : Trace → Type 0) (s : Log) (i : Option Images) (r : RunnerTelling) (t : ℕ) (w : World) → IsKept i name client s → T nothing → Goes client name T s s s i i r r t t w w
+module _ (name : List ℕ) (client : ℕ) (ships : Bool) where
+  pub goes_none : (T : Trace → Type 0) (s : Log) (i : Option Images) (r : RunnerTelling) (t : ℕ) (w : World) → IsKept i name client s → T nothing → Goes client ships name T s s s i i r r t t w w
   goes_none T s i r t w keeps turn = record {
     trace = nothing;
     turn = turn;
-    runs = runs_none client (kept_at s w);
+    runs = runs_none client ships (kept_at s w);
     keeping = keeping_none name client s i keeps;
     has_run = has_run_none r;
     rose = omega arith;
   }
 
   -- another relation of the same turns
-  pub goes_as : (T S : Trace → Type 0) (a b k : Log) (i j : Option Images) (p q : RunnerTelling) (t u : ℕ) (v w : World) → Goes client name T a b k i j p q t u v w
-      → ((trace : Trace) → T trace → S trace) → Goes client name S a b k i j p q t u v w
+  pub goes_as : (T S : Trace → Type 0) (a b k : Log) (i j : Option Images) (p q : RunnerTelling) (t u : ℕ) (v w : World) → Goes client ships name T a b k i j p q t u v w
+      → ((trace : Trace) → T trace → S trace) → Goes client ships name S a b k i j p q t u v w
   goes_as T S a b k i j p q t u v w goes to =
       record { trace = goes.trace; turn = to goes.trace goes.turn; runs = goes.runs; keeping = goes.keeping; has_run = goes.has_run; rose = goes.rose }
 
   -- beside any runner, where none was asked
-  pub goes_beside : (T : Trace → Type 0) (a b k : Log) (i j : Option Images) (t u : ℕ) (v w : World) → Goes client name T a b k i j no_runner no_runner t u v w
-      → (r : RunnerTelling) → Goes client name T a b k i j r r t u v w
+  pub goes_beside : (T : Trace → Type 0) (a b k : Log) (i j : Option Images) (t u : ℕ) (v w : World) → Goes client ships name T a b k i j no_runner no_runner t u v w
+      → (r : RunnerTelling) → Goes client ships name T a b k i j r r t u v w
   goes_beside T a b k i j t u v w goes r =
       record { trace = goes.trace; turn = goes.turn; runs = goes.runs; keeping = goes.keeping; has_run = has_run_alone goes.trace.runs goes.trace.missed r goes.has_run; rose = goes.rose }
 
   -- one stretch, at whose end the log is kept, after another
-  pub goes_then : (T S R : Trace → Type 0) (a b c k : Log) (i j l : Option Images) (p q r : RunnerTelling) (t u v : ℕ) (x y z : World) → Goes client name T a b b i j p q t u x y
-      → Goes client name S b c k j l q r u v y z → ((m n : Trace) → T m → S n → R (followed m n)) → Goes client name R a c k i l p r t v x z
+  pub goes_then : (T S R : Trace → Type 0) (a b c k : Log) (i j l : Option Images) (p q r : RunnerTelling) (t u v : ℕ) (x y z : World) → Goes client ships name T a b b i j p q t u x y
+      → Goes client ships name S b c k j l q r u v y z → ((m n : Trace) → T m → S n → R (followed m n)) → Goes client ships name R a c k i l p r t v x z
   goes_then T S R a b c k i j l p q r t u v x y z first second join = record {
     trace = followed first.trace second.trace;
     turn = join first.trace second.trace first.turn second.turn;
-    runs = runs_then client first.trace.entries second.trace.entries first.trace.asks second.trace.asks (kept_at a x) (kept_at b y) (stand c k z) first.runs second.runs;
+    runs = runs_then client ships first.trace.entries second.trace.entries first.trace.asks second.trace.asks (kept_at a x) (kept_at b y) (stand c k z) first.runs second.runs;
     keeping = keeping_then name client a b c k first.trace.changes second.trace.changes i j l first.keeping second.keeping;
     has_run = has_run_then first.trace.runs second.trace.runs first.trace.missed second.trace.missed p q r first.has_run second.has_run;
     rose = omega (arith, failed-append first.trace.asks second.trace.asks, first.rose, second.rose);
   }
 
   -- the asks of a request that the kept log may send, whose answers stand
-  pub goes_moved : (T : Trace → Type 0) (request : Message) (asks : List Ask) (s : Log) (i : Option Images) (r : RunnerTelling) (t u : ℕ) (x y : World) → IsKept i name client s → MaySend client s request
-      → Moved request asks x y × AnswersStand y asks → RoseBy (failed_asks asks) t u → T (asking asks) → Goes client name T s s s i i r r t u x y
+  pub goes_moved : (T : Trace → Type 0) (request : Message) (asks : List Ask) (s : Log) (i : Option Images) (r : RunnerTelling) (t u : ℕ) (x y : World) → IsKept i name client s → MaySend client ships s request
+      → Moved request asks x y × AnswersStand y asks → RoseBy (failed_asks asks) t u → T (asking asks) → Goes client ships name T s s s i i r r t u x y
   goes_moved T request asks s i r t u x y keeps may moved rose turn = record {
     trace = asking asks;
     turn = turn;
-    runs = moved_runs client s request asks x y may moved.0 moved.1;
+    runs = moved_runs client ships s request asks x y may moved.0 moved.1;
     keeping = keeping_none name client s i keeps;
     has_run = has_run_none r;
     rose = rose;
@@ -217,31 +217,31 @@ module _ (name : List ℕ) (client : ℕ) where
 
   -- and a change of the log by one move, which is not kept yet
   pub goes_changed : (T : Trace → Type 0) (request : Message) (asks : List Ask) (s next : Log) (i : Option Images) (r : RunnerTelling) (t u : ℕ) (x y : World) → IsKept i name client s
-      → MaySend client s request → Moved request asks x y × AnswersStand y asks → RoseBy (failed_asks asks) t u → Runs client [] [] (kept_at s y) (stand next s y)
-      → T (followed (asking asks) (changing next)) → Goes client name T s next s i i r r t u x y
+      → MaySend client ships s request → Moved request asks x y × AnswersStand y asks → RoseBy (failed_asks asks) t u → Runs client ships [] [] (kept_at s y) (stand next s y)
+      → T (followed (asking asks) (changing next)) → Goes client ships name T s next s i i r r t u x y
   goes_changed T request asks s next i r t u x y keeps may moved rose runs turn = record {
     trace = followed (asking asks) (changing next);
     turn = turn;
-    runs = runs_then client [] [] asks [] (kept_at s x) (kept_at s y) (stand next s y) (moved_runs client s request asks x y may moved.0 moved.1) runs;
+    runs = runs_then client ships [] [] asks [] (kept_at s x) (kept_at s y) (stand next s y) (moved_runs client ships s request asks x y may moved.0 moved.1) runs;
     keeping = keeping_unkept name client s next i keeps;
     has_run = has_run_none r;
     rose = omega (arith, failed-append asks [], rose);
   }
 
   -- such as the acknowledgement of the first pending entry on a reply that was sent
-  pub goes_acked : (T : Trace → Type 0) (request reply : Message) (asks : List Ask) (s : Log) (i : Option Images) (r : RunnerTelling) (t u : ℕ) (x y : World) → IsKept i name client s → MaySend client s request
+  pub goes_acked : (T : Trace → Type 0) (request reply : Message) (asks : List Ask) (s : Log) (i : Option Images) (r : RunnerTelling) (t u : ℕ) (x y : World) → IsKept i name client s → MaySend client ships s request
       → Moved request asks x y × AnswersStand y asks → RoseBy (failed_asks asks) t u → s.pending ≢ [] → IsAcceptance client (s.acked + 1) reply → IsIn reply y.packets
-      → T (followed (asking asks) (changing (acknowledged_first s))) → Goes client name T s (acknowledged_first s) s i i r r t u x y
+      → T (followed (asking asks) (changing (acknowledged_first s))) → Goes client ships name T s (acknowledged_first s) s i i r r t u x y
   goes_acked T request reply asks s i r t u x y keeps may moved rose some is among turn =
-      goes_changed T request asks s (acknowledged_first s) i r t u x y keeps may moved rose (runs_once client (kept_at s y) (Acknowledges reply) (some, is, among)) turn
+      goes_changed T request asks s (acknowledged_first s) i r t u x y keeps may moved rose (runs_once client ships (kept_at s y) (Acknowledges reply) (some, is, among)) turn
 
   -- an entry that is logged, and not kept yet
   pub goes_logged : (T : Trace → Type 0) (entry : Entry) (s : Log) (i : Option Images) (r : RunnerTelling) (t : ℕ) (w : World) → IsKept i name client s → IsLog (logged entry s)
-      → T (logging entry (logged entry s)) → Goes client name T s (logged entry s) s i i r r t t w w
+      → T (logging entry (logged entry s)) → Goes client ships name T s (logged entry s) s i i r r t t w w
   goes_logged T entry s i r t w keeps log_is turn = record {
     trace = logging entry (logged entry s);
     turn = turn;
-    runs = runs_once client (kept_at s w) (Logs entry) log_is;
+    runs = runs_once client ships (kept_at s w) (Logs entry) log_is;
     keeping = keeping_unkept name client s (logged entry s) i keeps;
     has_run = has_run_none r;
     rose = omega arith;
@@ -249,11 +249,11 @@ module _ (name : List ℕ) (client : ℕ) where
 
   -- a runner that was asked, while the log stood still
   pub goes_ran : (T : Trace → Type 0) (runs : List Run) (missed : ℕ) (s : Log) (i : Option Images) (p q : RunnerTelling) (t : ℕ) (w : World) → IsKept i name client s → HasRun runs missed p q
-      → T (running runs missed) → Goes client name T s s s i i p q t t w w
+      → T (running runs missed) → Goes client ships name T s s s i i p q t t w w
   goes_ran T runs missed s i p q t w keeps has_run turn = record {
     trace = running runs missed;
     turn = turn;
-    runs = runs_none client (kept_at s w);
+    runs = runs_none client ships (kept_at s w);
     keeping = keeping_none name client s i keeps;
     has_run = has_run;
     rose = omega arith;
@@ -262,11 +262,11 @@ module _ (name : List ℕ) (client : ℕ) where
   -- and then an entry that is logged, and not kept yet
   pub goes_ran_logged : (T : Trace → Type 0) (runs : List Run) (missed : ℕ) (entry : Entry) (s : Log) (i : Option Images) (p q : RunnerTelling) (t : ℕ) (w : World) → IsKept i name client s
       → IsLog (logged entry s) → HasRun (runs ++ []) (missed + 0) p q → T (followed (running runs missed) (logging entry (logged entry s)))
-      → Goes client name T s (logged entry s) s i i p q t t w w
+      → Goes client ships name T s (logged entry s) s i i p q t t w w
   goes_ran_logged T runs missed entry s i p q t w keeps log_is has_run turn = record {
     trace = followed (running runs missed) (logging entry (logged entry s));
     turn = turn;
-    runs = runs_once client (kept_at s w) (Logs entry) log_is;
+    runs = runs_once client ships (kept_at s w) (Logs entry) log_is;
     keeping = keeping_unkept name client s (logged entry s) i keeps;
     has_run = has_run;
     rose = omega arith;
@@ -274,8 +274,8 @@ module _ (name : List ℕ) (client : ℕ) where
 
   -- What a keeping makes of a stretch that changed the log: the log is kept now, or, where it was refused, perhaps what was kept before.
   pub goes_saved : {E : Type 0} (T : Trace → Type 0) (a b k : Log) (i j l : Option Images) (p q : RunnerTelling) (t u : ℕ) (x y : World) (r : Result (Unit {0}) E)
-      (goes : Goes client name T a b k i j p q t u x y) → goes.trace.changes ≢ [] → Told j l (KeepsLog name client b r)
-      → (now : Log) × Goes client name T a b now i l p q t u x y × IfOk r (λ done. now ≡ b)
+      (goes : Goes client ships name T a b k i j p q t u x y) → goes.trace.changes ≢ [] → Told j l (KeepsLog name client b r)
+      → (now : Log) × Goes client ships name T a b now i l p q t u x y × IfOk r (λ done. now ≡ b)
   goes_saved {E} T a b k i j l p q t u x y r goes some save = by (keeping_saved name client a b k goes.trace.changes some i j l r goes.keeping save)
     where
       sure : (r : Result (Unit {0}) E) → IfOk r (λ done. b ≡ b)
@@ -287,15 +287,15 @@ module _ (name : List ℕ) (client : ℕ) where
       unsure (Err e) none = tt
 
       by : Keeping name client a b b goes.trace.changes i l ⊎ (IfOk r (λ done. ⊥) × Keeping name client a b k goes.trace.changes i l)
-          → (now : Log) × Goes client name T a b now i l p q t u x y × IfOk r (λ done. now ≡ b)
+          → (now : Log) × Goes client ships name T a b now i l p q t u x y × IfOk r (λ done. now ≡ b)
       by (inl now) = (
         b,
         record {
           trace = goes.trace;
           turn = goes.turn;
-          runs = subst (λ (m : List Ask). Runs client goes.trace.entries m (kept_at a x) (kept_at b y)) (append-nil goes.trace.asks)
-              (subst (λ (es : List Entry). Runs client es (goes.trace.asks ++ []) (kept_at a x) (kept_at b y)) (append-nil goes.trace.entries)
-              (runs_then client goes.trace.entries [] goes.trace.asks [] (kept_at a x) (stand b k y) (kept_at b y) goes.runs (runs_once client (stand b k y) Saves tt)));
+          runs = subst (λ (m : List Ask). Runs client ships goes.trace.entries m (kept_at a x) (kept_at b y)) (append-nil goes.trace.asks)
+              (subst (λ (es : List Entry). Runs client ships es (goes.trace.asks ++ []) (kept_at a x) (kept_at b y)) (append-nil goes.trace.entries)
+              (runs_then client ships goes.trace.entries [] goes.trace.asks [] (kept_at a x) (stand b k y) (kept_at b y) goes.runs (runs_once client ships (stand b k y) Saves tt)));
           keeping = now;
           has_run = goes.has_run;
           rose = goes.rose;

@@ -1,5 +1,5 @@
 -- What logging a local effect makes of the client and the world.
-use Rattle.std.proofs.Common.{◌≡◌, ◌≢◌, inl, inr, ℕ, List, [], ◌∷◌, Option, Some, None, Result, Ok, Err, IfOk, IfErr, OnOk, OnErr, refl, sym, subst}
+use Rattle.std.proofs.Common.{Bool, ◌≡◌, ◌≢◌, inl, inr, ℕ, List, [], ◌∷◌, Option, Some, None, Result, Ok, Err, IfOk, IfErr, OnOk, OnErr, refl, sym, subst}
 use Rattle.outside.specs.Keeper.{Images}
 use Rattle.cmd_capture.specs.Runs.{RunnerTelling}
 use Rattle.file_paths.specs.Refusals.{unless_refused}
@@ -25,31 +25,31 @@ unrefused (Some refusal ∷ rest) value new is = absurd (cc)
 pub appended-is : (origin : Option Origin) (effects : List Effect) (before after : Log) → appended origin effects before ≡ Ok after → logged (next_entry origin effects before) before ≡ after
 appended-is origin effects before after is = unrefused (append_refusals origin effects before) (logged (next_entry origin effects before) before) after is
 
-module _ (name : List ℕ) (client : ℕ) (effect : Effect) (before after : Log) (i : Option Images) (keeps : IsKept i name client before) where
+module _ (name : List ℕ) (client : ℕ) (ships : Bool) (effect : Effect) (before after : Log) (i : Option Images) (keeps : IsKept i name client before) where
   logs_goes : (number : ℕ) → appended None (effect ∷ []) before ≡ Ok after → number ≡ (local_entry effect before).seq → IsLog after
-      → (r : RunnerTelling) (t : ℕ) (w : World) → Goes client name (LocalEnds effect before (Ok number) after) before after before i i r r t t w w
+      → (r : RunnerTelling) (t : ℕ) (w : World) → Goes client ships name (LocalEnds effect before (Ok number) after) before after before i i r r t t w w
   logs_goes number is shown is_log r t w =
       let entry : Entry = local_entry effect before in
       let same : logged entry before ≡ after = appended-is None (effect ∷ []) before after is in
-      subst (λ (next : Log). Goes client name (LocalEnds effect before (Ok number) next) before next before i i r r t t w w) same
-      (goes_logged name client (LocalEnds effect before (Ok number) (logged entry before)) entry before i r t w keeps (subst IsLog (sym same) is_log)
+      subst (λ (next : Log). Goes client ships name (LocalEnds effect before (Ok number) next) before next before i i r r t t w w) same
+      (goes_logged name client ships (LocalEnds effect before (Ok number) (logged entry before)) entry before i r t w keeps (subst IsLog (sym same) is_log)
       (inl (subst (λ (next : Log). appended None (effect ∷ []) before ≡ Ok next) (sym same) is, shown, refl)))
 
   refused_goes : (refusal : LogError) → appended None (effect ∷ []) before ≡ Err refusal → after ≡ before
-      → (r : RunnerTelling) (t : ℕ) (w : World) → Goes client name (LocalEnds effect before (Err refusal) after) before after before i i r r t t w w
+      → (r : RunnerTelling) (t : ℕ) (w : World) → Goes client ships name (LocalEnds effect before (Err refusal) after) before after before i i r r t t w w
   refused_goes refusal is same r t w =
-      subst (λ (next : Log). Goes client name (LocalEnds effect before (Err refusal) next) before next before i i r r t t w w) (sym same)
-      (goes_none name client (LocalEnds effect before (Err refusal) before) before i r t w keeps (inl (is, refl, refl)))
+      subst (λ (next : Log). Goes client ships name (LocalEnds effect before (Err refusal) next) before next before i i r r t t w w) (sym same)
+      (goes_none name client ships (LocalEnds effect before (Err refusal) before) before i r t w keeps (inl (is, refl, refl)))
 
   -- what `local` makes of the client, in every world
   pub local_goes : (result : Result ℕ LogError) → OnOk result (appended None (effect ∷ []) before ≡ Ok after) → IfOk result (λ seq. seq ≡ (local_entry effect before).seq)
       → IfErr result (λ e. e ≢ Memory → appended None (effect ∷ []) before ≡ Err e) → OnErr result (after ≡ before) → IsLog after
-      → (r : RunnerTelling) (t : ℕ) (w : World) → Goes client name (LocalEnds effect before result after) before after before i i r r t t w w
+      → (r : RunnerTelling) (t : ℕ) (w : World) → Goes client ships name (LocalEnds effect before result after) before after before i i r r t t w w
   local_goes (Ok number) ok seq err same is_log r t w = logs_goes number ok seq is_log r t w
   local_goes (Err (EntryTooLarge count bytes)) ok seq err same is_log r t w = refused_goes (EntryTooLarge count bytes) (err (λ e. absurd (cc))) same r t w
   local_goes (Err (LogFull count bytes)) ok seq err same is_log r t w = refused_goes (LogFull count bytes) (err (λ e. absurd (cc))) same r t w
   local_goes (Err LastNumber) ok seq err same is_log r t w = refused_goes LastNumber (err (λ e. absurd (cc))) same r t w
   local_goes (Err (Tree i refusal)) ok seq err same is_log r t w = refused_goes (Tree i refusal) (err (λ e. absurd (cc))) same r t w
   local_goes (Err Memory) ok seq err same is_log r t w =
-      subst (λ (next : Log). Goes client name (LocalEnds effect before (Err Memory) next) before next before i i r r t t w w) (sym same)
-      (goes_none name client (LocalEnds effect before (Err Memory) before) before i r t w keeps (inr (refl, refl, refl)))
+      subst (λ (next : Log). Goes client ships name (LocalEnds effect before (Err Memory) next) before next before i i r r t t w w) (sym same)
+      (goes_none name client ships (LocalEnds effect before (Err Memory) before) before i r t w keeps (inr (refl, refl, refl)))

@@ -1,5 +1,5 @@
 -- What a pull makes of its settling.
-use Rattle.std.proofs.Common.{◌≡◌, ◌≢◌, ◌⊎◌, inl, inr, ℕ, ◌≤◌, List, [], ◌∷◌, length, Option, Some, None, IfSome, Result, Ok, Err, IfOk, refl, sym, ap, subst, arith}
+use Rattle.std.proofs.Common.{Bool, false, is_some, ◌≡◌, ◌≢◌, ◌⊎◌, inl, inr, ℕ, ◌≤◌, List, [], ◌∷◌, length, Option, Some, None, IfSome, Result, Ok, Err, IfOk, refl, sym, ap, subst, arith}
 use Rattle.std.specs.Prelude.{unwrap_or}
 use Rattle.std.specs.declared.alloc.AllocError.{AllocError}
 use Rattle.outside.specs.Outside.{Told, Rose}
@@ -49,11 +49,11 @@ pub some_pending : (entries : List Entry) → 1 ≤ length entries → entries �
 some_pending [] some = absurd (omega arith)
 some_pending (entry ∷ entries) some = λ none. absurd (cc)
 
-pub pull_sends : (client : ℕ) (log : Log) → log.pending ≡ [] → MaySend client log (pull_of client log)
-pull_sends client log none = (refl, refl, none)
+pub pull_sends : (client : ℕ) (ships : Bool) (log : Log) → log.pending ≡ [] → MaySend client ships log (pull_of client log)
+pull_sends client ships log none = (refl, refl, none)
 
 pub pull_valid : (client : ℕ) (log : Log) → 1 ≤ client → client ≤ 64 → IsLog log → log.pending ≡ [] → IsValid (pull_of client log)
-pull_valid client log low high is none = sent_valid client log.acked log.base log.pending (pull_of client log) low high is (pull_sends client log none)
+pull_valid client log low high is none = sent_valid client false log.acked log.base log.pending (pull_of client log) low high is (pull_sends client false log none)
 
 -- ---- what a log makes of a snapshot
 
@@ -73,14 +73,17 @@ module _ (client : ℕ) (route : Route) (before : Log) (i : Option Images) (keep
   abbrev name : List ℕ
   name = route.image
 
+  abbrev ships : Bool
+  ships = is_some route.surrogate
+
   -- what a pull did over the link before it kept anything
   abbrev Asks : PullEnd → Log → LinkTelling → LinkTelling → Type 0
-  Asks end after t u = ToldWorlds t u (λ x y. Goes client name (PullAsks client route before end after) before after before i i no_runner no_runner t.troubles u.troubles x y)
+  Asks end after t u = ToldWorlds t u (λ x y. Goes client ships name (PullAsks client route before end after) before after before i i no_runner no_runner t.troubles u.troubles x y)
 
   -- entries are pending
   pub pull_waits : (count : ℕ) → before.pending ≢ [] → count ≡ length before.pending → (t : LinkTelling) → Asks (ends.Pending count) before t t
   pull_waits count some is t =
-      told_start t.world (λ x y. Goes client name (PullAsks client route before (ends.Pending count) before) before before before i i no_runner no_runner t.troubles t.troubles x y) (λ w. goes_none name client (PullAsks client route before (ends.Pending count) before) before i no_runner t.troubles w keeps (inl (some, is, refl, refl)))
+      told_start t.world (λ x y. Goes client ships name (PullAsks client route before (ends.Pending count) before) before before before i i no_runner no_runner t.troubles t.troubles x y) (λ w. goes_none name client ships (PullAsks client route before (ends.Pending count) before) before i no_runner t.troubles w keeps (inl (some, is, refl, refl)))
 
   module _ (none : before.pending ≡ []) (t u : LinkTelling) where
     abbrev request : Message
@@ -92,8 +95,8 @@ module _ (client : ℕ) (route : Route) (before : Log) (i : Option Images) (keep
     -- the asks of a settling, which change nothing
     asked : (end : PullEnd) (result : Result (Option Message) AllocError) (done : Settled Server route.server request t u result) → PullAsks client route before end before (asking done.asks) → Pulls_so end before
     asked end result done turn = told_as t.world u.world (λ x y. Moved request done.asks x y × AnswersStand y done.asks)
-        (λ x y. Goes client name (PullAsks client route before end before) before before before i i no_runner no_runner t.troubles u.troubles x y) done.told
-        (λ x y moved. goes_moved name client (PullAsks client route before end before) request done.asks before i no_runner t.troubles u.troubles x y keeps (pull_sends client before none) moved done.rose turn)
+        (λ x y. Goes client ships name (PullAsks client route before end before) before before before i i no_runner no_runner t.troubles u.troubles x y) done.told
+        (λ x y moved. goes_moved name client ships (PullAsks client route before end before) request done.asks before i no_runner t.troubles u.troubles x y keeps (pull_sends client ships before none) moved done.rose turn)
 
     -- eight asks failed
     pub pull_unanswered : Settled Server route.server request t u (Ok None) → Pulls_so ends.Unanswered before
@@ -113,11 +116,11 @@ module _ (client : ℕ) (route : Route) (before : Log) (i : Option Images) (keep
           let after : Log = pulled seen before in
           let is_last : last ≡ before.acked = met.0 in
           told_as t.world u.world (λ x y. Moved request done.asks x y × AnswersStand y done.asks)
-          (λ x y. Goes client name (PullAsks client route before (ends.Pulled count) after) before after before i i no_runner no_runner t.troubles u.troubles x y) done.told
+          (λ x y. Goes client ships name (PullAsks client route before (ends.Pulled count) after) before after before i i no_runner no_runner t.troubles u.troubles x y) done.told
           (λ x y moved.
           let stands = settled_stands route.server request y (Some (Snapshot client before.acked last seen)) done.asks done.settling moved.1 in
-          goes_changed name client (PullAsks client route before (ends.Pulled count) after) request done.asks before after i no_runner t.troubles u.troubles x y keeps (pull_sends client before none) moved done.rose
-          (runs_once client (kept_at before y) (Pulls last seen) (none, is_last, stands.0, met.1))
+          goes_changed name client ships (PullAsks client route before (ends.Pulled count) after) request done.asks before after i no_runner t.troubles u.troubles x y keeps (pull_sends client ships before none) moved done.rose
+          (runs_once client ships (kept_at before y) (Pulls last seen) (none, is_last, stands.0, met.1))
           (inl (snapshot (ends.Pulled count) after (followed (asking done.asks) (changing after)) met refl)))
 
       by_end : (end : PullEnd) (after : Log) → Meets before last seen end after → Pulls_so end after
@@ -184,9 +187,9 @@ module _ (before : Log) (none : before.pending ≡ []) (last : ℕ) (seen : Volu
 
 module _ (client : ℕ) (route : Route) (before after : Log) (i l : Option Images) (t u : ℕ) where
   -- rows were taken, and the log was to be kept
-  pulled_kept : (x y : World) (count : ℕ) (r : Result (Unit {0}) KeepError) → Goes client route.image (PullAsks client route before (ends.Pulled count) after) before after before i i no_runner no_runner t u x y
-      → Told i l (KeepsLog route.image client after r) → (kept : Log) × Goes client route.image (PullEnds client route before (pulled_end count r) after kept) before after kept i l no_runner no_runner t u x y
-  pulled_kept x y count r goes save = by r (goes_saved route.image client (PullAsks client route before (ends.Pulled count) after) before after before i i l no_runner no_runner t u x y r goes (changed goes.trace goes.turn) save)
+  pulled_kept : (x y : World) (count : ℕ) (r : Result (Unit {0}) KeepError) → Goes client (is_some route.surrogate) route.image (PullAsks client route before (ends.Pulled count) after) before after before i i no_runner no_runner t u x y
+      → Told i l (KeepsLog route.image client after r) → (kept : Log) × Goes client (is_some route.surrogate) route.image (PullEnds client route before (pulled_end count r) after kept) before after kept i l no_runner no_runner t u x y
+  pulled_kept x y count r goes save = by r (goes_saved route.image client (is_some route.surrogate) (PullAsks client route before (ends.Pulled count) after) before after before i i l no_runner no_runner t u x y r goes (changed goes.trace goes.turn) save)
     where
       changed : (trace : Trace) → PullAsks client route before (ends.Pulled count) after trace → trace.changes ≢ []
       changed trace (inl turn) = changed_so trace.changes after [] (ap (λ (n : Trace). n.changes) turn.trace_is)
@@ -196,31 +199,31 @@ module _ (client : ℕ) (route : Route) (before after : Log) (i l : Option Image
       snapshot trace (inl turn) = turn
       snapshot trace (inr broken) = absurd (cc (broken.0))
 
-      by : (r : Result (Unit {0}) KeepError) → (now : Log) × Goes client route.image (PullAsks client route before (ends.Pulled count) after) before after now i l no_runner no_runner t u x y × IfOk r (λ done. now ≡ after)
-          → (kept : Log) × Goes client route.image (PullEnds client route before (pulled_end count r) after kept) before after kept i l no_runner no_runner t u x y
+      by : (r : Result (Unit {0}) KeepError) → (now : Log) × Goes client (is_some route.surrogate) route.image (PullAsks client route before (ends.Pulled count) after) before after now i l no_runner no_runner t u x y × IfOk r (λ done. now ≡ after)
+          → (kept : Log) × Goes client (is_some route.surrogate) route.image (PullEnds client route before (pulled_end count r) after kept) before after kept i l no_runner no_runner t u x y
       by (Ok done) saved = (
         saved.0,
-        goes_as route.image client (PullAsks client route before (ends.Pulled count) after) (PullEnds client route before (ends.Pulled count) after saved.0) before after saved.0 i l no_runner no_runner t u x y saved.1
+        goes_as route.image client (is_some route.surrogate) (PullAsks client route before (ends.Pulled count) after) (PullEnds client route before (ends.Pulled count) after saved.0) before after saved.0 i l no_runner no_runner t u x y saved.1
             (λ trace turn. inl (snapshot trace turn, saved.2)),
       )
       by (Err keepers.Failed) saved = (
         saved.0,
-        goes_as route.image client (PullAsks client route before (ends.Pulled count) after) (PullEnds client route before ends.KeepFault after saved.0) before after saved.0 i l no_runner no_runner t u x y saved.1
+        goes_as route.image client (is_some route.surrogate) (PullAsks client route before (ends.Pulled count) after) (PullEnds client route before ends.KeepFault after saved.0) before after saved.0 i l no_runner no_runner t u x y saved.1
             (λ trace turn. inr (refl, inr (count, snapshot trace turn))),
       )
       by (Err keepers.Memory) saved = (
         saved.0,
-        goes_as route.image client (PullAsks client route before (ends.Pulled count) after) (PullEnds client route before ends.Memory after saved.0) before after saved.0 i l no_runner no_runner t u x y saved.1
+        goes_as route.image client (is_some route.surrogate) (PullAsks client route before (ends.Pulled count) after) (PullEnds client route before ends.Memory after saved.0) before after saved.0 i l no_runner no_runner t u x y saved.1
             (λ trace turn. inr (refl, inr (count, snapshot trace turn))),
       )
 
 -- and over the link
 pub pulled_went : (client : ℕ) (route : Route) (before after : Log) (i l : Option Images) (t u : LinkTelling) (count : ℕ) (r : Result (Unit {0}) KeepError) → Told i l (KeepsLog route.image client after r)
-    → ToldWorlds t u (λ x y. Goes client route.image (PullAsks client route before (ends.Pulled count) after) before after before i i no_runner no_runner t.troubles u.troubles x y)
-    → Went client route.image (PullEnds client route before (pulled_end count r) after) before after i l t u
+    → ToldWorlds t u (λ x y. Goes client (is_some route.surrogate) route.image (PullAsks client route before (ends.Pulled count) after) before after before i i no_runner no_runner t.troubles u.troubles x y)
+    → Went client (is_some route.surrogate) route.image (PullEnds client route before (pulled_end count r) after) before after i l t u
 pulled_went client route before after i l t u count r save goes =
-    told_as t.world u.world (λ x y. Goes client route.image (PullAsks client route before (ends.Pulled count) after) before after before i i no_runner no_runner t.troubles u.troubles x y)
-    (λ x y. (kept : Log) × Goes client route.image (PullEnds client route before (pulled_end count r) after kept) before after kept i l no_runner no_runner t.troubles u.troubles x y) goes
+    told_as t.world u.world (λ x y. Goes client (is_some route.surrogate) route.image (PullAsks client route before (ends.Pulled count) after) before after before i i no_runner no_runner t.troubles u.troubles x y)
+    (λ x y. (kept : Log) × Goes client (is_some route.surrogate) route.image (PullEnds client route before (pulled_end count r) after kept) before after kept i l no_runner no_runner t.troubles u.troubles x y) goes
     (λ x y did. pulled_kept client route before after i l t.troubles u.troubles x y count r did save)
 
 -- ends that are no Pulled
@@ -240,20 +243,20 @@ module _ (before after : Log) where
 
 -- a pull that changed nothing
 unpulled_kept : (client : ℕ) (route : Route) (before after : Log) (i : Option Images) (t u : ℕ) (x y : World) (end : PullEnd) → IsUnpulled end → PullLeaves end before after
-    → Goes client route.image (PullAsks client route before end after) before after before i i no_runner no_runner t u x y → (kept : Log) × Goes client route.image (PullEnds client route before end after kept) before after kept i i no_runner no_runner t u x y
+    → Goes client (is_some route.surrogate) route.image (PullAsks client route before end after) before after before i i no_runner no_runner t u x y → (kept : Log) × Goes client (is_some route.surrogate) route.image (PullEnds client route before end after kept) before after kept i i no_runner no_runner t u x y
 unpulled_kept client route before after i t u x y end other leaves goes =
-    (before, goes_as route.image client (PullAsks client route before end after) (PullEnds client route before end after before) before after before i i no_runner no_runner t u x y goes (λ trace turn. kept_so trace turn))
+    (before, goes_as route.image client (is_some route.surrogate) (PullAsks client route before end after) (PullEnds client route before end after before) before after before i i no_runner no_runner t u x y goes (λ trace turn. kept_so trace turn))
   where
     kept_so : (trace : Trace) → PullAsks client route before end after trace → PullEnds client route before end after before trace
     kept_so trace (inl turn) = inl (turn, sym (leaves_same before after end other leaves))
     kept_so trace (inr broken) = inr (ap is_broken_pull broken.0, inl broken.1)
 
 pub unpulled_went : (client : ℕ) (route : Route) (before after : Log) (i : Option Images) (t u : LinkTelling) (end : PullEnd) → IsUnpulled end → PullLeaves end before after
-    → ToldWorlds t u (λ x y. Goes client route.image (PullAsks client route before end after) before after before i i no_runner no_runner t.troubles u.troubles x y)
-    → Went client route.image (PullEnds client route before end after) before after i i t u
+    → ToldWorlds t u (λ x y. Goes client (is_some route.surrogate) route.image (PullAsks client route before end after) before after before i i no_runner no_runner t.troubles u.troubles x y)
+    → Went client (is_some route.surrogate) route.image (PullEnds client route before end after) before after i i t u
 unpulled_went client route before after i t u end other leaves goes =
-    told_as t.world u.world (λ x y. Goes client route.image (PullAsks client route before end after) before after before i i no_runner no_runner t.troubles u.troubles x y)
-    (λ x y. (kept : Log) × Goes client route.image (PullEnds client route before end after kept) before after kept i i no_runner no_runner t.troubles u.troubles x y) goes
+    told_as t.world u.world (λ x y. Goes client (is_some route.surrogate) route.image (PullAsks client route before end after) before after before i i no_runner no_runner t.troubles u.troubles x y)
+    (λ x y. (kept : Log) × Goes client (is_some route.surrogate) route.image (PullEnds client route before end after kept) before after kept i i no_runner no_runner t.troubles u.troubles x y) goes
     (λ x y did. unpulled_kept client route before after i t.troubles u.troubles x y end other leaves did)
 
 -- what is kept behind a pull

@@ -1,5 +1,5 @@
 -- What running a command makes of the client and the world.
-use Rattle.std.proofs.Common.{false, ◌≡◌, ◌≢◌, ◌⊎◌, inl, inr, ℕ, ◌+◌, length, List, [], ◌∷◌, ◌++◌, Option, Some, None, option_map, Ok, Err, refl, sym, ◌∙◌, ap, subst, arith}
+use Rattle.std.proofs.Common.{Bool, false, ◌≡◌, ◌≢◌, ◌⊎◌, inl, inr, ℕ, ◌+◌, length, List, [], ◌∷◌, ◌++◌, Option, Some, None, option_map, Ok, Err, refl, sym, ◌∙◌, ap, subst, arith}
 use Rattle.outside.specs.Outside.{Told, RisesWhere, CountsFault}
 use Rattle.sha2.specs.Sha256.{sha256}
 use Rattle.outside.specs.Keeper.{Images}
@@ -190,37 +190,37 @@ module _ (log : Log) (run : Run) where
 
 -- ---- in every world
 
-module _ (name : List ℕ) (client : ℕ) (work : List ℕ) (command : Command) (before : Log) (i : Option Images) (keeps : IsKept i name client before) (p q : RunnerTelling) (t : ℕ) (w : World) where
+module _ (name : List ℕ) (client : ℕ) (ships : Bool) (work : List ℕ) (command : Command) (before : Log) (i : Option Images) (keeps : IsKept i name client before) (p q : RunnerTelling) (t : ℕ) (w : World) where
   -- the log stood still
   still_goes : (T : Trace → Type 0) (after : Log) (runs : List Run) (missed : ℕ) (trace : Trace) → after ≡ before → trace ≡ running runs missed → T trace → HasRun trace.runs trace.missed p q
-      → Goes client name T before after before i i p q t t w w
+      → Goes client ships name T before after before i i p q t t w w
   still_goes T after runs missed trace same is turn has_run =
-      subst (λ (next : Log). Goes client name T before next before i i p q t t w w) (sym same)
-      (goes_ran name client T runs missed before i p q t w keeps (subst (λ (n : Trace). HasRun n.runs n.missed p q) is has_run) (subst T is turn))
+      subst (λ (next : Log). Goes client ships name T before next before i i p q t t w w) (sym same)
+      (goes_ran name client ships T runs missed before i p q t w keeps (subst (λ (n : Trace). HasRun n.runs n.missed p q) is has_run) (subst T is turn))
 
   -- an entry was logged
   logs_goes : (run : Run) (seq status : ℕ) (after : Log) (trace : Trace) → run_logged command run before ≡ Ok after → trace ≡ ran_trace command before run (ends.Logged seq status) after
       → RunEnds work command before (ends.Logged seq status) after trace → HasRun trace.runs trace.missed p q → IsLog after
-      → Goes client name (RunEnds work command before (ends.Logged seq status) after) before after before i i p q t t w w
+      → Goes client ships name (RunEnds work command before (ends.Logged seq status) after) before after before i i p q t t w w
   logs_goes run seq status after trace is shown turn has_run log_is =
       let entry : Entry = run_entry command run before in
       let end : RunEnd = ends.Logged seq status in
       let same : logged entry before ≡ after = appended-is (Some (origin_of command run)) (changes_of run) before after is in
       let seen : trace ≡ followed (running (run ∷ []) 0) (logging entry (logged entry before)) =
       subst (λ (next : Log). trace ≡ followed (running (run ∷ []) 0) (logging entry next)) (sym same) shown in
-      subst (λ (next : Log). Goes client name (RunEnds work command before end after) before next before i i p q t t w w) same
-      (goes_ran_logged name client (RunEnds work command before end after) (run ∷ []) 0 entry before i p q t w keeps (subst IsLog (sym same) log_is)
+      subst (λ (next : Log). Goes client ships name (RunEnds work command before end after) before next before i i p q t t w w) same
+      (goes_ran_logged name client ships (RunEnds work command before end after) (run ∷ []) 0 entry before i p q t w keeps (subst IsLog (sym same) log_is)
       (subst (λ (n : Trace). HasRun n.runs n.missed p q) seen has_run) (subst (RunEnds work command before end after) seen turn))
 
   -- what `run_command` makes of the client, in every world
-  pub run_goes : (end : RunEnd) (after : Log) → RunsCommand work command before end after p q → IsLog after → Goes client name (RunEnds work command before end after) before after before i i p q t t w w
+  pub run_goes : (end : RunEnd) (after : Log) → RunsCommand work command before end after p q → IsLog after → Goes client ships name (RunEnds work command before end after) before after before i i p q t t w w
   run_goes end after did log_is = by did.turn
     where
       T : Trace → Type 0
       T = RunEnds work command before end after
 
       turned : (e : RunEnd) → RunTurn work command before e after did.trace → RunEnds work command before e after did.trace
-          → Goes client name (RunEnds work command before e after) before after before i i p q t t w w
+          → Goes client ships name (RunEnds work command before e after) before after before i i p q t t w w
       turned (ends.Logged seq status) turn all = logs_goes turn.0 seq status after did.trace turn.2.1 turn.3 all did.has_run log_is
       turned (ends.Nothing status) turn all = still_goes (RunEnds work command before (ends.Nothing status) after) after (turn.0 ∷ []) 0 did.trace turn.2.3 turn.3 all did.has_run
       turned (ends.NoJob fault) turn all = still_goes (RunEnds work command before (ends.NoJob fault) after) after [] 0 did.trace turn.1 turn.2 all did.has_run
@@ -230,11 +230,11 @@ module _ (name : List ℕ) (client : ℕ) (work : List ℕ) (command : Command) 
       turned (ends.Refused refusal) turn all = still_goes (RunEnds work command before (ends.Refused refusal) after) after (turn.0 ∷ []) 0 did.trace turn.2.2 turn.3 all did.has_run
       turned ends.Memory turn all = absurd turn.2
 
-      broken : BreaksRun work command before did.trace → after ≡ before → Goes client name T before after before i i p q t t w w
+      broken : BreaksRun work command before did.trace → after ≡ before → Goes client ships name T before after before i i p q t t w w
       broken (inl none) same = still_goes T after [] 0 did.trace same none did.turn did.has_run
       broken (inr given) same = still_goes T after (given.0 ∷ []) 0 did.trace same given.2 did.turn did.has_run
 
-      by : RunEnds work command before end after did.trace → Goes client name T before after before i i p q t t w w
+      by : RunEnds work command before end after did.trace → Goes client ships name T before after before i i p q t t w w
       by (inl turn) = turned end turn did.turn
       by (inr why) = broken why.2 why.1
 

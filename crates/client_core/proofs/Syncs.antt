@@ -1,5 +1,5 @@
 -- What a sync makes of the settlings of its entries.
-use Rattle.std.proofs.Common.{true, false, ◌≡◌, ◌≢◌, ◌⊎◌, inl, inr, ℕ, suc, ◌+◌, ◌≤◌, arith, List, [], ◌∷◌, ◌++◌, Option, Some, None, IfSome, Result, Ok, Err, IfOk, refl, sym, ◌∙◌, ap, subst}
+use Rattle.std.proofs.Common.{Bool, is_some, true, false, ◌≡◌, ◌≢◌, ◌⊎◌, inl, inr, ℕ, suc, ◌+◌, ◌≤◌, arith, List, [], ◌∷◌, ◌++◌, Option, Some, None, IfSome, Result, Ok, Err, IfOk, refl, sym, ◌∙◌, ap, subst}
 use Rattle.std.specs.declared.alloc.AllocError.{AllocError}
 use Rattle.outside.specs.Outside.{Told, RoseBy, Rose}
 use Rattle.outside.specs.Keeper.{Images}
@@ -149,25 +149,28 @@ module _ (client : ℕ) (route : Route) (before : Log) where
   abbrev name : List ℕ
   name = route.image
 
+  abbrev ships : Bool
+  ships = is_some route.surrogate
+
   -- a sync so far
   abbrev pub Acked : Log → Trace → Type 0
   Acked after trace = (count : ℕ) × Acknowledges client route count before after trace
 
   -- and what it did over the link, each log being kept
   abbrev pub WentSoFar : Log → Option Images → Option Images → LinkTelling → LinkTelling → Type 0
-  WentSoFar mid i j t u = ToldWorlds t u (λ x y. Goes client name (Acked mid) before mid mid i j no_runner no_runner t.troubles u.troubles x y)
+  WentSoFar mid i j t u = ToldWorlds t u (λ x y. Goes client ships name (Acked mid) before mid mid i j no_runner no_runner t.troubles u.troubles x y)
 
   pub acked_none : (i : Option Images) (t : LinkTelling) → IsKept i name client before → WentSoFar before i i t t
   acked_none i t keeps =
-      told_start t.world (λ x y. Goes client name (Acked before) before before before i i no_runner no_runner t.troubles t.troubles x y) (λ w. goes_none name client (Acked before) before i no_runner t.troubles w keeps (0, (refl, refl)))
+      told_start t.world (λ x y. Goes client ships name (Acked before) before before before i i no_runner no_runner t.troubles t.troubles x y) (λ w. goes_none name client ships (Acked before) before i no_runner t.troubles w keeps (0, (refl, refl)))
 
   -- nothing is pending
-  pub sync_synced : (mid : Log) (i j : Option Images) (t u : LinkTelling) → mid.pending ≡ [] → WentSoFar mid i j t u → Went client name (SyncEnds client route before (ends.Synced mid.acked) mid) before mid i j t u
+  pub sync_synced : (mid : Log) (i j : Option Images) (t u : LinkTelling) → mid.pending ≡ [] → WentSoFar mid i j t u → Went client ships name (SyncEnds client route before (ends.Synced mid.acked) mid) before mid i j t u
   sync_synced mid i j t u none so_far =
-      told_as t.world u.world (λ x y. Goes client name (Acked mid) before mid mid i j no_runner no_runner t.troubles u.troubles x y) _ so_far
+      told_as t.world u.world (λ x y. Goes client ships name (Acked mid) before mid mid i j no_runner no_runner t.troubles u.troubles x y) _ so_far
       (λ x y goes. (
         mid,
-        goes_as name client (Acked mid) (SyncEnds client route before (ends.Synced mid.acked) mid mid) before mid mid i j no_runner no_runner t.troubles u.troubles x y goes
+        goes_as name client ships (Acked mid) (SyncEnds client route before (ends.Synced mid.acked) mid mid) before mid mid i j no_runner no_runner t.troubles u.troubles x y goes
             (λ m acked. inl ((acked.0, m, [], acked.1, inl (none, refl, refl), followed-nothing m), refl)),
       ))
 
@@ -180,24 +183,24 @@ module _ (client : ℕ) (route : Route) (before : Log) where
 
     -- the settling comes to an end of the sync
     pub sync_ends : (came : Option Message) (end : SyncEnd) → Settled Server route.server shipped u v (Ok came) → Some end ≡ end_by entry.seq came
-        → Went client name (SyncEnds client route before end mid) before mid i j t v
+        → Went client ships name (SyncEnds client route before end mid) before mid i j t v
     sync_ends came end done by =
-        told_then t.world u.world v.world (λ x y. Goes client name (Acked mid) before mid mid i j no_runner no_runner t.troubles u.troubles x y) (λ y z. Moved shipped done.asks y z × AnswersStand z done.asks) _ so_far done.told
+        told_then t.world u.world v.world (λ x y. Goes client ships name (Acked mid) before mid mid i j no_runner no_runner t.troubles u.troubles x y) (λ y z. Moved shipped done.asks y z × AnswersStand z done.asks) _ so_far done.told
         (λ x y z goes moved.
-        let last = goes_moved name client (λ (n : Trace). n ≡ asking done.asks) shipped done.asks mid j no_runner u.troubles v.troubles y z keeps (may_send client mid entry is first) moved done.rose refl in (
+        let last = goes_moved name client ships (λ (n : Trace). n ≡ asking done.asks) shipped done.asks mid j no_runner u.troubles v.troubles y z keeps (may_send client ships mid entry is first) moved done.rose refl in (
           mid,
-          goes_then name client (Acked mid) (λ (n : Trace). n ≡ asking done.asks) (SyncEnds client route before end mid mid) before mid mid mid i j j no_runner no_runner no_runner t.troubles u.troubles v.troubles x y z goes last
+          goes_then name client ships (Acked mid) (λ (n : Trace). n ≡ asking done.asks) (SyncEnds client route before end mid mid) before mid mid mid i j j no_runner no_runner no_runner t.troubles u.troubles v.troubles x y z goes last
               (λ m n acked is. inl ((acked.0, m, done.asks, acked.1, inr (record { entry = entry; first = first; came = came; settling = done.settling; end_is = sym by }), ap (followed m) is), refl)),
         ))
 
     -- memory was wanted in it
-    pub sync_breaks : (e : AllocError) → Settled Server route.server shipped u v (Err e) → Went client name (SyncEnds client route before ends.Memory mid) before mid i j t v
+    pub sync_breaks : (e : AllocError) → Settled Server route.server shipped u v (Err e) → Went client ships name (SyncEnds client route before ends.Memory mid) before mid i j t v
     sync_breaks e done =
-        told_then t.world u.world v.world (λ x y. Goes client name (Acked mid) before mid mid i j no_runner no_runner t.troubles u.troubles x y) (λ y z. Moved shipped done.asks y z × AnswersStand z done.asks) _ so_far done.told
+        told_then t.world u.world v.world (λ x y. Goes client ships name (Acked mid) before mid mid i j no_runner no_runner t.troubles u.troubles x y) (λ y z. Moved shipped done.asks y z × AnswersStand z done.asks) _ so_far done.told
         (λ x y z goes moved.
-        let last = goes_moved name client (λ (n : Trace). n ≡ asking done.asks) shipped done.asks mid j no_runner u.troubles v.troubles y z keeps (may_send client mid entry is first) moved done.rose refl in (
+        let last = goes_moved name client ships (λ (n : Trace). n ≡ asking done.asks) shipped done.asks mid j no_runner u.troubles v.troubles y z keeps (may_send client ships mid entry is first) moved done.rose refl in (
           mid,
-          goes_then name client (Acked mid) (λ (n : Trace). n ≡ asking done.asks) (SyncEnds client route before ends.Memory mid mid) before mid mid mid i j j no_runner no_runner no_runner t.troubles u.troubles v.troubles x y z goes last
+          goes_then name client ships (Acked mid) (λ (n : Trace). n ≡ asking done.asks) (SyncEnds client route before ends.Memory mid mid) before mid mid mid i j j no_runner no_runner no_runner t.troubles u.troubles v.troubles x y z goes last
               (λ m n acked is. inr (refl, (acked.0, m, done.asks, acked.1, inr (entry, first, done.settling), ap (followed m) is))),
         ))
 
@@ -206,16 +209,16 @@ module _ (client : ℕ) (route : Route) (before : Log) where
       change = followed (asking done.asks) (changing acked)
 
       -- the entry was acknowledged, and the log was to be kept
-      acked_saved : (l : Option Images) (r : Result (Unit {0}) KeepError) → Told j l (KeepsLog name client acked r) → (x y z : World) → Goes client name (Acked mid) before mid mid i j no_runner no_runner t.troubles u.troubles x y
+      acked_saved : (l : Option Images) (r : Result (Unit {0}) KeepError) → Told j l (KeepsLog name client acked r) → (x y z : World) → Goes client ships name (Acked mid) before mid mid i j no_runner no_runner t.troubles u.troubles x y
           → Moved shipped done.asks y z × AnswersStand z done.asks
-          → (kept : Log) × Goes client name (Acked acked) before acked kept i l no_runner no_runner t.troubles v.troubles x z × IfOk r (λ done. kept ≡ acked)
+          → (kept : Log) × Goes client ships name (Acked acked) before acked kept i l no_runner no_runner t.troubles v.troubles x z × IfOk r (λ done. kept ≡ acked)
       acked_saved l r save x y z goes moved =
           let stands = settled_stands route.server shipped z (Some (Accepted client entry.seq)) done.asks done.settling moved.1 in
-          let last = goes_acked name client (λ (n : Trace). n ≡ change) shipped (Accepted client entry.seq) done.asks mid j no_runner u.troubles v.troubles y z keeps (may_send client mid entry is first) moved done.rose
+          let last = goes_acked name client ships (λ (n : Trace). n ≡ change) shipped (Accepted client entry.seq) done.asks mid j no_runner u.troubles v.troubles y z keeps (may_send client ships mid entry is first) moved done.rose
           (first_some mid.pending entry first) (refl, first_number mid entry is first) stands.0 refl in
-          let saved = goes_saved name client (λ (n : Trace). n ≡ change) mid acked mid j j l no_runner no_runner u.troubles v.troubles y z r last (changed_so last.trace.changes acked [] (ap (λ (n : Trace). n.changes) last.turn)) save in (
+          let saved = goes_saved name client ships (λ (n : Trace). n ≡ change) mid acked mid j j l no_runner no_runner u.troubles v.troubles y z r last (changed_so last.trace.changes acked [] (ap (λ (n : Trace). n.changes) last.turn)) save in (
             saved.0,
-            goes_then name client (Acked mid) (λ (n : Trace). n ≡ change) (Acked acked) before mid acked saved.0 i j l no_runner no_runner no_runner t.troubles u.troubles v.troubles x y z goes saved.1
+            goes_then name client ships (Acked mid) (λ (n : Trace). n ≡ change) (Acked acked) before mid acked saved.0 i j l no_runner no_runner no_runner t.troubles u.troubles v.troubles x y z goes saved.1
                 (λ m n so ends. (
                   suc so.0,
                   (
@@ -234,20 +237,20 @@ module _ (client : ℕ) (route : Route) (before : Log) where
       pub acked_more : (l : Option Images) (r : Result (Unit {0}) KeepError) → Told j l (KeepsLog name client acked r) → IfOk r (λ kept. WentSoFar acked i l t v)
       acked_more l (Err e) save = tt
       acked_more l (Ok kept) save =
-          told_then t.world u.world v.world (λ x y. Goes client name (Acked mid) before mid mid i j no_runner no_runner t.troubles u.troubles x y) (λ y z. Moved shipped done.asks y z × AnswersStand z done.asks)
-          (λ x z. Goes client name (Acked acked) before acked acked i l no_runner no_runner t.troubles v.troubles x z) so_far done.told
+          told_then t.world u.world v.world (λ x y. Goes client ships name (Acked mid) before mid mid i j no_runner no_runner t.troubles u.troubles x y) (λ y z. Moved shipped done.asks y z × AnswersStand z done.asks)
+          (λ x z. Goes client ships name (Acked acked) before acked acked i l no_runner no_runner t.troubles v.troubles x z) so_far done.told
           (λ x y z goes moved.
           let saved = acked_saved l (Ok kept) save x y z goes moved in
-          subst (λ (k : Log). Goes client name (Acked acked) before acked k i l no_runner no_runner t.troubles v.troubles x z) saved.2 saved.1)
+          subst (λ (k : Log). Goes client ships name (Acked acked) before acked k i l no_runner no_runner t.troubles v.troubles x z) saved.2 saved.1)
 
       pub sync_unkept : (l : Option Images) (e : KeepError) → Told j l (KeepsLog {E = KeepError} name client acked (Err e))
-          → Went client name (SyncEnds client route before (unkept_end e) acked) before acked i l t v
+          → Went client ships name (SyncEnds client route before (unkept_end e) acked) before acked i l t v
       sync_unkept l e save =
-          told_then t.world u.world v.world (λ x y. Goes client name (Acked mid) before mid mid i j no_runner no_runner t.troubles u.troubles x y) (λ y z. Moved shipped done.asks y z × AnswersStand z done.asks) _ so_far done.told
+          told_then t.world u.world v.world (λ x y. Goes client ships name (Acked mid) before mid mid i j no_runner no_runner t.troubles u.troubles x y) (λ y z. Moved shipped done.asks y z × AnswersStand z done.asks) _ so_far done.told
           (λ x y z goes moved.
           let saved = acked_saved l (Err e) save x y z goes moved in (
             saved.0,
-            goes_as name client (Acked acked) (SyncEnds client route before (unkept_end e) acked saved.0) before acked saved.0 i l no_runner no_runner t.troubles v.troubles x z saved.1
+            goes_as name client ships (Acked acked) (SyncEnds client route before (unkept_end e) acked saved.0) before acked saved.0 i l no_runner no_runner t.troubles v.troubles x z saved.1
                 (λ m acked. inr (broken e, (acked.0, m, [], acked.1, inl refl, followed-nothing m))),
           ))
         where

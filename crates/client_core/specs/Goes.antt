@@ -1,5 +1,5 @@
 -- What a client's calls do to its log, to what is kept of it and to the world about it, by one relation that goes on from call to call.
-use Rattle.std.specs.Prelude.{◌≡◌, ◌≢◌, ℕ, ◌≤◌, List, [], Option, Some}
+use Rattle.std.specs.Prelude.{◌≡◌, ◌≢◌, ℕ, ◌≤◌, Bool, List, [], Option, Some}
 use Rattle.outside.specs.Outside.{RoseBy}
 use Rattle.outside.specs.Keeper.{Images}
 use Rattle.cmd_capture.specs.declared.runner.Run.{Run}
@@ -31,19 +31,19 @@ stand log kept world = record { log = log; kept = kept; world = world }
 -- Between two moments, at the first of which its log was kept under this name, a client did what these turns say. In all of it its
 -- log, what is kept of it and the world went on by moves that were possible, among them these asks and these logged entries; what
 -- the keeper tells is kept for the log so kept; what the runner tells went on by these runs; and the troubles rose by at least the
--- asks that failed.
-pub record Goes (client : ℕ) (name : List ℕ) (turns : Trace → Type 0) (before after kept : Log) (images images_now : Option Images) (runner ran : RunnerTelling) (troubles now : ℕ) (old new : World) : Type 0 where
+-- asks that failed. Where it ships nothing but stores, `ships` is false.
+pub record Goes (client : ℕ) (ships : Bool) (name : List ℕ) (turns : Trace → Type 0) (before after kept : Log) (images images_now : Option Images) (runner ran : RunnerTelling) (troubles now : ℕ) (old new : World) : Type 0 where
   pub trace : Trace
   pub turn : turns trace
-  pub runs : Runs client trace.entries trace.asks (kept_at before old) (stand after kept new)
+  pub runs : Runs client ships trace.entries trace.asks (kept_at before old) (stand after kept new)
   pub keeping : Keeping name client before after kept trace.changes images images_now
   pub has_run : HasRun trace.runs trace.missed runner ran
   pub rose : RoseBy (failed_asks trace.asks) troubles now
 
 -- Over a link that tells its world, a client did what these turns of what is kept at the end say, and let nothing run.
-abbrev pub Went : ℕ → List ℕ → (Log → Trace → Type 0) → Log → Log → Option Images → Option Images → LinkTelling → LinkTelling → Type 0
-Went client name turns before after images images_now old new =
-    ToldWorlds old new (λ v w. (kept : Log) × Goes client name (turns kept) before after kept images images_now no_runner no_runner old.troubles new.troubles v w)
+abbrev pub Went : ℕ → Bool → List ℕ → (Log → Trace → Type 0) → Log → Log → Option Images → Option Images → LinkTelling → LinkTelling → Type 0
+Went client ships name turns before after images images_now old new =
+    ToldWorlds old new (λ v w. (kept : Log) × Goes client ships name (turns kept) before after kept images images_now no_runner no_runner old.troubles new.troubles v w)
 
 -- A new client's world: its server has taken nothing of the client, and no message of the client was sent.
 pub record IsNew (client : ℕ) (world : World) : Type 0 where

@@ -1,5 +1,5 @@
 -- What the ends of syncs and pulls tell of the world, read off what was asked and answered.
-use Rattle.std.specs.Prelude.{◌≡◌, ◌⊎◌, ℕ, true, List, [], Option}
+use Rattle.std.specs.Prelude.{◌≡◌, ◌⊎◌, ℕ, Bool, true, List, [], Option}
 use Rattle.outside.specs.Outside.{Rose}
 use Rattle.outside.specs.Keeper.{Images}
 use Rattle.cmd_capture.specs.Runs.{RunnerTelling}
@@ -39,8 +39,8 @@ PullsMeetTheirLast = (client : ℕ) (route : Route) (before after : Log) (end : 
 -- A sync without trouble, in which no other client's store was taken, in which no content is taken for another, and before which the
 -- served tree was the client's after its last taken entry, ends with all entries acknowledged, or was broken off.
 abbrev pub CalmSyncsAreComplete : Type 0
-CalmSyncsAreComplete = (client : ℕ) (route : Route) (name : List ℕ) (before after kept : Log) (end : SyncEnd) (images images_now : Option Images) (runner ran : RunnerTelling) (troubles later : ℕ) (old new : World)
-    → (goes : Goes client name (SyncEnds client route before end after kept) before after kept images images_now runner ran troubles later old new)
+CalmSyncsAreComplete = (client : ℕ) (ships : Bool) (route : Route) (name : List ℕ) (before after kept : Log) (end : SyncEnd) (images images_now : Option Images) (runner ran : RunnerTelling) (troubles later : ℕ) (old new : World)
+    → (goes : Goes client ships name (SyncEnds client route before end after kept) before after kept images images_now runner ran troubles later old new)
     → InStep client before old → HasNoCollision client before.pending new.packets → (Rose troubles later → ⊥)
     → ((message : Message) → IsIn message (taken_in goes.runs.moves (kept_at before old)) → client_of message ≡ client)
     → old.served.volume ≡ tree_at (old.served.last client) before

@@ -1,5 +1,5 @@
 // Pulling the server's rows.
-ghost use Rattle.std.specs.Prelude.{◌≡◌, ◌≢◌, ◌⊎◌, ℕ, ◌≤◌, [], Option, IfOk, IfSome};
+ghost use Rattle.std.specs.Prelude.{◌≡◌, ◌≢◌, ◌⊎◌, ℕ, ◌≤◌, [], is_some, Option, IfOk, IfSome};
 ghost use Rattle.std.specs.Option.{option_copied};
 ghost use Rattle.outside.specs.Outside.{RisesWhere};
 ghost use Rattle.outside.specs.Keeper.{Images};
@@ -65,7 +65,7 @@ impl Client {
         keeper: &mut K,
     ) -> PullEnd
         requires { IsKept (K.images keeper.old) route.now.image self.old.number self.old.log }
-        ensures world { Went self.old.number route.now.image
+        ensures world { Went self.old.number (is_some route.now.surrogate) route.now.image
             (PullEnds self.old.number route.now self.old.log result self.new.log) self.old.log self.new.log
             (K.images keeper.old) (K.images keeper.new) (L.tells link.old) (L.tells link.new) }
         ensures cause { HasPullCause result self.old.log self.new.log
@@ -111,7 +111,7 @@ fn pull_log<L: Link>(client: u8, route: &Route, log: &mut Log, link: &mut L) -> 
     requires high { client ≤ 64 }
     ensures world { (images : Option Images) → IsKept images route.now.image client log.old
         → ToldWorlds (L.tells link.old) (L.tells link.new)
-        (λ old new. Goes client route.now.image (PullAsks client route.now log.old result log.new) log.old log.new log.old
+        (λ old new. Goes client (is_some route.now.surrogate) route.now.image (PullAsks client route.now log.old result log.new) log.old log.new log.old
         images images no_runner no_runner (L.tells link.old).troubles (L.tells link.new).troubles old new) }
     ensures cause { (faults now : ℕ)
         → HasPullCause result log.old log.new (L.tells link.old).troubles (L.tells link.new).troubles faults now }

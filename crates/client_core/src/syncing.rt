@@ -1,5 +1,5 @@
 // Settling the pending entries with the server.
-ghost use Rattle.std.specs.Prelude.{◌≡◌, ◌⊎◌, ◌≤◌, [], IfOk};
+ghost use Rattle.std.specs.Prelude.{◌≡◌, ◌⊎◌, ◌≤◌, [], is_some, IfOk};
 ghost use Rattle.outside.specs.Outside.{Rose, RisesWhere};
 ghost use Rattle.wire_frames.specs.Frame.{IsValid};
 ghost use Rattle.world_rules.specs.declared.asking.Peer.TheVariants.{Server};
@@ -74,7 +74,7 @@ impl Client {
         keeper: &mut K,
     ) -> SyncEnd
         requires { IsKept (K.images keeper.old) route.now.image self.old.number self.old.log }
-        ensures world { Went self.old.number route.now.image
+        ensures world { Went self.old.number (is_some route.now.surrogate) route.now.image
             (SyncEnds self.old.number route.now self.old.log result self.new.log) self.old.log self.new.log
             (K.images keeper.old) (K.images keeper.new) (L.tells link.old) (L.tells link.new) }
         ensures cause { HasSyncCause result self.new.log (L.tells link.old).troubles (L.tells link.new).troubles

@@ -1,4 +1,4 @@
-use Rattle.std.proofs.Common.{◌≡◌, ℕ, List, refl, sym, subst}
+use Rattle.std.proofs.Common.{is_some, ◌≡◌, ℕ, List, refl, sym, subst}
 use Rattle.outside.specs.Outside.{Told, RisesWhere}
 use Rattle.world_rules.specs.Telling.{LinkTelling}
 use Rattle.client_core.specs.Client.{Client}
@@ -32,8 +32,8 @@ returns-clause-world g c =
     let end = c.pulled_end.result in
     let l = g.K.Keeper.images c.keep_log-kept.new.keeper in
     let save : Told i l (KeepsLog route.image client after r) = subst (λ (n : List ℕ). Told i l (KeepsLog n client after r)) c.bytes.ensures.value c.keep_log-kept.ensures.kept in
-    subst (λ (self : Client). Went self.number route.image (PullEnds self.number route self.log end after) self.log after i l t u) c.self.view_is
-    (subst (λ (e : PullEnd). Went client route.image (PullEnds client route before e after) before after i l t u) (sym c.pulled_end.ensures)
+    subst (λ (self : Client). Went self.number (is_some route.surrogate) route.image (PullEnds self.number route self.log end after) self.log after i l t u) c.self.view_is
+    (subst (λ (e : PullEnd). Went client (is_some route.surrogate) route.image (PullEnds client route before e after) before after i l t u) (sym c.pulled_end.ensures)
     (pulled_went client route before after i l t u count r save (c.in-Pulled.ensures.world i keeps)))
 
 pub returns-clause-cause : goal.returns-clause-cause
@@ -85,7 +85,7 @@ returns-clause-honest g c =
     let r = c.keep_log-kept.result in
     let end = c.pulled_end.result in
     let l = g.K.Keeper.images c.keep_log-kept.new.keeper in
-    pull_not_other c.args.self.now.number route c.args.self.now.log after route.image end i l t u (returns-clause-world g c)
+    pull_not_other c.args.self.now.number route c.args.self.now.log after (is_some route.surrogate) route.image end i l t u (returns-clause-world g c)
 
 pub returns-clause-fresh : goal.returns-clause-fresh
 returns-clause-fresh g c = λ calm.
@@ -116,7 +116,7 @@ returns-in_default-clause-world g c =
     let u : LinkTelling = g.L.Link.tells c.pull_log.new.link in
     let keeps : IsKept i route.image client before = subst (λ (self : Client). IsKept i route.image self.number self.log) (sym c.self.view_is) c.requires in
     let end = c.pull_log.result in
-    subst (λ (self : Client). Went self.number route.image (PullEnds self.number route self.log end after) self.log after i i t u) c.self.view_is
+    subst (λ (self : Client). Went self.number (is_some route.surrogate) route.image (PullEnds self.number route self.log end after) self.log after i i t u) c.self.view_is
     (unpulled_went client route before after i t u end (unpulled end c.in_default.not-Pulled) c.pull_log.ensures.leaves (c.pull_log.ensures.world i keeps))
 
 pub returns-in_default-clause-cause : goal.returns-in_default-clause-cause
@@ -152,7 +152,7 @@ returns-in_default-clause-honest g c =
     let i = g.K.Keeper.images c.args.keeper.now in
     let t : LinkTelling = g.L.Link.tells c.args.link.now in
     let u : LinkTelling = g.L.Link.tells c.pull_log.new.link in
-    pull_not_other c.args.self.now.number route c.args.self.now.log after route.image c.pull_log.result i i t u (returns-in_default-clause-world g c)
+    pull_not_other c.args.self.now.number route c.args.self.now.log after (is_some route.surrogate) route.image c.pull_log.result i i t u (returns-in_default-clause-world g c)
 
 pub returns-in_default-clause-fresh : goal.returns-in_default-clause-fresh
 returns-in_default-clause-fresh g c = λ calm.

@@ -1,4 +1,4 @@
-use Rattle.std.proofs.Common.{◌≡◌, ◌∙◌, ℕ, List, Ok, Err, Some, Option, refl, ap, sym, subst, arith}
+use Rattle.std.proofs.Common.{is_some, ◌≡◌, ◌∙◌, ℕ, List, Ok, Err, Some, Option, refl, ap, sym, subst, arith}
 use Rattle.outside.specs.Outside.{Told, RisesWhere}
 use Rattle.outside.specs.declared.errors.KeepError.{KeepError}
 use Rattle.mod_log.specs.Log.{Log, acknowledged}
@@ -68,7 +68,7 @@ returns-in-Err-clause-world g c =
     let entry = c.in-Some.entry.now in
     let first : IsFirst entry mid.pending = first_is mid.pending entry c.in-Some.ensures.entry in
     let v : LinkTelling = g.L.Link.tells c.settle_store.new.link in
-    subst (λ (self : Client). Went self.number route.image (SyncEnds self.number route self.log Memory mid) self.log mid i j t v) c.self.view_is
+    subst (λ (self : Client). Went self.number (is_some route.surrogate) route.image (SyncEnds self.number route self.log Memory mid) self.log mid i j t v) c.self.view_is
     (sync_breaks client route before mid entry c.in-Some.ensures.log first i j keeps t u v c.loop-entry.invariant.world c.in-Err._refused c.in-Err.ensures.settled)
 
 pub returns-in-Err-clause-keeps : goal.returns-in-Err-clause-keeps
@@ -110,7 +110,7 @@ returns-in-Err-clause-honest g c =
     let j = g.K.Keeper.images c.loop-entry.keeper in
     let t : LinkTelling = g.L.Link.tells c.args.link.now in
     let u : LinkTelling = g.L.Link.tells c.loop-entry.link in
-    went_true client route.image route before mid Memory i j t (g.L.Link.tells c.settle_store.new.link) (returns-in-Err-clause-world g c)
+    went_true client (is_some route.surrogate) route.image route before mid Memory i j t (g.L.Link.tells c.settle_store.new.link) (returns-in-Err-clause-world g c)
 
 pub returns-in-Err-clause-complete : goal.returns-in-Err-clause-complete
 returns-in-Err-clause-complete g c = λ calm sound.
@@ -122,7 +122,7 @@ returns-in-Err-clause-complete g c = λ calm sound.
     let j = g.K.Keeper.images c.loop-entry.keeper in
     let t : LinkTelling = g.L.Link.tells c.args.link.now in
     let u : LinkTelling = g.L.Link.tells c.loop-entry.link in
-    went_complete client route.image route before mid Memory i j t (g.L.Link.tells c.settle_store.new.link) (returns-in-Err-clause-world g c) (g.K.Keeper.faults c.args.keeper.now) (g.K.Keeper.faults c.loop-entry.keeper) (returns-in-Err-clause-cause g c) calm sound
+    went_complete client (is_some route.surrogate) route.image route before mid Memory i j t (g.L.Link.tells c.settle_store.new.link) (returns-in-Err-clause-world g c) (g.K.Keeper.faults c.args.keeper.now) (g.K.Keeper.faults c.loop-entry.keeper) (returns-in-Err-clause-cause g c) calm sound
 
 pub returns-in-Err-clause-settled : goal.returns-in-Err-clause-settled
 returns-in-Err-clause-settled g c = λ none sound.
@@ -158,7 +158,7 @@ returns-in-Some-end_by-clause-world g c =
     let v : LinkTelling = g.L.Link.tells c.settle_store.new.link in
     let came = c.in-Ok.reply in
     let end = c.in-Some-end_by.end in
-    subst (λ (self : Client). Went self.number route.image (SyncEnds self.number route self.log end mid) self.log mid i j t v) c.self.view_is
+    subst (λ (self : Client). Went self.number (is_some route.surrogate) route.image (SyncEnds self.number route self.log end mid) self.log mid i j t v) c.self.view_is
     (sync_ends client route before mid entry c.in-Some.ensures.log first i j keeps t u v c.loop-entry.invariant.world came end c.in-Ok.ensures.settled c.in-Some-end_by.ensures)
 
 pub returns-in-Some-end_by-clause-keeps : goal.returns-in-Some-end_by-clause-keeps
@@ -215,7 +215,7 @@ returns-in-Some-end_by-clause-honest g c =
     let j = g.K.Keeper.images c.loop-entry.keeper in
     let t : LinkTelling = g.L.Link.tells c.args.link.now in
     let u : LinkTelling = g.L.Link.tells c.loop-entry.link in
-    went_true client route.image route before mid c.in-Some-end_by.end i j t (g.L.Link.tells c.settle_store.new.link) (returns-in-Some-end_by-clause-world g c)
+    went_true client (is_some route.surrogate) route.image route before mid c.in-Some-end_by.end i j t (g.L.Link.tells c.settle_store.new.link) (returns-in-Some-end_by-clause-world g c)
 
 pub returns-in-Some-end_by-clause-complete : goal.returns-in-Some-end_by-clause-complete
 returns-in-Some-end_by-clause-complete g c = λ calm sound.
@@ -227,7 +227,7 @@ returns-in-Some-end_by-clause-complete g c = λ calm sound.
     let j = g.K.Keeper.images c.loop-entry.keeper in
     let t : LinkTelling = g.L.Link.tells c.args.link.now in
     let u : LinkTelling = g.L.Link.tells c.loop-entry.link in
-    went_complete client route.image route before mid c.in-Some-end_by.end i j t (g.L.Link.tells c.settle_store.new.link) (returns-in-Some-end_by-clause-world g c) (g.K.Keeper.faults c.args.keeper.now) (g.K.Keeper.faults c.loop-entry.keeper) (returns-in-Some-end_by-clause-cause g c) calm sound
+    went_complete client (is_some route.surrogate) route.image route before mid c.in-Some-end_by.end i j t (g.L.Link.tells c.settle_store.new.link) (returns-in-Some-end_by-clause-world g c) (g.K.Keeper.faults c.args.keeper.now) (g.K.Keeper.faults c.loop-entry.keeper) (returns-in-Some-end_by-clause-cause g c) calm sound
 
 pub returns-in-Some-end_by-clause-settled : goal.returns-in-Some-end_by-clause-settled
 returns-in-Some-end_by-clause-settled g c = λ none sound.
@@ -316,9 +316,9 @@ returns-in-Err-keep_log-clause-world g c =
     let kept : Told j l (KeepsLog {E = KeepError} route.image client (acknowledged_first mid) (Err refused)) =
     subst (λ (log : Log). Told j l (KeepsLog {E = KeepError} route.image client log (Err refused))) (sym is)
     (subst (λ (n : List ℕ). Told j l (KeepsLog {E = KeepError} n client next (Err refused))) c.bytes.ensures.value c.in-Err-keep_log.ensures.kept) in
-    subst (λ (self : Client). Went self.number route.image (SyncEnds self.number route self.log c.unkept_end.result next) self.log next i l t v) c.self.view_is
-    (subst (λ (end : SyncEnd). Went client route.image (SyncEnds client route before end next) before next i l t v) (sym c.unkept_end.ensures)
-    (subst (λ (log : Log). Went client route.image (SyncEnds client route before (unkept_end refused) log) before log i l t v) is
+    subst (λ (self : Client). Went self.number (is_some route.surrogate) route.image (SyncEnds self.number route self.log c.unkept_end.result next) self.log next i l t v) c.self.view_is
+    (subst (λ (end : SyncEnd). Went client (is_some route.surrogate) route.image (SyncEnds client route before end next) before next i l t v) (sym c.unkept_end.ensures)
+    (subst (λ (log : Log). Went client (is_some route.surrogate) route.image (SyncEnds client route before (unkept_end refused) log) before log i l t v) is
     (sync_unkept client route before mid entry c.in-Some.ensures.log first i j keeps t u v c.loop-entry.invariant.world done l refused kept)))
 
 pub returns-in-Err-keep_log-clause-keeps : goal.returns-in-Err-keep_log-clause-keeps
@@ -379,7 +379,7 @@ returns-in-Err-keep_log-clause-honest g c =
     let j = g.K.Keeper.images c.loop-entry.keeper in
     let t : LinkTelling = g.L.Link.tells c.args.link.now in
     let u : LinkTelling = g.L.Link.tells c.loop-entry.link in
-    went_true client route.image route before c.acknowledge.new.self c.unkept_end.result i (g.K.Keeper.images c.keep_log.new.keeper) t (g.L.Link.tells c.settle_store.new.link) (returns-in-Err-keep_log-clause-world g c)
+    went_true client (is_some route.surrogate) route.image route before c.acknowledge.new.self c.unkept_end.result i (g.K.Keeper.images c.keep_log.new.keeper) t (g.L.Link.tells c.settle_store.new.link) (returns-in-Err-keep_log-clause-world g c)
 
 pub returns-in-Err-keep_log-clause-complete : goal.returns-in-Err-keep_log-clause-complete
 returns-in-Err-keep_log-clause-complete g c = λ calm sound.
@@ -391,7 +391,7 @@ returns-in-Err-keep_log-clause-complete g c = λ calm sound.
     let j = g.K.Keeper.images c.loop-entry.keeper in
     let t : LinkTelling = g.L.Link.tells c.args.link.now in
     let u : LinkTelling = g.L.Link.tells c.loop-entry.link in
-    went_complete client route.image route before c.acknowledge.new.self c.unkept_end.result i (g.K.Keeper.images c.keep_log.new.keeper) t (g.L.Link.tells c.settle_store.new.link) (returns-in-Err-keep_log-clause-world g c) (g.K.Keeper.faults c.args.keeper.now) (g.K.Keeper.faults c.keep_log.new.keeper) (returns-in-Err-keep_log-clause-cause g c) calm sound
+    went_complete client (is_some route.surrogate) route.image route before c.acknowledge.new.self c.unkept_end.result i (g.K.Keeper.images c.keep_log.new.keeper) t (g.L.Link.tells c.settle_store.new.link) (returns-in-Err-keep_log-clause-world g c) (g.K.Keeper.faults c.args.keeper.now) (g.K.Keeper.faults c.keep_log.new.keeper) (returns-in-Err-keep_log-clause-cause g c) calm sound
 
 pub returns-in-Err-keep_log-clause-settled : goal.returns-in-Err-keep_log-clause-settled
 returns-in-Err-keep_log-clause-settled g c = λ none sound.
@@ -457,8 +457,8 @@ returns-clause-world g c =
     let t : LinkTelling = g.L.Link.tells c.args.link.now in
     let u : LinkTelling = g.L.Link.tells c.loop-entry.link in
     let none = none_is mid.pending c.in_default.ensures.entry in
-    subst (λ (self : Client). Went self.number route.image (SyncEnds self.number route self.log (Synced c.acked.result) mid) self.log mid i j t u) c.self.view_is
-    (subst (λ (n : ℕ). Went client route.image (SyncEnds client route before (Synced n) mid) before mid i j t u) (sym c.acked.ensures.acked)
+    subst (λ (self : Client). Went self.number (is_some route.surrogate) route.image (SyncEnds self.number route self.log (Synced c.acked.result) mid) self.log mid i j t u) c.self.view_is
+    (subst (λ (n : ℕ). Went client (is_some route.surrogate) route.image (SyncEnds client route before (Synced n) mid) before mid i j t u) (sym c.acked.ensures.acked)
     (sync_synced client route before mid i j t u none c.loop-entry.invariant.world))
 
 pub returns-clause-keeps : goal.returns-clause-keeps
@@ -508,7 +508,7 @@ returns-clause-honest g c =
     let j = g.K.Keeper.images c.loop-entry.keeper in
     let t : LinkTelling = g.L.Link.tells c.args.link.now in
     let u : LinkTelling = g.L.Link.tells c.loop-entry.link in
-    went_true client route.image route before mid (Synced c.acked.result) i j t u (returns-clause-world g c)
+    went_true client (is_some route.surrogate) route.image route before mid (Synced c.acked.result) i j t u (returns-clause-world g c)
 
 pub returns-clause-complete : goal.returns-clause-complete
 returns-clause-complete g c = λ calm sound.
@@ -520,7 +520,7 @@ returns-clause-complete g c = λ calm sound.
     let j = g.K.Keeper.images c.loop-entry.keeper in
     let t : LinkTelling = g.L.Link.tells c.args.link.now in
     let u : LinkTelling = g.L.Link.tells c.loop-entry.link in
-    went_complete client route.image route before mid (Synced c.acked.result) i j t u (returns-clause-world g c) (g.K.Keeper.faults c.args.keeper.now) (g.K.Keeper.faults c.loop-entry.keeper) (returns-clause-cause g c) calm sound
+    went_complete client (is_some route.surrogate) route.image route before mid (Synced c.acked.result) i j t u (returns-clause-world g c) (g.K.Keeper.faults c.args.keeper.now) (g.K.Keeper.faults c.loop-entry.keeper) (returns-clause-cause g c) calm sound
 
 pub returns-clause-settled : goal.returns-clause-settled
 returns-clause-settled g c = λ none sound.
