@@ -73,7 +73,7 @@ fn command(alloc: Global, script: &[u8]) -> Result<Command, Fail>
 
 /// Runs the job by a runner of its own in `work`, where it leaves nothing.
 fn ran(rt: &HostRuntime, work: &str, job: &Job) -> Result<Outcome, Fail> {
-    let mut runner = ChildRunner::new(rt, process::id(rt.process()));
+    let mut runner = ChildRunner::new(rt, process::id(rt.process()), None);
     let outcome = runner.run(work.as_bytes(), job)?;
     match fs::remove_dir(rt, work) {
         Ok(()) => Ok(outcome),

@@ -1,2 +1,3 @@
 pub mod Found
 pub mod Variables
+pub mod Waiting

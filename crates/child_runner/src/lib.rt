@@ -1,5 +1,5 @@
-//! Jobs as programs of this machine. Each runs in a fresh folder, which is read back and removed; each run that failed is
-//! counted. No link is followed.
+//! Jobs as programs of this machine. Each runs in a fresh folder, which is read back and removed, for as long as it may; each
+//! run that failed is counted. No link is followed.
 #![tactic(auto)]
 
 mod faults;
@@ -11,6 +11,7 @@ mod removing;
 mod runner;
 mod starting;
 mod texts;
+mod waiting;
 mod writing;
 
 pub use folders::MAX_TRIED;

@@ -18,23 +18,28 @@ use std::alloc::AllocGlobal;
 use std::fs::Files;
 use std::io;
 use std::process::Processes;
+use std::time::{Clock, Duration};
 
 /// Runs jobs as programs of this machine, each in a fresh folder.
 #[derive(Drop)]
-pub struct ChildRunner<'a, R: Files + Processes + AllocGlobal> {
+pub struct ChildRunner<'a, R: Files + Processes + AllocGlobal + Clock> {
     host: &'a R,
     process: u32,
+    longest: Option<Duration>,
     faults: u64,
 }
 
-impl<'a, R: Files + Processes + AllocGlobal> ChildRunner<'a, R> {
-    /// A runner that has not failed yet, of the process with this number. It starts nothing.
-    pub fn new(host: &'a R, process: u32) -> ChildRunner<'a, R>
-        ensures { result.faults ≡ 0 }
+impl<'a, R: Files + Processes + AllocGlobal + Clock> ChildRunner<'a, R> {
+    /// A runner that has not failed yet, of the process with this number. It starts nothing. A program may run for the `longest`
+    /// time, where there is one: then it is ended, which is a run that failed. What it started itself goes on.
+    pub fn new(host: &'a R, process: u32, longest: Option<Duration>) -> ChildRunner<'a, R>
+        ensures faults { result.faults ≡ 0 }
+        ensures longest { result.longest ≡ longest }
     {
         ChildRunner {
             host,
             process,
+            longest,
             faults: 0,
         }
     }
@@ -91,13 +96,13 @@ impl<'a, R: Files + Processes + AllocGlobal> ChildRunner<'a, R> {
         ensures { IfOk result (λ outcome. IsSmall outcome.rows) }
     {
         write_rows(self.host, folder, job.rows.as_slice())?;
-        let status = run_there(self.host, folder, &job.command)?;
+        let status = run_there(self.host, folder, &job.command, self.longest)?;
         let rows = read_rows(self.host, folder)?;
         Ok(Outcome { status, rows })
     }
 }
 
-impl<'a, R: Files + Processes + AllocGlobal> Runner for ChildRunner<'a, R> {
+impl<'a, R: Files + Processes + AllocGlobal + Clock> Runner for ChildRunner<'a, R> {
     ghost runs = { λ _. None };
 
     ghost faults = { λ runner. runner.faults };

@@ -5,21 +5,24 @@ ghost use Rattle.file_paths.specs.Path.{path_text};
 ghost use Rattle.child_runner.specs.Variables.{TellsVariables};
 
 use crate::texts::{place_in, text_of};
+use crate::waiting::ended;
 use cmd_capture::{Command, Env};
 use file_paths::{Content, Path};
 use std::alloc::{AllocGlobal, Global};
 use std::io::{self, ErrorKind};
 use std::process::{self, ExitStatus, Processes, Stdio};
+use std::time::{Clock, Duration};
 
-/// Starts the command's program in the folder, and waits until it has ended. It has no input, and what it writes to its
-/// streams is not kept.
-pub(crate) fn run_there<R: Processes + AllocGlobal>(
+/// Starts the command's program in the folder, and waits until it has ended, at most for the longest time that it may run. It has
+/// no input, and what it writes to its streams is not kept.
+pub(crate) fn run_there<R: Processes + AllocGlobal + Clock>(
     host: &R,
     folder: &str,
     command: &Command,
+    longest: Option<Duration>,
 ) -> io::Result<u8> {
     let mut start = start_of(host.alloc(), folder, command)?;
-    let ended = start.status(host);
+    let ended = ended(host, &mut start, longest);
     drop(start);
     status_of(ended?)
 }

@@ -142,7 +142,7 @@ pub fn client_main<
     }
     let mut input = StdSource::new(rt.reader());
     let mut keeper = FileKeeper::new(rt.alloc(), rt);
-    let mut runner = ChildRunner::new(rt, process);
+    let mut runner = ChildRunner::new(rt, process, None);
     clear_work(&mut runner, words);
     let mut link = TcpLink::new(rt.alloc(), rt);
     answered(
@@ -158,7 +158,7 @@ pub fn client_main<
 }
 
 /// Removes what processes that are gone left in the work folder of these words. Where that fails, it stays.
-fn clear_work<R: AllocGlobal + Files<File = File> + Processes>(
+fn clear_work<R: AllocGlobal + Files<File = File> + Processes + Clock>(
     runner: &mut ChildRunner<'_, R>,
     words: &[String],
 ) {

@@ -3,3 +3,4 @@ pub mod Frames
 pub mod Held
 pub mod Inside
 pub mod Pace
+pub mod Patience

@@ -40,6 +40,10 @@ fresh now = record { start = now; head_seconds = window_seconds; moved = 0 }
 abbrev pub of_request : Instant → Window
 of_request now = record { start = now; head_seconds = head_seconds; moved = 0 }
 
+-- the window of a wait of so many seconds that begins at a moment
+abbrev pub waiting : ℕ → Instant → Window
+waiting seconds now = record { start = now; head_seconds = seconds; moved = 0 }
+
 -- for how many nanoseconds a window has gone on
 abbrev pub spent : Window → Instant → ℕ
 spent window now = instant_nanos now - instant_nanos window.start
@@ -59,6 +63,10 @@ StartsBy start window = (now : Instant) × (window ≡ start now)
 -- what is left of a window at some moment
 abbrev pub Lasts : Window → ℕ → Type 0
 Lasts window left = (now : Instant) × (left ≡ limit window - spent window now)
+
+-- a wait of so many seconds had gone on for all of them at some moment
+abbrev pub HasWaited : ℕ → Window → Type 0
+HasWaited seconds window = StartsBy (waiting seconds) window × (now : Instant) × (seconds * second ≤ spent window now)
 
 -- the window that holds after one: itself, or where it is over and moved its share, the next one
 abbrev pub GoesOn : Window → Window → Type 0

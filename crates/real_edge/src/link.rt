@@ -5,10 +5,12 @@ ghost use Rattle.wire_frames.specs.declared.message.Message.{Message};
 ghost use Rattle.wire_frames.specs.Frame.{Spells};
 ghost use Rattle.world_rules.specs.World.{World};
 ghost use Rattle.world_rules.specs.Asking.{IsRequest, IsReplyTo, AsksOnce, IsDirect};
+ghost use Rattle.real_edge.specs.Pace.{HasWaited};
+ghost use Rattle.real_edge.specs.Patience.{patience, is_about, after_silence, after_answer};
 
 use crate::faults::count_fault;
 use crate::frames::read_frame;
-use crate::pace::Paced;
+use crate::pace::{Paced, WINDOW_SECONDS};
 use std::alloc::Global;
 use std::io;
 use std::io::{ErrorKind, Read, Write};
@@ -17,17 +19,30 @@ use std::time::{Clock, Duration};
 use wire_frames::{FrameError, Message, echoes, read};
 use world_rules::{Link, LinkError, Peer};
 
+/// For how many seconds the first byte of a surrogate's answer is waited for: it runs a command before, which it ends after 500
+/// seconds, and asks its server before and behind it. So the answer that the command ran too long comes in time, too.
+const COMMAND_SECONDS: u64 = 600;
+
 /// The longest wait for one address of a peer to answer.
 const CONNECT_SECONDS: u64 = 10;
 
 /// The most addresses of one name that are tried.
 const MOST_ADDRESSES: usize = 4;
 
-/// Asks over TCP, each over a connection of its own.
+/// The entry that a request is about.
+#[derive(Clone, Copy)]
+struct About {
+    client: u8,
+    number: u64,
+}
+
+/// Asks over TCP, each over a connection of its own. The entry of which the surrogate was `silent` is remembered, so that a
+/// surrogate that is gone costs one long wait for each entry, and no eight.
 #[derive(Drop)]
 pub struct TcpLink<'a, N: Net + Clock> {
     alloc: Global,
     net: &'a N,
+    silent: Option<About>,
     troubles: u64,
 }
 
@@ -39,57 +54,133 @@ impl<'a, N: Net + Clock> TcpLink<'a, N> {
         TcpLink {
             alloc,
             net,
+            silent: None,
             troubles: 0,
         }
     }
 
-    /// Sends the frame over a new connection, and gives the frame that comes back.
-    pub(crate) fn exchange(&self, address: &[u8], frame: &[u8]) -> io::Result<Vec<u8>> {
+    /// Sends the frame over a new connection, and gives the frame that comes back; none where its first byte has not come within
+    /// so many seconds.
+    pub(crate) fn exchange(
+        &self,
+        address: &[u8],
+        frame: &[u8],
+        seconds: u64,
+    ) -> io::Result<Option<Vec<u8>>> {
         let stream = connect(self.net, address)?;
         let mut stream = Paced::start(stream, self.net)?;
-        let reply = converse(self.alloc, &mut stream, frame);
+        let reply = converse(self.alloc, &mut stream, frame, seconds);
         drop(stream);
         reply
     }
 
     /// Asks once, and gives the frame that comes back where it spells a reply to the request.
-    fn reply_to(&self, address: &[u8], frame: &[u8]) -> Result<Vec<u8>, LinkError>
-        ensures { (request : Message) → Spells request frame.now → IfOk result (λ bytes. IsReplyTo request bytes.items) }
+    fn reply_to(&mut self, to: Peer, address: &[u8], frame: &[u8]) -> Result<Vec<u8>, LinkError>
+        ensures reply { (request : Message) → Spells request frame.now → IfOk result (λ bytes. IsReplyTo request bytes.items) }
+        ensures troubles { self.new.troubles ≡ self.old.troubles }
     {
-        let bytes = match self.exchange(address, frame) {
-            Ok(bytes) => bytes,
-            Err(error) => return Err(refusal_of(error)),
-        };
-        match check_reply(self.alloc, frame, &bytes) {
-            Ok(()) => Ok(bytes),
-            Err(refused) => Err(refused),
+        match read(self.alloc, frame) {
+            Ok(request) => {
+                let reply = self.reply_to_request(to, address, &request, frame);
+                drop(request);
+                reply
+            }
+            Err(refused) => Err(failure_of(&refused)),
+        }
+    }
+
+    /// Asks once, and gives the frame that comes back where it spells a reply to this request, which the frame spells.
+    fn reply_to_request(
+        &mut self,
+        to: Peer,
+        address: &[u8],
+        request: &Message,
+        frame: &[u8],
+    ) -> Result<Vec<u8>, LinkError>
+        ensures reply { IfOk result (λ bytes. IsReplyTo request.now bytes.items) }
+        ensures troubles { self.new.troubles ≡ self.old.troubles }
+    {
+        let seconds = patience(self.silent, to, request);
+        match self.exchange(address, frame, seconds) {
+            Ok(Some(bytes)) => {
+                self.silent = after_answer(self.silent, to);
+                match check_echo(self.alloc, request, &bytes) {
+                    Ok(()) => Ok(bytes),
+                    Err(refused) => Err(refused),
+                }
+            }
+            Ok(None) => {
+                self.silent = after_silence(self.silent, to, request);
+                Err(LinkError::Failed)
+            }
+            Err(error) => Err(refusal_of(error)),
         }
     }
 }
 
-/// Sends the frame, and reads the one that comes back once the peer has worked.
+/// For how many seconds an ask waits for the first byte of its answer, where the surrogate was silent of an entry.
+fn patience(silent: Option<About>, to: Peer, request: &Message) -> u64
+    ensures { result ≡ patience silent to request.now }
+{
+    match to {
+        Peer::Server => WINDOW_SECONDS,
+        Peer::Surrogate => {
+            if is_about(silent, request) {
+                WINDOW_SECONDS
+            } else {
+                COMMAND_SECONDS
+            }
+        }
+    }
+}
+
+/// Whether the request is about this entry.
+fn is_about(entry: Option<About>, request: &Message) -> bool
+    ensures { result ≡ is_about entry request.now }
+{
+    match entry {
+        Some(about) => about.client == request.client() && about.number == request.number(),
+        None => false,
+    }
+}
+
+/// Of which entry the surrogate was silent, after an ask to which no byte came in time.
+fn after_silence(silent: Option<About>, to: Peer, request: &Message) -> Option<About>
+    ensures { result ≡ after_silence silent to request.now }
+{
+    match to {
+        Peer::Server => silent,
+        Peer::Surrogate => Some(About {
+            client: request.client(),
+            number: request.number(),
+        }),
+    }
+}
+
+/// Of which entry it was silent, after an answer.
+fn after_answer(silent: Option<About>, to: Peer) -> Option<About>
+    ensures { result ≡ after_answer silent to }
+{
+    match to {
+        Peer::Server => silent,
+        Peer::Surrogate => None,
+    }
+}
+
+/// Sends the frame, and reads the one that comes back once the peer has worked; none where that takes longer than so many seconds.
 fn converse<S: Read + Write + OpenStream + Drop, C: Clock>(
     alloc: Global,
     stream: &mut Paced<'_, S, C>,
     frame: &[u8],
-) -> io::Result<Vec<u8>> {
-    stream.write_all(frame)?;
-    stream.wait()?;
-    read_frame(alloc, stream)
-}
-
-/// Refuses bytes that spell no reply to the request of this frame.
-fn check_reply(alloc: Global, frame: &[u8], bytes: &[u8]) -> Result<(), LinkError>
-    ensures { (request : Message) → Spells request frame.now → OnOk result (IsReplyTo request bytes.now) }
+    seconds: u64,
+) -> io::Result<Option<Vec<u8>>>
+    ensures { IfOk result (λ reply. reply ≡ None → HasWaited seconds stream.new.window) }
 {
-    match read(alloc, frame) {
-        Ok(request) => {
-            let checked = check_echo(alloc, &request, bytes);
-            drop(request);
-            checked
-        }
-        Err(refused) => Err(failure_of(&refused)),
+    stream.write_all(frame)?;
+    if !stream.wait(seconds)? {
+        return Ok(None);
     }
+    Ok(Some(read_frame(alloc, stream)?))
 }
 
 /// Refuses bytes that spell no reply to the request.
@@ -146,21 +237,21 @@ impl<'a, N: Net + Clock> Link for TcpLink<'a, N> {
 
     ghost keeps_then = { λ _ _ _ _ _. tt };
 
-    fn ask(&mut self, _to: Peer, address: &[u8], frame: &[u8]) -> Result<Vec<u8>, LinkError>
-        requires { (request : Message) × Spells request frame.now × IsRequest _to request }
+    fn ask(&mut self, to: Peer, address: &[u8], frame: &[u8]) -> Result<Vec<u8>, LinkError>
+        requires { (request : Message) × Spells request frame.now × IsRequest to request }
         ensures reply { (request : Message) → Spells request frame.now
             → IfOk result (λ bytes. IsReplyTo request bytes.items) }
         ensures world { (request : Message) → Spells request frame.now
-            → Told {A = World} None None (λ old new. AsksOnce _to address.now request old new result) }
-        ensures direct { (request : Message) → Spells request frame.now → _to ≡ Peer.Server
+            → Told {A = World} None None (λ old new. AsksOnce to address.now request old new result) }
+        ensures direct { (request : Message) → Spells request frame.now → to ≡ Peer.Server
             → (Rose self.old.troubles self.new.troubles → ⊥)
-            → Told {A = World} None None (λ old new. IsDirect _to address.now request old new result) }
+            → Told {A = World} None None (λ old new. IsDirect to address.now request old new result) }
         ensures cause { HasCause LinkError.Failed self.old.troubles self.new.troubles result }
         ensures kept { Unit {0} }
 
         ensures counted { CountsFault LinkError.Failed self.old.troubles self.new.troubles result }
     {
-        let answered = self.reply_to(address, frame);
+        let answered = self.reply_to(to, address, frame);
         if let Err(LinkError::Failed) = &answered {
             count_fault(&mut self.troubles);
         }

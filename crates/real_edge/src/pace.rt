@@ -1,9 +1,9 @@
 // How long a connection may take.
-ghost use Rattle.std.specs.Prelude.{◌≡◌, ◌-◌, ◌*◌, ◌≤◌, ◌<◌, min, None, Some, IfOk, OnOk, OnErr, MatchOption};
+ghost use Rattle.std.specs.Prelude.{◌≡◌, ◌-◌, ◌*◌, ◌≤◌, ◌<◌, min, true, false, None, Some, IfOk, OnOk, OnErr, MatchOption};
 ghost use Rattle.std.specs.Duration.{as_nanos};
 ghost use Rattle.std.specs.Io.{ReadsAtMost, WritesAtMost};
 ghost use Rattle.std.specs.Io.KnownBytes.{Keeps, ReadConsumes, WriteAppends};
-ghost use Rattle.real_edge.specs.Pace.{window_bytes, silence, parting, fresh, of_request, spent, limit, after_bytes, StartsBy, GoesOn, Moves, Lasts};
+ghost use Rattle.real_edge.specs.Pace.{window_bytes, silence, parting, fresh, of_request, waiting, spent, limit, after_bytes, StartsBy, GoesOn, Moves, Lasts, HasWaited};
 
 use std::io;
 use std::io::{ErrorKind, Read, Write};
@@ -14,7 +14,7 @@ use std::time::{Clock, Duration, Instant};
 const TRIES: usize = 1_000;
 
 /// How many seconds a window has.
-const WINDOW_SECONDS: u64 = 30;
+pub(crate) const WINDOW_SECONDS: u64 = 30;
 
 /// How many bytes a window has to move, so that another follows it.
 const WINDOW_BYTES: u64 = 30_720;
@@ -59,6 +59,17 @@ impl Window {
         Window {
             start,
             head_seconds: HEAD_SECONDS,
+            moved: 0,
+        }
+    }
+
+    /// The window of a wait of so many seconds that begins at this moment.
+    fn waiting(start: Instant, seconds: u64) -> Window
+        ensures { result ≡ waiting seconds start }
+    {
+        Window {
+            start,
+            head_seconds: seconds,
             moved: 0,
         }
     }
@@ -139,16 +150,25 @@ impl<'a, S: Read + Write + OpenStream + Drop, C: Clock> Paced<'a, S, C> {
         Ok(())
     }
 
-    /// Waits for the peer's next byte, or its end, and starts the stream's time anew there.
-    pub(crate) fn wait(&mut self) -> io::Result<()>
-        ensures window { OnOk result (StartsBy fresh self.new.window) }
+    /// Waits for the peer's next byte, or its end, and starts the stream's time anew there. Answers whether one of them came
+    /// within so many seconds.
+    pub(crate) fn wait(&mut self, seconds: u64) -> io::Result<bool>
+        ensures window { IfOk result (λ came. came ≡ true → StartsBy fresh self.new.window) }
+        ensures vain { IfOk result (λ came. came ≡ false → HasWaited seconds self.new.window) }
         ensures stream { self.new.stream ≡ self.old.stream }
     {
-        self.restart()?;
+        self.window = Window::waiting(Instant::now(self.clock)?, seconds);
         for _ in 0..TRIES {
-            self.limit_read()?;
+            let left = self.window.left(Instant::now(self.clock)?);
+            if left.is_zero() {
+                return Ok(false);
+            }
+            self.stream.set_read_timeout(Some(left))?;
             match self.stream.peek(&mut [0]) {
-                Ok(_) => return self.restart(),
+                Ok(_) => {
+                    self.restart()?;
+                    return Ok(true);
+                }
                 Err(error) if is_passing(&error) => {}
                 Err(error) => return Err(error),
             }

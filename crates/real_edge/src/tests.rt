@@ -4,10 +4,12 @@ use crate::{TcpLink, TcpPort};
 use outside::{Port, PortError};
 use std::alloc::Global;
 use std::io::{self, ErrorKind, Read, Write};
-use std::net::{IpAddr, Ipv4Addr, Net, OpenListener, OpenStream, Shutdown, SocketAddr};
+use std::net::{
+    IpAddr, Ipv4Addr, Net, OpenListener, OpenStream, Shutdown, SocketAddr, TcpListener,
+};
 use std::os::fd::{AsRawFd, RawFd};
 use std::test::Fail;
-use std::time::{Clock, Duration};
+use std::time::{Clock, Duration, Instant};
 
 /// What a peer sends.
 const SENT: &[u8] = b"\0\0\0\x02hi";
@@ -151,15 +153,27 @@ fn an_answer_that_is_not_taken_whole_is_a_fault(rt: HostRuntime) -> Result<(), F
 #[test]
 fn a_request_is_sent_once(rt: HostRuntime) -> Result<(), Fail> {
     let others = Others { room: SENT.len() };
-    let reply = exchanged(rt.alloc(), &others)?;
-    assert_eq!(rt; reply.as_slice(), SENT);
+    let reply = exchanged(rt.alloc(), &others, "127.0.0.4:7001")?;
+    assert_eq!(rt; reply.as_deref(), Some(SENT));
     Ok(())
 }
 
-/// What comes back to a request over a new link.
-fn exchanged<N: Net + Clock>(alloc: Global, net: &N) -> io::Result<Vec<u8>> {
+/// What comes back to a request over a new link within a second.
+fn exchanged<N: Net + Clock>(alloc: Global, net: &N, address: &str) -> io::Result<Option<Vec<u8>>> {
     let link = TcpLink::new(alloc, net);
-    link.exchange(b"127.0.0.4:7001", SENT)
+    link.exchange(address.as_bytes(), SENT, 1)
+}
+
+/// A listener has connections made for it, which it does not take.
+#[test]
+fn a_silent_peer_is_waited_for_as_long_as_was_said(rt: HostRuntime) -> Result<(), Fail> {
+    let listener = TcpListener::bind(&rt, "127.0.0.1:0")?;
+    let number = listener.local_addr()?.port();
+    let address = format!(in rt.alloc(); "127.0.0.1:{number}")?;
+    let start = Instant::now(&rt)?;
+    assert_eq!(rt; exchanged(rt.alloc(), &rt, address.as_str())?, None);
+    assert!(rt; start.elapsed(&rt)? >= Duration::from_secs(1));
+    Ok(())
 }
 
 #[test]

@@ -3,6 +3,7 @@ use child_runner::ChildRunner;
 use cmd_capture::{Command, Env, Job, JobRow, JobRows, Outcome, Runner, Templates, Words};
 use std::alloc::AllocError;
 use std::test::Fail;
+use std::time::{Duration, Instant};
 use std::{fs, process};
 use vol_tree::{Content, Node, Path, Paths};
 
@@ -77,7 +78,17 @@ fn count(rt: &HostRuntime, folder: &str) -> Result<usize, Fail> {
 
 /// Runs the job in `work`, where it leaves nothing, and shows what came of it, with the count of a fault.
 fn ran_as(rt: &HostRuntime, work: &str, job: &Job) -> Result<String, Fail> {
-    let mut runner = ChildRunner::new(rt, process::id(rt.process()));
+    ran_within(rt, work, job, None)
+}
+
+/// The same, where the job may run no longer than this.
+fn ran_within(
+    rt: &HostRuntime,
+    work: &str,
+    job: &Job,
+    longest: Option<Duration>,
+) -> Result<String, Fail> {
+    let mut runner = ChildRunner::new(rt, process::id(rt.process()), longest);
     let text = match runner.run(work.as_bytes(), job) {
         Ok(outcome) => shown(rt, &outcome)?,
         Err(error) => format!(in rt.alloc(); "{error}, {}", runner.faults())?,
@@ -142,6 +153,22 @@ fn what_does_not_exist_is_not_started(rt: HostRuntime) -> Result<(), Fail> {
     Ok(())
 }
 
+#[test]
+fn what_runs_too_long_is_ended(rt: HostRuntime) -> Result<(), Fail> {
+    let start = Instant::now(&rt)?;
+    for (script, wanted) in [
+        ("printf 1 > c; exec sleep 40", "the run failed, 1"),
+        ("kill -9 $$", "the run failed, 1"),
+        ("sleep 0.1; printf 1 > c; exit 3", "3 a/ a/b=old c=1"),
+    ] {
+        let job = job(&rt, "/bin/sh", "", script)?;
+        let text = ran_within(&rt, "work_long", &job, Some(Duration::from_secs(2)))?;
+        assert_eq!(rt; text.as_str(), wanted);
+    }
+    assert!(rt; start.elapsed(&rt)? < Duration::from_secs(30));
+    Ok(())
+}
+
 /// A user who may read everything reads the folder, too; for another it is a fault. It is removed either way.
 #[test]
 fn a_folder_without_rights_is_removed(rt: HostRuntime) -> Result<(), Fail> {
@@ -182,8 +209,8 @@ fn two_runners_have_one_work(rt: HostRuntime) -> Result<(), Fail> {
     let number = process::id(rt.process());
     let folder = format!(in rt.alloc(); "work_two/run-{number}-0")?;
     fs::create_dir_all(&rt, folder.as_str())?;
-    let mut one = ChildRunner::new(&rt, number);
-    let mut other = ChildRunner::new(&rt, number);
+    let mut one = ChildRunner::new(&rt, number, None);
+    let mut other = ChildRunner::new(&rt, number, None);
     assert!(rt; is_run(&rt, &mut one, "work_two")?);
     assert!(rt; is_run(&rt, &mut other, "work_two")?);
     assert_eq!(rt; count(&rt, "work_two")?, 1);
@@ -202,7 +229,7 @@ fn make(rt: &HostRuntime, work: &str, name: &str) -> Result<(), Fail> {
 #[test]
 fn folders_of_processes_that_are_gone_are_removed(rt: HostRuntime) -> Result<(), Fail> {
     let number = process::id(rt.process());
-    let mut runner = ChildRunner::new(&rt, number);
+    let mut runner = ChildRunner::new(&rt, number, None);
     assert_eq!(rt; runner.clear(b"work_left"), Ok(()));
     let own = format!(in rt.alloc(); "run-{number}-0")?;
     for name in [GONE, own.as_str(), "run-04194305-0", "run-4194305-0x"] {

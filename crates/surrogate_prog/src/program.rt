@@ -20,7 +20,7 @@ use std::io;
 use std::net::Net;
 use std::process::{ExitCode, Processes};
 use std::rt::{Env, Files};
-use std::time::Clock;
+use std::time::{Clock, Duration};
 use world_rules::Link;
 
 const HELP: &str = "\
@@ -31,7 +31,8 @@ next one. A frame has a command that a client has run: it is run again here, on 
 server's files, and where what it makes agrees with the client's the server is
 asked to take it. At its end it writes 'served K faults F': K frames were taken,
 and F calls of the network failed. A fault ends one connection alone. A command
-that runs long, or a peer that is slow, holds up the others.
+that runs long, or a peer that is slow, holds up the others. A command may run for
+500 seconds: then it is ended, and its client is told that it was not run.
 
 LISTEN is an address with a port, and SERVER that of the server. WORK is a folder:
 each command runs in a new folder in it, with the rights of this program, and the
@@ -61,6 +62,10 @@ pub(crate) const PAGES: Pages = Pages {
     help: HELP,
     version: VERSION,
 };
+
+/// How many seconds a command may run. A client waits 600 seconds for the first byte of its answer: a command that is ended
+/// before is told in time as one that was not run, and the client ships its files in its place.
+const COMMAND_SECONDS: u64 = 500;
 
 /// The program's name, as standard error tells it.
 pub(crate) const NAME: &str = "surrogate";
@@ -118,7 +123,7 @@ fn serve_bound<R: Eprint + AllocGlobal + Files<File = File> + Net + Clock + Proc
     match bound {
         Ok(mut port) => {
             let mut link = TcpLink::new(rt.alloc(), rt);
-            let mut runner = ChildRunner::new(rt, process);
+            let mut runner = ChildRunner::new(rt, process, Some(Duration::from_secs(COMMAND_SECONDS)));
             served(
                 rt,
                 rt.alloc(),

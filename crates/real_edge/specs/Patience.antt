@@ -1,0 +1,32 @@
+-- For how long the first byte of an answer is waited for.
+use Rattle.std.specs.Prelude.{ℕ, Bool, false, ◌==◌, ◌&&◌, if◌then◌else◌, Option, None, Some}
+use Rattle.world_rules.specs.declared.asking.Peer.{Peer}
+use Rattle.world_rules.specs.declared.asking.Peer.TheVariants.{Server, Surrogate}
+use Rattle.wire_frames.specs.declared.message.Message.{Message}
+use Rattle.wire_frames.specs.Frame.{client_of, number_of}
+use Rattle.real_edge.specs.declared.link.About.{About}
+use Rattle.real_edge.specs.Pace.{window_seconds}
+
+-- for how many seconds a surrogate may run a command and answer
+abbrev pub command_seconds : ℕ
+command_seconds = 600
+
+-- the entry is the one that the request is about
+abbrev pub is_about : Option About → Message → Bool
+is_about None request = false
+is_about (Some entry) request = (entry.client == client_of request) && (entry.number == number_of request)
+
+-- for how many seconds an ask waits, where the surrogate was silent of an entry
+abbrev pub patience : Option About → Peer → Message → ℕ
+patience silent Server request = window_seconds
+patience silent Surrogate request = if is_about silent request then window_seconds else command_seconds
+
+-- of which entry the surrogate was silent, after an ask to which no byte came in time
+abbrev pub after_silence : Option About → Peer → Message → Option About
+after_silence silent Server request = silent
+after_silence silent Surrogate request = Some (record { client = client_of request; number = number_of request })
+
+-- and after an answer
+abbrev pub after_answer : Option About → Peer → Option About
+after_answer silent Server = silent
+after_answer silent Surrogate = None
