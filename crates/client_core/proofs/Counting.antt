@@ -4,7 +4,7 @@ use Rattle.outside.specs.Outside.{Rose, raised, RisesWhere, CountsFault}
 use Rattle.outside.specs.declared.errors.KeepError.{KeepError}
 use Rattle.outside.specs.declared.errors.KeepError.TheVariants as keepers
 use Rattle.wire_frames.specs.declared.message.Message.{Message}
-use Rattle.wire_frames.specs.declared.message.Message.TheVariants.{Accepted, Stale, Unfit, Gap, Full}
+use Rattle.wire_frames.specs.declared.message.Message.TheVariants.{Accepted, Done, Stale, Unfit, Gap, Full}
 use Rattle.client_core.specs.declared.syncing.SyncEnd.{SyncEnd}
 use Rattle.client_core.specs.declared.syncing.SyncEnd.TheVariants as syncs
 use Rattle.client_core.specs.declared.pulling.PullEnd.TheVariants as pulls
@@ -28,6 +28,7 @@ unkept_rises keepers.Memory before between now same counts = unrisen (syncs.Memo
 pub end_by_reply : (number : ℕ) (reply : Option Message) (end : SyncEnd) → Some end ≡ end_by number reply → end ≡ syncs.KeepFault → ⊥
 end_by_reply number None end by is = absurd (cc)
 end_by_reply number (Some (Accepted client seq)) end by is = absurd (cc)
+end_by_reply number (Some (Done client seq)) end by is = absurd (cc)
 end_by_reply number (Some (Stale client seq path theirs ours)) end by is = absurd (cc)
 end_by_reply number (Some (Unfit client seq index fault)) end by is = absurd (cc)
 end_by_reply number (Some (Full client seq index fault)) end by is = absurd (cc)

@@ -1,9 +1,10 @@
 -- The first pending entry: it has the next number, and its store may be sent.
-use Rattle.std.proofs.Common.{Bool, false, ◌≡◌, ◌≢◌, inl, ℕ, ◌+◌, ◌-◌, ◌<◌, ◌≤◌, List, [], ◌∷◌, length, drop, Some, None, slice_get, refl, sym, ◌∙◌, ap, arith}
+use Rattle.std.proofs.Common.{Bool, false, ◌≡◌, ◌≢◌, inl, ℕ, ◌+◌, ◌-◌, ◌<◌, ◌≤◌, List, [], ◌∷◌, length, drop, Some, None, slice_get, refl, sym, ◌∙◌, ap, subst, arith}
 use Rattle.tree_values.specs.Tree.{Volume}
 use Rattle.tree_values.specs.Lists.{IsIn}
 use Rattle.mod_log.specs.declared.log.Entry.{Entry}
 use Rattle.mod_log.specs.Log.{Log, IsLog, AreEntriesOf, acknowledged}
+use Rattle.mod_log.specs.Origin.{MadeByFits}
 use Rattle.wire_frames.specs.Frame.{IsValid}
 use Rattle.world_rules.specs.InStep.{MaySend}
 use Rattle.world_rules.proofs.Sending.{sent_valid}
@@ -30,12 +31,20 @@ numbered : (number : ℕ) (base : Volume) (pending : List Entry) (entry : Entry)
 numbered number base [] entry are first = absurd first
 numbered number base (e ∷ entries) entry are first = ap (λ (x : Entry). x.seq) (sym first) ∙ are.0.numbered
 
-first_in : (pending : List Entry) (entry : Entry) → IsFirst entry pending → IsIn entry pending
+pub first_in : (pending : List Entry) (entry : Entry) → IsFirst entry pending → IsIn entry pending
 first_in [] entry first = absurd first
 first_in (e ∷ entries) entry first = inl (sym first)
 
 pub first_number : (log : Log) (entry : Entry) → IsLog log → IsFirst entry log.pending → entry.seq ≡ log.acked + 1
 first_number log entry is first = numbered (log.acked + 1) log.base log.pending entry is.entries first
+
+fitting : (number : ℕ) (base : Volume) (pending : List Entry) (entry : Entry) → AreEntriesOf number base pending → IsFirst entry pending → MadeByFits entry.origin
+fitting number base [] entry are first = absurd first
+fitting number base (e ∷ entries) entry are first = subst (λ (x : Entry). MadeByFits x.origin) first are.0.origin_fits
+
+-- what made it has a spelling
+pub first_made : (log : Log) (entry : Entry) → IsLog log → IsFirst entry log.pending → MadeByFits entry.origin
+first_made log entry is first = fitting (log.acked + 1) log.base log.pending entry is.entries first
 
 pub may_send : (client : ℕ) (ships : Bool) (log : Log) (entry : Entry) → IsLog log → IsFirst entry log.pending → MaySend client ships log (store_of client entry)
 may_send client ships log entry is first = (refl, first_number log entry is first, (entry, first_in log.pending entry first, refl, refl, refl))

@@ -10,13 +10,12 @@ use Rattle.mod_log.specs.declared.log.Entry.{Entry}
 use Rattle.mod_log.specs.Log.{Log, IsLog, logged}
 use Rattle.wire_frames.specs.declared.message.Message.{Message}
 use Rattle.world_rules.specs.declared.asking.Ask.{Ask}
-use Rattle.world_rules.specs.World.{World, Moved}
-use Rattle.world_rules.specs.Asking.{AnswersStand}
+use Rattle.world_rules.specs.World.{World}
 use Rattle.world_rules.specs.Settling.{failed_asks}
-use Rattle.world_rules.specs.InStep.{MaySend, IsAcceptance}
+use Rattle.world_rules.specs.InStep.{IsAcceptance}
 use Rattle.world_rules.specs.Run.{Runs, kept_at, Acknowledges, Logs, Saves}
 use Rattle.world_rules.proofs.Asks.{told_then}
-use Rattle.world_rules.proofs.Runs.{runs_none, runs_then, runs_once, moved_runs}
+use Rattle.world_rules.proofs.Runs.{runs_none, runs_then, runs_once}
 use Rattle.world_rules.proofs.Settled.{failed-append}
 use Rattle.store_image.specs.Image.{Keeps}
 use Rattle.client_core.specs.Trace.{Trace, nothing, followed, asking, changing, logging, running, last_log, log_before_last, IsLastOrBefore}
@@ -203,37 +202,37 @@ module _ (name : List ℕ) (client : ℕ) (ships : Bool) where
     rose = omega (arith, failed-append first.trace.asks second.trace.asks, first.rose, second.rose);
   }
 
-  -- the asks of a request that the kept log may send, whose answers stand
-  pub goes_moved : (T : Trace → Type 0) (request : Message) (asks : List Ask) (s : Log) (i : Option Images) (r : RunnerTelling) (t u : ℕ) (x y : World) → IsKept i name client s → MaySend client ships s request
-      → Moved request asks x y × AnswersStand y asks → RoseBy (failed_asks asks) t u → T (asking asks) → Goes client ships name T s s s i i r r t u x y
-  goes_moved T request asks s i r t u x y keeps may moved rose turn = record {
+  -- asks that are a run of the kept log
+  pub goes_asked : (T : Trace → Type 0) (asks : List Ask) (s : Log) (i : Option Images) (r : RunnerTelling) (t u : ℕ) (x y : World) → IsKept i name client s
+      → Runs client ships [] asks (kept_at s x) (kept_at s y) → RoseBy (failed_asks asks) t u → T (asking asks) → Goes client ships name T s s s i i r r t u x y
+  goes_asked T asks s i r t u x y keeps runs rose turn = record {
     trace = asking asks;
     turn = turn;
-    runs = moved_runs client ships s request asks x y may moved.0 moved.1;
+    runs = runs;
     keeping = keeping_none name client s i keeps;
     has_run = has_run_none r;
     rose = rose;
   }
 
   -- and a change of the log by one move, which is not kept yet
-  pub goes_changed : (T : Trace → Type 0) (request : Message) (asks : List Ask) (s next : Log) (i : Option Images) (r : RunnerTelling) (t u : ℕ) (x y : World) → IsKept i name client s
-      → MaySend client ships s request → Moved request asks x y × AnswersStand y asks → RoseBy (failed_asks asks) t u → Runs client ships [] [] (kept_at s y) (stand next s y)
+  pub goes_changed : (T : Trace → Type 0) (asks : List Ask) (s next : Log) (i : Option Images) (r : RunnerTelling) (t u : ℕ) (x y : World) → IsKept i name client s
+      → Runs client ships [] asks (kept_at s x) (kept_at s y) → RoseBy (failed_asks asks) t u → Runs client ships [] [] (kept_at s y) (stand next s y)
       → T (followed (asking asks) (changing next)) → Goes client ships name T s next s i i r r t u x y
-  goes_changed T request asks s next i r t u x y keeps may moved rose runs turn = record {
+  goes_changed T asks s next i r t u x y keeps asked rose runs turn = record {
     trace = followed (asking asks) (changing next);
     turn = turn;
-    runs = runs_then client ships [] [] asks [] (kept_at s x) (kept_at s y) (stand next s y) (moved_runs client ships s request asks x y may moved.0 moved.1) runs;
+    runs = runs_then client ships [] [] asks [] (kept_at s x) (kept_at s y) (stand next s y) asked runs;
     keeping = keeping_unkept name client s next i keeps;
     has_run = has_run_none r;
     rose = omega (arith, failed-append asks [], rose);
   }
 
   -- such as the acknowledgement of the first pending entry on a reply that was sent
-  pub goes_acked : (T : Trace → Type 0) (request reply : Message) (asks : List Ask) (s : Log) (i : Option Images) (r : RunnerTelling) (t u : ℕ) (x y : World) → IsKept i name client s → MaySend client ships s request
-      → Moved request asks x y × AnswersStand y asks → RoseBy (failed_asks asks) t u → s.pending ≢ [] → IsAcceptance client (s.acked + 1) reply → IsIn reply y.packets
+  pub goes_acked : (T : Trace → Type 0) (reply : Message) (asks : List Ask) (s : Log) (i : Option Images) (r : RunnerTelling) (t u : ℕ) (x y : World) → IsKept i name client s
+      → Runs client ships [] asks (kept_at s x) (kept_at s y) → RoseBy (failed_asks asks) t u → s.pending ≢ [] → IsAcceptance client (s.acked + 1) reply → IsIn reply y.packets
       → T (followed (asking asks) (changing (acknowledged_first s))) → Goes client ships name T s (acknowledged_first s) s i i r r t u x y
-  goes_acked T request reply asks s i r t u x y keeps may moved rose some is among turn =
-      goes_changed T request asks s (acknowledged_first s) i r t u x y keeps may moved rose (runs_once client ships (kept_at s y) (Acknowledges reply) (some, is, among)) turn
+  goes_acked T reply asks s i r t u x y keeps asked rose some is among turn =
+      goes_changed T asks s (acknowledged_first s) i r t u x y keeps asked rose (runs_once client ships (kept_at s y) (Acknowledges reply) (some, is, among)) turn
 
   -- an entry that is logged, and not kept yet
   pub goes_logged : (T : Trace → Type 0) (entry : Entry) (s : Log) (i : Option Images) (r : RunnerTelling) (t : ℕ) (w : World) → IsKept i name client s → IsLog (logged entry s)

@@ -2,11 +2,13 @@ pub mod Acknowledging
 pub mod Counting
 pub mod Firsts
 pub mod Going
+pub mod Licensing
 pub mod Locals
 pub mod Olders
 pub mod Putting
 pub mod Pulls
 pub mod Runs
+pub mod Ships
 pub mod Standing
 pub mod Syncs
 pub mod Truths

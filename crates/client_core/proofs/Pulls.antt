@@ -21,7 +21,7 @@ use Rattle.world_rules.specs.Asking.{AnswersStand}
 use Rattle.world_rules.specs.Settling.{Settled, IsFreshReply}
 use Rattle.world_rules.specs.InStep.{InStep, MaySend}
 use Rattle.world_rules.specs.Run.{kept_at, Pulls}
-use Rattle.world_rules.proofs.Runs.{runs_once}
+use Rattle.world_rules.proofs.Runs.{runs_once, moved_runs}
 use Rattle.world_rules.proofs.Asks.{told_as, told_start}
 use Rattle.world_rules.proofs.Replying.{fresh_newer}
 use Rattle.world_rules.proofs.Sending.{sent_valid}
@@ -35,7 +35,7 @@ use Rattle.client_core.specs.Goes.{Goes, Went, no_runner}
 use Rattle.client_core.specs.Causes.{TakesRows, HasPullCause, PullKeeps}
 use Rattle.client_core.specs.Honest.{IsNotOlder}
 use Rattle.client_core.specs.Inside.{MeetsEnds, PullLeaves, first_lower, snapshot_of}
-use Rattle.client_core.proofs.Going.{followed-nothing, changed_so, keeping_none, keeping_unkept, keeping_saved, goes_none, goes_as, goes_moved, goes_changed, goes_saved}
+use Rattle.client_core.proofs.Going.{followed-nothing, changed_so, keeping_none, keeping_unkept, keeping_saved, goes_none, goes_as, goes_asked, goes_changed, goes_saved}
 use Rattle.client_core.proofs.Standing.{settled_stands}
 use Rattle.client_core.proofs.Olders.{nowhere_older, first_older}
 
@@ -96,7 +96,7 @@ module _ (client : ℕ) (route : Route) (before : Log) (i : Option Images) (keep
     asked : (end : PullEnd) (result : Result (Option Message) AllocError) (done : Settled Server route.server request t u result) → PullAsks client route before end before (asking done.asks) → Pulls_so end before
     asked end result done turn = told_as t.world u.world (λ x y. Moved request done.asks x y × AnswersStand y done.asks)
         (λ x y. Goes client ships name (PullAsks client route before end before) before before before i i no_runner no_runner t.troubles u.troubles x y) done.told
-        (λ x y moved. goes_moved name client ships (PullAsks client route before end before) request done.asks before i no_runner t.troubles u.troubles x y keeps (pull_sends client ships before none) moved done.rose turn)
+        (λ x y moved. goes_asked name client ships (PullAsks client route before end before) done.asks before i no_runner t.troubles u.troubles x y keeps (moved_runs client ships before request done.asks x y (pull_sends client ships before none) moved.0 moved.1) done.rose turn)
 
     -- eight asks failed
     pub pull_unanswered : Settled Server route.server request t u (Ok None) → Pulls_so ends.Unanswered before
@@ -118,8 +118,8 @@ module _ (client : ℕ) (route : Route) (before : Log) (i : Option Images) (keep
           told_as t.world u.world (λ x y. Moved request done.asks x y × AnswersStand y done.asks)
           (λ x y. Goes client ships name (PullAsks client route before (ends.Pulled count) after) before after before i i no_runner no_runner t.troubles u.troubles x y) done.told
           (λ x y moved.
-          let stands = settled_stands route.server request y (Some (Snapshot client before.acked last seen)) done.asks done.settling moved.1 in
-          goes_changed name client ships (PullAsks client route before (ends.Pulled count) after) request done.asks before after i no_runner t.troubles u.troubles x y keeps (pull_sends client ships before none) moved done.rose
+          let stands = settled_stands Server route.server request y (Some (Snapshot client before.acked last seen)) done.asks done.settling moved.1 in
+          goes_changed name client ships (PullAsks client route before (ends.Pulled count) after) done.asks before after i no_runner t.troubles u.troubles x y keeps (moved_runs client ships before request done.asks x y (pull_sends client ships before none) moved.0 moved.1) done.rose
           (runs_once client ships (kept_at before y) (Pulls last seen) (none, is_last, stands.0, met.1))
           (inl (snapshot (ends.Pulled count) after (followed (asking done.asks) (changing after)) met refl)))
 

@@ -10,33 +10,29 @@ use Rattle.mod_log.specs.Log.{Log, IsLog}
 use Rattle.wire_frames.specs.declared.message.Message.{Message}
 use Rattle.wire_frames.specs.declared.message.Message.TheVariants.{Accepted, Stale, Unfit, Gap, Full}
 use Rattle.wire_frames.specs.Frame.{IsValid, Echoes, number_of}
-use Rattle.world_rules.specs.declared.asking.Peer.TheVariants.{Server}
-use Rattle.world_rules.specs.World.{World, Moved}
+use Rattle.world_rules.specs.declared.asking.Ask.{Ask}
+use Rattle.world_rules.specs.World.{World}
 use Rattle.world_rules.specs.Telling.{LinkTelling, ToldWorlds}
-use Rattle.world_rules.specs.Asking.{AnswersStand}
-use Rattle.world_rules.specs.Settling.{Settled}
+use Rattle.world_rules.specs.InStep.{IsAcceptance}
+use Rattle.world_rules.specs.Run.{kept_at}
 use Rattle.world_rules.proofs.Asks.{told_then, told_as, told_start}
+use Rattle.world_rules.proofs.Runs.{run_answers}
 use Rattle.client_core.specs.declared.route.Route.{Route}
 use Rattle.client_core.specs.declared.syncing.SyncEnd.{SyncEnd}
 use Rattle.client_core.specs.declared.syncing.SyncEnd.TheVariants as ends
 use Rattle.client_core.specs.Trace.{Trace, followed, asking, changing, last_log}
-use Rattle.client_core.specs.Syncing.{store_of, IsFirst, Acknowledges, acknowledged_first, end_by, unkept_end, is_broken_sync, SyncEnds}
+use Rattle.client_core.specs.Syncing.{store_of, IsFirst, Ships, BreaksShipping, Acknowledges, acknowledged_first, end_by, unkept_end, is_broken_sync, SyncEnds}
 use Rattle.client_core.specs.Keeping.{IsKept, Keeping, KeepsLog}
 use Rattle.client_core.specs.Goes.{Goes, Went, no_runner}
 use Rattle.client_core.specs.Causes.{HasSyncCause, AcknowledgeFirsts, SyncKeeps}
-use Rattle.client_core.proofs.Going.{followed-nothing, changed_so, keeping_none, keeping_then, keeping_unkept, keeping_saved, kept_now, goes_none, goes_as, goes_then, goes_moved, goes_acked, goes_saved}
-use Rattle.client_core.proofs.Firsts.{first_number, first_some, may_send}
-use Rattle.client_core.proofs.Standing.{settled_stands}
+use Rattle.client_core.proofs.Going.{followed-nothing, changed_so, keeping_none, keeping_then, keeping_unkept, keeping_saved, kept_now, goes_none, goes_as, goes_then, goes_asked, goes_acked, goes_saved}
+use Rattle.client_core.specs.Inside.{AskedFor, ShipsTo}
+use Rattle.client_core.proofs.Firsts.{first_number, first_some}
+use Rattle.client_core.proofs.Ships.{AsksRun, IsShippingReply, ending_echoes, reply_stands}
 
-module _ (client : ℕ) (entry : Entry) where
+module _ (client : ℕ) (route : Route) (entry : Entry) where
   abbrev store : Message
   store = store_of client entry
-
-  -- a sync goes on on an acceptance alone
-  pub goes_on : (reply : Option Message) → None ≡ end_by entry.seq reply → IfSome reply (λ m. IsValid m × Echoes store m) → reply ≡ Some (Accepted client entry.seq)
-  goes_on None on told = absurd (cc)
-  goes_on (Some (Accepted of number)) on told = λ i. Some (Accepted (sym told.1.1 i) (sym told.1.2 i))
-  goes_on (Some _) on told = absurd (cc)
 
   module _ (log : Log) (t v p q : ℕ) (end : SyncEnd) (some : log.pending ≢ []) (next : entry.seq ≡ log.acked + 1) where
     refused : (reply : Message) (is : SyncEnd) → IsValid reply → entry.seq ≡ number_of reply → end_by (log.acked + 1) (Some reply) ≡ Some is
@@ -44,24 +40,27 @@ module _ (client : ℕ) (entry : Entry) where
     refused reply is valid same by = (some, (reply, valid, sym same ∙ next, by))
 
     -- why a sync ends with this end
-    pub has_cause : (reply : Option Message) → Some end ≡ end_by entry.seq reply → IfSome reply (λ m. IsValid m × Echoes store m) → (reply ≡ None → RoseBy 8 t v) → HasSyncCause end log t v p q
+    replied : (reply : Message) → Some end ≡ end_by entry.seq (Some reply) → IsValid reply × Echoes store reply → HasSyncCause end log t v p q
+    replied (Accepted of number) is told = absurd (cc)
+    replied (Stale of number path theirs ours) is told =
+        let same : ends.Stale (log.acked + 1) path theirs ours ≡ end = cc in
+        subst (λ (e : SyncEnd). HasSyncCause e log t v p q) same (refused (Stale of number path theirs ours) (ends.Stale (log.acked + 1) path theirs ours) told.0 told.1.2 refl)
+    replied (Unfit of number index fault) is told =
+        let same : ends.Unfit (log.acked + 1) index fault ≡ end = cc in
+        subst (λ (e : SyncEnd). HasSyncCause e log t v p q) same (refused (Unfit of number index fault) (ends.Unfit (log.acked + 1) index fault) told.0 told.1.2 refl)
+    replied (Full of number index fault) is told =
+        let same : ends.Full (log.acked + 1) index fault ≡ end = cc in
+        subst (λ (e : SyncEnd). HasSyncCause e log t v p q) same (refused (Full of number index fault) (ends.Full (log.acked + 1) index fault) told.0 told.1.2 refl)
+    replied (Gap of number last) is told =
+        let same : ends.Behind (log.acked + 1) last ≡ end = cc in
+        subst (λ (e : SyncEnd). HasSyncCause e log t v p q) same (refused (Gap of number last) (ends.Behind (log.acked + 1) last) told.0 told.1.2 refl)
+    replied _ is told = absurd told.1.0
+
+    pub has_cause : (came : Option Message) → Some end ≡ end_by entry.seq came → IfSome came (IsShippingReply client route entry) → (came ≡ None → RoseBy 8 t v) → HasSyncCause end log t v p q
     has_cause None is told rose =
         let same : ends.Unanswered entry.seq ≡ end = cc in
         subst (λ (e : SyncEnd). HasSyncCause e log t v p q) same (some, next, rose refl)
-    has_cause (Some (Accepted of number)) is told rose = absurd (cc)
-    has_cause (Some (Stale of number path theirs ours)) is told rose =
-        let same : ends.Stale (log.acked + 1) path theirs ours ≡ end = cc in
-        subst (λ (e : SyncEnd). HasSyncCause e log t v p q) same (refused (Stale of number path theirs ours) (ends.Stale (log.acked + 1) path theirs ours) told.0 told.1.2 refl)
-    has_cause (Some (Unfit of number index fault)) is told rose =
-        let same : ends.Unfit (log.acked + 1) index fault ≡ end = cc in
-        subst (λ (e : SyncEnd). HasSyncCause e log t v p q) same (refused (Unfit of number index fault) (ends.Unfit (log.acked + 1) index fault) told.0 told.1.2 refl)
-    has_cause (Some (Full of number index fault)) is told rose =
-        let same : ends.Full (log.acked + 1) index fault ≡ end = cc in
-        subst (λ (e : SyncEnd). HasSyncCause e log t v p q) same (refused (Full of number index fault) (ends.Full (log.acked + 1) index fault) told.0 told.1.2 refl)
-    has_cause (Some (Gap of number last)) is told rose =
-        let same : ends.Behind (log.acked + 1) last ≡ end = cc in
-        subst (λ (e : SyncEnd). HasSyncCause e log t v p q) same (refused (Gap of number last) (ends.Behind (log.acked + 1) last) told.0 told.1.2 refl)
-    has_cause (Some _) is told rose = absurd told.1.0
+    has_cause (Some reply) is told rose = replied reply is (ending_echoes client route entry reply end is told)
 
 -- a sync after which nothing is pending, and in which no keeping failed
 pub settled_end : (end : SyncEnd) (after : Log) (t v p q : ℕ) → HasSyncCause end after t v p q → after.pending ≡ [] → (Rose p q → ⊥) → (end ≡ ends.Synced after.acked) ⊎ (end ≡ ends.Memory)
@@ -178,44 +177,46 @@ module _ (client : ℕ) (route : Route) (before : Log) where
     abbrev acked : Log
     acked = acknowledged_first mid
 
-    abbrev shipped : Message
-    shipped = store_of client entry
-
-    -- the settling comes to an end of the sync
-    pub sync_ends : (came : Option Message) (end : SyncEnd) → Settled Server route.server shipped u v (Ok came) → Some end ≡ end_by entry.seq came
+    -- the shipping comes to an end of the sync
+    pub sync_ends : (came : Option Message) (end : SyncEnd) → AskedFor client route entry (Ships client route entry came) u v → Some end ≡ end_by entry.seq came
         → Went client ships name (SyncEnds client route before end mid) before mid i j t v
-    sync_ends came end done by =
-        told_then t.world u.world v.world (λ x y. Goes client ships name (Acked mid) before mid mid i j no_runner no_runner t.troubles u.troubles x y) (λ y z. Moved shipped done.asks y z × AnswersStand z done.asks) _ so_far done.told
-        (λ x y z goes moved.
-        let last = goes_moved name client ships (λ (n : Trace). n ≡ asking done.asks) shipped done.asks mid j no_runner u.troubles v.troubles y z keeps (may_send client ships mid entry is first) moved done.rose refl in (
+    sync_ends came end shipped by =
+        told_then t.world u.world v.world (λ x y. Goes client ships name (Acked mid) before mid mid i j no_runner no_runner t.troubles u.troubles x y) (AsksRun client route entry shipped.asks) _ so_far shipped.told
+        (λ x y z goes ran.
+        let last = goes_asked name client ships (λ (n : Trace). n ≡ asking shipped.asks) shipped.asks mid j no_runner u.troubles v.troubles y z keeps (ran mid is first) shipped.rose refl in (
           mid,
-          goes_then name client ships (Acked mid) (λ (n : Trace). n ≡ asking done.asks) (SyncEnds client route before end mid mid) before mid mid mid i j j no_runner no_runner no_runner t.troubles u.troubles v.troubles x y z goes last
-              (λ m n acked is. inl ((acked.0, m, done.asks, acked.1, inr (record { entry = entry; first = first; came = came; settling = done.settling; end_is = sym by }), ap (followed m) is), refl)),
+          goes_then name client ships (Acked mid) (λ (n : Trace). n ≡ asking shipped.asks) (SyncEnds client route before end mid mid) before mid mid mid i j j no_runner no_runner no_runner t.troubles u.troubles v.troubles x y z goes last
+              (λ m n acked is. inl ((acked.0, m, shipped.asks, acked.1, inr (record { entry = entry; first = first; came = came; ships = shipped.made; end_is = sym by }), ap (followed m) is), refl)),
         ))
 
     -- memory was wanted in it
-    pub sync_breaks : (e : AllocError) → Settled Server route.server shipped u v (Err e) → Went client ships name (SyncEnds client route before ends.Memory mid) before mid i j t v
-    sync_breaks e done =
-        told_then t.world u.world v.world (λ x y. Goes client ships name (Acked mid) before mid mid i j no_runner no_runner t.troubles u.troubles x y) (λ y z. Moved shipped done.asks y z × AnswersStand z done.asks) _ so_far done.told
-        (λ x y z goes moved.
-        let last = goes_moved name client ships (λ (n : Trace). n ≡ asking done.asks) shipped done.asks mid j no_runner u.troubles v.troubles y z keeps (may_send client ships mid entry is first) moved done.rose refl in (
+    pub sync_breaks : (e : AllocError) → AskedFor client route entry (ShipsTo client route entry (Err e)) u v → Went client ships name (SyncEnds client route before ends.Memory mid) before mid i j t v
+    sync_breaks e shipped =
+        told_then t.world u.world v.world (λ x y. Goes client ships name (Acked mid) before mid mid i j no_runner no_runner t.troubles u.troubles x y) (AsksRun client route entry shipped.asks) _ so_far shipped.told
+        (λ x y z goes ran.
+        let last = goes_asked name client ships (λ (n : Trace). n ≡ asking shipped.asks) shipped.asks mid j no_runner u.troubles v.troubles y z keeps (ran mid is first) shipped.rose refl in (
           mid,
-          goes_then name client ships (Acked mid) (λ (n : Trace). n ≡ asking done.asks) (SyncEnds client route before ends.Memory mid mid) before mid mid mid i j j no_runner no_runner no_runner t.troubles u.troubles v.troubles x y z goes last
-              (λ m n acked is. inr (refl, (acked.0, m, done.asks, acked.1, inr (entry, first, done.settling), ap (followed m) is))),
+          goes_then name client ships (Acked mid) (λ (n : Trace). n ≡ asking shipped.asks) (SyncEnds client route before ends.Memory mid mid) before mid mid mid i j j no_runner no_runner no_runner t.troubles u.troubles v.troubles x y z goes last
+              (λ m n acked is. inr (refl, (acked.0, m, shipped.asks, acked.1, broken shipped.asks shipped.made, ap (followed m) is))),
         ))
+      where
+        broken : (asks : List Ask) → (asks ≡ []) ⊎ BreaksShipping client route entry asks → (asks ≡ []) ⊎ ((entry : Entry) × IsFirst entry mid.pending × BreaksShipping client route entry asks)
+        broken asks (inl none) = inl none
+        broken asks (inr breaks) = inr (entry, first, breaks)
 
-    module _ (done : Settled Server route.server shipped u v (Ok (Some (Accepted client entry.seq)))) where
+    module _ (reply : Message) (accepts : IsAcceptance client entry.seq reply) (on : end_by entry.seq (Some reply) ≡ None) (shipped : AskedFor client route entry (Ships client route entry (Some reply)) u v) where
       abbrev change : Trace
-      change = followed (asking done.asks) (changing acked)
+      change = followed (asking shipped.asks) (changing acked)
 
       -- the entry was acknowledged, and the log was to be kept
       acked_saved : (l : Option Images) (r : Result (Unit {0}) KeepError) → Told j l (KeepsLog name client acked r) → (x y z : World) → Goes client ships name (Acked mid) before mid mid i j no_runner no_runner t.troubles u.troubles x y
-          → Moved shipped done.asks y z × AnswersStand z done.asks
+          → AsksRun client route entry shipped.asks y z
           → (kept : Log) × Goes client ships name (Acked acked) before acked kept i l no_runner no_runner t.troubles v.troubles x z × IfOk r (λ done. kept ≡ acked)
-      acked_saved l r save x y z goes moved =
-          let stands = settled_stands route.server shipped z (Some (Accepted client entry.seq)) done.asks done.settling moved.1 in
-          let last = goes_acked name client ships (λ (n : Trace). n ≡ change) shipped (Accepted client entry.seq) done.asks mid j no_runner u.troubles v.troubles y z keeps (may_send client ships mid entry is first) moved done.rose
-          (first_some mid.pending entry first) (refl, first_number mid entry is first) stands.0 refl in
+      acked_saved l r save x y z goes ran =
+          let runs = ran mid is first in
+          let among = reply_stands client route entry z reply shipped.asks (run_answers client ships [] shipped.asks (kept_at mid y) (kept_at mid z) runs) shipped.made in
+          let last = goes_acked name client ships (λ (n : Trace). n ≡ change) reply shipped.asks mid j no_runner u.troubles v.troubles y z keeps runs shipped.rose
+          (first_some mid.pending entry first) (subst (λ (n : ℕ). IsAcceptance client n reply) (first_number mid entry is first) accepts) among refl in
           let saved = goes_saved name client ships (λ (n : Trace). n ≡ change) mid acked mid j j l no_runner no_runner u.troubles v.troubles y z r last (changed_so last.trace.changes acked [] (ap (λ (n : Trace). n.changes) last.turn)) save in (
             saved.0,
             goes_then name client ships (Acked mid) (λ (n : Trace). n ≡ change) (Acked acked) before mid acked saved.0 i j l no_runner no_runner no_runner t.troubles u.troubles v.troubles x y z goes saved.1
@@ -224,9 +225,9 @@ module _ (client : ℕ) (route : Route) (before : Log) where
                   (
                     mid,
                     m,
-                    done.asks,
+                    shipped.asks,
                     so.1,
-                    record { entry = entry; first = first; came = Some (Accepted client entry.seq); settling = done.settling; end_is = refl },
+                    record { entry = entry; first = first; came = Some reply; ships = shipped.made; end_is = on },
                     refl,
                     ap (followed m) ends,
                   ),
@@ -237,18 +238,18 @@ module _ (client : ℕ) (route : Route) (before : Log) where
       pub acked_more : (l : Option Images) (r : Result (Unit {0}) KeepError) → Told j l (KeepsLog name client acked r) → IfOk r (λ kept. WentSoFar acked i l t v)
       acked_more l (Err e) save = tt
       acked_more l (Ok kept) save =
-          told_then t.world u.world v.world (λ x y. Goes client ships name (Acked mid) before mid mid i j no_runner no_runner t.troubles u.troubles x y) (λ y z. Moved shipped done.asks y z × AnswersStand z done.asks)
-          (λ x z. Goes client ships name (Acked acked) before acked acked i l no_runner no_runner t.troubles v.troubles x z) so_far done.told
-          (λ x y z goes moved.
-          let saved = acked_saved l (Ok kept) save x y z goes moved in
+          told_then t.world u.world v.world (λ x y. Goes client ships name (Acked mid) before mid mid i j no_runner no_runner t.troubles u.troubles x y) (AsksRun client route entry shipped.asks)
+          (λ x z. Goes client ships name (Acked acked) before acked acked i l no_runner no_runner t.troubles v.troubles x z) so_far shipped.told
+          (λ x y z goes ran.
+          let saved = acked_saved l (Ok kept) save x y z goes ran in
           subst (λ (k : Log). Goes client ships name (Acked acked) before acked k i l no_runner no_runner t.troubles v.troubles x z) saved.2 saved.1)
 
       pub sync_unkept : (l : Option Images) (e : KeepError) → Told j l (KeepsLog {E = KeepError} name client acked (Err e))
           → Went client ships name (SyncEnds client route before (unkept_end e) acked) before acked i l t v
       sync_unkept l e save =
-          told_then t.world u.world v.world (λ x y. Goes client ships name (Acked mid) before mid mid i j no_runner no_runner t.troubles u.troubles x y) (λ y z. Moved shipped done.asks y z × AnswersStand z done.asks) _ so_far done.told
-          (λ x y z goes moved.
-          let saved = acked_saved l (Err e) save x y z goes moved in (
+          told_then t.world u.world v.world (λ x y. Goes client ships name (Acked mid) before mid mid i j no_runner no_runner t.troubles u.troubles x y) (AsksRun client route entry shipped.asks) _ so_far shipped.told
+          (λ x y z goes ran.
+          let saved = acked_saved l (Err e) save x y z goes ran in (
             saved.0,
             goes_as name client ships (Acked acked) (SyncEnds client route before (unkept_end e) acked saved.0) before acked saved.0 i l no_runner no_runner t.troubles v.troubles x z saved.1
                 (λ m acked. inr (broken e, (acked.0, m, [], acked.1, inl refl, followed-nothing m))),

@@ -15,11 +15,11 @@ use Rattle.world_rules.specs.declared.asking.Ask.{Ask}
 use Rattle.world_rules.specs.World.{World}
 use Rattle.world_rules.specs.Telling.{LinkTelling, IsCalm}
 use Rattle.world_rules.specs.Asking.{AnswersStand}
-use Rattle.world_rules.specs.Settling.{IsSettling, failed_asks}
+use Rattle.world_rules.specs.Settling.{failed_asks}
 use Rattle.world_rules.specs.InStep.{InStep, HasNoCollision}
 use Rattle.world_rules.specs.Run.{kept_at, taken_in}
 use Rattle.world_rules.proofs.Asks.{told_as, answers_front, answers_end}
-use Rattle.world_rules.proofs.Settled.{failed-append, failed-failures}
+use Rattle.world_rules.proofs.Settled.{failed-append}
 use Rattle.world_rules.proofs.Runs.{runs_in_step, run_answers, lone_tree, pulled_last}
 use Rattle.world_rules.proofs.Replying.{no_gap, stale_ahead, refused_ahead}
 use Rattle.world_rules.proofs.Unrefused.{never_ahead}
@@ -29,12 +29,13 @@ use Rattle.client_core.specs.declared.route.Route.{Route}
 use Rattle.client_core.specs.declared.pulling.PullEnd.{PullEnd}
 use Rattle.client_core.specs.declared.pulling.PullEnd.TheVariants as pulls
 use Rattle.client_core.specs.Trace.{Trace, followed, asking}
-use Rattle.client_core.specs.Syncing.{store_of, end_by, EntryTurn, Acknowledges, EndsSync, SyncTurn, SyncEnds, is_broken_sync}
+use Rattle.client_core.specs.Syncing.{store_of, end_by, Ships, EntryTurn, Acknowledges, EndsSync, SyncTurn, SyncEnds, is_broken_sync}
 use Rattle.client_core.specs.Pulling.{pull_of, PullTurn, PullEnds, is_broken_pull}
 use Rattle.client_core.specs.Causes.{HasSyncCause}
 use Rattle.client_core.specs.Goes.{Goes, Went, stand, no_runner}
 use Rattle.client_core.specs.Honest.{FromInStepApart, IsOvertaken, IsTrueSync, IsComplete, IsNotOtherLast}
 use Rattle.client_core.proofs.Firsts.{first_number}
+use Rattle.client_core.proofs.Ships.{ending_stands, ships_failed}
 use Rattle.client_core.proofs.Standing.{settled_stands}
 
 -- ---- nothing is logged
@@ -107,27 +108,27 @@ module _ (client : ℕ) (route : Route) (log : Log) (end : SyncEnd) (asks : List
   next = first_number log turn.entry now.log_is turn.first
 
   pub turn_true : IsTrueSync end client log world
-  turn_true = by turn.came turn.settling turn.end_is
+  turn_true = by turn.came turn.ships turn.end_is
     where
-      by : (came : Option Message) → IsSettling Server route.server (store_of client turn.entry) came asks → end_by turn.entry.seq came ≡ Some end → IsTrueSync end client log world
-      by None settling is =
+      by : (came : Option Message) → Ships client route turn.entry came asks → end_by turn.entry.seq came ≡ Some end → IsTrueSync end client log world
+      by None shipped is =
           let same : ends.Unanswered turn.entry.seq ≡ end = cc in
           subst (λ (e : SyncEnd). IsTrueSync e client log world) same tt
-      by (Some reply) settling is =
-          let known = settled_stands route.server (store_of client turn.entry) world (Some reply) asks settling stand in
+      by (Some reply) shipped is =
+          let known = ending_stands client route turn.entry world reply asks stand end (sym is) shipped in
           true_end client turn.entry log world next now reply end (sym is) known.0 known.2
 
   -- eight asks failed, or a path is ahead
   pub turn_overtaken : (8 ≤ failed_asks asks → ⊥) → IsOvertaken client log world
-  turn_overtaken few = by turn.came turn.settling turn.end_is
+  turn_overtaken few = by turn.came turn.ships turn.end_is
     where
-      by : (came : Option Message) → IsSettling Server route.server (store_of client turn.entry) came asks → end_by turn.entry.seq came ≡ Some end → IsOvertaken client log world
-      by None settling is = absurd (few (omega (arith, ap failed_asks settling, failed-failures Server route.server (store_of client turn.entry) 8)))
-      by (Some reply) settling is =
-          let known = settled_stands route.server (store_of client turn.entry) world (Some reply) asks settling stand in
+      by : (came : Option Message) → Ships client route turn.entry came asks → end_by turn.entry.seq came ≡ Some end → IsOvertaken client log world
+      by None shipped is = absurd (few (ships_failed client route turn.entry asks shipped))
+      by (Some reply) shipped is =
+          let known = ending_stands client route turn.entry world reply asks stand end (sym is) shipped in
           overtaken client turn.entry log world next now reply end (sym is) known.0 known.2
 
--- a settling came to no Gap
+-- no reply was a Gap
 module _ (client : ℕ) (number : ℕ) (log : Log) (world : World) (now : InStep client log world) (seq last : ℕ) where
   no_behind : (reply : Message) → IsIn reply world.packets → client ≡ client_of reply → end_by number (Some reply) ≡ Some (ends.Behind seq last) → ⊥
   no_behind (Gap of refused beyond) among mine is = no_gap client log world refused beyond now (subst (λ (c : ℕ). IsIn (Gap c refused beyond) world.packets) (sym mine) among)
@@ -148,15 +149,15 @@ module _ (client : ℕ) (route : Route) (before after : Log) where
       stands : AnswersStand world asks
       stands = last_stand turn.1 trace asks world turn.5 stand
 
-      of_turn : (entry : Entry) (came : Option Message) → IsSettling Server route.server (store_of client entry) came asks → end_by entry.seq came ≡ Some (ends.Behind seq last) → ⊥
-      of_turn entry None settling is = absurd (cc)
-      of_turn entry (Some reply) settling is =
-          let known = settled_stands route.server (store_of client entry) world (Some reply) asks settling stands in
+      of_turn : (entry : Entry) (came : Option Message) → Ships client route entry came asks → end_by entry.seq came ≡ Some (ends.Behind seq last) → ⊥
+      of_turn entry None shipped is = absurd (cc)
+      of_turn entry (Some reply) shipped is =
+          let known = ending_stands client route entry world reply asks stands (ends.Behind seq last) (sym is) shipped in
           no_behind client entry.seq log world now seq last reply known.0 known.2.1 is
 
       by : EndsSync client route after (ends.Behind seq last) asks → ⊥
       by (inl synced) = absurd (cc (synced.1))
-      by (inr turn) = of_turn turn.entry turn.came turn.settling turn.end_is
+      by (inr turn) = of_turn turn.entry turn.came turn.ships turn.end_is
 
   pub sync_true : (end : SyncEnd) (trace : Trace) (world : World) → SyncTurn client route before end after trace → AnswersStand world trace.asks → InStep client after world → IsTrueSync end client after world
   sync_true end trace world turn stand now = by turn.4
@@ -262,7 +263,7 @@ module _ (client : ℕ) (route : Route) (before after : Log) where
   pull_met_last (pulls.OtherLast other acked) trace world turn stand now last known is =
       let asks : List Ask = turn.asks in
       let stands : AnswersStand world asks = answers_front asks [] world (subst (AnswersStand world) (ap (λ (t : Trace). t.asks) turn.trace_is) stand) in
-      let sent = settled_stands route.server (pull_of client before) world (Some (Snapshot client before.acked turn.last turn.seen)) asks turn.settling stands in
+      let sent = settled_stands Server route.server (pull_of client before) world (Some (Snapshot client before.acked turn.last turn.seen)) asks turn.settling stands in
       absurd (turn.met.0 (pulled_last client before world turn.last turn.seen now turn.idle sent.0))
   pull_met_last (pulls.Pulled count) trace world turn stand now last known is = absurd (cc)
   pull_met_last (pulls.Pending count) trace world turn stand now last known is = absurd (cc)

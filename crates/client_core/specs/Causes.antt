@@ -25,8 +25,9 @@ AcknowledgesSome before after =
 abbrev pub RestsOnReply : Log → SyncEnd → Type 0
 RestsOnReply after end = (after.pending ≢ []) × ((reply : Message) × IsValid reply × (number_of reply ≡ after.acked + 1) × (end_by (after.acked + 1) (Some reply) ≡ Some end))
 
--- Synced only where nothing is pending at the end, Unanswered only where the troubles rose by eight, and KeepFault only where the
--- keeper's faults rose. Every end but Synced, KeepFault and Memory names the first pending entry.
+-- Synced only where nothing is pending at the end, Unanswered only where the troubles rose by eight, one for each ask of the store
+-- (`UnansweredStoresFailed`), and KeepFault only where the keeper's faults rose. Every end but Synced, KeepFault and Memory names the first
+-- pending entry.
 abbrev pub HasSyncCause : SyncEnd → Log → ℕ → ℕ → ℕ → ℕ → Type 0
 HasSyncCause (Synced number) after troubles now faults faults_now = (after.pending ≡ []) × (number ≡ after.acked)
 HasSyncCause (Unanswered number) after troubles now faults faults_now = (after.pending ≢ []) × (number ≡ after.acked + 1) × RoseBy 8 troubles now

@@ -1,5 +1,6 @@
 -- Words that only the contracts of private functions cite.
-use Rattle.std.specs.Prelude.{◌≡◌, ◌≢◌, ◌⊎◌, ℕ, nat_lt, Bool, List, [], Option, None, Some, find, Result, Ok, Err}
+use Rattle.std.specs.Prelude.{◌≡◌, ◌≢◌, ◌⊎◌, ℕ, ◌<◌, nat_lt, Bool, true, false, List, [], length, Option, None, Some, is_some, find, Result, Ok, Err}
+use Rattle.std.specs.declared.alloc.AllocError.{AllocError}
 use Rattle.tree_values.specs.Tree.{Volume, version_at}
 use Rattle.tree_values.specs.declared.node.Row.{Row}
 use Rattle.tree_values.specs.declared.node.Effect.{Effect}
@@ -15,15 +16,72 @@ use Rattle.work_area.specs.declared.jobs.JobError.TheVariants as job_errors
 use Rattle.work_area.specs.declared.rows.RowsFault.{RowsFault}
 use Rattle.work_area.specs.declared.rows.RowsFault.TheVariants as rows_faults
 use Rattle.wire_frames.specs.declared.message.Message.{Message}
-use Rattle.wire_frames.specs.declared.message.Message.TheVariants.{Snapshot}
-use Rattle.mod_log.specs.Log.{Log}
+use Rattle.wire_frames.specs.declared.message.Message.TheVariants.{Operate, Snapshot, Done}
+use Rattle.wire_frames.specs.Frame.{frame}
+use Rattle.mod_log.specs.declared.log.Entry.{Entry}
+use Rattle.mod_log.specs.declared.sketching.SketchEntry.{SketchEntry}
+use Rattle.mod_log.specs.Log.{Log, IsLog}
+use Rattle.mod_log.specs.Sketched.{IsSketchOf}
+use Rattle.world_rules.specs.declared.asking.Peer.TheVariants.{Surrogate}
+use Rattle.world_rules.specs.declared.asking.Ask.{Ask}
+use Rattle.world_rules.specs.Telling.{LinkTelling, ToldWorlds, HadTroubles}
+use Rattle.world_rules.specs.Settling.{failed_asks, Settled}
+use Rattle.world_rules.specs.Run.{Runs, kept_at}
+use Rattle.client_core.specs.declared.route.Route.{Route}
 use Rattle.client_core.specs.declared.pulling.PullEnd.{PullEnd}
 use Rattle.client_core.specs.declared.pulling.PullEnd.TheVariants.{Pulled, KeepFault, Memory}
 use Rattle.client_core.specs.declared.running.RunEnd.{RunEnd}
 use Rattle.client_core.specs.declared.running.RunEnd.TheVariants as runs
+use Rattle.client_core.specs.Syncing.{store_of, IsFirst, SettlesOperation, StoreIsDue, Ships, BreaksShipping}
 use Rattle.client_core.specs.Pulling.{Meets}
 use Rattle.client_core.specs.Running.{changes_of, first_clash, IsLoggable, RanEnd}
 use Rattle.client_core.specs.Causes.{TakesRows}
+
+-- ---- shipping
+
+-- Between two moments of a link just such asks were made for an entry. Where the link tells its world, that went on by possible moves, in
+-- which these asks are noted, beside each log whose first pending entry this is.
+pub record AskedFor (client : ℕ) (route : Route) (entry : Entry) (Made : List Ask → Type 0) (old new : LinkTelling) : Type 0 where
+  pub asks : List Ask
+  pub made : Made asks
+  pub rose : HadTroubles (failed_asks asks) old new
+  pub told : ToldWorlds old new (λ v w. (log : Log) → IsLog log → IsFirst entry log.pending → Runs client (is_some route.surrogate) [] asks (kept_at log v) (kept_at log w))
+
+-- whether a reply says that an operation is done
+abbrev pub is_done : Option Message → Bool
+is_done (Some (Done client number)) = true
+is_done reply = false
+
+-- whether the operation is done, or want of memory
+abbrev pub done_of : Result (Option Message) AllocError → Result Bool AllocError
+done_of (Ok reply) = Ok (is_done reply)
+done_of (Err error) = Err error
+
+-- an operation was settled with the surrogate, and the result tells whether it is done
+abbrev pub TellsDone : List ℕ → Message → LinkTelling → LinkTelling → Result Bool AllocError → Type 0
+TellsDone address operation old new result =
+    (came : Result (Option Message) AllocError) × Settled Surrogate address operation old new came × (result ≡ done_of came)
+
+-- the operation of an entry, where that is shorter than its store
+abbrev pub IsOperationOf : ℕ → Entry → Option Message → Type 0
+IsOperationOf client entry None =
+    (sketched : SketchEntry) → IsSketchOf entry sketched → length (frame (Operate client sketched)) < length (frame (store_of client entry)) → ⊥
+IsOperationOf client entry (Some operation) =
+    (sketched : SketchEntry) × (operation ≡ Operate client sketched) × IsSketchOf entry sketched
+    × (length (frame (Operate client sketched)) < length (frame (store_of client entry)))
+
+-- what was asked for an operation: it is done, or its store is due, or it was broken off
+abbrev pub OperatesTo : ℕ → Route → Entry → Result Bool AllocError → List Ask → Type 0
+OperatesTo client route entry (Ok true) asks = SettlesOperation client route entry (Some (Done client entry.seq)) asks
+OperatesTo client route entry (Ok false) asks = StoreIsDue client route entry asks
+OperatesTo client route entry (Err error) asks = (asks ≡ []) ⊎ BreaksShipping client route entry asks
+
+-- what was asked where shipping an entry came to this, or was broken off
+abbrev pub ShipsTo : ℕ → Route → Entry → Result (Option Message) AllocError → List Ask → Type 0
+ShipsTo client route entry (Ok came) asks = Ships client route entry came asks
+ShipsTo client route entry (Err error) asks = (asks ≡ []) ⊎ BreaksShipping client route entry asks
+
+-- ---- pulling
 
 -- whether the seen rows have a lower version at the row's path
 abbrev pub is_lower : Volume → Row → Bool

@@ -5,6 +5,7 @@ pub mod Honest
 pub mod Inside
 pub mod Keeping
 pub mod Laws
+pub mod Licence
 pub mod Logging
 pub mod Pulling
 pub mod Running

@@ -1,5 +1,6 @@
-// What the ends of syncs and pulls tell of the world, as contracts of a call that does nothing.
+// What the ends of syncs and pulls tell of the world, and what a sync may ask, as contracts of calls that do nothing.
 ghost use Rattle.client_core.specs.Laws.{NoSyncIsBehind, SyncEndsAreTrue, PullsMeetTheirLast, CalmSyncsAreComplete};
+ghost use Rattle.client_core.specs.Licence.{SyncsAreLicensed, DoneEntriesCostOperations, UnansweredStoresFailed};
 
 /// What a sync or a pull ends with is so in each world in which its answers stand, also when more came after it: a server is
 /// never behind, a refusal shows what others wrote, and where nobody else wrote all is acknowledged.
@@ -8,4 +9,13 @@ pub fn ends_are_true()
     ensures refused { SyncEndsAreTrue }
     ensures pulled { PullsMeetTheirLast }
     ensures complete { CalmSyncsAreComplete }
+{}
+
+/// In each sync the store of a light entry is asked only once its operation was declined, or eight asks of it failed, in this
+/// sync. An entry that was answered by Done has cost asks of its operation alone, which is shorter than its store. And a sync
+/// that ends unanswered has asked the store eight times at its end.
+pub fn syncs_are_licensed()
+    ensures licensed { SyncsAreLicensed }
+    ensures done { DoneEntriesCostOperations }
+    ensures unanswered { UnansweredStoresFailed }
 {}

@@ -7,10 +7,11 @@ mod laws;
 mod pulling;
 mod route;
 mod running;
+mod shipping;
 mod syncing;
 
 pub use client::Client;
-pub use laws::ends_are_true;
+pub use laws::{ends_are_true, syncs_are_licensed};
 pub use pulling::PullEnd;
 pub use route::Route;
 pub use running::RunEnd;

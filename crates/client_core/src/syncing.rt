@@ -1,24 +1,20 @@
-// Settling the pending entries with the server.
-ghost use Rattle.std.specs.Prelude.{◌≡◌, ◌⊎◌, ◌≤◌, [], is_some, IfOk};
+// Shipping the pending entries, one after the other.
+ghost use Rattle.std.specs.Prelude.{◌≡◌, ◌⊎◌, ◌≤◌, [], is_some};
 ghost use Rattle.outside.specs.Outside.{Rose, RisesWhere};
-ghost use Rattle.wire_frames.specs.Frame.{IsValid};
-ghost use Rattle.world_rules.specs.declared.asking.Peer.TheVariants.{Server};
 ghost use Rattle.world_rules.specs.Telling.{IsCalm};
-ghost use Rattle.world_rules.specs.Settling.{Settled};
-ghost use Rattle.client_core.specs.Syncing.{store_of, end_by, SyncEnds, unkept_end};
+ghost use Rattle.client_core.specs.Syncing.{end_by, SyncEnds, unkept_end};
 ghost use Rattle.client_core.specs.Goes.{Went};
 ghost use Rattle.client_core.specs.Causes.{HasSyncCause, AcknowledgesSome, SyncKeeps};
 ghost use Rattle.client_core.specs.Keeping.{IsKept};
 ghost use Rattle.client_core.specs.Honest.{FromInStepApart, IsTrueSync, IsComplete};
 
 use crate::keeping::keep_log;
+use crate::shipping::ship;
 use crate::{Client, Route};
-use mod_log::Entry;
 use outside::{KeepError, Keeper};
-use std::alloc::{AllocError, Global};
-use vol_tree::{Path, TreeError, TryCopy};
+use vol_tree::{Path, TreeError};
 use wire_frames::Message;
-use world_rules::{Link, Peer, settle};
+use world_rules::Link;
 
 /// How a sync ends. Each end but `Synced`, `KeepFault` and `Memory` leaves entry `seq` as the first pending one.
 #[derive(Debug, Drop)]
@@ -46,7 +42,7 @@ pub enum SyncEnd {
         index: u32,
         fault: TreeError,
     },
-    /// Eight asks failed.
+    /// Eight asks of the store failed.
     Unanswered {
         seq: u64,
     },
@@ -62,8 +58,10 @@ pub enum SyncEnd {
 }
 
 impl Client {
-    /// Settles the pending entries with the server, the first one first, until none is left or one is not accepted. The
-    /// client is kept after each acknowledgement, before the next request is sent.
+    /// Ships the pending entries, the first one first, until none is left or one is not accepted. An entry that a command
+    /// made is settled with the surrogate as an operation first, where there is one and the operation's frame is shorter than
+    /// that of the store; its store is settled with the server only where the operation was declined or eight asks of it
+    /// failed. The client is kept after each acknowledgement, before the next request is sent.
     ///
     /// Over a keeper that tells its images this very client is kept under the route's image, or nothing is and the client
     /// is new.
@@ -103,7 +101,7 @@ impl Client {
         let alloc = self.log.tree().allocator();
         while let Some(entry) = self.log.entry(0) {
             let number = entry.seq;
-            let reply = match settle_store(alloc, client, route, entry, link) {
+            let reply = match ship(alloc, client, route, entry, link) {
                 Ok(reply) => reply,
                 Err(_refused) => return SyncEnd::Memory,
             };
@@ -129,43 +127,13 @@ fn unkept_end(refused: KeepError) -> SyncEnd
     }
 }
 
-/// Settles an entry's store with the server. `None`: eight asks failed.
-fn settle_store<L: Link>(
-    alloc: Global,
-    client: u8,
-    route: &Route,
-    entry: &Entry,
-    link: &mut L,
-) -> Result<Option<Message>, AllocError>
-    requires { IsValid (store_of client entry.now) }
-    ensures settled { Settled Server route.now.server (store_of client entry.now) (L.tells link.old) (L.tells link.new) result }
-    ensures later { (L.tells link.old).troubles ≤ (L.tells link.new).troubles }
-{
-    let store = store_of(client, entry)?;
-    let settled = settle(alloc, link, Peer::Server, route.server.bytes(), &store);
-    drop(store);
-    settled
-}
-
-/// An entry's store.
-fn store_of(client: u8, entry: &Entry) -> Result<Message, AllocError>
-    ensures { IfOk result (λ store. store ≡ store_of client entry.now) }
-{
-    Ok(Message::Store {
-        client,
-        number: entry.seq,
-        effects: entry.effects.copy()?,
-        base: entry.base.copy()?,
-    })
-}
-
-/// How a sync ends by what settling the entry of this number came to; `None`: it goes on.
+/// How a sync ends by what shipping the entry of this number came to; `None`: it goes on.
 fn end_by(number: u64, reply: Option<Message>) -> Option<SyncEnd>
     ensures { result ≡ end_by number reply }
 {
     match reply {
         None => Some(SyncEnd::Unanswered { seq: number }),
-        Some(Message::Accepted { .. }) => None,
+        Some(Message::Accepted { .. } | Message::Done { .. }) => None,
         Some(
             Message::Stale {
                 path,

@@ -1,24 +1,22 @@
-use Rattle.std.proofs.Common.{is_some, ◌≡◌, ◌∙◌, ℕ, List, Ok, Err, Some, Option, refl, ap, sym, subst, arith}
+use Rattle.std.proofs.Common.{is_some, ◌≡◌, ◌∙◌, ℕ, List, Ok, Err, Some, None, Option, refl, ap, sym, subst, arith}
 use Rattle.outside.specs.Outside.{Told, RisesWhere}
 use Rattle.outside.specs.declared.errors.KeepError.{KeepError}
 use Rattle.mod_log.specs.Log.{Log, acknowledged}
 use Rattle.wire_frames.specs.declared.message.Message.{Message}
-use Rattle.wire_frames.specs.declared.message.Message.TheVariants.{Accepted}
-use Rattle.world_rules.specs.declared.asking.Peer.TheVariants.{Server}
 use Rattle.world_rules.specs.Telling.{LinkTelling}
-use Rattle.world_rules.specs.Settling.{Settled}
-use Rattle.world_rules.proofs.Settled.{settled_echoes, settled_troubles}
 use Rattle.client_core.specs.Client.{Client}
 use Rattle.client_core.specs.declared.syncing.SyncEnd.{SyncEnd}
 use Rattle.client_core.specs.declared.syncing.SyncEnd.TheVariants.{Synced, KeepFault, Memory}
 use Rattle.client_core.specs.Causes.{HasSyncCause, SyncKeeps, AcknowledgesSome}
-use Rattle.client_core.specs.Syncing.{store_of, IsFirst, acknowledged_first, unkept_end, SyncEnds}
+use Rattle.client_core.specs.Syncing.{IsFirst, acknowledged_first, end_by, Ships, unkept_end, SyncEnds}
+use Rattle.client_core.specs.Inside.{AskedFor}
 use Rattle.client_core.specs.Keeping.{IsKept, KeepsLog}
 use Rattle.client_core.specs.Goes.{Went}
 use Rattle.client_core.proofs.Acknowledging.{some_none, some_more}
 use Rattle.client_core.proofs.Counting.{rose_once, unrisen, unkept_rises, end_by_reply}
-use Rattle.client_core.proofs.Firsts.{first_is, none_is, first_some, first_pending, first_number, store_valid, shorter}
-use Rattle.client_core.proofs.Syncs.{WentSoFar, KeepsAcked, unkept_cause, settled_end, acked_none, acked_more, keeps_none, keeps_now, keeps_more, keeps_cut, keeps_whole, sync_ends, sync_breaks, sync_unkept, sync_synced, goes_on, has_cause}
+use Rattle.client_core.proofs.Firsts.{first_is, none_is, first_some, first_pending, first_number, first_made, store_valid, shorter}
+use Rattle.client_core.proofs.Syncs.{WentSoFar, KeepsAcked, unkept_cause, settled_end, acked_none, acked_more, keeps_none, keeps_now, keeps_more, keeps_cut, keeps_whole, sync_ends, sync_breaks, sync_unkept, sync_synced, has_cause}
+use Rattle.client_core.proofs.Ships.{goes_on, ships_reply, shipped_troubles}
 use Rattle.client_core.proofs.Truths.{went_true, went_complete}
 use Rattle.client_core.proofs.client.Client.sync.Goals as goal
 
@@ -38,21 +36,23 @@ loop-entry-init g c =
       world = acked_none client route before i (g.L.Link.tells c.args.link.now) keeps;
     }
 
-pub settle_store-requires : goal.settle_store-requires
-settle_store-requires g c =
+pub ship-requires-clause-valid : goal.ship-requires-clause-valid
+ship-requires-clause-valid g c =
     let client = c.self.inside.number in
-    let route = c.args.route.now in
-    let before = c.self.inside.log in
     let mid = c.loop-entry.self-inside.log in
-    let i = g.K.Keeper.images c.args.keeper.now in
-    let j = g.K.Keeper.images c.loop-entry.keeper in
-    let t : LinkTelling = g.L.Link.tells c.args.link.now in
-    let u : LinkTelling = g.L.Link.tells c.loop-entry.link in
     let entry = c.in-Some.entry.now in
     let first : IsFirst entry mid.pending = first_is mid.pending entry c.in-Some.ensures.entry in
     store_valid client mid entry c.self.invariant.0 c.self.invariant.1 c.in-Some.ensures.log first
 
--- ---- memory was wanted in a settling
+pub ship-requires-clause-made : goal.ship-requires-clause-made
+ship-requires-clause-made g c =
+    let client = c.self.inside.number in
+    let mid = c.loop-entry.self-inside.log in
+    let entry = c.in-Some.entry.now in
+    let first : IsFirst entry mid.pending = first_is mid.pending entry c.in-Some.ensures.entry in
+    first_made mid entry c.in-Some.ensures.log first
+
+-- ---- memory was wanted in a shipping
 
 pub returns-in-Err-clause-world : goal.returns-in-Err-clause-world
 returns-in-Err-clause-world g c =
@@ -67,9 +67,9 @@ returns-in-Err-clause-world g c =
     let keeps : IsKept j route.image client mid = keeps_now route.image client before mid i j c.loop-entry.invariant.keeps in
     let entry = c.in-Some.entry.now in
     let first : IsFirst entry mid.pending = first_is mid.pending entry c.in-Some.ensures.entry in
-    let v : LinkTelling = g.L.Link.tells c.settle_store.new.link in
+    let v : LinkTelling = g.L.Link.tells c.ship.new.link in
     subst (λ (self : Client). Went self.number (is_some route.surrogate) route.image (SyncEnds self.number route self.log Memory mid) self.log mid i j t v) c.self.view_is
-    (sync_breaks client route before mid entry c.in-Some.ensures.log first i j keeps t u v c.loop-entry.invariant.world c.in-Err._refused c.in-Err.ensures.settled)
+    (sync_breaks client route before mid entry c.in-Some.ensures.log first i j keeps t u v c.loop-entry.invariant.world c.in-Err._refused c.in-Err.ensures.shipped)
 
 pub returns-in-Err-clause-keeps : goal.returns-in-Err-clause-keeps
 returns-in-Err-clause-keeps g c =
@@ -110,7 +110,7 @@ returns-in-Err-clause-honest g c =
     let j = g.K.Keeper.images c.loop-entry.keeper in
     let t : LinkTelling = g.L.Link.tells c.args.link.now in
     let u : LinkTelling = g.L.Link.tells c.loop-entry.link in
-    went_true client (is_some route.surrogate) route.image route before mid Memory i j t (g.L.Link.tells c.settle_store.new.link) (returns-in-Err-clause-world g c)
+    went_true client (is_some route.surrogate) route.image route before mid Memory i j t (g.L.Link.tells c.ship.new.link) (returns-in-Err-clause-world g c)
 
 pub returns-in-Err-clause-complete : goal.returns-in-Err-clause-complete
 returns-in-Err-clause-complete g c = λ calm sound.
@@ -122,7 +122,7 @@ returns-in-Err-clause-complete g c = λ calm sound.
     let j = g.K.Keeper.images c.loop-entry.keeper in
     let t : LinkTelling = g.L.Link.tells c.args.link.now in
     let u : LinkTelling = g.L.Link.tells c.loop-entry.link in
-    went_complete client (is_some route.surrogate) route.image route before mid Memory i j t (g.L.Link.tells c.settle_store.new.link) (returns-in-Err-clause-world g c) (g.K.Keeper.faults c.args.keeper.now) (g.K.Keeper.faults c.loop-entry.keeper) (returns-in-Err-clause-cause g c) calm sound
+    went_complete client (is_some route.surrogate) route.image route before mid Memory i j t (g.L.Link.tells c.ship.new.link) (returns-in-Err-clause-world g c) (g.K.Keeper.faults c.args.keeper.now) (g.K.Keeper.faults c.loop-entry.keeper) (returns-in-Err-clause-cause g c) calm sound
 
 pub returns-in-Err-clause-settled : goal.returns-in-Err-clause-settled
 returns-in-Err-clause-settled g c = λ none sound.
@@ -134,7 +134,7 @@ returns-in-Err-clause-settled g c = λ none sound.
     let j = g.K.Keeper.images c.loop-entry.keeper in
     let t : LinkTelling = g.L.Link.tells c.args.link.now in
     let u : LinkTelling = g.L.Link.tells c.loop-entry.link in
-    settled_end Memory mid t.troubles (g.L.Link.tells c.settle_store.new.link).troubles (g.K.Keeper.faults c.args.keeper.now) (g.K.Keeper.faults c.loop-entry.keeper) (returns-in-Err-clause-cause g c) none sound
+    settled_end Memory mid t.troubles (g.L.Link.tells c.ship.new.link).troubles (g.K.Keeper.faults c.args.keeper.now) (g.K.Keeper.faults c.loop-entry.keeper) (returns-in-Err-clause-cause g c) none sound
 
 pub returns-in-Err-clause-number : goal.returns-in-Err-clause-number
 returns-in-Err-clause-number g c =
@@ -155,11 +155,11 @@ returns-in-Some-end_by-clause-world g c =
     let keeps : IsKept j route.image client mid = keeps_now route.image client before mid i j c.loop-entry.invariant.keeps in
     let entry = c.in-Some.entry.now in
     let first : IsFirst entry mid.pending = first_is mid.pending entry c.in-Some.ensures.entry in
-    let v : LinkTelling = g.L.Link.tells c.settle_store.new.link in
+    let v : LinkTelling = g.L.Link.tells c.ship.new.link in
     let came = c.in-Ok.reply in
     let end = c.in-Some-end_by.end in
     subst (λ (self : Client). Went self.number (is_some route.surrogate) route.image (SyncEnds self.number route self.log end mid) self.log mid i j t v) c.self.view_is
-    (sync_ends client route before mid entry c.in-Some.ensures.log first i j keeps t u v c.loop-entry.invariant.world came end c.in-Ok.ensures.settled c.in-Some-end_by.ensures)
+    (sync_ends client route before mid entry c.in-Some.ensures.log first i j keeps t u v c.loop-entry.invariant.world came end c.in-Ok.ensures.shipped c.in-Some-end_by.ensures)
 
 pub returns-in-Some-end_by-clause-keeps : goal.returns-in-Some-end_by-clause-keeps
 returns-in-Some-end_by-clause-keeps g c =
@@ -186,12 +186,12 @@ returns-in-Some-end_by-clause-cause g c =
     let u : LinkTelling = g.L.Link.tells c.loop-entry.link in
     let entry = c.in-Some.entry.now in
     let first : IsFirst entry mid.pending = first_is mid.pending entry c.in-Some.ensures.entry in
-    let v : LinkTelling = g.L.Link.tells c.settle_store.new.link in
+    let v : LinkTelling = g.L.Link.tells c.ship.new.link in
     let came = c.in-Ok.reply in
     let end = c.in-Some-end_by.end in
-    let echoes = settled_echoes Server route.server (store_of client entry) u v c.in-Ok.reply c.in-Ok.ensures.settled in
-    has_cause client entry mid t.troubles v.troubles (g.K.Keeper.faults c.args.keeper.now) (g.K.Keeper.faults c.loop-entry.keeper) end (first_some mid.pending entry first) (first_number mid entry c.in-Some.ensures.log first) came c.in-Some-end_by.ensures echoes
-    (λ none. omega (arith, c.loop-entry.invariant.later, settled_troubles Server route.server (store_of client entry) u v came c.in-Ok.ensures.settled none))
+    let told = ships_reply client route entry came c.in-Ok.ensures.shipped.asks c.in-Ok.ensures.shipped.made in
+    has_cause client route entry mid t.troubles v.troubles (g.K.Keeper.faults c.args.keeper.now) (g.K.Keeper.faults c.loop-entry.keeper) end (first_some mid.pending entry first) (first_number mid entry c.in-Some.ensures.log first) came c.in-Some-end_by.ensures told
+    (λ none. omega (arith, c.loop-entry.invariant.later, shipped_troubles client route entry u v came c.in-Ok.ensures.shipped none))
 
 pub returns-in-Some-end_by-clause-log : goal.returns-in-Some-end_by-clause-log
 returns-in-Some-end_by-clause-log g c =
@@ -215,7 +215,7 @@ returns-in-Some-end_by-clause-honest g c =
     let j = g.K.Keeper.images c.loop-entry.keeper in
     let t : LinkTelling = g.L.Link.tells c.args.link.now in
     let u : LinkTelling = g.L.Link.tells c.loop-entry.link in
-    went_true client (is_some route.surrogate) route.image route before mid c.in-Some-end_by.end i j t (g.L.Link.tells c.settle_store.new.link) (returns-in-Some-end_by-clause-world g c)
+    went_true client (is_some route.surrogate) route.image route before mid c.in-Some-end_by.end i j t (g.L.Link.tells c.ship.new.link) (returns-in-Some-end_by-clause-world g c)
 
 pub returns-in-Some-end_by-clause-complete : goal.returns-in-Some-end_by-clause-complete
 returns-in-Some-end_by-clause-complete g c = λ calm sound.
@@ -227,7 +227,7 @@ returns-in-Some-end_by-clause-complete g c = λ calm sound.
     let j = g.K.Keeper.images c.loop-entry.keeper in
     let t : LinkTelling = g.L.Link.tells c.args.link.now in
     let u : LinkTelling = g.L.Link.tells c.loop-entry.link in
-    went_complete client (is_some route.surrogate) route.image route before mid c.in-Some-end_by.end i j t (g.L.Link.tells c.settle_store.new.link) (returns-in-Some-end_by-clause-world g c) (g.K.Keeper.faults c.args.keeper.now) (g.K.Keeper.faults c.loop-entry.keeper) (returns-in-Some-end_by-clause-cause g c) calm sound
+    went_complete client (is_some route.surrogate) route.image route before mid c.in-Some-end_by.end i j t (g.L.Link.tells c.ship.new.link) (returns-in-Some-end_by-clause-world g c) (g.K.Keeper.faults c.args.keeper.now) (g.K.Keeper.faults c.loop-entry.keeper) (returns-in-Some-end_by-clause-cause g c) calm sound
 
 pub returns-in-Some-end_by-clause-settled : goal.returns-in-Some-end_by-clause-settled
 returns-in-Some-end_by-clause-settled g c = λ none sound.
@@ -239,7 +239,7 @@ returns-in-Some-end_by-clause-settled g c = λ none sound.
     let j = g.K.Keeper.images c.loop-entry.keeper in
     let t : LinkTelling = g.L.Link.tells c.args.link.now in
     let u : LinkTelling = g.L.Link.tells c.loop-entry.link in
-    settled_end c.in-Some-end_by.end mid t.troubles (g.L.Link.tells c.settle_store.new.link).troubles (g.K.Keeper.faults c.args.keeper.now) (g.K.Keeper.faults c.loop-entry.keeper) (returns-in-Some-end_by-clause-cause g c) none sound
+    settled_end c.in-Some-end_by.end mid t.troubles (g.L.Link.tells c.ship.new.link).troubles (g.K.Keeper.faults c.args.keeper.now) (g.K.Keeper.faults c.loop-entry.keeper) (returns-in-Some-end_by-clause-cause g c) none sound
 
 pub returns-in-Some-end_by-clause-number : goal.returns-in-Some-end_by-clause-number
 returns-in-Some-end_by-clause-number g c =
@@ -304,14 +304,15 @@ returns-in-Err-keep_log-clause-world g c =
     let keeps : IsKept j route.image client mid = keeps_now route.image client before mid i j c.loop-entry.invariant.keeps in
     let entry = c.in-Some.entry.now in
     let first : IsFirst entry mid.pending = first_is mid.pending entry c.in-Some.ensures.entry in
-    let v : LinkTelling = g.L.Link.tells c.settle_store.new.link in
-    let echoes = settled_echoes Server route.server (store_of client entry) u v c.in-Ok.reply c.in-Ok.ensures.settled in
+    let v : LinkTelling = g.L.Link.tells c.ship.new.link in
+    let shipped = c.in-Ok.ensures.shipped in
     let next = c.acknowledge.new.self in
     let l = g.K.Keeper.images c.keep_log.new.keeper in
     let is : acknowledged_first mid ≡ next = ap (λ (n : ℕ). acknowledged n mid) (sym (first_number mid entry c.in-Some.ensures.log first)) ∙ sym c.acknowledge.ensures.acknowledged in
-    let on : c.in-Ok.reply ≡ Some (Accepted client entry.seq) = goes_on client entry c.in-Ok.reply c.in-None.ensures echoes in
-    let done : Settled Server route.server (store_of client entry) u v (Ok (Some (Accepted client entry.seq))) =
-    subst (λ (r : Option Message). Settled Server route.server (store_of client entry) u v (Ok r)) on c.in-Ok.ensures.settled in
+    let on = goes_on client route entry c.in-Ok.reply c.in-None.ensures (ships_reply client route entry c.in-Ok.reply shipped.asks shipped.made) in
+    let done : AskedFor client route entry (Ships client route entry (Some on.0)) u v =
+    subst (λ (r : Option Message). AskedFor client route entry (Ships client route entry r) u v) on.1 shipped in
+    let goes : end_by entry.seq (Some on.0) ≡ None = sym (c.in-None.ensures ∙ ap (end_by entry.seq) on.1) in
     let refused = c.in-Err-keep_log.refused in
     let kept : Told j l (KeepsLog {E = KeepError} route.image client (acknowledged_first mid) (Err refused)) =
     subst (λ (log : Log). Told j l (KeepsLog {E = KeepError} route.image client log (Err refused))) (sym is)
@@ -319,7 +320,7 @@ returns-in-Err-keep_log-clause-world g c =
     subst (λ (self : Client). Went self.number (is_some route.surrogate) route.image (SyncEnds self.number route self.log c.unkept_end.result next) self.log next i l t v) c.self.view_is
     (subst (λ (end : SyncEnd). Went client (is_some route.surrogate) route.image (SyncEnds client route before end next) before next i l t v) (sym c.unkept_end.ensures)
     (subst (λ (log : Log). Went client (is_some route.surrogate) route.image (SyncEnds client route before (unkept_end refused) log) before log i l t v) is
-    (sync_unkept client route before mid entry c.in-Some.ensures.log first i j keeps t u v c.loop-entry.invariant.world done l refused kept)))
+    (sync_unkept client route before mid entry c.in-Some.ensures.log first i j keeps t u v c.loop-entry.invariant.world on.0 on.2 goes done l refused kept)))
 
 pub returns-in-Err-keep_log-clause-keeps : goal.returns-in-Err-keep_log-clause-keeps
 returns-in-Err-keep_log-clause-keeps g c =
@@ -349,7 +350,7 @@ pub returns-in-Err-keep_log-clause-cause : goal.returns-in-Err-keep_log-clause-c
 returns-in-Err-keep_log-clause-cause g c =
     let p = g.K.Keeper.faults c.args.keeper.now in
     let q = g.K.Keeper.faults c.keep_log.new.keeper in
-    subst (λ (end : SyncEnd). HasSyncCause end c.acknowledge.new.self (g.L.Link.tells c.args.link.now).troubles (g.L.Link.tells c.settle_store.new.link).troubles p q) (sym c.unkept_end.ensures)
+    subst (λ (end : SyncEnd). HasSyncCause end c.acknowledge.new.self (g.L.Link.tells c.args.link.now).troubles (g.L.Link.tells c.ship.new.link).troubles p q) (sym c.unkept_end.ensures)
     (unkept_cause c.in-Err-keep_log.refused c.acknowledge.new.self _ _ p (g.K.Keeper.faults c.loop-entry.keeper) q (omega (arith, c.loop-entry.invariant.faults)) (λ is. rose_once (g.K.Keeper.faults c.loop-entry.keeper) q (c.in-Err-keep_log.ensures.cause.once (ap Err is))))
 
 pub returns-in-Err-keep_log-clause-log : goal.returns-in-Err-keep_log-clause-log
@@ -379,7 +380,7 @@ returns-in-Err-keep_log-clause-honest g c =
     let j = g.K.Keeper.images c.loop-entry.keeper in
     let t : LinkTelling = g.L.Link.tells c.args.link.now in
     let u : LinkTelling = g.L.Link.tells c.loop-entry.link in
-    went_true client (is_some route.surrogate) route.image route before c.acknowledge.new.self c.unkept_end.result i (g.K.Keeper.images c.keep_log.new.keeper) t (g.L.Link.tells c.settle_store.new.link) (returns-in-Err-keep_log-clause-world g c)
+    went_true client (is_some route.surrogate) route.image route before c.acknowledge.new.self c.unkept_end.result i (g.K.Keeper.images c.keep_log.new.keeper) t (g.L.Link.tells c.ship.new.link) (returns-in-Err-keep_log-clause-world g c)
 
 pub returns-in-Err-keep_log-clause-complete : goal.returns-in-Err-keep_log-clause-complete
 returns-in-Err-keep_log-clause-complete g c = λ calm sound.
@@ -391,7 +392,7 @@ returns-in-Err-keep_log-clause-complete g c = λ calm sound.
     let j = g.K.Keeper.images c.loop-entry.keeper in
     let t : LinkTelling = g.L.Link.tells c.args.link.now in
     let u : LinkTelling = g.L.Link.tells c.loop-entry.link in
-    went_complete client (is_some route.surrogate) route.image route before c.acknowledge.new.self c.unkept_end.result i (g.K.Keeper.images c.keep_log.new.keeper) t (g.L.Link.tells c.settle_store.new.link) (returns-in-Err-keep_log-clause-world g c) (g.K.Keeper.faults c.args.keeper.now) (g.K.Keeper.faults c.keep_log.new.keeper) (returns-in-Err-keep_log-clause-cause g c) calm sound
+    went_complete client (is_some route.surrogate) route.image route before c.acknowledge.new.self c.unkept_end.result i (g.K.Keeper.images c.keep_log.new.keeper) t (g.L.Link.tells c.ship.new.link) (returns-in-Err-keep_log-clause-world g c) (g.K.Keeper.faults c.args.keeper.now) (g.K.Keeper.faults c.keep_log.new.keeper) (returns-in-Err-keep_log-clause-cause g c) calm sound
 
 pub returns-in-Err-keep_log-clause-settled : goal.returns-in-Err-keep_log-clause-settled
 returns-in-Err-keep_log-clause-settled g c = λ none sound.
@@ -403,7 +404,7 @@ returns-in-Err-keep_log-clause-settled g c = λ none sound.
     let j = g.K.Keeper.images c.loop-entry.keeper in
     let t : LinkTelling = g.L.Link.tells c.args.link.now in
     let u : LinkTelling = g.L.Link.tells c.loop-entry.link in
-    settled_end c.unkept_end.result c.acknowledge.new.self t.troubles (g.L.Link.tells c.settle_store.new.link).troubles (g.K.Keeper.faults c.args.keeper.now) (g.K.Keeper.faults c.keep_log.new.keeper) (returns-in-Err-keep_log-clause-cause g c) none sound
+    settled_end c.unkept_end.result c.acknowledge.new.self t.troubles (g.L.Link.tells c.ship.new.link).troubles (g.K.Keeper.faults c.args.keeper.now) (g.K.Keeper.faults c.keep_log.new.keeper) (returns-in-Err-keep_log-clause-cause g c) none sound
 
 pub returns-in-Err-keep_log-clause-number : goal.returns-in-Err-keep_log-clause-number
 returns-in-Err-keep_log-clause-number g c =
@@ -422,14 +423,15 @@ loop-entry-preserved g c =
     let keeps : IsKept j route.image client mid = keeps_now route.image client before mid i j c.loop-entry.invariant.keeps in
     let entry = c.in-Some.entry.now in
     let first : IsFirst entry mid.pending = first_is mid.pending entry c.in-Some.ensures.entry in
-    let v : LinkTelling = g.L.Link.tells c.settle_store.new.link in
-    let echoes = settled_echoes Server route.server (store_of client entry) u v c.in-Ok.reply c.in-Ok.ensures.settled in
+    let v : LinkTelling = g.L.Link.tells c.ship.new.link in
+    let shipped = c.in-Ok.ensures.shipped in
     let next = c.acknowledge.new.self in
     let l = g.K.Keeper.images c.keep_log.new.keeper in
     let is : acknowledged_first mid ≡ next = ap (λ (n : ℕ). acknowledged n mid) (sym (first_number mid entry c.in-Some.ensures.log first)) ∙ sym c.acknowledge.ensures.acknowledged in
-    let on : c.in-Ok.reply ≡ Some (Accepted client entry.seq) = goes_on client entry c.in-Ok.reply c.in-None.ensures echoes in
-    let done : Settled Server route.server (store_of client entry) u v (Ok (Some (Accepted client entry.seq))) =
-    subst (λ (r : Option Message). Settled Server route.server (store_of client entry) u v (Ok r)) on c.in-Ok.ensures.settled in
+    let on = goes_on client route entry c.in-Ok.reply c.in-None.ensures (ships_reply client route entry c.in-Ok.reply shipped.asks shipped.made) in
+    let done : AskedFor client route entry (Ships client route entry (Some on.0)) u v =
+    subst (λ (r : Option Message). AskedFor client route entry (Ships client route entry r) u v) on.1 shipped in
+    let goes : end_by entry.seq (Some on.0) ≡ None = sym (c.in-None.ensures ∙ ap (end_by entry.seq) on.1) in
     let kept : Told j l (KeepsLog {E = KeepError} route.image client (acknowledged_first mid) (Ok c.in_default-keep_log.field-0)) =
     subst (λ (log : Log). Told j l (KeepsLog {E = KeepError} route.image client log (Ok c.in_default-keep_log.field-0))) (sym is)
     (subst (λ (n : List ℕ). Told j l (KeepsLog {E = KeepError} n client next (Ok c.in_default-keep_log.field-0))) c.bytes.ensures.value c.in_default-keep_log.ensures.kept) in
@@ -441,7 +443,7 @@ loop-entry-preserved g c =
       keeps = subst (λ (log : Log). KeepsAcked before route.image client log i l) is
           (keeps_more route.image client before mid i j l c.loop-entry.invariant.keeps (first_some mid.pending entry first) (Ok c.in_default-keep_log.field-0) kept);
       world = subst (λ (log : Log). WentSoFar client route before log i l t v) is
-          (acked_more client route before mid entry c.in-Some.ensures.log first i j keeps t u v c.loop-entry.invariant.world done l (Ok c.in_default-keep_log.field-0) kept);
+          (acked_more client route before mid entry c.in-Some.ensures.log first i j keeps t u v c.loop-entry.invariant.world on.0 on.2 goes done l (Ok c.in_default-keep_log.field-0) kept);
     }
 
 -- ---- nothing is pending

@@ -6,7 +6,7 @@ use Rattle.world_rules.specs.Telling.{LinkTelling}
 use Rattle.world_rules.specs.Settling.{Settled}
 use Rattle.world_rules.proofs.Settled.{settled_nothing}
 use Rattle.client_core.specs.Syncing.{store_of}
-use Rattle.client_core.proofs.syncing.settle_store.Goals as goal
+use Rattle.client_core.proofs.shipping.settle_store.Goals as goal
 
 pub returns-in_err-store-clause-settled : goal.returns-in_err-store-clause-settled
 returns-in_err-store-clause-settled g c =
