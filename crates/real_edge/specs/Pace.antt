@@ -16,6 +16,10 @@ window_seconds = 30
 abbrev pub window_bytes : ℕ
 window_bytes = 30720
 
+-- how many bytes a second those are
+abbrev pub window_pace : ℕ
+window_pace = 1024
+
 -- how many bytes the head of a frame has
 abbrev pub head_bytes : ℕ
 head_bytes = 4

@@ -1,15 +1,23 @@
 -- For how long the first byte of an answer is waited for.
-use Rattle.std.specs.Prelude.{ℕ, Bool, false, ◌==◌, ◌&&◌, if◌then◌else◌, Option, None, Some}
+use Rattle.std.specs.Prelude.{ℕ, ◌/◌, min, Bool, false, ◌==◌, ◌&&◌, if◌then◌else◌, Option, None, Some}
 use Rattle.world_rules.specs.declared.asking.Peer.{Peer}
 use Rattle.world_rules.specs.declared.asking.Peer.TheVariants.{Server, Surrogate}
 use Rattle.wire_frames.specs.declared.message.Message.{Message}
 use Rattle.wire_frames.specs.Frame.{client_of, number_of}
 use Rattle.real_edge.specs.declared.link.About.{About}
-use Rattle.real_edge.specs.Pace.{window_seconds}
+use Rattle.real_edge.specs.Pace.{window_seconds, window_pace}
 
 -- for how many seconds a surrogate may run a command and answer
 abbrev pub command_seconds : ℕ
 command_seconds = 600
+
+-- the most bytes that lie in buffers of this machine once it has taken a request
+abbrev pub most_buffered : ℕ
+most_buffered = 262144
+
+-- how many seconds the end of so many bytes takes to leave it, at the slowest pace that a window lets pass
+abbrev pub in_buffers : ℕ → ℕ
+in_buffers bytes = min bytes most_buffered / window_pace
 
 -- the entry is the one that the request is about
 abbrev pub is_about : Option About → Message → Bool

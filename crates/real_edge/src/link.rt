@@ -6,11 +6,11 @@ ghost use Rattle.wire_frames.specs.Frame.{Spells};
 ghost use Rattle.world_rules.specs.World.{World};
 ghost use Rattle.world_rules.specs.Asking.{IsRequest, IsReplyTo, AsksOnce, IsDirect};
 ghost use Rattle.real_edge.specs.Pace.{HasWaited};
-ghost use Rattle.real_edge.specs.Patience.{patience, is_about, after_silence, after_answer};
+ghost use Rattle.real_edge.specs.Patience.{patience, in_buffers, is_about, after_silence, after_answer};
 
 use crate::faults::count_fault;
 use crate::frames::read_frame;
-use crate::pace::{Paced, WINDOW_SECONDS};
+use crate::pace::{Paced, WINDOW_PACE, WINDOW_SECONDS};
 use std::alloc::Global;
 use std::io;
 use std::io::{ErrorKind, Read, Write};
@@ -22,6 +22,10 @@ use world_rules::{Link, LinkError, Peer};
 /// For how many seconds the first byte of a surrogate's answer is waited for: it runs a command before, which it ends after 500
 /// seconds, and asks its server before and behind it. So the answer that the command ran too long comes in time, too.
 const COMMAND_SECONDS: u64 = 600;
+
+/// The most bytes of a request that lie in buffers of this machine once the system has taken all, on a link of the slowest pace:
+/// some 130,000 were seen.
+const MOST_BUFFERED: u64 = 262_144;
 
 /// The longest wait for one address of a peer to answer.
 const CONNECT_SECONDS: u64 = 10;
@@ -100,7 +104,7 @@ impl<'a, N: Net + Clock> TcpLink<'a, N> {
         ensures reply { IfOk result (λ bytes. IsReplyTo request.now bytes.items) }
         ensures troubles { self.new.troubles ≡ self.old.troubles }
     {
-        let seconds = patience(self.silent, to, request);
+        let seconds = patience(self.silent, to, request) + in_buffers(frame.len());
         match self.exchange(address, frame, seconds) {
             Ok(Some(bytes)) => {
                 self.silent = after_answer(self.silent, to);
@@ -132,6 +136,13 @@ fn patience(silent: Option<About>, to: Peer, request: &Message) -> u64
             }
         }
     }
+}
+
+/// How many seconds the end of so many bytes takes to leave this machine, at the slowest pace that a window lets pass.
+fn in_buffers(bytes: usize) -> u64
+    ensures { result ≡ in_buffers bytes }
+{
+    (bytes as u64).min(MOST_BUFFERED) / WINDOW_PACE
 }
 
 /// Whether the request is about this entry.

@@ -19,6 +19,9 @@ pub(crate) const WINDOW_SECONDS: u64 = 30;
 /// How many bytes a window has to move, so that another follows it.
 const WINDOW_BYTES: u64 = 30_720;
 
+/// How many bytes a second those are.
+pub(crate) const WINDOW_PACE: u64 = 1_024;
+
 /// How many bytes the head of a frame has.
 const HEAD_BYTES: u64 = 4;
 

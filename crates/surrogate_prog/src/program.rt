@@ -123,7 +123,8 @@ fn serve_bound<R: Eprint + AllocGlobal + Files<File = File> + Net + Clock + Proc
     match bound {
         Ok(mut port) => {
             let mut link = TcpLink::new(rt.alloc(), rt);
-            let mut runner = ChildRunner::new(rt, process, Some(Duration::from_secs(COMMAND_SECONDS)));
+            let longest = Duration::from_secs(COMMAND_SECONDS);
+            let mut runner = ChildRunner::new(rt, process, Some(longest));
             served(
                 rt,
                 rt.alloc(),

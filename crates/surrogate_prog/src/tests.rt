@@ -1,5 +1,6 @@
-ghost use Rattle.std.specs.Prelude.{None, IfSome};
-ghost use Rattle.wire_frames.specs.Frame.{IsValid, Echoes};
+ghost use Rattle.std.specs.Prelude.{◌≡◌, None, IfSome, IfOk, IfErr};
+ghost use Rattle.wire_frames.specs.Frame.{IsValid, Echoes, Spells};
+ghost use Rattle.world_rules.specs.Asking.{IsReplyTo};
 
 use crate::program::{NAME, PAGES};
 use crate::surrogate_run;
@@ -44,6 +45,12 @@ const NOT_FOR_IT: [u8; 20] = [0, 0, 0, 16, 1, 31, 0, 0, 0, 0, 0, 0, 0, 0, 0, 7, 
 /// The bytes had a false length.
 const BAD_LENGTH: [u8; 20] = [0, 0, 0, 16, 1, 31, 0, 0, 0, 0, 0, 0, 0, 0, 0, 1, 0, 0, 0, 0];
 
+/// What a surrogate of one frame writes at its end.
+const ONE: &[u8] = b"served 1 faults 0\n";
+
+/// And one of two.
+const TWO: &[u8] = b"served 2 faults 0\n";
+
 /// A link to a server that accepts each store; over a dead one no reply comes.
 #[derive(Drop)]
 struct Server {
@@ -66,19 +73,49 @@ impl Link for Server {
             self.troubles = self.troubles.saturating_add(1);
             return Err(LinkError::Failed);
         }
-        let request = match read(self.alloc, frame) {
-            Ok(request) => request,
-            Err(_refused) => return Err(LinkError::Memory),
-        };
-        let reply = acceptance(&request);
-        drop(request);
-        match reply {
-            Some(reply) => match write(self.alloc, &reply) {
-                Ok(bytes) => Ok(bytes),
-                Err(_refused) => Err(LinkError::Memory),
-            },
-            None => Err(LinkError::Memory),
+        reply_to(self.alloc, frame)
+    }
+}
+
+/// The frame that accepts the store of a frame.
+fn reply_to(alloc: Global, frame: &[u8]) -> Result<Vec<u8>, LinkError>
+    ensures reply { (request : Message) → Spells request frame.now → IfOk result (λ bytes. IsReplyTo request bytes.items) }
+    ensures cause { IfErr result (λ e. e ≡ LinkError.Memory) }
+{
+    match read(alloc, frame) {
+        Ok(request) => answer(alloc, request),
+        Err(refused) => {
+            drop(refused);
+            Err(LinkError::Memory)
         }
+    }
+}
+
+/// The frame that accepts a store, which ends here.
+fn answer(alloc: Global, request: Message) -> Result<Vec<u8>, LinkError>
+    requires { IsValid request }
+    ensures reply { IfOk result (λ bytes. IsReplyTo request bytes.items) }
+    ensures cause { IfErr result (λ e. e ≡ LinkError.Memory) }
+{
+    let answered = accepted(alloc, &request);
+    drop(request);
+    answered
+}
+
+/// The frame that accepts a store.
+fn accepted(alloc: Global, request: &Message) -> Result<Vec<u8>, LinkError>
+    requires { IsValid request.now }
+    ensures reply { IfOk result (λ bytes. IsReplyTo request.now bytes.items) }
+    ensures cause { IfErr result (λ e. e ≡ LinkError.Memory) }
+{
+    let Some(reply) = acceptance(request) else {
+        return Err(LinkError::Memory);
+    };
+    let written = write(alloc, &reply);
+    drop(reply);
+    match written {
+        Ok(bytes) => Ok(bytes),
+        Err(_refused) => Err(LinkError::Memory),
     }
 }
 
@@ -95,46 +132,28 @@ fn acceptance(request: &Message) -> Option<Message>
     }
 }
 
-/// What a run came to.
-#[derive(Drop)]
-struct Came {
-    status: u8,
-    port: MemPort,
-    output: MemSink,
-    troubles: u64,
-}
-
-/// Runs a surrogate on a port with these frames, whose runner does this, over a link to a server that is there or not.
-fn run(
-    alloc: Global,
-    frames: &[&[u8]],
-    answers: Vec<ScriptAnswer>,
-    dead: bool,
-) -> Result<Came, AllocError> {
-    let mut port = port_of(alloc, frames)?;
-    let mut output = MemSink::new(alloc, Vec::new(alloc));
-    let mut runner = ScriptRunner::new(alloc, answers);
-    let mut link = Server {
+/// A link to a server that is there or not.
+fn link_to(alloc: Global, dead: bool) -> Server {
+    Server {
         alloc,
         dead,
         troubles: 0,
-    };
-    let words = words(alloc, &["run", "l", "srv", "work", "9"])?;
-    let status = surrogate_run(
-        alloc,
-        &words,
-        &mut port,
-        &mut link,
-        &mut runner,
-        &mut output,
-    );
-    let troubles = link.troubles;
-    Ok(Came {
-        status,
-        port,
-        output,
-        troubles,
-    })
+    }
+}
+
+/// Runs a surrogate of these words on the port, whose runner does this, over the link. Gives its status and what it wrote.
+fn run(
+    alloc: Global,
+    words: &[String],
+    port: &mut MemPort,
+    answers: Vec<ScriptAnswer>,
+    link: &mut Server,
+) -> (u8, MemSink) {
+    let mut runner = ScriptRunner::new(alloc, answers);
+    let mut output = MemSink::new(alloc, Vec::new(alloc));
+    let status = surrogate_run(alloc, words, port, link, &mut runner, &mut output);
+    drop(runner);
+    (status, output)
 }
 
 fn words(alloc: Global, texts: &[&str]) -> Result<Vec<String>, AllocError> {
@@ -153,80 +172,140 @@ fn port_of(alloc: Global, frames: &[&[u8]]) -> Result<MemPort, AllocError> {
     Ok(MemPort::new(alloc, held, Vec::new(alloc)))
 }
 
-/// The outcome with this status and folders of these names.
-fn outcome(alloc: Global, status: u8, names: &[&[u8]]) -> Result<ScriptAnswer, AllocError> {
-    let mut rows = RawRows::new(alloc);
-    for name in names {
-        rows.push(folder(alloc, name)?)?;
-    }
-    Ok(ScriptAnswer::Give(Outcome { status, rows }))
-}
-
-fn folder(alloc: Global, name: &[u8]) -> Result<RawRow, AllocError> {
-    Ok(RawRow {
-        path: Content::of(alloc, name)?,
-        node: Node::Folder,
-    })
-}
-
-/// Whether an operation whose run gives this is answered so.
+/// Whether the surrogate answers these frames with these and ends with this line, over the link, where its runner does this.
 fn answers(
     alloc: Global,
-    given: ScriptAnswer,
-    dead: bool,
+    frames: &[&[u8]],
+    given: Vec<ScriptAnswer>,
+    link: &mut Server,
+    replies: &[&[u8]],
+    last: &[u8],
+) -> Result<bool, AllocError> {
+    match prepared(alloc, frames) {
+        Ok((words, mut port)) => {
+            let (status, output) = run(alloc, &words, &mut port, given, link);
+            let same = (0_u32..)
+                .zip(replies)
+                .all(|(number, reply)| port.answered(number) == Some(*reply));
+            drop(port);
+            Ok(same && status == 0 && output.bytes() == last)
+        }
+        Err(error) => {
+            drop(given);
+            Err(error)
+        }
+    }
+}
+
+/// The words of a surrogate, and a port with these frames.
+fn prepared(alloc: Global, frames: &[&[u8]]) -> Result<(Vec<String>, MemPort), AllocError> {
+    let words = words(alloc, &["run", "l", "srv", "work", "9"])?;
+    let port = port_of(alloc, frames)?;
+    Ok((words, port))
+}
+
+/// One run, which gives the outcome with this status and folders of these names.
+fn outcome(alloc: Global, status: u8, names: &[&[u8]]) -> Result<Vec<ScriptAnswer>, AllocError> {
+    let mut rows = RawRows::new(alloc);
+    match add_folders(alloc, &mut rows, names) {
+        Ok(()) => one_run(alloc, ScriptAnswer::Give(Outcome { status, rows })),
+        Err(error) => {
+            drop(rows);
+            Err(error)
+        }
+    }
+}
+
+fn one_run(alloc: Global, given: ScriptAnswer) -> Result<Vec<ScriptAnswer>, AllocError> {
+    Ok(vec![in alloc; given]?)
+}
+
+fn add_folders(alloc: Global, rows: &mut RawRows, names: &[&[u8]]) -> Result<(), AllocError> {
+    for name in names {
+        rows.push(RawRow {
+            path: Content::of(alloc, name)?,
+            node: Node::Folder,
+        })?;
+    }
+    Ok(())
+}
+
+/// Whether an operation whose run gives this outcome is answered so.
+fn is_answered(
+    alloc: Global,
+    status: u8,
+    names: &[&[u8]],
     reply: &[u8],
 ) -> Result<bool, AllocError> {
-    let came = run(alloc, &[&OPERATION], vec![in alloc; given]?, dead)?;
-    Ok(
-        came.status == 0
-            && came.output.bytes() == b"served 1 faults 0\n".as_slice()
-            && came.port.answered(0) == Some(reply),
+    let given = outcome(alloc, status, names)?;
+    answers(
+        alloc,
+        &[&OPERATION],
+        given,
+        &mut link_to(alloc, false),
+        &[reply],
+        ONE,
     )
 }
 
 #[test]
-fn an_agreed_operation_is_done(rt: HostRuntime) -> Result<(), Fail> {
+fn what_agrees_is_done_and_all_else_is_declined(rt: HostRuntime) -> Result<(), Fail> {
     let alloc = rt.alloc();
-    assert!(rt; answers(alloc, outcome(alloc, 0, &[b"a"])?, false, &DONE)?);
+    let cases: [(u8, &[&[u8]], &[u8]); 5] = [
+        (0, &[b"a"], &DONE),
+        (1, &[b"a"], &STATUS),
+        (0, &[b"a", b".."], &ODD_TREE),
+        (0, &[b"a", b"a"], &ODD_TREE),
+        (0, &[b"b", b"a"], &ODD_TREE),
+    ];
+    for (status, names, reply) in cases {
+        assert!(rt; is_answered(alloc, status, names, reply)?);
+    }
     Ok(())
 }
 
 #[test]
-fn what_does_not_agree_is_declined(rt: HostRuntime) -> Result<(), Fail> {
+fn what_was_not_run_is_declined(rt: HostRuntime) -> Result<(), Fail> {
     let alloc = rt.alloc();
-    assert!(rt; answers(alloc, outcome(alloc, 1, &[b"a"])?, false, &STATUS)?);
-    assert!(rt; answers(alloc, outcome(alloc, 0, &[b"a", b".."])?, false, &ODD_TREE)?);
-    assert!(rt; answers(alloc, outcome(alloc, 0, &[b"a", b"a"])?, false, &ODD_TREE)?);
-    assert!(rt; answers(alloc, outcome(alloc, 0, &[b"b", b"a"])?, false, &ODD_TREE)?);
-    assert!(rt; answers(alloc, ScriptAnswer::Fail, false, &NOT_RUN)?);
+    let given = one_run(alloc, ScriptAnswer::Fail)?;
+    let mut link = link_to(alloc, false);
+    assert!(rt; answers(alloc, &[&OPERATION], given, &mut link, &[&NOT_RUN], ONE)?);
     Ok(())
 }
 
 #[test]
 fn a_silent_server_is_told(rt: HostRuntime) -> Result<(), Fail> {
     let alloc = rt.alloc();
-    let given = vec![in alloc; outcome(alloc, 0, &[b"a"])?]?;
-    let came = run(alloc, &[&OPERATION], given, true)?;
-    assert_eq!(rt; came.status, 0);
-    assert_eq!(rt; came.port.answered(0), Some(NO_SERVER.as_slice()));
-    assert_eq!(rt; came.troubles, 8);
+    let given = outcome(alloc, 0, &[b"a"])?;
+    let mut link = link_to(alloc, true);
+    let told = answers(alloc, &[&OPERATION], given, &mut link, &[&NO_SERVER], ONE)?;
+    assert!(rt; told && link.troubles == 8);
     Ok(())
 }
 
 #[test]
 fn what_is_no_operation_is_malformed(rt: HostRuntime) -> Result<(), Fail> {
     let alloc = rt.alloc();
-    let came = run(alloc, &[&PULL, b""], Vec::new(alloc), true)?;
-    assert_eq!(rt; came.status, 0);
-    assert_eq!(rt; came.output.bytes(), b"served 2 faults 0\n".as_slice());
-    assert_eq!(rt; came.port.answered(0), Some(NOT_FOR_IT.as_slice()));
-    assert_eq!(rt; came.port.answered(1), Some(BAD_LENGTH.as_slice()));
+    let none = Vec::new(alloc);
+    let mut link = link_to(alloc, true);
+    let replies: [&[u8]; 2] = [&NOT_FOR_IT, &BAD_LENGTH];
+    assert!(rt; answers(alloc, &[&PULL, b""], none, &mut link, &replies, TWO)?);
     Ok(())
+}
+
+/// Whether a surrogate of these words ends with status 2, and answers nothing.
+fn is_refused(alloc: Global, texts: &[&str]) -> Result<bool, AllocError> {
+    let words = words(alloc, texts)?;
+    let mut port = port_of(alloc, &[&PULL])?;
+    let mut link = link_to(alloc, true);
+    let (status, output) = run(alloc, &words, &mut port, Vec::new(alloc), &mut link);
+    let refused = status == 2 && output.bytes().is_empty() && port.answered(0).is_none();
+    drop(port);
+    Ok(refused)
 }
 
 #[test]
 fn other_words_touch_nothing(rt: HostRuntime) -> Result<(), Fail> {
-    let alloc = rt.alloc();
     let forms: [&[&str]; 6] = [
         &[],
         &["run", "l", "srv", "work"],
@@ -236,25 +315,7 @@ fn other_words_touch_nothing(rt: HostRuntime) -> Result<(), Fail> {
         &["run", "l", "srv", "work", "65537"],
     ];
     for form in forms {
-        let mut port = port_of(alloc, &[&PULL])?;
-        let mut output = MemSink::new(alloc, Vec::new(alloc));
-        let mut runner = ScriptRunner::new(alloc, Vec::new(alloc));
-        let mut link = Server {
-            alloc,
-            dead: true,
-            troubles: 0,
-        };
-        let words = words(alloc, form)?;
-        let status = surrogate_run(
-            alloc,
-            &words,
-            &mut port,
-            &mut link,
-            &mut runner,
-            &mut output,
-        );
-        assert_eq!(rt; status, 2);
-        assert_eq!(rt; port.answered(0), None);
+        assert!(rt; is_refused(rt.alloc(), form)?);
     }
     Ok(())
 }
