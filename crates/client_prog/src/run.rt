@@ -1,5 +1,6 @@
 // A run of the client over its input.
 ghost use Rattle.std.specs.Prelude.{◌≡◌, ◌≢◌, ◌⊎◌, ◌↔◌, ◌≤◌, ◌∷◌, ℕ, [], false, None, Some, Ok, Err, IfOk, OnOk, OnErr, IfSome, IsTrue, take, length, map};
+ghost use Rattle.std.specs.Option.{option_copied};
 ghost use Rattle.std.specs.String.{string_bytes};
 ghost use Rattle.outside.specs.Outside.{Told, Adds, CountsFault, RisesWhere, Rose};
 ghost use Rattle.mod_log.specs.Log.{Log};
@@ -367,19 +368,29 @@ fn status_unopened(unopened: Unopened) -> u8
 
 /// Where the client's image, peers and commands are, by the words of a run.
 fn route_of(alloc: Global, words: &RunWords<'_>) -> Result<Route, AllocError>
-    ensures { IfOk result (λ route. route ≡ route_of (record { client = words.now.client; image = words.now.image.now; server = words.now.server.now; work = words.now.work.now })) }
+    ensures { IfOk result (λ route. route ≡ route_of (record { client = words.now.client; image = words.now.image.now; server = words.now.server.now; surrogate = option_copied words.now.surrogate; work = words.now.work.now })) }
 {
     Ok(Route {
         image: Content::of(alloc, words.image)?,
         server: Content::of(alloc, words.server)?,
-        surrogate: None,
+        surrogate: address(alloc, words.surrogate)?,
         work: Content::of(alloc, words.work)?,
     })
 }
 
+/// An address, where there is one.
+fn address(alloc: Global, word: Option<&[u8]>) -> Result<Option<Content>, AllocError>
+    ensures { IfOk result (λ address. address ≡ option_copied word) }
+{
+    match word {
+        Some(address) => Ok(Some(Content::of(alloc, address)?)),
+        None => Ok(None),
+    }
+}
+
 /// Runs the client on its words: opens what is kept of it, reads lines, answers each before it reads on, and ships what they
-/// log to the server. The client is kept after each change, before the line is answered and before more is asked. Its commands
-/// are run by the runner, in the work folder of the words.
+/// log to the server, or, where the words name a surrogate, as an operation to that. The client is kept after each change, before
+/// the line is answered and before more is asked. Its commands are run by the runner, in the work folder of the words.
 /// The status that it gives:
 ///
 /// - 0: every line was answered, up to the first that quits where one does, and the output ends with
