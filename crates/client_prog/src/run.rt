@@ -140,7 +140,7 @@ fn answer<O: Sink, K: Keeper, R: Runner, L: Link>(
     link: &mut L,
 ) -> Result<bool, Stop>
     requires { IsKept (K.images keeper.old) route.now.image session.old.client.number session.old.client.log }
-    ensures world { WentDoing route.now.image (AnswersLines route.now session.old (line.now ∷ []) (O.written output.old) (O.written output.new) result session.new) session.old session.new (K.images keeper.old) (K.images keeper.new) (beside (L.tells link.old) (telling (R.runs runner.old) (R.faults runner.old))) (beside (L.tells link.new) (telling (R.runs runner.new) (R.faults runner.new))) }
+    ensures world { WentDoing route.now (AnswersLines route.now session.old (line.now ∷ []) (O.written output.old) (O.written output.new) result session.new) session.old session.new (K.images keeper.old) (K.images keeper.new) (beside (L.tells link.old) (telling (R.runs runner.old) (R.faults runner.old))) (beside (L.tells link.new) (telling (R.runs runner.new) (R.faults runner.new))) }
     ensures quit { IfOk result (λ quit. quit ≡ quits line.now) }
     ensures kept { IfOk result (λ done. IsKept (K.images keeper.new) route.now.image session.new.client.number session.new.client.log) }
     ensures later { (L.tells link.old).troubles ≤ (L.tells link.new).troubles }
@@ -168,7 +168,7 @@ fn answer_lines<O: Sink, K: Keeper, R: Runner, L: Link>(
     link: &mut L,
 ) -> Result<bool, Stop>
     requires { IsKept (K.images keeper.old) route.now.image session.old.client.number session.old.client.log }
-    ensures world { WentDoing route.now.image (AnswersLines route.now session.old (up_to_quit (whole_lines reader.old.bytes)) (O.written output.old) (O.written output.new) result session.new) session.old session.new (K.images keeper.old) (K.images keeper.new) (beside (L.tells link.old) (telling (R.runs runner.old) (R.faults runner.old))) (beside (L.tells link.new) (telling (R.runs runner.new) (R.faults runner.new))) }
+    ensures world { WentDoing route.now (AnswersLines route.now session.old (up_to_quit (whole_lines reader.old.bytes)) (O.written output.old) (O.written output.new) result session.new) session.old session.new (K.images keeper.old) (K.images keeper.new) (beside (L.tells link.old) (telling (R.runs runner.old) (R.faults runner.old))) (beside (L.tells link.new) (telling (R.runs runner.new) (R.faults runner.new))) }
     ensures quit { IfOk result (λ quit. quit ≡ has_quit (whole_lines reader.old.bytes)) }
     ensures left { IfOk result (λ quit. quit ≡ false → HasUnfinished reader.old reader.new) }
     ensures kept { IfOk result (λ done. IsKept (K.images keeper.new) route.now.image session.new.client.number session.new.client.log) }
@@ -200,7 +200,7 @@ fn answer_input<I: Source, O: Sink, K: Keeper, R: Runner, L: Link>(
     link: &mut L,
 ) -> Result<InputEnd, Stop>
     requires { IsKept (K.images keeper.old) route.now.image session.old.client.number session.old.client.log }
-    ensures world { WentDoing route.now.image (AnswersInput route.now session.old (I.left input.old) (I.left input.new) (O.written output.old) (O.written output.new) result session.new) session.old session.new (K.images keeper.old) (K.images keeper.new) (beside (L.tells link.old) (telling (R.runs runner.old) (R.faults runner.old))) (beside (L.tells link.new) (telling (R.runs runner.new) (R.faults runner.new))) }
+    ensures world { WentDoing route.now (AnswersInput route.now session.old (I.left input.old) (I.left input.new) (O.written output.old) (O.written output.new) result session.new) session.old session.new (K.images keeper.old) (K.images keeper.new) (beside (L.tells link.old) (telling (R.runs runner.old) (R.faults runner.old))) (beside (L.tells link.new) (telling (R.runs runner.new) (R.faults runner.new))) }
     ensures input { TakesInput (I.left input.old) (I.left input.new) result }
     ensures kept { IfOk result (λ done. IsKept (K.images keeper.new) route.now.image session.new.client.number session.new.client.log) }
     ensures later { (L.tells link.old).troubles ≤ (L.tells link.new).troubles }
@@ -248,7 +248,7 @@ fn answer_last<O: Sink, K: Keeper, R: Runner, L: Link>(
     link: &mut L,
 ) -> Result<(), Stop>
     requires { IsKept (K.images keeper.old) route.now.image session.old.client.number session.old.client.log }
-    ensures world { WentDoing route.now.image (AnswersLines route.now session.old (last_at end reader.now.bytes) (O.written output.old) (O.written output.new) result session.new) session.old session.new (K.images keeper.old) (K.images keeper.new) (beside (L.tells link.old) (telling (R.runs runner.old) (R.faults runner.old))) (beside (L.tells link.new) (telling (R.runs runner.new) (R.faults runner.new))) }
+    ensures world { WentDoing route.now (AnswersLines route.now session.old (last_at end reader.now.bytes) (O.written output.old) (O.written output.new) result session.new) session.old session.new (K.images keeper.old) (K.images keeper.new) (beside (L.tells link.old) (telling (R.runs runner.old) (R.faults runner.old))) (beside (L.tells link.new) (telling (R.runs runner.new) (R.faults runner.new))) }
     ensures kept { IfOk result (λ done. IsKept (K.images keeper.new) route.now.image session.new.client.number session.new.client.log) }
     ensures later { (L.tells link.old).troubles ≤ (L.tells link.new).troubles }
     ensures runner_later { R.faults runner.old ≤ R.faults runner.new }
@@ -282,7 +282,7 @@ fn answer_unfinished<O: Sink, K: Keeper, R: Runner, L: Link>(
     link: &mut L,
 ) -> Result<(), Stop>
     requires { IsKept (K.images keeper.old) route.now.image session.old.client.number session.old.client.log }
-    ensures world { WentDoing route.now.image (AnswersLines route.now session.old (last_line line.now) (O.written output.old) (O.written output.new) result session.new) session.old session.new (K.images keeper.old) (K.images keeper.new) (beside (L.tells link.old) (telling (R.runs runner.old) (R.faults runner.old))) (beside (L.tells link.new) (telling (R.runs runner.new) (R.faults runner.new))) }
+    ensures world { WentDoing route.now (AnswersLines route.now session.old (last_line line.now) (O.written output.old) (O.written output.new) result session.new) session.old session.new (K.images keeper.old) (K.images keeper.new) (beside (L.tells link.old) (telling (R.runs runner.old) (R.faults runner.old))) (beside (L.tells link.new) (telling (R.runs runner.new) (R.faults runner.new))) }
     ensures kept { IfOk result (λ done. IsKept (K.images keeper.new) route.now.image session.new.client.number session.new.client.log) }
     ensures later { (L.tells link.old).troubles ≤ (L.tells link.new).troubles }
     ensures runner_later { R.faults runner.old ≤ R.faults runner.new }
@@ -340,7 +340,7 @@ fn run<I: Source, O: Sink, K: Keeper, R: Runner, L: Link>(
     link: &mut L,
 ) -> Result<InputEnd, Stop>
     requires { IsKept (K.images keeper.old) route.now.image session.old.client.number session.old.client.log }
-    ensures world { WentDoing route.now.image (RunAnswers route.now session.old (I.left input.old) (I.left input.new) (O.written output.old) (O.written output.new) result session.new) session.old session.new (K.images keeper.old) (K.images keeper.new) (beside (L.tells link.old) (telling (R.runs runner.old) (R.faults runner.old))) (beside (L.tells link.new) (telling (R.runs runner.new) (R.faults runner.new))) }
+    ensures world { WentDoing route.now (RunAnswers route.now session.old (I.left input.old) (I.left input.new) (O.written output.old) (O.written output.new) result session.new) session.old session.new (K.images keeper.old) (K.images keeper.new) (beside (L.tells link.old) (telling (R.runs runner.old) (R.faults runner.old))) (beside (L.tells link.new) (telling (R.runs runner.new) (R.faults runner.new))) }
     ensures input { TakesInput (I.left input.old) (I.left input.new) result }
     ensures later { (L.tells link.old).troubles ≤ (L.tells link.new).troubles }
     ensures runner_later { R.faults runner.old ≤ R.faults runner.new }
