@@ -61,7 +61,7 @@ later_before move moves state entry among =
 
 -- ---- fewer entries and fewer packets
 
-fewer_collide : (client : ℕ) (fewer entries : List Entry) (before packets : List Message) → ((entry : Entry) → IsIn entry fewer → IsIn entry entries)
+pub fewer_collide : (client : ℕ) (fewer entries : List Entry) (before packets : List Message) → ((entry : Entry) → IsIn entry fewer → IsIn entry entries)
     → ((message : Message) → IsIn message before → IsIn message packets) → HasNoCollision client entries packets → HasNoCollision client fewer before
 fewer_collide client fewer entries before packets are stay none sketched among x y writes carried same =
     none sketched (stay (Operate client sketched) among) x y
