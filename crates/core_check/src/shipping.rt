@@ -135,8 +135,55 @@ fn route(alloc: Global) -> Result<Route, Fail> {
     })
 }
 
-fn put(alloc: Global, path: &[u8], text: &[u8]) -> Result<Effect, Fail> {
-    Ok(Effect::Put(Path::read(alloc, path)?, Content::of(alloc, text)?))
+/// Logs the effect that puts a file, and gives the entry's number.
+fn put(alloc: Global, client: &mut Client, path: &[u8], text: &[u8]) -> Result<u64, Fail> {
+    let path = Path::read(alloc, path)?;
+    let text = Content::of(alloc, text)?;
+    match client.local(Effect::Put(path, text)) {
+        Ok(seq) => Ok(seq),
+        Err(refused) => {
+            drop(refused);
+            Err(Fail::from("refused"))
+        }
+    }
+}
+
+/// The numbers of two entries that put files.
+fn put_two(alloc: Global, client: &mut Client) -> Result<(u64, u64), Fail> {
+    let first = put(alloc, client, b"a", b"x\n")?;
+    let second = put(alloc, client, b"b", b"y\n")?;
+    Ok((first, second))
+}
+
+/// How a sync ends: a letter, and the number that it tells.
+fn synced<L: Link>(client: &mut Client, route: &Route, link: &mut L) -> (u8, u64) {
+    let end = client.sync(route, link, &mut Quiet);
+    let shown = match &end {
+        SyncEnd::Synced(acked) => (b's', *acked),
+        SyncEnd::Unanswered { seq } => (b'u', *seq),
+        _ => (b'?', 0),
+    };
+    drop(end);
+    shown
+}
+
+/// How a pull ends: a letter, and the numbers that it tells in two digits.
+fn pulled<L: Link>(client: &mut Client, route: &Route, link: &mut L) -> (u8, u64) {
+    let end = client.pull(route, link, &mut Quiet);
+    let shown = match &end {
+        PullEnd::Pulled(count) => (b'p', u64::from(*count)),
+        PullEnd::Pending(count) => (b'w', u64::from(*count)),
+        PullEnd::Unanswered => (b'u', 0),
+        PullEnd::Older { theirs, ours, .. } => (b'o', digits(*theirs, *ours)),
+        PullEnd::OtherLast { last, acked } => (b'l', digits(*last, *acked)),
+        _ => (b'?', 0),
+    };
+    drop(end);
+    shown
+}
+
+fn digits(first: u64, second: u64) -> u64 {
+    first.saturating_mul(10).saturating_add(second)
 }
 
 #[test]
@@ -144,28 +191,19 @@ fn logs_and_syncs(rt: HostRuntime) -> Result<(), Fail> {
     let alloc = rt.alloc();
     let route = route(alloc)?;
     let mut client = Client::new(alloc, 7);
-    let mut keeper = Quiet;
     assert_eq!(rt; client.number(), 7);
-    assert_eq!(rt; client.local(put(alloc, b"a", b"x\n")?)?, 1);
-    assert_eq!(rt; client.local(put(alloc, b"b", b"y\n")?)?, 2);
-    assert!(rt; client.keep(b"image", &mut keeper).is_ok());
+    let put = put_two(alloc, &mut client);
+    assert!(rt; client.keep(b"image", &mut Quiet).is_ok());
     let mut dead = Dead { troubles: 0 };
-    assert!(rt;
-        matches!(
-            client.sync(&route, &mut dead, &mut keeper),
-            SyncEnd::Unanswered { seq: 1 }
-        )
-    );
+    assert_eq!(rt; synced(&mut client, &route, &mut dead), (b'u', 1));
     assert_eq!(rt; dead.troubles, 8);
     assert_eq!(rt; client.log().pending(), 2);
     let mut willing = Willing { alloc, ahead: 0 };
-    assert!(rt;
-        matches!(
-            client.sync(&route, &mut willing, &mut keeper),
-            SyncEnd::Synced(2)
-        )
-    );
+    assert_eq!(rt; synced(&mut client, &route, &mut willing), (b's', 2));
     assert_eq!(rt; client.log().pending(), 0);
+    drop(client);
+    drop(route);
+    assert_eq!(rt; put?, (1, 2));
     Ok(())
 }
 
@@ -174,53 +212,20 @@ fn pulls(rt: HostRuntime) -> Result<(), Fail> {
     let alloc = rt.alloc();
     let route = route(alloc)?;
     let mut client = Client::new(alloc, 64);
-    let mut keeper = Quiet;
     let mut willing = Willing { alloc, ahead: 0 };
-    assert!(rt;
-        matches!(
-            client.pull(&route, &mut willing, &mut keeper),
-            PullEnd::Pulled(0)
-        )
-    );
+    assert_eq!(rt; pulled(&mut client, &route, &mut willing), (b'p', 0));
     let mut dead = Dead { troubles: 0 };
-    assert!(rt;
-        matches!(
-            client.pull(&route, &mut dead, &mut keeper),
-            PullEnd::Unanswered
-        )
-    );
-    let _ = client.local(put(alloc, b"a", b"x\n")?)?;
-    assert!(rt; client.keep(b"image", &mut keeper).is_ok());
-    assert!(rt;
-        matches!(
-            client.pull(&route, &mut dead, &mut keeper),
-            PullEnd::Pending(1)
-        )
-    );
+    assert_eq!(rt; pulled(&mut client, &route, &mut dead), (b'u', 0));
+    let first = put(alloc, &mut client, b"a", b"x\n");
+    assert_eq!(rt; pulled(&mut client, &route, &mut dead), (b'w', 1));
     assert_eq!(rt; dead.troubles, 8);
-    assert!(rt;
-        matches!(
-            client.sync(&route, &mut willing, &mut keeper),
-            SyncEnd::Synced(1)
-        )
-    );
-    assert!(rt;
-        matches!(
-            client.pull(&route, &mut willing, &mut keeper),
-            PullEnd::Older {
-                theirs: 0,
-                ours: 1,
-                ..
-            }
-        )
-    );
+    assert_eq!(rt; synced(&mut client, &route, &mut willing), (b's', 1));
+    assert_eq!(rt; pulled(&mut client, &route, &mut willing), (b'o', 1));
     willing.ahead = 2;
-    assert!(rt;
-        matches!(
-            client.pull(&route, &mut willing, &mut keeper),
-            PullEnd::OtherLast { last: 3, acked: 1 }
-        )
-    );
+    assert_eq!(rt; pulled(&mut client, &route, &mut willing), (b'l', 31));
     assert_eq!(rt; client.log().tree().count(), 1);
+    drop(client);
+    drop(route);
+    assert_eq!(rt; first?, 1);
     Ok(())
 }
