@@ -28,7 +28,7 @@ fn words(alloc: Global, line: &[u8]) -> Result<Words, Fail> {
 }
 
 /// The command of a line in the folder d.
-pub(crate) fn command(alloc: Global, line: &[u8]) -> Result<Command, Fail>
+fn command(alloc: Global, line: &[u8]) -> Result<Command, Fail>
     ensures { IfOk result IsCommand }
 {
     let cwd = Path::read(alloc, b"d")?;
@@ -57,7 +57,7 @@ fn log(client: &mut Client, effect: Effect) -> Result<(), Fail> {
 }
 
 /// A client with a file b, a folder d, and a file d/x of `1`.
-pub(crate) fn client(alloc: Global) -> Result<Client, Fail> {
+fn client(alloc: Global) -> Result<Client, Fail> {
     let mut client = Client::new(alloc, 7);
     match fill(alloc, &mut client) {
         Ok(()) => Ok(client),
@@ -117,7 +117,7 @@ fn outcome(alloc: Global, first: &[u8], text: &[u8]) -> Result<Outcome, Fail> {
 }
 
 /// A runner that gives an outcome with this first file, fails, and then changes nothing.
-pub(crate) fn runner(alloc: Global, first: &[u8], text: &[u8]) -> Result<ScriptRunner, Fail> {
+fn runner(alloc: Global, first: &[u8], text: &[u8]) -> Result<ScriptRunner, Fail> {
     let mut answers = Vec::new(alloc);
     answers.push(ScriptAnswer::Give(outcome(alloc, first, text)?))?;
     answers.push(ScriptAnswer::Fail)?;
@@ -125,7 +125,11 @@ pub(crate) fn runner(alloc: Global, first: &[u8], text: &[u8]) -> Result<ScriptR
 }
 
 /// The client beside the runner.
-fn stage(alloc: Global, first: &[u8], text: &[u8]) -> Result<(Client, ScriptRunner), Fail> {
+pub(crate) fn stage(
+    alloc: Global,
+    first: &[u8],
+    text: &[u8],
+) -> Result<(Client, ScriptRunner), Fail> {
     let runner = runner(alloc, first, text)?;
     match client(alloc) {
         Ok(client) => Ok((client, runner)),
@@ -156,7 +160,7 @@ fn shown(end: &RunEnd) -> (u8, u64) {
 }
 
 /// How a client's run of a line ends.
-fn ended(
+pub(crate) fn ended(
     alloc: Global,
     client: &mut Client,
     runner: &mut ScriptRunner,

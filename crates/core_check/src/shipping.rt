@@ -10,12 +10,12 @@ use std::alloc::Global;
 use std::rt::HostRuntime;
 use std::test::Fail;
 use vol_tree::{Content, Effect, Path, Rows};
-use wire_frames::{Message, read, write};
+use wire_frames::{Cause, Message, read, write};
 use world_rules::{Link, LinkError, Peer};
 
 /// A keeper that is always content, and tells nothing.
 #[derive(Drop)]
-struct Quiet;
+pub(crate) struct Quiet;
 
 impl Keeper for Quiet {
     ghost images = { λ keeper. None };
@@ -70,7 +70,7 @@ impl Link for Willing {
 
     fn ask(&mut self, _to: Peer, _address: &[u8], frame: &[u8]) -> Result<Vec<u8>, LinkError> {
         match read(self.alloc, frame) {
-            Ok(request) => answer(self.alloc, request, self.ahead),
+            Ok(request) => answer(self.alloc, request, self.ahead, false),
             Err(refused) => {
                 drop(refused);
                 Err(LinkError::Memory)
@@ -79,24 +79,34 @@ impl Link for Willing {
     }
 }
 
-/// The frame of the reply to a request, which ends here.
-fn answer(alloc: Global, request: Message, ahead: u64) -> Result<Vec<u8>, LinkError>
+/// The frame of the reply to a request, which ends here. An operation is declined, or done.
+pub(crate) fn answer(
+    alloc: Global,
+    request: Message,
+    ahead: u64,
+    declines: bool,
+) -> Result<Vec<u8>, LinkError>
     requires { IsValid request }
     ensures reply { IfOk result (λ bytes. IsReplyTo request bytes.items) }
     ensures cause { IfErr result (λ e. e ≡ LinkError.Memory) }
 {
-    let answered = answer_to(alloc, &request, ahead);
+    let answered = answer_to(alloc, &request, ahead, declines);
     drop(request);
     answered
 }
 
 /// The frame of the reply to a request.
-fn answer_to(alloc: Global, request: &Message, ahead: u64) -> Result<Vec<u8>, LinkError>
+fn answer_to(
+    alloc: Global,
+    request: &Message,
+    ahead: u64,
+    declines: bool,
+) -> Result<Vec<u8>, LinkError>
     requires { IsValid request.now }
     ensures reply { IfOk result (λ bytes. IsReplyTo request.now bytes.items) }
     ensures cause { IfErr result (λ e. e ≡ LinkError.Memory) }
 {
-    let Some(reply) = reply_to(alloc, request, ahead) else {
+    let Some(reply) = reply_to(alloc, request, ahead, declines) else {
         return Err(LinkError::Memory);
     };
     let written = write(alloc, &reply);
@@ -107,7 +117,7 @@ fn answer_to(alloc: Global, request: &Message, ahead: u64) -> Result<Vec<u8>, Li
     }
 }
 
-fn reply_to(alloc: Global, request: &Message, ahead: u64) -> Option<Message>
+fn reply_to(alloc: Global, request: &Message, ahead: u64, declines: bool) -> Option<Message>
     requires { IsValid request.now }
     ensures { IfSome result (λ reply. IsValid reply × Echoes request.now reply) }
 {
@@ -121,6 +131,15 @@ fn reply_to(alloc: Global, request: &Message, ahead: u64) -> Option<Message>
             number: *number,
             last: number.saturating_add(ahead),
             rows: Rows::new(alloc),
+        }),
+        Message::Operate { client, entry } if declines => Some(Message::Declined {
+            client: *client,
+            number: entry.seq,
+            cause: Cause::NotRun,
+        }),
+        Message::Operate { client, entry } => Some(Message::Done {
+            client: *client,
+            number: entry.seq,
         }),
         _ => None,
     }
