@@ -1,19 +1,24 @@
 -- Two runs, the second begun on what the first left kept, leave together what one run leaves.
-use Rattle.std.proofs.Common.{◌≡◌, ◌⊎◌, inl, inr, ⊎_elim, ℕ, zero, suc, ◌+◌, ◌-◌, ◌≤◌, List, [], ◌∷◌, ◌++◌, length, drop, Option, Some, None, Result, Ok, Err, refl, sym, ◌∙◌, ap, subst, arith, length-append}
+use Rattle.std.proofs.Common.{◌≡◌, ◌⊎◌, inl, inr, ⊎_elim, ℕ, zero, suc, ◌+◌, ◌-◌, ◌≤◌, Bool, true, false, List, [], ◌∷◌, ◌++◌, length, drop, Option, Some, None, is_some, Result, Ok, Err, refl, sym, ◌∙◌, ap, subst, arith, length-append}
 use Rattle.std.proofs.lemmas.List.{append-nil}
 use Rattle.file_paths.specs.declared.path.PathError.{PathError}
+use Rattle.tree_values.specs.Lists.{IsIn}
 use Rattle.tree_values.specs.declared.node.Effect.{Effect}
+use Rattle.vol_tree.proofs.Behind.{IsIn-left, IsIn-right}
 use Rattle.cmd_capture.specs.declared.command.Command.{Command}
 use Rattle.cmd_capture.specs.declared.capturing.CaptureError.{CaptureError}
 use Rattle.cmd_capture.specs.Capture.{capture}
 use Rattle.mod_log.specs.declared.log.Entry.{Entry}
 use Rattle.mod_log.specs.declared.log.LogError.{LogError}
 use Rattle.mod_log.specs.Log.{Log, logged}
+use Rattle.wire_frames.specs.declared.message.Message.{Message}
 use Rattle.world_rules.specs.declared.asking.Ask.{Ask}
 use Rattle.world_rules.specs.World.{World, GoesOnAlone}
-use Rattle.world_rules.specs.InStep.{InStep, HasNoOperation}
-use Rattle.world_rules.specs.Run.{kept_at}
-use Rattle.world_rules.proofs.Runs.{runs_then, counted_later}
+use Rattle.world_rules.specs.InStep.{HasNoCollision}
+use Rattle.world_rules.specs.Run.{State, kept_at, Runs}
+use Rattle.world_rules.proofs.Asks.{in_either}
+use Rattle.world_rules.proofs.Colliding.{fewer_collide}
+use Rattle.world_rules.proofs.Runs.{runs_then, runs_without, run_packets, counted_later}
 use Rattle.world_rules.proofs.Operations.{never_collides}
 use Rattle.world_rules.proofs.Restarts.{restart_runs, alone_runs}
 use Rattle.client_core.specs.declared.route.Route.{Route}
@@ -40,7 +45,7 @@ use Rattle.client_prog.specs.declared.run.Stop.TheVariants as stops
 use Rattle.client_session.specs.Session.{SessionState, opened, put_effect, make_effect, remove_effect, move_effect, LogTurn, CommandTurn, LineTurn, BreaksCommand, BreaksOff, Broken, BreaksChain}
 use Rattle.client_prog.specs.Run.{asked_for, Handles, RunTurn}
 use Rattle.client_prog.specs.Headline.{Around, Ran}
-use Rattle.client_prog.specs.Composing.{LeaveTogether}
+use Rattle.client_prog.specs.Composing.{RunsCompose, StoresNeverCollide}
 use Rattle.client_prog.proofs.RunningLeaves.{leaves}
 
 -- ---- how many entries a log has known
@@ -238,24 +243,64 @@ module _ (route : Route) (before after : SessionState) (kept : Log) where
   run_kept left rest o n answers (Err stop) trace turn =
       ⊎_elim (λ did. handled_kept stop did.0 answers trace did.4) (λ closing. all_kept closing.1.3.1) turn.3
 
-pub runs_compose : (client : ℕ) (route other_route : Route) (start : Log) (around around_now other other_now : Around) (status other_status : ℕ) (old middle begun new : World) → InStep client start old → HasNoOperation client old.packets
-    → (first : Ran client route start around around_now status old middle) → GoesOnAlone middle begun
-    → (second : Ran client other_route first.kept other other_now other_status begun new)
-    → LeaveTogether client start second.after.client.log second.kept status first.goes.trace.entries second.goes.trace.entries old new
-runs_compose client route other_route start around around_now other other_now status other_status old middle begun new in_step no_operation first alone second =
+-- ---- a run, a new beginning with what it left kept, a world that went on alone, and another run
+
+module _ (client : ℕ) (ships : Bool) (start last kept : Log) (earlier later : List Entry) (asks more : List Ask) (old middle begun : World) (end : State)
+    (first : Runs client ships earlier asks (kept_at start old) (stand last kept middle)) (alone : GoesOnAlone middle begun) (second : Runs client ships later more (kept_at kept begun) end) where
+  restarts : (stayed lost : List Entry) × (earlier ≡ stayed ++ lost) × Runs client ships stayed asks (kept_at start old) (kept_at kept middle)
+  restarts = restart_runs client ships earlier asks (kept_at start old) (stand last kept middle) refl first
+
+  since : Runs client ships later more (kept_at kept middle) end
+  since = runs_then client ships [] later [] more (kept_at kept middle) (kept_at kept begun) end (alone_runs client ships kept middle begun alone) second
+
+  joined : Runs client ships (restarts.0 ++ later) (asks ++ more) (kept_at start old) end
+  joined = runs_then client ships restarts.0 later asks more (kept_at start old) (kept_at kept middle) end restarts.3 since
+
+-- a run is one of a client with a surrogate, too
+with_surrogate : (client : ℕ) (ships : Bool) (entries : List Entry) (asks : List Ask) (old new : State) → Runs client ships entries asks old new → Runs client true entries asks old new
+with_surrogate client true entries asks old new runs = runs
+with_surrogate client false entries asks old new runs = runs_without client true entries asks old new runs
+
+-- and one of a client without a surrogate ships stores alone
+by_stores : (client : ℕ) (surrogate : Option (List ℕ)) (entries : List Entry) (asks : List Ask) (old new : State) → surrogate ≡ None → Runs client (is_some surrogate) entries asks old new → Runs client false entries asks old new
+by_stores client surrogate entries asks old new none runs = subst (λ (s : Option (List ℕ)). Runs client (is_some s) entries asks old new) none runs
+
+-- what is in a part of the entries of both runs
+among_all : (entry : Entry) (pending stayed lost later : List Entry) → IsIn entry (pending ++ (stayed ++ later)) → IsIn entry (pending ++ ((stayed ++ lost) ++ later))
+among_all entry pending stayed lost later among =
+    ⊎_elim (λ before. IsIn-left entry pending ((stayed ++ lost) ++ later) before)
+    (λ logged. IsIn-right entry pending ((stayed ++ lost) ++ later)
+    (⊎_elim (λ first. IsIn-left entry (stayed ++ lost) later (IsIn-left entry stayed lost first)) (λ second. IsIn-right entry (stayed ++ lost) later second) (in_either entry stayed later logged)))
+    (in_either entry pending (stayed ++ later) among)
+
+among_first : (entry : Entry) (pending earlier later : List Entry) → IsIn entry (pending ++ earlier) → IsIn entry (pending ++ (earlier ++ later))
+among_first entry pending earlier later among =
+    ⊎_elim (λ before. IsIn-left entry pending (earlier ++ later) before) (λ logged. IsIn-right entry pending (earlier ++ later) (IsIn-left entry earlier later logged)) (in_either entry pending earlier among)
+
+pub runs_compose : RunsCompose
+runs_compose client route other_route start around around_now other other_now status other_status old middle begun new in_step first alone second apart =
     let did = first.goes.trace in
     let does = second.goes.trace in
     let last = first.after.client.log in
     let kept = first.kept in
-    let part = restart_runs client did.entries did.asks (kept_at start old) (stand last kept middle) refl first.goes.runs in
-    let whole = counted_later client did.entries did.asks (kept_at start old) (stand last kept middle) in_step first.goes.runs
-    (never_collides client did.entries did.asks (kept_at start old) (stand last kept middle) (start.pending ++ did.entries) in_step.about no_operation first.goes.runs) in
-    let held = counted_later client part.0 did.asks (kept_at start old) (kept_at kept middle) in_step part.3
-    (never_collides client part.0 did.asks (kept_at start old) (kept_at kept middle) (start.pending ++ part.0) in_step.about no_operation part.3) in
+    let end = stand second.after.client.log second.kept new in
+    let went = with_surrogate client (is_some route.surrogate) did.entries did.asks (kept_at start old) (stand last kept middle) first.goes.runs in
+    let goes = with_surrogate client (is_some other_route.surrogate) does.entries does.asks (kept_at kept begun) end second.goes.runs in
+    let part = restarts client true start last kept did.entries does.entries did.asks does.asks old middle begun end went alone goes in
+    let after = since client true start last kept did.entries does.entries did.asks does.asks old middle begun end went alone goes in
+    let stays = λ (message : Message) (among : IsIn message middle.packets). run_packets client true does.entries does.asks (kept_at kept middle) end message after among in
+    let first_apart : HasNoCollision client (start.pending ++ did.entries) middle.packets =
+    fewer_collide client (start.pending ++ did.entries) (start.pending ++ (did.entries ++ does.entries)) middle.packets new.packets (λ entry among. among_first entry start.pending did.entries does.entries among) stays apart in
+    let part_apart : HasNoCollision client (start.pending ++ part.0) middle.packets =
+    fewer_collide client (start.pending ++ part.0) (start.pending ++ did.entries) middle.packets middle.packets
+    (λ entry among. subst (λ (es : List Entry). IsIn entry (start.pending ++ es)) (sym part.2) (among_first entry start.pending part.0 part.1 among)) (λ message among. among) first_apart in
+    let both_apart : HasNoCollision client (start.pending ++ (part.0 ++ does.entries)) new.packets =
+    fewer_collide client (start.pending ++ (part.0 ++ does.entries)) (start.pending ++ (did.entries ++ does.entries)) new.packets new.packets
+    (λ entry among. subst (λ (es : List Entry). IsIn entry (start.pending ++ (es ++ does.entries))) (sym part.2) (among_all entry start.pending part.0 part.1 does.entries among)) (λ message among. among) apart in
+    let whole = counted_later client true did.entries did.asks (kept_at start old) (stand last kept middle) in_step went first_apart in
+    let held = counted_later client true part.0 did.asks (kept_at start old) (kept_at kept middle) in_step part.3 part_apart in
     let sum = ap length part.2 ∙ length-append part.0 part.1 in
     let lacks = run_kept route (opened client start) first.after kept around.left around_now.left around.written around_now.written first.answers first.ended did first.goes.turn in
-    let joined = runs_then client part.0 does.entries did.asks does.asks (kept_at start old) (kept_at kept middle) (stand second.after.client.log second.kept new) part.3
-    (runs_then client [] does.entries [] does.asks (kept_at kept middle) (kept_at kept begun) (stand second.after.client.log second.kept new) (alone_runs client kept middle begun alone) second.goes.runs) in
     record {
       stayed = part.0;
       lost = part.1;
@@ -264,6 +309,19 @@ runs_compose client route other_route start around around_now other other_now st
       none = λ not_five not_seven.
           let same : kept ≡ last = first.kept_last not_five not_seven ∙ sym first.goes.keeping.last in
           none_pending part.1 (omega (arith, whole, held, sum, ap last_number same));
-      leaves = leaves client (part.0 ++ does.entries) (did.asks ++ does.asks) start second.after.client.log second.kept old new in_step joined
-          (never_collides client (part.0 ++ does.entries) (did.asks ++ does.asks) (kept_at start old) (stand second.after.client.log second.kept new) (start.pending ++ (part.0 ++ does.entries)) in_step.about no_operation joined);
+      leaves = leaves client true (part.0 ++ does.entries) (did.asks ++ does.asks) start second.after.client.log second.kept old new in_step
+          (joined client true start last kept did.entries does.entries did.asks does.asks old middle begun end went alone goes) both_apart;
     }
+
+pub stores_never_collide : StoresNeverCollide
+stores_never_collide client route other_route start around around_now other other_now status other_status old middle begun new in_step unsent first none alone second none_too =
+    let did = first.goes.trace in
+    let does = second.goes.trace in
+    let last = first.after.client.log in
+    let kept = first.kept in
+    let end = stand second.after.client.log second.kept new in
+    let went = by_stores client route.surrogate did.entries did.asks (kept_at start old) (stand last kept middle) none first.goes.runs in
+    let goes = by_stores client other_route.surrogate does.entries does.asks (kept_at kept begun) end none_too second.goes.runs in
+    let part = restarts client false start last kept did.entries does.entries did.asks does.asks old middle begun end went alone goes in
+    never_collides client (part.0 ++ does.entries) (did.asks ++ does.asks) (kept_at start old) end (start.pending ++ (did.entries ++ does.entries)) in_step.about unsent
+    (joined client false start last kept did.entries does.entries did.asks does.asks old middle begun end went alone goes)

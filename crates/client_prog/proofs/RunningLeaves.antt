@@ -1,5 +1,5 @@
 -- What a run of a client leaves.
-use Rattle.std.proofs.Common.{◌≡◌, ◌≢◌, ⊎_elim, ℕ, List, ◌++◌, Option, Result, Ok, Err, refl, ◌∙◌}
+use Rattle.std.proofs.Common.{◌≡◌, ◌≢◌, ⊎_elim, ℕ, Bool, false, List, ◌++◌, Option, None, is_some, Result, Ok, Err, refl, ◌∙◌, subst}
 use Rattle.mod_log.specs.declared.log.Entry.{Entry}
 use Rattle.mod_log.specs.Log.{Log}
 use Rattle.world_rules.specs.declared.asking.Ask.{Ask}
@@ -9,7 +9,7 @@ use Rattle.world_rules.specs.Run.{Runs, kept_at, AreInStep, taken_in}
 use Rattle.world_rules.specs.Settling.{failed_asks}
 use Rattle.world_rules.proofs.Runs.{both_in_step, runs_in_step, run_taken, entries_in_order, path_is_kept, lone_kept, pending_later, run_asked, run_answers}
 use Rattle.world_rules.proofs.Colliding.{kept_none}
-use Rattle.world_rules.proofs.Operations.{operated_before}
+use Rattle.world_rules.proofs.Operations.{operated_before, never_collides}
 use Rattle.world_rules.proofs.Unrefused.{lone_unrefused}
 use Rattle.client_prog.specs.declared.input.InputEnd.{InputEnd}
 use Rattle.client_prog.specs.declared.run.Stop.{Stop}
@@ -28,23 +28,23 @@ use Rattle.client_session.proofs.Answered.{log_past}
 use Rattle.client_prog.proofs.RunningAnswers.{unbehind, synced, none_failed, few_unrun, unrun_rose}
 use Rattle.client_prog.proofs.RunningEnds.{run_nothing}
 
-module _ (client : ℕ) (entries : List Entry) (asks : List Ask) (start last kept : Log) (old new : World) where
-  pub leaves : InStep client start old → Runs client entries asks (kept_at start old) (stand last kept new) → HasNoCollision client (start.pending ++ entries) new.packets → Leaves client start last kept entries old new
+module _ (client : ℕ) (ships : Bool) (entries : List Entry) (asks : List Ask) (start last kept : Log) (old new : World) where
+  pub leaves : InStep client start old → Runs client ships entries asks (kept_at start old) (stand last kept new) → HasNoCollision client (start.pending ++ entries) new.packets → Leaves client start last kept entries old new
   leaves now runs none =
       let both : AreInStep client (kept_at start old) = record { in_memory = now; kept = now } in
-      let end : AreInStep client (stand last kept new) = both_in_step client entries asks (kept_at start old) (stand last kept new) both runs (kept_none client entries (kept_at start old) (stand last kept new) refl none) in
+      let end : AreInStep client (stand last kept new) = both_in_step client ships entries asks (kept_at start old) (stand last kept new) both runs (kept_none client entries (kept_at start old) (stand last kept new) refl none) in
       record {
         taken = taken_in runs.moves (kept_at start old);
-        since = run_taken client entries asks (kept_at start old) (stand last kept new) runs;
+        since = run_taken client ships entries asks (kept_at start old) (stand last kept new) runs;
         in_step = end.kept;
         in_memory = end.in_memory;
         not_lower = end.kept.not_lower;
         not_higher = end.kept.not_higher.at_most_ahead;
         within = end.kept.not_higher.at_most_logged;
-        pending = (pending_later client entries asks (kept_at start old) (stand last kept new) now runs none).1;
-        once = entries_in_order client entries asks (kept_at start old) (stand last kept new) now runs none;
-        spared = λ path same spare. path_is_kept client entries asks (kept_at start old) (stand last kept new) path both refl runs same spare none;
-        alone = λ same own_only. lone_kept client entries asks (kept_at start old) (stand last kept new) both refl runs own_only same none;
+        pending = (pending_later client ships entries asks (kept_at start old) (stand last kept new) now runs none).1;
+        once = entries_in_order client ships entries asks (kept_at start old) (stand last kept new) now runs none;
+        spared = λ path same spare. path_is_kept client ships entries asks (kept_at start old) (stand last kept new) path both refl runs same spare none;
+        alone = λ same own_only. lone_kept client ships entries asks (kept_at start old) (stand last kept new) both refl runs own_only same none;
       }
 
 -- ---- what is kept at the end
@@ -63,7 +63,7 @@ module _ (route : Route) (before after : SessionState) (left rest o n : Option (
 -- a run that goes so, from a log that is kept on
 module _ (client : ℕ) (route : Route) (start : Log) (around around_now : Around) where
   pub ran : (ended : Result InputEnd Stop) (after : SessionState) (kept : Log) (status : ℕ) (x y : World) → status ≡ status_of ended
-      → Goes client route.image (RunAnswers route (opened client start) around.left around_now.left around.written around_now.written ended after kept) start after.client.log kept around.images around_now.images
+      → Goes client (is_some route.surrogate) route.image (RunAnswers route (opened client start) around.left around_now.left around.written around_now.written ended after kept) start after.client.log kept around.images around_now.images
       around.runner around_now.runner around.troubles around_now.troubles x y → Ran client route start around around_now status x y
   unfolding leaves
   ran ended after kept status x y is goes =
@@ -80,21 +80,27 @@ module _ (client : ℕ) (route : Route) (start : Log) (around around_now : Aroun
             ∙ goes.keeping.last;
         unrun = unrun_rose answers goes.trace around.runner around_now.runner
             (few_unrun route (opened client start) after kept answers goes.trace around.left around_now.left around.written around_now.written ended goes.turn.1) goes.has_run;
-        asked = run_asked client goes.trace.entries goes.trace.asks (kept_at start x) (stand after.client.log kept y) goes.runs;
-        unoperated = λ now sketched among. operated_before client goes.trace.entries goes.trace.asks (kept_at start x) (stand after.client.log kept y) sketched now.about goes.runs among;
-        leaves = λ now apart. leaves client goes.trace.entries goes.trace.asks start after.client.log kept x y now goes.runs apart;
+        asked = run_asked client (is_some route.surrogate) goes.trace.entries goes.trace.asks (kept_at start x) (stand after.client.log kept y) goes.runs;
+        unoperated = λ none now sketched among. operated_before client goes.trace.entries goes.trace.asks (kept_at start x) (stand after.client.log kept y) sketched now.about (by_stores none goes.runs) among;
+        apart = λ none now unsent.
+            never_collides client goes.trace.entries goes.trace.asks (kept_at start x) (stand after.client.log kept y) (start.pending ++ goes.trace.entries) now.about unsent (by_stores none goes.runs);
+        leaves = λ now apart. leaves client (is_some route.surrogate) goes.trace.entries goes.trace.asks start after.client.log kept x y now goes.runs apart;
         honest = λ now apart.
             unbehind client route (opened client start) after kept answers goes.trace around.left around_now.left around.written around_now.written ended after.client.log y refl (at_end goes.runs now apart)
-            (run_answers client goes.trace.entries goes.trace.asks (kept_at start x) (stand after.client.log kept y) goes.runs) goes.turn.1;
+            (run_answers client (is_some route.surrogate) goes.trace.entries goes.trace.asks (kept_at start x) (stand after.client.log kept y) goes.runs) goes.turn.1;
         calm = λ now apart same own_only quiet.
             synced client route (opened client start) after kept answers goes.trace around.left around_now.left around.written around_now.written ended after.client.log y refl (at_end goes.runs now apart)
-            (run_answers client goes.trace.entries goes.trace.asks (kept_at start x) (stand after.client.log kept y) goes.runs) goes.turn.1 start.acked
-            (lone_unrefused client goes.trace.entries goes.trace.asks (kept_at start x) (stand after.client.log kept y) now goes.runs own_only same apart)
+            (run_answers client (is_some route.surrogate) goes.trace.entries goes.trace.asks (kept_at start x) (stand after.client.log kept y) goes.runs) goes.turn.1 start.acked
+            (lone_unrefused client (is_some route.surrogate) goes.trace.entries goes.trace.asks (kept_at start x) (stand after.client.log kept y) now goes.runs own_only same apart)
             (log_past start now.log_is) (none_failed (failed_asks goes.trace.asks) around.troubles around_now.troubles goes.rose quiet);
       }
     where
-      at_end : Runs client goes.trace.entries goes.trace.asks (kept_at start x) (stand after.client.log kept y) → InStep client start x → HasNoCollision client (start.pending ++ goes.trace.entries) y.packets → InStep client after.client.log y
-      at_end runs now apart = runs_in_step client goes.trace.entries goes.trace.asks (kept_at start x) (stand after.client.log kept y) now runs apart
+      by_stores : route.surrogate ≡ None → Runs client (is_some route.surrogate) goes.trace.entries goes.trace.asks (kept_at start x) (stand after.client.log kept y)
+          → Runs client false goes.trace.entries goes.trace.asks (kept_at start x) (stand after.client.log kept y)
+      by_stores none runs = subst (λ (surrogate : Option (List ℕ)). Runs client (is_some surrogate) goes.trace.entries goes.trace.asks (kept_at start x) (stand after.client.log kept y)) none runs
+
+      at_end : Runs client (is_some route.surrogate) goes.trace.entries goes.trace.asks (kept_at start x) (stand after.client.log kept y) → InStep client start x → HasNoCollision client (start.pending ++ goes.trace.entries) y.packets → InStep client after.client.log y
+      at_end runs now apart = runs_in_step client (is_some route.surrogate) goes.trace.entries goes.trace.asks (kept_at start x) (stand after.client.log kept y) now runs apart
 
 -- a run that did nothing
 pub nothing_ran : (client : ℕ) (route : Route) (start : Log) (around : Around) (stop : Stop) (status : ℕ) (x : World) → IsKept around.images route.image client start → status ≡ status_of (Err stop)
@@ -102,5 +108,5 @@ pub nothing_ran : (client : ℕ) (route : Route) (start : Log) (around : Around)
 nothing_ran client route start around stop status x keeps is =
     let first = opened client start in
     ran client route start around around (Err stop) first start status x x is
-    (goes_none route.image client (RunAnswers route first around.left around.left around.written around.written (Err stop) first start) start around.images around.runner around.troubles x keeps
+    (goes_none route.image client (is_some route.surrogate) (RunAnswers route first around.left around.left around.written around.written (Err stop) first start) start around.images around.runner around.troubles x keeps
     (run_nothing stop route first around.left around.written))

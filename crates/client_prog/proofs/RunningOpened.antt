@@ -1,5 +1,5 @@
 -- A run that begins with what is kept of its client, and one that has no client to begin with.
-use Rattle.std.proofs.Common.{◌≡◌, ◌⊎◌, inl, inr, ℕ, ◌≤◌, List, [], length, Option, Some, None, Result, Ok, Err, refl, sym, subst, arith}
+use Rattle.std.proofs.Common.{◌≡◌, ◌⊎◌, inl, inr, ℕ, ◌≤◌, List, [], length, Option, Some, None, is_some, Result, Ok, Err, refl, sym, subst, arith}
 use Rattle.std.specs.Prelude.{IfSome}
 use Rattle.outside.specs.Outside.{Told, Rose}
 use Rattle.outside.specs.Keeper.{Images}
@@ -85,14 +85,14 @@ RanFrom i j left rest o n status t u run =
 
 pub opened_ran : (run : Invocation) (client : Client) (i j : Option Images) (left rest o n : Option (List ℕ)) (ended : Result InputEnd Stop) (after : SessionState) (status : ℕ) (t u : Telling)
     → client.number ≡ run.client → ((start : Log) → TellsKept i run.image run.client start → client.log ≡ start) → status ≡ status_of ended
-    → WentDoing (route_of run).image (RunAnswers (route_of run) (opened client.number client.log) left rest o n ended after) (opened client.number client.log) after i j t u
+    → WentDoing (route_of run) (RunAnswers (route_of run) (opened client.number client.log) left rest o n ended after) (opened client.number client.log) after i j t u
     → RanFrom i j left rest o n status t u run
 opened_ran run client i j left rest o n ended after status t u number only is went = λ start told.
     let route = route_of run in
-    let goes : WentDoing route.image (RunAnswers route (opened run.client start) left rest o n ended after) (opened run.client start) after i j t u =
-    subst (λ (log : Log). WentDoing route.image (RunAnswers route (opened run.client log) left rest o n ended after) (opened run.client log) after i j t u) (only start told)
-    (subst (λ (m : ℕ). WentDoing route.image (RunAnswers route (opened m client.log) left rest o n ended after) (opened m client.log) after i j t u) number went) in
-    told_as t.link.world u.link.world (λ x y. (kept : Log) × Does route.image (RunAnswers route (opened run.client start) left rest o n ended after kept) (opened run.client start) after kept i j t u x y)
+    let goes : WentDoing route (RunAnswers route (opened run.client start) left rest o n ended after) (opened run.client start) after i j t u =
+    subst (λ (log : Log). WentDoing route (RunAnswers route (opened run.client log) left rest o n ended after) (opened run.client log) after i j t u) (only start told)
+    (subst (λ (m : ℕ). WentDoing route (RunAnswers route (opened m client.log) left rest o n ended after) (opened m client.log) after i j t u) number went) in
+    told_as t.link.world u.link.world (λ x y. (kept : Log) × Does (is_some route.surrogate) route.image (RunAnswers route (opened run.client start) left rest o n ended after kept) (opened run.client start) after kept i j t u x y)
     (Ran run.client route start (around left o i t) (around rest n j u) status) goes
     (λ x y did. ran run.client route start (around left o i t) (around rest n j u) ended after did.0 status x y is did.1.goes)
 

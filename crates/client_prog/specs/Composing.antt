@@ -1,5 +1,5 @@
 -- Runs of one client, one after the other: what they leave together.
-use Rattle.std.specs.Prelude.{◌≡◌, ◌≢◌, ℕ, ◌≤◌, List, [], ◌++◌, length}
+use Rattle.std.specs.Prelude.{◌≡◌, ◌≢◌, ℕ, ◌≤◌, Bool, List, [], ◌++◌, length, None}
 use Rattle.mod_log.specs.declared.log.Entry.{Entry}
 use Rattle.mod_log.specs.Log.{Log}
 use Rattle.world_rules.specs.declared.asking.Ask.{Ask}
@@ -22,18 +22,26 @@ pub record LeaveTogether (client : ℕ) (start log kept : Log) (status : ℕ) (e
   pub leaves : Leaves client start log kept (stayed ++ later) old new
 
 -- Two runs, the second begun on what the first left kept, in the world that it left or one that went on without the client since.
--- Where the first began in step, and no operation of the client was sent before, they leave together what one run leaves.
+-- Where the first began in step, and no content that was sent is taken for another, they leave together what one run leaves.
 abbrev pub RunsCompose : Type 0
 RunsCompose =
-    (client : ℕ) (route other_route : Route) (start : Log) (around around_now other other_now : Around) (status other_status : ℕ) (old middle begun new : World) → InStep client start old → HasNoOperation client old.packets
+    (client : ℕ) (route other_route : Route) (start : Log) (around around_now other other_now : Around) (status other_status : ℕ) (old middle begun new : World) → InStep client start old
     → (first : Ran client route start around around_now status old middle) → GoesOnAlone middle begun
     → (second : Ran client other_route first.kept other other_now other_status begun new)
+    → HasNoCollision client (start.pending ++ (first.goes.trace.entries ++ second.goes.trace.entries)) new.packets
     → LeaveTogether client start second.after.client.log second.kept status first.goes.trace.entries second.goes.trace.entries old new
 
+-- None is where both have no surrogate, and no operation of the client was sent before the first.
+abbrev pub StoresNeverCollide : Type 0
+StoresNeverCollide =
+    (client : ℕ) (route other_route : Route) (start : Log) (around around_now other other_now : Around) (status other_status : ℕ) (old middle begun new : World) → InStep client start old
+    → HasNoOperation client old.packets → (first : Ran client route start around around_now status old middle) → route.surrogate ≡ None → GoesOnAlone middle begun
+    → (second : Ran client other_route first.kept other other_now other_status begun new) → other_route.surrogate ≡ None
+    → HasNoCollision client (start.pending ++ (first.goes.trace.entries ++ second.goes.trace.entries)) new.packets
+
 -- Whatever a client did from a kept log on that was in step, in one run or in many, it leaves this, where no content that was sent is
--- taken for another. For runs join, and a new beginning
--- with what is kept ends a run, as does a world that went on without the client.
+-- taken for another. For runs join, and a new beginning with what is kept ends a run, as does a world that went on without the client.
 abbrev pub MovesLeave : Type 0
-MovesLeave = (client : ℕ) (entries : List Entry) (asks : List Ask) (start log kept : Log) (old new : World) → InStep client start old
-    → Runs client entries asks (kept_at start old) (stand log kept new)
+MovesLeave = (client : ℕ) (ships : Bool) (entries : List Entry) (asks : List Ask) (start log kept : Log) (old new : World) → InStep client start old
+    → Runs client ships entries asks (kept_at start old) (stand log kept new)
     → HasNoCollision client (start.pending ++ entries) new.packets → Leaves client start log kept entries old new

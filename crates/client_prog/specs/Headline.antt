@@ -1,5 +1,5 @@
 -- What a whole run of a client leaves at the server and under its name, whatever the network lost, repeated or reordered.
-use Rattle.std.specs.Prelude.{◌≡◌, ◌≢◌, ℕ, ◌+◌, ◌-◌, ◌≤◌, List, ◌++◌, length, drop, Option, Some, Result}
+use Rattle.std.specs.Prelude.{◌≡◌, ◌≢◌, ℕ, ◌+◌, ◌-◌, ◌≤◌, List, ◌++◌, length, drop, Option, None, Some, is_some, Result}
 use Rattle.std.specs.List.{count_by}
 use Rattle.outside.specs.Outside.{RoseBy, Rose}
 use Rattle.outside.specs.Keeper.{Images}
@@ -13,7 +13,7 @@ use Rattle.wire_frames.specs.declared.message.Message.{Message}
 use Rattle.wire_frames.specs.declared.message.Message.TheVariants.{Operate}
 use Rattle.wire_frames.specs.Frame.{client_of}
 use Rattle.world_rules.specs.World.{World}
-use Rattle.world_rules.specs.InStep.{InStep, HasNoCollision}
+use Rattle.world_rules.specs.InStep.{InStep, HasNoCollision, HasNoOperation}
 use Rattle.world_rules.specs.Run.{own, stores_between, Spares, IsSameAt}
 use Rattle.cmd_capture.specs.Runs.{RunnerTelling}
 use Rattle.client_prog.specs.declared.input.InputEnd.{InputEnd}
@@ -78,7 +78,7 @@ pub record Ran (client : ℕ) (route : Route) (start : Log) (around around_now :
   pub after : SessionState
   -- what is kept at the end: the keeper's bytes are kept for it, and are as before where nothing was changed
   pub kept : Log
-  pub goes : Goes client route.image (RunTurn route (opened client start) around.left around_now.left answers around.written around_now.written ended after kept)
+  pub goes : Goes client (is_some route.surrogate) route.image (RunTurn route (opened client start) around.left around_now.left answers around.written around_now.written ended after kept)
       start after.client.log kept around.images around_now.images around.runner around_now.runner around.troubles around_now.troubles old new
   -- it is the client's log after the last change, but where a keeping was refused or memory ran out, perhaps the one before that change
   pub kept_last : status ≢ 5 → status ≢ 7 → kept ≡ last_log start goes.trace.changes
@@ -86,12 +86,14 @@ pub record Ran (client : ℕ) (route : Route) (start : Log) (around around_now :
   pub unrun : RoseBy (count_by is_unrun answers) around.runner.faults around_now.runner.faults
   -- the world notes just the asks of the session
   pub asked : new.asks ≡ old.asks ++ goes.trace.asks
-  -- it sends no operation: each of its operations among the packets was there before
-  pub unoperated : InStep client start old → (sketched : SketchEntry) → IsIn (Operate client sketched) new.packets → IsIn (Operate client sketched) old.packets
-  -- what it leaves where no content that was sent is taken for another, as is so where no operation of the client was sent
+  -- where it has no surrogate it sends no operation: each of its operations among the packets was there before
+  pub unoperated : route.surrogate ≡ None → InStep client start old → (sketched : SketchEntry) → IsIn (Operate client sketched) new.packets → IsIn (Operate client sketched) old.packets
+  -- so where none was there before, no content that was sent is taken for another
+  pub apart : route.surrogate ≡ None → InStep client start old → HasNoOperation client old.packets → HasNoCollision client (start.pending ++ goes.trace.entries) new.packets
+  -- what it leaves where no content that was sent is taken for another
   pub leaves : InStep client start old → HasNoCollision client (start.pending ++ goes.trace.entries) new.packets → Leaves client start after.client.log kept goes.trace.entries old new
   -- to a client whose log was in step the server is never behind
   pub honest : InStep client start old → HasNoCollision client (start.pending ++ goes.trace.entries) new.packets → (seq last : ℕ) → IsIn (Some (Behind seq last)) answers → ⊥
   -- where the client's tree was served, nobody else wrote, and the link had no trouble, every sync came through
-  pub calm : (begun : InStep client start old) (apart : HasNoCollision client (start.pending ++ goes.trace.entries) new.packets) → old.served.volume ≡ tree_at (last_taken client old) start → AreAllOf client (leaves begun apart).taken
+  pub calm : (begun : InStep client start old) (distinct : HasNoCollision client (start.pending ++ goes.trace.entries) new.packets) → old.served.volume ≡ tree_at (last_taken client old) start → AreAllOf client (leaves begun distinct).taken
       → (Rose around.troubles around_now.troubles → ⊥) → (answer : Option Answer) → IsIn answer answers → LeavesPending answer → ⊥

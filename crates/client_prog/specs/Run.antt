@@ -27,7 +27,7 @@ use Rattle.client_session.specs.Session.{SessionState, Chain, BreaksChain, AreTe
 
 -- where the client's image, peers and commands are, by the words of a run
 abbrev pub route_of : Invocation → Route
-route_of run = record { image = run.image; server = run.server; surrogate = None; work = run.work }
+route_of run = record { image = run.image; server = run.server; surrogate = run.surrogate; work = run.work }
 
 -- the status of a run whose input ended so, or that was stopped before
 abbrev pub status_of : Result InputEnd Stop → ℕ

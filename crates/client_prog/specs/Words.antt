@@ -4,24 +4,31 @@ use Rattle.std.specs.Str.{bytes_eq}
 use Rattle.program_words.specs.Numbers.{printed_number}
 use Rattle.wire_frames.specs.declared.message.TheConstants.{CLIENTS}
 
--- what the words of a run say: the client's number, its image, the server's address and the work folder
+-- what the words of a run say: the client's number, its image, the server's address, the surrogate's where there is one, and the work
+-- folder
 pub record Invocation : Type 0 where
   pub client : ℕ
   pub image : List ℕ
   pub server : List ℕ
+  pub surrogate : Option (List ℕ)
   pub work : List ℕ
 
--- the word `run`, an image and a server that are not empty, `-` for no surrogate, and a work folder that is not empty
+-- the address that a word is; `-` is none
+abbrev pub address_of : List ℕ → Option (List ℕ)
+address_of word = if bytes_eq word (codes "-") then None else Some word
+
+-- the word `run`, and an image, a server, a surrogate and a work folder, of which no word is empty
 abbrev pub is_run : List ℕ → List ℕ → List ℕ → List ℕ → List ℕ → Bool
 is_run run image server surrogate work =
-    bytes_eq run (codes "run") && nat_lt 0 (length image) && nat_lt 0 (length server) && bytes_eq surrogate (codes "-") && nat_lt 0 (length work)
+    bytes_eq run (codes "run") && nat_lt 0 (length image) && nat_lt 0 (length server) && nat_lt 0 (length surrogate) && nat_lt 0 (length work)
 
-abbrev pub run_by : List ℕ → List ℕ → List ℕ → Option ℕ → Option Invocation
-run_by image server work None = None
-run_by image server work (Some client) = Some (record { client = client; image = image; server = server; work = work })
+abbrev pub run_by : List ℕ → List ℕ → List ℕ → List ℕ → Option ℕ → Option Invocation
+run_by image server surrogate work None = None
+run_by image server surrogate work (Some client) =
+    Some (record { client = client; image = image; server = server; surrogate = address_of surrogate; work = work })
 
--- what `run NUMBER IMAGE SERVER - WORK` says; any other words are of no form
+-- what `run NUMBER IMAGE SERVER SURROGATE WORK` says; any other words are of no form
 abbrev pub run_of : List (List ℕ) → Option Invocation
 run_of (run ∷ number ∷ image ∷ server ∷ surrogate ∷ work ∷ []) =
-    if is_run run image server surrogate work then run_by image server work (printed_number 1 CLIENTS number) else None
+    if is_run run image server surrogate work then run_by image server surrogate work (printed_number 1 CLIENTS number) else None
 run_of words = None

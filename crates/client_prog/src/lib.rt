@@ -1,4 +1,4 @@
-//! The client program: lines in, answers out, and one server behind a link.
+//! The client program: lines in, answers out, and behind a link one server, and a surrogate where one is named.
 #![tactic(auto)]
 
 mod beginning;

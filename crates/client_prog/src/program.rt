@@ -30,7 +30,7 @@ use std::time::Clock;
 use world_rules::Link;
 
 const HELP: &str = "\
-Usage: client run NUMBER IMAGE SERVER - WORK
+Usage: client run NUMBER IMAGE SERVER SURROGATE WORK
 
 Reads lines from standard input and answers each on standard output:
   put PATH TEXT   writes TEXT and a line end to the file PATH
@@ -79,11 +79,15 @@ which the client is kept from run to run; where there is none the client is new.
 Of a number that was used with another image the server drops what it had before,
 and answers 'synced': ask 'pull' first. IMAGE.new and IMAGE.lock belong to IMAGE,
 and no other program has it meanwhile. SERVER is the server's address, with a
-port. The word '-' says that there is no surrogate. WORK is the folder in which
-programs run, each in a folder of its own that is removed behind it.
+port. SURROGATE is the address of a surrogate, or - for none. Where there is one,
+'sync' sends it the command of a run, if that is shorter than what the run
+changed, to be run again near the server; where nothing comes of it, or something
+else, the server is sent what was changed. WORK is the folder in which programs
+run, each in a folder of its own that is removed behind it.
 
-Example:
+Examples:
   client run 1 client.image 127.0.0.1:7001 - work
+  client run 1 client.image 127.0.0.1:7001 127.0.0.1:7002 work
 
 The client ends with one of these statuses:
   0  the input was read to its end or to 'quit', and every line was answered

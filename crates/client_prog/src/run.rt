@@ -1,5 +1,6 @@
 // A run of the client over its input.
 ghost use Rattle.std.specs.Prelude.{◌≡◌, ◌≢◌, ◌⊎◌, ◌↔◌, ◌≤◌, ◌∷◌, ℕ, [], false, None, Some, Ok, Err, IfOk, OnOk, OnErr, IfSome, IsTrue, take, length, map};
+ghost use Rattle.std.specs.Option.{option_copied};
 ghost use Rattle.std.specs.String.{string_bytes};
 ghost use Rattle.outside.specs.Outside.{Told, Adds, CountsFault, RisesWhere, Rose};
 ghost use Rattle.mod_log.specs.Log.{Log};
@@ -139,7 +140,7 @@ fn answer<O: Sink, K: Keeper, R: Runner, L: Link>(
     link: &mut L,
 ) -> Result<bool, Stop>
     requires { IsKept (K.images keeper.old) route.now.image session.old.client.number session.old.client.log }
-    ensures world { WentDoing route.now.image (AnswersLines route.now session.old (line.now ∷ []) (O.written output.old) (O.written output.new) result session.new) session.old session.new (K.images keeper.old) (K.images keeper.new) (beside (L.tells link.old) (telling (R.runs runner.old) (R.faults runner.old))) (beside (L.tells link.new) (telling (R.runs runner.new) (R.faults runner.new))) }
+    ensures world { WentDoing route.now (AnswersLines route.now session.old (line.now ∷ []) (O.written output.old) (O.written output.new) result session.new) session.old session.new (K.images keeper.old) (K.images keeper.new) (beside (L.tells link.old) (telling (R.runs runner.old) (R.faults runner.old))) (beside (L.tells link.new) (telling (R.runs runner.new) (R.faults runner.new))) }
     ensures quit { IfOk result (λ quit. quit ≡ quits line.now) }
     ensures kept { IfOk result (λ done. IsKept (K.images keeper.new) route.now.image session.new.client.number session.new.client.log) }
     ensures later { (L.tells link.old).troubles ≤ (L.tells link.new).troubles }
@@ -167,7 +168,7 @@ fn answer_lines<O: Sink, K: Keeper, R: Runner, L: Link>(
     link: &mut L,
 ) -> Result<bool, Stop>
     requires { IsKept (K.images keeper.old) route.now.image session.old.client.number session.old.client.log }
-    ensures world { WentDoing route.now.image (AnswersLines route.now session.old (up_to_quit (whole_lines reader.old.bytes)) (O.written output.old) (O.written output.new) result session.new) session.old session.new (K.images keeper.old) (K.images keeper.new) (beside (L.tells link.old) (telling (R.runs runner.old) (R.faults runner.old))) (beside (L.tells link.new) (telling (R.runs runner.new) (R.faults runner.new))) }
+    ensures world { WentDoing route.now (AnswersLines route.now session.old (up_to_quit (whole_lines reader.old.bytes)) (O.written output.old) (O.written output.new) result session.new) session.old session.new (K.images keeper.old) (K.images keeper.new) (beside (L.tells link.old) (telling (R.runs runner.old) (R.faults runner.old))) (beside (L.tells link.new) (telling (R.runs runner.new) (R.faults runner.new))) }
     ensures quit { IfOk result (λ quit. quit ≡ has_quit (whole_lines reader.old.bytes)) }
     ensures left { IfOk result (λ quit. quit ≡ false → HasUnfinished reader.old reader.new) }
     ensures kept { IfOk result (λ done. IsKept (K.images keeper.new) route.now.image session.new.client.number session.new.client.log) }
@@ -199,7 +200,7 @@ fn answer_input<I: Source, O: Sink, K: Keeper, R: Runner, L: Link>(
     link: &mut L,
 ) -> Result<InputEnd, Stop>
     requires { IsKept (K.images keeper.old) route.now.image session.old.client.number session.old.client.log }
-    ensures world { WentDoing route.now.image (AnswersInput route.now session.old (I.left input.old) (I.left input.new) (O.written output.old) (O.written output.new) result session.new) session.old session.new (K.images keeper.old) (K.images keeper.new) (beside (L.tells link.old) (telling (R.runs runner.old) (R.faults runner.old))) (beside (L.tells link.new) (telling (R.runs runner.new) (R.faults runner.new))) }
+    ensures world { WentDoing route.now (AnswersInput route.now session.old (I.left input.old) (I.left input.new) (O.written output.old) (O.written output.new) result session.new) session.old session.new (K.images keeper.old) (K.images keeper.new) (beside (L.tells link.old) (telling (R.runs runner.old) (R.faults runner.old))) (beside (L.tells link.new) (telling (R.runs runner.new) (R.faults runner.new))) }
     ensures input { TakesInput (I.left input.old) (I.left input.new) result }
     ensures kept { IfOk result (λ done. IsKept (K.images keeper.new) route.now.image session.new.client.number session.new.client.log) }
     ensures later { (L.tells link.old).troubles ≤ (L.tells link.new).troubles }
@@ -247,7 +248,7 @@ fn answer_last<O: Sink, K: Keeper, R: Runner, L: Link>(
     link: &mut L,
 ) -> Result<(), Stop>
     requires { IsKept (K.images keeper.old) route.now.image session.old.client.number session.old.client.log }
-    ensures world { WentDoing route.now.image (AnswersLines route.now session.old (last_at end reader.now.bytes) (O.written output.old) (O.written output.new) result session.new) session.old session.new (K.images keeper.old) (K.images keeper.new) (beside (L.tells link.old) (telling (R.runs runner.old) (R.faults runner.old))) (beside (L.tells link.new) (telling (R.runs runner.new) (R.faults runner.new))) }
+    ensures world { WentDoing route.now (AnswersLines route.now session.old (last_at end reader.now.bytes) (O.written output.old) (O.written output.new) result session.new) session.old session.new (K.images keeper.old) (K.images keeper.new) (beside (L.tells link.old) (telling (R.runs runner.old) (R.faults runner.old))) (beside (L.tells link.new) (telling (R.runs runner.new) (R.faults runner.new))) }
     ensures kept { IfOk result (λ done. IsKept (K.images keeper.new) route.now.image session.new.client.number session.new.client.log) }
     ensures later { (L.tells link.old).troubles ≤ (L.tells link.new).troubles }
     ensures runner_later { R.faults runner.old ≤ R.faults runner.new }
@@ -281,7 +282,7 @@ fn answer_unfinished<O: Sink, K: Keeper, R: Runner, L: Link>(
     link: &mut L,
 ) -> Result<(), Stop>
     requires { IsKept (K.images keeper.old) route.now.image session.old.client.number session.old.client.log }
-    ensures world { WentDoing route.now.image (AnswersLines route.now session.old (last_line line.now) (O.written output.old) (O.written output.new) result session.new) session.old session.new (K.images keeper.old) (K.images keeper.new) (beside (L.tells link.old) (telling (R.runs runner.old) (R.faults runner.old))) (beside (L.tells link.new) (telling (R.runs runner.new) (R.faults runner.new))) }
+    ensures world { WentDoing route.now (AnswersLines route.now session.old (last_line line.now) (O.written output.old) (O.written output.new) result session.new) session.old session.new (K.images keeper.old) (K.images keeper.new) (beside (L.tells link.old) (telling (R.runs runner.old) (R.faults runner.old))) (beside (L.tells link.new) (telling (R.runs runner.new) (R.faults runner.new))) }
     ensures kept { IfOk result (λ done. IsKept (K.images keeper.new) route.now.image session.new.client.number session.new.client.log) }
     ensures later { (L.tells link.old).troubles ≤ (L.tells link.new).troubles }
     ensures runner_later { R.faults runner.old ≤ R.faults runner.new }
@@ -339,7 +340,7 @@ fn run<I: Source, O: Sink, K: Keeper, R: Runner, L: Link>(
     link: &mut L,
 ) -> Result<InputEnd, Stop>
     requires { IsKept (K.images keeper.old) route.now.image session.old.client.number session.old.client.log }
-    ensures world { WentDoing route.now.image (RunAnswers route.now session.old (I.left input.old) (I.left input.new) (O.written output.old) (O.written output.new) result session.new) session.old session.new (K.images keeper.old) (K.images keeper.new) (beside (L.tells link.old) (telling (R.runs runner.old) (R.faults runner.old))) (beside (L.tells link.new) (telling (R.runs runner.new) (R.faults runner.new))) }
+    ensures world { WentDoing route.now (RunAnswers route.now session.old (I.left input.old) (I.left input.new) (O.written output.old) (O.written output.new) result session.new) session.old session.new (K.images keeper.old) (K.images keeper.new) (beside (L.tells link.old) (telling (R.runs runner.old) (R.faults runner.old))) (beside (L.tells link.new) (telling (R.runs runner.new) (R.faults runner.new))) }
     ensures input { TakesInput (I.left input.old) (I.left input.new) result }
     ensures later { (L.tells link.old).troubles ≤ (L.tells link.new).troubles }
     ensures runner_later { R.faults runner.old ≤ R.faults runner.new }
@@ -367,19 +368,29 @@ fn status_unopened(unopened: Unopened) -> u8
 
 /// Where the client's image, peers and commands are, by the words of a run.
 fn route_of(alloc: Global, words: &RunWords<'_>) -> Result<Route, AllocError>
-    ensures { IfOk result (λ route. route ≡ route_of (record { client = words.now.client; image = words.now.image.now; server = words.now.server.now; work = words.now.work.now })) }
+    ensures { IfOk result (λ route. route ≡ route_of (record { client = words.now.client; image = words.now.image.now; server = words.now.server.now; surrogate = option_copied words.now.surrogate; work = words.now.work.now })) }
 {
     Ok(Route {
         image: Content::of(alloc, words.image)?,
         server: Content::of(alloc, words.server)?,
-        surrogate: None,
+        surrogate: address(alloc, words.surrogate)?,
         work: Content::of(alloc, words.work)?,
     })
 }
 
+/// An address, where there is one.
+fn address(alloc: Global, word: Option<&[u8]>) -> Result<Option<Content>, AllocError>
+    ensures { IfOk result (λ address. address ≡ option_copied word) }
+{
+    match word {
+        Some(address) => Ok(Some(Content::of(alloc, address)?)),
+        None => Ok(None),
+    }
+}
+
 /// Runs the client on its words: opens what is kept of it, reads lines, answers each before it reads on, and ships what they
-/// log to the server. The client is kept after each change, before the line is answered and before more is asked. Its commands
-/// are run by the runner, in the work folder of the words.
+/// log to the server, or, where the words name a surrogate, as an operation to that. The client is kept after each change, before
+/// the line is answered and before more is asked. Its commands are run by the runner, in the work folder of the words.
 /// The status that it gives:
 ///
 /// - 0: every line was answered, up to the first that quits where one does, and the output ends with

@@ -1,7 +1,8 @@
 ghost use Rattle.std.specs.Prelude.{◌≡◌, ◌≤◌, IfSome, MatchOption, None, Some, map};
+ghost use Rattle.std.specs.Option.{option_copied};
 ghost use Rattle.std.specs.String.{string_bytes};
 ghost use Rattle.wire_frames.specs.declared.message.TheConstants.{CLIENTS};
-ghost use Rattle.client_prog.specs.Words.{run_of, is_run};
+ghost use Rattle.client_prog.specs.Words.{run_of, is_run, address_of};
 
 use program_words::printed_number;
 use wire_frames::CLIENTS;
@@ -15,21 +16,24 @@ pub struct RunWords<'a> {
     pub image: &'a [u8],
     /// The address of the server, which is not empty.
     pub server: &'a [u8],
+    /// The address of the surrogate, where there is one; it is not empty.
+    pub surrogate: Option<&'a [u8]>,
     /// The work folder, which is not empty.
     pub work: &'a [u8],
 }
 
-/// Takes apart the words `run NUMBER IMAGE SERVER - WORK`; `None` for any others.
+/// Takes apart the words `run NUMBER IMAGE SERVER SURROGATE WORK`, of which `-` is no surrogate; `None` for any others.
 pub fn run_words(words: &[String]) -> Option<RunWords<'_>>
     ensures form { MatchOption result (run_of (map string_bytes words.now) ≡ None)
-        (λ run. run_of (map string_bytes words.now) ≡ Some (record { client = run.client; image = run.image.now; server = run.server.now; work = run.work.now })) }
+        (λ run. run_of (map string_bytes words.now) ≡ Some (record { client = run.client; image = run.image.now; server = run.server.now; surrogate = option_copied run.surrogate; work = run.work.now })) }
     ensures range { IfSome result (λ run. (1 ≤ run.client) × (run.client ≤ CLIENTS)) }
 {
     let [run, number, image, server, surrogate, work] = words else {
         return None;
     };
     let (image, server, work) = (image.as_bytes(), server.as_bytes(), work.as_bytes());
-    if !is_run(run.as_bytes(), image, server, surrogate.as_bytes(), work) {
+    let surrogate = surrogate.as_bytes();
+    if !is_run(run.as_bytes(), image, server, surrogate, work) {
         return None;
     }
     match printed_number(number.as_str(), 1, u32::from(CLIENTS)) {
@@ -37,6 +41,7 @@ pub fn run_words(words: &[String]) -> Option<RunWords<'_>>
             client: client as u8,
             image,
             server,
+            surrogate: address_of(surrogate),
             work,
         }),
         None => None,
@@ -49,6 +54,16 @@ fn is_run(run: &[u8], image: &[u8], server: &[u8], surrogate: &[u8], work: &[u8]
     run == b"run".as_slice()
         && !image.is_empty()
         && !server.is_empty()
-        && surrogate == b"-".as_slice()
+        && !surrogate.is_empty()
         && !work.is_empty()
+}
+
+/// The address that a word is; `-` is none.
+fn address_of(word: &[u8]) -> Option<&[u8]>
+    ensures { option_copied result ≡ address_of word.now }
+{
+    if word == b"-".as_slice() {
+        return None;
+    }
+    Some(word)
 }

@@ -1,5 +1,5 @@
 -- What a line that runs a command makes of the client, of what is kept of it, of what the runner tells and of the world.
-use Rattle.std.proofs.Common.{◌≡◌, ◌≢◌, inl, inr, ℕ, Bool, true, false, List, [], ◌∷◌, ◌++◌, Option, Some, None, Result, Ok, Err, IfOk, IfErr, refl, sym, ◌∙◌, ap, subst}
+use Rattle.std.proofs.Common.{◌≡◌, ◌≢◌, inl, inr, ℕ, Bool, true, false, List, [], ◌∷◌, ◌++◌, Option, Some, None, Result, Ok, Err, IfOk, IfErr, is_some, refl, sym, ◌∙◌, ap, subst}
 use Rattle.outside.specs.Outside.{Told}
 use Rattle.outside.specs.Keeper.{Images}
 use Rattle.outside.specs.declared.errors.KeepError.{KeepError}
@@ -34,8 +34,8 @@ use Rattle.client_session.proofs.Turning.{a_world, same_but_log}
 -- ---- over a link
 
 module _ (route : Route) (words : List (List ℕ)) (before after : SessionState) (r : Result (Option Answer) KeepError) (i j : Option Images) (p q : RunnerTelling) (runs : RunsLine route words before r after i j p q) (t : LinkTelling) where
-  pub run_went : WentDoing route.image (LineEnds route before (Ok (RunLine words)) r after) before after i j (beside t p) (beside t q)
-  run_went = told_start t.world (λ x y. (kept : Log) × Does route.image (LineEnds route before (Ok (RunLine words)) r after kept) before after kept i j (beside t p) (beside t q) x y) (runs t)
+  pub run_went : WentDoing route (LineEnds route before (Ok (RunLine words)) r after) before after i j (beside t p) (beside t q)
+  run_went = told_start t.world (λ x y. (kept : Log) × Does (is_some route.surrogate) route.image (LineEnds route before (Ok (RunLine words)) r after kept) before after kept i j (beside t p) (beside t q) x y) (runs t)
 
   pub run_caused : (kept : Log) × (trace : Trace) × LineEnds route before (Ok (RunLine words)) r after kept trace × HasRun trace.runs trace.missed p q
   run_caused = let here = runs t a_world in (here.0, here.1.goes.trace, here.1.goes.turn, here.1.goes.has_run)
@@ -52,10 +52,10 @@ module _ (route : Route) (words : List (List ℕ)) (before : SessionState) (i : 
       let is : capture words before.folder ≡ Err refusal = refused (named_refusal refusal answer (sym shown)) in
       let turn : LineTurn route before (Ok (RunLine words)) (Some answer) before nothing =
       subst (λ (c : Result Command CaptureError). CommandTurn route c before (Some answer) before nothing) (sym is) (shown, refl, refl) in
-      subst (λ (a : Option Answer). (kept : Log) × Does route.image (LineEnds route before (Ok (RunLine words)) (Ok a) before kept) before before kept i i (beside link p) (beside link p) world world) (sym gave)
-      (before.client.log, does_none route.image (LineEnds route before (Ok (RunLine words)) (Ok (Some answer)) before before.client.log) before i (beside link p) world keeps (turn, refl))
+      subst (λ (a : Option Answer). (kept : Log) × Does (is_some route.surrogate) route.image (LineEnds route before (Ok (RunLine words)) (Ok a) before kept) before before kept i i (beside link p) (beside link p) world world) (sym gave)
+      (before.client.log, does_none (is_some route.surrogate) route.image (LineEnds route before (Ok (RunLine words)) (Ok (Some answer)) before before.client.log) before i (beside link p) world keeps (turn, refl))
   capture_given refusal None (Err keepers.Memory) refused shown gave = λ link world.
-      (before.client.log, does_none route.image (LineEnds route before (Ok (RunLine words)) (Err keepers.Memory) before before.client.log) before i (beside link p) world keeps (inl (refl, refl)))
+      (before.client.log, does_none (is_some route.surrogate) route.image (LineEnds route before (Ok (RunLine words)) (Err keepers.Memory) before before.client.log) before i (beside link p) world keeps (inl (refl, refl)))
   capture_given refusal None (Err keepers.Failed) refused shown gave = absurd gave
   capture_given refusal (Some answer) (Err e) refused shown gave = absurd gave
   capture_given refusal None (Ok given) refused shown gave = absurd gave
@@ -106,17 +106,17 @@ module _ (route : Route) (command : Command) (before after : SessionState) (numb
       inr (inr (subst (λ (c : Result Command CaptureError). BreaksCommand route c before.client.log after.client.log trace) (sym made) (broken.2, broken.1), same_but_log before after number folder))
 
   module _ (i : Option Images) (p q : RunnerTelling) (keeps : IsKept i route.image before.client.number before.client.log) (did : RunsCommand route.work command before.client.log end after.client.log p q) (is_log : IsLog after.client.log) where
-    went : (t : ℕ) (w : World) → Goes before.client.number route.image Ends before.client.log after.client.log before.client.log i i p q t t w w
-    went t w = run_goes route.image before.client.number route.work command before.client.log i keeps p q t w end after.client.log did is_log
+    went : (t : ℕ) (w : World) → Goes before.client.number (is_some route.surrogate) route.image Ends before.client.log after.client.log before.client.log i i p q t t w w
+    went t w = run_goes route.image before.client.number (is_some route.surrogate) route.work command before.client.log i keeps p q t w end after.client.log did is_log
 
     -- the log is as before
     pub run_given : (told : Option Answer) (r : Result (Option Answer) KeepError) → told ≡ run_answer end → IsGiven told r → after.client.log ≡ before.client.log → RunsMade route command before r after i i p q
     run_given (Some answer) (Ok given) shown gave same = λ words made link world.
-        subst (λ (a : Option Answer). (kept : Log) × Does route.image (LineEnds route before (Ok (RunLine words)) (Ok a) after kept) before after kept i i (beside link p) (beside link q) world world) (sym gave) (
+        subst (λ (a : Option Answer). (kept : Log) × Does (is_some route.surrogate) route.image (LineEnds route before (Ok (RunLine words)) (Ok a) after kept) before after kept i i (beside link p) (beside link q) world world) (sym gave) (
           before.client.log,
           record {
             number = number;
-            goes = goes_as route.image before.client.number Ends (LineEnds route before (Ok (RunLine words)) (Ok (Some answer)) after before.client.log) before.client.log after.client.log before.client.log i i p q link.troubles link.troubles world world
+            goes = goes_as route.image before.client.number (is_some route.surrogate) Ends (LineEnds route before (Ok (RunLine words)) (Ok (Some answer)) after before.client.log) before.client.log after.client.log before.client.log i i p q link.troubles link.troubles world world
                 (went link.troubles world) (λ trace turn. (answered_turn words made answer (sym shown) trace turn, sym same));
           },
         )
@@ -124,7 +124,7 @@ module _ (route : Route) (command : Command) (before after : SessionState) (numb
       before.client.log,
       record {
         number = number;
-        goes = goes_as route.image before.client.number Ends (LineEnds route before (Ok (RunLine words)) (Err keepers.Memory) after before.client.log) before.client.log after.client.log before.client.log i i p q link.troubles link.troubles world world
+        goes = goes_as route.image before.client.number (is_some route.surrogate) Ends (LineEnds route before (Ok (RunLine words)) (Err keepers.Memory) after before.client.log) before.client.log after.client.log before.client.log i i p q link.troubles link.troubles world world
             (went link.troubles world) (λ trace turn. broken_turn words made trace turn);
       },
     )
@@ -135,21 +135,21 @@ module _ (route : Route) (command : Command) (before after : SessionState) (numb
     -- the log was changed, and was to be kept
     module _ (logged : has_logged end ≡ true) (j : Option Images) where
       saved : (r : Result (Unit {0}) KeepError) → Told i j (KeepsLog route.image before.client.number after.client.log r) → (t : ℕ) (w : World)
-          → (kept : Log) × Goes before.client.number route.image Ends before.client.log after.client.log kept i j p q t t w w × IfOk r (λ done. kept ≡ after.client.log)
+          → (kept : Log) × Goes before.client.number (is_some route.surrogate) route.image Ends before.client.log after.client.log kept i j p q t t w w × IfOk r (λ done. kept ≡ after.client.log)
       saved r save t w =
           let goes = went t w in
-          goes_saved route.image before.client.number Ends before.client.log after.client.log before.client.log i i j p q t t w w r goes
+          goes_saved route.image before.client.number (is_some route.surrogate) Ends before.client.log after.client.log before.client.log i i j p q t t w w r goes
           (logged_changes route.work command before.client.log end after.client.log goes.trace logged goes.turn) save
 
       pub run_kept : (done : Unit {0}) (told : Option Answer) (r : Result (Option Answer) KeepError) → told ≡ run_answer end → IsGiven told r
           → Told i j (KeepsLog {E = KeepError} route.image before.client.number after.client.log (Ok done)) → RunsMade route command before r after i j p q
       run_kept done (Some answer) (Ok given) shown gave save = λ words made link world.
           let all = saved (Ok done) save link.troubles world in
-          subst (λ (a : Option Answer). (kept : Log) × Does route.image (LineEnds route before (Ok (RunLine words)) (Ok a) after kept) before after kept i j (beside link p) (beside link q) world world) (sym gave) (
+          subst (λ (a : Option Answer). (kept : Log) × Does (is_some route.surrogate) route.image (LineEnds route before (Ok (RunLine words)) (Ok a) after kept) before after kept i j (beside link p) (beside link q) world world) (sym gave) (
             all.0,
             record {
               number = number;
-              goes = goes_as route.image before.client.number Ends (LineEnds route before (Ok (RunLine words)) (Ok (Some answer)) after all.0) before.client.log after.client.log all.0 i j p q link.troubles link.troubles world world
+              goes = goes_as route.image before.client.number (is_some route.surrogate) Ends (LineEnds route before (Ok (RunLine words)) (Ok (Some answer)) after all.0) before.client.log after.client.log all.0 i j p q link.troubles link.troubles world world
                   all.1 (λ trace turn. (answered_turn words made answer (sym shown) trace turn, all.2));
             },
           )
@@ -162,7 +162,7 @@ module _ (route : Route) (command : Command) (before after : SessionState) (numb
             all.0,
             record {
               number = number;
-              goes = goes_as route.image before.client.number Ends (LineEnds route before (Ok (RunLine words)) (Err e) after all.0) before.client.log after.client.log all.0 i j p q link.troubles link.troubles world world
+              goes = goes_as route.image before.client.number (is_some route.surrogate) Ends (LineEnds route before (Ok (RunLine words)) (Err e) after all.0) before.client.log after.client.log all.0 i j p q link.troubles link.troubles world world
                   all.1 (λ trace turn. broken_turn words made trace turn);
             },
           )

@@ -1,5 +1,5 @@
 -- Words that only contracts of private functions cite, of lines that log or run.
-use Rattle.std.specs.Prelude.{◌≡◌, ◌≢◌, ◌⊎◌, ℕ, ⊤, List, Option, Some, None, Result, Ok, Err}
+use Rattle.std.specs.Prelude.{◌≡◌, ◌≢◌, ◌⊎◌, ℕ, ⊤, Bool, List, Option, Some, None, is_some, Result, Ok, Err}
 use Rattle.outside.specs.Keeper.{Images}
 use Rattle.outside.specs.declared.errors.KeepError.{KeepError}
 use Rattle.outside.specs.declared.errors.KeepError.TheVariants as keepers
@@ -37,10 +37,10 @@ LogEnds named before (Ok answer) after kept trace = LogTurn named before answer 
 LogEnds named before (Err error) after kept trace =
     ((after ≡ before) × (trace ≡ nothing)) ⊎ ((answer : Option Answer) × LogTurn named before answer after trace)
 
--- what it does in any world, where the keeper's images were these and are those now
+-- what it does in any world, with a surrogate or without, where the keeper's images were these and are those now
 abbrev pub Logs : List ℕ → Result Effect PathError → SessionState → Result (Option Answer) KeepError → SessionState → Option Images → Option Images → Type 0
 Logs name named before result after images now =
-    (told : Telling) (world : World) → (kept : Log) × Does name (LogEnds named before result after kept) before after kept images now told told world world
+    (ships : Bool) (told : Telling) (world : World) → (kept : Log) × Does ships name (LogEnds named before result after kept) before after kept images now told told world world
 
 -- the same of an effect that was made, whatever it was made of
 abbrev pub LogsMade : List ℕ → Result Effect PathError → SessionState → Result (Option Answer) KeepError → SessionState → Option Images → Option Images → Type 0
@@ -51,7 +51,7 @@ LogsMade name made before result after images now = (named : Result Effect PathE
 abbrev pub RunsLine : Route → List (List ℕ) → SessionState → Result (Option Answer) KeepError → SessionState → Option Images → Option Images → RunnerTelling → RunnerTelling → Type 0
 RunsLine route words before result after images now runner ran =
     (link : LinkTelling) (world : World)
-    → (kept : Log) × Does route.image (LineEnds route before (Ok (RunLine words)) result after kept) before after kept images now (beside link runner) (beside link ran) world world
+    → (kept : Log) × Does (is_some route.surrogate) route.image (LineEnds route before (Ok (RunLine words)) result after kept) before after kept images now (beside link runner) (beside link ran) world world
 
 -- the same of a command, whatever words made it
 abbrev pub RunsMade : Route → Command → SessionState → Result (Option Answer) KeepError → SessionState → Option Images → Option Images → RunnerTelling → RunnerTelling → Type 0

@@ -1,5 +1,5 @@
-//! A client's session: what each line logs, asks of the server and answers. It knows nothing of how its lines come, nor
-//! where its answers go.
+//! A client's session: what each line logs, asks of the server and of a surrogate, and answers. It knows nothing of how its
+//! lines come, nor where its answers go.
 #![tactic(auto)]
 
 mod effects;

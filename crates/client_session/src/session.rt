@@ -67,7 +67,7 @@ impl Session {
         runner: &mut R,
     ) -> Result<Option<Answer>, KeepError>
         requires { IsKept (K.images keeper.old) route.now.image self.old.client.number self.old.client.log }
-        ensures world { WentDoing route.now.image (LineEnds route.now self.old line result self.new) self.old self.new (K.images keeper.old) (K.images keeper.new) (beside (L.tells link.old) (telling (R.runs runner.old) (R.faults runner.old))) (beside (L.tells link.new) (telling (R.runs runner.new) (R.faults runner.new))) }
+        ensures world { WentDoing route.now (LineEnds route.now self.old line result self.new) self.old self.new (K.images keeper.old) (K.images keeper.new) (beside (L.tells link.old) (telling (R.runs runner.old) (R.faults runner.old))) (beside (L.tells link.new) (telling (R.runs runner.new) (R.faults runner.new))) }
         ensures cause { HasLineCause route.now self.old line result self.new (beside (L.tells link.old) (telling (R.runs runner.old) (R.faults runner.old))) (beside (L.tells link.new) (telling (R.runs runner.new) (R.faults runner.new))) (K.faults keeper.old) (K.faults keeper.new) }
         ensures kept { IfOk result (λ answer. IsKept (K.images keeper.new) route.now.image self.new.client.number self.new.client.log) }
         ensures later { (L.tells link.old).troubles ≤ (L.tells link.new).troubles }
@@ -242,7 +242,7 @@ impl Session {
         keeper: &mut K,
     ) -> Result<Option<Answer>, KeepError>
         requires { IsKept (K.images keeper.old) route.now.image self.old.client.number self.old.client.log }
-        ensures world { (runner : RunnerTelling) → WentDoing route.now.image (LineEnds route.now self.old (Ok Line.Sync) result self.new) self.old self.new (K.images keeper.old) (K.images keeper.new) (beside (L.tells link.old) runner) (beside (L.tells link.new) runner) }
+        ensures world { (runner : RunnerTelling) → WentDoing route.now (LineEnds route.now self.old (Ok Line.Sync) result self.new) self.old self.new (K.images keeper.old) (K.images keeper.new) (beside (L.tells link.old) runner) (beside (L.tells link.new) runner) }
         ensures cause { (runner : RunnerTelling) → HasLineCause route.now self.old (Ok Line.Sync) result self.new (beside (L.tells link.old) runner) (beside (L.tells link.new) runner) (K.faults keeper.old) (K.faults keeper.new) }
         ensures kept { IfOk result (λ answer. IsKept (K.images keeper.new) route.now.image self.new.client.number self.new.client.log) }
         ensures later { (L.tells link.old).troubles ≤ (L.tells link.new).troubles }
@@ -261,7 +261,7 @@ impl Session {
         keeper: &mut K,
     ) -> Result<Option<Answer>, KeepError>
         requires { IsKept (K.images keeper.old) route.now.image self.old.client.number self.old.client.log }
-        ensures world { (runner : RunnerTelling) → WentDoing route.now.image (LineEnds route.now self.old (Ok Line.Pull) result self.new) self.old self.new (K.images keeper.old) (K.images keeper.new) (beside (L.tells link.old) runner) (beside (L.tells link.new) runner) }
+        ensures world { (runner : RunnerTelling) → WentDoing route.now (LineEnds route.now self.old (Ok Line.Pull) result self.new) self.old self.new (K.images keeper.old) (K.images keeper.new) (beside (L.tells link.old) runner) (beside (L.tells link.new) runner) }
         ensures cause { (runner : RunnerTelling) → HasLineCause route.now self.old (Ok Line.Pull) result self.new (beside (L.tells link.old) runner) (beside (L.tells link.new) runner) (K.faults keeper.old) (K.faults keeper.new) }
         ensures kept { IfOk result (λ answer. IsKept (K.images keeper.new) route.now.image self.new.client.number self.new.client.log) }
         ensures later { (L.tells link.old).troubles ≤ (L.tells link.new).troubles }

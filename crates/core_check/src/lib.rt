@@ -2,6 +2,8 @@
 #![tactic(auto)]
 
 #[cfg(test)]
+mod light;
+#[cfg(test)]
 mod running;
 #[cfg(test)]
 mod shipping;

@@ -59,10 +59,27 @@ fn log(client: &mut Client, effect: Effect) -> Result<(), Fail> {
 /// A client with a file b, a folder d, and a file d/x of `1`.
 fn client(alloc: Global) -> Result<Client, Fail> {
     let mut client = Client::new(alloc, 7);
-    log(&mut client, put(alloc, b"b", b"0")?)?;
-    log(&mut client, Effect::Make(Path::read(alloc, b"d")?))?;
-    log(&mut client, put(alloc, b"d/x", b"1")?)?;
-    Ok(client)
+    match fill(alloc, &mut client) {
+        Ok(()) => Ok(client),
+        Err(refused) => {
+            drop(client);
+            Err(refused)
+        }
+    }
+}
+
+fn fill(alloc: Global, client: &mut Client) -> Result<(), Fail> {
+    log(client, put(alloc, b"b", b"0")?)?;
+    log(client, Effect::Make(Path::read(alloc, b"d")?))?;
+    log(client, put(alloc, b"d/x", b"1")?)
+}
+
+/// Logs so many entries more.
+fn fill_up(alloc: Global, client: &mut Client, count: u32) -> Result<(), Fail> {
+    for _ in 0..count {
+        log(client, put(alloc, b"b", b"0")?)?;
+    }
+    Ok(())
 }
 
 fn file(alloc: Global, path: &[u8], text: &[u8]) -> Result<RawRow, Fail> {
@@ -72,16 +89,31 @@ fn file(alloc: Global, path: &[u8], text: &[u8]) -> Result<RawRow, Fail> {
     })
 }
 
-/// An outcome of status 3 with the file of this text, the folder d, and d/x of another text.
+fn folder(alloc: Global, path: &[u8]) -> Result<RawRow, Fail> {
+    Ok(RawRow {
+        path: Content::of(alloc, path)?,
+        node: Node::Folder,
+    })
+}
+
+/// The file of this text, the folder d, and d/x of another text.
+fn put_rows(alloc: Global, rows: &mut RawRows, first: &[u8], text: &[u8]) -> Result<(), Fail> {
+    rows.push(file(alloc, first, b"9")?)?;
+    rows.push(folder(alloc, b"d")?)?;
+    rows.push(file(alloc, b"d/x", text)?)?;
+    Ok(())
+}
+
+/// An outcome of status 3 with these rows.
 fn outcome(alloc: Global, first: &[u8], text: &[u8]) -> Result<Outcome, Fail> {
     let mut rows = RawRows::new(alloc);
-    rows.push(file(alloc, first, b"9")?)?;
-    rows.push(RawRow {
-        path: Content::of(alloc, b"d")?,
-        node: Node::Folder,
-    })?;
-    rows.push(file(alloc, b"d/x", text)?)?;
-    Ok(Outcome { status: 3, rows })
+    match put_rows(alloc, &mut rows, first, text) {
+        Ok(()) => Ok(Outcome { status: 3, rows }),
+        Err(refused) => {
+            drop(rows);
+            Err(refused)
+        }
+    }
 }
 
 /// A runner that gives an outcome with this first file, fails, and then changes nothing.
@@ -90,6 +122,22 @@ fn runner(alloc: Global, first: &[u8], text: &[u8]) -> Result<ScriptRunner, Fail
     answers.push(ScriptAnswer::Give(outcome(alloc, first, text)?))?;
     answers.push(ScriptAnswer::Fail)?;
     Ok(ScriptRunner::new(alloc, answers))
+}
+
+/// The client beside the runner.
+pub(crate) fn stage(
+    alloc: Global,
+    first: &[u8],
+    text: &[u8],
+) -> Result<(Client, ScriptRunner), Fail> {
+    let runner = runner(alloc, first, text)?;
+    match client(alloc) {
+        Ok(client) => Ok((client, runner)),
+        Err(refused) => {
+            drop(runner);
+            Err(refused)
+        }
+    }
 }
 
 /// The name of an end and its numbers.
@@ -112,7 +160,7 @@ fn shown(end: &RunEnd) -> (u8, u64) {
 }
 
 /// How a client's run of a line ends.
-fn ended(
+pub(crate) fn ended(
     alloc: Global,
     client: &mut Client,
     runner: &mut ScriptRunner,
@@ -124,25 +172,29 @@ fn ended(
     Ok(shown)
 }
 
+/// How the runs of three lines end, one after the other.
+fn all(
+    alloc: Global,
+    client: &mut Client,
+    runner: &mut ScriptRunner,
+    first: &[u8],
+) -> Result<((u8, u64), (u8, u64), (u8, u64)), Fail> {
+    let first = ended(alloc, client, runner, first)?;
+    let second = ended(alloc, client, runner, b"-- /bin/true")?;
+    let third = ended(alloc, client, runner, b"-- /bin/true")?;
+    Ok((first, second, third))
+}
+
 #[test]
 fn logs_what_a_run_changed(rt: HostRuntime) -> Result<(), Fail> {
     let alloc = rt.alloc();
-    let mut client = client(alloc)?;
-    let mut runner = runner(alloc, b"a", b"2")?;
-    assert_eq!(rt;
-        ended(alloc, &mut client, &mut runner, b"-- /bin/true")?,
-        (b'l', 43)
-    );
+    let (mut client, mut runner) = stage(alloc, b"a", b"2")?;
+    let ends = all(alloc, &mut client, &mut runner, b"-- /bin/true");
+    drop(runner);
     assert!(rt; client.log().entry(3).is_some_and(tells_the_run));
-    assert_eq!(rt;
-        ended(alloc, &mut client, &mut runner, b"-- /bin/true")?,
-        (b'f', 0)
-    );
-    assert_eq!(rt;
-        ended(alloc, &mut client, &mut runner, b"-- /bin/true")?,
-        (b'n', 0)
-    );
     assert_eq!(rt; client.log().pending(), 4);
+    drop(client);
+    assert_eq!(rt; ends?, ((b'l', 43), (b'f', 0), (b'n', 0)));
     Ok(())
 }
 
@@ -162,37 +214,46 @@ fn tells_the_run(entry: &Entry) -> bool {
 #[test]
 fn logs_nothing(rt: HostRuntime) -> Result<(), Fail> {
     let alloc = rt.alloc();
-    let mut client = client(alloc)?;
-    let mut clashing = runner(alloc, b"b", b"1")?;
-    assert_eq!(rt;
-        ended(alloc, &mut client, &mut clashing, b"in=e -- /bin/true")?,
-        (b'i', 0)
-    );
-    assert_eq!(rt;
-        ended(alloc, &mut client, &mut clashing, b"-- /bin/true")?,
-        (b'c', 1)
-    );
-    let mut odd = runner(alloc, b"e", b"1")?;
-    assert_eq!(rt;
-        ended(alloc, &mut client, &mut odd, b"-- /bin/true")?,
-        (b'o', 1)
-    );
+    let (mut client, mut clashing) = stage(alloc, b"b", b"1")?;
+    let ends = all(alloc, &mut client, &mut clashing, b"in=e -- /bin/true");
+    drop(clashing);
     assert_eq!(rt; client.log().pending(), 3);
+    drop(client);
+    assert_eq!(rt; ends?, ((b'i', 0), (b'c', 1), (b'f', 0)));
     Ok(())
+}
+
+#[test]
+fn odd_rows_are_told(rt: HostRuntime) -> Result<(), Fail> {
+    let alloc = rt.alloc();
+    let (mut client, mut odd) = stage(alloc, b"e", b"1")?;
+    let end = ended(alloc, &mut client, &mut odd, b"-- /bin/true");
+    drop(odd);
+    assert_eq!(rt; client.log().pending(), 3);
+    drop(client);
+    assert_eq!(rt; end?, (b'o', 1));
+    Ok(())
+}
+
+/// How a run ends whose client has so many entries more.
+fn ended_full(
+    alloc: Global,
+    client: &mut Client,
+    runner: &mut ScriptRunner,
+    more: u32,
+) -> Result<(u8, u64), Fail> {
+    fill_up(alloc, client, more)?;
+    ended(alloc, client, runner, b"-- /bin/true")
 }
 
 #[test]
 fn a_full_log_refuses(rt: HostRuntime) -> Result<(), Fail> {
     let alloc = rt.alloc();
-    let mut client = client(alloc)?;
-    for _ in 3..1_024 {
-        log(&mut client, put(alloc, b"b", b"0")?)?;
-    }
-    let mut runner = runner(alloc, b"a", b"2")?;
-    assert_eq!(rt;
-        ended(alloc, &mut client, &mut runner, b"-- /bin/true")?,
-        (b'r', 1_024)
-    );
+    let (mut client, mut runner) = stage(alloc, b"a", b"2")?;
+    let end = ended_full(alloc, &mut client, &mut runner, 1_021);
+    drop(runner);
     assert_eq!(rt; client.log().pending(), 1_024);
+    drop(client);
+    assert_eq!(rt; end?, (b'r', 1_024));
     Ok(())
 }

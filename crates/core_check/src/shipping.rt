@@ -10,12 +10,12 @@ use std::alloc::Global;
 use std::rt::HostRuntime;
 use std::test::Fail;
 use vol_tree::{Content, Effect, Path, Rows};
-use wire_frames::{Message, read, write};
+use wire_frames::{Cause, Message, read, write};
 use world_rules::{Link, LinkError, Peer};
 
 /// A keeper that is always content, and tells nothing.
 #[derive(Drop)]
-struct Quiet;
+pub(crate) struct Quiet;
 
 impl Keeper for Quiet {
     ghost images = { λ keeper. None };
@@ -70,7 +70,7 @@ impl Link for Willing {
 
     fn ask(&mut self, _to: Peer, _address: &[u8], frame: &[u8]) -> Result<Vec<u8>, LinkError> {
         match read(self.alloc, frame) {
-            Ok(request) => answer(self.alloc, request, self.ahead),
+            Ok(request) => answer(self.alloc, request, self.ahead, false),
             Err(refused) => {
                 drop(refused);
                 Err(LinkError::Memory)
@@ -79,24 +79,34 @@ impl Link for Willing {
     }
 }
 
-/// The frame of the reply to a request, which ends here.
-fn answer(alloc: Global, request: Message, ahead: u64) -> Result<Vec<u8>, LinkError>
+/// The frame of the reply to a request, which ends here. An operation is declined, or done.
+pub(crate) fn answer(
+    alloc: Global,
+    request: Message,
+    ahead: u64,
+    declines: bool,
+) -> Result<Vec<u8>, LinkError>
     requires { IsValid request }
     ensures reply { IfOk result (λ bytes. IsReplyTo request bytes.items) }
     ensures cause { IfErr result (λ e. e ≡ LinkError.Memory) }
 {
-    let answered = answer_to(alloc, &request, ahead);
+    let answered = answer_to(alloc, &request, ahead, declines);
     drop(request);
     answered
 }
 
 /// The frame of the reply to a request.
-fn answer_to(alloc: Global, request: &Message, ahead: u64) -> Result<Vec<u8>, LinkError>
+fn answer_to(
+    alloc: Global,
+    request: &Message,
+    ahead: u64,
+    declines: bool,
+) -> Result<Vec<u8>, LinkError>
     requires { IsValid request.now }
     ensures reply { IfOk result (λ bytes. IsReplyTo request.now bytes.items) }
     ensures cause { IfErr result (λ e. e ≡ LinkError.Memory) }
 {
-    let Some(reply) = reply_to(alloc, request, ahead) else {
+    let Some(reply) = reply_to(alloc, request, ahead, declines) else {
         return Err(LinkError::Memory);
     };
     let written = write(alloc, &reply);
@@ -107,7 +117,7 @@ fn answer_to(alloc: Global, request: &Message, ahead: u64) -> Result<Vec<u8>, Li
     }
 }
 
-fn reply_to(alloc: Global, request: &Message, ahead: u64) -> Option<Message>
+fn reply_to(alloc: Global, request: &Message, ahead: u64, declines: bool) -> Option<Message>
     requires { IsValid request.now }
     ensures { IfSome result (λ reply. IsValid reply × Echoes request.now reply) }
 {
@@ -122,6 +132,15 @@ fn reply_to(alloc: Global, request: &Message, ahead: u64) -> Option<Message>
             last: number.saturating_add(ahead),
             rows: Rows::new(alloc),
         }),
+        Message::Operate { client, entry } if declines => Some(Message::Declined {
+            client: *client,
+            number: entry.seq,
+            cause: Cause::NotRun,
+        }),
+        Message::Operate { client, entry } => Some(Message::Done {
+            client: *client,
+            number: entry.seq,
+        }),
         _ => None,
     }
 }
@@ -135,8 +154,55 @@ fn route(alloc: Global) -> Result<Route, Fail> {
     })
 }
 
-fn put(alloc: Global, path: &[u8], text: &[u8]) -> Result<Effect, Fail> {
-    Ok(Effect::Put(Path::read(alloc, path)?, Content::of(alloc, text)?))
+/// Logs the effect that puts a file, and gives the entry's number.
+fn put(alloc: Global, client: &mut Client, path: &[u8], text: &[u8]) -> Result<u64, Fail> {
+    let path = Path::read(alloc, path)?;
+    let text = Content::of(alloc, text)?;
+    match client.local(Effect::Put(path, text)) {
+        Ok(seq) => Ok(seq),
+        Err(refused) => {
+            drop(refused);
+            Err(Fail::from("refused"))
+        }
+    }
+}
+
+/// The numbers of two entries that put files.
+fn put_two(alloc: Global, client: &mut Client) -> Result<(u64, u64), Fail> {
+    let first = put(alloc, client, b"a", b"x\n")?;
+    let second = put(alloc, client, b"b", b"y\n")?;
+    Ok((first, second))
+}
+
+/// How a sync ends: a letter, and the number that it tells.
+fn synced<L: Link>(client: &mut Client, route: &Route, link: &mut L) -> (u8, u64) {
+    let end = client.sync(route, link, &mut Quiet);
+    let shown = match &end {
+        SyncEnd::Synced(acked) => (b's', *acked),
+        SyncEnd::Unanswered { seq } => (b'u', *seq),
+        _ => (b'?', 0),
+    };
+    drop(end);
+    shown
+}
+
+/// How a pull ends: a letter, and the numbers that it tells in two digits.
+fn pulled<L: Link>(client: &mut Client, route: &Route, link: &mut L) -> (u8, u64) {
+    let end = client.pull(route, link, &mut Quiet);
+    let shown = match &end {
+        PullEnd::Pulled(count) => (b'p', u64::from(*count)),
+        PullEnd::Pending(count) => (b'w', u64::from(*count)),
+        PullEnd::Unanswered => (b'u', 0),
+        PullEnd::Older { theirs, ours, .. } => (b'o', digits(*theirs, *ours)),
+        PullEnd::OtherLast { last, acked } => (b'l', digits(*last, *acked)),
+        _ => (b'?', 0),
+    };
+    drop(end);
+    shown
+}
+
+fn digits(first: u64, second: u64) -> u64 {
+    first.saturating_mul(10).saturating_add(second)
 }
 
 #[test]
@@ -144,28 +210,19 @@ fn logs_and_syncs(rt: HostRuntime) -> Result<(), Fail> {
     let alloc = rt.alloc();
     let route = route(alloc)?;
     let mut client = Client::new(alloc, 7);
-    let mut keeper = Quiet;
     assert_eq!(rt; client.number(), 7);
-    assert_eq!(rt; client.local(put(alloc, b"a", b"x\n")?)?, 1);
-    assert_eq!(rt; client.local(put(alloc, b"b", b"y\n")?)?, 2);
-    assert!(rt; client.keep(b"image", &mut keeper).is_ok());
+    let put = put_two(alloc, &mut client);
+    assert!(rt; client.keep(b"image", &mut Quiet).is_ok());
     let mut dead = Dead { troubles: 0 };
-    assert!(rt;
-        matches!(
-            client.sync(&route, &mut dead, &mut keeper),
-            SyncEnd::Unanswered { seq: 1 }
-        )
-    );
+    assert_eq!(rt; synced(&mut client, &route, &mut dead), (b'u', 1));
     assert_eq!(rt; dead.troubles, 8);
     assert_eq!(rt; client.log().pending(), 2);
     let mut willing = Willing { alloc, ahead: 0 };
-    assert!(rt;
-        matches!(
-            client.sync(&route, &mut willing, &mut keeper),
-            SyncEnd::Synced(2)
-        )
-    );
+    assert_eq!(rt; synced(&mut client, &route, &mut willing), (b's', 2));
     assert_eq!(rt; client.log().pending(), 0);
+    drop(client);
+    drop(route);
+    assert_eq!(rt; put?, (1, 2));
     Ok(())
 }
 
@@ -174,53 +231,20 @@ fn pulls(rt: HostRuntime) -> Result<(), Fail> {
     let alloc = rt.alloc();
     let route = route(alloc)?;
     let mut client = Client::new(alloc, 64);
-    let mut keeper = Quiet;
     let mut willing = Willing { alloc, ahead: 0 };
-    assert!(rt;
-        matches!(
-            client.pull(&route, &mut willing, &mut keeper),
-            PullEnd::Pulled(0)
-        )
-    );
+    assert_eq!(rt; pulled(&mut client, &route, &mut willing), (b'p', 0));
     let mut dead = Dead { troubles: 0 };
-    assert!(rt;
-        matches!(
-            client.pull(&route, &mut dead, &mut keeper),
-            PullEnd::Unanswered
-        )
-    );
-    let _ = client.local(put(alloc, b"a", b"x\n")?)?;
-    assert!(rt; client.keep(b"image", &mut keeper).is_ok());
-    assert!(rt;
-        matches!(
-            client.pull(&route, &mut dead, &mut keeper),
-            PullEnd::Pending(1)
-        )
-    );
+    assert_eq!(rt; pulled(&mut client, &route, &mut dead), (b'u', 0));
+    let first = put(alloc, &mut client, b"a", b"x\n");
+    assert_eq!(rt; pulled(&mut client, &route, &mut dead), (b'w', 1));
     assert_eq!(rt; dead.troubles, 8);
-    assert!(rt;
-        matches!(
-            client.sync(&route, &mut willing, &mut keeper),
-            SyncEnd::Synced(1)
-        )
-    );
-    assert!(rt;
-        matches!(
-            client.pull(&route, &mut willing, &mut keeper),
-            PullEnd::Older {
-                theirs: 0,
-                ours: 1,
-                ..
-            }
-        )
-    );
+    assert_eq!(rt; synced(&mut client, &route, &mut willing), (b's', 1));
+    assert_eq!(rt; pulled(&mut client, &route, &mut willing), (b'o', 1));
     willing.ahead = 2;
-    assert!(rt;
-        matches!(
-            client.pull(&route, &mut willing, &mut keeper),
-            PullEnd::OtherLast { last: 3, acked: 1 }
-        )
-    );
+    assert_eq!(rt; pulled(&mut client, &route, &mut willing), (b'l', 31));
     assert_eq!(rt; client.log().tree().count(), 1);
+    drop(client);
+    drop(route);
+    assert_eq!(rt; first?, 1);
     Ok(())
 }

@@ -22,7 +22,7 @@ returns-in_err-asked-clause-world g c =
     let a = c.args.session.now in
     let line = c.args.line.now in
     let o = g.O.Sink.written c.args.output.now in
-    rw (p.1, p.2) (went_none r.image (AnswersLines {T = Bool} r a (line ∷ []) o o (Err Memory) a) a (g.K.Keeper.images c.args.keeper.now) (beside (g.L.Link.tells c.args.link.now) (telling (g.R.Runner.runs c.args.runner.now) (g.R.Runner.faults c.args.runner.now))) c.requires (line_unread r a line o))
+    rw (p.1, p.2) (went_none r (AnswersLines {T = Bool} r a (line ∷ []) o o (Err Memory) a) a (g.K.Keeper.images c.args.keeper.now) (beside (g.L.Link.tells c.args.link.now) (telling (g.R.Runner.runs c.args.runner.now) (g.R.Runner.faults c.args.runner.now))) c.requires (line_unread r a line o))
 
 pub returns-in_err-answer-clause-world : goal.returns-in_err-answer-clause-world
 returns-in_err-answer-clause-world g c =
@@ -37,9 +37,9 @@ returns-in_err-answer-clause-world g c =
     let o = g.O.Sink.written c.args.output.now in
     let line = c.args.line.now in
     let e = c.in_err-answer.field-0.0 in
-    let turn : WentDoing r.image (LineEnds r a (read_line line) (Err e) b) a b i j t u =
-    subst (λ (l : Result Line LineError). WentDoing r.image (LineEnds r a l (Err e) b) a b i j t u) c.in_ok-asked.ensures c.in_err-answer.ensures.world in
-    rw (p.1, p.2) (went_as r.image (LineEnds r a (read_line line) (Err e) b) (AnswersLines {T = Bool} r a (line ∷ []) o o (Err (stop_by e)) b) a b i j t u turn
+    let turn : WentDoing r (LineEnds r a (read_line line) (Err e) b) a b i j t u =
+    subst (λ (l : Result Line LineError). WentDoing r (LineEnds r a l (Err e) b) a b i j t u) c.in_ok-asked.ensures c.in_err-answer.ensures.world in
+    rw (p.1, p.2) (went_as r (LineEnds r a (read_line line) (Err e) b) (AnswersLines {T = Bool} r a (line ∷ []) o o (Err (stop_by e)) b) a b i j t u turn
     (λ k trace broken behind. line_broken r a b k line o e trace broken behind))
 
 pub returns-in_err-text-clause-world : goal.returns-in_err-text-clause-world
@@ -55,9 +55,9 @@ returns-in_err-text-clause-world g c =
     let o = g.O.Sink.written c.args.output.now in
     let line = c.args.line.now in
     let answer = c.in_ok-answer.answer in
-    let turn : WentDoing r.image (LineEnds r a (read_line line) (Ok answer) b) a b i j t u =
-    subst (λ (l : Result Line LineError). WentDoing r.image (LineEnds r a l (Ok answer) b) a b i j t u) c.in_ok-asked.ensures c.in_ok-answer.ensures.world in
-    rw (p.1, p.2) (went_as r.image (LineEnds r a (read_line line) (Ok answer) b) (AnswersLines {T = Bool} r a (line ∷ []) o o (Err Memory) b) a b i j t u turn
+    let turn : WentDoing r (LineEnds r a (read_line line) (Ok answer) b) a b i j t u =
+    subst (λ (l : Result Line LineError). WentDoing r (LineEnds r a l (Ok answer) b) a b i j t u) c.in_ok-asked.ensures c.in_ok-answer.ensures.world in
+    rw (p.1, p.2) (went_as r (LineEnds r a (read_line line) (Ok answer) b) (AnswersLines {T = Bool} r a (line ∷ []) o o (Err Memory) b) a b i j t u turn
     (λ k trace turned behind. line_untold r a b k line o answer trace turned behind))
 
 pub returns-clause-world : goal.returns-clause-world
@@ -75,9 +75,9 @@ returns-clause-world g c =
     let answer = c.in_ok-answer.answer in
     let text = c.in_ok-text.text in
     let adds : Adds o n text.items = subst (λ (l : List ℕ). Adds o n l) c.deref.ensures.value c.in_ok-write_all.ensures.all in
-    let turn : WentDoing r.image (LineEnds r a (read_line line) (Ok answer) b) a b i j t u =
-    subst (λ (l : Result Line LineError). WentDoing r.image (LineEnds r a l (Ok answer) b) a b i j t u) c.in_ok-asked.ensures c.in_ok-answer.ensures.world in
-    went_as r.image (LineEnds r a (read_line line) (Ok answer) b) (AnswersLines r a (line ∷ []) o n (Ok c.is_quit-quit.result) b) a b i j t u turn
+    let turn : WentDoing r (LineEnds r a (read_line line) (Ok answer) b) a b i j t u =
+    subst (λ (l : Result Line LineError). WentDoing r (LineEnds r a l (Ok answer) b) a b i j t u) c.in_ok-asked.ensures c.in_ok-answer.ensures.world in
+    went_as r (LineEnds r a (read_line line) (Ok answer) b) (AnswersLines r a (line ∷ []) o n (Ok c.is_quit-quit.result) b) a b i j t u turn
     (λ k trace turned behind. (line_answered r a b k line o n answer text.items trace turned c.in_ok-text.ensures adds, turned.1))
 
 pub returns-in_err-write_all-clause-world : goal.returns-in_err-write_all-clause-world
@@ -99,9 +99,9 @@ returns-in_err-write_all-clause-world g c =
     let cut : (count : ℕ) × (count ≤ length text.items) × Adds o n (take count text.items) =
     subst (λ (l : List ℕ). (count : ℕ) × (count ≤ length l) × Adds o n (take count l)) c.deref.ensures.value c.in_err-write_all.ensures.front in
     let writes : WritesFront (stop_of refused) text.items o n = cut_front refused text.items o n (cut.0, cut.2) in
-    let turn : WentDoing r.image (LineEnds r a (read_line line) (Ok answer) b) a b i j t u =
-    subst (λ (l : Result Line LineError). WentDoing r.image (LineEnds r a l (Ok answer) b) a b i j t u) c.in_ok-asked.ensures c.in_ok-answer.ensures.world in
-    rw (p.1, p.2) (went_as r.image (LineEnds r a (read_line line) (Ok answer) b) (AnswersLines {T = Bool} r a (line ∷ []) o n (Err (stop_of refused)) b) a b i j t u turn
+    let turn : WentDoing r (LineEnds r a (read_line line) (Ok answer) b) a b i j t u =
+    subst (λ (l : Result Line LineError). WentDoing r (LineEnds r a l (Ok answer) b) a b i j t u) c.in_ok-asked.ensures c.in_ok-answer.ensures.world in
+    rw (p.1, p.2) (went_as r (LineEnds r a (read_line line) (Ok answer) b) (AnswersLines {T = Bool} r a (line ∷ []) o n (Err (stop_of refused)) b) a b i j t u turn
     (λ k trace turned behind. line_cut r (stop_of refused) a b k line o n answer text.items trace turned c.in_ok-text.ensures writes))
 
 -- ---- the faults of the sink and of the keeper

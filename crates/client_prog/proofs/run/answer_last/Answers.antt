@@ -17,5 +17,5 @@ returns-in-Failed-clause-world g c =
     let bytes = c.args.reader.now.bytes in
     let none : last_at c.args.end bytes ≡ [] =
     ⊎_elim (λ is. ap (λ (e : InputEnd). last_at e bytes) is) (λ is. ap (λ (e : InputEnd). last_at e bytes) is) c.in-Failed.is in
-    went_none r.image (AnswersLines {T = Unit {0}} r a (last_at c.args.end bytes) o o (Ok tt) a) a (g.K.Keeper.images c.args.keeper.now) (beside (g.L.Link.tells c.args.link.now) (telling (g.R.Runner.runs c.args.runner.now) (g.R.Runner.faults c.args.runner.now))) c.requires
+    went_none r (AnswersLines {T = Unit {0}} r a (last_at c.args.end bytes) o o (Ok tt) a) a (g.K.Keeper.images c.args.keeper.now) (beside (g.L.Link.tells c.args.link.now) (telling (g.R.Runner.runs c.args.runner.now) (g.R.Runner.faults c.args.runner.now))) c.requires
     (subst (λ (ls : List (List ℕ)). AllAnswered r a ls o o a nothing) (sym none) (answers_nothing r a o), refl)

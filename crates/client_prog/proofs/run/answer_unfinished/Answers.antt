@@ -17,7 +17,7 @@ returns-then-is_empty-clause-world g c =
     let a = c.args.session.now in
     let o = g.O.Sink.written c.args.output.now in
     let none : last_line c.args.line.now ≡ [] = last_line_none c.args.line.now (grind (arith, nat_tests)) in
-    went_none r.image (AnswersLines {T = Unit {0}} r a (last_line c.args.line.now) o o (Ok tt) a) a (g.K.Keeper.images c.args.keeper.now) (beside (g.L.Link.tells c.args.link.now) (telling (g.R.Runner.runs c.args.runner.now) (g.R.Runner.faults c.args.runner.now))) c.requires
+    went_none r (AnswersLines {T = Unit {0}} r a (last_line c.args.line.now) o o (Ok tt) a) a (g.K.Keeper.images c.args.keeper.now) (beside (g.L.Link.tells c.args.link.now) (telling (g.R.Runner.runs c.args.runner.now) (g.R.Runner.faults c.args.runner.now))) c.requires
     (subst (λ (ls : List (List ℕ)). AllAnswered r a ls o o a nothing) (sym none) (answers_nothing r a o), refl)
 
 pub returns-clause-world : goal.returns-clause-world
@@ -28,7 +28,7 @@ returns-clause-world g c =
     let o = g.O.Sink.written c.args.output.now in
     let n = g.O.Sink.written c.answer.new.output in
     let one : last_line c.args.line.now ≡ c.args.line.now ∷ [] = last_line_some c.args.line.now (grind (arith, nat_tests)) in
-    subst (λ (ls : List (List ℕ)). WentDoing r.image (AnswersLines {T = Unit {0}} r a ls o n (Ok tt) b) a b (g.K.Keeper.images c.args.keeper.now) (g.K.Keeper.images c.answer.new.keeper) (beside (g.L.Link.tells c.args.link.now) (telling (g.R.Runner.runs c.args.runner.now) (g.R.Runner.faults c.args.runner.now))) (beside (g.L.Link.tells c.answer.new.link) (telling (g.R.Runner.runs c.answer.new.runner) (g.R.Runner.faults c.answer.new.runner))))
+    subst (λ (ls : List (List ℕ)). WentDoing r (AnswersLines {T = Unit {0}} r a ls o n (Ok tt) b) a b (g.K.Keeper.images c.args.keeper.now) (g.K.Keeper.images c.answer.new.keeper) (beside (g.L.Link.tells c.args.link.now) (telling (g.R.Runner.runs c.args.runner.now) (g.R.Runner.faults c.args.runner.now))) (beside (g.L.Link.tells c.answer.new.link) (telling (g.R.Runner.runs c.answer.new.runner) (g.R.Runner.faults c.answer.new.runner))))
     (sym one) c.in_ok-answer.ensures.world
 
 pub returns-in_err-answer-clause-world : goal.returns-in_err-answer-clause-world
@@ -41,5 +41,5 @@ returns-in_err-answer-clause-world g c =
     let n = g.O.Sink.written c.answer.new.output in
     let stop = c.in_err-answer.field-0.0 in
     let one : last_line c.args.line.now ≡ c.args.line.now ∷ [] = last_line_some c.args.line.now (grind (arith, nat_tests)) in
-    rw (x.1, x.2) (subst (λ (ls : List (List ℕ)). WentDoing r.image (AnswersLines {T = Unit {0}} r a ls o n (Err stop) b) a b (g.K.Keeper.images c.args.keeper.now) (g.K.Keeper.images c.answer.new.keeper) (beside (g.L.Link.tells c.args.link.now) (telling (g.R.Runner.runs c.args.runner.now) (g.R.Runner.faults c.args.runner.now))) (beside (g.L.Link.tells c.answer.new.link) (telling (g.R.Runner.runs c.answer.new.runner) (g.R.Runner.faults c.answer.new.runner))))
+    rw (x.1, x.2) (subst (λ (ls : List (List ℕ)). WentDoing r (AnswersLines {T = Unit {0}} r a ls o n (Err stop) b) a b (g.K.Keeper.images c.args.keeper.now) (g.K.Keeper.images c.answer.new.keeper) (beside (g.L.Link.tells c.args.link.now) (telling (g.R.Runner.runs c.args.runner.now) (g.R.Runner.faults c.args.runner.now))) (beside (g.L.Link.tells c.answer.new.link) (telling (g.R.Runner.runs c.answer.new.runner) (g.R.Runner.faults c.answer.new.runner))))
     (sym one) c.in_err-answer.ensures.world)

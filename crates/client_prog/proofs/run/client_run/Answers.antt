@@ -1,5 +1,6 @@
 use Rattle.std.proofs.Common.{◌≡◌, ◌⊎◌, ℕ, List, Option, Err, sym, ◌∙◌, ap, subst, arith}
 use Rattle.std.specs.Prelude.{IfSome}
+use Rattle.std.specs.Option.{option_copied}
 use Rattle.outside.specs.Outside.{Told}
 use Rattle.outside.specs.Keeper.{Images}
 use Rattle.mod_log.specs.Log.{Log}
@@ -25,7 +26,7 @@ use Rattle.client_prog.proofs.run.client_run.Goals as goal
 pub returns-in-Err-clause-session : goal.returns-in-Err-clause-session
 returns-in-Err-clause-session g c =
     let words = c.in-Some.words in
-    let run : Invocation = record { client = words.client; image = words.image.now; server = words.server.now; work = words.work.now } in
+    let run : Invocation = record { client = words.client; image = words.image.now; server = words.server.now; surrogate = option_copied words.surrogate; work = words.work.now } in
     let left = g.I.Source.left c.args.input.now in
     let o = g.O.Sink.written c.args.output.now in
     let i = g.K.Keeper.images c.args.keeper.now in
@@ -37,7 +38,7 @@ returns-in-Err-clause-session g c =
 pub run-ended-requires : goal.run-ended-requires
 run-ended-requires g c =
     let words = c.in-Some.words in
-    let run : Invocation = record { client = words.client; image = words.image.now; server = words.server.now; work = words.work.now } in
+    let run : Invocation = record { client = words.client; image = words.image.now; server = words.server.now; surrogate = option_copied words.surrogate; work = words.work.now } in
     let at : c.bytes.result.now ≡ run.image = c.bytes.ensures.value ∙ ap (λ (r : Route). r.image) c.in-Ok.ensures in
     let client = c.in-Ok-open.client in
     let route = c.in-Ok.route in
@@ -50,7 +51,7 @@ run-ended-requires g c =
 pub returns-in-Ok-open-clause-session : goal.returns-in-Ok-open-clause-session
 returns-in-Ok-open-clause-session g c =
     let words = c.in-Some.words in
-    let run : Invocation = record { client = words.client; image = words.image.now; server = words.server.now; work = words.work.now } in
+    let run : Invocation = record { client = words.client; image = words.image.now; server = words.server.now; surrogate = option_copied words.surrogate; work = words.work.now } in
     let left = g.I.Source.left c.args.input.now in
     let o = g.O.Sink.written c.args.output.now in
     let i = g.K.Keeper.images c.args.keeper.now in
@@ -65,10 +66,10 @@ returns-in-Ok-open-clause-session g c =
     let j = g.K.Keeper.images c.run-ended.new.keeper in
     let u = beside (g.L.Link.tells c.run-ended.new.link) (telling (g.R.Runner.runs c.run-ended.new.runner) (g.R.Runner.faults c.run-ended.new.runner)) in
     let after = c.run-ended.new.session in
-    let went : WentDoing (route_of run).image (RunAnswers (route_of run) (opened client.number client.log) left rest o n ended after) (opened client.number client.log) after i j t u =
-    subst (λ (s : SessionState). WentDoing (route_of run).image (RunAnswers (route_of run) s left rest o n ended after) s after i j t u) c.new-session.ensures
-    (subst (λ (r : Route). WentDoing r.image (RunAnswers r c.new-session.result left rest o n ended after) c.new-session.result after i j t u) c.in-Ok.ensures
-    (subst (λ (told : Option Images). WentDoing c.in-Ok.route.image (RunAnswers c.in-Ok.route c.new-session.result left rest o n ended after) c.new-session.result after told j t u) c.in-Ok-open.ensures.same c.run-ended.ensures.world)) in
+    let went : WentDoing (route_of run) (RunAnswers (route_of run) (opened client.number client.log) left rest o n ended after) (opened client.number client.log) after i j t u =
+    subst (λ (s : SessionState). WentDoing (route_of run) (RunAnswers (route_of run) s left rest o n ended after) s after i j t u) c.new-session.ensures
+    (subst (λ (r : Route). WentDoing r (RunAnswers r c.new-session.result left rest o n ended after) c.new-session.result after i j t u) c.in-Ok.ensures
+    (subst (λ (told : Option Images). WentDoing c.in-Ok.route (RunAnswers c.in-Ok.route c.new-session.result left rest o n ended after) c.new-session.result after told j t u) c.in-Ok-open.ensures.same c.run-ended.ensures.world)) in
     subst (λ (f : Option Invocation). IfSome f (RanFrom i j left rest o n status t u)) (sym c.in-Some.ensures.form)
     (opened_ran run client i j left rest o n ended after status t u c.in-Ok-open.ensures.number
     (λ start told. c.in-Ok-open.ensures.only start (subst (λ (m : List ℕ). TellsKept i m run.client start) (sym at) told)) is went)
@@ -76,7 +77,7 @@ returns-in-Ok-open-clause-session g c =
 pub returns-in-Ok-open-clause-image : goal.returns-in-Ok-open-clause-image
 returns-in-Ok-open-clause-image g c =
     let words = c.in-Some.words in
-    let run : Invocation = record { client = words.client; image = words.image.now; server = words.server.now; work = words.work.now } in
+    let run : Invocation = record { client = words.client; image = words.image.now; server = words.server.now; surrogate = option_copied words.surrogate; work = words.work.now } in
     let i = g.K.Keeper.images c.args.keeper.now in
     let client = c.in-Ok-open.client in
     let ended = c.run-ended.result in
@@ -87,7 +88,7 @@ returns-in-Ok-open-clause-image g c =
 pub returns-in-Ok-open-clause-no_image : goal.returns-in-Ok-open-clause-no_image
 returns-in-Ok-open-clause-no_image g c =
     let words = c.in-Some.words in
-    let run : Invocation = record { client = words.client; image = words.image.now; server = words.server.now; work = words.work.now } in
+    let run : Invocation = record { client = words.client; image = words.image.now; server = words.server.now; surrogate = option_copied words.surrogate; work = words.work.now } in
     let i = g.K.Keeper.images c.args.keeper.now in
     let at : c.bytes.result.now ≡ run.image = c.bytes.ensures.value ∙ ap (λ (r : Route). r.image) c.in-Ok.ensures in
     let client = c.in-Ok-open.client in
@@ -115,7 +116,7 @@ returns-in-Ok-open-clause-keeper g c =
 pub returns-in-Ok-open-clause-complete : goal.returns-in-Ok-open-clause-complete
 returns-in-Ok-open-clause-complete g c =
     let words = c.in-Some.words in
-    let run : Invocation = record { client = words.client; image = words.image.now; server = words.server.now; work = words.work.now } in
+    let run : Invocation = record { client = words.client; image = words.image.now; server = words.server.now; surrogate = option_copied words.surrogate; work = words.work.now } in
     let left = g.I.Source.left c.args.input.now in
     let i = g.K.Keeper.images c.args.keeper.now in
     let ended = c.run-ended.result in
@@ -138,7 +139,7 @@ returns-in-Ok-open-clause-complete g c =
 pub returns-in-Err-open-clause-session : goal.returns-in-Err-open-clause-session
 returns-in-Err-open-clause-session g c =
     let words = c.in-Some.words in
-    let run : Invocation = record { client = words.client; image = words.image.now; server = words.server.now; work = words.work.now } in
+    let run : Invocation = record { client = words.client; image = words.image.now; server = words.server.now; surrogate = option_copied words.surrogate; work = words.work.now } in
     let left = g.I.Source.left c.args.input.now in
     let o = g.O.Sink.written c.args.output.now in
     let i = g.K.Keeper.images c.args.keeper.now in
@@ -154,7 +155,7 @@ returns-in-Err-open-clause-session g c =
 pub returns-in-Err-open-clause-image : goal.returns-in-Err-open-clause-image
 returns-in-Err-open-clause-image g c =
     let words = c.in-Some.words in
-    let run : Invocation = record { client = words.client; image = words.image.now; server = words.server.now; work = words.work.now } in
+    let run : Invocation = record { client = words.client; image = words.image.now; server = words.server.now; surrogate = option_copied words.surrogate; work = words.work.now } in
     let i = g.K.Keeper.images c.args.keeper.now in
     let at : c.bytes.result.now ≡ run.image = c.bytes.ensures.value ∙ ap (λ (r : Route). r.image) c.in-Ok.ensures in
     let unopened = c.in-Err-open.unopened in
@@ -166,7 +167,7 @@ returns-in-Err-open-clause-image g c =
 pub returns-in-Err-open-clause-no_image : goal.returns-in-Err-open-clause-no_image
 returns-in-Err-open-clause-no_image g c =
     let words = c.in-Some.words in
-    let run : Invocation = record { client = words.client; image = words.image.now; server = words.server.now; work = words.work.now } in
+    let run : Invocation = record { client = words.client; image = words.image.now; server = words.server.now; surrogate = option_copied words.surrogate; work = words.work.now } in
     let i = g.K.Keeper.images c.args.keeper.now in
     let unopened = c.in-Err-open.unopened in
     let status = c.status_unopened.result in
@@ -190,7 +191,7 @@ returns-in-Err-open-clause-keeper g c =
 pub returns-in-Err-open-clause-complete : goal.returns-in-Err-open-clause-complete
 returns-in-Err-open-clause-complete g c =
     let words = c.in-Some.words in
-    let run : Invocation = record { client = words.client; image = words.image.now; server = words.server.now; work = words.work.now } in
+    let run : Invocation = record { client = words.client; image = words.image.now; server = words.server.now; surrogate = option_copied words.surrogate; work = words.work.now } in
     let left = g.I.Source.left c.args.input.now in
     let i = g.K.Keeper.images c.args.keeper.now in
     let at : c.bytes.result.now ≡ run.image = c.bytes.ensures.value ∙ ap (λ (r : Route). r.image) c.in-Ok.ensures in
@@ -208,7 +209,7 @@ returns-in-Err-open-clause-complete g c =
 pub returns-in-Err-clause-complete : goal.returns-in-Err-clause-complete
 returns-in-Err-clause-complete g c =
     let words = c.in-Some.words in
-    let run : Invocation = record { client = words.client; image = words.image.now; server = words.server.now; work = words.work.now } in
+    let run : Invocation = record { client = words.client; image = words.image.now; server = words.server.now; surrogate = option_copied words.surrogate; work = words.work.now } in
     let left = g.I.Source.left c.args.input.now in
     let i = g.K.Keeper.images c.args.keeper.now in
     let a = g.I.Source.faults c.args.input.now in

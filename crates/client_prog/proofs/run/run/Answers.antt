@@ -23,7 +23,7 @@ returns-in_err-end-clause-world g c =
     let left = g.I.Source.left c.args.input.now in
     let rest = g.I.Source.left c.answer_input.new.input in
     let stop = c.in_err-end.field-0.0 in
-    rw (x.1, x.2) (went_as r.image (AnswersInput r a left rest o n (Err stop) b) (RunAnswers r a left rest o n (Err stop) b) a b i j t u c.in_err-end.ensures.world
+    rw (x.1, x.2) (went_as r (AnswersInput r a left rest o n (Err stop) b) (RunAnswers r a left rest o n (Err stop) b) a b i j t u c.in_err-end.ensures.world
     (λ k p turn behind. run_stops r a left rest o stop n b k p turn))
 
 pub returns-clause-world : goal.returns-clause-world
@@ -41,7 +41,7 @@ returns-clause-world g c =
     let left = g.I.Source.left c.args.input.now in
     let rest = g.I.Source.left c.answer_input.new.input in
     let end = c.in_ok-end.end in
-    went_as r.image (AnswersInput r a left rest o m (Ok end) b) (RunAnswers r a left rest o n (Ok end) b) a b i j t u c.in_ok-end.ensures.world
+    went_as r (AnswersInput r a left rest o m (Ok end) b) (RunAnswers r a left rest o n (Ok end) b) a b i j t u c.in_ok-end.ensures.world
     (λ k p turn behind. run_ends r a left rest o end m n b k p turn c.in_ok-close.ensures.all)
 
 pub returns-in_err-close-clause-world : goal.returns-in_err-close-clause-world
@@ -63,5 +63,5 @@ returns-in_err-close-clause-world g c =
     let stop = c.in_err-close.field-0.0 in
     let front = c.in_err-close.ensures.front in
     let other : stop ≢ Keeper = λ is. c.in_err-close.ensures.keeper (ap Err is) in
-    rw (x.1, x.2) (went_as r.image (AnswersInput r a left rest o m (Ok end) b) (RunAnswers r a left rest o n (Err stop) b) a b i j t u c.in_ok-end.ensures.world
+    rw (x.1, x.2) (went_as r (AnswersInput r a left rest o m (Ok end) b) (RunAnswers r a left rest o n (Err stop) b) a b i j t u c.in_ok-end.ensures.world
     (λ k p turn behind. run_closing r a left rest o end stop front.1.0 m n b k p front.0 other turn front.1.1))

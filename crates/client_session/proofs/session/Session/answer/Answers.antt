@@ -22,7 +22,7 @@ returns-in-Err-clause-world g c =
     let route = c.args.route.now in
     let i = g.K.Keeper.images c.args.keeper.now in
     let t = beside (g.L.Link.tells c.args.link.now) (telling (g.R.Runner.runs c.args.runner.now) (g.R.Runner.faults c.args.runner.now)) in
-    line_world route.image i route s c.args.line (Err c.in-Err.refusal) (Ok (Some (Refused (faults.Line c.in-Err.refusal)))) s i t c.in-Err.is
+    line_world route i s c.args.line (Err c.in-Err.refusal) (Ok (Some (Refused (faults.Line c.in-Err.refusal)))) s i t c.in-Err.is
     (tells_quietly route.image i s c.requires (Err c.in-Err.refusal) (Some (Refused (faults.Line c.in-Err.refusal))) (λ r. (refl, refl, refl)))
 
 pub returns-in-Err-clause-cause : goal.returns-in-Err-clause-cause
@@ -32,7 +32,7 @@ returns-in-Err-clause-cause g c =
     let i = g.K.Keeper.images c.args.keeper.now in
     let t = beside (g.L.Link.tells c.args.link.now) (telling (g.R.Runner.runs c.args.runner.now) (g.R.Runner.faults c.args.runner.now)) in
     subst (λ (l : Result Line LineError). HasLineCause route s l (Ok (Some (Refused (faults.Line c.in-Err.refusal)))) s t t (g.K.Keeper.faults c.args.keeper.now) (g.K.Keeper.faults c.args.keeper.now)) (sym c.in-Err.is)
-    (quietly_caused route.image i s (Err c.in-Err.refusal) (Ok (Some (Refused (faults.Line c.in-Err.refusal)))) s i (tells_quietly route.image i s c.requires (Err c.in-Err.refusal) (Some (Refused (faults.Line c.in-Err.refusal))) (λ r. (refl, refl, refl))) route t)
+    (quietly_caused route i s (Err c.in-Err.refusal) (Ok (Some (Refused (faults.Line c.in-Err.refusal)))) s i (tells_quietly route.image i s c.requires (Err c.in-Err.refusal) (Some (Refused (faults.Line c.in-Err.refusal))) (λ r. (refl, refl, refl))) t)
 
 pub returns-in-Ok-Put-clause-world : goal.returns-in-Ok-Put-clause-world
 returns-in-Ok-Put-clause-world g c =
@@ -41,7 +41,7 @@ returns-in-Ok-Put-clause-world g c =
     let i = g.K.Keeper.images c.args.keeper.now in
     let t = beside (g.L.Link.tells c.args.link.now) (telling (g.R.Runner.runs c.args.runner.now) (g.R.Runner.faults c.args.runner.now)) in
     let j = g.K.Keeper.images c.put.new.keeper in
-    line_world route.image i route s c.args.line (Ok (Put c.in-Ok-Put.path c.in-Ok-Put.text)) c.put.result c.put.new.self j t (c.in-Ok-Put.is ∙ ap Ok c.in-Ok-Put.field-0-is)
+    line_world route i s c.args.line (Ok (Put c.in-Ok-Put.path c.in-Ok-Put.text)) c.put.result c.put.new.self j t (c.in-Ok-Put.is ∙ ap Ok c.in-Ok-Put.field-0-is)
     (logs_quietly route.image i (put_effect s.folder c.in-Ok-Put.path c.in-Ok-Put.text) s (Ok (Put c.in-Ok-Put.path c.in-Ok-Put.text)) c.put.result c.put.new.self j (λ r answer trace turn. turn) (subst (λ (n : List ℕ). Logs n (put_effect s.folder c.in-Ok-Put.path c.in-Ok-Put.text) s c.put.result c.put.new.self i j) c.bytes-image.ensures.value c.put.ensures.logs))
 
 pub returns-in-Ok-Put-clause-cause : goal.returns-in-Ok-Put-clause-cause
@@ -52,7 +52,7 @@ returns-in-Ok-Put-clause-cause g c =
     let t = beside (g.L.Link.tells c.args.link.now) (telling (g.R.Runner.runs c.args.runner.now) (g.R.Runner.faults c.args.runner.now)) in
     let j = g.K.Keeper.images c.put.new.keeper in
     subst (λ (l : Result Line LineError). HasLineCause route s l c.put.result c.put.new.self t t (g.K.Keeper.faults c.args.keeper.now) (g.K.Keeper.faults c.put.new.keeper)) (sym (c.in-Ok-Put.is ∙ ap Ok c.in-Ok-Put.field-0-is))
-    (quietly_caused route.image i s (Ok (Put c.in-Ok-Put.path c.in-Ok-Put.text)) c.put.result c.put.new.self j (logs_quietly route.image i (put_effect s.folder c.in-Ok-Put.path c.in-Ok-Put.text) s (Ok (Put c.in-Ok-Put.path c.in-Ok-Put.text)) c.put.result c.put.new.self j (λ r answer trace turn. turn) (subst (λ (n : List ℕ). Logs n (put_effect s.folder c.in-Ok-Put.path c.in-Ok-Put.text) s c.put.result c.put.new.self i j) c.bytes-image.ensures.value c.put.ensures.logs)) route t)
+    (quietly_caused route i s (Ok (Put c.in-Ok-Put.path c.in-Ok-Put.text)) c.put.result c.put.new.self j (logs_quietly route.image i (put_effect s.folder c.in-Ok-Put.path c.in-Ok-Put.text) s (Ok (Put c.in-Ok-Put.path c.in-Ok-Put.text)) c.put.result c.put.new.self j (λ r answer trace turn. turn) (subst (λ (n : List ℕ). Logs n (put_effect s.folder c.in-Ok-Put.path c.in-Ok-Put.text) s c.put.result c.put.new.self i j) c.bytes-image.ensures.value c.put.ensures.logs)) t)
 
 pub put-requires : goal.put-requires
 put-requires g c = subst (λ (n : List ℕ). IsKept (g.K.Keeper.images c.args.keeper.now) n c.args.self.now.client.number c.args.self.now.client.log) (sym c.bytes-image.ensures.value) c.requires
@@ -68,7 +68,7 @@ returns-in-Ok-Make-clause-world g c =
     let i = g.K.Keeper.images c.args.keeper.now in
     let t = beside (g.L.Link.tells c.args.link.now) (telling (g.R.Runner.runs c.args.runner.now) (g.R.Runner.faults c.args.runner.now)) in
     let j = g.K.Keeper.images c.make.new.keeper in
-    line_world route.image i route s c.args.line (Ok (Make c.in-Ok-Make.path)) c.make.result c.make.new.self j t (c.in-Ok-Make.is ∙ ap Ok c.in-Ok-Make.field-0-is)
+    line_world route i s c.args.line (Ok (Make c.in-Ok-Make.path)) c.make.result c.make.new.self j t (c.in-Ok-Make.is ∙ ap Ok c.in-Ok-Make.field-0-is)
     (logs_quietly route.image i (make_effect s.folder c.in-Ok-Make.path) s (Ok (Make c.in-Ok-Make.path)) c.make.result c.make.new.self j (λ r answer trace turn. turn) (subst (λ (n : List ℕ). Logs n (make_effect s.folder c.in-Ok-Make.path) s c.make.result c.make.new.self i j) c.bytes-image.ensures.value c.make.ensures.logs))
 
 pub returns-in-Ok-Make-clause-cause : goal.returns-in-Ok-Make-clause-cause
@@ -79,7 +79,7 @@ returns-in-Ok-Make-clause-cause g c =
     let t = beside (g.L.Link.tells c.args.link.now) (telling (g.R.Runner.runs c.args.runner.now) (g.R.Runner.faults c.args.runner.now)) in
     let j = g.K.Keeper.images c.make.new.keeper in
     subst (λ (l : Result Line LineError). HasLineCause route s l c.make.result c.make.new.self t t (g.K.Keeper.faults c.args.keeper.now) (g.K.Keeper.faults c.make.new.keeper)) (sym (c.in-Ok-Make.is ∙ ap Ok c.in-Ok-Make.field-0-is))
-    (quietly_caused route.image i s (Ok (Make c.in-Ok-Make.path)) c.make.result c.make.new.self j (logs_quietly route.image i (make_effect s.folder c.in-Ok-Make.path) s (Ok (Make c.in-Ok-Make.path)) c.make.result c.make.new.self j (λ r answer trace turn. turn) (subst (λ (n : List ℕ). Logs n (make_effect s.folder c.in-Ok-Make.path) s c.make.result c.make.new.self i j) c.bytes-image.ensures.value c.make.ensures.logs)) route t)
+    (quietly_caused route i s (Ok (Make c.in-Ok-Make.path)) c.make.result c.make.new.self j (logs_quietly route.image i (make_effect s.folder c.in-Ok-Make.path) s (Ok (Make c.in-Ok-Make.path)) c.make.result c.make.new.self j (λ r answer trace turn. turn) (subst (λ (n : List ℕ). Logs n (make_effect s.folder c.in-Ok-Make.path) s c.make.result c.make.new.self i j) c.bytes-image.ensures.value c.make.ensures.logs)) t)
 
 pub make-requires : goal.make-requires
 make-requires g c = subst (λ (n : List ℕ). IsKept (g.K.Keeper.images c.args.keeper.now) n c.args.self.now.client.number c.args.self.now.client.log) (sym c.bytes-image.ensures.value) c.requires
@@ -95,7 +95,7 @@ returns-in-Ok-Remove-clause-world g c =
     let i = g.K.Keeper.images c.args.keeper.now in
     let t = beside (g.L.Link.tells c.args.link.now) (telling (g.R.Runner.runs c.args.runner.now) (g.R.Runner.faults c.args.runner.now)) in
     let j = g.K.Keeper.images c.remove.new.keeper in
-    line_world route.image i route s c.args.line (Ok (Remove c.in-Ok-Remove.path)) c.remove.result c.remove.new.self j t (c.in-Ok-Remove.is ∙ ap Ok c.in-Ok-Remove.field-0-is)
+    line_world route i s c.args.line (Ok (Remove c.in-Ok-Remove.path)) c.remove.result c.remove.new.self j t (c.in-Ok-Remove.is ∙ ap Ok c.in-Ok-Remove.field-0-is)
     (logs_quietly route.image i (remove_effect s.folder c.in-Ok-Remove.path) s (Ok (Remove c.in-Ok-Remove.path)) c.remove.result c.remove.new.self j (λ r answer trace turn. turn) (subst (λ (n : List ℕ). Logs n (remove_effect s.folder c.in-Ok-Remove.path) s c.remove.result c.remove.new.self i j) c.bytes-image.ensures.value c.remove.ensures.logs))
 
 pub returns-in-Ok-Remove-clause-cause : goal.returns-in-Ok-Remove-clause-cause
@@ -106,7 +106,7 @@ returns-in-Ok-Remove-clause-cause g c =
     let t = beside (g.L.Link.tells c.args.link.now) (telling (g.R.Runner.runs c.args.runner.now) (g.R.Runner.faults c.args.runner.now)) in
     let j = g.K.Keeper.images c.remove.new.keeper in
     subst (λ (l : Result Line LineError). HasLineCause route s l c.remove.result c.remove.new.self t t (g.K.Keeper.faults c.args.keeper.now) (g.K.Keeper.faults c.remove.new.keeper)) (sym (c.in-Ok-Remove.is ∙ ap Ok c.in-Ok-Remove.field-0-is))
-    (quietly_caused route.image i s (Ok (Remove c.in-Ok-Remove.path)) c.remove.result c.remove.new.self j (logs_quietly route.image i (remove_effect s.folder c.in-Ok-Remove.path) s (Ok (Remove c.in-Ok-Remove.path)) c.remove.result c.remove.new.self j (λ r answer trace turn. turn) (subst (λ (n : List ℕ). Logs n (remove_effect s.folder c.in-Ok-Remove.path) s c.remove.result c.remove.new.self i j) c.bytes-image.ensures.value c.remove.ensures.logs)) route t)
+    (quietly_caused route i s (Ok (Remove c.in-Ok-Remove.path)) c.remove.result c.remove.new.self j (logs_quietly route.image i (remove_effect s.folder c.in-Ok-Remove.path) s (Ok (Remove c.in-Ok-Remove.path)) c.remove.result c.remove.new.self j (λ r answer trace turn. turn) (subst (λ (n : List ℕ). Logs n (remove_effect s.folder c.in-Ok-Remove.path) s c.remove.result c.remove.new.self i j) c.bytes-image.ensures.value c.remove.ensures.logs)) t)
 
 pub remove-requires : goal.remove-requires
 remove-requires g c = subst (λ (n : List ℕ). IsKept (g.K.Keeper.images c.args.keeper.now) n c.args.self.now.client.number c.args.self.now.client.log) (sym c.bytes-image.ensures.value) c.requires
@@ -122,7 +122,7 @@ returns-in-Ok-Move-clause-world g c =
     let i = g.K.Keeper.images c.args.keeper.now in
     let t = beside (g.L.Link.tells c.args.link.now) (telling (g.R.Runner.runs c.args.runner.now) (g.R.Runner.faults c.args.runner.now)) in
     let j = g.K.Keeper.images c.relocate.new.keeper in
-    line_world route.image i route s c.args.line (Ok (Move c.in-Ok-Move.from c.in-Ok-Move.to)) c.relocate.result c.relocate.new.self j t (c.in-Ok-Move.is ∙ ap Ok c.in-Ok-Move.field-0-is)
+    line_world route i s c.args.line (Ok (Move c.in-Ok-Move.from c.in-Ok-Move.to)) c.relocate.result c.relocate.new.self j t (c.in-Ok-Move.is ∙ ap Ok c.in-Ok-Move.field-0-is)
     (logs_quietly route.image i (move_effect s.folder c.in-Ok-Move.from c.in-Ok-Move.to) s (Ok (Move c.in-Ok-Move.from c.in-Ok-Move.to)) c.relocate.result c.relocate.new.self j (λ r answer trace turn. turn) (subst (λ (n : List ℕ). Logs n (move_effect s.folder c.in-Ok-Move.from c.in-Ok-Move.to) s c.relocate.result c.relocate.new.self i j) c.bytes-image.ensures.value c.relocate.ensures.logs))
 
 pub returns-in-Ok-Move-clause-cause : goal.returns-in-Ok-Move-clause-cause
@@ -133,7 +133,7 @@ returns-in-Ok-Move-clause-cause g c =
     let t = beside (g.L.Link.tells c.args.link.now) (telling (g.R.Runner.runs c.args.runner.now) (g.R.Runner.faults c.args.runner.now)) in
     let j = g.K.Keeper.images c.relocate.new.keeper in
     subst (λ (l : Result Line LineError). HasLineCause route s l c.relocate.result c.relocate.new.self t t (g.K.Keeper.faults c.args.keeper.now) (g.K.Keeper.faults c.relocate.new.keeper)) (sym (c.in-Ok-Move.is ∙ ap Ok c.in-Ok-Move.field-0-is))
-    (quietly_caused route.image i s (Ok (Move c.in-Ok-Move.from c.in-Ok-Move.to)) c.relocate.result c.relocate.new.self j (logs_quietly route.image i (move_effect s.folder c.in-Ok-Move.from c.in-Ok-Move.to) s (Ok (Move c.in-Ok-Move.from c.in-Ok-Move.to)) c.relocate.result c.relocate.new.self j (λ r answer trace turn. turn) (subst (λ (n : List ℕ). Logs n (move_effect s.folder c.in-Ok-Move.from c.in-Ok-Move.to) s c.relocate.result c.relocate.new.self i j) c.bytes-image.ensures.value c.relocate.ensures.logs)) route t)
+    (quietly_caused route i s (Ok (Move c.in-Ok-Move.from c.in-Ok-Move.to)) c.relocate.result c.relocate.new.self j (logs_quietly route.image i (move_effect s.folder c.in-Ok-Move.from c.in-Ok-Move.to) s (Ok (Move c.in-Ok-Move.from c.in-Ok-Move.to)) c.relocate.result c.relocate.new.self j (λ r answer trace turn. turn) (subst (λ (n : List ℕ). Logs n (move_effect s.folder c.in-Ok-Move.from c.in-Ok-Move.to) s c.relocate.result c.relocate.new.self i j) c.bytes-image.ensures.value c.relocate.ensures.logs)) t)
 
 pub relocate-requires : goal.relocate-requires
 relocate-requires g c = subst (λ (n : List ℕ). IsKept (g.K.Keeper.images c.args.keeper.now) n c.args.self.now.client.number c.args.self.now.client.log) (sym c.bytes-image.ensures.value) c.requires
@@ -148,7 +148,7 @@ returns-in-Ok-Cat-clause-world g c =
     let route = c.args.route.now in
     let i = g.K.Keeper.images c.args.keeper.now in
     let t = beside (g.L.Link.tells c.args.link.now) (telling (g.R.Runner.runs c.args.runner.now) (g.R.Runner.faults c.args.runner.now)) in
-    line_world route.image i route s c.args.line (Ok (Cat c.in-Ok-Cat.path)) c.cat.result s i t (c.in-Ok-Cat.is ∙ ap Ok c.in-Ok-Cat.field-0-is)
+    line_world route i s c.args.line (Ok (Cat c.in-Ok-Cat.path)) c.cat.result s i t (c.in-Ok-Cat.is ∙ ap Ok c.in-Ok-Cat.field-0-is)
     (told_quietly route.image i s c.requires (Ok (Cat c.in-Ok-Cat.path)) _ c.cat.result (λ r. (refl, refl, refl)) c.cat.ensures.answer)
 
 pub returns-in-Ok-Cat-clause-cause : goal.returns-in-Ok-Cat-clause-cause
@@ -158,7 +158,7 @@ returns-in-Ok-Cat-clause-cause g c =
     let i = g.K.Keeper.images c.args.keeper.now in
     let t = beside (g.L.Link.tells c.args.link.now) (telling (g.R.Runner.runs c.args.runner.now) (g.R.Runner.faults c.args.runner.now)) in
     subst (λ (l : Result Line LineError). HasLineCause route s l c.cat.result s t t (g.K.Keeper.faults c.args.keeper.now) (g.K.Keeper.faults c.args.keeper.now)) (sym (c.in-Ok-Cat.is ∙ ap Ok c.in-Ok-Cat.field-0-is))
-    (quietly_caused route.image i s (Ok (Cat c.in-Ok-Cat.path)) c.cat.result s i (told_quietly route.image i s c.requires (Ok (Cat c.in-Ok-Cat.path)) _ c.cat.result (λ r. (refl, refl, refl)) c.cat.ensures.answer) route t)
+    (quietly_caused route i s (Ok (Cat c.in-Ok-Cat.path)) c.cat.result s i (told_quietly route.image i s c.requires (Ok (Cat c.in-Ok-Cat.path)) _ c.cat.result (λ r. (refl, refl, refl)) c.cat.ensures.answer) t)
 
 pub returns-in-Ok-List-clause-world : goal.returns-in-Ok-List-clause-world
 returns-in-Ok-List-clause-world g c =
@@ -166,7 +166,7 @@ returns-in-Ok-List-clause-world g c =
     let route = c.args.route.now in
     let i = g.K.Keeper.images c.args.keeper.now in
     let t = beside (g.L.Link.tells c.args.link.now) (telling (g.R.Runner.runs c.args.runner.now) (g.R.Runner.faults c.args.runner.now)) in
-    line_world route.image i route s c.args.line (Ok (Ls c.in-Ok-List.path)) c.list.result s i t (c.in-Ok-List.is ∙ ap Ok c.in-Ok-List.field-0-is)
+    line_world route i s c.args.line (Ok (Ls c.in-Ok-List.path)) c.list.result s i t (c.in-Ok-List.is ∙ ap Ok c.in-Ok-List.field-0-is)
     (told_quietly route.image i s c.requires (Ok (Ls c.in-Ok-List.path)) (Some (list_answer (tree_of s.client.log) s.folder c.in-Ok-List.path)) c.list.result (λ r. (refl, refl, refl))
     (subst (λ (word : Option (List ℕ)). IfOk c.list.result (λ given. given ≡ Some (list_answer (tree_of s.client.log) s.folder word))) c.as_ref.ensures.value c.list.ensures.answer))
 
@@ -177,8 +177,8 @@ returns-in-Ok-List-clause-cause g c =
     let i = g.K.Keeper.images c.args.keeper.now in
     let t = beside (g.L.Link.tells c.args.link.now) (telling (g.R.Runner.runs c.args.runner.now) (g.R.Runner.faults c.args.runner.now)) in
     subst (λ (l : Result Line LineError). HasLineCause route s l c.list.result s t t (g.K.Keeper.faults c.args.keeper.now) (g.K.Keeper.faults c.args.keeper.now)) (sym (c.in-Ok-List.is ∙ ap Ok c.in-Ok-List.field-0-is))
-    (quietly_caused route.image i s (Ok (Ls c.in-Ok-List.path)) c.list.result s i (told_quietly route.image i s c.requires (Ok (Ls c.in-Ok-List.path)) (Some (list_answer (tree_of s.client.log) s.folder c.in-Ok-List.path)) c.list.result (λ r. (refl, refl, refl))
-    (subst (λ (word : Option (List ℕ)). IfOk c.list.result (λ given. given ≡ Some (list_answer (tree_of s.client.log) s.folder word))) c.as_ref.ensures.value c.list.ensures.answer)) route t)
+    (quietly_caused route i s (Ok (Ls c.in-Ok-List.path)) c.list.result s i (told_quietly route.image i s c.requires (Ok (Ls c.in-Ok-List.path)) (Some (list_answer (tree_of s.client.log) s.folder c.in-Ok-List.path)) c.list.result (λ r. (refl, refl, refl))
+    (subst (λ (word : Option (List ℕ)). IfOk c.list.result (λ given. given ≡ Some (list_answer (tree_of s.client.log) s.folder word))) c.as_ref.ensures.value c.list.ensures.answer)) t)
 
 pub returns-in-Ok-Enter-clause-world : goal.returns-in-Ok-Enter-clause-world
 returns-in-Ok-Enter-clause-world g c =
@@ -186,7 +186,7 @@ returns-in-Ok-Enter-clause-world g c =
     let route = c.args.route.now in
     let i = g.K.Keeper.images c.args.keeper.now in
     let t = beside (g.L.Link.tells c.args.link.now) (telling (g.R.Runner.runs c.args.runner.now) (g.R.Runner.faults c.args.runner.now)) in
-    line_world route.image i route s c.args.line (Ok (Enter c.in-Ok-Enter.path)) c.enter.result c.enter.new.self i t (c.in-Ok-Enter.is ∙ ap Ok c.in-Ok-Enter.field-0-is)
+    line_world route i s c.args.line (Ok (Enter c.in-Ok-Enter.path)) c.enter.result c.enter.new.self i t (c.in-Ok-Enter.is ∙ ap Ok c.in-Ok-Enter.field-0-is)
     (enter_quietly route.image i s c.requires c.enter.new.self c.in-Ok-Enter.path c.enter.result c.enter.ensures.ok c.enter.ensures.folder c.enter.ensures.err)
 
 pub returns-in-Ok-Enter-clause-cause : goal.returns-in-Ok-Enter-clause-cause
@@ -196,7 +196,7 @@ returns-in-Ok-Enter-clause-cause g c =
     let i = g.K.Keeper.images c.args.keeper.now in
     let t = beside (g.L.Link.tells c.args.link.now) (telling (g.R.Runner.runs c.args.runner.now) (g.R.Runner.faults c.args.runner.now)) in
     subst (λ (l : Result Line LineError). HasLineCause route s l c.enter.result c.enter.new.self t t (g.K.Keeper.faults c.args.keeper.now) (g.K.Keeper.faults c.args.keeper.now)) (sym (c.in-Ok-Enter.is ∙ ap Ok c.in-Ok-Enter.field-0-is))
-    (quietly_caused route.image i s (Ok (Enter c.in-Ok-Enter.path)) c.enter.result c.enter.new.self i (enter_quietly route.image i s c.requires c.enter.new.self c.in-Ok-Enter.path c.enter.result c.enter.ensures.ok c.enter.ensures.folder c.enter.ensures.err) route t)
+    (quietly_caused route i s (Ok (Enter c.in-Ok-Enter.path)) c.enter.result c.enter.new.self i (enter_quietly route.image i s c.requires c.enter.new.self c.in-Ok-Enter.path c.enter.result c.enter.ensures.ok c.enter.ensures.folder c.enter.ensures.err) t)
 
 pub returns-in-Ok-Enter-clause-kept : goal.returns-in-Ok-Enter-clause-kept
 returns-in-Ok-Enter-clause-kept g c =
@@ -211,7 +211,7 @@ returns-in-Ok-Status-clause-world g c =
     let route = c.args.route.now in
     let i = g.K.Keeper.images c.args.keeper.now in
     let t = beside (g.L.Link.tells c.args.link.now) (telling (g.R.Runner.runs c.args.runner.now) (g.R.Runner.faults c.args.runner.now)) in
-    line_world route.image i route s c.args.line (Ok Status) (Ok (Some c.status.result)) s i t (c.in-Ok-Status.is ∙ ap Ok c.in-Ok-Status.field-0-is)
+    line_world route i s c.args.line (Ok Status) (Ok (Some c.status.result)) s i t (c.in-Ok-Status.is ∙ ap Ok c.in-Ok-Status.field-0-is)
     (status_quietly route.image i s c.requires c.status.result c.status.ensures)
 
 pub returns-in-Ok-Status-clause-cause : goal.returns-in-Ok-Status-clause-cause
@@ -221,7 +221,7 @@ returns-in-Ok-Status-clause-cause g c =
     let i = g.K.Keeper.images c.args.keeper.now in
     let t = beside (g.L.Link.tells c.args.link.now) (telling (g.R.Runner.runs c.args.runner.now) (g.R.Runner.faults c.args.runner.now)) in
     subst (λ (l : Result Line LineError). HasLineCause route s l (Ok (Some c.status.result)) s t t (g.K.Keeper.faults c.args.keeper.now) (g.K.Keeper.faults c.args.keeper.now)) (sym (c.in-Ok-Status.is ∙ ap Ok c.in-Ok-Status.field-0-is))
-    (quietly_caused route.image i s (Ok Status) (Ok (Some c.status.result)) s i (status_quietly route.image i s c.requires c.status.result c.status.ensures) route t)
+    (quietly_caused route i s (Ok Status) (Ok (Some c.status.result)) s i (status_quietly route.image i s c.requires c.status.result c.status.ensures) t)
 
 pub returns-in-Ok-Empty-clause-world : goal.returns-in-Ok-Empty-clause-world
 returns-in-Ok-Empty-clause-world g c =
@@ -229,7 +229,7 @@ returns-in-Ok-Empty-clause-world g c =
     let route = c.args.route.now in
     let i = g.K.Keeper.images c.args.keeper.now in
     let t = beside (g.L.Link.tells c.args.link.now) (telling (g.R.Runner.runs c.args.runner.now) (g.R.Runner.faults c.args.runner.now)) in
-    line_world route.image i route s c.args.line (Ok Empty) (Ok None) s i t (c.in-Ok-Empty.is ∙ ap Ok c.in-Ok-Empty.field-0-is)
+    line_world route i s c.args.line (Ok Empty) (Ok None) s i t (c.in-Ok-Empty.is ∙ ap Ok c.in-Ok-Empty.field-0-is)
     (silent_quietly route.image i s c.requires (Ok Empty) (λ r. (refl, refl, refl)))
 
 pub returns-in-Ok-Empty-clause-cause : goal.returns-in-Ok-Empty-clause-cause
@@ -239,7 +239,7 @@ returns-in-Ok-Empty-clause-cause g c =
     let i = g.K.Keeper.images c.args.keeper.now in
     let t = beside (g.L.Link.tells c.args.link.now) (telling (g.R.Runner.runs c.args.runner.now) (g.R.Runner.faults c.args.runner.now)) in
     subst (λ (l : Result Line LineError). HasLineCause route s l (Ok None) s t t (g.K.Keeper.faults c.args.keeper.now) (g.K.Keeper.faults c.args.keeper.now)) (sym (c.in-Ok-Empty.is ∙ ap Ok c.in-Ok-Empty.field-0-is))
-    (quietly_caused route.image i s (Ok Empty) (Ok None) s i (silent_quietly route.image i s c.requires (Ok Empty) (λ r. (refl, refl, refl))) route t)
+    (quietly_caused route i s (Ok Empty) (Ok None) s i (silent_quietly route.image i s c.requires (Ok Empty) (λ r. (refl, refl, refl))) t)
 
 pub returns-in-Ok-Quit-clause-world : goal.returns-in-Ok-Quit-clause-world
 returns-in-Ok-Quit-clause-world g c =
@@ -247,7 +247,7 @@ returns-in-Ok-Quit-clause-world g c =
     let route = c.args.route.now in
     let i = g.K.Keeper.images c.args.keeper.now in
     let t = beside (g.L.Link.tells c.args.link.now) (telling (g.R.Runner.runs c.args.runner.now) (g.R.Runner.faults c.args.runner.now)) in
-    line_world route.image i route s c.args.line (Ok Quit) (Ok None) s i t (c.in-Ok-Quit.is ∙ ap Ok c.in-Ok-Quit.field-0-is)
+    line_world route i s c.args.line (Ok Quit) (Ok None) s i t (c.in-Ok-Quit.is ∙ ap Ok c.in-Ok-Quit.field-0-is)
     (silent_quietly route.image i s c.requires (Ok Quit) (λ r. (refl, refl, refl)))
 
 pub returns-in-Ok-Quit-clause-cause : goal.returns-in-Ok-Quit-clause-cause
@@ -257,7 +257,7 @@ returns-in-Ok-Quit-clause-cause g c =
     let i = g.K.Keeper.images c.args.keeper.now in
     let t = beside (g.L.Link.tells c.args.link.now) (telling (g.R.Runner.runs c.args.runner.now) (g.R.Runner.faults c.args.runner.now)) in
     subst (λ (l : Result Line LineError). HasLineCause route s l (Ok None) s t t (g.K.Keeper.faults c.args.keeper.now) (g.K.Keeper.faults c.args.keeper.now)) (sym (c.in-Ok-Quit.is ∙ ap Ok c.in-Ok-Quit.field-0-is))
-    (quietly_caused route.image i s (Ok Quit) (Ok None) s i (silent_quietly route.image i s c.requires (Ok Quit) (λ r. (refl, refl, refl))) route t)
+    (quietly_caused route i s (Ok Quit) (Ok None) s i (silent_quietly route.image i s c.requires (Ok Quit) (λ r. (refl, refl, refl))) t)
 
 pub returns-in-Ok-Cat-clause-keeper : goal.returns-in-Ok-Cat-clause-keeper
 returns-in-Ok-Cat-clause-keeper g c = unkept c.cat.result (g.K.Keeper.faults c.args.keeper.now) c.cat.ensures.memory
@@ -277,7 +277,7 @@ returns-in-Ok-Run-clause-world g c =
     let p = telling (g.R.Runner.runs c.args.runner.now) (g.R.Runner.faults c.args.runner.now) in
     let q = telling (g.R.Runner.runs c.run.new.runner) (g.R.Runner.faults c.run.new.runner) in
     let t = g.L.Link.tells c.args.link.now in
-    subst (λ (l : Result Line LineError). WentDoing route.image (LineEnds route s l c.run.result c.run.new.self) s c.run.new.self i j (beside t p) (beside t q)) (sym (c.in-Ok-Run.is ∙ ap Ok c.in-Ok-Run.field-0-is))
+    subst (λ (l : Result Line LineError). WentDoing route (LineEnds route s l c.run.result c.run.new.self) s c.run.new.self i j (beside t p) (beside t q)) (sym (c.in-Ok-Run.is ∙ ap Ok c.in-Ok-Run.field-0-is))
     (run_went route c.in-Ok-Run.words s c.run.new.self c.run.result i j p q c.run.ensures.runs t)
 
 pub returns-in-Ok-Run-clause-cause : goal.returns-in-Ok-Run-clause-cause
@@ -304,7 +304,7 @@ returns-in-Ok-Sync-clause-world g c =
     let ran = telling (g.R.Runner.runs c.args.runner.now) (g.R.Runner.faults c.args.runner.now) in
     let t = beside (g.L.Link.tells c.args.link.now) ran in
     let u = beside (g.L.Link.tells c.sync.new.link) ran in
-    subst (λ (l : Result Line LineError). WentDoing route.image (LineEnds route s l c.sync.result c.sync.new.self) s c.sync.new.self i j t u) (sym (c.in-Ok-Sync.is ∙ ap Ok c.in-Ok-Sync.field-0-is)) (c.sync.ensures.world ran)
+    subst (λ (l : Result Line LineError). WentDoing route (LineEnds route s l c.sync.result c.sync.new.self) s c.sync.new.self i j t u) (sym (c.in-Ok-Sync.is ∙ ap Ok c.in-Ok-Sync.field-0-is)) (c.sync.ensures.world ran)
 
 pub returns-in-Ok-Sync-clause-cause : goal.returns-in-Ok-Sync-clause-cause
 returns-in-Ok-Sync-clause-cause g c =
@@ -324,7 +324,7 @@ returns-in-Ok-Pull-clause-world g c =
     let ran = telling (g.R.Runner.runs c.args.runner.now) (g.R.Runner.faults c.args.runner.now) in
     let t = beside (g.L.Link.tells c.args.link.now) ran in
     let u = beside (g.L.Link.tells c.pull.new.link) ran in
-    subst (λ (l : Result Line LineError). WentDoing route.image (LineEnds route s l c.pull.result c.pull.new.self) s c.pull.new.self i j t u) (sym (c.in-Ok-Pull.is ∙ ap Ok c.in-Ok-Pull.field-0-is)) (c.pull.ensures.world ran)
+    subst (λ (l : Result Line LineError). WentDoing route (LineEnds route s l c.pull.result c.pull.new.self) s c.pull.new.self i j t u) (sym (c.in-Ok-Pull.is ∙ ap Ok c.in-Ok-Pull.field-0-is)) (c.pull.ensures.world ran)
 
 pub returns-in-Ok-Pull-clause-cause : goal.returns-in-Ok-Pull-clause-cause
 returns-in-Ok-Pull-clause-cause g c =

@@ -18,7 +18,7 @@ returns-clause-world g c =
     let u = g.L.Link.tells c.pull-end.new.link in
     let r = c.answered.result in
     λ runner.
-    subst (λ (s : SessionState). WentDoing route.image (LineEnds route s (Ok Pull) r after) s after i j (beside t runner) (beside u runner)) c.self.view_is
+    subst (λ (s : SessionState). WentDoing route (LineEnds route s (Ok Pull) r after) s after i j (beside t runner) (beside u runner)) c.self.view_is
     (pull_went route before after i j t u c.pull-end.ensures.number refl c.pull-end.result c.is_pull_fault-fault.result c.pull_answer.result r c.pull_answer.ensures c.answered.ensures c.pull-end.ensures.world runner)
 
 pub returns-clause-cause : goal.returns-clause-cause

@@ -18,7 +18,7 @@ returns-clause-world g c =
     let u = g.L.Link.tells c.sync-end.new.link in
     let r = c.answered.result in
     λ runner.
-    subst (λ (s : SessionState). WentDoing route.image (LineEnds route s (Ok Sync) r after) s after i j (beside t runner) (beside u runner)) c.self.view_is
+    subst (λ (s : SessionState). WentDoing route (LineEnds route s (Ok Sync) r after) s after i j (beside t runner) (beside u runner)) c.self.view_is
     (sync_went route before after i j t u c.sync-end.ensures.number refl c.sync-end.result c.is_sync_fault-fault.result c.sync_answer.result r c.sync_answer.ensures c.answered.ensures c.sync-end.ensures.world runner)
 
 pub returns-clause-cause : goal.returns-clause-cause
