@@ -1,27 +1,35 @@
-//! A surrogate and its server over TCP on this machine. The program starts itself as both, and asks the surrogate for operations
-//! of the shell.
+//! A client, its surrogate and their server over TCP on this machine. The program starts itself as all three: a command that the
+//! client has run is run again by the surrogate, which has the server take what it made.
 #![tactic(auto)]
 
 mod frames;
 
-use frames::{ANSWERS, OPERATION, OTHER_STATUS, PULL};
+use frames::{ANSWERS, OTHER_STATUS, PULL};
 use program_words::given_words;
-use server_prog::server_main;
 use std::fs::{self, File};
-use std::io::{self, ErrorKind, Read};
+use std::io::{self, ErrorKind, Read, Write};
 use std::net::Net;
 use std::process::{self, Child, ExitCode, Processes};
 use std::rt::{Env, Files};
 use std::thread;
 use std::time::{Clock, Duration};
 use surrogate_prog::surrogate_main;
-use tcp_probe::{SERVED, SERVER, call_on, command_of, forget, free_address, print_ended, spawned};
+use tcp_probe::{
+    CLIENT, IMAGE, SERVED, SERVER, call_on, command_of, forget, free_address, print_ended, run_as,
+    spawned,
+};
 
 /// The first word of this program where it is the surrogate.
 const SURROGATE: &str = "surrogate";
 
-/// The folder in which the surrogate runs commands.
-const WORK: &str = "work";
+/// The folder in which the client runs commands.
+const NEAR: &str = "near";
+
+/// The folder in which the surrogate does.
+const FAR: &str = "far";
+
+/// What the client is to do: a command makes a file, and is shipped.
+const INPUT: &[u8] = b"run env=PATH=/usr/bin:/bin -- /bin/sh -c 'echo hello > a'\nsync\n";
 
 /// How often a peer is called until it listens.
 const CALLS: usize = 200;
@@ -29,29 +37,30 @@ const CALLS: usize = 200;
 /// How many milliseconds are waited in between.
 const BETWEEN_MILLIS: u64 = 50;
 
-/// With words it is the server or the surrogate, as the first one says. Without any it shows what a surrogate answers.
+/// With words it is the client, the server or the surrogate, as the first one says. Without any it shows what becomes of a command.
 fn main(rt: HostRuntime) -> io::Result<ExitCode> {
     let words = given_words(&rt)?;
+    let process = process::id(rt.process());
     match words.split_first() {
         None => show(&rt),
-        Some((program, words)) => match program.as_str() {
-            SERVER => Ok(server_main(&rt, words)),
-            SURROGATE => Ok(surrogate_main(&rt, process::id(rt.process()), words)),
-            _ => Ok(ExitCode::FAILURE),
-        },
+        Some((program, rest)) if program.as_str() == SURROGATE => {
+            Ok(surrogate_main(&rt, process, rest))
+        }
+        Some(_) => Ok(run_as(&rt, process, &words)),
     }
 }
 
-/// Starts a server, and a surrogate that asks it.
+/// Starts a server, a surrogate that asks it, and a client of both.
 fn show<R: Processes + Files<File = File> + Env + AllocGlobal + Net + Clock + Print>(
     rt: &R,
 ) -> io::Result<ExitCode> {
     forget(rt);
-    let _made = fs::create_dir(rt, WORK);
     let address = free_address(rt)?;
     let shown = show_at(rt, &address);
     drop(address);
-    let _removed = fs::remove_dir(rt, WORK);
+    for folder in [NEAR, FAR] {
+        let _removed = fs::remove_dir(rt, folder);
+    }
     forget(rt);
     shown?;
     Ok(ExitCode::SUCCESS)
@@ -84,14 +93,14 @@ fn show_surrogate<R: Processes + Files + Env + AllocGlobal + Net + Clock + Print
     ask(rt, "rows after", server, &PULL)
 }
 
-/// A surrogate at this address takes four connections.
+/// A surrogate at this address takes four connections: three of strangers, and one of the client.
 fn ask_surrogate<R: Processes + Files + Env + AllocGlobal + Net + Clock + Print>(
     rt: &R,
     address: &str,
     server: &str,
 ) -> io::Result<()> {
-    let started = start(rt, SURROGATE, &["run", address, server, WORK, "4"])?;
-    match ask_all(rt, address) {
+    let started = start(rt, SURROGATE, &["run", address, server, FAR, "4"])?;
+    match ask_all(rt, address, server) {
         Ok(()) => print_ended(rt, SURROGATE, started),
         Err(error) => {
             drop(started);
@@ -109,11 +118,28 @@ fn start<R: Processes + Files + Env + AllocGlobal>(
     spawned(rt, command)
 }
 
-fn ask_all<R: AllocGlobal + Net + Clock + Print>(rt: &R, address: &str) -> io::Result<()> {
+fn ask_all<R: Processes + Files + Env + AllocGlobal + Net + Clock + Print>(
+    rt: &R,
+    address: &str,
+    server: &str,
+) -> io::Result<()> {
     ask(rt, "no frame", address, b"")?;
     ask(rt, "a pull", address, &PULL)?;
     ask(rt, "another status", address, &OTHER_STATUS)?;
-    ask(rt, "an operation", address, &OPERATION)
+    run_client(rt, server, address)
+}
+
+/// Runs a client of this server and this surrogate to its end, and prints that.
+fn run_client<R: Processes + Files + Env + AllocGlobal + Print>(
+    rt: &R,
+    server: &str,
+    surrogate: &str,
+) -> io::Result<()> {
+    let mut client = start(rt, CLIENT, &["run", "1", IMAGE, server, surrogate, NEAR])?;
+    if let Some(mut stdin) = client.stdin.take() {
+        let _written = stdin.write_all(INPUT);
+    }
+    print_ended(rt, CLIENT, client)
 }
 
 /// Asks once the peer listens, and prints the answer.
