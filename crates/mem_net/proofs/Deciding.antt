@@ -4,7 +4,7 @@ use Rattle.std.specs.Prelude.{if◌then◌else◌}
 use Rattle.std.proofs.lemmas.List.{drop-drop}
 use Rattle.mem_net.specs.declared.fate.Fate.{Fate}
 use Rattle.world_rules.specs.World.{World}
-use Rattle.mem_net.specs.Net.{Net, world_of}
+use Rattle.mem_net.specs.Net.{Wire, world_of}
 use Rattle.mem_net.specs.Fates.{decides, deciding, left_after, at_decision, befallen, IsEndOf}
 use Rattle.mem_net.specs.Inside.{MovedFree, KeepsFates, decision, Awaits}
 use Rattle.mem_net.proofs.Network.{free_then}
@@ -15,8 +15,15 @@ undecided_if : (b : Bool) (fate : Fate) → None ≡ (if b then Some fate else N
 undecided_if true fate is = absurd (cc)
 undecided_if false fate is = refl
 
-undecided : (fate : Fate) → None ≡ decision fate → decides fate ≡ false
+pub undecided : (fate : Fate) → None ≡ decision fate → decides fate ≡ false
 undecided fate is = undecided_if (decides fate) fate is
+
+decided_if : (b : Bool) (fate got : Fate) → Some got ≡ (if b then Some fate else None) → (b ≡ true) × (got ≡ fate)
+decided_if true fate got is = (refl, cc)
+decided_if false fate got is = absurd (cc)
+
+pub decided_by : (fate got : Fate) → Some got ≡ decision fate → (decides fate ≡ true) × (got ≡ fate)
+decided_by fate got is = decided_if (decides fate) fate got is
 
 -- ---- the fates in a row
 
@@ -30,7 +37,7 @@ left_is_end (fate ∷ fates) =
     ]
 
 -- a fate was taken, and the world went on
-module _ (old mid taken new : Net) (fate : Fate) (so_far : Awaits old mid) (first : mid.fates ≡ fate ∷ taken.fates) (taking : taken ≡ record mid { fates = taken.fates })
+module _ (old mid taken new : Wire) (fate : Fate) (so_far : Awaits old mid) (first : mid.fates ≡ fate ∷ taken.fates) (taking : taken ≡ record mid { fates = taken.fates })
     (moves : MovedFree (world_of taken) (world_of new)) (keeps : KeepsFates taken new) where
   same_world : world_of taken ≡ world_of mid
   same_world = ap world_of taking
@@ -51,7 +58,7 @@ module _ (old mid taken new : Net) (fate : Fate) (so_far : Awaits old mid) (firs
       subst (λ (l : List Fate). IsEndOf l new.fates) (sym skipped ∙ so_far.left) (left_is_end new.fates)
 
   pub troubles_on : new.troubles ≡ old.troubles
-  troubles_on = keeps.1 ∙ ap (λ (n : Net). n.troubles) taking ∙ so_far.troubles
+  troubles_on = keeps.1 ∙ ap (λ (n : Wire). n.troubles) taking ∙ so_far.troubles
 
   -- the fate decides nothing
   module _ (none : None ≡ decision fate) (befell : world_of new ≡ befallen fate (world_of taken)) where

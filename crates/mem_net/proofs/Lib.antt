@@ -3,3 +3,6 @@ pub mod Network
 pub mod Delivering
 pub mod Deciding
 pub mod Spent
+pub mod Handling
+pub mod Reaching
+pub mod Meeting

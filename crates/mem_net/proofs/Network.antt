@@ -20,9 +20,9 @@ use Rattle.world_rules.specs.Asking.{ask_of, AsksOnce, IsDirect, IsReplyTo}
 use Rattle.world_rules.proofs.Asks.{IsIn-last, moved_by_then, moved_by_none, moved_by_step, moved_by_noted, sendings-then, sendings-step}
 use Rattle.mem_net.specs.declared.fate.Fate.{Fate}
 use Rattle.mem_net.specs.declared.fate.Fate.TheVariants.{Pass, LoseRequest, LoseReply, Twice, Old, Late, Inject}
-use Rattle.mem_net.specs.Fates.{answered, IsAnswered, IsAnsweredByOld, troubles_after}
+use Rattle.mem_net.specs.Fates.{answered, IsAnswered, IsAnsweredByOld, is_trouble, troubles_after}
 use Rattle.mem_net.specs.Inside.{MovedFree, IsSent, AsksSent, IsDirectlySent, MeetsUnlessMemory}
-use Rattle.mem_net.proofs.Taking.{answer-echoes}
+use Rattle.mem_net.proofs.Taking.{answer-echoes, rose_if}
 
 -- the packet of a number is among the packets
 pub got_in : (xs : List Message) (k : ℕ) (x : Message) → slice_get xs k ≡ Some x → IsIn x xs
@@ -71,7 +71,7 @@ moved_sent m made a b c few asked first second = record {
 
 -- ---- what is noted of an ask
 
-noted_ask : (to : Peer) (address : List ℕ) (m : Message) (answer : Answer) (a b d : World) → MovedBy (Is m) [] a b → d ≡ answered to address m answer b
+pub noted_ask : (to : Peer) (address : List ℕ) (m : Message) (answer : Answer) (a b d : World) → MovedBy (Is m) [] a b → d ≡ answered to address m answer b
     → MovedBy (Is m) (ask_of to address m answer ∷ []) a d
 noted_ask to address m answer a b d moves is =
     let ask = ask_of to address m answer in
@@ -108,7 +108,7 @@ module _ (to : Peer) (address : List ℕ) (m : Message) where
   directly_on a b d (Err e) first then = tt
 
   -- an ask after what was done for it
-  asks_later : (a b d : World) (result : Result (Vec ℕ Global) LinkError) → MovedBy (Is m) [] a b → AsksSent to address m b d result → AsksSent to address m a d result
+  pub asks_later : (a b d : World) (result : Result (Vec ℕ Global) LinkError) → MovedBy (Is m) [] a b → AsksSent to address m b d result → AsksSent to address m a d result
   asks_later a b d (Ok bytes) first then = (then.0, then.1, then.2, then.3, moved_by_then (Is m) [] _ a b d first then.4)
   asks_later a b d (Err LinkFailed) first then = moved_by_then (Is m) [] _ a b d first then
   asks_later a b d (Err LinkMemory) first then =
@@ -180,18 +180,24 @@ module _ (to : Peer) (address : List ℕ) (m : Message) (for : IsForServer m) wh
   asks_once (Inject frame) a d (Ok bytes) among met = absurd met
   asks_once (Inject frame) a d (Err LinkFailed) among met = absurd met
 
-  -- where the troubles did not rise, the answer is the server's
-  pub asks_directly : (fate : Fate) (a d : World) (before : ℕ) (result : Result (Vec ℕ Global) LinkError) → IsIn m a.packets → MeetsUnlessMemory fate to address m a d result
-      → (Rose before (troubles_after fate result before) → ⊥) → IsDirectlySent to address m a d result
-  asks_directly fate a d before (Err e) among met calm = tt
-  asks_directly Pass a d before (Ok bytes) among met calm = direct-answered bytes a d among met
-  asks_directly Twice a d before (Ok bytes) among met calm =
+  -- where the fate is no trouble, the answer is the server's
+  pub asks_directly : (fate : Fate) (a d : World) (result : Result (Vec ℕ Global) LinkError) → IsIn m a.packets → MeetsUnlessMemory fate to address m a d result
+      → is_trouble fate ≡ false → IsDirectlySent to address m a d result
+  asks_directly fate a d (Err e) among met quiet = tt
+  asks_directly Pass a d (Ok bytes) among met quiet = direct-answered bytes a d among met
+  asks_directly Twice a d (Ok bytes) among met quiet =
       directly_later to address m a (delivered m true a) d (Ok bytes) (free_delivered m a for among m) (direct-answered bytes (delivered m true a) d (IsIn-left m a.packets _ among) met)
-  asks_directly LoseRequest a d before (Ok bytes) among met calm = absurd met
-  asks_directly LoseReply a d before (Ok bytes) among met calm = absurd met
-  asks_directly (Old k) a d before (Ok bytes) among met calm = absurd (calm (omega arith))
-  asks_directly (Late k) a d before (Ok bytes) among met calm = absurd met
-  asks_directly (Inject frame) a d before (Ok bytes) among met calm = absurd met
+  asks_directly LoseRequest a d (Ok bytes) among met quiet = absurd met
+  asks_directly LoseReply a d (Ok bytes) among met quiet = absurd met
+  asks_directly (Old k) a d (Ok bytes) among met quiet = absurd (cc)
+  asks_directly (Late k) a d (Ok bytes) among met quiet = absurd met
+  asks_directly (Inject frame) a d (Ok bytes) among met quiet = absurd met
+
+  -- and where the troubles did not rise
+  pub calm_directly : (fate : Fate) (a d : World) (before : ℕ) (result : Result (Vec ℕ Global) LinkError) → IsIn m a.packets → MeetsUnlessMemory fate to address m a d result
+      → (Rose before (troubles_after fate result before) → ⊥) → IsDirectlySent to address m a d result
+  calm_directly fate a d before (Err e) among met calm = tt
+  calm_directly fate a d before (Ok bytes) among met calm = asks_directly fate a d (Ok bytes) among met (rose_if (is_trouble fate) before calm)
 
 -- after a first delivery
 module _ (to : Peer) (address : List ℕ) (m : Message) (a b d : World) (for : IsForServer m) (among : IsIn m a.packets) (is : b ≡ delivered m true a) where

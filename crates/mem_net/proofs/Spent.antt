@@ -1,41 +1,60 @@
 -- What one ask takes of the network, and what it leaves.
-use Rattle.std.proofs.Common.{◌≡◌, inl, inr, ⊎_elim, ℕ, ◌≤◌, Bool, true, false, List, [], ◌∷◌, ◌++◌, take, Result, Ok, Err, Vec, refl, sym, ◌∙◌, ap, arith}
+use Rattle.std.proofs.Common.{◌≡◌, inl, inr, ⊎_elim, ℕ, ◌≤◌, Bool, true, false, List, [], ◌∷◌, ◌++◌, take, Result, Ok, Err, Vec, refl, sym, ◌∙◌, ap, subst, arith, append_assoc}
 use Rattle.std.specs.Prelude.{if◌then◌else◌}
 use Rattle.std.specs.declared.alloc.Global.{Global}
-use Rattle.std.proofs.lemmas.List.{take-append-drop}
+use Rattle.std.proofs.Math.Nat.{le_refl, le_trans}
+use Rattle.std.proofs.lemmas.List.{take-append-drop, append_cancel_left}
 use Rattle.tree_values.specs.Lists.{IsIn}
 use Rattle.wire_frames.specs.declared.message.Message.{Message}
 use Rattle.world_rules.specs.declared.asking.Peer.{Peer}
-use Rattle.world_rules.specs.declared.asking.Peer.TheVariants.{Server, Surrogate}
+use Rattle.world_rules.specs.declared.asking.Peer.TheVariants.{Server}
 use Rattle.world_rules.specs.declared.asking.Ask.{Ask}
-use Rattle.world_rules.specs.declared.asking.Answer.{Answer}
 use Rattle.world_rules.specs.declared.asking.Answer.TheVariants.{Reply, Failed, Memory}
 use Rattle.world_rules.specs.declared.link.LinkError.{LinkError}
 use Rattle.world_rules.specs.declared.link.LinkError.TheVariants.{Failed as LinkFailed, Memory as LinkMemory}
-use Rattle.world_rules.specs.World.{World, Step, happens, happen, Is, MovedBy, Moved}
-use Rattle.world_rules.specs.Asking.{ask_of, AsksOnce}
+use Rattle.world_rules.specs.World.{World, Step, Send, Deliver, Other, Relay, happens, happen, IsAllowed, AreAllowed, Is, MovedBy, Moved}
+use Rattle.world_rules.specs.Asking.{ask_of, AsksOnce, IsDirect}
+use Rattle.world_rules.proofs.Asks.{moved_by_then}
 use Rattle.world_rules.proofs.Runs.{asked_by_step}
 use Rattle.mem_net.specs.declared.fate.Fate.{Fate}
-use Rattle.mem_net.specs.Net.{Net, world_of}
-use Rattle.mem_net.specs.Fates.{decides, is_trouble, deciding, left_after, fate_of, one_more, troubles_after, IsEndOf}
-use Rattle.mem_net.specs.Spending.{Spends}
+use Rattle.mem_net.specs.Net.{Wire, world_of}
+use Rattle.mem_net.specs.Fates.{decides, is_trouble, deciding, left_after, one_more, troubles_after, IsEndOf}
+use Rattle.mem_net.specs.Spending.{IsAny, AreGiven, AreQuiet, Takes, Spends, quiet_front, quiet_behind}
 
 -- ---- the asks that moves note
 
-asks_kept : (steps : List Step) (world : World) → (happen steps world).asks ≡ world.asks
+pub asks_kept : (steps : List Step) (world : World) → (happen steps world).asks ≡ world.asks
 asks_kept [] world = refl
 asks_kept (step ∷ steps) world = asks_kept steps (happens step world) ∙ asked_by_step step world
 
-moved_asks : (P : Message → Type 0) (made : List Ask) (a b : World) → MovedBy P made a b → b.asks ≡ a.asks ++ made
+pub moved_asks : (P : Message → Type 0) (made : List Ask) (a b : World) → MovedBy P made a b → b.asks ≡ a.asks ++ made
 moved_asks P made a b moves = ap (λ (w : World). w.asks) moves.result ∙ ap (λ (asks : List Ask). asks ++ made) (asks_kept moves.steps a)
+
+-- asks that two moves between the same worlds note are the same
+pub one_made : (P Q : Message → Type 0) (made asks : List Ask) (a b : World) → MovedBy P made a b → MovedBy Q asks a b → made ≡ asks
+one_made P Q made asks a b first second = append_cancel_left a.asks made asks (sym (moved_asks P made a b first) ∙ moved_asks Q asks a b second)
+
+-- what one may send another may, too
+allowed_as : (P Q : Message → Type 0) → ((x : Message) → P x → Q x) → (step : Step) (world : World) → IsAllowed P world step → IsAllowed Q world step
+allowed_as P Q also (Send x) world may = also x may
+allowed_as P Q also (Deliver x joins) world may = may
+allowed_as P Q also (Other x) world may = may
+allowed_as P Q also (Relay x) world may = may
+
+all_allowed_as : (P Q : Message → Type 0) → ((x : Message) → P x → Q x) → (steps : List Step) (world : World) → AreAllowed P world steps → AreAllowed Q world steps
+all_allowed_as P Q also [] world may = tt
+all_allowed_as P Q also (step ∷ steps) world may = (allowed_as P Q also step world may.0, all_allowed_as P Q also steps (happens step world) may.1)
+
+pub moved_as : (P Q : Message → Type 0) → ((x : Message) → P x → Q x) → (made : List Ask) (old new : World) → MovedBy P made old new → MovedBy Q made old new
+moved_as P Q also made old new moved = record { steps = moved.steps; allowed = all_allowed_as P Q also moved.steps old moved.allowed; result = moved.result }
 
 -- ---- the fates up to the one that decides
 
-abbrev taken_of : List Fate → List Fate
+abbrev pub taken_of : List Fate → List Fate
 taken_of [] = []
 taken_of (fate ∷ fates) = fate ∷ (if decides fate then [] else taken_of fates)
 
-taken_left : (fates : List Fate) → fates ≡ taken_of fates ++ left_after fates
+pub taken_left : (fates : List Fate) → fates ≡ taken_of fates ++ left_after fates
 taken_left [] = refl
 taken_left (fate ∷ fates) = by (decides fate) (taken_left fates)
   where
@@ -43,57 +62,107 @@ taken_left (fate ∷ fates) = by (decides fate) (taken_left fates)
     by true rest = refl
     by false rest = ap (λ (l : List Fate). fate ∷ l) rest
 
+pub takes_left : (old new : Wire) → new.fates ≡ left_after old.fates → old.fates ≡ taken_of old.fates ++ new.fates
+takes_left old new left = taken_left old.fates ∙ ap (λ (l : List Fate). taken_of old.fates ++ l) (sym left)
+
 -- without a trouble among them the one that decides is none
-quiet_deciding : (fates : List Fate) → ((fate : Fate) → IsIn fate (taken_of fates) → is_trouble fate ≡ false) → is_trouble (deciding fates) ≡ false
+pub quiet_deciding : (fates : List Fate) → AreQuiet (taken_of fates) → is_trouble (deciding fates) ≡ false
 quiet_deciding [] quiet = refl
 quiet_deciding (first ∷ fates) quiet = by (decides first) (quiet first (inl refl)) (λ fate among. quiet fate (inr among)) (quiet_deciding fates)
   where
     by : (b : Bool) → is_trouble first ≡ false → ((fate : Fate) → IsIn fate (if b then [] else taken_of fates) → is_trouble fate ≡ false)
-        → (((fate : Fate) → IsIn fate (taken_of fates) → is_trouble fate ≡ false) → is_trouble (deciding fates) ≡ false) → is_trouble (if b then first else deciding fates) ≡ false
+        → (AreQuiet (taken_of fates) → is_trouble (deciding fates) ≡ false) → is_trouble (if b then first else deciding fates) ≡ false
     by true here later rest = here
     by false here later rest = rest later
 
-quiet_troubles : (to : Peer) (fates : List Fate) (troubles : ℕ) → to ≡ Server → is_trouble (deciding fates) ≡ false → (if is_trouble (fate_of to fates) then one_more troubles else troubles) ≡ troubles
-quiet_troubles Server fates troubles is quiet = ap (λ (b : Bool). if b then one_more troubles else troubles) quiet
-quiet_troubles Surrogate fates troubles is quiet = absurd (cc)
+-- without a trouble nothing is counted, nor where memory ran out
+pub quiet_after : (fate : Fate) (result : Result (Vec ℕ Global) LinkError) (troubles : ℕ) → is_trouble fate ≡ false → troubles_after fate result troubles ≡ troubles
+quiet_after fate (Ok bytes) troubles quiet = ap (λ (b : Bool). if b then one_more troubles else troubles) quiet
+quiet_after fate (Err LinkFailed) troubles quiet = ap (λ (b : Bool). if b then one_more troubles else troubles) quiet
+quiet_after fate (Err LinkMemory) troubles quiet = refl
+
+pub want_after : (fate : Fate) (result : Result (Vec ℕ Global) LinkError) (troubles : ℕ) → result ≡ Err LinkMemory → troubles_after fate result troubles ≡ troubles
+want_after fate result troubles want = ap (λ (r : Result (Vec ℕ Global) LinkError). troubles_after fate r troubles) want
+
+-- ---- fates in a row
+
+pub takes_none : (fates : List Fate) (troubles : ℕ) → Takes fates fates troubles troubles
+takes_none fates troubles = record { taken = []; split = refl; later = le_refl troubles; calm = λ quiet. refl }
+
+pub takes_then : (a b d : List Fate) (x y z : ℕ) → Takes a b x y → Takes b d y z → Takes a d x z
+takes_then a b d x y z first second = record {
+  taken = first.taken ++ second.taken;
+  split = first.split ∙ ap (λ (l : List Fate). first.taken ++ l) second.split ∙ sym (append_assoc first.taken second.taken d);
+  later = le_trans first.later second.later;
+  calm = λ quiet. second.calm (quiet_behind first.taken second.taken quiet) ∙ first.calm (quiet_front first.taken second.taken quiet);
+}
 
 -- ---- one ask
 
 -- memory was wanted before a fate decided it
-pub spent_in_want : (P : Message → Type 0) (made : List Ask) (old new : Net) → MovedBy P made (world_of old) (world_of new) → IsEndOf new.fates old.fates → new.troubles ≡ old.troubles → Spends old new
-spent_in_want P made old new moves end same = record {
-  made = made;
-  asked = moved_asks P made (world_of old) (world_of new) moves;
+pub spent_in_want : (m : Message) (old new : Wire) → MovedBy (Is m) [] (world_of old) (world_of new) → Takes old.fates new.fates old.troubles new.troubles → Spends old new
+spent_in_want m old new moves takes = record {
+  made = [];
+  moved = moved_as (Is m) IsAny (λ x is. tt) [] (world_of old) (world_of new) moves;
+  taken = takes.taken;
+  split = takes.split;
+  later = takes.later;
+  calm = λ quiet served. (takes.calm quiet, tt);
+}
+
+-- the fates that are no longer there were taken
+pub takes_end : (old new : Wire) → IsEndOf new.fates old.fates → new.troubles ≡ old.troubles → Takes old.fates new.fates old.troubles new.troubles
+takes_end old new end same = record {
   taken = take end.0 old.fates;
   split = sym (take-append-drop end.0 old.fates) ∙ ap (λ (l : List Fate). take end.0 old.fates ++ l) (sym end.1);
   later = omega (arith, same);
-  calm = λ quiet served. same;
+  calm = λ quiet. same;
 }
 
-module _ (to : Peer) (address : List ℕ) (m : Message) (old new : Net) (left : new.fates ≡ left_after old.fates) (later : old.troubles ≤ new.troubles) where
-  -- the fate that decides it was met
+-- the server's own answer at a moment of an ask
+given_once : (to : Peer) (address : List ℕ) (m reply : Message) (bytes : Vec ℕ Global) (a b : World) → MovedBy (Is m) (ask_of to address m (Reply reply) ∷ []) a b
+    → IsDirect {E = LinkError} to address m a b (Ok bytes) → AreGiven (ask_of to address m (Reply reply) ∷ []) a b
+given_once to address m reply bytes a b moves direct =
+    let fresh = direct.2 in
+    let here = ask_of to address m (Reply direct.0) ∷ [] in
+    let there = ask_of to address m (Reply reply) ∷ [] in
+    let same : here ≡ there = one_made (Is m) (Is m) here there a b (moved_by_then (Is m) [] here a fresh.moment b fresh.before fresh.after) moves in
+    subst (λ (asks : List Ask). AreGiven asks a b) same (
+      record {
+        moment = fresh.moment;
+        earlier = [];
+        later = here;
+        before = moved_as (Is m) IsAny (λ x is. tt) [] a fresh.moment fresh.before;
+        after = moved_as (Is m) IsAny (λ x is. tt) here fresh.moment b fresh.after;
+        is = fresh.is;
+      },
+      tt,
+    )
+
+module _ (to : Peer) (address : List ℕ) (m : Message) (old new : Wire) (taken : List Fate) (split : old.fates ≡ taken ++ new.fates) (later : old.troubles ≤ new.troubles) where
   spent_by : (made : List Ask) → Moved m made (world_of old) (world_of new)
-      → (((fate : Fate) → IsIn fate (taken_of old.fates) → is_trouble fate ≡ false) → ((ask : Ask) → IsIn ask made → ask.to ≡ Server) → new.troubles ≡ old.troubles) → Spends old new
+      → (AreQuiet taken → ((ask : Ask) → IsIn ask made → ask.to ≡ Server) → (new.troubles ≡ old.troubles) × AreGiven made (world_of old) (world_of new)) → Spends old new
   spent_by made moved calm = record {
     made = made;
-    asked = moved_asks (Is m) made (world_of old) (world_of new) moved.moves;
-    taken = taken_of old.fates;
-    split = taken_left old.fates ∙ ap (λ (l : List Fate). taken_of old.fates ++ l) (sym left);
+    moved = moved_as (Is m) IsAny (λ x is. tt) made (world_of old) (world_of new) moved.moves;
+    taken = taken;
+    split = split;
     later = later;
     calm = calm;
   }
 
-  -- it was answered or failed
-  spent_one : (answer : Answer) → Moved m (ask_of to address m answer ∷ []) (world_of old) (world_of new)
-      → new.troubles ≡ (if is_trouble (fate_of to old.fates) then one_more old.troubles else old.troubles) → Spends old new
-  spent_one answer moved counted =
-      spent_by (ask_of to address m answer ∷ []) moved
-      (λ quiet served. counted ∙ quiet_troubles to old.fates old.troubles (served (ask_of to address m answer) (inl refl)) (quiet_deciding old.fates quiet))
-
+  -- what an ask may do, where nothing is counted without a trouble, and the server's answer is its own then
   pub spent : (result : Result (Vec ℕ Global) LinkError) → AsksOnce to address m (world_of old) (world_of new) result
-      → new.troubles ≡ troubles_after (fate_of to old.fates) result old.troubles → Spends old new
-  spent (Ok bytes) once counted = spent_one (Reply once.0) once.4 counted
-  spent (Err LinkFailed) once counted = spent_one Failed once counted
-  spent (Err LinkMemory) once counted =
-      ⊎_elim (λ (one : Moved m (ask_of to address m Memory ∷ []) (world_of old) (world_of new)). spent_by (ask_of to address m Memory ∷ []) one (λ quiet served. counted))
-      (λ (none : Moved m [] (world_of old) (world_of new)). spent_by [] none (λ quiet served. counted)) once
+      → (AreQuiet taken → result ≡ Err LinkMemory → new.troubles ≡ old.troubles)
+      → (AreQuiet taken → to ≡ Server → (new.troubles ≡ old.troubles) × IsDirect to address m (world_of old) (world_of new) result) → Spends old new
+  spent (Ok bytes) once want calm =
+      spent_by (ask_of to address m (Reply once.0) ∷ []) once.4
+      (λ quiet served.
+      let is = calm quiet (served (ask_of to address m (Reply once.0)) (inl refl)) in
+      (is.0, given_once to address m once.0 bytes (world_of old) (world_of new) once.4.moves is.1))
+  spent (Err LinkFailed) once want calm =
+      spent_by (ask_of to address m Failed ∷ []) once (λ quiet served. ((calm quiet (served (ask_of to address m Failed) (inl refl))).0, (tt, tt)))
+  spent (Err LinkMemory) once want calm =
+      ⊎_elim
+      (λ (one : Moved m (ask_of to address m Memory ∷ []) (world_of old) (world_of new)). spent_by (ask_of to address m Memory ∷ []) one (λ quiet served. (want quiet refl, (tt, tt))))
+      (λ (none : Moved m [] (world_of old) (world_of new)). spent_by [] none (λ quiet served. (want quiet refl, tt))) once

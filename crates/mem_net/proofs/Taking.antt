@@ -1,6 +1,8 @@
 -- What the server's numbers tell of the store that it was given, and how its answer fits the request.
 use Rattle.std.proofs.Common.{◌≡◌, ◌≢◌, ℕ, ◌<◌, Bool, true, false, List, [], ◌∷◌, ◌++◌, length, take, Option, Result, refl, ap, subst, arith}
 use Rattle.std.specs.Prelude.{if◌then◌else◌}
+use Rattle.outside.specs.Outside.{Rose}
+use Rattle.outside.specs.Memory.{one_more}
 use Rattle.byte_fields.proofs.Facts.{eq_itself, not_le_of}
 use Rattle.tree_values.specs.Tree.{Volume}
 use Rattle.tree_values.specs.Effects.{Conflict, apply_all, first_conflict}
@@ -87,6 +89,11 @@ for_server to asked read is same request =
 pub not_the_server : Surrogate ≡ Server → ⊥
 not_the_server is = absurd (cc)
 
-pub take_front : (xs ys : List Message) → take (length xs) (xs ++ ys) ≡ xs
+pub take_front : {X : Type 0} (xs ys : List X) → take (length xs) (xs ++ ys) ≡ xs
 take_front [] ys = refl
-take_front (x ∷ xs) ys = ap (λ (l : List Message). x ∷ l) (take_front xs ys)
+take_front {X} (x ∷ xs) ys = ap (λ (l : List X). x ∷ l) (take_front xs ys)
+
+-- where the count did not rise nothing was counted
+pub rose_if : (b : Bool) (before : ℕ) → (Rose before (if b then one_more before else before) → ⊥) → b ≡ false
+rose_if true before calm = absurd (calm (omega arith))
+rose_if false before calm = refl

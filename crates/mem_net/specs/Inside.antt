@@ -1,5 +1,5 @@
 -- Words that only contracts inside the network in memory cite.
-use Rattle.std.specs.Prelude.{◌≡◌, ◌⊎◌, ℕ, ◌≤◌, Bool, true, false, List, [], ◌∷◌, Option, Some, None, Result, Ok, Err, Vec, if◌then◌else◌}
+use Rattle.std.specs.Prelude.{◌≡◌, ◌⊎◌, ℕ, ◌+◌, ◌≤◌, Bool, true, false, List, [], ◌∷◌, ◌++◌, Option, Some, None, Result, Ok, Err, Vec, if◌then◌else◌}
 use Rattle.std.specs.declared.alloc.Global.{Global}
 use Rattle.wire_frames.specs.declared.message.Message.{Message}
 use Rattle.wire_frames.specs.declared.message.Message.TheVariants.{Store}
@@ -14,8 +14,10 @@ use Rattle.world_rules.specs.Served.{answer}
 use Rattle.world_rules.specs.World.{World, Is, MovedBy, sendings}
 use Rattle.world_rules.specs.Asking.{ask_of}
 use Rattle.mem_net.specs.declared.fate.Fate.{Fate}
-use Rattle.mem_net.specs.Net.{Net, world_of}
-use Rattle.mem_net.specs.Fates.{decides, deciding, left_after, at_decision, IsEndOf, MeetsFate}
+use Rattle.mem_net.specs.Net.{Wire, world_of}
+use Rattle.mem_net.specs.Fates.{decides, is_trouble, deciding, left_after, at_decision, IsEndOf, MeetsFate}
+use Rattle.mem_net.specs.Spending.{AreQuiet, Takes}
+use Rattle.mem_net.specs.Scenes.{Scene, Reaches}
 
 -- the world moved by steps that may come while any request is asked
 abbrev pub MovedFree : World → World → Type 0
@@ -47,7 +49,7 @@ IsDirectlySent to address request old new (Ok frame) = (reply : Message) × Spel
 IsDirectlySent to address request old new (Err error) = Unit {0}
 
 -- the fates and the troubles are as before
-abbrev pub KeepsFates : Net → Net → Type 0
+abbrev pub KeepsFates : Wire → Wire → Type 0
 KeepsFates old new = (new.fates ≡ old.fates) × (new.troubles ≡ old.troubles)
 
 -- the fate, where it decides
@@ -60,7 +62,7 @@ MeetsUnlessMemory fate to address request old new (Err Memory) = AsksSent to add
 MeetsUnlessMemory fate to address request old new result = MeetsFate fate to address request old new result
 
 -- The ask is to be decided as before, after fates that decide nothing.
-pub record Awaits (old new : Net) : Type 0 where
+pub record Awaits (old new : Wire) : Type 0 where
   pub fate : deciding new.fates ≡ deciding old.fates
   pub left : left_after new.fates ≡ left_after old.fates
   pub reached : at_decision new.fates (world_of new) ≡ at_decision old.fates (world_of old)
@@ -71,3 +73,28 @@ pub record Awaits (old new : Net) : Type 0 where
 abbrev pub is_store : Message → Bool
 is_store (Store client number effects base) = true
 is_store _ = false
+
+-- ---- beside a surrogate
+
+-- what goes on while a request is not yet answered: moves of no client's own, and fates from the front
+pub record GoesFree (old new : Wire) : Type 0 where
+  pub moved : MovedFree (world_of old) (world_of new)
+  pub takes : Takes old.fates new.fates old.troubles new.troubles
+
+-- the first of the fates, where there is one, decides no ask
+abbrev pub FrontWaits : List Fate → Type 0
+FrontWaits fates = (first : Fate) (rest : List Fate) → fates ≡ first ∷ rest → decides first ≡ false
+
+-- Fates that decide nothing happened: whatever is reached from here is reached from before.
+pub record Nears (start now : Scene) (old new : Wire) : Type 0 where
+  pub steps : ℕ
+  pub reaches : (count : ℕ) (fate : Fate) (reached : Scene) → Reaches count now fate reached → Reaches (steps + count) start fate reached
+  pub goes : GoesFree old new
+  pub front : (new.fates ≡ old.fates) ⊎ FrontWaits old.fates
+
+-- Fates were taken from the front while this fate was met. Where it is no trouble, and none of them is, none was counted.
+pub record TakesBeside (fate : Fate) (fates left : List Fate) (troubles now : ℕ) : Type 0 where
+  pub taken : List Fate
+  pub split : fates ≡ taken ++ left
+  pub later : troubles ≤ now
+  pub calm : is_trouble fate ≡ false → AreQuiet taken → now ≡ troubles

@@ -1,4 +1,4 @@
--- The network in memory, as contracts see it.
+-- The network in memory without its surrogate, as contracts see it.
 use Rattle.std.specs.Prelude.{ℕ, List, []}
 use Rattle.wire_frames.specs.declared.message.Message.{Message}
 use Rattle.world_rules.specs.declared.asking.Ask.{Ask}
@@ -8,7 +8,7 @@ use Rattle.server_core.specs.Holding.{Holding, served}
 use Rattle.mem_net.specs.declared.fate.Fate.{Fate}
 
 -- The client, the server, and what stands between them. The world about the client is `world_of` it.
-pub record Net : Type 0 where
+pub record Wire : Type 0 where
   pub client : ℕ
   -- what the server held when the network was made
   pub opening : Holding
@@ -21,14 +21,14 @@ pub record Net : Type 0 where
   pub troubles : ℕ
 
 -- the world that the network tells
-abbrev pub world_of : Net → World
-world_of net = record {
-  client = net.client;
-  opening = served net.opening;
-  taken = net.taken;
-  served = served net.server;
-  packets = net.packets;
-  asks = net.asks;
+abbrev pub world_of : Wire → World
+world_of wires = record {
+  client = wires.client;
+  opening = served wires.opening;
+  taken = wires.taken;
+  served = served wires.server;
+  packets = wires.packets;
+  asks = wires.asks;
 }
 
 -- the world of a client in which a server begins with this, and nothing was sent

@@ -1,11 +1,13 @@
-//! A network in memory: one client, one server, and the messages between them, which it loses, repeats, delays and
-//! injects as a list of fates says.
+//! A network in memory: one client, one server, one surrogate, and the messages between them, which it loses, repeats,
+//! delays and injects as a list of fates says.
 #![tactic(auto)]
 
 mod fate;
 mod laws;
 mod net;
 mod packet;
+mod parts;
+mod wires;
 
 pub use fate::Fate;
 pub use laws::new_networks_are_in_step;

@@ -2,7 +2,8 @@
 ghost use Rattle.std.specs.Prelude.{◌↔◌, IsTrue};
 ghost use Rattle.world_rules.specs.World.{IsForServer};
 
-use mem_net::{Fate, MemNet};
+use mem_net::Fate;
+use run_probe::{Network, network};
 use server_core::Server;
 use std::alloc::{AllocError, Global};
 use std::test::Fail;
@@ -69,7 +70,7 @@ fn is_request(message: &Message) -> bool
 }
 
 /// Asks the server, where the bytes are the frame of a request.
-fn ask(net: &mut MemNet, alloc: Global, bytes: &[u8]) -> Result<Vec<u8>, LinkError> {
+fn ask(net: &mut Network, alloc: Global, bytes: &[u8]) -> Result<Vec<u8>, LinkError> {
     match read(alloc, bytes) {
         Ok(message) => {
             let is_request = is_request(&message);
@@ -88,7 +89,7 @@ fn ask(net: &mut MemNet, alloc: Global, bytes: &[u8]) -> Result<Vec<u8>, LinkErr
 }
 
 /// The same up to eight times.
-fn ask_again(net: &mut MemNet, alloc: Global, bytes: &[u8]) -> Result<Vec<u8>, AskError> {
+fn ask_again(net: &mut Network, alloc: Global, bytes: &[u8]) -> Result<Vec<u8>, AskError> {
     match read(alloc, bytes) {
         Ok(message) => {
             let is_request = is_request(&message);
@@ -118,13 +119,13 @@ fn joined(alloc: Global, parts: &[&[u8]]) -> Result<Vec<u8>, AllocError> {
 /// What asks come to, one after the other, over these fates: each reply or that the ask failed, every packet that was sent, and
 /// the troubles, fewer than 256.
 fn told(alloc: Global, fates: Vec<Fate>, frames: &[&[u8]]) -> Result<Vec<u8>, AllocError> {
-    let mut net = MemNet::new(alloc, 1, Server::new(alloc), fates)?;
+    let mut net = network(alloc, Server::new(alloc), Vec::new(alloc), fates)?;
     let told = told_by(alloc, &mut net, frames);
     drop(net);
     told
 }
 
-fn told_by(alloc: Global, net: &mut MemNet, frames: &[&[u8]]) -> Result<Vec<u8>, AllocError> {
+fn told_by(alloc: Global, net: &mut Network, frames: &[&[u8]]) -> Result<Vec<u8>, AllocError> {
     let mut told = Vec::new(alloc);
     for frame in frames {
         match ask(net, alloc, frame) {
@@ -137,7 +138,7 @@ fn told_by(alloc: Global, net: &mut MemNet, frames: &[&[u8]]) -> Result<Vec<u8>,
     Ok(told)
 }
 
-fn write_packets(told: &mut Vec<u8>, net: &MemNet) -> Result<(), AllocError> {
+fn write_packets(told: &mut Vec<u8>, net: &Network) -> Result<(), AllocError> {
     told.extend_from_slice(SENT)?;
     for k in 0..u32::MAX {
         let Some(frame) = net.packet(k) else {
@@ -252,13 +253,13 @@ fn told_of_eight(alloc: Global, lost: u32) -> Result<Vec<u8>, AllocError> {
     for _ in 0..lost {
         fates.push(Fate::LoseRequest)?;
     }
-    let mut net = MemNet::new(alloc, 1, Server::new(alloc), fates)?;
+    let mut net = network(alloc, Server::new(alloc), Vec::new(alloc), fates)?;
     let told = settled(alloc, &mut net);
     drop(net);
     told
 }
 
-fn settled(alloc: Global, net: &mut MemNet) -> Result<Vec<u8>, AllocError> {
+fn settled(alloc: Global, net: &mut Network) -> Result<Vec<u8>, AllocError> {
     let mut told = Vec::new(alloc);
     match ask_again(net, alloc, STORE) {
         Ok(reply) => told.extend_from_slice(&reply)?,

@@ -1,9 +1,10 @@
 // Runs of the client, one after the other, over what stays outside it.
 
 use crate::account::{account_of_network, rows_of_server, write_text};
+use crate::network::{Network, network};
 use client_prog::client_run;
 use cmd_capture::{ScriptAnswer, ScriptRunner};
-use mem_net::{Fate, MemNet};
+use mem_net::Fate;
 use outside::{Keeper, MemKeeper, MemSink, MemSource};
 use server_core::Server;
 use std::alloc::{AllocError, Global};
@@ -13,13 +14,13 @@ use vol_tree::TryCopy;
 const IMAGE: &[u8] = b"image";
 
 /// What lies outside client 1 and stays there between its runs: what it keeps, what runs its commands, and the network to its
-/// server.
+/// server and its surrogate.
 #[derive(Drop)]
 pub struct Probe {
     alloc: Global,
     keeper: MemKeeper,
     runner: ScriptRunner,
-    net: MemNet,
+    net: Network,
 }
 
 /// The calls of one run's source and sink that fail, each counted from 0.
@@ -53,14 +54,29 @@ impl Probe {
         server: Server,
         fates: Vec<Fate>,
     ) -> Result<Probe, AllocError> {
-        let net = MemNet::new(alloc, 1, server, fates)?;
-        let runner = ScriptRunner::new(alloc, Vec::new(alloc));
-        Ok(Probe {
+        let net = network(alloc, server, Vec::new(alloc), fates)?;
+        Ok(Probe::over(alloc, keeper, net))
+    }
+
+    /// The same with a network.
+    pub fn over(alloc: Global, keeper: MemKeeper, net: Network) -> Probe {
+        Probe {
             alloc,
             keeper,
-            runner,
+            runner: ScriptRunner::new(alloc, Vec::new(alloc)),
             net,
-        })
+        }
+    }
+
+    /// Nothing is kept, the server is new, and the surrogate's runs come to these answers.
+    pub fn beside(
+        alloc: Global,
+        answers: Vec<ScriptAnswer>,
+        fates: Vec<Fate>,
+    ) -> Result<Probe, AllocError> {
+        let net = network(alloc, Server::new(alloc), answers, fates)?;
+        let keeper = MemKeeper::new(alloc, Vec::new(alloc));
+        Ok(Probe::over(alloc, keeper, net))
     }
 
     /// Nothing is kept, the server is new, and nothing fails or is lost.
@@ -115,6 +131,12 @@ impl Probe {
         self.run_by(&words, input, fails)
     }
 
+    /// What client 1 tells over this input that ships operations to its surrogate.
+    pub fn run_shipping(&mut self, input: &[u8]) -> Result<Vec<u8>, AllocError> {
+        let words = words_by(self.alloc, "1", "surrogate")?;
+        self.run_by(&words, input, Fails::none(self.alloc))
+    }
+
     /// What a client tells that is started by these words: what it writes, and its status in a line behind.
     pub fn run_by(
         &mut self,
@@ -163,8 +185,13 @@ fn keeper_of(alloc: Global, image: &[u8]) -> Result<MemKeeper, AllocError> {
 
 /// The words `run NUMBER image server - work`.
 pub fn words_of(alloc: Global, number: &str) -> Result<Vec<String>, AllocError> {
+    words_by(alloc, number, "-")
+}
+
+/// The words `run NUMBER image server SURROGATE work`.
+fn words_by(alloc: Global, number: &str, surrogate: &str) -> Result<Vec<String>, AllocError> {
     let mut words = Vec::new(alloc);
-    for word in ["run", number, "image", "server", "-", "work"] {
+    for word in ["run", number, "image", "server", surrogate, "work"] {
         words.push(String::from_str(alloc, word)?)?;
     }
     Ok(words)

@@ -2,7 +2,11 @@
 #![tactic(auto)]
 
 #[cfg(test)]
+mod asked;
+#[cfg(test)]
 mod bytes;
+#[cfg(test)]
+mod network;
 #[cfg(test)]
 mod repairs;
 #[cfg(test)]

@@ -2,8 +2,8 @@
 //! computed the prints and the parities.
 
 use super::bytes::bytes_of;
+use super::network::{Network, network_of};
 use cmd_capture::{Outcome, RawRow, RawRows, ScriptAnswer, ScriptRunner};
-use mem_net::MemNet;
 use server_core::Server;
 use std::alloc::{AllocError, Global};
 use std::rt::HostRuntime;
@@ -57,7 +57,7 @@ fn left(alloc: Global, files: &[(&str, &[u8])]) -> Result<ScriptRunner, AllocErr
 }
 
 /// The bytes of the file that the server of the network has at the path; none where it has no file there.
-fn held(alloc: Global, net: &MemNet, name: &str) -> Result<Vec<u8>, Fail> {
+fn held(alloc: Global, net: &Network, name: &str) -> Result<Vec<u8>, Fail> {
     let path = Path::read(alloc, name.as_bytes())?;
     let mut bytes = Vec::new(alloc);
     if let Some(Node::File(content)) = net.server().tree().get(&path) {
@@ -71,7 +71,7 @@ fn answer(
     alloc: Global,
     frame: &str,
     runner: &mut ScriptRunner,
-    net: &mut MemNet,
+    net: &mut Network,
 ) -> Result<Vec<u8>, Fail> {
     let frame = bytes_of(alloc, frame)?;
     let Ok(request) = read(alloc, &frame) else {
@@ -96,7 +96,7 @@ fn is_answered(
     bytes: &[u8],
 ) -> Result<bool, Fail> {
     let mut runner = left(alloc, files)?;
-    let mut net = MemNet::new(alloc, 1, Server::new(alloc), Vec::new(alloc))?;
+    let mut net = network_of(alloc, Server::new(alloc), Vec::new(alloc))?;
     let seen = answer(alloc, frame, &mut runner, &mut net)?;
     let wanted = bytes_of(alloc, reply)?;
     Ok(seen == wanted && held(alloc, &net, name)?.as_slice() == bytes)

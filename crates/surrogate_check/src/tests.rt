@@ -1,8 +1,9 @@
 //! Operations, and what a surrogate with an empty copy answers to them. A program in Python computed the prints.
 
 use super::bytes::bytes_of;
+use super::network::{Network, network_of};
 use cmd_capture::{Outcome, RawRow, RawRows, ScriptAnswer, ScriptRunner};
-use mem_net::{Fate, MemNet};
+use mem_net::Fate;
 use server_core::Server;
 use std::alloc::{AllocError, Global};
 use std::rt::HostRuntime;
@@ -12,7 +13,7 @@ use vol_tree::{Content, Node};
 use wire_frames::{Message, read, write};
 
 /// The print of the job of the command below where nothing is.
-const EMPTY: &str = "47b25015cacef0a00916503e0291b98562730a638020e5a4084708e5b36e350f";
+pub(crate) const EMPTY: &str = "47b25015cacef0a00916503e0291b98562730a638020e5a4084708e5b36e350f";
 
 /// The same where the file `a` has `z` and a line end.
 const WITH_A: &str = "4d0a09e5f86c5e5b0bb8797d62270f70a3aa211948eba312fef77c30d612fb6e";
@@ -30,10 +31,10 @@ const PUT_A: &str =
     "00000028 01 01 02 0000000000000001 00000001 02 000161 00000002 7a0a 00000001 000161 0000000000000000";
 
 /// Client 1 asks for all rows.
-const PULL: &str = "0000000b 01 03 01 0000000000000000";
+pub(crate) const PULL: &str = "0000000b 01 03 01 0000000000000000";
 
 /// Client 1's entry 1 as an operation, whose job has this print, on this version of `a`.
-fn operation(alloc: Global, print: &str, version: u8) -> Result<Vec<u8>, AllocError> {
+pub(crate) fn operation(alloc: Global, print: &str, version: u8) -> Result<Vec<u8>, AllocError> {
     let head = "000000d4 01 02 01 0000000000000001";
     let parity = [0; 64];
     let mut frame = bytes_of(alloc, head)?;
@@ -48,7 +49,7 @@ fn operation(alloc: Global, print: &str, version: u8) -> Result<Vec<u8>, AllocEr
 }
 
 /// A run that ended with the status, and left a file `a` of this content.
-fn left(alloc: Global, status: u8, content: &[u8]) -> Result<ScriptAnswer, AllocError> {
+pub(crate) fn left(alloc: Global, status: u8, content: &[u8]) -> Result<ScriptAnswer, AllocError> {
     let path = Content::of(alloc, b"a")?;
     let node = Node::File(Content::of(alloc, content)?);
     let mut rows = RawRows::new(alloc);
@@ -64,7 +65,7 @@ fn script(alloc: Global, answer: ScriptAnswer) -> Result<ScriptRunner, AllocErro
 }
 
 /// The network of client 1 and a server that took this frame, where so many requests are lost.
-fn network(alloc: Global, taken: &str, lost: u32) -> Result<MemNet, AllocError> {
+fn network(alloc: Global, taken: &str, lost: u32) -> Result<Network, AllocError> {
     let mut server = Server::new(alloc);
     let bytes = bytes_of(alloc, taken)?;
     drop(server.serve_frame(&bytes)?);
@@ -72,7 +73,7 @@ fn network(alloc: Global, taken: &str, lost: u32) -> Result<MemNet, AllocError> 
     for _ in 0..lost {
         fates.push(Fate::LoseRequest)?;
     }
-    MemNet::new(alloc, 1, server, fates)
+    network_of(alloc, server, fates)
 }
 
 /// The frame of the reply to the frame, and how many rows the copy and the server have then.
@@ -80,7 +81,7 @@ fn shown(
     alloc: Global,
     frame: &[u8],
     runner: &mut ScriptRunner,
-    net: &mut MemNet,
+    net: &mut Network,
 ) -> Result<(Vec<u8>, u32, u32), Fail> {
     let Ok(request) = read(alloc, frame) else {
         return Err(Fail::from("no frame"));

@@ -1,9 +1,0 @@
-use Rattle.std.proofs.Common.{length}
-use Rattle.mem_net.specs.Inside.{Awaits}
-use Rattle.mem_net.proofs.net.MemNet.decide.Given as goal
-
-abbrev pub invariant-loop-fate : goal.invariant-loop-fate
-invariant-loop-fate l = Awaits l.initial.self l.self
-
-abbrev pub decreases-loop-fate : goal.decreases-loop-fate
-decreases-loop-fate l = length l.self.fates
