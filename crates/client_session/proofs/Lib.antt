@@ -2,6 +2,7 @@ pub mod Alike
 pub mod Answered
 pub mod Changing
 pub mod Commanding
+pub mod Contents
 pub mod Counted
 pub mod Doing
 pub mod Found

@@ -1,5 +1,6 @@
 // Laws of sessions.
 ghost use Rattle.client_session.specs.Laws.{SessionsChangeSo, AsksAndRunsMakeSessions, UnrunLinesAreCounted, LinesRunOnce};
+ghost use Rattle.client_session.specs.Contents.{DistinctContentsDoNotCollide, BrokenSessionsDoNotCollide};
 
 /// Law: what a session changes of the log are entries that it logs, acknowledgements of the first pending one and pulls, one
 /// after the other, and its log is what they lead to.
@@ -17,4 +18,11 @@ pub fn asks_and_runs_make_sessions()
 pub fn unrun_lines_are_counted()
     ensures unrun { UnrunLinesAreCounted }
     ensures once { LinesRunOnce }
+{}
+
+/// Law: where no two contents, one of a session and one of the packets, have one print, no content that the client ships as an
+/// operation is taken for another. For an entry of a command writes what its run left.
+pub fn distinct_contents_do_not_collide()
+    ensures whole { DistinctContentsDoNotCollide }
+    ensures broken { BrokenSessionsDoNotCollide }
 {}
