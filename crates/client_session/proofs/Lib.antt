@@ -6,5 +6,6 @@ pub mod Contents
 pub mod Counted
 pub mod Doing
 pub mod Found
+pub mod Peers
 pub mod Settlings
 pub mod Turning

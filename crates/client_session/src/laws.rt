@@ -1,5 +1,5 @@
 // Laws of sessions.
-ghost use Rattle.client_session.specs.Laws.{SessionsChangeSo, AsksAndRunsMakeSessions, UnrunLinesAreCounted, LinesRunOnce};
+ghost use Rattle.client_session.specs.Laws.{SessionsChangeSo, AsksAndRunsMakeSessions, UnrunLinesAreCounted, LinesRunOnce, AsksAreOfTheRoute, BrokenSessionsAskTheRoute};
 ghost use Rattle.client_session.specs.Contents.{DistinctContentsDoNotCollide, BrokenSessionsDoNotCollide};
 
 /// Law: what a session changes of the log are entries that it logs, acknowledgements of the first pending one and pulls, one
@@ -25,4 +25,11 @@ pub fn unrun_lines_are_counted()
 pub fn distinct_contents_do_not_collide()
     ensures whole { DistinctContentsDoNotCollide }
     ensures broken { BrokenSessionsDoNotCollide }
+{}
+
+/// Law: each ask of a session goes to a peer of its route, at that peer's address: to the server, or to the surrogate where there is
+/// one.
+pub fn asks_are_of_the_route()
+    ensures whole { AsksAreOfTheRoute }
+    ensures broken { BrokenSessionsAskTheRoute }
 {}
