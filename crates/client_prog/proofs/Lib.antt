@@ -8,4 +8,5 @@ pub mod RunningInput
 pub mod RunningLeaves
 pub mod RunningLines
 pub mod RunningOpened
+pub mod RunningPeers
 pub mod RunningPieces
