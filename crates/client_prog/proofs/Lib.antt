@@ -3,6 +3,7 @@ pub mod Counting
 pub mod InputReading
 pub mod Quitting
 pub mod RunningAnswers
+pub mod RunningContents
 pub mod RunningEnds
 pub mod RunningInput
 pub mod RunningLeaves
