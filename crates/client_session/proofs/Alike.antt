@@ -1,5 +1,5 @@
 -- The lines, the asks and the runs of a session make all of it.
-use Rattle.std.proofs.Common.{◌≡◌, ◌≢◌, ◌⊎◌, inl, inr, ℕ, zero, suc, ◌<◌, ◌≤◌, Bool, true, false, nat_lt, List, [], ◌∷◌, ◌++◌, length, map, find, Option, None, Some, Result, Ok, Err, refl, sym, ◌∙◌, ap, subst, arith, append_assoc}
+use Rattle.std.proofs.Common.{◌≡◌, ◌≢◌, ◌⊎◌, inl, inr, ℕ, zero, suc, Bool, true, false, nat_lt, List, [], ◌∷◌, ◌++◌, length, map, find, Option, None, Some, Result, Ok, Err, refl, sym, ◌∙◌, ap, subst, arith, append_assoc}
 use Rattle.std.proofs.lemmas.List.{append-nil}
 use Rattle.std.proofs.lemmas.Bool.Decides.{nat_tests}
 use Rattle.std.specs.declared.cmp.Ordering.{Ordering}
@@ -25,7 +25,7 @@ use Rattle.work_area.specs.Outcomes.{IsRowsFault}
 use Rattle.mod_log.specs.declared.log.Entry.{Entry}
 use Rattle.mod_log.specs.declared.log.LogError.{LogError}
 use Rattle.mod_log.specs.declared.sketching.SketchEntry.{SketchEntry}
-use Rattle.mod_log.specs.Log.{Log, tree_of, pulled}
+use Rattle.mod_log.specs.Log.{Log, tree_of}
 use Rattle.mod_log.proofs.Sketches.{one_sketch_of}
 use Rattle.wire_frames.specs.declared.message.Message.{Message}
 use Rattle.wire_frames.specs.declared.message.Message.TheVariants as messages
@@ -80,7 +80,7 @@ module _ (client : ℕ) (route : Route) (entry : Entry) where
   same_due ks bs xs ys (inl p) (inl q) is = (p.1 ∙ sym q.1, sym (ap (λ (l : List Ask). l ++ xs) p.1) ∙ is ∙ ap (λ (l : List Ask). l ++ ys) q.1)
   same_due ks bs xs ys (inl p) (inr q) is = absurd (p.0 q.2.0 q.2.1 q.2.2)
   same_due ks bs xs ys (inr p) (inl q) is = absurd (q.0 p.2.0 p.2.1 p.2.2)
-  same_due ks bs xs ys (inr p) (inr q) is = (same_operation p.0 q.0 ks bs xs ys p.2 q.2 is).1
+  same_due ks bs xs ys (inr p) (inr q) is = let same = same_operation p.0 q.0 ks bs xs ys p.2 q.2 is in (same.1, same.2)
 
   -- an operation that is done leaves no store due
   done_or_due : (came : Option Message) (ks bs xs ys : List Ask) → came ≡ Some (messages.Done client entry.seq) → SettlesOperation client route entry came ks → StoreIsDue client route entry bs → ks ++ xs ≡ bs ++ ys → ⊥

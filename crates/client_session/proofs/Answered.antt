@@ -1,5 +1,5 @@
 -- How the syncs of a session are answered, told from the replies to its asks.
-use Rattle.std.proofs.Common.{◌≡◌, ◌⊎◌, inl, inr, ⊎_elim, ℕ, zero, suc, ◌+◌, ◌-◌, ◌<◌, ◌≤◌, List, [], ◌∷◌, ◌++◌, length, drop, Option, None, Some, Result, Ok, Err, refl, sym, ◌∙◌, ap, subst, arith}
+use Rattle.std.proofs.Common.{◌≡◌, inl, inr, ⊎_elim, ℕ, ◌+◌, ◌-◌, ◌<◌, ◌≤◌, List, [], ◌∷◌, ◌++◌, length, drop, Option, None, Some, Result, Ok, Err, refl, sym, ◌∙◌, ap, subst, arith}
 use Rattle.file_paths.specs.Path.{FilePath, resolved}
 use Rattle.file_paths.specs.declared.path.PathError.{PathError}
 use Rattle.file_paths.specs.declared.path.PathError.TheVariants as paths
@@ -19,14 +19,13 @@ use Rattle.work_area.specs.declared.jobs.JobError.TheVariants as jobs
 use Rattle.mod_log.specs.declared.log.Entry.{Entry}
 use Rattle.mod_log.specs.declared.log.LogError.{LogError}
 use Rattle.mod_log.specs.declared.log.LogError.TheVariants as logs
-use Rattle.mod_log.specs.Log.{Log, IsLog, AreEntriesOf, tree_of, logged, acknowledged, pulled}
+use Rattle.mod_log.specs.Log.{Log, IsLog, AreEntriesOf, tree_of}
 use Rattle.wire_frames.specs.declared.message.Message.{Message}
 use Rattle.wire_frames.specs.declared.message.Message.TheVariants as messages
-use Rattle.wire_frames.specs.Frame.{client_of, Echoes}
 use Rattle.world_rules.specs.declared.asking.Peer.{Peer}
 use Rattle.world_rules.specs.declared.asking.Peer.TheVariants.{Server}
 use Rattle.world_rules.specs.declared.asking.Ask.{Ask}
-use Rattle.world_rules.specs.declared.asking.Answer.TheVariants.{Reply, Failed}
+use Rattle.world_rules.specs.declared.asking.Answer.TheVariants.{Reply}
 use Rattle.world_rules.specs.Asking.{ask_of}
 use Rattle.world_rules.specs.Settling.{failures, failed_asks, IsSettling}
 use Rattle.world_rules.specs.InStep.{IsRefusal}
@@ -37,7 +36,7 @@ use Rattle.client_core.specs.declared.pulling.PullEnd.{PullEnd}
 use Rattle.client_core.specs.declared.pulling.PullEnd.TheVariants as pulls
 use Rattle.client_core.specs.declared.running.RunEnd.{RunEnd}
 use Rattle.client_core.specs.declared.running.RunEnd.TheVariants as runs
-use Rattle.client_core.specs.Trace.{Trace, followed, asking}
+use Rattle.client_core.specs.Trace.{Trace}
 use Rattle.world_rules.proofs.Settled.{failed-append, failed-failures}
 use Rattle.client_core.specs.Syncing.{store_of, IsFirst, Ships, end_by, EndsSync, SyncTurn}
 use Rattle.shell_lang.specs.declared.line.Line.{Line}

@@ -1,5 +1,5 @@
 -- Which peers a session asks.
-use Rattle.std.proofs.Common.{◌≡◌, ◌⊎◌, inl, inr, ⊎_elim, ℕ, zero, suc, List, [], ◌∷◌, ◌++◌, Option, None, Some, Result, Ok, Err, refl, sym, ap, subst}
+use Rattle.std.proofs.Common.{◌≡◌, inl, inr, ⊎_elim, ℕ, zero, suc, List, [], ◌∷◌, ◌++◌, Option, None, Some, Result, Ok, Err, refl, sym, ap, subst}
 use Rattle.tree_values.specs.Lists.{IsIn}
 use Rattle.tree_values.specs.declared.node.Effect.{Effect}
 use Rattle.cmd_capture.specs.declared.command.Command.{Command}
@@ -25,7 +25,7 @@ use Rattle.client_core.specs.declared.pulling.PullEnd.TheVariants as pulls
 use Rattle.client_core.specs.declared.running.RunEnd.{RunEnd}
 use Rattle.client_core.specs.declared.running.RunEnd.TheVariants as runs
 use Rattle.client_core.specs.Trace.{Trace, nothing, followed, asking}
-use Rattle.client_core.specs.Running.{RunTurn, ran_trace}
+use Rattle.client_core.specs.Running.{RunTurn}
 use Rattle.client_core.specs.Logging.{LocalTurn}
 use Rattle.client_core.specs.Syncing.{store_of, SettlesOperation, StoreIsDue, Ships, BreaksShipping, Acknowledges, EndsSync, SyncTurn, BreaksSync}
 use Rattle.client_core.specs.Pulling.{pull_of, pull_change, PullsSnapshot, PullTurn, BreaksPull}
@@ -33,7 +33,7 @@ use Rattle.shell_lang.specs.declared.line.Line.{Line}
 use Rattle.shell_lang.specs.declared.line.Line.TheVariants as lines
 use Rattle.shell_lang.specs.declared.line.LineError.{LineError}
 use Rattle.shell_lang.specs.declared.answer.Answer.{Answer}
-use Rattle.client_session.specs.Session.{SessionState, put_effect, make_effect, remove_effect, move_effect, LogTurn, CommandTurn, LineTurn, Chain, BreaksCommand, BreaksOff, Broken, BreaksChain}
+use Rattle.client_session.specs.Session.{SessionState, put_effect, make_effect, remove_effect, move_effect, LogTurn, CommandTurn, LineTurn, BreaksCommand, BreaksOff, Broken}
 use Rattle.client_session.specs.Laws.{IsOfRoute, AsksAreOfTheRoute, BrokenSessionsAskTheRoute}
 
 module _ (route : Route) where
