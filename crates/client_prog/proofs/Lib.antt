@@ -3,9 +3,11 @@ pub mod Counting
 pub mod InputReading
 pub mod Quitting
 pub mod RunningAnswers
+pub mod RunningContents
 pub mod RunningEnds
 pub mod RunningInput
 pub mod RunningLeaves
 pub mod RunningLines
 pub mod RunningOpened
+pub mod RunningPeers
 pub mod RunningPieces

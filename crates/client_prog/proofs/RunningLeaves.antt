@@ -27,6 +27,7 @@ use Rattle.client_prog.specs.Headline.{Leaves, Around, Ran}
 use Rattle.client_session.proofs.Answered.{log_past}
 use Rattle.client_prog.proofs.RunningAnswers.{unbehind, synced, none_failed, few_unrun, unrun_rose}
 use Rattle.client_prog.proofs.RunningEnds.{run_nothing}
+use Rattle.client_prog.proofs.RunningPeers.{run_peers}
 
 module _ (client : ℕ) (ships : Bool) (entries : List Entry) (asks : List Ask) (start last kept : Log) (old new : World) where
   pub leaves : InStep client start old → Runs client ships entries asks (kept_at start old) (stand last kept new) → HasNoCollision client (start.pending ++ entries) new.packets → Leaves client start last kept entries old new
@@ -81,6 +82,8 @@ module _ (client : ℕ) (route : Route) (start : Log) (around around_now : Aroun
         unrun = unrun_rose answers goes.trace around.runner around_now.runner
             (few_unrun route (opened client start) after kept answers goes.trace around.left around_now.left around.written around_now.written ended goes.turn.1) goes.has_run;
         asked = run_asked client (is_some route.surrogate) goes.trace.entries goes.trace.asks (kept_at start x) (stand after.client.log kept y) goes.runs;
+        peers = λ ask among.
+            run_peers route (opened client start) after kept answers goes.trace ask among around.left around_now.left around.written around_now.written ended goes.turn.1;
         unoperated = λ none now sketched among. operated_before client goes.trace.entries goes.trace.asks (kept_at start x) (stand after.client.log kept y) sketched now.about (by_stores none goes.runs) among;
         apart = λ none now unsent.
             never_collides client goes.trace.entries goes.trace.asks (kept_at start x) (stand after.client.log kept y) (start.pending ++ goes.trace.entries) now.about unsent (by_stores none goes.runs);

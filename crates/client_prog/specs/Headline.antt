@@ -12,6 +12,7 @@ use Rattle.mod_log.specs.declared.sketching.SketchEntry.{SketchEntry}
 use Rattle.wire_frames.specs.declared.message.Message.{Message}
 use Rattle.wire_frames.specs.declared.message.Message.TheVariants.{Operate}
 use Rattle.wire_frames.specs.Frame.{client_of}
+use Rattle.world_rules.specs.declared.asking.Ask.{Ask}
 use Rattle.world_rules.specs.World.{World}
 use Rattle.world_rules.specs.InStep.{InStep, HasNoCollision, HasNoOperation}
 use Rattle.world_rules.specs.Run.{own, stores_between, Spares, IsSameAt}
@@ -24,6 +25,7 @@ use Rattle.client_core.specs.Goes.{Goes}
 use Rattle.shell_lang.specs.declared.answer.Answer.{Answer}
 use Rattle.shell_lang.specs.declared.answer.Answer.TheVariants.{Behind}
 use Rattle.client_session.specs.Session.{SessionState, opened, LeavesPending, is_unrun}
+use Rattle.client_session.specs.Laws.{IsOfRoute}
 use Rattle.client_prog.specs.Run.{RunTurn, status_of}
 
 -- the number of the client's last entry that the server took
@@ -86,6 +88,8 @@ pub record Ran (client : ℕ) (route : Route) (start : Log) (around around_now :
   pub unrun : RoseBy (count_by is_unrun answers) around.runner.faults around_now.runner.faults
   -- the world notes just the asks of the session
   pub asked : new.asks ≡ old.asks ++ goes.trace.asks
+  -- each of them is of the server at its address, or of the surrogate at its address, where there is one
+  pub peers : (ask : Ask) → IsIn ask goes.trace.asks → IsOfRoute route ask
   -- where it has no surrogate it sends no operation: each of its operations among the packets was there before
   pub unoperated : route.surrogate ≡ None → InStep client start old → (sketched : SketchEntry) → IsIn (Operate client sketched) new.packets → IsIn (Operate client sketched) old.packets
   -- so where none was there before, no content that was sent is taken for another

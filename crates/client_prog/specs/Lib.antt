@@ -1,5 +1,6 @@
 pub mod Beginning
 pub mod Composing
+pub mod Contents
 pub mod Headline
 pub mod Input
 pub mod Inside

@@ -1,4 +1,5 @@
 ghost use Rattle.client_prog.specs.Composing.{RunsCompose, StoresNeverCollide, MovesLeave};
+ghost use Rattle.client_prog.specs.Contents.{DistinctContentsNeverCollide, DistinctContentsLeave};
 ghost use Rattle.client_prog.specs.Laws.{QuitIsTheLast, AllCountWithoutQuit};
 
 /// Law: the lines of a session end with the first that quits, and all of them count where none does.
@@ -13,4 +14,11 @@ pub fn runs_compose()
     ensures two { RunsCompose }
     ensures stores { StoresNeverCollide }
     ensures many { MovesLeave }
+{}
+
+/// Law: where no content that a run's operations may stand for has the print of another one among the packets, none that was sent is
+/// taken for another. So a run that began in step leaves what it is to leave.
+pub fn distinct_contents_leave()
+    ensures apart { DistinctContentsNeverCollide }
+    ensures leaves { DistinctContentsLeave }
 {}

@@ -11,7 +11,7 @@ mod words;
 
 pub use beginning::new_sessions_are_in_step;
 pub use input::{InputEnd, MAX_INPUT};
-pub use laws::{runs_compose, sessions_end_with_the_first_quit};
+pub use laws::{distinct_contents_leave, runs_compose, sessions_end_with_the_first_quit};
 pub use opening::Unopened;
 pub use program::{answered, client_main, client_program};
 pub use run::{Stop, client_run};

@@ -380,7 +380,7 @@ fn route_of(alloc: Global, words: &RunWords<'_>) -> Result<Route, AllocError>
 
 /// An address, where there is one.
 fn address(alloc: Global, word: Option<&[u8]>) -> Result<Option<Content>, AllocError>
-    ensures { IfOk result (λ address. address ≡ option_copied word) }
+    ensures { IfOk result (λ address. address ≡ option_copied word.entry) }
 {
     match word {
         Some(address) => Ok(Some(Content::of(alloc, address)?)),

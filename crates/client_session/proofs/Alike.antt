@@ -1,5 +1,5 @@
 -- The lines, the asks and the runs of a session make all of it.
-use Rattle.std.proofs.Common.{◌≡◌, ◌≢◌, ◌⊎◌, inl, inr, ℕ, zero, suc, ◌<◌, ◌≤◌, Bool, true, false, nat_lt, List, [], ◌∷◌, ◌++◌, length, map, find, Option, None, Some, Result, Ok, Err, refl, sym, ◌∙◌, ap, subst, arith, append_assoc}
+use Rattle.std.proofs.Common.{◌≡◌, ◌≢◌, ◌⊎◌, inl, inr, ℕ, zero, suc, Bool, true, false, nat_lt, List, [], ◌∷◌, ◌++◌, length, map, find, Option, None, Some, Result, Ok, Err, refl, sym, ◌∙◌, ap, subst, arith, append_assoc}
 use Rattle.std.proofs.lemmas.List.{append-nil}
 use Rattle.std.proofs.lemmas.Bool.Decides.{nat_tests}
 use Rattle.std.specs.declared.cmp.Ordering.{Ordering}
@@ -24,10 +24,13 @@ use Rattle.work_area.specs.Changes.{clashes, first_path}
 use Rattle.work_area.specs.Outcomes.{IsRowsFault}
 use Rattle.mod_log.specs.declared.log.Entry.{Entry}
 use Rattle.mod_log.specs.declared.log.LogError.{LogError}
-use Rattle.mod_log.specs.Log.{Log, tree_of, pulled}
+use Rattle.mod_log.specs.declared.sketching.SketchEntry.{SketchEntry}
+use Rattle.mod_log.specs.Log.{Log, tree_of}
+use Rattle.mod_log.proofs.Sketches.{one_sketch_of}
 use Rattle.wire_frames.specs.declared.message.Message.{Message}
+use Rattle.wire_frames.specs.declared.message.Message.TheVariants as messages
 use Rattle.wire_frames.specs.declared.message.Message.TheVariants.{Snapshot}
-use Rattle.world_rules.specs.declared.asking.Peer.TheVariants.{Server}
+use Rattle.world_rules.specs.declared.asking.Peer.TheVariants.{Server, Surrogate}
 use Rattle.world_rules.specs.declared.asking.Ask.{Ask}
 use Rattle.world_rules.specs.Settling.{IsSettling}
 use Rattle.client_core.specs.declared.route.Route.{Route}
@@ -39,7 +42,7 @@ use Rattle.client_core.specs.declared.running.RunEnd.TheVariants as runs
 use Rattle.client_core.specs.Trace.{Trace, nothing, followed, asking, changing, logging, running}
 use Rattle.client_core.specs.Running.{IsRunOf, changes_of, first_clash, RanEnd, ran_trace, RunTurn}
 use Rattle.client_core.specs.Logging.{local_entry, LocalTurn}
-use Rattle.client_core.specs.Syncing.{store_of, IsFirst, acknowledged_first, end_by, EntryTurn, Acknowledges, EndsSync, SyncTurn}
+use Rattle.client_core.specs.Syncing.{store_of, IsFirst, IsNotDone, SettlesOperation, StoreIsDue, Ships, acknowledged_first, end_by, EntryTurn, Acknowledges, EndsSync, SyncTurn}
 use Rattle.client_core.specs.Pulling.{pull_of, IsFirstOlder, Meets, pull_change, PullsSnapshot, PullTurn}
 use Rattle.client_core.proofs.Going.{followed-nothing, followed-assoc}
 use Rattle.client_core.proofs.Runs.{ran_alone}
@@ -61,12 +64,46 @@ first_one (e ∷ entries) a b p q = sym p ∙ q
 none_first : (log : Log) (entry : Entry) → log.pending ≡ [] → IsFirst entry log.pending → ⊥
 none_first log entry none first = subst (IsFirst entry) none first
 
+module _ (client : ℕ) (route : Route) (entry : Entry) where
+  -- an entry has one operation, which is settled in one way
+  same_operation : (came other : Option Message) (ks bs xs ys : List Ask) → SettlesOperation client route entry came ks → SettlesOperation client route entry other bs → ks ++ xs ≡ bs ++ ys
+      → (came ≡ other) × (ks ≡ bs) × (xs ≡ ys)
+  same_operation came other ks bs xs ys p q is =
+      let address : q.0 ≡ p.0 = cc (sym q.2.surrogate ∙ p.2.surrogate) in
+      let sketched : q.1 ≡ p.1 = one_sketch_of entry q.1 p.1 q.2.sketch p.2.sketch in
+      let settling : IsSettling Surrogate p.0 (messages.Operate client p.1) other bs =
+      subst (λ (to : List ℕ). IsSettling Surrogate to (messages.Operate client p.1) other bs) address (subst (λ (e : SketchEntry). IsSettling Surrogate q.0 (messages.Operate client e) other bs) sketched q.3) in
+      same_settling Surrogate p.0 (messages.Operate client p.1) came other ks bs xs ys p.3 settling is
+
+  -- what stands before its store is one
+  same_due : (ks bs xs ys : List Ask) → StoreIsDue client route entry ks → StoreIsDue client route entry bs → ks ++ xs ≡ bs ++ ys → (ks ≡ bs) × (xs ≡ ys)
+  same_due ks bs xs ys (inl p) (inl q) is = (p.1 ∙ sym q.1, sym (ap (λ (l : List Ask). l ++ xs) p.1) ∙ is ∙ ap (λ (l : List Ask). l ++ ys) q.1)
+  same_due ks bs xs ys (inl p) (inr q) is = absurd (p.0 q.2.0 q.2.1 q.2.2)
+  same_due ks bs xs ys (inr p) (inl q) is = absurd (q.0 p.2.0 p.2.1 p.2.2)
+  same_due ks bs xs ys (inr p) (inr q) is = let same = same_operation p.0 q.0 ks bs xs ys p.2 q.2 is in (same.1, same.2)
+
+  -- an operation that is done leaves no store due
+  done_or_due : (came : Option Message) (ks bs xs ys : List Ask) → came ≡ Some (messages.Done client entry.seq) → SettlesOperation client route entry came ks → StoreIsDue client route entry bs → ks ++ xs ≡ bs ++ ys → ⊥
+  done_or_due came ks bs xs ys done p (inl q) is = q.0 p.0 p.1 p.2
+  done_or_due came ks bs xs ys done p (inr q) is = let same = same_operation came q.0 ks bs xs ys p q.2 is in subst IsNotDone (sym same.0 ∙ done) q.1
+
+  same_shipping : (came other : Option Message) (ks bs xs ys : List Ask) → Ships client route entry came ks → Ships client route entry other bs → ks ++ xs ≡ bs ++ ys → (came ≡ other) × (ks ≡ bs) × (xs ≡ ys)
+  same_shipping came other ks bs xs ys (inl p) (inl q) is = same_operation came other ks bs xs ys p.1 q.1 is
+  same_shipping came other ks bs xs ys (inl p) (inr q) is = absurd (done_or_due came ks q.0 xs (q.1 ++ ys) p.0 p.1 q.2 (is ∙ ap (λ (l : List Ask). l ++ ys) q.4 ∙ append_assoc q.0 q.1 ys))
+  same_shipping came other ks bs xs ys (inr p) (inl q) is = absurd (done_or_due other bs p.0 ys (p.1 ++ xs) q.0 q.1 p.2 (sym is ∙ ap (λ (l : List Ask). l ++ xs) p.4 ∙ append_assoc p.0 p.1 xs))
+  same_shipping came other ks bs xs ys (inr p) (inr q) is =
+      let whole : p.0 ++ (p.1 ++ xs) ≡ q.0 ++ (q.1 ++ ys) =
+      sym (append_assoc p.0 p.1 xs) ∙ sym (ap (λ (l : List Ask). l ++ xs) p.4) ∙ is ∙ ap (λ (l : List Ask). l ++ ys) q.4 ∙ append_assoc q.0 q.1 ys in
+      let before = same_due p.0 q.0 (p.1 ++ xs) (q.1 ++ ys) p.2 q.2 whole in
+      let store = same_settling Server route.server (store_of client entry) came other p.1 q.1 xs ys p.3 q.3 before.1 in
+      (store.0, p.4 ∙ ap (λ (l : List Ask). l ++ p.1) before.0 ∙ ap (λ (l : List Ask). q.0 ++ l) store.1 ∙ sym q.4, store.2)
+
 module _ (client : ℕ) (route : Route) where
   same_entry : (log : Log) (d e : Option SyncEnd) (ks bs xs ys : List Ask) → EntryTurn client route log d ks → EntryTurn client route log e bs → ks ++ xs ≡ bs ++ ys → (d ≡ e) × (ks ≡ bs) × (xs ≡ ys)
   same_entry log d e ks bs xs ys p q is =
       let one : p.entry ≡ q.entry = first_one log.pending p.entry q.entry p.first q.first in
-      let settling : IsSettling Server route.server (store_of client p.entry) q.came bs = subst (λ (n : Entry). IsSettling Server route.server (store_of client n) q.came bs) (sym one) q.settling in
-      let same = same_settling Server route.server (store_of client p.entry) p.came q.came ks bs xs ys p.settling settling is in
+      let ships : Ships client route p.entry q.came bs = subst (λ (n : Entry). Ships client route n q.came bs) (sym one) q.ships in
+      let same = same_shipping client route p.entry p.came q.came ks bs xs ys p.ships ships is in
       (sym p.end_is ∙ ap (λ (n : Entry). end_by n.seq p.came) one ∙ ap (end_by q.entry.seq) same.0 ∙ q.end_is, same.1, same.2)
 
 -- ---- acknowledgements, the first one first

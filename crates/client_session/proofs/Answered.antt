@@ -1,5 +1,5 @@
 -- How the syncs of a session are answered, told from the replies to its asks.
-use Rattle.std.proofs.Common.{◌≡◌, ◌⊎◌, inl, inr, ⊎_elim, ℕ, zero, suc, ◌+◌, ◌-◌, ◌<◌, ◌≤◌, List, [], ◌∷◌, ◌++◌, length, drop, Option, None, Some, Result, Ok, Err, refl, sym, ◌∙◌, ap, subst, arith}
+use Rattle.std.proofs.Common.{◌≡◌, inl, inr, ⊎_elim, ℕ, ◌+◌, ◌-◌, ◌<◌, ◌≤◌, List, [], ◌∷◌, ◌++◌, length, drop, Option, None, Some, Result, Ok, Err, refl, sym, ◌∙◌, ap, subst, arith}
 use Rattle.file_paths.specs.Path.{FilePath, resolved}
 use Rattle.file_paths.specs.declared.path.PathError.{PathError}
 use Rattle.file_paths.specs.declared.path.PathError.TheVariants as paths
@@ -19,14 +19,13 @@ use Rattle.work_area.specs.declared.jobs.JobError.TheVariants as jobs
 use Rattle.mod_log.specs.declared.log.Entry.{Entry}
 use Rattle.mod_log.specs.declared.log.LogError.{LogError}
 use Rattle.mod_log.specs.declared.log.LogError.TheVariants as logs
-use Rattle.mod_log.specs.Log.{Log, IsLog, AreEntriesOf, tree_of, logged, acknowledged, pulled}
+use Rattle.mod_log.specs.Log.{Log, IsLog, AreEntriesOf, tree_of}
 use Rattle.wire_frames.specs.declared.message.Message.{Message}
 use Rattle.wire_frames.specs.declared.message.Message.TheVariants as messages
-use Rattle.wire_frames.specs.Frame.{client_of, Echoes}
 use Rattle.world_rules.specs.declared.asking.Peer.{Peer}
 use Rattle.world_rules.specs.declared.asking.Peer.TheVariants.{Server}
 use Rattle.world_rules.specs.declared.asking.Ask.{Ask}
-use Rattle.world_rules.specs.declared.asking.Answer.TheVariants.{Reply, Failed}
+use Rattle.world_rules.specs.declared.asking.Answer.TheVariants.{Reply}
 use Rattle.world_rules.specs.Asking.{ask_of}
 use Rattle.world_rules.specs.Settling.{failures, failed_asks, IsSettling}
 use Rattle.world_rules.specs.InStep.{IsRefusal}
@@ -37,9 +36,9 @@ use Rattle.client_core.specs.declared.pulling.PullEnd.{PullEnd}
 use Rattle.client_core.specs.declared.pulling.PullEnd.TheVariants as pulls
 use Rattle.client_core.specs.declared.running.RunEnd.{RunEnd}
 use Rattle.client_core.specs.declared.running.RunEnd.TheVariants as runs
-use Rattle.client_core.specs.Trace.{Trace, followed, asking}
+use Rattle.client_core.specs.Trace.{Trace}
 use Rattle.world_rules.proofs.Settled.{failed-append, failed-failures}
-use Rattle.client_core.specs.Syncing.{store_of, IsFirst, end_by, EndsSync, SyncTurn}
+use Rattle.client_core.specs.Syncing.{store_of, IsFirst, Ships, end_by, EndsSync, SyncTurn}
 use Rattle.shell_lang.specs.declared.line.Line.{Line}
 use Rattle.shell_lang.specs.declared.line.Line.TheVariants as lines
 use Rattle.shell_lang.specs.declared.line.LineError.{LineError}
@@ -249,13 +248,30 @@ module _ (packets : List Message) (client : ℕ) (route : Route) (after : Log) (
   accepted from (Some (messages.Snapshot of n then seen)) end gapless none above calm settling is = settling.3.0
   accepted from (Some (messages.Malformed code offset)) end gapless none above calm settling is = settling.3.0
 
+-- ---- how an entry is shipped
+
+-- the store that is settled last, or an operation that is done
+module _ (packets : List Message) (client : ℕ) (route : Route) (after : Log) (entry : Entry) (asks : List Ask) (stand : Stand packets asks) where
+  ships_no_gap : (came : Option Message) (seq last : ℕ) → Gapless client packets → Ships client route entry came asks → end_by entry.seq came ≡ Some (syncs.Behind seq last) → ⊥
+  ships_no_gap came seq last gapless (inl done) is = absurd (cc (sym (ap (end_by entry.seq) done.0) ∙ is))
+  ships_no_gap came seq last gapless (inr stored) is =
+      not_a_gap packets client route after entry stored.1 (stand_parts packets stored.0 stored.1 (subst (Stand packets) stored.4 stand)).1 came seq last gapless stored.3 is
+
+  shipped : (from : ℕ) (came : Option Message) (end : SyncEnd) → Gapless client packets → Unrefused client from packets → from < entry.seq → failed_asks asks ≡ 0 → Ships client route entry came asks
+      → end_by entry.seq came ≡ Some end → ⊥
+  shipped from came end gapless none above calm (inl done) is = absurd (cc (sym (ap (end_by entry.seq) done.0) ∙ is))
+  shipped from came end gapless none above calm (inr stored) is =
+      let sum : failed_asks (stored.0 ++ stored.1) ≡ 0 = subst (λ (asks : List Ask). failed_asks asks ≡ 0) stored.4 calm in
+      accepted packets client route after entry stored.1 (stand_parts packets stored.0 stored.1 (subst (Stand packets) stored.4 stand)).1 from came end gapless none above
+      (omega (arith, sum, failed-append stored.0 stored.1)) stored.3 is
+
 -- ---- an honest server
 
 module _ (packets : List Message) (client : ℕ) (gapless : Gapless client packets) (route : Route) where
   ends_unbehind : (after : Log) (end : SyncEnd) (asks : List Ask) → Stand packets asks → EndsSync client route after end asks → (seq last : ℕ) → end ≡ syncs.Behind seq last → ⊥
   ends_unbehind after end asks stand (inl synced) seq last is = absurd (cc (sym synced.1 ∙ is))
   ends_unbehind after end asks stand (inr ended) seq last is =
-      not_a_gap packets client route after ended.entry asks stand ended.came seq last gapless ended.settling (ended.end_is ∙ ap (λ (e : SyncEnd). Some e) is)
+      ships_no_gap packets client route after ended.entry asks stand ended.came seq last gapless ended.ships (ended.end_is ∙ ap (λ (e : SyncEnd). Some e) is)
 
   unbehind : (after : Log) (end : SyncEnd) (asks : List Ask) → Stand packets asks → EndsSync client route after end asks → (seq last : ℕ) → sync_answer end ≡ Some (answers.Behind seq last) → ⊥
   unbehind after (syncs.Behind n l) asks stand ended seq last is = ends_unbehind after (syncs.Behind n l) asks stand ended n l refl
@@ -346,7 +362,7 @@ module _ (packets : List Message) (client from : ℕ) (gapless : Gapless client 
   ends_synced : (after : Log) (end : SyncEnd) (asks : List Ask) → IsPast from after → AreCalm asks → EndsSync client route after end asks → end ≡ syncs.Synced after.acked
   ends_synced after end asks past calm (inl synced) = synced.1
   ends_synced after end asks past calm (inr ended) =
-      absurd (accepted packets client route after ended.entry asks calm.0 from ended.came end gapless none (first_past from after ended.entry past ended.first) calm.1 ended.settling ended.end_is)
+      absurd (shipped packets client route after ended.entry asks calm.0 from ended.came end gapless none (first_past from after ended.entry past ended.first) calm.1 ended.ships ended.end_is)
 
   calm_turn : (a b : SessionState) (trace : Trace) (line : Result Line LineError) (x : Option Answer) → LineTurn route a line x b trace → (a.client.number ≡ client) × IsPast from a.client.log → AreCalm trace.asks
       → ((b.client.number ≡ client) × IsPast from b.client.log) × (LeavesPending x → ⊥)

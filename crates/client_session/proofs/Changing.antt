@@ -25,8 +25,8 @@ use Rattle.shell_lang.specs.declared.line.Line.{Line}
 use Rattle.shell_lang.specs.declared.line.Line.TheVariants as lines
 use Rattle.shell_lang.specs.declared.line.LineError.{LineError}
 use Rattle.shell_lang.specs.declared.answer.Answer.{Answer}
-use Rattle.client_session.specs.Session.{SessionState, with_log, put_effect, make_effect, remove_effect, move_effect, LogTurn, CommandTurn, LineTurn, Chain}
-use Rattle.client_session.specs.Laws.{IsChange, ChangesLeadTo, SessionsChangeSo}
+use Rattle.client_session.specs.Session.{SessionState, with_log, put_effect, make_effect, remove_effect, move_effect, LogTurn, CommandTurn, LineTurn}
+use Rattle.client_session.specs.Laws.{ChangesLeadTo, SessionsChangeSo}
 
 leads_then : (a b c : Log) (xs ys : List Log) → ChangesLeadTo a xs b → ChangesLeadTo b ys c → ChangesLeadTo a (xs ++ ys) c
 leads_then a b c [] ys first second = subst (λ (log : Log). ChangesLeadTo log ys c) first second

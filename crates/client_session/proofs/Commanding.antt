@@ -1,5 +1,5 @@
 -- What a line that runs a command makes of the client, of what is kept of it, of what the runner tells and of the world.
-use Rattle.std.proofs.Common.{◌≡◌, ◌≢◌, inl, inr, ℕ, Bool, true, false, List, [], ◌∷◌, ◌++◌, Option, Some, None, Result, Ok, Err, IfOk, IfErr, is_some, refl, sym, ◌∙◌, ap, subst}
+use Rattle.std.proofs.Common.{◌≡◌, ◌≢◌, inl, inr, ℕ, true, List, [], Option, Some, None, Result, Ok, Err, IfOk, is_some, refl, sym, ◌∙◌, ap, subst}
 use Rattle.outside.specs.Outside.{Told}
 use Rattle.outside.specs.Keeper.{Images}
 use Rattle.outside.specs.declared.errors.KeepError.{KeepError}
@@ -24,8 +24,7 @@ use Rattle.client_core.proofs.Going.{changed_so, goes_as, goes_saved}
 use Rattle.client_core.proofs.Runs.{run_goes}
 use Rattle.shell_lang.specs.declared.line.Line.TheVariants.{Run as RunLine}
 use Rattle.shell_lang.specs.declared.answer.Answer.{Answer}
-use Rattle.shell_lang.specs.declared.answer.Answer.TheVariants as answers
-use Rattle.client_session.specs.Session.{SessionState, with_log, CommandTurn, LineTurn, BreaksCommand, Broken, capture_answer, run_answer}
+use Rattle.client_session.specs.Session.{SessionState, CommandTurn, LineTurn, BreaksCommand, Broken, capture_answer, run_answer}
 use Rattle.client_session.specs.Doing.{beside, Does, WentDoing, LineEnds}
 use Rattle.client_session.specs.Inside.{IsGiven, RunsLine, RunsMade}
 use Rattle.client_session.proofs.Doing.{does_none}

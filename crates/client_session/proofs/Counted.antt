@@ -1,5 +1,5 @@
 -- Which lines ask a runner for something, and how often.
-use Rattle.std.proofs.Common.{◌≡◌, ◌⊎◌, inl, inr, ℕ, zero, suc, ◌+◌, ◌≤◌, Bool, true, false, List, [], ◌∷◌, ◌++◌, length, Option, None, Some, Result, Ok, Err, refl, sym, ◌∙◌, ap, arith, length-append}
+use Rattle.std.proofs.Common.{◌≡◌, ℕ, zero, suc, ◌+◌, ◌≤◌, Bool, false, List, [], ◌∷◌, ◌++◌, length, Option, None, Some, Result, Ok, Err, refl, sym, ◌∙◌, ap, arith, length-append}
 use Rattle.std.specs.Prelude.{cond}
 use Rattle.std.specs.List.{count_by}
 use Rattle.std.proofs.lemmas.List.Sums.{sum_by-cons}
@@ -20,7 +20,6 @@ use Rattle.work_area.specs.declared.jobs.JobError.TheVariants as jobs
 use Rattle.mod_log.specs.declared.log.LogError.{LogError}
 use Rattle.mod_log.specs.declared.log.LogError.TheVariants as logs
 use Rattle.mod_log.specs.Log.{Log, tree_of}
-use Rattle.world_rules.specs.declared.asking.Ask.{Ask}
 use Rattle.client_core.specs.declared.route.Route.{Route}
 use Rattle.client_core.specs.declared.syncing.SyncEnd.{SyncEnd}
 use Rattle.client_core.specs.declared.syncing.SyncEnd.TheVariants as syncs
@@ -37,7 +36,7 @@ use Rattle.shell_lang.specs.declared.line.Line.{Line}
 use Rattle.shell_lang.specs.declared.line.Line.TheVariants as lines
 use Rattle.shell_lang.specs.declared.line.LineError.{LineError}
 use Rattle.shell_lang.specs.declared.answer.Answer.{Answer}
-use Rattle.client_session.specs.Session.{SessionState, is_unrun, put_effect, make_effect, remove_effect, move_effect, sync_answer, pull_answer, local_answer, word_answer, capture_answer, job_answer, run_answer, LogTurn, CommandTurn, LineTurn, Chain}
+use Rattle.client_session.specs.Session.{SessionState, is_unrun, put_effect, make_effect, remove_effect, move_effect, sync_answer, pull_answer, local_answer, word_answer, capture_answer, job_answer, run_answer, LogTurn, CommandTurn, LineTurn}
 use Rattle.client_session.specs.Causes.{is_run}
 use Rattle.client_session.specs.Looking.{found_at, shown, listed, entered, about, list_answer}
 use Rattle.client_session.specs.Laws.{UnrunLinesAreCounted, LinesRunOnce}

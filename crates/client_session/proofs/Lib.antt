@@ -2,8 +2,10 @@ pub mod Alike
 pub mod Answered
 pub mod Changing
 pub mod Commanding
+pub mod Contents
 pub mod Counted
 pub mod Doing
 pub mod Found
+pub mod Peers
 pub mod Settlings
 pub mod Turning

@@ -1,9 +1,12 @@
 -- What holds of every session.
-use Rattle.std.specs.Prelude.{◌≡◌, ◌⊎◌, ◌+◌, ◌≤◌, length, List, [], ◌∷◌, map, Option, Result}
+use Rattle.std.specs.Prelude.{◌≡◌, ◌⊎◌, ◌+◌, ◌≤◌, length, List, [], ◌∷◌, map, Option, Some, Result}
 use Rattle.std.specs.List.{count_by}
+use Rattle.tree_values.specs.Lists.{IsIn}
 use Rattle.tree_values.specs.Tree.{Volume}
 use Rattle.mod_log.specs.declared.log.Entry.{Entry}
 use Rattle.mod_log.specs.Log.{Log, logged, pulled}
+use Rattle.world_rules.specs.declared.asking.Ask.{Ask}
+use Rattle.world_rules.specs.declared.asking.Peer.TheVariants.{Server, Surrogate}
 use Rattle.client_core.specs.declared.route.Route.{Route}
 use Rattle.client_core.specs.Trace.{Trace}
 use Rattle.client_core.specs.Syncing.{acknowledged_first}
@@ -11,7 +14,7 @@ use Rattle.shell_lang.specs.declared.line.Line.{Line}
 use Rattle.shell_lang.specs.declared.line.LineError.{LineError}
 use Rattle.shell_lang.specs.declared.answer.Answer.{Answer}
 use Rattle.client_session.specs.Causes.{is_run}
-use Rattle.client_session.specs.Session.{SessionState, Chain, is_unrun}
+use Rattle.client_session.specs.Session.{SessionState, Chain, BreaksChain, is_unrun}
 
 -- one entry with the next number is logged, the first pending one is acknowledged, or the base is replaced by a pull
 abbrev pub IsChange : Log → Log → Type 0
@@ -43,3 +46,17 @@ UnrunLinesAreCounted = (route : Route) (before : SessionState) (lines : List (Re
 abbrev pub LinesRunOnce : Type 0
 LinesRunOnce = (route : Route) (before : SessionState) (lines : List (Result Line LineError)) (answers : List (Option Answer)) (after : SessionState) (trace : Trace)
     → Chain route before lines answers after trace → length trace.runs + trace.missed ≤ count_by is_run lines
+
+-- the ask is of a peer of the route: of the server at its address, or of the surrogate at its address, where there is one
+abbrev pub IsOfRoute : Route → Ask → Type 0
+IsOfRoute route ask = ((ask.to ≡ Server) × (ask.address ≡ route.server)) ⊎ ((ask.to ≡ Surrogate) × (route.surrogate ≡ Some ask.address))
+
+-- Each ask of a session is of a peer of its route.
+abbrev pub AsksAreOfTheRoute : Type 0
+AsksAreOfTheRoute = (route : Route) (before : SessionState) (lines : List (Result Line LineError)) (answers : List (Option Answer)) (after : SessionState) (trace : Trace) (ask : Ask)
+    → Chain route before lines answers after trace → IsIn ask trace.asks → IsOfRoute route ask
+
+-- And so is each of a session whose last line was broken off.
+abbrev pub BrokenSessionsAskTheRoute : Type 0
+BrokenSessionsAskTheRoute = (route : Route) (before : SessionState) (lines : List (Result Line LineError)) (answers : List (Option Answer)) (after : SessionState) (kept : Log) (trace : Trace) (ask : Ask)
+    → BreaksChain route before lines answers after kept trace → IsIn ask trace.asks → IsOfRoute route ask

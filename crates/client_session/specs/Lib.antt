@@ -1,4 +1,5 @@
 pub mod Causes
+pub mod Contents
 pub mod Doing
 pub mod Inside
 pub mod Laws

@@ -1,5 +1,6 @@
 // Laws of sessions.
-ghost use Rattle.client_session.specs.Laws.{SessionsChangeSo, AsksAndRunsMakeSessions, UnrunLinesAreCounted, LinesRunOnce};
+ghost use Rattle.client_session.specs.Laws.{SessionsChangeSo, AsksAndRunsMakeSessions, UnrunLinesAreCounted, LinesRunOnce, AsksAreOfTheRoute, BrokenSessionsAskTheRoute};
+ghost use Rattle.client_session.specs.Contents.{DistinctContentsDoNotCollide, BrokenSessionsDoNotCollide};
 
 /// Law: what a session changes of the log are entries that it logs, acknowledgements of the first pending one and pulls, one
 /// after the other, and its log is what they lead to.
@@ -17,4 +18,18 @@ pub fn asks_and_runs_make_sessions()
 pub fn unrun_lines_are_counted()
     ensures unrun { UnrunLinesAreCounted }
     ensures once { LinesRunOnce }
+{}
+
+/// Law: where no two contents, one of a session and one of the packets, have one print, no content that the client ships as an
+/// operation is taken for another. For an entry of a command writes what its run left.
+pub fn distinct_contents_do_not_collide()
+    ensures whole { DistinctContentsDoNotCollide }
+    ensures broken { BrokenSessionsDoNotCollide }
+{}
+
+/// Law: each ask of a session goes to a peer of its route, at that peer's address: to the server, or to the surrogate where there is
+/// one.
+pub fn asks_are_of_the_route()
+    ensures whole { AsksAreOfTheRoute }
+    ensures broken { BrokenSessionsAskTheRoute }
 {}

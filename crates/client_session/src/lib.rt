@@ -8,5 +8,8 @@ mod looking;
 mod running;
 mod session;
 
-pub use laws::{asks_and_runs_make_sessions, sessions_change_so, unrun_lines_are_counted};
+pub use laws::{
+    asks_and_runs_make_sessions, asks_are_of_the_route, distinct_contents_do_not_collide,
+    sessions_change_so, unrun_lines_are_counted,
+};
 pub use session::Session;

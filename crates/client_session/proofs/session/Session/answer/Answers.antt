@@ -1,6 +1,6 @@
-use Rattle.std.proofs.Common.{◌≡◌, ℕ, List, Option, None, Some, Result, Ok, Err, IfOk, refl, sym, ◌∙◌, ap, subst, arith}
+use Rattle.std.proofs.Common.{◌≡◌, ℕ, List, Option, None, Some, Result, Ok, Err, IfOk, refl, sym, ◌∙◌, ap, subst}
 use Rattle.shell_lang.specs.declared.line.Line.{Line}
-use Rattle.shell_lang.specs.declared.line.Line.TheVariants.{Empty, Put, Make, Remove, Move, Cat, List as Ls, Enter, Run as RunLine, Status, Sync, Pull, Quit}
+use Rattle.shell_lang.specs.declared.line.Line.TheVariants.{Empty, Put, Make, Remove, Move, Cat, List as Ls, Enter, Status, Quit}
 use Rattle.shell_lang.specs.declared.line.LineError.{LineError}
 use Rattle.shell_lang.specs.declared.answer.Answer.TheVariants.{Refused}
 use Rattle.shell_lang.specs.declared.answer.Fault.TheVariants as faults
@@ -10,7 +10,7 @@ use Rattle.client_session.specs.Session.{put_effect, make_effect, remove_effect,
 use Rattle.client_session.specs.Looking.{list_answer}
 use Rattle.client_core.specs.Goes.{telling}
 use Rattle.client_session.specs.Doing.{beside, WentDoing, LineEnds}
-use Rattle.client_session.specs.Inside.{Logs, RunsLine}
+use Rattle.client_session.specs.Inside.{Logs}
 use Rattle.client_session.specs.Causes.{HasLineCause, is_run}
 use Rattle.client_session.proofs.Turning.{line_world, quietly_caused, tells_quietly, silent_quietly, told_quietly, logs_quietly, enter_quietly, enter_kept, status_quietly, unkept}
 use Rattle.client_session.proofs.Commanding.{run_went, run_caused}

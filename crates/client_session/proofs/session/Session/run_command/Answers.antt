@@ -1,4 +1,4 @@
-use Rattle.std.proofs.Common.{◌≡◌, ℕ, List, Bool, true, false, not, Result, Ok, Err, IfOk, refl, sym, ◌∙◌, ap, subst}
+use Rattle.std.proofs.Common.{◌≡◌, ℕ, List, true, false, Ok, Err, refl, sym, ◌∙◌, ap, subst}
 use Rattle.outside.specs.Outside.{Told}
 use Rattle.outside.specs.declared.errors.KeepError.{KeepError}
 use Rattle.client_core.specs.Client.{Client}

@@ -1,0 +1,36 @@
+-- A run whose contents have prints of their own takes none for another.
+use Rattle.std.proofs.Common.{◌⊎◌, inl, inr, ⊎_elim, ℕ, List, [], Option, Result, Ok, Err}
+use Rattle.mod_log.specs.Log.{Log}
+use Rattle.client_core.specs.declared.route.Route.{Route}
+use Rattle.client_core.specs.Trace.{Trace}
+use Rattle.shell_lang.specs.declared.answer.Answer.{Answer}
+use Rattle.client_session.specs.Session.{SessionState, opened}
+use Rattle.client_session.proofs.Contents.{WriteWhatIsLeft, chain_written, broken_chain_written, distinct_left}
+use Rattle.client_prog.specs.declared.input.InputEnd.{InputEnd}
+use Rattle.client_prog.specs.declared.run.Stop.{Stop}
+use Rattle.client_prog.specs.declared.run.Stop.TheVariants.{Sink, Keeper, Memory}
+use Rattle.client_prog.specs.Run.{asked_for, HandlesAll, Handles, RunTurn}
+use Rattle.client_prog.specs.Contents.{DistinctContentsNeverCollide, DistinctContentsLeave}
+
+module _ (route : Route) (before after : SessionState) (kept : Log) (answers : List (Option Answer)) (trace : Trace) where
+  all_written : (lines : List (List ℕ)) → HandlesAll route before lines answers after kept trace → WriteWhatIsLeft trace
+  all_written lines all = chain_written route before (asked_for lines) answers after trace all.0
+
+  some_written : (stop : Stop) (lines : List (List ℕ)) → Handles stop route before lines answers after kept trace → WriteWhatIsLeft trace
+  some_written Sink lines all = all_written lines all
+  some_written Keeper lines some = ⊎_elim (λ all. all_written lines all) (λ breaks. broken_chain_written route before (asked_for lines) answers after kept trace breaks) some
+  some_written Memory lines some = ⊎_elim (λ all. all_written lines all) (λ breaks. broken_chain_written route before (asked_for lines) answers after kept trace breaks) some
+
+  -- each entry of a command that was logged writes what its run left
+  run_written : (left rest o n : Option (List ℕ)) (ended : Result InputEnd Stop) → RunTurn route before left rest answers o n ended after kept trace → WriteWhatIsLeft trace
+  run_written left rest o n (Ok end) turn = all_written turn.0 turn.3
+  run_written left rest o n (Err stop) turn = ⊎_elim (λ stops. some_written stop stops.0 stops.4) (λ closing. all_written turn.0 closing.1.3) turn.3
+
+pub contents_never_collide : DistinctContentsNeverCollide
+contents_never_collide client route start around around_now status old new ran distinct =
+    distinct_left client start.pending [] ran.goes.trace new.packets
+    (run_written route (opened client start) ran.after ran.kept ran.answers ran.goes.trace around.left around_now.left around.written around_now.written ran.ended ran.goes.turn)
+    (λ x y first second same. distinct x y (⊎_elim (λ pending. inl pending) (λ later. ⊎_elim (λ put. absurd put.2) (λ left. inr left) later) first) second same)
+
+pub contents_leave : DistinctContentsLeave
+contents_leave client route start around around_now status old new now ran distinct = ran.leaves now (contents_never_collide client route start around around_now status old new ran distinct)
