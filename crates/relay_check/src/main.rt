@@ -28,8 +28,9 @@ const NEAR: &str = "near";
 /// The folder in which the surrogate does.
 const FAR: &str = "far";
 
-/// What the client is to do: a command makes a file, and is shipped.
-const INPUT: &[u8] = b"run env=PATH=/usr/bin:/bin -- /bin/sh -c 'echo hello > a'\nsync\n";
+/// What the client is to do: a command makes a file that is longer than itself, and is shipped.
+const INPUT: &[u8] =
+    b"run env=PATH=/usr/bin:/bin -- /bin/sh -c 'printf %0300d 7 > a'\nsync\nquit\n";
 
 /// How often a peer is called until it listens.
 const CALLS: usize = 200;
