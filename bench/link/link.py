@@ -56,8 +56,8 @@ def shell(script):
 def input_script(size):
     """Makes lines of digits that look like chance, in no order."""
     count, digits = LINES[size]
-    return ('awk "BEGIN { x = 1; for (i = 0; i < %d; i++) { x = x * 16807 %% 2147483647; printf \\"%%0%dd\\n\\", x %% 1000000000 } }" > words'
-            % (count, digits))
+    step = "x = x * 16807 % 2147483647"
+    return f'awk "BEGIN {{ x = 1; for (i = 0; i < {count}; i++) {{ {step}; printf \\"%0{digits}d\\n\\", x % 1000000000 }} }}" > words'
 
 
 class Client:
@@ -176,7 +176,8 @@ def show_bytes(folder):
     """The table: bytes to the server and the surrogate, and back from them."""
     for size in (SMALL, LARGE):
         at = f"{folder}/{size}"
-        columns = [("values", of_ours(f"{at}-values", size, False)), *peers(at, size), ("the command", of_ours(f"{at}-command", size, True))]
+        values, command = of_ours(f"{at}-values", size, False), of_ours(f"{at}-command", size, True)
+        columns = [("values", values), *peers(at, size), ("the command", command)]
         say(f"a sort's output of {size:,} bytes, bytes up + down:", *[f"  {name:22} {text}" for name, text in columns])
 
 

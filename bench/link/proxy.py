@@ -50,13 +50,21 @@ class Link:
             near, _ = listener.accept()
             with self.lock:
                 self.talks[name] = self.talks.get(name, 0) + 1
+            threading.Thread(target=self.join, args=(near, behind), daemon=True).start()
+
+    def join(self, near, behind):
+        """Joins a connection with the port behind, once something listens there."""
+        for _ in range(1_200):
             try:
                 far = socket.create_connection(("127.0.0.1", behind))
+                break
             except OSError:
-                near.close()
-                continue
-            for way, source, sink in (("up", near, far), ("down", far, near)):
-                threading.Thread(target=self.carry, args=(way, source, sink), daemon=True).start()
+                time.sleep(0.1)
+        else:
+            near.close()
+            return
+        for way, source, sink in (("up", near, far), ("down", far, near)):
+            threading.Thread(target=self.carry, args=(way, source, sink), daemon=True).start()
 
     def carry(self, way, source, sink):
         try:
