@@ -44,7 +44,6 @@ use Rattle.client_prog.specs.declared.run.Stop.{Stop}
 use Rattle.client_prog.specs.declared.run.Stop.TheVariants as stops
 use Rattle.client_session.specs.Session.{SessionState, opened, put_effect, make_effect, remove_effect, move_effect, LogTurn, CommandTurn, LineTurn, BreaksCommand, BreaksOff, Broken, BreaksChain}
 use Rattle.client_prog.specs.Run.{asked_for, Handles, RunTurn}
-use Rattle.client_prog.specs.Headline.{Around, Ran}
 use Rattle.client_prog.specs.Composing.{RunsCompose, StoresNeverCollide}
 use Rattle.client_prog.proofs.RunningLeaves.{leaves}
 

@@ -1,5 +1,5 @@
 -- How the faults of the sink and of the keeper are counted from call to call.
-use Rattle.std.proofs.Common.{◌≡◌, ℕ, ◌≤◌, Result, Ok, Err, refl, sym, ◌∙◌, ap, arith}
+use Rattle.std.proofs.Common.{◌≡◌, ℕ, Result, Ok, Err, refl, ◌∙◌, ap, arith}
 use Rattle.std.specs.Prelude.{IsErrOf}
 use Rattle.outside.specs.Outside.{Rose, raised, RisesWhere, CountsFault}
 use Rattle.outside.specs.declared.errors.SinkError.{SinkError}

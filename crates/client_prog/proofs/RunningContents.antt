@@ -1,5 +1,5 @@
 -- A run whose contents have prints of their own takes none for another.
-use Rattle.std.proofs.Common.{◌⊎◌, inl, inr, ⊎_elim, ℕ, List, [], Option, Result, Ok, Err}
+use Rattle.std.proofs.Common.{inl, inr, ⊎_elim, ℕ, List, [], Option, Result, Ok, Err}
 use Rattle.mod_log.specs.Log.{Log}
 use Rattle.client_core.specs.declared.route.Route.{Route}
 use Rattle.client_core.specs.Trace.{Trace}

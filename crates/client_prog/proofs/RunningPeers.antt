@@ -1,5 +1,5 @@
 -- Which peers a run asks.
-use Rattle.std.proofs.Common.{◌⊎◌, ⊎_elim, ℕ, List, Option, Result, Ok, Err}
+use Rattle.std.proofs.Common.{⊎_elim, ℕ, List, Option, Result, Ok, Err}
 use Rattle.tree_values.specs.Lists.{IsIn}
 use Rattle.mod_log.specs.Log.{Log}
 use Rattle.world_rules.specs.declared.asking.Ask.{Ask}
