@@ -1,27 +1,31 @@
 -- How what a client did goes on from call to call.
-use Rattle.std.proofs.Common.{Bool, ◌≡◌, ◌≢◌, ◌⊎◌, inl, inr, ⊎_elim, ℕ, ◌+◌, List, [], ◌∷◌, ◌++◌, Option, None, Some, unwrap_or, option_map, Result, Ok, Err, IfOk, refl, sym, ◌∙◌, ap, subst, arith, append_assoc}
+use Rattle.std.proofs.Common.{Bool, ◌≡◌, ◌≢◌, ◌⊎◌, inl, inr, ⊎_elim, ℕ, zero, suc, ◌+◌, ◌-◌, List, [], ◌∷◌, ◌++◌, drop, Option, None, Some, unwrap_or, option_map, Result, Ok, Err, IfOk, refl, sym, ◌∙◌, ap, subst, arith, append_assoc}
 use Rattle.std.proofs.lemmas.List.{append-nil}
-use Rattle.outside.specs.Outside.{Told, RoseBy}
+use Rattle.outside.specs.Outside.{Told, RoseBy, Rose}
 use Rattle.cmd_capture.specs.declared.runner.Run.{Run}
 use Rattle.cmd_capture.specs.Runs.{RunnerTelling, HasRun}
 use Rattle.outside.specs.Keeper.{Images}
 use Rattle.tree_values.specs.Lists.{IsIn}
+use Rattle.vol_tree.proofs.Behind.{IsIn-left, IsIn-right}
 use Rattle.mod_log.specs.declared.log.Entry.{Entry}
 use Rattle.mod_log.specs.Log.{Log, IsLog, logged}
 use Rattle.wire_frames.specs.declared.message.Message.{Message}
 use Rattle.world_rules.specs.declared.asking.Ask.{Ask}
 use Rattle.world_rules.specs.World.{World}
 use Rattle.world_rules.specs.Settling.{failed_asks}
-use Rattle.world_rules.specs.InStep.{IsAcceptance}
-use Rattle.world_rules.specs.Run.{Runs, kept_at, Acknowledges, Logs, Saves}
-use Rattle.world_rules.proofs.Asks.{told_then}
-use Rattle.world_rules.proofs.Runs.{runs_none, runs_then, runs_once}
+use Rattle.world_rules.specs.InStep.{InStep, HasNoCollision, IsAcceptance}
+use Rattle.world_rules.specs.Run.{State, Runs, kept_at, Acknowledges, Logs, Saves}
+use Rattle.world_rules.proofs.Asks.{told_then, in_either}
+use Rattle.world_rules.proofs.Colliding.{fewer_collide}
+use Rattle.world_rules.proofs.Runs.{runs_none, runs_then, runs_once, runs_in_step, run_packets, pending_later}
 use Rattle.world_rules.proofs.Settled.{failed-append}
 use Rattle.store_image.specs.Image.{Keeps}
-use Rattle.client_core.specs.Trace.{Trace, nothing, followed, asking, changing, logging, running, last_log, log_before_last, IsLastOrBefore}
+use Rattle.client_core.specs.declared.pulling.PullEnd.{PullEnd}
+use Rattle.client_core.specs.Trace.{Trace, nothing, followed, asking, changing, logging, running, pulling, last_log, log_before_last, IsLastOrBefore}
 use Rattle.client_core.specs.Syncing.{acknowledged_first}
 use Rattle.client_core.specs.Keeping.{OthersStay, IsKept, Kept, Keeping, KeepsLog}
 use Rattle.client_core.specs.Goes.{Goes, stand, no_runner}
+use Rattle.client_core.specs.Honest.{IsTruePull}
 
 -- ---- traces
 
@@ -34,6 +38,7 @@ followed-nothing trace =
       missed = missed i;
       entries = sym (append-nil trace.entries) i;
       changes = sym (append-nil trace.changes) i;
+      pulls = sym (append-nil trace.pulls) i;
     }
 
 pub followed-assoc : (a b c : Trace) → followed (followed a b) c ≡ followed a (followed b c)
@@ -45,6 +50,7 @@ followed-assoc a b c =
       missed = missed i;
       entries = append_assoc a.entries b.entries c.entries i;
       changes = append_assoc a.changes b.changes c.changes i;
+      pulls = append_assoc a.pulls b.pulls c.pulls i;
     }
 
 pub changed_so : (changes : List Log) (change : Log) (more : List Log) → changes ≡ change ∷ more → changes ≢ []
@@ -165,6 +171,40 @@ module _ (name : List ℕ) (client : ℕ) where
         ⊎_elim (λ now. inl (record { last = keeping.last; behind = inl keeping.last; told = now })) (λ still. inr (still.0, record { last = keeping.last; behind = keeping.behind; told = still.1 }))
         (told_saved i j l r keeping.told save)
 
+-- ---- what is told of its pulls
+
+in_dropped : (count : ℕ) (entry : Entry) (entries : List Entry) → IsIn entry (drop count entries) → IsIn entry entries
+in_dropped zero entry entries among = among
+in_dropped (suc count) entry [] among = absurd among
+in_dropped (suc count) entry (first ∷ entries) among = inr (in_dropped count entry entries among)
+
+-- What begins in step is so between two stretches, and no content is taken for another in each where none is in both.
+both_apart : (client : ℕ) (ships : Bool) (es fs : List Entry) (m n : List Ask) (old mid new : State) → InStep client old.log old.world → Runs client ships es m old mid → Runs client ships fs n mid new
+    → HasNoCollision client (old.log.pending ++ (es ++ fs)) new.world.packets
+    → InStep client mid.log mid.world × HasNoCollision client (old.log.pending ++ es) mid.world.packets × HasNoCollision client (mid.log.pending ++ fs) new.world.packets
+both_apart client ships es fs m n old mid new begun first second apart = (
+  runs_in_step client ships es m old mid begun first front,
+  front,
+  fewer_collide client (mid.log.pending ++ fs) (old.log.pending ++ (es ++ fs)) new.world.packets new.world.packets
+      (λ entry among. ⊎_elim (λ pending. in_all entry (was_there entry pending)) (λ logged. IsIn-right entry old.log.pending (es ++ fs) (IsIn-right entry es fs logged)) (in_either entry mid.log.pending fs among))
+      (λ message among. among) apart,
+)
+  where
+    in_all : (entry : Entry) → IsIn entry (old.log.pending ++ es) → IsIn entry (old.log.pending ++ (es ++ fs))
+    in_all entry among = subst (IsIn entry) (append_assoc old.log.pending es fs) (IsIn-left entry (old.log.pending ++ es) fs among)
+
+    front : HasNoCollision client (old.log.pending ++ es) mid.world.packets
+    front = fewer_collide client (old.log.pending ++ es) (old.log.pending ++ (es ++ fs)) mid.world.packets new.world.packets in_all (λ message among. run_packets client ships fs n mid new message second among) apart
+
+    was_there : (entry : Entry) → IsIn entry mid.log.pending → IsIn entry (old.log.pending ++ es)
+    was_there entry among =
+        let left = pending_later client ships es m old mid begun first front in
+        in_dropped (mid.log.acked - old.log.acked) entry (old.log.pending ++ es) (subst (IsIn entry) left.1 among)
+
+-- what is so of a pull where fewer troubles are looked at
+true_longer : (t v s u : ℕ) (end : PullEnd) → (Rose s u → Rose t v) → IsTruePull s u end → IsTruePull t v end
+true_longer t v s u end more is = (is.0, λ calm. is.1 (λ rose. calm (more rose)))
+
 -- ---- stretches of a client's life
 
 module _ (name : List ℕ) (client : ℕ) (ships : Bool) where
@@ -176,19 +216,20 @@ module _ (name : List ℕ) (client : ℕ) (ships : Bool) where
     keeping = keeping_none name client s i keeps;
     has_run = has_run_none r;
     rose = omega arith;
+    true_pulls = λ begun apart end among. absurd among;
   }
 
   -- another relation of the same turns
   pub goes_as : (T S : Trace → Type 0) (a b k : Log) (i j : Option Images) (p q : RunnerTelling) (t u : ℕ) (v w : World) → Goes client ships name T a b k i j p q t u v w
       → ((trace : Trace) → T trace → S trace) → Goes client ships name S a b k i j p q t u v w
   goes_as T S a b k i j p q t u v w goes to =
-      record { trace = goes.trace; turn = to goes.trace goes.turn; runs = goes.runs; keeping = goes.keeping; has_run = goes.has_run; rose = goes.rose }
+      record { trace = goes.trace; turn = to goes.trace goes.turn; runs = goes.runs; keeping = goes.keeping; has_run = goes.has_run; rose = goes.rose; true_pulls = goes.true_pulls }
 
   -- beside any runner, where none was asked
   pub goes_beside : (T : Trace → Type 0) (a b k : Log) (i j : Option Images) (t u : ℕ) (v w : World) → Goes client ships name T a b k i j no_runner no_runner t u v w
       → (r : RunnerTelling) → Goes client ships name T a b k i j r r t u v w
   goes_beside T a b k i j t u v w goes r =
-      record { trace = goes.trace; turn = goes.turn; runs = goes.runs; keeping = goes.keeping; has_run = has_run_alone goes.trace.runs goes.trace.missed r goes.has_run; rose = goes.rose }
+      record { trace = goes.trace; turn = goes.turn; runs = goes.runs; keeping = goes.keeping; has_run = has_run_alone goes.trace.runs goes.trace.missed r goes.has_run; rose = goes.rose; true_pulls = goes.true_pulls }
 
   -- one stretch, at whose end the log is kept, after another
   pub goes_then : (T S R : Trace → Type 0) (a b c k : Log) (i j l : Option Images) (p q r : RunnerTelling) (t u v : ℕ) (x y z : World) → Goes client ships name T a b b i j p q t u x y
@@ -200,6 +241,11 @@ module _ (name : List ℕ) (client : ℕ) (ships : Bool) where
     keeping = keeping_then name client a b c k first.trace.changes second.trace.changes i j l first.keeping second.keeping;
     has_run = has_run_then first.trace.runs second.trace.runs first.trace.missed second.trace.missed p q r first.has_run second.has_run;
     rose = omega (arith, failed-append first.trace.asks second.trace.asks, first.rose, second.rose);
+    true_pulls = λ begun apart end among.
+        let parts = both_apart client ships first.trace.entries second.trace.entries first.trace.asks second.trace.asks (kept_at a x) (kept_at b y) (stand c k z) begun first.runs second.runs apart in
+        ⊎_elim (λ here. true_longer t v t u end (λ rose. omega (arith, rose, second.rose)) (first.true_pulls begun parts.1 end here))
+        (λ later. true_longer t v u v end (λ rose. omega (arith, rose, first.rose)) (second.true_pulls parts.0 parts.2 end later))
+        (in_either end first.trace.pulls second.trace.pulls among);
   }
 
   -- asks that are a run of the kept log
@@ -212,6 +258,7 @@ module _ (name : List ℕ) (client : ℕ) (ships : Bool) where
     keeping = keeping_none name client s i keeps;
     has_run = has_run_none r;
     rose = rose;
+    true_pulls = λ begun apart end among. absurd among;
   }
 
   -- and a change of the log by one move, which is not kept yet
@@ -225,6 +272,22 @@ module _ (name : List ℕ) (client : ℕ) (ships : Bool) where
     keeping = keeping_unkept name client s next i keeps;
     has_run = has_run_none r;
     rose = omega (arith, failed-append asks [], rose);
+    true_pulls = λ begun apart end among. absurd among;
+  }
+
+  -- the asks of a pull that met a snapshot, and its change of the log, if any, which is not kept yet
+  pub goes_pulled : (T : Trace → Type 0) (end : PullEnd) (asks : List Ask) (changes : List Log) (s next : Log) (i : Option Images) (r : RunnerTelling) (t u : ℕ) (x y : World)
+      → Keeping name client s next s changes i i → Runs client ships [] asks (kept_at s x) (kept_at s y) → RoseBy (failed_asks asks) t u → Runs client ships [] [] (kept_at s y) (stand next s y)
+      → (InStep client s x → InStep client s y → IsTruePull t u end) → T (followed (asking asks) (pulling end changes)) → Goes client ships name T s next s i i r r t u x y
+  goes_pulled T end asks changes s next i r t u x y keeping asked rose runs true_so turn = record {
+    trace = followed (asking asks) (pulling end changes);
+    turn = turn;
+    runs = runs_then client ships [] [] asks [] (kept_at s x) (kept_at s y) (stand next s y) asked runs;
+    keeping = keeping;
+    has_run = has_run_none r;
+    rose = omega (arith, failed-append asks [], rose);
+    true_pulls = λ begun apart ended among.
+        ⊎_elim (λ (is : ended ≡ end). subst (IsTruePull t u) (sym is) (true_so begun (runs_in_step client ships [] asks (kept_at s x) (kept_at s y) begun asked apart))) (λ none. absurd none) among;
   }
 
   -- such as the acknowledgement of the first pending entry on a reply that was sent
@@ -244,6 +307,7 @@ module _ (name : List ℕ) (client : ℕ) (ships : Bool) where
     keeping = keeping_unkept name client s (logged entry s) i keeps;
     has_run = has_run_none r;
     rose = omega arith;
+    true_pulls = λ begun apart end among. absurd among;
   }
 
   -- a runner that was asked, while the log stood still
@@ -256,6 +320,7 @@ module _ (name : List ℕ) (client : ℕ) (ships : Bool) where
     keeping = keeping_none name client s i keeps;
     has_run = has_run;
     rose = omega arith;
+    true_pulls = λ begun apart end among. absurd among;
   }
 
   -- and then an entry that is logged, and not kept yet
@@ -269,6 +334,7 @@ module _ (name : List ℕ) (client : ℕ) (ships : Bool) where
     keeping = keeping_unkept name client s (logged entry s) i keeps;
     has_run = has_run;
     rose = omega arith;
+    true_pulls = λ begun apart end among. absurd among;
   }
 
   -- What a keeping makes of a stretch that changed the log: the log is kept now, or, where it was refused, perhaps what was kept before.
@@ -298,7 +364,8 @@ module _ (name : List ℕ) (client : ℕ) (ships : Bool) where
           keeping = now;
           has_run = goes.has_run;
           rose = goes.rose;
+          true_pulls = goes.true_pulls;
         },
         sure r,
       )
-      by (inr still) = (k, record { trace = goes.trace; turn = goes.turn; runs = goes.runs; keeping = still.1; has_run = goes.has_run; rose = goes.rose }, unsure r still.0)
+      by (inr still) = (k, record { trace = goes.trace; turn = goes.turn; runs = goes.runs; keeping = still.1; has_run = goes.has_run; rose = goes.rose; true_pulls = goes.true_pulls }, unsure r still.0)

@@ -6,6 +6,7 @@ use Rattle.outside.specs.Outside.{Told, Rose}
 use Rattle.outside.specs.Keeper.{Images}
 use Rattle.outside.specs.declared.errors.KeepError.{KeepError}
 use Rattle.outside.specs.declared.errors.KeepError.TheVariants as keepers
+use Rattle.tree_values.specs.Lists.{IsIn}
 use Rattle.tree_values.specs.Tree.{Volume, version_at, IsTree, AreInOrder}
 use Rattle.tree_values.specs.declared.node.Row.{Row}
 use Rattle.mod_log.specs.declared.log.Entry.{Entry}
@@ -16,26 +17,26 @@ use Rattle.wire_frames.specs.Frame.{IsValid, Echoes}
 use Rattle.world_rules.specs.declared.asking.Answer.TheVariants.{Reply}
 use Rattle.world_rules.specs.declared.asking.Peer.TheVariants.{Server}
 use Rattle.world_rules.specs.World.{World, Moved}
-use Rattle.world_rules.specs.Telling.{LinkTelling, ToldWorlds}
+use Rattle.world_rules.specs.Telling.{LinkTelling, ToldWorlds, IsCalm}
 use Rattle.world_rules.specs.Asking.{AnswersStand}
 use Rattle.world_rules.specs.Settling.{Settled, IsFreshReply}
 use Rattle.world_rules.specs.InStep.{InStep, MaySend}
-use Rattle.world_rules.specs.Run.{kept_at, Pulls}
-use Rattle.world_rules.proofs.Runs.{runs_once, moved_runs}
+use Rattle.world_rules.specs.Run.{Runs, kept_at, Pulls}
+use Rattle.world_rules.proofs.Runs.{runs_none, runs_once, moved_runs, pulled_last}
 use Rattle.world_rules.proofs.Asks.{told_as, told_start}
 use Rattle.world_rules.proofs.Replying.{fresh_newer}
 use Rattle.world_rules.proofs.Sending.{sent_valid}
 use Rattle.client_core.specs.declared.route.Route.{Route}
 use Rattle.client_core.specs.declared.pulling.PullEnd.{PullEnd}
 use Rattle.client_core.specs.declared.pulling.PullEnd.TheVariants as ends
-use Rattle.client_core.specs.Trace.{Trace, followed, asking, changing}
-use Rattle.client_core.specs.Pulling.{pull_of, Meets, pull_change, pulled_end, is_broken_pull, PullsSnapshot, PullAsks, PullEnds}
+use Rattle.client_core.specs.Trace.{Trace, followed, asking, pulling}
+use Rattle.client_core.specs.Pulling.{pull_of, Meets, pull_change, pulled_end, is_broken_pull, PullsSnapshot, PullTurn, PullAsks, PullEnds}
 use Rattle.client_core.specs.Keeping.{IsKept, Keeping, KeepsLog}
-use Rattle.client_core.specs.Goes.{Goes, Went, no_runner}
+use Rattle.client_core.specs.Goes.{Goes, Went, stand, no_runner}
 use Rattle.client_core.specs.Causes.{TakesRows, HasPullCause, PullKeeps}
-use Rattle.client_core.specs.Honest.{IsNotOlder}
+use Rattle.client_core.specs.Honest.{IsNotOtherLast, IsNotOlder}
 use Rattle.client_core.specs.Inside.{MeetsEnds, PullLeaves, first_lower, snapshot_of}
-use Rattle.client_core.proofs.Going.{followed-nothing, changed_so, keeping_none, keeping_unkept, keeping_saved, goes_none, goes_as, goes_asked, goes_changed, goes_saved}
+use Rattle.client_core.proofs.Going.{changed_so, keeping_none, keeping_unkept, keeping_saved, goes_none, goes_as, goes_asked, goes_pulled, goes_saved}
 use Rattle.client_core.proofs.Standing.{settled_stands}
 use Rattle.client_core.proofs.Olders.{nowhere_older, first_older}
 
@@ -66,6 +67,29 @@ meets_older log seen row end order found (inr is) = inr (is, refl)
 
 pub meets_newer : (log after : Log) (seen : Volume) (count : ℕ) → first_lower log.base seen ≡ None → count ≡ length seen → after ≡ pulled seen log → MeetsEnds log log.acked seen (ends.Pulled count) after
 meets_newer log after seen count none is pulls = inl (refl, nowhere_older log.base seen none, is, pulls)
+
+-- ---- what a pull meets from in step
+
+module _ (client : ℕ) (before : Log) (none : before.pending ≡ []) (last : ℕ) (seen : Volume) where
+  pub never_older : (x y : World) → IsFreshReply (pull_of client before) x y (Snapshot client before.acked last seen) → InStep client before x → (end : PullEnd) (after : Log) → MeetsEnds before last seen end after → IsNotOlder end
+  never_older x y fresh now end after (inr broken) = λ path theirs ours is. let memory = broken.0 in absurd (cc)
+  never_older x y fresh now end after (inl met) = λ path theirs ours is.
+      let same : Meets before last seen (ends.Older path theirs ours) after = subst (λ (e : PullEnd). Meets before last seen e after) is met in
+      let newer : version_at before.base path ≤ version_at seen path = fresh_newer client before fresh.0 x y last seen path now none fresh.1 in
+      let lower = same.1.lower in
+      absurd (omega (arith, newer, lower))
+
+  -- nor another last number than that of a snapshot among the packets
+  never_other : (y : World) → InStep client before y → IsIn (Snapshot client before.acked last seen) y.packets → (end : PullEnd) (after : Log) → Meets before last seen end after → IsNotOtherLast end
+  never_other y now among end after met other acked is =
+      let same : Meets before last seen (ends.OtherLast other acked) after = subst (λ (e : PullEnd). Meets before last seen e after) is met in
+      same.0 (pulled_last client before y last seen now none among)
+
+-- what is told, and what is told beside it under a premise
+told_beside : {A : Type 0} (a b : Option A) (C : Type 0) (P Q : A → A → Type 0) → Told a b P → (C → Told a b Q) → Told a b (λ x y. P x y × (C → Q x y))
+told_beside (Some x) (Some y) C P Q p q = (p, q)
+told_beside (Some x) None C P Q p q = p
+told_beside None b C P Q p q = p
 
 -- ---- the turn of a pull
 
@@ -106,34 +130,44 @@ module _ (client : ℕ) (route : Route) (before : Log) (i : Option Images) (keep
     pub pull_breaks : (e : AllocError) → Settled Server route.server request t u (Err e) → Pulls_so ends.Memory before
     pull_breaks e done = asked ends.Memory (Err e) done (inr (refl, (done.asks, none, refl, done.settling, refl)))
 
-    module _ (last : ℕ) (seen : Volume) (done : Settled Server route.server request t u (Ok (Some (Snapshot client before.acked last seen)))) where
+    module _ (last : ℕ) (seen : Volume) (done : Settled Server route.server request t u (Ok (Some (Snapshot client before.acked last seen))))
+        (direct : IsCalm t u → ToldWorlds t u (λ x y. IsFreshReply request x y (Snapshot client before.acked last seen))) where
       snapshot : (end : PullEnd) (after : Log) (trace : Trace) → Meets before last seen end after → trace ≡ followed (asking done.asks) (pull_change end after) → PullsSnapshot client route before end after trace
       snapshot end after trace met is = record { last = last; seen = seen; asks = done.asks; idle = none; settling = done.settling; met = met; trace_is = is }
+
+      -- a snapshot came, and the log met it
+      came : (end : PullEnd) (after : Log) (changes : List Log) → Meets before last seen end after → pulling end changes ≡ pull_change end after → Keeping name client before after before changes i i
+          → ((y : World) → IsIn (Snapshot client before.acked last seen) y.packets → Runs client ships [] [] (kept_at before y) (stand after before y))
+          → ((trace : Trace) → PullsSnapshot client route before end after trace → PullTurn client route before end after trace) → Pulls_so end after
+      came end after changes met is keeping runs turned =
+          told_as t.world u.world (λ x y. (Moved request done.asks x y × AnswersStand y done.asks) × (IsCalm t u → IsFreshReply request x y (Snapshot client before.acked last seen)))
+          (λ x y. Goes client ships name (PullAsks client route before end after) before after before i i no_runner no_runner t.troubles u.troubles x y)
+          (told_beside t.world u.world (IsCalm t u) (λ x y. Moved request done.asks x y × AnswersStand y done.asks) (λ x y. IsFreshReply request x y (Snapshot client before.acked last seen)) done.told direct)
+          (λ x y so.
+          let stands = settled_stands Server route.server request y (Some (Snapshot client before.acked last seen)) done.asks done.settling so.0.1 in
+          goes_pulled name client ships (PullAsks client route before end after) end done.asks changes before after i no_runner t.troubles u.troubles x y keeping
+          (moved_runs client ships before request done.asks x y (pull_sends client ships before none) so.0.0 so.0.1) done.rose (runs y stands.0)
+          (λ begun now. (never_other client before none last seen y now stands.0 end after met, λ calm. never_older client before none last seen x y (so.1 calm) begun end after (inl met)))
+          (inl (turned (followed (asking done.asks) (pulling end changes)) (snapshot end after (followed (asking done.asks) (pulling end changes)) met (ap (λ (n : Trace). followed (asking done.asks) n) is)))))
+
+      -- the log stays
+      stays : (end : PullEnd) → Meets before last seen end before → pulling end [] ≡ pull_change end before
+          → ((trace : Trace) → PullsSnapshot client route before end before trace → PullTurn client route before end before trace) → Pulls_so end before
+      stays end met is turned = came end before [] met is (keeping_none name client before i keeps) (λ y among. runs_none client ships (kept_at before y)) turned
 
       -- a pull that replaces the base
       replaces : (count : ℕ) → Meets before last seen (ends.Pulled count) (pulled seen before) → Pulls_so (ends.Pulled count) (pulled seen before)
       replaces count met =
           let after : Log = pulled seen before in
-          let is_last : last ≡ before.acked = met.0 in
-          told_as t.world u.world (λ x y. Moved request done.asks x y × AnswersStand y done.asks)
-          (λ x y. Goes client ships name (PullAsks client route before (ends.Pulled count) after) before after before i i no_runner no_runner t.troubles u.troubles x y) done.told
-          (λ x y moved.
-          let stands = settled_stands Server route.server request y (Some (Snapshot client before.acked last seen)) done.asks done.settling moved.1 in
-          goes_changed name client ships (PullAsks client route before (ends.Pulled count) after) done.asks before after i no_runner t.troubles u.troubles x y keeps (moved_runs client ships before request done.asks x y (pull_sends client ships before none) moved.0 moved.1) done.rose
-          (runs_once client ships (kept_at before y) (Pulls last seen) (none, is_last, stands.0, met.1))
-          (inl (snapshot (ends.Pulled count) after (followed (asking done.asks) (changing after)) met refl)))
+          came (ends.Pulled count) after (after ∷ []) met refl (keeping_unkept name client before after i keeps) (λ y among. runs_once client ships (kept_at before y) (Pulls last seen) (none, met.0, among, met.1)) (λ trace turn. turn)
 
       by_end : (end : PullEnd) (after : Log) → Meets before last seen end after → Pulls_so end after
       by_end (ends.Pulled count) after met =
           subst (Pulls_so (ends.Pulled count)) (sym met.3) (replaces count (subst (Meets before last seen (ends.Pulled count)) met.3 met))
       by_end (ends.OtherLast other acked) after met =
-          subst (Pulls_so (ends.OtherLast other acked)) (sym met.3)
-          (asked (ends.OtherLast other acked) (Ok (Some (Snapshot client before.acked last seen))) done
-          (inl (snapshot (ends.OtherLast other acked) before (asking done.asks) (subst (Meets before last seen (ends.OtherLast other acked)) met.3 met) (followed-nothing (asking done.asks)))))
+          subst (Pulls_so (ends.OtherLast other acked)) (sym met.3) (stays (ends.OtherLast other acked) (subst (Meets before last seen (ends.OtherLast other acked)) met.3 met) refl (λ trace turn. turn))
       by_end (ends.Older path theirs ours) after met =
-          subst (Pulls_so (ends.Older path theirs ours)) (sym met.4)
-          (asked (ends.Older path theirs ours) (Ok (Some (Snapshot client before.acked last seen))) done
-          (inl (snapshot (ends.Older path theirs ours) before (asking done.asks) (subst (Meets before last seen (ends.Older path theirs ours)) met.4 met) (followed-nothing (asking done.asks)))))
+          subst (Pulls_so (ends.Older path theirs ours)) (sym met.4) (stays (ends.Older path theirs ours) (subst (Meets before last seen (ends.Older path theirs ours)) met.4 met) refl (λ trace turn. turn))
       by_end (ends.Pending count) after met = absurd met
       by_end ends.Unanswered after met = absurd met
       by_end ends.KeepFault after met = absurd met
@@ -288,17 +322,6 @@ pub pulled_cause : (before after : Log) (t u p q count : ℕ) (r : Result (Unit 
 pulled_cause before after t u p q count (Ok done) cause takes rose = cause
 pulled_cause before after t u p q count (Err keepers.Failed) cause takes rose = (cause.0, takes, rose refl)
 pulled_cause before after t u p q count (Err keepers.Memory) cause takes rose = (cause.0, inr takes)
-
--- ---- what a pull meets from in step
-
-module _ (client : ℕ) (before : Log) (none : before.pending ≡ []) (last : ℕ) (seen : Volume) where
-  pub never_older : (x y : World) → IsFreshReply (pull_of client before) x y (Snapshot client before.acked last seen) → InStep client before x → (end : PullEnd) (after : Log) → MeetsEnds before last seen end after → IsNotOlder end
-  never_older x y fresh now end after (inr broken) = λ path theirs ours is. let memory = broken.0 in absurd (cc)
-  never_older x y fresh now end after (inl met) = λ path theirs ours is.
-      let same : Meets before last seen (ends.Older path theirs ours) after = subst (λ (e : PullEnd). Meets before last seen e after) is met in
-      let newer : version_at before.base path ≤ version_at seen path = fresh_newer client before fresh.0 x y last seen path now none fresh.1 in
-      let lower = same.1.lower in
-      absurd (omega (arith, newer, lower))
 
 -- a settled pull came to a snapshot, or to nothing
 pub found_snapshot : (client acked : ℕ) (reply : Option Message) (last : ℕ) (seen : Volume) → IfSome reply (λ m. IsValid m × Echoes (Pull client acked) m) → Some (last, seen) ≡ snapshot_of reply → reply ≡ Some (Snapshot client acked last seen)

@@ -1,5 +1,5 @@
 -- What a client's calls do to its log, to what is kept of it and to the world about it, by one relation that goes on from call to call.
-use Rattle.std.specs.Prelude.{◌≡◌, ◌≢◌, ℕ, ◌≤◌, Bool, List, [], Option, Some}
+use Rattle.std.specs.Prelude.{◌≡◌, ◌≢◌, ℕ, ◌≤◌, Bool, List, [], ◌++◌, Option, Some}
 use Rattle.outside.specs.Outside.{RoseBy}
 use Rattle.outside.specs.Keeper.{Images}
 use Rattle.cmd_capture.specs.declared.runner.Run.{Run}
@@ -12,9 +12,12 @@ use Rattle.world_rules.specs.Served.{IsServed}
 use Rattle.world_rules.specs.World.{World}
 use Rattle.world_rules.specs.Telling.{LinkTelling, ToldWorlds}
 use Rattle.world_rules.specs.Settling.{failed_asks}
+use Rattle.world_rules.specs.InStep.{InStep, HasNoCollision}
 use Rattle.world_rules.specs.Run.{Runs, State, kept_at}
+use Rattle.client_core.specs.declared.pulling.PullEnd.{PullEnd}
 use Rattle.client_core.specs.Trace.{Trace}
 use Rattle.client_core.specs.Keeping.{Keeping}
+use Rattle.client_core.specs.Honest.{IsTruePull}
 
 -- what a runner tells: its runs, where it tells them, and how often it failed
 abbrev pub telling : Option (List Run) → ℕ → RunnerTelling
@@ -39,6 +42,8 @@ pub record Goes (client : ℕ) (ships : Bool) (name : List ℕ) (turns : Trace �
   pub keeping : Keeping name client before after kept trace.changes images images_now
   pub has_run : HasRun trace.runs trace.missed runner ran
   pub rose : RoseBy (failed_asks trace.asks) troubles now
+  -- where the log was in step, no pull of it met another last number at the server, and none older rows where the link had no trouble
+  pub true_pulls : InStep client before old → HasNoCollision client (before.pending ++ trace.entries) new.packets → (end : PullEnd) → IsIn end trace.pulls → IsTruePull troubles now end
 
 -- Over a link that tells its world, a client did what these turns of what is kept at the end say, and let nothing run.
 abbrev pub Went : ℕ → Bool → List ℕ → (Log → Trace → Type 0) → Log → Log → Option Images → Option Images → LinkTelling → LinkTelling → Type 0

@@ -1,5 +1,6 @@
 -- What the end of a sync or a pull means to a client that was in step with a world that is told.
 use Rattle.std.specs.Prelude.{◌≡◌, ◌≢◌, ◌⊎◌, ℕ, ◌<◌, []}
+use Rattle.outside.specs.Outside.{Rose}
 use Rattle.file_paths.specs.Path.{FilePath}
 use Rattle.tree_values.specs.Tree.{Volume, version_at}
 use Rattle.vol_tree.specs.Behind.{IsAhead}
@@ -48,3 +49,8 @@ IsNotOtherLast end = (last acked : ℕ) → end ≢ OtherLast last acked
 -- the pull did not meet older rows
 abbrev pub IsNotOlder : PullEnd → Type 0
 IsNotOlder end = (path : FilePath) (theirs ours : ℕ) → end ≢ Older path theirs ours
+
+-- A pull of a client in step that ended so, where the troubles of its link were these: it did not meet another last number, and where
+-- they did not rise no older rows.
+abbrev pub IsTruePull : ℕ → ℕ → PullEnd → Type 0
+IsTruePull troubles now end = IsNotOtherLast end × ((Rose troubles now → ⊥) → IsNotOlder end)

@@ -1,5 +1,5 @@
 -- A pull: where nothing is pending, the server's rows become the client's base.
-use Rattle.std.specs.Prelude.{◌≡◌, ◌≢◌, ◌⊎◌, ℕ, ◌<◌, ◌≤◌, Bool, true, false, List, [], length, None, Some, Result, Ok, Err}
+use Rattle.std.specs.Prelude.{◌≡◌, ◌≢◌, ◌⊎◌, ℕ, ◌<◌, ◌≤◌, Bool, true, false, List, [], ◌∷◌, length, None, Some, Result, Ok, Err}
 use Rattle.std.specs.declared.cmp.Ordering.TheVariants.{Less}
 use Rattle.outside.specs.declared.errors.KeepError.{KeepError}
 use Rattle.outside.specs.declared.errors.KeepError.TheVariants as keepers
@@ -14,7 +14,7 @@ use Rattle.world_rules.specs.Settling.{IsSettling, BreaksSettling}
 use Rattle.client_core.specs.declared.route.Route.{Route}
 use Rattle.client_core.specs.declared.pulling.PullEnd.{PullEnd}
 use Rattle.client_core.specs.declared.pulling.PullEnd.TheVariants.{Pulled, Pending, OtherLast, Older, Unanswered, KeepFault, Memory}
-use Rattle.client_core.specs.Trace.{Trace, nothing, followed, asking, changing}
+use Rattle.client_core.specs.Trace.{Trace, nothing, followed, asking, pulling}
 
 -- the client's pull, which tells the number that it knows to be accepted
 abbrev pub pull_of : ℕ → Log → Message
@@ -43,10 +43,10 @@ pulled_end count (Ok done) = Pulled count
 pulled_end count (Err keepers.Failed) = KeepFault
 pulled_end count (Err keepers.Memory) = Memory
 
--- what a pull changes that ends so, with this log
+-- how a pull ended that met a snapshot, and what it changed, with this log
 abbrev pub pull_change : PullEnd → Log → Trace
-pull_change (Pulled count) after = changing after
-pull_change end after = nothing
+pull_change (Pulled count) after = pulling (Pulled count) (after ∷ [])
+pull_change end after = pulling end []
 
 -- the settling of the pull, and what the log makes of the snapshot that came
 pub record PullsSnapshot (client : ℕ) (route : Route) (before : Log) (end : PullEnd) (after : Log) (trace : Trace) : Type 0 where

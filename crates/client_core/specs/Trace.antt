@@ -4,9 +4,11 @@ use Rattle.cmd_capture.specs.declared.runner.Run.{Run}
 use Rattle.mod_log.specs.declared.log.Entry.{Entry}
 use Rattle.mod_log.specs.Log.{Log}
 use Rattle.world_rules.specs.declared.asking.Ask.{Ask}
+use Rattle.client_core.specs.declared.pulling.PullEnd.{PullEnd}
 
--- Each in order: the asks that were made, the runs that a runner gave, the entries that were logged, and the log after each change.
--- A change is one entry that is logged, one that is acknowledged, or one pull that replaced the base.
+-- Each in order: the asks that were made, the runs that a runner gave, the entries that were logged, the log after each change, and how
+-- the pulls ended that met a snapshot. A change is one entry that is logged, one that is acknowledged, or one pull that replaced the
+-- base.
 pub record Trace : Type 0 where
   pub asks : List Ask
   pub runs : List Run
@@ -14,9 +16,10 @@ pub record Trace : Type 0 where
   pub missed : ℕ
   pub entries : List Entry
   pub changes : List Log
+  pub pulls : List PullEnd
 
 abbrev pub nothing : Trace
-nothing = record { asks = []; runs = []; missed = 0; entries = []; changes = [] }
+nothing = record { asks = []; runs = []; missed = 0; entries = []; changes = []; pulls = [] }
 
 -- one trace, and then another
 abbrev pub followed : Trace → Trace → Trace
@@ -26,23 +29,28 @@ followed earlier later = record {
   missed = earlier.missed + later.missed;
   entries = earlier.entries ++ later.entries;
   changes = earlier.changes ++ later.changes;
+  pulls = earlier.pulls ++ later.pulls;
 }
 
 -- these asks, which change nothing
 abbrev pub asking : List Ask → Trace
-asking asks = record { asks = asks; runs = []; missed = 0; entries = []; changes = [] }
+asking asks = record { asks = asks; runs = []; missed = 0; entries = []; changes = []; pulls = [] }
 
 -- a change of the log to this one
 abbrev pub changing : Log → Trace
-changing after = record { asks = []; runs = []; missed = 0; entries = []; changes = after ∷ [] }
+changing after = record { asks = []; runs = []; missed = 0; entries = []; changes = after ∷ []; pulls = [] }
 
 -- an entry that is logged, and the log then
 abbrev pub logging : Entry → Log → Trace
-logging entry after = record { asks = []; runs = []; missed = 0; entries = entry ∷ []; changes = after ∷ [] }
+logging entry after = record { asks = []; runs = []; missed = 0; entries = entry ∷ []; changes = after ∷ []; pulls = [] }
 
 -- these runs, and so many that failed
 abbrev pub running : List Run → ℕ → Trace
-running runs missed = record { asks = []; runs = runs; missed = missed; entries = []; changes = [] }
+running runs missed = record { asks = []; runs = runs; missed = missed; entries = []; changes = []; pulls = [] }
+
+-- a pull that ended so, with these changes of the log
+abbrev pub pulling : PullEnd → List Log → Trace
+pulling end changes = record { asks = []; runs = []; missed = 0; entries = []; changes = changes; pulls = end ∷ [] }
 
 -- ---- the logs that changes lead to
 

@@ -4,7 +4,7 @@ use Rattle.wire_frames.specs.declared.message.Message.TheVariants.{Pull, Snapsho
 use Rattle.wire_frames.specs.Frame.{IsValid, Echoes}
 use Rattle.world_rules.specs.declared.asking.Peer.TheVariants.{Server}
 use Rattle.world_rules.specs.InStep.{InStep}
-use Rattle.world_rules.specs.Telling.{LinkTelling}
+use Rattle.world_rules.specs.Telling.{LinkTelling, ToldWorlds, IsCalm}
 use Rattle.world_rules.specs.Settling.{Settled, IsFreshReply}
 use Rattle.world_rules.proofs.Asks.{told_as}
 use Rattle.world_rules.proofs.Settled.{settled_echoes, settled_troubles}
@@ -74,7 +74,10 @@ returns-in-Some-clause-world g c = λ images keeps.
     let end = c.take_snapshot.result in
     let after = c.take_snapshot.new.log in
     let is : c.in-Ok.reply ≡ Some (Snapshot client before.acked last seen) = found_snapshot client before.acked c.in-Ok.reply last seen told c.in-Some.ensures in
-    pull_met client route before images keeps none t u last seen (subst (λ (r : Option Message). Settled Server route.server (pull_of client before) t u (Ok r)) is done) end after c.take_snapshot.ensures
+    let direct : IsCalm t u → ToldWorlds t u (λ x y. IsFreshReply (pull_of client before) x y (Snapshot client before.acked last seen)) = λ calm.
+    told_as t.world u.world (λ x y. IfSome c.in-Ok.reply (IsFreshReply (Pull client c.acked.result) x y)) (λ x y. IsFreshReply (pull_of client before) x y (Snapshot client before.acked last seen)) (c.in-Ok.ensures.direct calm)
+    (λ x y fresh. subst (λ (r : Option Message). IfSome r (IsFreshReply (pull_of client before) x y)) is (subst (λ (n : ℕ). IfSome c.in-Ok.reply (IsFreshReply (Pull client n) x y)) c.acked.ensures.acked fresh)) in
+    pull_met client route before images keeps none t u last seen (subst (λ (r : Option Message). Settled Server route.server (pull_of client before) t u (Ok r)) is done) direct end after c.take_snapshot.ensures
 
 pub returns-in-Some-clause-cause : goal.returns-in-Some-clause-cause
 returns-in-Some-clause-cause g c = λ faults now.
