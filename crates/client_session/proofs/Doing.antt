@@ -26,7 +26,7 @@ module _ (ships : Bool) (name : List ℕ) where
       → ((trace : Trace) → T trace → IsLastOrBefore a.client.log trace.changes k → S trace) → Does ships name S a b k i j t u v w
   does_as T S a b k i j t u v w does to = record {
     number = does.number;
-    goes = record { trace = does.goes.trace; turn = to does.goes.trace does.goes.turn does.goes.keeping.behind; runs = does.goes.runs; keeping = does.goes.keeping; has_run = does.goes.has_run; rose = does.goes.rose };
+    goes = record { trace = does.goes.trace; turn = to does.goes.trace does.goes.turn does.goes.keeping.behind; runs = does.goes.runs; keeping = does.goes.keeping; has_run = does.goes.has_run; rose = does.goes.rose; true_pulls = does.goes.true_pulls };
   }
 
   -- one stretch, at whose end the client is kept, after another

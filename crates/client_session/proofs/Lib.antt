@@ -7,5 +7,6 @@ pub mod Counted
 pub mod Doing
 pub mod Found
 pub mod Peers
+pub mod Pulls
 pub mod Settlings
 pub mod Turning
