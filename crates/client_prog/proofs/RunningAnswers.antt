@@ -5,6 +5,7 @@ use Rattle.std.specs.List.{count_by}
 use Rattle.outside.specs.Outside.{RoseBy, Rose}
 use Rattle.cmd_capture.specs.Runs.{RunnerTelling, HasRun}
 use Rattle.tree_values.specs.Lists.{IsIn}
+use Rattle.vol_tree.proofs.Behind.{IsIn-left}
 use Rattle.mod_log.specs.Log.{Log}
 use Rattle.wire_frames.specs.declared.message.Message.TheVariants.{Gap}
 use Rattle.world_rules.specs.declared.asking.Ask.{Ask}
@@ -21,6 +22,7 @@ use Rattle.shell_lang.specs.declared.answer.Answer.{Answer}
 use Rattle.shell_lang.specs.declared.answer.Answer.TheVariants.{Behind}
 use Rattle.client_session.specs.Session.{SessionState, Chain, BreaksChain, LeavesPending, is_unrun}
 use Rattle.client_session.proofs.Counted.{unrun_lines_are_counted}
+use Rattle.client_session.proofs.Pulls.{IsRefusedPull, IsOfPull, session_pulls}
 use Rattle.client_session.proofs.Answered.{Stand, Gapless, Unrefused, IsPast, stand_parts, never_behind, all_synced}
 use Rattle.client_prog.specs.declared.input.InputEnd.{InputEnd}
 use Rattle.client_prog.specs.declared.run.Stop.{Stop}
@@ -33,14 +35,14 @@ use Rattle.client_prog.specs.Run.{asked_for, HandlesAll, Handles, RunTurn}
 abbrev SessionAnswers : Route → SessionState → List (Option Answer) → Trace → Type 0
 SessionAnswers route before answers trace =
     (asked : List (Result Line LineError)) × (after : SessionState) × (earlier later : Trace) × Chain route before asked answers after earlier × (trace.asks ≡ earlier.asks ++ later.asks)
-    × (trace.missed ≡ earlier.missed + later.missed)
+    × (trace.missed ≡ earlier.missed + later.missed) × (trace.pulls ≡ earlier.pulls ++ later.pulls)
 
 module _ (route : Route) (before after : SessionState) (kept : Log) (answers : List (Option Answer)) (trace : Trace) where
   all_handled : (lines : List (List ℕ)) → HandlesAll route before lines answers after kept trace → SessionAnswers route before answers trace
-  all_handled lines all = (asked_for lines, after, trace, nothing, all.0, sym (append-nil trace.asks), omega arith)
+  all_handled lines all = (asked_for lines, after, trace, nothing, all.0, sym (append-nil trace.asks), omega arith, sym (append-nil trace.pulls))
 
   some_handled : (lines : List (List ℕ)) → BreaksChain route before (asked_for lines) answers after kept trace → SessionAnswers route before answers trace
-  some_handled lines breaks = (breaks.0, breaks.2, breaks.3, breaks.4, breaks.6, ap (λ (t : Trace). t.asks) breaks.9, ap (λ (t : Trace). t.missed) breaks.9)
+  some_handled lines breaks = (breaks.0, breaks.2, breaks.3, breaks.4, breaks.6, ap (λ (t : Trace). t.asks) breaks.9, ap (λ (t : Trace). t.missed) breaks.9, ap (λ (t : Trace). t.pulls) breaks.9)
 
   handled : (stop : Stop) (lines : List (List ℕ)) → Handles stop route before lines answers after kept trace → SessionAnswers route before answers trace
   handled Sink lines all = all_handled lines all
@@ -56,6 +58,14 @@ module _ (route : Route) (before after : SessionState) (kept : Log) (answers : L
   few_unrun left rest o n ended turn =
       let session = session_of left rest o n ended turn in
       omega (arith, unrun_lines_are_counted route before session.0 answers session.1 session.2 session.4, session.6)
+
+  -- a pull that is answered so is told
+  pub pull_of_run : (left rest o n : Option (List ℕ)) (ended : Result InputEnd Stop) → RunTurn route before left rest answers o n ended after kept trace
+      → (answer : Option Answer) → IsIn answer answers → IsRefusedPull answer → IsOfPull answer trace
+  pull_of_run left rest o n ended turn answer among refused =
+      let session = session_of left rest o n ended turn in
+      let told = session_pulls route before session.0 answers session.1 session.2 session.4 answer among refused in
+      (told.0, subst (IsIn told.0) (sym session.7) (IsIn-left told.0 session.2.pulls session.3.pulls told.1), told.2)
 
 pub unrun_rose : (answers : List (Option Answer)) (trace : Trace) (old new : RunnerTelling) → count_by is_unrun answers ≤ trace.missed → HasRun trace.runs trace.missed old new → RoseBy (count_by is_unrun answers) old.faults new.faults
 unrun_rose answers trace old new few ran = omega (arith, few, ran.counted)

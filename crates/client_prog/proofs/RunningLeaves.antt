@@ -1,5 +1,5 @@
 -- What a run of a client leaves.
-use Rattle.std.proofs.Common.{◌≡◌, ◌≢◌, ⊎_elim, ℕ, Bool, false, List, ◌++◌, Option, None, is_some, Result, Ok, Err, refl, ◌∙◌, subst}
+use Rattle.std.proofs.Common.{◌≡◌, ◌≢◌, ⊎_elim, ℕ, Bool, false, List, ◌++◌, Option, Some, None, is_some, Result, Ok, Err, refl, ◌∙◌, subst}
 use Rattle.mod_log.specs.declared.log.Entry.{Entry}
 use Rattle.mod_log.specs.Log.{Log}
 use Rattle.world_rules.specs.declared.asking.Ask.{Ask}
@@ -20,12 +20,14 @@ use Rattle.client_core.specs.Keeping.{IsKept}
 use Rattle.client_core.specs.Goes.{Goes, stand}
 use Rattle.client_core.proofs.Going.{goes_none}
 use Rattle.shell_lang.specs.declared.answer.Answer.{Answer}
+use Rattle.shell_lang.specs.declared.answer.Answer.TheVariants.{OtherLast, Older}
 use Rattle.client_session.specs.Session.{SessionState, opened}
 use Rattle.client_prog.specs.Run.{status_of, Handles, RunTurn}
 use Rattle.client_prog.specs.InsideRun.{RunAnswers}
 use Rattle.client_prog.specs.Headline.{Leaves, Around, Ran}
 use Rattle.client_session.proofs.Answered.{log_past}
-use Rattle.client_prog.proofs.RunningAnswers.{unbehind, synced, none_failed, few_unrun, unrun_rose}
+use Rattle.client_session.proofs.Pulls.{answers_no_other, answers_no_older}
+use Rattle.client_prog.proofs.RunningAnswers.{unbehind, synced, none_failed, few_unrun, unrun_rose, pull_of_run}
 use Rattle.client_prog.proofs.RunningEnds.{run_nothing}
 use Rattle.client_prog.proofs.RunningPeers.{run_peers}
 
@@ -75,7 +77,7 @@ module _ (client : ℕ) (route : Route) (start : Log) (around around_now : Aroun
         answers = answers;
         after = after;
         kept = kept;
-        goes = record { trace = goes.trace; turn = goes.turn.1; runs = goes.runs; keeping = goes.keeping; has_run = goes.has_run; rose = goes.rose };
+        goes = record { trace = goes.trace; turn = goes.turn.1; runs = goes.runs; keeping = goes.keeping; has_run = goes.has_run; rose = goes.rose; true_pulls = goes.true_pulls };
         kept_last = λ other more.
             kept_at_end route (opened client start) after around.left around_now.left around.written around_now.written kept ended answers goes.trace (λ five. absurd (other (is ∙ five))) (λ seven. absurd (more (is ∙ seven))) goes.turn.1
             ∙ goes.keeping.last;
@@ -91,6 +93,12 @@ module _ (client : ℕ) (route : Route) (start : Log) (around around_now : Aroun
         honest = λ now apart.
             unbehind client route (opened client start) after kept answers goes.trace around.left around_now.left around.written around_now.written ended after.client.log y refl (at_end goes.runs now apart)
             (run_answers client (is_some route.surrogate) goes.trace.entries goes.trace.asks (kept_at start x) (stand after.client.log kept y) goes.runs) goes.turn.1;
+        same_last = λ now apart last among.
+            let told = pull_of_run route (opened client start) after kept answers goes.trace around.left around_now.left around.written around_now.written ended goes.turn.1 (Some (OtherLast last)) among tt in
+            answers_no_other told.0 last told.2 (goes.true_pulls now apart told.0 told.1).0;
+        fresh = λ now apart quiet path theirs ours among.
+            let told = pull_of_run route (opened client start) after kept answers goes.trace around.left around_now.left around.written around_now.written ended goes.turn.1 (Some (Older path theirs ours)) among tt in
+            answers_no_older told.0 path theirs ours told.2 ((goes.true_pulls now apart told.0 told.1).1 quiet);
         calm = λ now apart same own_only quiet.
             synced client route (opened client start) after kept answers goes.trace around.left around_now.left around.written around_now.written ended after.client.log y refl (at_end goes.runs now apart)
             (run_answers client (is_some route.surrogate) goes.trace.entries goes.trace.asks (kept_at start x) (stand after.client.log kept y) goes.runs) goes.turn.1 start.acked

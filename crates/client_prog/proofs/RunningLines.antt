@@ -47,7 +47,7 @@ texts_then (x ∷ xs) ys s t first second =
 nothing-followed : (trace : Trace) → followed nothing trace ≡ trace
 nothing-followed trace =
     let missed : 0 + trace.missed ≡ trace.missed = omega arith in
-    λ i. record { asks = trace.asks; runs = trace.runs; missed = missed i; entries = trace.entries; changes = trace.changes }
+    λ i. record { asks = trace.asks; runs = trace.runs; missed = missed i; entries = trace.entries; changes = trace.changes; pulls = trace.pulls }
 
 module _ (route : Route) where
   pub chain_then : (a b c : SessionState) (ls ms : List (Result Line LineError)) (s t : List (Option Answer)) (p q : Trace) → Chain route a ls s b p → Chain route b ms t c q → Chain route a (ls ++ ms) (s ++ t) c (followed p q)

@@ -23,7 +23,7 @@ use Rattle.client_core.specs.declared.route.Route.{Route}
 use Rattle.client_core.specs.Trace.{last_log}
 use Rattle.client_core.specs.Goes.{Goes}
 use Rattle.shell_lang.specs.declared.answer.Answer.{Answer}
-use Rattle.shell_lang.specs.declared.answer.Answer.TheVariants.{Behind}
+use Rattle.shell_lang.specs.declared.answer.Answer.TheVariants.{Behind, OtherLast, Older}
 use Rattle.client_session.specs.Session.{SessionState, opened, LeavesPending, is_unrun}
 use Rattle.client_session.specs.Laws.{IsOfRoute}
 use Rattle.client_prog.specs.Run.{RunTurn, status_of}
@@ -98,6 +98,11 @@ pub record Ran (client : ℕ) (route : Route) (start : Log) (around around_now :
   pub leaves : InStep client start old → HasNoCollision client (start.pending ++ goes.trace.entries) new.packets → Leaves client start after.client.log kept goes.trace.entries old new
   -- to a client whose log was in step the server is never behind
   pub honest : InStep client start old → HasNoCollision client (start.pending ++ goes.trace.entries) new.packets → (seq last : ℕ) → IsIn (Some (Behind seq last)) answers → ⊥
+  -- no pull of it meets another last number there
+  pub same_last : InStep client start old → HasNoCollision client (start.pending ++ goes.trace.entries) new.packets → (last : ℕ) → IsIn (Some (OtherLast last)) answers → ⊥
+  -- and none meets older rows, where the link had no trouble
+  pub fresh : InStep client start old → HasNoCollision client (start.pending ++ goes.trace.entries) new.packets → (Rose around.troubles around_now.troubles → ⊥)
+      → (path : FilePath) (theirs ours : ℕ) → IsIn (Some (Older path theirs ours)) answers → ⊥
   -- where the client's tree was served, nobody else wrote, and the link had no trouble, every sync came through
   pub calm : (begun : InStep client start old) (distinct : HasNoCollision client (start.pending ++ goes.trace.entries) new.packets) → old.served.volume ≡ tree_at (last_taken client old) start → AreAllOf client (leaves begun distinct).taken
       → (Rose around.troubles around_now.troubles → ⊥) → (answer : Option Answer) → IsIn answer answers → LeavesPending answer → ⊥
