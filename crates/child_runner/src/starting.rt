@@ -1,6 +1,8 @@
 // A program that is started and waited for.
-ghost use Rattle.std.specs.Prelude.{◌≡◌, ◌+◌, ◌<◌, ℕ, List, ◌∷◌, ◌++◌, true, Some, None, option_map, length, take, pos, IfOk, OnOk, string_bytes};
-ghost use Rattle.std.specs.Process.{exit_code, command_program, command_args, command_dir, command_var, clears_env, SameProgramAndArgs, SameOtherVars};
+ghost use Rattle.std.specs.Prelude.{◌≡◌, ◌+◌, ◌<◌, ℕ, List, ◌∷◌, ◌++◌, true, Some, None, option_map, length, take, pos};
+ghost use Rattle.std.specs.Prelude.{IfOk, OnOk, string_bytes};
+ghost use Rattle.std.specs.Process.{exit_code, command_program, command_args, command_dir, command_var, clears_env};
+ghost use Rattle.std.specs.Process.{SameProgramAndArgs, SameOtherVars};
 ghost use Rattle.file_paths.specs.Path.{path_text};
 ghost use Rattle.child_runner.specs.Variables.{TellsVariables};
 
@@ -94,7 +96,8 @@ fn add_variables(start: &mut process::Command, variables: &Env) -> io::Result<()
 /// Adds variable `i`, counted from 0.
 fn add_variable(start: &mut process::Command, variables: &Env, i: usize) -> io::Result<()>
     requires { i < length variables.now }
-    ensures variables { TellsVariables start.old (take i variables.now) → OnOk result (TellsVariables start.new (take (i + 1) variables.now)) }
+    ensures variables { TellsVariables start.old (take i variables.now)
+        → OnOk result (TellsVariables start.new (take (i + 1) variables.now)) }
     ensures call { OnOk result (SameProgramAndArgs start.old start.new) }
     ensures clears { OnOk result (clears_env start.new ≡ clears_env start.old) }
 {

@@ -111,7 +111,8 @@ fn pull_log<L: Link>(client: u8, route: &Route, log: &mut Log, link: &mut L) -> 
     requires high { client ≤ 64 }
     ensures world { (images : Option Images) → IsKept images route.now.image client log.old
         → ToldWorlds (L.tells link.old) (L.tells link.new)
-        (λ old new. Goes client (is_some route.now.surrogate) route.now.image (PullAsks client route.now log.old result log.new) log.old log.new log.old
+        (λ old new. Goes client (is_some route.now.surrogate) route.now.image
+        (PullAsks client route.now log.old result log.new) log.old log.new log.old
         images images no_runner no_runner (L.tells link.old).troubles (L.tells link.new).troubles old new) }
     ensures cause { (faults now : ℕ)
         → HasPullCause result log.old log.new (L.tells link.old).troubles (L.tells link.new).troubles faults now }

@@ -68,7 +68,8 @@ impl LineReader {
     ) -> Result<Option<InputEnd>, AllocError>
         requires { self.old.count ≤ MAX_INPUT }
         ensures ok { IfOk result (λ end. ReadsPiece (I.left input.old) (I.left input.new) self.old self.new end) }
-        ensures err { OnErr result ((piece : List ℕ) × Takes (I.left input.old) (I.left input.new) piece × (self.old.count + length piece ≤ MAX_INPUT + 1)) }
+        ensures err { OnErr result ((piece : List ℕ) × Takes (I.left input.old) (I.left input.new) piece
+            × (self.old.count + length piece ≤ MAX_INPUT + 1)) }
         ensures same { OnErr result (self.new ≡ self.old) }
         ensures later { I.faults input.old ≤ I.faults input.new }
         ensures cause { result ≡ Ok (Some InputEnd.Failed) → Rose (I.faults input.old) (I.faults input.new) }
@@ -92,7 +93,10 @@ impl LineReader {
     fn add(&mut self, piece: &[u8]) -> Result<(), AllocError>
         requires few { self.old.count + length piece.now ≤ MAX_INPUT + 1 }
         requires within { self.old.count ≤ MAX_INPUT }
-        ensures ok { OnOk result (self.new ≡ record { bytes = self.old.bytes ++ take (MAX_INPUT - self.old.count) piece.now; count = self.old.count + length piece.now }) }
+        ensures ok { OnOk result (self.new ≡ record {
+          bytes = self.old.bytes ++ take (MAX_INPUT - self.old.count) piece.now;
+          count = self.old.count + length piece.now;
+        }) }
         ensures err { OnErr result (self.new ≡ self.old) }
         ensures fits { self.old.count + length piece.now ≤ MAX_INPUT + 1 }
     {

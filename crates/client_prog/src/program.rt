@@ -137,7 +137,8 @@ pub fn client_program<
 pub fn client_main<
     R: Input + Print + Eprint + AllocGlobal + Files<File = File> + Processes + Net + Clock,
 >(rt: &R, process: u32, words: &[String]) -> ExitCode
-    ensures form { exit_status result ≡ 2 ↔ (page_asked (map string_bytes words.now) ≡ None) × (run_of (map string_bytes words.now) ≡ None) }
+    ensures form { exit_status result ≡ 2 ↔ (page_asked (map string_bytes words.now) ≡ None)
+        × (run_of (map string_bytes words.now) ≡ None) }
     ensures known { IsTrue (is_status (exit_status result)) }
 {
     let mut output = StdSink::new(io::writer(rt));
@@ -184,11 +185,20 @@ pub fn answered<R: Eprint, I: Source, O: Sink, K: Keeper, J: Runner, L: Link>(
 ) -> ExitCode
     ensures form { exit_status result ≡ 2 ↔ run_of (map string_bytes words.now) ≡ None }
     ensures known { IsTrue (is_status (exit_status result)) }
-    ensures untouched { run_of (map string_bytes words.now) ≡ None → (I.left input.new ≡ I.left input.old) × (I.faults input.new ≡ I.faults input.old) × (O.written output.new ≡ O.written output.old) × (O.faults output.new ≡ O.faults output.old) × (K.images keeper.new ≡ K.images keeper.old) × (K.faults keeper.new ≡ K.faults keeper.old) × (J.runs runner.new ≡ J.runs runner.old) × (J.faults runner.new ≡ J.faults runner.old) × (L.tells link.new ≡ L.tells link.old) }
+    ensures untouched { run_of (map string_bytes words.now) ≡ None → (I.left input.new ≡ I.left input.old)
+        × (I.faults input.new ≡ I.faults input.old) × (O.written output.new ≡ O.written output.old)
+        × (O.faults output.new ≡ O.faults output.old) × (K.images keeper.new ≡ K.images keeper.old)
+        × (K.faults keeper.new ≡ K.faults keeper.old) × (J.runs runner.new ≡ J.runs runner.old)
+        × (J.faults runner.new ≡ J.faults runner.old) × (L.tells link.new ≡ L.tells link.old) }
     // what is kept of no such client is left as it is, and nothing else is touched
-    ensures unopened { exit_status result ≡ 6 → (I.left input.new ≡ I.left input.old) × (I.faults input.new ≡ I.faults input.old) × (O.written output.new ≡ O.written output.old) × (O.faults output.new ≡ O.faults output.old) × (K.images keeper.new ≡ K.images keeper.old) × (J.runs runner.new ≡ J.runs runner.old) × (J.faults runner.new ≡ J.faults runner.old) × (L.tells link.new ≡ L.tells link.old) }
-    ensures image { IfSome (run_of (map string_bytes words.now)) (λ run. exit_status result ≡ 6 → (start : Log) → TellsKept (K.images keeper.old) run.image run.client start → ⊥) }
-    ensures no_image { IfSome (run_of (map string_bytes words.now)) (λ run. IsKeptOfNone (K.images keeper.old) run.image run.client → (exit_status result ≡ 5) ⊎ (exit_status result ≡ 6) ⊎ (exit_status result ≡ 7)) }
+    ensures unopened { exit_status result ≡ 6 → (I.left input.new ≡ I.left input.old) × (I.faults input.new ≡ I.faults input.old)
+        × (O.written output.new ≡ O.written output.old) × (O.faults output.new ≡ O.faults output.old)
+        × (K.images keeper.new ≡ K.images keeper.old) × (J.runs runner.new ≡ J.runs runner.old)
+        × (J.faults runner.new ≡ J.faults runner.old) × (L.tells link.new ≡ L.tells link.old) }
+    ensures image { IfSome (run_of (map string_bytes words.now)) (λ run. exit_status result ≡ 6 → (start : Log)
+        → TellsKept (K.images keeper.old) run.image run.client start → ⊥) }
+    ensures no_image { IfSome (run_of (map string_bytes words.now)) (λ run. IsKeptOfNone (K.images keeper.old) run.image run.client
+        → (exit_status result ≡ 5) ⊎ (exit_status result ≡ 6) ⊎ (exit_status result ≡ 7)) }
     // no count of faults or troubles falls
     ensures source_later { I.faults input.old ≤ I.faults input.new }
     ensures later { (L.tells link.old).troubles ≤ (L.tells link.new).troubles }
@@ -198,8 +208,25 @@ pub fn answered<R: Eprint, I: Source, O: Sink, K: Keeper, J: Runner, L: Link>(
     ensures sink { RisesWhere (exit_status result ≡ 4) (O.faults output.old) (O.faults output.new) }
     ensures keeper { RisesWhere (exit_status result ≡ 5) (K.faults keeper.old) (K.faults keeper.new) }
     ensures input { Told (I.left input.old) (I.left input.new) (IsRead (exit_status result)) }
-    ensures complete { IfSome (run_of (map string_bytes words.now)) (λ run. IfSome (I.left input.old) (λ bytes. (start : Log) → TellsKept (K.images keeper.old) run.image run.client start → length bytes ≤ MAX_INPUT → (Rose (I.faults input.old) (I.faults input.new) → ⊥) → (Rose (O.faults output.old) (O.faults output.new) → ⊥) → (Rose (K.faults keeper.old) (K.faults keeper.new) → ⊥) → (exit_status result ≡ 0) ⊎ (exit_status result ≡ 7))) }
-    ensures session { IfSome (run_of (map string_bytes words.now)) (λ run. (start : Log) → TellsKept (K.images keeper.old) run.image run.client start → ToldWorlds (L.tells link.old) (L.tells link.new) (Ran run.client (route_of run) start (record { left = I.left input.old; written = O.written output.old; images = K.images keeper.old; runner = telling (J.runs runner.old) (J.faults runner.old); troubles = (L.tells link.old).troubles }) (record { left = I.left input.new; written = O.written output.new; images = K.images keeper.new; runner = telling (J.runs runner.new) (J.faults runner.new); troubles = (L.tells link.new).troubles }) (exit_status result))) }
+    ensures complete { IfSome (run_of (map string_bytes words.now)) (λ run. IfSome (I.left input.old)
+        (λ bytes. (start : Log) → TellsKept (K.images keeper.old) run.image run.client start → length bytes ≤ MAX_INPUT
+        → (Rose (I.faults input.old) (I.faults input.new) → ⊥) → (Rose (O.faults output.old) (O.faults output.new) → ⊥)
+        → (Rose (K.faults keeper.old) (K.faults keeper.new) → ⊥) → (exit_status result ≡ 0) ⊎ (exit_status result ≡ 7))) }
+    ensures session { IfSome (run_of (map string_bytes words.now)) (λ run. (start : Log)
+        → TellsKept (K.images keeper.old) run.image run.client start → ToldWorlds (L.tells link.old) (L.tells link.new)
+        (Ran run.client (route_of run) start (record {
+          left = I.left input.old;
+          written = O.written output.old;
+          images = K.images keeper.old;
+          runner = telling (J.runs runner.old) (J.faults runner.old);
+          troubles = (L.tells link.old).troubles;
+        }) (record {
+          left = I.left input.new;
+          written = O.written output.new;
+          images = K.images keeper.new;
+          runner = telling (J.runs runner.new) (J.faults runner.new);
+          troubles = (L.tells link.new).troubles;
+        }) (exit_status result))) }
 {
     let status = client_run(alloc, words, input, output, keeper, runner, link);
     end(rt, NAME, status)

@@ -1,5 +1,6 @@
 // A run of the client over its input.
-ghost use Rattle.std.specs.Prelude.{◌≡◌, ◌≢◌, ◌⊎◌, ◌↔◌, ◌≤◌, ◌∷◌, ℕ, [], false, None, Some, Ok, Err, IfOk, OnOk, OnErr, IfSome, IsTrue, take, length, map};
+ghost use Rattle.std.specs.Prelude.{◌≡◌, ◌≢◌, ◌⊎◌, ◌↔◌, ◌≤◌, ◌∷◌, ℕ, [], false, None, Some, Ok, Err, IfOk, OnOk, OnErr};
+ghost use Rattle.std.specs.Prelude.{IfSome, IsTrue, take, length, map};
 ghost use Rattle.std.specs.Option.{option_copied};
 ghost use Rattle.std.specs.String.{string_bytes};
 ghost use Rattle.outside.specs.Outside.{Told, Adds, CountsFault, RisesWhere, Rose};
@@ -12,7 +13,8 @@ ghost use Rattle.client_prog.specs.Input.{last_at};
 ghost use Rattle.client_prog.specs.Words.{run_of};
 ghost use Rattle.client_session.specs.Session.{IsText};
 ghost use Rattle.client_prog.specs.Opening.{status_unopened};
-ghost use Rattle.client_prog.specs.Run.{status_of, is_status, route_of, is_quit, quits, has_quit, up_to_quit, end_of, closing_line, closing_at, IsRead};
+ghost use Rattle.client_prog.specs.Run.{status_of, is_status, route_of, is_quit, quits, has_quit, up_to_quit, end_of};
+ghost use Rattle.client_prog.specs.Run.{closing_line, closing_at, IsRead};
 ghost use Rattle.client_prog.specs.Headline.{Ran};
 ghost use Rattle.client_session.specs.Doing.{WentDoing, beside};
 ghost use Rattle.client_core.specs.Goes.{telling};
@@ -140,7 +142,10 @@ fn answer<O: Sink, K: Keeper, R: Runner, L: Link>(
     link: &mut L,
 ) -> Result<bool, Stop>
     requires { IsKept (K.images keeper.old) route.now.image session.old.client.number session.old.client.log }
-    ensures world { WentDoing route.now (AnswersLines route.now session.old (line.now ∷ []) (O.written output.old) (O.written output.new) result session.new) session.old session.new (K.images keeper.old) (K.images keeper.new) (beside (L.tells link.old) (telling (R.runs runner.old) (R.faults runner.old))) (beside (L.tells link.new) (telling (R.runs runner.new) (R.faults runner.new))) }
+    ensures world { WentDoing route.now (AnswersLines route.now session.old (line.now ∷ []) (O.written output.old)
+        (O.written output.new) result session.new) session.old session.new (K.images keeper.old) (K.images keeper.new)
+        (beside (L.tells link.old) (telling (R.runs runner.old) (R.faults runner.old)))
+        (beside (L.tells link.new) (telling (R.runs runner.new) (R.faults runner.new))) }
     ensures quit { IfOk result (λ quit. quit ≡ quits line.now) }
     ensures kept { IfOk result (λ done. IsKept (K.images keeper.new) route.now.image session.new.client.number session.new.client.log) }
     ensures later { (L.tells link.old).troubles ≤ (L.tells link.new).troubles }
@@ -168,7 +173,10 @@ fn answer_lines<O: Sink, K: Keeper, R: Runner, L: Link>(
     link: &mut L,
 ) -> Result<bool, Stop>
     requires { IsKept (K.images keeper.old) route.now.image session.old.client.number session.old.client.log }
-    ensures world { WentDoing route.now (AnswersLines route.now session.old (up_to_quit (whole_lines reader.old.bytes)) (O.written output.old) (O.written output.new) result session.new) session.old session.new (K.images keeper.old) (K.images keeper.new) (beside (L.tells link.old) (telling (R.runs runner.old) (R.faults runner.old))) (beside (L.tells link.new) (telling (R.runs runner.new) (R.faults runner.new))) }
+    ensures world { WentDoing route.now (AnswersLines route.now session.old (up_to_quit (whole_lines reader.old.bytes))
+        (O.written output.old) (O.written output.new) result session.new) session.old session.new (K.images keeper.old)
+        (K.images keeper.new) (beside (L.tells link.old) (telling (R.runs runner.old) (R.faults runner.old)))
+        (beside (L.tells link.new) (telling (R.runs runner.new) (R.faults runner.new))) }
     ensures quit { IfOk result (λ quit. quit ≡ has_quit (whole_lines reader.old.bytes)) }
     ensures left { IfOk result (λ quit. quit ≡ false → HasUnfinished reader.old reader.new) }
     ensures kept { IfOk result (λ done. IsKept (K.images keeper.new) route.now.image session.new.client.number session.new.client.log) }
@@ -200,7 +208,10 @@ fn answer_input<I: Source, O: Sink, K: Keeper, R: Runner, L: Link>(
     link: &mut L,
 ) -> Result<InputEnd, Stop>
     requires { IsKept (K.images keeper.old) route.now.image session.old.client.number session.old.client.log }
-    ensures world { WentDoing route.now (AnswersInput route.now session.old (I.left input.old) (I.left input.new) (O.written output.old) (O.written output.new) result session.new) session.old session.new (K.images keeper.old) (K.images keeper.new) (beside (L.tells link.old) (telling (R.runs runner.old) (R.faults runner.old))) (beside (L.tells link.new) (telling (R.runs runner.new) (R.faults runner.new))) }
+    ensures world { WentDoing route.now (AnswersInput route.now session.old (I.left input.old) (I.left input.new) (O.written output.old)
+        (O.written output.new) result session.new) session.old session.new (K.images keeper.old) (K.images keeper.new)
+        (beside (L.tells link.old) (telling (R.runs runner.old) (R.faults runner.old)))
+        (beside (L.tells link.new) (telling (R.runs runner.new) (R.faults runner.new))) }
     ensures input { TakesInput (I.left input.old) (I.left input.new) result }
     ensures kept { IfOk result (λ done. IsKept (K.images keeper.new) route.now.image session.new.client.number session.new.client.log) }
     ensures later { (L.tells link.old).troubles ≤ (L.tells link.new).troubles }
@@ -248,7 +259,10 @@ fn answer_last<O: Sink, K: Keeper, R: Runner, L: Link>(
     link: &mut L,
 ) -> Result<(), Stop>
     requires { IsKept (K.images keeper.old) route.now.image session.old.client.number session.old.client.log }
-    ensures world { WentDoing route.now (AnswersLines route.now session.old (last_at end reader.now.bytes) (O.written output.old) (O.written output.new) result session.new) session.old session.new (K.images keeper.old) (K.images keeper.new) (beside (L.tells link.old) (telling (R.runs runner.old) (R.faults runner.old))) (beside (L.tells link.new) (telling (R.runs runner.new) (R.faults runner.new))) }
+    ensures world { WentDoing route.now (AnswersLines route.now session.old (last_at end reader.now.bytes) (O.written output.old)
+        (O.written output.new) result session.new) session.old session.new (K.images keeper.old) (K.images keeper.new)
+        (beside (L.tells link.old) (telling (R.runs runner.old) (R.faults runner.old)))
+        (beside (L.tells link.new) (telling (R.runs runner.new) (R.faults runner.new))) }
     ensures kept { IfOk result (λ done. IsKept (K.images keeper.new) route.now.image session.new.client.number session.new.client.log) }
     ensures later { (L.tells link.old).troubles ≤ (L.tells link.new).troubles }
     ensures runner_later { R.faults runner.old ≤ R.faults runner.new }
@@ -282,7 +296,10 @@ fn answer_unfinished<O: Sink, K: Keeper, R: Runner, L: Link>(
     link: &mut L,
 ) -> Result<(), Stop>
     requires { IsKept (K.images keeper.old) route.now.image session.old.client.number session.old.client.log }
-    ensures world { WentDoing route.now (AnswersLines route.now session.old (last_line line.now) (O.written output.old) (O.written output.new) result session.new) session.old session.new (K.images keeper.old) (K.images keeper.new) (beside (L.tells link.old) (telling (R.runs runner.old) (R.faults runner.old))) (beside (L.tells link.new) (telling (R.runs runner.new) (R.faults runner.new))) }
+    ensures world { WentDoing route.now (AnswersLines route.now session.old (last_line line.now) (O.written output.old)
+        (O.written output.new) result session.new) session.old session.new (K.images keeper.old) (K.images keeper.new)
+        (beside (L.tells link.old) (telling (R.runs runner.old) (R.faults runner.old)))
+        (beside (L.tells link.new) (telling (R.runs runner.new) (R.faults runner.new))) }
     ensures kept { IfOk result (λ done. IsKept (K.images keeper.new) route.now.image session.new.client.number session.new.client.log) }
     ensures later { (L.tells link.old).troubles ≤ (L.tells link.new).troubles }
     ensures runner_later { R.faults runner.old ≤ R.faults runner.new }
@@ -304,7 +321,8 @@ fn close<O: Sink>(
     output: &mut O,
 ) -> Result<(), Stop>
     ensures all { OnOk result (Adds (O.written output.old) (O.written output.new) (closing_at end session.now)) }
-    ensures front { OnErr result ((end ≡ InputEnd.Read) × ((count : ℕ) × Adds (O.written output.old) (O.written output.new) (take count (closing_line session.now)))) }
+    ensures front { OnErr result ((end ≡ InputEnd.Read) × ((count : ℕ)
+        × Adds (O.written output.old) (O.written output.new) (take count (closing_line session.now)))) }
     ensures cause { CountsFault Stop.Sink (O.faults output.old) (O.faults output.new) result }
     ensures keeper { result ≢ Err Stop.Keeper }
 {
@@ -340,7 +358,10 @@ fn run<I: Source, O: Sink, K: Keeper, R: Runner, L: Link>(
     link: &mut L,
 ) -> Result<InputEnd, Stop>
     requires { IsKept (K.images keeper.old) route.now.image session.old.client.number session.old.client.log }
-    ensures world { WentDoing route.now (RunAnswers route.now session.old (I.left input.old) (I.left input.new) (O.written output.old) (O.written output.new) result session.new) session.old session.new (K.images keeper.old) (K.images keeper.new) (beside (L.tells link.old) (telling (R.runs runner.old) (R.faults runner.old))) (beside (L.tells link.new) (telling (R.runs runner.new) (R.faults runner.new))) }
+    ensures world { WentDoing route.now (RunAnswers route.now session.old (I.left input.old) (I.left input.new) (O.written output.old)
+        (O.written output.new) result session.new) session.old session.new (K.images keeper.old) (K.images keeper.new)
+        (beside (L.tells link.old) (telling (R.runs runner.old) (R.faults runner.old)))
+        (beside (L.tells link.new) (telling (R.runs runner.new) (R.faults runner.new))) }
     ensures input { TakesInput (I.left input.old) (I.left input.new) result }
     ensures later { (L.tells link.old).troubles ≤ (L.tells link.new).troubles }
     ensures runner_later { R.faults runner.old ≤ R.faults runner.new }
@@ -368,7 +389,13 @@ fn status_unopened(unopened: Unopened) -> u8
 
 /// Where the client's image, peers and commands are, by the words of a run.
 fn route_of(alloc: Global, words: &RunWords<'_>) -> Result<Route, AllocError>
-    ensures { IfOk result (λ route. route ≡ route_of (record { client = words.now.client; image = words.now.image.now; server = words.now.server.now; surrogate = option_copied words.now.surrogate; work = words.now.work.now })) }
+    ensures { IfOk result (λ route. route ≡ route_of (record {
+      client = words.now.client;
+      image = words.now.image.now;
+      server = words.now.server.now;
+      surrogate = option_copied words.now.surrogate;
+      work = words.now.work.now;
+    })) }
 {
     Ok(Route {
         image: Content::of(alloc, words.image)?,
@@ -413,11 +440,20 @@ pub fn client_run<I: Source, O: Sink, K: Keeper, R: Runner, L: Link>(
 ) -> u8
     ensures form { result ≡ 2 ↔ run_of (map string_bytes words.now) ≡ None }
     ensures known { IsTrue (is_status result) }
-    ensures untouched { run_of (map string_bytes words.now) ≡ None → (I.left input.new ≡ I.left input.old) × (I.faults input.new ≡ I.faults input.old) × (O.written output.new ≡ O.written output.old) × (O.faults output.new ≡ O.faults output.old) × (K.images keeper.new ≡ K.images keeper.old) × (K.faults keeper.new ≡ K.faults keeper.old) × (R.runs runner.new ≡ R.runs runner.old) × (R.faults runner.new ≡ R.faults runner.old) × (L.tells link.new ≡ L.tells link.old) }
+    ensures untouched { run_of (map string_bytes words.now) ≡ None → (I.left input.new ≡ I.left input.old)
+        × (I.faults input.new ≡ I.faults input.old) × (O.written output.new ≡ O.written output.old)
+        × (O.faults output.new ≡ O.faults output.old) × (K.images keeper.new ≡ K.images keeper.old)
+        × (K.faults keeper.new ≡ K.faults keeper.old) × (R.runs runner.new ≡ R.runs runner.old)
+        × (R.faults runner.new ≡ R.faults runner.old) × (L.tells link.new ≡ L.tells link.old) }
     // what is kept of no such client is left as it is, and nothing else is touched
-    ensures unopened { result ≡ 6 → (I.left input.new ≡ I.left input.old) × (I.faults input.new ≡ I.faults input.old) × (O.written output.new ≡ O.written output.old) × (O.faults output.new ≡ O.faults output.old) × (K.images keeper.new ≡ K.images keeper.old) × (R.runs runner.new ≡ R.runs runner.old) × (R.faults runner.new ≡ R.faults runner.old) × (L.tells link.new ≡ L.tells link.old) }
-    ensures image { IfSome (run_of (map string_bytes words.now)) (λ run. result ≡ 6 → (start : Log) → TellsKept (K.images keeper.old) run.image run.client start → ⊥) }
-    ensures no_image { IfSome (run_of (map string_bytes words.now)) (λ run. IsKeptOfNone (K.images keeper.old) run.image run.client → (result ≡ 5) ⊎ (result ≡ 6) ⊎ (result ≡ 7)) }
+    ensures unopened { result ≡ 6 → (I.left input.new ≡ I.left input.old) × (I.faults input.new ≡ I.faults input.old)
+        × (O.written output.new ≡ O.written output.old) × (O.faults output.new ≡ O.faults output.old)
+        × (K.images keeper.new ≡ K.images keeper.old) × (R.runs runner.new ≡ R.runs runner.old)
+        × (R.faults runner.new ≡ R.faults runner.old) × (L.tells link.new ≡ L.tells link.old) }
+    ensures image { IfSome (run_of (map string_bytes words.now)) (λ run. result ≡ 6 → (start : Log)
+        → TellsKept (K.images keeper.old) run.image run.client start → ⊥) }
+    ensures no_image { IfSome (run_of (map string_bytes words.now)) (λ run. IsKeptOfNone (K.images keeper.old) run.image run.client
+        → (result ≡ 5) ⊎ (result ≡ 6) ⊎ (result ≡ 7)) }
     // no count of faults or troubles falls
     ensures source_later { I.faults input.old ≤ I.faults input.new }
     ensures later { (L.tells link.old).troubles ≤ (L.tells link.new).troubles }
@@ -427,8 +463,25 @@ pub fn client_run<I: Source, O: Sink, K: Keeper, R: Runner, L: Link>(
     ensures sink { RisesWhere (result ≡ 4) (O.faults output.old) (O.faults output.new) }
     ensures keeper { RisesWhere (result ≡ 5) (K.faults keeper.old) (K.faults keeper.new) }
     ensures input { Told (I.left input.old) (I.left input.new) (IsRead result) }
-    ensures complete { IfSome (run_of (map string_bytes words.now)) (λ run. IfSome (I.left input.old) (λ bytes. (start : Log) → TellsKept (K.images keeper.old) run.image run.client start → length bytes ≤ MAX_INPUT → (Rose (I.faults input.old) (I.faults input.new) → ⊥) → (Rose (O.faults output.old) (O.faults output.new) → ⊥) → (Rose (K.faults keeper.old) (K.faults keeper.new) → ⊥) → (result ≡ 0) ⊎ (result ≡ 7))) }
-    ensures session { IfSome (run_of (map string_bytes words.now)) (λ run. (start : Log) → TellsKept (K.images keeper.old) run.image run.client start → ToldWorlds (L.tells link.old) (L.tells link.new) (Ran run.client (route_of run) start (record { left = I.left input.old; written = O.written output.old; images = K.images keeper.old; runner = telling (R.runs runner.old) (R.faults runner.old); troubles = (L.tells link.old).troubles }) (record { left = I.left input.new; written = O.written output.new; images = K.images keeper.new; runner = telling (R.runs runner.new) (R.faults runner.new); troubles = (L.tells link.new).troubles }) result)) }
+    ensures complete { IfSome (run_of (map string_bytes words.now)) (λ run. IfSome (I.left input.old)
+        (λ bytes. (start : Log) → TellsKept (K.images keeper.old) run.image run.client start → length bytes ≤ MAX_INPUT
+        → (Rose (I.faults input.old) (I.faults input.new) → ⊥) → (Rose (O.faults output.old) (O.faults output.new) → ⊥)
+        → (Rose (K.faults keeper.old) (K.faults keeper.new) → ⊥) → (result ≡ 0) ⊎ (result ≡ 7))) }
+    ensures session { IfSome (run_of (map string_bytes words.now)) (λ run. (start : Log)
+        → TellsKept (K.images keeper.old) run.image run.client start → ToldWorlds (L.tells link.old) (L.tells link.new)
+        (Ran run.client (route_of run) start (record {
+          left = I.left input.old;
+          written = O.written output.old;
+          images = K.images keeper.old;
+          runner = telling (R.runs runner.old) (R.faults runner.old);
+          troubles = (L.tells link.old).troubles;
+        }) (record {
+          left = I.left input.new;
+          written = O.written output.new;
+          images = K.images keeper.new;
+          runner = telling (R.runs runner.new) (R.faults runner.new);
+          troubles = (L.tells link.new).troubles;
+        }) result)) }
 {
     let Some(words) = run_words(words) else {
         return 2;

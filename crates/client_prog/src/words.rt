@@ -25,7 +25,13 @@ pub struct RunWords<'a> {
 /// Takes apart the words `run NUMBER IMAGE SERVER SURROGATE WORK`, of which `-` is no surrogate; `None` for any others.
 pub fn run_words(words: &[String]) -> Option<RunWords<'_>>
     ensures form { MatchOption result (run_of (map string_bytes words.now) ≡ None)
-        (λ run. run_of (map string_bytes words.now) ≡ Some (record { client = run.client; image = run.image.now; server = run.server.now; surrogate = option_copied run.surrogate; work = run.work.now })) }
+        (λ run. run_of (map string_bytes words.now) ≡ Some (record {
+          client = run.client;
+          image = run.image.now;
+          server = run.server.now;
+          surrogate = option_copied run.surrogate;
+          work = run.work.now;
+        })) }
     ensures range { IfSome result (λ run. (1 ≤ run.client) × (run.client ≤ CLIENTS)) }
 {
     let [run, number, image, server, surrogate, work] = words else {

@@ -1,5 +1,6 @@
 // Laws of sessions.
-ghost use Rattle.client_session.specs.Laws.{SessionsChangeSo, AsksAndRunsMakeSessions, UnrunLinesAreCounted, LinesRunOnce, AsksAreOfTheRoute, BrokenSessionsAskTheRoute};
+ghost use Rattle.client_session.specs.Laws.{SessionsChangeSo, AsksAndRunsMakeSessions, UnrunLinesAreCounted};
+ghost use Rattle.client_session.specs.Laws.{LinesRunOnce, AsksAreOfTheRoute, BrokenSessionsAskTheRoute};
 ghost use Rattle.client_session.specs.Contents.{DistinctContentsDoNotCollide, BrokenSessionsDoNotCollide};
 
 /// Law: what a session changes of the log are entries that it logs, acknowledgements of the first pending one and pulls, one

@@ -27,7 +27,8 @@ impl Session {
         runner: &mut R,
     ) -> Result<Option<Answer>, KeepError>
         requires { IsKept (K.images keeper.old) route.now.image self.old.client.number self.old.client.log }
-        ensures runs { RunsLine route.now words.now self.old result self.new (K.images keeper.old) (K.images keeper.new) (telling (R.runs runner.old) (R.faults runner.old)) (telling (R.runs runner.new) (R.faults runner.new)) }
+        ensures runs { RunsLine route.now words.now self.old result self.new (K.images keeper.old) (K.images keeper.new)
+            (telling (R.runs runner.old) (R.faults runner.old)) (telling (R.runs runner.new) (R.faults runner.new)) }
         ensures kept { IfOk result (λ answer. IsKept (K.images keeper.new) route.now.image self.new.client.number self.new.client.log) }
         ensures later { R.faults runner.old ≤ R.faults runner.new }
         ensures keeper { CountsFault KeepError.Failed (K.faults keeper.old) (K.faults keeper.new) result }
@@ -48,7 +49,8 @@ impl Session {
     ) -> Result<Option<Answer>, KeepError>
         requires command { IsCommand command }
         requires kept { IsKept (K.images keeper.old) route.now.image self.old.client.number self.old.client.log }
-        ensures runs { RunsMade route.now command self.old result self.new (K.images keeper.old) (K.images keeper.new) (telling (R.runs runner.old) (R.faults runner.old)) (telling (R.runs runner.new) (R.faults runner.new)) }
+        ensures runs { RunsMade route.now command self.old result self.new (K.images keeper.old) (K.images keeper.new)
+            (telling (R.runs runner.old) (R.faults runner.old)) (telling (R.runs runner.new) (R.faults runner.new)) }
         ensures kept { IfOk result (λ answer. IsKept (K.images keeper.new) route.now.image self.new.client.number self.new.client.log) }
         ensures later { R.faults runner.old ≤ R.faults runner.new }
         ensures keeper { CountsFault KeepError.Failed (K.faults keeper.old) (K.faults keeper.new) result }

@@ -4,7 +4,9 @@ ghost use Rattle.std.specs.Option.{option_copied};
 ghost use Rattle.outside.specs.Outside.{CountsFault};
 ghost use Rattle.mod_log.specs.Log.{tree_of};
 ghost use Rattle.client_core.specs.Keeping.{IsKept};
-ghost use Rattle.client_session.specs.Session.{opened, put_effect, make_effect, remove_effect, move_effect, with_folder, local_answer, word_answer, sync_answer, pull_answer, status_answer};
+ghost use Rattle.client_session.specs.Session.{opened, put_effect, make_effect, remove_effect, move_effect};
+ghost use Rattle.client_session.specs.Session.{with_folder, local_answer, word_answer, sync_answer, pull_answer};
+ghost use Rattle.client_session.specs.Session.{status_answer};
 ghost use Rattle.client_session.specs.Looking.{cat_answer, list_answer, enter_answer, folder_by};
 ghost use Rattle.cmd_capture.specs.Runs.{RunnerTelling};
 ghost use Rattle.client_core.specs.Goes.{telling};
@@ -67,12 +69,17 @@ impl Session {
         runner: &mut R,
     ) -> Result<Option<Answer>, KeepError>
         requires { IsKept (K.images keeper.old) route.now.image self.old.client.number self.old.client.log }
-        ensures world { WentDoing route.now (LineEnds route.now self.old line result self.new) self.old self.new (K.images keeper.old) (K.images keeper.new) (beside (L.tells link.old) (telling (R.runs runner.old) (R.faults runner.old))) (beside (L.tells link.new) (telling (R.runs runner.new) (R.faults runner.new))) }
-        ensures cause { HasLineCause route.now self.old line result self.new (beside (L.tells link.old) (telling (R.runs runner.old) (R.faults runner.old))) (beside (L.tells link.new) (telling (R.runs runner.new) (R.faults runner.new))) (K.faults keeper.old) (K.faults keeper.new) }
+        ensures world { WentDoing route.now (LineEnds route.now self.old line result self.new) self.old self.new (K.images keeper.old)
+            (K.images keeper.new) (beside (L.tells link.old) (telling (R.runs runner.old) (R.faults runner.old)))
+            (beside (L.tells link.new) (telling (R.runs runner.new) (R.faults runner.new))) }
+        ensures cause { HasLineCause route.now self.old line result self.new
+            (beside (L.tells link.old) (telling (R.runs runner.old) (R.faults runner.old)))
+            (beside (L.tells link.new) (telling (R.runs runner.new) (R.faults runner.new))) (K.faults keeper.old) (K.faults keeper.new) }
         ensures kept { IfOk result (λ answer. IsKept (K.images keeper.new) route.now.image self.new.client.number self.new.client.log) }
         ensures later { (L.tells link.old).troubles ≤ (L.tells link.new).troubles }
         ensures runner_later { R.faults runner.old ≤ R.faults runner.new }
-        ensures runner { is_run line ≡ false → telling (R.runs runner.new) (R.faults runner.new) ≡ telling (R.runs runner.old) (R.faults runner.old) }
+        ensures runner { is_run line ≡ false → telling (R.runs runner.new) (R.faults runner.new) ≡ telling (R.runs runner.old)
+            (R.faults runner.old) }
         ensures keeper { CountsFault KeepError.Failed (K.faults keeper.old) (K.faults keeper.new) result }
     {
         let image = route.image.bytes();
@@ -114,7 +121,8 @@ impl Session {
         keeper: &mut K,
     ) -> Result<Option<Answer>, KeepError>
         requires { IsKept (K.images keeper.old) image.now self.old.client.number self.old.client.log }
-        ensures logs { Logs image.now (put_effect self.old.folder path.now text.now) self.old result self.new (K.images keeper.old) (K.images keeper.new) }
+        ensures logs { Logs image.now (put_effect self.old.folder path.now text.now) self.old result self.new (K.images keeper.old)
+            (K.images keeper.new) }
         ensures kept { IfOk result (λ answer. IsKept (K.images keeper.new) image.now self.new.client.number self.new.client.log) }
         ensures keeper { CountsFault KeepError.Failed (K.faults keeper.old) (K.faults keeper.new) result }
     {
@@ -130,7 +138,8 @@ impl Session {
         keeper: &mut K,
     ) -> Result<Option<Answer>, KeepError>
         requires { IsKept (K.images keeper.old) image.now self.old.client.number self.old.client.log }
-        ensures logs { Logs image.now (make_effect self.old.folder path.now) self.old result self.new (K.images keeper.old) (K.images keeper.new) }
+        ensures logs { Logs image.now (make_effect self.old.folder path.now) self.old result self.new (K.images keeper.old)
+            (K.images keeper.new) }
         ensures kept { IfOk result (λ answer. IsKept (K.images keeper.new) image.now self.new.client.number self.new.client.log) }
         ensures keeper { CountsFault KeepError.Failed (K.faults keeper.old) (K.faults keeper.new) result }
     {
@@ -146,7 +155,8 @@ impl Session {
         keeper: &mut K,
     ) -> Result<Option<Answer>, KeepError>
         requires { IsKept (K.images keeper.old) image.now self.old.client.number self.old.client.log }
-        ensures logs { Logs image.now (remove_effect self.old.folder path.now) self.old result self.new (K.images keeper.old) (K.images keeper.new) }
+        ensures logs { Logs image.now (remove_effect self.old.folder path.now) self.old result self.new (K.images keeper.old)
+            (K.images keeper.new) }
         ensures kept { IfOk result (λ answer. IsKept (K.images keeper.new) image.now self.new.client.number self.new.client.log) }
         ensures keeper { CountsFault KeepError.Failed (K.faults keeper.old) (K.faults keeper.new) result }
     {
@@ -163,7 +173,8 @@ impl Session {
         keeper: &mut K,
     ) -> Result<Option<Answer>, KeepError>
         requires { IsKept (K.images keeper.old) image.now self.old.client.number self.old.client.log }
-        ensures logs { Logs image.now (move_effect self.old.folder from.now to.now) self.old result self.new (K.images keeper.old) (K.images keeper.new) }
+        ensures logs { Logs image.now (move_effect self.old.folder from.now to.now) self.old result self.new (K.images keeper.old)
+            (K.images keeper.new) }
         ensures kept { IfOk result (λ answer. IsKept (K.images keeper.new) image.now self.new.client.number self.new.client.log) }
         ensures keeper { CountsFault KeepError.Failed (K.faults keeper.old) (K.faults keeper.new) result }
     {
@@ -206,7 +217,8 @@ impl Session {
     }
 
     fn list(&self, alloc: Global, path: Option<&Content>) -> Result<Option<Answer>, KeepError>
-        ensures answer { IfOk result (λ answer. answer ≡ Some (list_answer (tree_of self.now.client.log) self.now.folder (option_copied path.entry))) }
+        ensures answer { IfOk result (λ answer. answer ≡ Some (list_answer (tree_of self.now.client.log) self.now.folder
+            (option_copied path.entry))) }
         ensures memory { result ≢ Err KeepError.Failed }
     {
         let tree = self.client.log().tree();
@@ -216,7 +228,8 @@ impl Session {
     /// Answers `cd`, and makes the folder at which the answer says to be the current one.
     fn enter(&mut self, alloc: Global, path: &Content) -> Result<Option<Answer>, KeepError>
         ensures ok { IfOk result (λ answer. answer ≡ Some (enter_answer (tree_of self.old.client.log) self.old.folder path.now)) }
-        ensures folder { IfOk result (λ answer. self.new ≡ with_folder self.old (folder_by (enter_answer (tree_of self.old.client.log) self.old.folder path.now) self.old.folder)) }
+        ensures folder { IfOk result (λ answer. self.new ≡ with_folder self.old
+            (folder_by (enter_answer (tree_of self.old.client.log) self.old.folder path.now) self.old.folder)) }
         ensures err { OnErr result (self.new ≡ self.old) }
         ensures memory { result ≢ Err KeepError.Failed }
     {
@@ -242,8 +255,11 @@ impl Session {
         keeper: &mut K,
     ) -> Result<Option<Answer>, KeepError>
         requires { IsKept (K.images keeper.old) route.now.image self.old.client.number self.old.client.log }
-        ensures world { (runner : RunnerTelling) → WentDoing route.now (LineEnds route.now self.old (Ok Line.Sync) result self.new) self.old self.new (K.images keeper.old) (K.images keeper.new) (beside (L.tells link.old) runner) (beside (L.tells link.new) runner) }
-        ensures cause { (runner : RunnerTelling) → HasLineCause route.now self.old (Ok Line.Sync) result self.new (beside (L.tells link.old) runner) (beside (L.tells link.new) runner) (K.faults keeper.old) (K.faults keeper.new) }
+        ensures world { (runner : RunnerTelling) → WentDoing route.now
+            (LineEnds route.now self.old (Ok Line.Sync) result self.new) self.old self.new (K.images keeper.old) (K.images keeper.new)
+            (beside (L.tells link.old) runner) (beside (L.tells link.new) runner) }
+        ensures cause { (runner : RunnerTelling) → HasLineCause route.now self.old (Ok Line.Sync) result self.new
+            (beside (L.tells link.old) runner) (beside (L.tells link.new) runner) (K.faults keeper.old) (K.faults keeper.new) }
         ensures kept { IfOk result (λ answer. IsKept (K.images keeper.new) route.now.image self.new.client.number self.new.client.log) }
         ensures later { (L.tells link.old).troubles ≤ (L.tells link.new).troubles }
         ensures keeper { CountsFault KeepError.Failed (K.faults keeper.old) (K.faults keeper.new) result }
@@ -261,8 +277,11 @@ impl Session {
         keeper: &mut K,
     ) -> Result<Option<Answer>, KeepError>
         requires { IsKept (K.images keeper.old) route.now.image self.old.client.number self.old.client.log }
-        ensures world { (runner : RunnerTelling) → WentDoing route.now (LineEnds route.now self.old (Ok Line.Pull) result self.new) self.old self.new (K.images keeper.old) (K.images keeper.new) (beside (L.tells link.old) runner) (beside (L.tells link.new) runner) }
-        ensures cause { (runner : RunnerTelling) → HasLineCause route.now self.old (Ok Line.Pull) result self.new (beside (L.tells link.old) runner) (beside (L.tells link.new) runner) (K.faults keeper.old) (K.faults keeper.new) }
+        ensures world { (runner : RunnerTelling) → WentDoing route.now
+            (LineEnds route.now self.old (Ok Line.Pull) result self.new) self.old self.new (K.images keeper.old) (K.images keeper.new)
+            (beside (L.tells link.old) runner) (beside (L.tells link.new) runner) }
+        ensures cause { (runner : RunnerTelling) → HasLineCause route.now self.old (Ok Line.Pull) result self.new
+            (beside (L.tells link.old) runner) (beside (L.tells link.new) runner) (K.faults keeper.old) (K.faults keeper.new) }
         ensures kept { IfOk result (λ answer. IsKept (K.images keeper.new) route.now.image self.new.client.number self.new.client.log) }
         ensures later { (L.tells link.old).troubles ≤ (L.tells link.new).troubles }
         ensures keeper { CountsFault KeepError.Failed (K.faults keeper.old) (K.faults keeper.new) result }

@@ -10,7 +10,8 @@ ghost use Rattle.surrogate_core.specs.Handling.{Idle};
 ghost use Rattle.mem_net.specs.Net.{world_of};
 ghost use Rattle.mem_net.specs.Fates.{decides};
 ghost use Rattle.mem_net.specs.Spending.{Takes, Spends};
-ghost use Rattle.mem_net.specs.Scenes.{scene_of, with_world, Replies, IsHandled, Befalls, IsReached, UnlessMemory, MeetsOperation, IsMet, TakesFates};
+ghost use Rattle.mem_net.specs.Scenes.{scene_of, with_world, Replies, IsHandled, Befalls, IsReached, UnlessMemory};
+ghost use Rattle.mem_net.specs.Scenes.{MeetsOperation, IsMet, TakesFates};
 ghost use Rattle.mem_net.specs.Inside.{IsSent, AsksSent, decision, GoesFree, FrontWaits, TakesBeside};
 ghost use Rattle.mem_net.specs.declared.fate.Fate.TheVariants.{Pass, Late};
 
@@ -40,7 +41,8 @@ impl<R: Runner> Parts<R> {
         requires request { IsRequest Peer.Surrogate operation }
         requires sent { IsIn operation self.old.wires.packets }
         ensures idle { self.new.surrogate.phase ≡ Idle }
-        ensures replies { IfOk result (λ reply. Replies operation reply (scene_of R.runs R.faults self.old) (scene_of R.runs R.faults self.new)) }
+        ensures replies { IfOk result (λ reply. Replies operation reply (scene_of R.runs R.faults self.old)
+            (scene_of R.runs R.faults self.new)) }
         ensures echoes { IfOk result (Echoes operation) }
         ensures free { IfOk result (IsFree (world_of self.new.wires)) }
         ensures goes { GoesFree self.old.wires self.new.wires }
@@ -64,7 +66,8 @@ impl<R: Runner> Parts<R> {
         requires request { IsRequest Peer.Surrogate request.now }
         requires sent { IsIn request.now self.old.wires.packets }
         ensures idle { self.new.surrogate.phase ≡ Idle }
-        ensures handled { IfOk result (λ reply. IsHandled request.now reply (scene_of R.runs R.faults self.old) (scene_of R.runs R.faults self.new)) }
+        ensures handled { IfOk result (λ reply. IsHandled request.now reply (scene_of R.runs R.faults self.old)
+            (scene_of R.runs R.faults self.new)) }
         ensures echoes { IfOk result (Echoes request.now) }
         ensures goes { GoesFree self.old.wires self.new.wires }
     {
@@ -135,7 +138,8 @@ impl<R: Runner> Parts<R> {
         requires valid { IsValid request.now }
         ensures idle { self.new.surrogate.phase ≡ Idle }
         ensures decides { IfOk result (λ fate. decides fate ≡ true) }
-        ensures reaches { IfOk result (λ fate. IsReached (with_world (sent request.now (world_of self.old.wires)) (scene_of R.runs R.faults self.old)) fate (scene_of R.runs R.faults self.new)) }
+        ensures reaches { IfOk result (λ fate. IsReached (with_world (sent request.now (world_of self.old.wires))
+            (scene_of R.runs R.faults self.old)) fate (scene_of R.runs R.faults self.new)) }
         ensures moved { MovedBy (Is request.now) [] (world_of self.old.wires) (world_of self.new.wires) }
         ensures asking { OnOk result (IsSent request.now (world_of self.old.wires) (world_of self.new.wires)) }
         ensures sent { OnOk result (IsIn request.now self.new.wires.packets) }
@@ -153,7 +157,8 @@ impl<R: Runner> Parts<R> {
         requires request { IsRequest Peer.Surrogate request }
         requires sent { IsIn request self.old.wires.packets }
         ensures idle { self.new.surrogate.phase ≡ Idle }
-        ensures met { UnlessMemory result (MeetsOperation Pass Peer.Surrogate address.now request (scene_of R.runs R.faults self.old) (scene_of R.runs R.faults self.new) result) }
+        ensures met { UnlessMemory result (MeetsOperation Pass Peer.Surrogate address.now request (scene_of R.runs R.faults self.old)
+            (scene_of R.runs R.faults self.new) result) }
         ensures once { AsksSent Peer.Surrogate address.now request (world_of self.old.wires) (world_of self.new.wires) result }
         ensures takes { Takes self.old.wires.fates self.new.wires.fates self.old.wires.troubles self.new.wires.troubles }
         ensures memory { IfErr result (λ error. error ≡ LinkError.Memory) }
@@ -175,7 +180,8 @@ impl<R: Runner> Parts<R> {
         requires request { IsRequest Peer.Surrogate request }
         requires sent { IsIn request self.old.wires.packets }
         ensures idle { self.new.surrogate.phase ≡ Idle }
-        ensures met { UnlessMemory result (MeetsOperation fate Peer.Surrogate address.now request (scene_of R.runs R.faults self.old) (scene_of R.runs R.faults self.new) result) }
+        ensures met { UnlessMemory result (MeetsOperation fate Peer.Surrogate address.now request (scene_of R.runs R.faults self.old)
+            (scene_of R.runs R.faults self.new) result) }
         ensures once { AsksSent Peer.Surrogate address.now request (world_of self.old.wires) (world_of self.new.wires) result }
         ensures takes { TakesBeside fate self.old.wires.fates self.new.wires.fates self.old.wires.troubles self.new.wires.troubles }
         ensures cause { HasCause LinkError.Failed self.old.wires.troubles self.new.wires.troubles result }

@@ -3,7 +3,8 @@ ghost use Rattle.std.specs.Prelude.{◌≡◌, ◌-◌, ◌*◌, ◌≤◌, ◌<
 ghost use Rattle.std.specs.Duration.{as_nanos};
 ghost use Rattle.std.specs.Io.{ReadsAtMost, WritesAtMost};
 ghost use Rattle.std.specs.Io.KnownBytes.{Keeps, ReadConsumes, WriteAppends};
-ghost use Rattle.real_edge.specs.Pace.{window_bytes, silence, parting, fresh, of_request, waiting, spent, limit, after_bytes, StartsBy, GoesOn, Moves, Lasts, HasWaited};
+ghost use Rattle.real_edge.specs.Pace.{window_bytes, silence, parting, fresh, of_request, waiting, spent, limit};
+ghost use Rattle.real_edge.specs.Pace.{after_bytes, StartsBy, GoesOn, Moves, Lasts, HasWaited};
 
 use std::io;
 use std::io::{ErrorKind, Read, Write};

@@ -83,7 +83,8 @@ pub fn server_main<R: Print + Eprint + AllocGlobal + Files<File = File> + Net + 
     rt: &R,
     words: &[String],
 ) -> ExitCode
-    ensures form { exit_status result ≡ 2 ↔ (page_asked (map string_bytes words.now) ≡ None) × (run_of (map string_bytes words.now) ≡ None) }
+    ensures form { exit_status result ≡ 2 ↔ (page_asked (map string_bytes words.now) ≡ None)
+        × (run_of (map string_bytes words.now) ≡ None) }
     ensures known { IsTrue (is_exit (exit_status result)) }
 {
     let mut output = StdSink::new(io::writer(rt));
@@ -105,7 +106,8 @@ fn serve_bound<R: Eprint + AllocGlobal + Files<File = File> + Net + Clock, O: Si
     bound: io::Result<TcpPort<'_, R>>,
     output: &mut O,
 ) -> ExitCode
-    requires said { run_of (map string_bytes words.now) ≡ Some (record { address = run.now.address.now; image = run.now.image.now; count = run.now.count }) }
+    requires said { run_of (map string_bytes words.now) ≡ Some (record
+        { address = run.now.address.now; image = run.now.image.now; count = run.now.count }) }
     requires there { IfOk bound (λ port. port.address.now ≡ run.now.address.now) }
     ensures refused { IsErr bound.entry → exit_status result ≡ 1 }
     ensures bound { IsOk bound.entry → exit_status result ≢ 1 }
@@ -135,8 +137,20 @@ pub fn served<R: Eprint, P: Port, K: Keeper, O: Sink>(
     output: &mut O,
 ) -> ExitCode
     ensures { Ends (map string_bytes words.now) (exit_status result)
-        (record { port = P.tells port.old; images = K.images keeper.old; keeper_faults = K.faults keeper.old; written = O.written output.old; sink_faults = O.faults output.old })
-        (record { port = P.tells port.new; images = K.images keeper.new; keeper_faults = K.faults keeper.new; written = O.written output.new; sink_faults = O.faults output.new }) }
+        (record {
+          port = P.tells port.old;
+          images = K.images keeper.old;
+          keeper_faults = K.faults keeper.old;
+          written = O.written output.old;
+          sink_faults = O.faults output.old;
+        })
+        (record {
+          port = P.tells port.new;
+          images = K.images keeper.new;
+          keeper_faults = K.faults keeper.new;
+          written = O.written output.new;
+          sink_faults = O.faults output.new;
+        }) }
 {
     end(rt, NAME, server_run(alloc, words, port, keeper, output))
 }

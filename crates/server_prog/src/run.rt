@@ -109,7 +109,8 @@ fn run<P: Port, K: Keeper, O: Sink>(
     output: &mut O,
 ) -> Result<(), Stopped>
     requires { count ≤ 65536 }
-    ensures turn { RunTurn count (telling (P.tells port.old) (kept_under name.now (K.images keeper.old))) (telling (P.tells port.new) (kept_under name.now (K.images keeper.new))) (O.written output.old) (O.written output.new) result }
+    ensures turn { RunTurn count (telling (P.tells port.old) (kept_under name.now (K.images keeper.old)))
+        (telling (P.tells port.new) (kept_under name.now (K.images keeper.new))) (O.written output.old) (O.written output.new) result }
     ensures sink { CountsFault Stopped.Sink (O.faults output.old) (O.faults output.new) result }
     ensures keeper { CountsFault Stopped.Keeper (K.faults keeper.old) (K.faults keeper.new) result }
 {
@@ -130,8 +131,20 @@ pub fn server_run<P: Port, O: Sink, K: Keeper>(
     output: &mut O,
 ) -> u8
     ensures { Ends (map string_bytes words.now) result
-        (record { port = P.tells port.old; images = K.images keeper.old; keeper_faults = K.faults keeper.old; written = O.written output.old; sink_faults = O.faults output.old })
-        (record { port = P.tells port.new; images = K.images keeper.new; keeper_faults = K.faults keeper.new; written = O.written output.new; sink_faults = O.faults output.new }) }
+        (record {
+          port = P.tells port.old;
+          images = K.images keeper.old;
+          keeper_faults = K.faults keeper.old;
+          written = O.written output.old;
+          sink_faults = O.faults output.old;
+        })
+        (record {
+          port = P.tells port.new;
+          images = K.images keeper.new;
+          keeper_faults = K.faults keeper.new;
+          written = O.written output.new;
+          sink_faults = O.faults output.new;
+        }) }
 {
     let Some(words) = run_words(words) else {
         return Status::NoForm.code();

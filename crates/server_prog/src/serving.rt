@@ -17,8 +17,10 @@ fn keep_if<K: Keeper>(
     name: &[u8],
     keeper: &mut K,
 ) -> Result<(), KeepError>
-    ensures ok { OnOk result (Told (kept_under name.now (K.images keeper.old)) (kept_under name.now (K.images keeper.new)) (KeptAs changed (served server.now))) }
-    ensures err { OnErr result (Told (kept_under name.now (K.images keeper.old)) (kept_under name.now (K.images keeper.new)) (λ old new. (new ≡ old) ⊎ KeptAs changed (served server.now) old new)) }
+    ensures ok { OnOk result (Told (kept_under name.now (K.images keeper.old)) (kept_under name.now (K.images keeper.new))
+        (KeptAs changed (served server.now))) }
+    ensures err { OnErr result (Told (kept_under name.now (K.images keeper.old)) (kept_under name.now (K.images keeper.new))
+        (λ old new. (new ≡ old) ⊎ KeptAs changed (served server.now) old new)) }
     ensures cause { CountsFault KeepError.Failed (K.faults keeper.old) (K.faults keeper.new) result }
 {
     if !changed {
@@ -35,8 +37,11 @@ fn serve_next<P: Port, K: Keeper>(
     name: &[u8],
     keeper: &mut K,
 ) -> Result<Came, KeepError>
-    ensures ok { IfOk result (λ came. ServesNext came (served server.old) (served server.new) (telling (P.tells port.old) (kept_under name.now (K.images keeper.old))) (telling (P.tells port.new) (kept_under name.now (K.images keeper.new)))) }
-    ensures err { OnErr result (BreaksOff (served server.old) (telling (P.tells port.old) (kept_under name.now (K.images keeper.old))) (telling (P.tells port.new) (kept_under name.now (K.images keeper.new)))) }
+    ensures ok { IfOk result (λ came. ServesNext came (served server.old) (served server.new)
+        (telling (P.tells port.old) (kept_under name.now (K.images keeper.old)))
+        (telling (P.tells port.new) (kept_under name.now (K.images keeper.new)))) }
+    ensures err { OnErr result (BreaksOff (served server.old) (telling (P.tells port.old) (kept_under name.now (K.images keeper.old)))
+        (telling (P.tells port.new) (kept_under name.now (K.images keeper.new)))) }
     ensures cause { CountsFault KeepError.Failed (K.faults keeper.old) (K.faults keeper.new) result }
 {
     let frame = match take_frame(port)? {
@@ -59,8 +64,11 @@ pub(crate) fn serve<P: Port, K: Keeper>(
     count: u32,
 ) -> Result<Tally, KeepError>
     requires { count ≤ 65536 }
-    ensures ok { IfOk result (λ tally. ServesAll count tally (served server.old) (served server.new) (telling (P.tells port.old) (kept_under name.now (K.images keeper.old))) (telling (P.tells port.new) (kept_under name.now (K.images keeper.new)))) }
-    ensures err { OnErr result (ServesFront count (served server.old) (telling (P.tells port.old) (kept_under name.now (K.images keeper.old))) (telling (P.tells port.new) (kept_under name.now (K.images keeper.new)))) }
+    ensures ok { IfOk result (λ tally. ServesAll count tally (served server.old) (served server.new)
+        (telling (P.tells port.old) (kept_under name.now (K.images keeper.old)))
+        (telling (P.tells port.new) (kept_under name.now (K.images keeper.new)))) }
+    ensures err { OnErr result (ServesFront count (served server.old) (telling (P.tells port.old)
+        (kept_under name.now (K.images keeper.old))) (telling (P.tells port.new) (kept_under name.now (K.images keeper.new)))) }
     ensures cause { CountsFault KeepError.Failed (K.faults keeper.old) (K.faults keeper.new) result }
 {
     let mut tally = Tally::new();

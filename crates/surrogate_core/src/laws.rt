@@ -1,6 +1,8 @@
 //! What holds of every handling: functions that do nothing, whose contracts are laws.
 
-ghost use Rattle.surrogate_core.specs.Laws.{HandlingsAskTheServer, HandlingsRunOnce, HandlingsKeepTheCopy, BrokenHandlingsKeepTheCopy, DeclinesHaveCauses, SilencesAreOfOneRequest, AgreedTriesAskTheStore, AcceptedHandlingsAreDone};
+ghost use Rattle.surrogate_core.specs.Laws.{HandlingsAskTheServer, HandlingsRunOnce, HandlingsKeepTheCopy};
+ghost use Rattle.surrogate_core.specs.Laws.{BrokenHandlingsKeepTheCopy, DeclinesHaveCauses, SilencesAreOfOneRequest};
+ghost use Rattle.surrogate_core.specs.Laws.{AgreedTriesAskTheStore, AcceptedHandlingsAreDone};
 ghost use Rattle.surrogate_core.specs.Free.{HandlingsMoveAlone, RepliesAreFree};
 
 /// States that a handling asks the server alone, for what its operation may ask, and runs at most the operation's job.

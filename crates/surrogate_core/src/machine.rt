@@ -10,7 +10,9 @@ ghost use Rattle.wire_frames.specs.Frame.{IsValid};
 ghost use Rattle.wire_frames.specs.declared.message.Message.TheVariants.{Store, Operate, Done, Declined};
 ghost use Rattle.surrogate_core.specs.declared.step.Step.TheVariants as steps;
 ghost use Rattle.surrogate_core.specs.declared.machine.State.TheVariants as states;
-ghost use Rattle.surrogate_core.specs.Handling.{Idle, Fetching, IsAsking, idle, copy_before, declining, job_for, closed, refusal_kind, Tries, Operates, AfterJob, Expects, HandlesReply, IsSilenced, IsSent};
+ghost use Rattle.surrogate_core.specs.Handling.{Idle, Fetching, IsAsking, idle, copy_before, declining, job_for};
+ghost use Rattle.surrogate_core.specs.Handling.{closed, refusal_kind, Tries, Operates, AfterJob, Expects, HandlesReply};
+ghost use Rattle.surrogate_core.specs.Handling.{IsSilenced, IsSent};
 ghost use Rattle.surrogate_core.specs.Serving.{Steps, telling, failed_cause, failed_step};
 ghost use Rattle.surrogate_core.specs.Inside.{IsSound, IsConcluded, Starves, reaction_of, operation, snapshot_rows};
 
@@ -88,7 +90,11 @@ impl Surrogate {
     pub fn on_operate<R: Runner>(&mut self, request: Message, work: &[u8], runner: &mut R) -> Step
         requires idle { self.old.phase ≡ Idle }
         requires valid { IsValid request }
-        ensures steps { Steps (Operates self.old.copy work.now request) (record { step = result; after = self.new }) (telling (R.runs runner.old) (R.faults runner.old)) (telling (R.runs runner.new) (R.faults runner.new)) }
+        ensures steps { Steps (Operates self.old.copy work.now request) (record {
+          step = result;
+          after = self.new;
+        })
+            (telling (R.runs runner.old) (R.faults runner.old)) (telling (R.runs runner.new) (R.faults runner.new)) }
         ensures sent { IsSent result }
     {
         match operation(request) {
@@ -100,7 +106,11 @@ impl Surrogate {
     /// Goes on with the server's reply.
     pub fn on_server<R: Runner>(&mut self, reply: Message, work: &[u8], runner: &mut R) -> Step
         requires { Expects self.old.phase reply }
-        ensures steps { Steps (HandlesReply self.old.phase self.old.copy reply work.now) (record { step = result; after = self.new }) (telling (R.runs runner.old) (R.faults runner.old)) (telling (R.runs runner.new) (R.faults runner.new)) }
+        ensures steps { Steps (HandlesReply self.old.phase self.old.copy reply work.now) (record {
+          step = result;
+          after = self.new;
+        })
+            (telling (R.runs runner.old) (R.faults runner.old)) (telling (R.runs runner.new) (R.faults runner.new)) }
         ensures sent { IsSent result }
     {
         match mem::replace(&mut self.state, State::Idle) {
@@ -167,7 +177,12 @@ impl Surrogate {
         requires idle { self.old.phase ≡ Idle }
         requires valid { IsValid (Operate client sketched) }
         requires snapshot { Expects (Fetching client sketched) reply }
-        ensures steps { Steps (HandlesReply (Fetching client sketched) self.old.copy reply work.now) (record { step = result; after = self.new }) (telling (R.runs runner.old) (R.faults runner.old)) (telling (R.runs runner.new) (R.faults runner.new)) }
+        ensures steps { Steps (HandlesReply (Fetching client sketched) self.old.copy reply work.now)
+            (record {
+              step = result;
+              after = self.new;
+            }) (telling (R.runs runner.old) (R.faults runner.old))
+            (telling (R.runs runner.new) (R.faults runner.new)) }
         ensures sent { IsSent result }
     {
         let number = sketched.seq;
@@ -197,7 +212,11 @@ impl Surrogate {
     ) -> Step
         requires idle { self.old.phase ≡ Idle }
         requires valid { IsValid (Operate client sketched) }
-        ensures steps { Steps (Tries pulled self.old.copy client sketched work.now) (record { step = result; after = self.new }) (telling (R.runs runner.old) (R.faults runner.old)) (telling (R.runs runner.new) (R.faults runner.new)) }
+        ensures steps { Steps (Tries pulled self.old.copy client sketched work.now) (record {
+          step = result;
+          after = self.new;
+        })
+            (telling (R.runs runner.old) (R.faults runner.old)) (telling (R.runs runner.new) (R.faults runner.new)) }
         ensures sent { IsSent result }
     {
         let number = sketched.seq;
@@ -245,10 +264,12 @@ fn advance<R: Runner>(
     runner: &mut R,
 ) -> Result<(Step, State), AllocError>
     requires { IsValid (Operate client sketched) }
-    ensures ok { IfOk result (λ x. Steps (Tries pulled copy.old client sketched work.now) (reaction_of x.0 x.1 copy.new) (telling (R.runs runner.old) (R.faults runner.old)) (telling (R.runs runner.new) (R.faults runner.new))) }
+    ensures ok { IfOk result (λ x. Steps (Tries pulled copy.old client sketched work.now) (reaction_of x.0 x.1 copy.new)
+        (telling (R.runs runner.old) (R.faults runner.old)) (telling (R.runs runner.new) (R.faults runner.new))) }
     ensures sound { IfOk result (λ x. IsSound x.1 copy.new) }
     ensures sent { IfOk result (λ x. IsSent x.0) }
-    ensures err { OnErr result (Starves work.now (job_for copy.old sketched) (telling (R.runs runner.old) (R.faults runner.old)) (telling (R.runs runner.new) (R.faults runner.new))) }
+    ensures err { OnErr result (Starves work.now (job_for copy.old sketched) (telling (R.runs runner.old) (R.faults runner.old))
+        (telling (R.runs runner.new) (R.faults runner.new))) }
     ensures unchanged { OnErr result (copy.new ≡ copy.old) }
 {
     match prepare(alloc, copy, &sketched) {
@@ -299,10 +320,13 @@ fn perform<R: Runner>(
     requires valid { IsValid (Operate client sketched) }
     requires job { job_for copy.old sketched ≡ Ok job }
     requires rows { AreJobRows job.rows }
-    ensures ok { IfOk result (λ x. (pulled : Bool) → Steps (Tries pulled copy.old client sketched work.now) (reaction_of x.0 x.1 copy.new) (telling (R.runs runner.old) (R.faults runner.old)) (telling (R.runs runner.new) (R.faults runner.new))) }
+    ensures ok { IfOk result (λ x. (pulled : Bool) → Steps (Tries pulled copy.old client sketched work.now)
+        (reaction_of x.0 x.1 copy.new) (telling (R.runs runner.old) (R.faults runner.old))
+        (telling (R.runs runner.new) (R.faults runner.new))) }
     ensures sound { IfOk result (λ x. IsSound x.1 copy.new) }
     ensures sent { IfOk result (λ x. IsSent x.0) }
-    ensures err { OnErr result (Starves work.now (Ok job) (telling (R.runs runner.old) (R.faults runner.old)) (telling (R.runs runner.new) (R.faults runner.new))) }
+    ensures err { OnErr result (Starves work.now (Ok job) (telling (R.runs runner.old) (R.faults runner.old))
+        (telling (R.runs runner.new) (R.faults runner.new))) }
     ensures unchanged { OnErr result (copy.new ≡ copy.old) }
 {
     match runner.run(work, &job) {
@@ -384,7 +408,11 @@ fn close(copy: &mut Tree, client: u8, number: u64, undos: Vec<Undo>, kind: Optio
     requires valid { IsValid (Done client number) }
     requires kind { IfSome kind (λ kind. CauseFits (Refused kind)) }
     requires can_undo { CanUndoAll undos.items copy.old }
-    ensures closed { record { step = result; after = idle copy.new } ≡ closed copy.old client number (undone_all undos.items copy.old) kind }
+    ensures closed { record {
+      step = result;
+      after = idle copy.new;
+    } ≡ closed copy.old client number
+        (undone_all undos.items copy.old) kind }
     ensures sent { IsSent result }
 {
     match kind {

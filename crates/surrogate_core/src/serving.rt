@@ -36,7 +36,9 @@ impl Surrogate {
         ensures idle { self.new.phase ≡ Idle }
         ensures reply { IfOk result IsValid }
         ensures kept { L.keeps link.old link.new }
-        ensures served { Serves server.now work.now self.old.copy request result self.new.copy (telling (R.runs runner.old) (R.faults runner.old)) (telling (R.runs runner.new) (R.faults runner.new)) (L.tells link.old) (L.tells link.new) }
+        ensures served { Serves server.now work.now self.old.copy request result self.new.copy
+            (telling (R.runs runner.old) (R.faults runner.old)) (telling (R.runs runner.new) (R.faults runner.new)) (L.tells link.old)
+            (L.tells link.new) }
     {
         match operation(request) {
             Some((client, sketched)) => {
@@ -60,7 +62,9 @@ impl Surrogate {
         ensures idle { self.new.phase ≡ Idle }
         ensures reply { IfOk result IsValid }
         ensures kept { L.keeps link.old link.new }
-        ensures served { Serves server.now work.now self.old.copy (Operate client sketched) result self.new.copy (telling (R.runs runner.old) (R.faults runner.old)) (telling (R.runs runner.new) (R.faults runner.new)) (L.tells link.old) (L.tells link.new) }
+        ensures served { Serves server.now work.now self.old.copy (Operate client sketched) result self.new.copy
+            (telling (R.runs runner.old) (R.faults runner.old)) (telling (R.runs runner.new) (R.faults runner.new)) (L.tells link.old)
+            (L.tells link.new) }
     {
         let mut step = self.try_on(false, client, sketched, work, runner);
         'asking: loop {
@@ -94,12 +98,22 @@ impl Surrogate {
         requires awaits { Awaits self.old.phase asked.now }
         requires valid { IsValid asked.now }
         requires request { IsRequest Peer.Server asked.now }
-        ensures follows { IfOk result (λ step. Follows server.now work.now asked.now (record { step = steps.Ask asked.now; after = self.old }) (record { step = step; after = self.new }) (telling (R.runs runner.old) (R.faults runner.old)) (telling (R.runs runner.new) (R.faults runner.new)) (L.tells link.old) (L.tells link.new)) }
+        ensures follows { IfOk result (λ step. Follows server.now work.now asked.now
+            (record {
+              step = steps.Ask asked.now;
+              after = self.old;
+            }) (record {
+              step = step;
+              after = self.new;
+            })
+            (telling (R.runs runner.old) (R.faults runner.old)) (telling (R.runs runner.new) (R.faults runner.new)) (L.tells link.old)
+            (L.tells link.new)) }
         ensures sent { IfOk result IsSent }
         ensures fewer { IfOk result (λ step. asks_left self.new.phase < asks_left self.old.phase) }
         ensures breaks { OnErr result (Breaks server.now asked.now (L.tells link.old) (L.tells link.new)) }
         ensures taken_back { OnErr result (self.new ≡ idle (copy_before self.old)) }
-        ensures unrun { OnErr result (telling (R.runs runner.new) (R.faults runner.new) ≡ telling (R.runs runner.old) (R.faults runner.old)) }
+        ensures unrun { OnErr result (telling (R.runs runner.new) (R.faults runner.new) ≡ telling (R.runs runner.old)
+            (R.faults runner.old)) }
         ensures kept { L.keeps link.old link.new }
     {
         match settle(self.allocator(), link, Peer::Server, server, asked) {

@@ -90,7 +90,8 @@ pub fn surrogate_program<
 pub fn surrogate_main<
     R: Print + Eprint + AllocGlobal + Files<File = File> + Net + Clock + Processes,
 >(rt: &R, process: u32, words: &[String]) -> ExitCode
-    ensures form { exit_status result ≡ 2 ↔ (page_asked (map string_bytes words.now) ≡ None) × (run_of (map string_bytes words.now) ≡ None) }
+    ensures form { exit_status result ≡ 2 ↔ (page_asked (map string_bytes words.now) ≡ None)
+        × (run_of (map string_bytes words.now) ≡ None) }
     ensures known { IsTrue (is_exit (exit_status result)) }
 {
     let mut output = StdSink::new(io::writer(rt));
@@ -113,7 +114,8 @@ fn serve_bound<R: Eprint + AllocGlobal + Files<File = File> + Net + Clock + Proc
     bound: io::Result<TcpPort<'_, R>>,
     output: &mut O,
 ) -> ExitCode
-    requires said { run_of (map string_bytes words.now) ≡ Some (record { address = run.now.address.now; server = run.now.server.now; work = run.now.work.now; count = run.now.count }) }
+    requires said { run_of (map string_bytes words.now) ≡ Some (record
+        { address = run.now.address.now; server = run.now.server.now; work = run.now.work.now; count = run.now.count }) }
     requires there { IfOk bound (λ port. port.address.now ≡ run.now.address.now) }
     ensures refused { IsErr bound.entry → exit_status result ≡ 1 }
     ensures bound { IsOk bound.entry → exit_status result ≢ 1 }
@@ -154,8 +156,18 @@ pub fn served<E: Eprint, P: Port, L: Link, R: Runner, O: Sink>(
     output: &mut O,
 ) -> ExitCode
     ensures { Ends (map string_bytes words.now) (exit_status result)
-        (record { port = P.tells port.old; outside = told (R.runs runner.old) (R.faults runner.old) (L.tells link.old); written = O.written output.old; sink_faults = O.faults output.old })
-        (record { port = P.tells port.new; outside = told (R.runs runner.new) (R.faults runner.new) (L.tells link.new); written = O.written output.new; sink_faults = O.faults output.new }) }
+        (record {
+          port = P.tells port.old;
+          outside = told (R.runs runner.old) (R.faults runner.old) (L.tells link.old);
+          written = O.written output.old;
+          sink_faults = O.faults output.old;
+        })
+        (record {
+          port = P.tells port.new;
+          outside = told (R.runs runner.new) (R.faults runner.new) (L.tells link.new);
+          written = O.written output.new;
+          sink_faults = O.faults output.new;
+        }) }
 {
     end(
         rt,

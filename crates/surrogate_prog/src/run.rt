@@ -69,7 +69,12 @@ fn run<P: Port, R: Runner, L: Link, O: Sink>(
     output: &mut O,
 ) -> Result<(), Stopped>
     requires { words.now.count ≤ 65536 }
-    ensures turn { RunTurn (record { address = words.now.address.now; server = words.now.server.now; work = words.now.work.now; count = words.now.count }) (telling (P.tells port.old) (told (R.runs runner.old) (R.faults runner.old) (L.tells link.old))) (telling (P.tells port.new) (told (R.runs runner.new) (R.faults runner.new) (L.tells link.new))) (O.written output.old) (O.written output.new) result }
+    ensures turn { RunTurn (record {
+      address = words.now.address.now;
+      server = words.now.server.now;
+      work = words.now.work.now;
+      count = words.now.count;
+    }) (telling (P.tells port.old) (told (R.runs runner.old) (R.faults runner.old) (L.tells link.old))) (telling (P.tells port.new) (told (R.runs runner.new) (R.faults runner.new) (L.tells link.new))) (O.written output.old) (O.written output.new) result }
     ensures sink { CountsFault Stopped.Sink (O.faults output.old) (O.faults output.new) result }
 {
     let route = Route {
@@ -103,8 +108,18 @@ pub fn surrogate_run<P: Port, O: Sink, R: Runner, L: Link>(
     output: &mut O,
 ) -> u8
     ensures { Ends (map string_bytes words.now) result
-        (record { port = P.tells port.old; outside = told (R.runs runner.old) (R.faults runner.old) (L.tells link.old); written = O.written output.old; sink_faults = O.faults output.old })
-        (record { port = P.tells port.new; outside = told (R.runs runner.new) (R.faults runner.new) (L.tells link.new); written = O.written output.new; sink_faults = O.faults output.new }) }
+        (record {
+          port = P.tells port.old;
+          outside = told (R.runs runner.old) (R.faults runner.old) (L.tells link.old);
+          written = O.written output.old;
+          sink_faults = O.faults output.old;
+        })
+        (record {
+          port = P.tells port.new;
+          outside = told (R.runs runner.new) (R.faults runner.new) (L.tells link.new);
+          written = O.written output.new;
+          sink_faults = O.faults output.new;
+        }) }
 {
     let Some(words) = run_words(words) else {
         return Status::NoForm.code();

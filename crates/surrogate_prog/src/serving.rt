@@ -3,7 +3,8 @@ ghost use Rattle.std.specs.Prelude.{◌≡◌, ◌≤◌, IfOk, OnErr};
 ghost use Rattle.wire_frames.specs.Frame.{IsValid, frame};
 ghost use Rattle.surrogate_core.specs.Handling.{Idle};
 ghost use Rattle.surrogate_prog.specs.Serving.{told};
-ghost use Rattle.surrogate_prog.specs.Inside.{RepliesTo, BreaksReply, IsHandled, BreaksHandled, ServesNext, BreaksOff, ServesAll, ServesFront};
+ghost use Rattle.surrogate_prog.specs.Inside.{RepliesTo, BreaksReply, IsHandled, BreaksHandled, ServesNext, BreaksOff};
+ghost use Rattle.surrogate_prog.specs.Inside.{ServesAll, ServesFront};
 
 use cmd_capture::Runner;
 use outside::Port;
@@ -34,8 +35,12 @@ fn handle<R: Runner, L: Link>(
     requires idle { surrogate.old.phase ≡ Idle }
     requires valid { IsValid request }
     ensures idle { surrogate.new.phase ≡ Idle }
-    ensures ok { IfOk result (λ bytes. IsHandled route.now.server.now route.now.work.now surrogate.old.copy request bytes.items surrogate.new.copy (told (R.runs runner.old) (R.faults runner.old) (L.tells link.old)) (told (R.runs runner.new) (R.faults runner.new) (L.tells link.new))) }
-    ensures err { OnErr result (BreaksHandled route.now.server.now route.now.work.now surrogate.old.copy request (told (R.runs runner.old) (R.faults runner.old) (L.tells link.old)) (told (R.runs runner.new) (R.faults runner.new) (L.tells link.new))) }
+    ensures ok { IfOk result (λ bytes. IsHandled route.now.server.now route.now.work.now surrogate.old.copy request bytes.items
+        surrogate.new.copy (told (R.runs runner.old) (R.faults runner.old) (L.tells link.old))
+        (told (R.runs runner.new) (R.faults runner.new) (L.tells link.new))) }
+    ensures err { OnErr result (BreaksHandled route.now.server.now route.now.work.now surrogate.old.copy request
+        (told (R.runs runner.old) (R.faults runner.old) (L.tells link.old))
+        (told (R.runs runner.new) (R.faults runner.new) (L.tells link.new))) }
 {
     let reply = surrogate.serve(request, route.work, runner, link, route.server)?;
     in_frame(alloc, reply)
@@ -61,8 +66,12 @@ fn reply_to<R: Runner, L: Link>(
 ) -> Result<Vec<u8>, AllocError>
     requires idle { surrogate.old.phase ≡ Idle }
     ensures idle { surrogate.new.phase ≡ Idle }
-    ensures ok { IfOk result (λ reply. RepliesTo route.now.server.now route.now.work.now bytes.now reply.items surrogate.old.copy surrogate.new.copy (told (R.runs runner.old) (R.faults runner.old) (L.tells link.old)) (told (R.runs runner.new) (R.faults runner.new) (L.tells link.new))) }
-    ensures err { OnErr result (BreaksReply route.now.server.now route.now.work.now bytes.now surrogate.old.copy (told (R.runs runner.old) (R.faults runner.old) (L.tells link.old)) (told (R.runs runner.new) (R.faults runner.new) (L.tells link.new))) }
+    ensures ok { IfOk result (λ reply. RepliesTo route.now.server.now route.now.work.now bytes.now reply.items surrogate.old.copy
+        surrogate.new.copy (told (R.runs runner.old) (R.faults runner.old) (L.tells link.old))
+        (told (R.runs runner.new) (R.faults runner.new) (L.tells link.new))) }
+    ensures err { OnErr result (BreaksReply route.now.server.now route.now.work.now bytes.now surrogate.old.copy
+        (told (R.runs runner.old) (R.faults runner.old) (L.tells link.old))
+        (told (R.runs runner.new) (R.faults runner.new) (L.tells link.new))) }
 {
     match read(alloc, bytes) {
         Ok(request) => handle(alloc, surrogate, request, route, runner, link),
@@ -82,8 +91,12 @@ fn serve_next<P: Port, R: Runner, L: Link>(
 ) -> Result<Came, AllocError>
     requires idle { surrogate.old.phase ≡ Idle }
     ensures idle { surrogate.new.phase ≡ Idle }
-    ensures ok { IfOk result (λ came. ServesNext route.now.server.now route.now.work.now came surrogate.old.copy surrogate.new.copy (P.tells port.old) (P.tells port.new) (told (R.runs runner.old) (R.faults runner.old) (L.tells link.old)) (told (R.runs runner.new) (R.faults runner.new) (L.tells link.new))) }
-    ensures err { OnErr result (BreaksOff route.now.server.now route.now.work.now surrogate.old.copy (P.tells port.old) (P.tells port.new) (told (R.runs runner.old) (R.faults runner.old) (L.tells link.old)) (told (R.runs runner.new) (R.faults runner.new) (L.tells link.new))) }
+    ensures ok { IfOk result (λ came. ServesNext route.now.server.now route.now.work.now came surrogate.old.copy surrogate.new.copy
+        (P.tells port.old) (P.tells port.new) (told (R.runs runner.old) (R.faults runner.old) (L.tells link.old))
+        (told (R.runs runner.new) (R.faults runner.new) (L.tells link.new))) }
+    ensures err { OnErr result (BreaksOff route.now.server.now route.now.work.now surrogate.old.copy (P.tells port.old)
+        (P.tells port.new) (told (R.runs runner.old) (R.faults runner.old) (L.tells link.old))
+        (told (R.runs runner.new) (R.faults runner.new) (L.tells link.new))) }
 {
     let bytes = match take_frame(port)? {
         Taking::Taken(bytes) => bytes,
@@ -106,8 +119,12 @@ pub(crate) fn serve<P: Port, R: Runner, L: Link>(
 ) -> Result<Tally, AllocError>
     requires idle { surrogate.old.phase ≡ Idle }
     requires count { count ≤ 65536 }
-    ensures ok { IfOk result (λ tally. ServesAll route.now.server.now route.now.work.now count tally surrogate.old.copy (P.tells port.old) (P.tells port.new) (told (R.runs runner.old) (R.faults runner.old) (L.tells link.old)) (told (R.runs runner.new) (R.faults runner.new) (L.tells link.new))) }
-    ensures err { OnErr result (ServesFront route.now.server.now route.now.work.now count surrogate.old.copy (P.tells port.old) (P.tells port.new) (told (R.runs runner.old) (R.faults runner.old) (L.tells link.old)) (told (R.runs runner.new) (R.faults runner.new) (L.tells link.new))) }
+    ensures ok { IfOk result (λ tally. ServesAll route.now.server.now route.now.work.now count tally surrogate.old.copy
+        (P.tells port.old) (P.tells port.new) (told (R.runs runner.old) (R.faults runner.old) (L.tells link.old))
+        (told (R.runs runner.new) (R.faults runner.new) (L.tells link.new))) }
+    ensures err { OnErr result (ServesFront route.now.server.now route.now.work.now count surrogate.old.copy (P.tells port.old)
+        (P.tells port.new) (told (R.runs runner.old) (R.faults runner.old) (L.tells link.old))
+        (told (R.runs runner.new) (R.faults runner.new) (L.tells link.new))) }
 {
     let mut tally = Tally::new();
     for _take in 0..count {

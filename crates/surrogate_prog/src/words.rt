@@ -21,7 +21,12 @@ pub struct RunWords<'a> {
 /// Takes apart the words `run LISTEN SERVER WORK COUNT`; `None` for any others.
 pub fn run_words(words: &[String]) -> Option<RunWords<'_>>
     ensures form { MatchOption result (run_of (map string_bytes words.now) ≡ None)
-        (λ run. run_of (map string_bytes words.now) ≡ Some (record { address = run.address.now; server = run.server.now; work = run.work.now; count = run.count })) }
+        (λ run. run_of (map string_bytes words.now) ≡ Some (record {
+          address = run.address.now;
+          server = run.server.now;
+          work = run.work.now;
+          count = run.count;
+        })) }
     ensures range { IfSome result (λ run. (1 ≤ run.count) × (run.count ≤ most_connections)) }
 {
     let [run, address, server, work, count] = words else {

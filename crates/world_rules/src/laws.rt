@@ -1,5 +1,17 @@
 // What holds of every run of a client in its world, as contracts of calls that do nothing.
-ghost use Rattle.world_rules.specs.Laws.{RunsStayInStep, RelaysKeepInStep, RestartsStayInStep, OperationsNeedASurrogate, ClientsWithoutOperationsNeverCollide, NewClientsAreInStep, AsksArePossible, PendingStoresAreValid, PendingOperationsAreValid, RunsNeedNoSurrogate, RunsJoin, RestartsEndRuns, SilentClientsRun, EntriesAreTakenOnce, LaterEntriesArePending, LoneClientsEntriesAreTaken, SparedPathsAreTheClients, SparedPathsAreKept, LoneClientsAreServedTheirTree, LoneClientsTreeIsKept, LoneClientsAreNotRefused, ServedIsReplayed, RunsServeWhatIsTaken, RunsAnswersStand, RunsSendWhatIsAsked, RunsTellWhatIsTaken, RunsTellWhatIsAsked, AskedRequestsWereSent, FreeAsksAreNoSends, PacketsStay, AcceptedEntriesWereTaken, DoneEntriesWereTaken, NoGapComes, StaleNamesAPathAhead, RefusalsShowAPathAhead, PullsFindTheirNumber, FreshPullsAreNotOlder};
+ghost use Rattle.world_rules.specs.Laws.{RunsStayInStep, RelaysKeepInStep, RestartsStayInStep};
+ghost use Rattle.world_rules.specs.Laws.{OperationsNeedASurrogate, ClientsWithoutOperationsNeverCollide};
+ghost use Rattle.world_rules.specs.Laws.{NewClientsAreInStep, AsksArePossible, PendingStoresAreValid};
+ghost use Rattle.world_rules.specs.Laws.{PendingOperationsAreValid, RunsNeedNoSurrogate, RunsJoin, RestartsEndRuns};
+ghost use Rattle.world_rules.specs.Laws.{SilentClientsRun, EntriesAreTakenOnce, LaterEntriesArePending};
+ghost use Rattle.world_rules.specs.Laws.{LoneClientsEntriesAreTaken, SparedPathsAreTheClients, SparedPathsAreKept};
+ghost use Rattle.world_rules.specs.Laws.{LoneClientsAreServedTheirTree, LoneClientsTreeIsKept};
+ghost use Rattle.world_rules.specs.Laws.{LoneClientsAreNotRefused, ServedIsReplayed, RunsServeWhatIsTaken};
+ghost use Rattle.world_rules.specs.Laws.{RunsAnswersStand, RunsSendWhatIsAsked, RunsTellWhatIsTaken};
+ghost use Rattle.world_rules.specs.Laws.{RunsTellWhatIsAsked, AskedRequestsWereSent, FreeAsksAreNoSends, PacketsStay};
+ghost use Rattle.world_rules.specs.Laws.{AcceptedEntriesWereTaken, DoneEntriesWereTaken, NoGapComes};
+ghost use Rattle.world_rules.specs.Laws.{StaleNamesAPathAhead, RefusalsShowAPathAhead, PullsFindTheirNumber};
+ghost use Rattle.world_rules.specs.Laws.{FreshPullsAreNotOlder};
 
 /// Every run from a log in step ends in step, with what is kept of the log, and so does a new beginning with that, and what a
 /// surrogate sends. A client without a surrogate sends no operation. A new client begins in step, asking is a run, and each pending
