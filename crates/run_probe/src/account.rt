@@ -1,6 +1,6 @@
 // What stands in a network, as text.
 
-use crate::network::Network;
+use crate::networks::Network;
 use server_core::Server;
 use std::alloc::{AllocError, Global};
 use vol_tree::{Content, Node, Row};

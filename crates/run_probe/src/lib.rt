@@ -3,11 +3,11 @@
 #![tactic(auto)]
 
 mod account;
-mod network;
+mod networks;
 mod outcomes;
 mod probe;
 
-pub use network::{Network, network};
+pub use networks::{Network, network};
 pub use outcomes::giving;
 pub use probe::{
     Fails, Probe, account_of, account_on, account_over, told, told_on, told_with, words_of,

@@ -1,7 +1,7 @@
 // Runs of the client, one after the other, over what stays outside it.
 
 use crate::account::{account_of_network, rows_of_server, write_text};
-use crate::network::{Network, network};
+use crate::networks::{Network, network};
 use client_prog::client_run;
 use cmd_capture::{ScriptAnswer, ScriptRunner};
 use mem_net::Fate;
