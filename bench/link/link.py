@@ -2,6 +2,7 @@
 import contextlib
 import os
 import shutil
+import signal
 import socket
 import subprocess
 import sys
@@ -238,6 +239,7 @@ SCENES = {"bytes": show_bytes, "held": show_held, "long": show_long}
 
 
 def main():
+    signal.signal(signal.SIGTERM, lambda *_: sys.exit(143))  # ends what was started, too
     names = sys.argv[1:] or list(SCENES)
     with contextlib.ExitStack() as stack:
         folder = tempfile.mkdtemp()

@@ -22,4 +22,4 @@ if [ -z "${SERVER-}" ]; then build server; SERVER="$top/crates/server/out/server
 if [ -z "${SURROGATE-}" ]; then build surrogate; SURROGATE="$top/crates/surrogate/out/surrogate"; fi
 if [ -z "${CLIENT-}" ]; then build client; CLIENT="$top/crates/client/out/client"; fi
 export SERVER SURROGATE CLIENT
-exec python3 "$here/link.py" "$@"
+exec python3 -B "$here/link.py" "$@"
