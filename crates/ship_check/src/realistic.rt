@@ -42,28 +42,54 @@ fn input(alloc: Global) -> Result<Vec<u8>, AllocError> {
     Ok(input)
 }
 
+/// The lines of all files, and so many more bytes.
+fn all_lines(alloc: Global, more: u8) -> Result<String, AllocError> {
+    let mut all = line(alloc, 16_663)?;
+    for _ in 0..11_u8 {
+        all.push_str(line(alloc, 16_667)?.as_str())?;
+    }
+    for _ in 0..more {
+        all.push_str("\n")?;
+    }
+    Ok(all)
+}
+
 /// What the command leaves: the folder, its files, and behind the first of them `all` with their lines and so many more
 /// bytes.
 fn left(alloc: Global, more: u8) -> Result<ScriptAnswer, AllocError> {
     let long = line(alloc, 16_667)?;
     let short = line(alloc, 16_663)?;
-    let mut all = String::new(alloc);
-    all.push_str(&short)?;
-    for _ in 0..11_u8 {
-        all.push_str(&long)?;
-    }
-    for _ in 0..more {
-        all.push_str("\n")?;
-    }
-    let mut rows: Vec<(&str, Option<&str>)> = Vec::new(alloc);
-    rows.push(("d", None))?;
-    for (number, name) in NAMES.iter().enumerate() {
-        let text = if number == 11 { &short } else { &long };
-        rows.push((*name, Some(text.as_str())))?;
-        if number == 0 {
-            rows.push(("d/all", Some(all.as_str())))?;
-        }
-    }
+    let all = all_lines(alloc, more)?;
+    let left = left_of(alloc, long.as_str(), short.as_str(), all.as_str());
+    drop(all);
+    drop(short);
+    drop(long);
+    left
+}
+
+/// The same of these texts.
+fn left_of<'x>(
+    alloc: Global,
+    long: &'x str,
+    short: &'x str,
+    all: &'x str,
+) -> Result<ScriptAnswer, AllocError> {
+    let rows = [
+        ("d", None),
+        ("d/a.txt", Some(long)),
+        ("d/all", Some(all)),
+        ("d/b.txt", Some(long)),
+        ("d/c.txt", Some(long)),
+        ("d/d.txt", Some(long)),
+        ("d/e.txt", Some(long)),
+        ("d/f.txt", Some(long)),
+        ("d/g.txt", Some(long)),
+        ("d/h.txt", Some(long)),
+        ("d/i.txt", Some(long)),
+        ("d/j.txt", Some(long)),
+        ("d/k.txt", Some(long)),
+        ("d/l.txt", Some(short)),
+    ];
     giving(alloc, 0, &rows)
 }
 
