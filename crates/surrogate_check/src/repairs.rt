@@ -95,11 +95,38 @@ fn is_answered(
     name: &str,
     bytes: &[u8],
 ) -> Result<bool, Fail> {
-    let mut runner = left(alloc, files)?;
-    let mut net = network_of(alloc, Server::new(alloc), Vec::new(alloc))?;
-    let seen = answer(alloc, frame, &mut runner, &mut net)?;
+    let (seen, held) = answered(alloc, frame, files, name)?;
     let wanted = bytes_of(alloc, reply)?;
-    Ok(seen == wanted && held(alloc, &net, name)?.as_slice() == bytes)
+    Ok(seen == wanted && held.as_slice() == bytes)
+}
+
+/// The frame of the reply to the operation, whose run leaves these files, and the bytes that the server then has at the path.
+fn answered(
+    alloc: Global,
+    frame: &str,
+    files: &[(&str, &[u8])],
+    name: &str,
+) -> Result<(Vec<u8>, Vec<u8>), Fail> {
+    let mut runner = left(alloc, files)?;
+    let mut net = match network_of(alloc, Server::new(alloc), Vec::new(alloc)) {
+        Ok(net) => net,
+        Err(refused) => {
+            drop(runner);
+            return Err(Fail::from(refused));
+        }
+    };
+    let seen = match answer(alloc, frame, &mut runner, &mut net) {
+        Ok(seen) => seen,
+        Err(fail) => {
+            drop(net);
+            drop(runner);
+            return Err(fail);
+        }
+    };
+    let bytes = held(alloc, &net, name);
+    drop(net);
+    drop(runner);
+    Ok((seen, bytes?))
 }
 
 /// Whether a run that leaves this content at `a` is done, with the client's content at the server.
