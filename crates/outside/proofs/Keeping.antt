@@ -1,5 +1,5 @@
 -- An image that is put under a name, in place of what stands there or behind all others.
-use Rattle.std.proofs.Common.{◌≡◌, ◌≢◌, ℕ, zero, suc, ◌≤◌, Bool, true, false, cond, List, [], ◌∷◌, ◌++◌, length, get_or, set, Option, None, Some, option_map, refl, sym, ap, ◌∙◌, arith}
+use Rattle.std.proofs.Common.{◌≡◌, ◌≢◌, ℕ, zero, suc, ◌≤◌, Bool, true, false, cond, List, [], ◌∷◌, ◌++◌, length, take, get_or, set, Option, None, Some, option_map, refl, sym, ap, subst, ◌∙◌, ◌⊎◌, inr, arith}
 use Rattle.std.specs.Prelude.{nat_lt, slice_get}
 use Rattle.std.specs.Option.{option_or}
 use Rattle.std.specs.List.{find, position, position_or_len}
@@ -8,9 +8,11 @@ use Rattle.std.proofs.lemmas.Bool.Decides.{nat_tests}
 use Rattle.std.proofs.lemmas.Slice.Eq.{bytes_eq-Decides}
 use Rattle.std.proofs.lemmas.List.Quantifiers.{position-Some}
 use Rattle.std.proofs.lemmas.List.Folds.{find_at, find-set, find_past, find-append}
+use Rattle.std.proofs.lemmas.List.{take_all}
+use Rattle.outside.specs.declared.memory_keeper.KeepFail.{KeepFail}
 use Rattle.outside.specs.declared.memory_keeper.Slot.{Slot}
-use Rattle.outside.specs.Keeper.{IsPut}
-use Rattle.outside.specs.MemoryKeeper.{has_name, images_of}
+use Rattle.outside.specs.Keeper.{Images, IsPut, followed_by}
+use Rattle.outside.specs.MemoryKeeper.{has_name, images_of, left_of}
 
 own_name : (slot : Slot) (name : List ℕ) → slot.name.items ≡ name → has_name name slot ≡ true
 own_name slot name is = (bytes_eq-Decides slot.name.items name).1 is
@@ -75,3 +77,14 @@ added slots name new none is = record {
       let last : find (has_name other) (new ∷ []) ≡ None = rw (no_other new name other is apart) refl in
       ap image (find-append (has_name other) slots (new ∷ []) ∙ ap (option_or (find (has_name other) slots)) last ∙ no_more (find (has_name other) slots));
 }
+
+-- what a failing append leaves of its piece is a front of it
+pub left_is_a_front : (fail : KeepFail) (name piece : List ℕ) (old new : Images) (left : List ℕ) → left ≡ left_of fail piece → IsPut name (followed_by left (old name)) old new
+    → (new ≡ old) ⊎ ((count : ℕ) × IsPut name (followed_by (take count piece) (old name)) old new)
+left_is_a_front fail name piece old new left is put =
+    let front = is_front fail.leaves_new in
+    inr (front.0, subst (λ (text : List ℕ). IsPut name (followed_by text (old name)) old new) (is ∙ front.1) put)
+  where
+    is_front : (whole : Bool) → (count : ℕ) × (cond whole piece (take fail.part piece) ≡ take count piece)
+    is_front true = (length piece, sym (take_all (length piece) piece (omega arith)))
+    is_front false = (fail.part, refl)

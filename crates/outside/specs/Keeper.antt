@@ -1,5 +1,5 @@
 -- What the calls of a keeper do to the images that it tells.
-use Rattle.std.specs.Prelude.{◌≡◌, ◌≢◌, ◌⊎◌, ℕ, List, Option, None, Some, option_map, Result, Ok, Err, Vec}
+use Rattle.std.specs.Prelude.{◌≡◌, ◌≢◌, ◌⊎◌, ℕ, List, [], ◌++◌, take, Option, None, Some, option_map, unwrap_or, Result, Ok, Err, Vec}
 use Rattle.std.specs.declared.alloc.Global.{Global}
 
 -- what is kept under each name
@@ -20,6 +20,15 @@ Loads name (Err e) old new = new ≡ old
 abbrev pub Saves : {T E : Type 0} → List ℕ → List ℕ → Result T E → Images → Images → Type 0
 Saves name image (Ok done) old new = IsPut name image old new
 Saves name image (Err e) old new = (new ≡ old) ⊎ IsPut name image old new
+
+-- what is kept, and the piece behind it; where nothing is kept, the piece alone
+abbrev pub followed_by : List ℕ → Option (List ℕ) → List ℕ
+followed_by piece kept = unwrap_or kept [] ++ piece
+
+-- an append puts the piece behind what is kept under the name; one that is refused puts a front of the piece there, or changes nothing
+abbrev pub Appends : {T E : Type 0} → List ℕ → List ℕ → Result T E → Images → Images → Type 0
+Appends name piece (Ok done) old new = IsPut name (followed_by piece (old name)) old new
+Appends name piece (Err e) old new = (new ≡ old) ⊎ ((count : ℕ) × IsPut name (followed_by (take count piece) (old name)) old new)
 
 -- what is kept under one name, where the keeper tells it
 abbrev pub kept_under : List ℕ → Option Images → Option (Option (List ℕ))

@@ -1,12 +1,12 @@
 -- The keeper in memory, as contracts see it.
-use Rattle.std.specs.Prelude.{◌≡◌, ℕ, Bool, true, false, ◌==◌, List, find, Option, option_map, is_some, unwrap_or, Result, Ok, Err}
+use Rattle.std.specs.Prelude.{◌≡◌, ℕ, Bool, true, false, ◌==◌, List, find, take, Option, option_map, is_some, unwrap_or, Result, Ok, Err, if◌then◌else◌}
 use Rattle.std.specs.Str.{bytes_eq}
 use Rattle.outside.specs.declared.errors.KeepError.{KeepError}
 use Rattle.outside.specs.declared.errors.KeepError.TheVariants.{Failed, Memory}
 use Rattle.outside.specs.declared.calls.Calls.{Calls}
 use Rattle.outside.specs.declared.memory_keeper.KeepFail.{KeepFail}
 use Rattle.outside.specs.declared.memory_keeper.Slot.{Slot}
-use Rattle.outside.specs.Keeper.{Images, IsPut}
+use Rattle.outside.specs.Keeper.{Images, IsPut, followed_by}
 
 pub record KeeperInMemory : Type 0 where
   -- what is kept, each image beside its name
@@ -51,3 +51,17 @@ abbrev pub SavesAs : {T : Type 0} → List ℕ → List ℕ → Result T KeepErr
 SavesAs name image (Ok done) old new = IsPut name image (images_of old.slots) (images_of new)
 SavesAs name image (Err Failed) old new = Leaves (leaves_new old) name image old.slots new
 SavesAs name image (Err Memory) old new = new ≡ old.slots
+
+-- what a call that fails so leaves of the piece that it appends: the whole, or a front of so many bytes
+abbrev pub left_of : KeepFail → List ℕ → List ℕ
+left_of fail piece = if fail.leaves_new then piece else take fail.part piece
+
+-- the same of the next call; the whole piece where it does not fail
+abbrev pub left_now : KeeperInMemory → List ℕ → List ℕ
+left_now keeper piece = unwrap_or (option_map (λ fail. left_of fail piece) (fail_of keeper.fails keeper.calls.made)) piece
+
+-- what an append leaves
+abbrev pub AppendsAs : {T : Type 0} → List ℕ → List ℕ → Result T KeepError → KeeperInMemory → List Slot → Type 0
+AppendsAs name piece (Ok done) old new = IsPut name (followed_by piece (images_of old.slots name)) (images_of old.slots) (images_of new)
+AppendsAs name piece (Err Failed) old new = IsPut name (followed_by (left_now old piece) (images_of old.slots name)) (images_of old.slots) (images_of new)
+AppendsAs name piece (Err Memory) old new = new ≡ old.slots

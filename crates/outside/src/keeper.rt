@@ -1,6 +1,6 @@
 ghost use Rattle.std.specs.Prelude.{ℕ, Option};
 ghost use Rattle.outside.specs.Outside.{Told, CountsFault};
-ghost use Rattle.outside.specs.Keeper.{Images, Loads, Saves};
+ghost use Rattle.outside.specs.Keeper.{Images, Loads, Saves, Appends};
 
 use crate::KeepError;
 
@@ -29,5 +29,15 @@ pub trait Keeper {
     /// stays.
     fn save(&mut self, name: &[u8], image: &[u8]) -> Result<(), KeepError>
         ensures images { Told (images self.old) (images self.new) (λ old new. Saves name.now image.now result old new) }
+        ensures cause { CountsFault KeepError.Failed (faults self.old) (faults self.new) result };
+
+    /// Puts the piece behind what is kept under the name; where nothing is, the piece is then kept alone.
+    ///
+    /// # Errors
+    ///
+    /// `Failed` is counted. After either refusal all is as before, or a front of the piece stands behind what was kept: none
+    /// of it, a part or the whole. What is kept under other names stays.
+    fn append(&mut self, name: &[u8], piece: &[u8]) -> Result<(), KeepError>
+        ensures images { Told (images self.old) (images self.new) (λ old new. Appends name.now piece.now result old new) }
         ensures cause { CountsFault KeepError.Failed (faults self.old) (faults self.new) result };
 }

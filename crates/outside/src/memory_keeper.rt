@@ -1,9 +1,9 @@
-ghost use Rattle.std.specs.Prelude.{◌≡◌, ◌↔◌, [], None, Some, option_map, position, OnOk, OnErr, IsErr, IsErrOf, IsTrue};
+ghost use Rattle.std.specs.Prelude.{◌≡◌, ◌↔◌, [], None, Some, position, IfOk, OnOk, OnErr, IsErr, IsErrOf, IsTrue};
 ghost use Rattle.std.specs.Option.{option_copied};
 ghost use Rattle.outside.specs.Outside.{Told, CountsFault};
-ghost use Rattle.outside.specs.Keeper.{IsPut, Loads, Saves};
+ghost use Rattle.outside.specs.Keeper.{IsPut, Loads, Saves, Appends, followed_by};
 ghost use Rattle.outside.specs.Memory.{after_call};
-ghost use Rattle.outside.specs.MemoryKeeper.{KeeperInMemory, has_name, images_of, fail_of, fails_now, has_failed, SavesAs};
+ghost use Rattle.outside.specs.MemoryKeeper.{KeeperInMemory, has_name, images_of, fail_of, fails_now, has_failed, SavesAs, left_of, AppendsAs};
 
 use crate::calls::Calls;
 use crate::{KeepError, Keeper};
@@ -14,8 +14,10 @@ use std::marker::Model;
 #[derive(Clone, Copy, Debug, PartialEq, Eq)]
 pub struct KeepFail {
     pub call: u32,
-    /// Whether the call leaves the new image, where it is a save.
+    /// Whether the call leaves the new image, where it is a save, and the whole piece, where it is an append.
     pub leaves_new: bool,
+    /// How many bytes of its piece an append leaves that does not leave the whole: at most all.
+    pub part: u32,
 }
 
 /// An image beside its name.
@@ -68,14 +70,21 @@ fn image_of<'a>(slots: &'a [Slot], name: &[u8]) -> Option<&'a [u8]>
     }
 }
 
-/// Whether a failing call leaves the new image; none where the call does not fail.
-fn left_by(fails: &[KeepFail], call: u64) -> Option<bool>
-    ensures { result ≡ option_map (λ fail. fail.leaves_new) (fail_of fails.now call) }
+/// How the call fails, where it is a named one.
+fn fail_of(fails: &[KeepFail], call: u64) -> Option<&KeepFail>
+    ensures { option_copied result ≡ fail_of fails.now call }
 {
-    match fails.iter().find(|fail| u64::from(fail.call) == call) {
-        Some(fail) => Some(fail.leaves_new),
-        None => None,
+    fails.iter().find(|fail| u64::from(fail.call) == call)
+}
+
+/// What a call that fails so leaves of the piece that it appends.
+fn left_of<'a>(fail: &KeepFail, piece: &'a [u8]) -> &'a [u8]
+    ensures { result.now ≡ left_of fail.now piece.now }
+{
+    if fail.leaves_new {
+        return piece;
     }
+    &piece[..piece.len().min(fail.part as usize)]
 }
 
 impl Keeper for MemKeeper {
@@ -92,7 +101,7 @@ impl Keeper for MemKeeper {
         ensures counted { self.new ≡ record self.old { calls = after_call (has_failed result) self.old.calls } }
     {
         let call = self.calls.count();
-        if left_by(&self.fails, call).is_some() {
+        if fail_of(&self.fails, call).is_some() {
             self.calls.fail();
             return Err(KeepError::Failed);
         }
@@ -114,13 +123,13 @@ impl Keeper for MemKeeper {
         ensures counted { self.new ≡ record self.old { slots = self.new.slots; calls = after_call (has_failed result) self.old.calls } }
     {
         let call = self.calls.count();
-        match left_by(&self.fails, call) {
+        match fail_of(&self.fails, call) {
             None => {
                 put(&mut self.slots, name, image)?;
                 Ok(())
             }
-            Some(leaves_new) => {
-                if leaves_new {
+            Some(fail) => {
+                if fail.leaves_new {
                     put(&mut self.slots, name, image)?;
                 }
                 self.calls.fail();
@@ -128,6 +137,53 @@ impl Keeper for MemKeeper {
             }
         }
     }
+
+    /// Puts a copy of the piece behind what is kept; in the named calls a copy of what they leave of it.
+    fn append(&mut self, name: &[u8], piece: &[u8]) -> Result<(), KeepError>
+        ensures images { Told (Some (images_of self.old.slots)) (Some (images_of self.new.slots)) (λ old new. Appends name.now piece.now result old new) }
+        ensures cause { CountsFault KeepError.Failed self.old.calls.faults self.new.calls.faults result }
+
+        ensures exactly { IsErrOf result KeepError.Failed → IsTrue (fails_now self.old) }
+        // A named call fails, or memory ran out before what it leaves was there.
+        ensures always { IsTrue (fails_now self.old) → IsErr result }
+        ensures left { AppendsAs name.now piece.now result self.old self.new.slots }
+        ensures counted { self.new ≡ record self.old { slots = self.new.slots; calls = after_call (has_failed result) self.old.calls } }
+    {
+        let call = self.calls.count();
+        match fail_of(&self.fails, call) {
+            None => {
+                add(&mut self.slots, name, piece)?;
+                Ok(())
+            }
+            Some(fail) => {
+                add(&mut self.slots, name, left_of(fail, piece))?;
+                self.calls.fail();
+                Err(KeepError::Failed)
+            }
+        }
+    }
+}
+
+/// Keeps a copy of the piece under the name, behind what is kept there.
+fn add(slots: &mut Vec<Slot>, name: &[u8], piece: &[u8]) -> Result<(), AllocError>
+    ensures ok { OnOk result (IsPut name.now (followed_by piece.now (images_of slots.old.items name.now)) (images_of slots.old.items) (images_of slots.new.items)) }
+    ensures err { OnErr result (slots.new.items ≡ slots.old.items) }
+{
+    let whole = followed_by(slots, name, piece)?;
+    put(slots, name, &whole)
+}
+
+/// A copy of what is kept under the name, and of the piece behind it.
+fn followed_by(slots: &Vec<Slot>, name: &[u8], piece: &[u8]) -> Result<Vec<u8>, AllocError>
+    ensures { IfOk result (λ whole. whole.items ≡ followed_by piece.now (images_of slots.now.items name.now)) }
+{
+    let alloc = *slots.allocator();
+    let mut whole = match image_of(slots, name) {
+        Some(image) => image.to_vec(alloc)?,
+        None => Vec::new(alloc),
+    };
+    whole.extend_from_slice(piece)?;
+    Ok(whole)
 }
 
 /// Keeps a copy of the image under the name, in place of what is kept there.

@@ -58,10 +58,12 @@ fn a_named_save_leaves_the_old_image_or_the_new(rt: HostRuntime) -> Result<(), F
         KeepFail {
             call: 2,
             leaves_new: false,
+            part: 0,
         },
         KeepFail {
             call: 3,
             leaves_new: true,
+            part: 0,
         },
     ]
     .to_vec(alloc)?;
@@ -74,6 +76,37 @@ fn a_named_save_leaves_the_old_image_or_the_new(rt: HostRuntime) -> Result<(), F
     assert_eq!(rt; keeper.save(b"other", b"four"), Ok(()));
     assert_eq!(rt; keeper.load(b"img"), Ok(Some(b"three".to_vec(alloc)?)));
     assert_eq!(rt; keeper.image(b"none"), None);
+    Ok(())
+}
+
+/// A call that fails, and leaves so many bytes of a piece; 255 stands for the whole.
+fn fail(call: u32, part: u32) -> KeepFail {
+    KeepFail {
+        call,
+        leaves_new: part == 255,
+        part,
+    }
+}
+
+#[test]
+fn a_named_append_leaves_a_front_of_its_piece(rt: HostRuntime) -> Result<(), Fail> {
+    let alloc = rt.alloc();
+    let fails = [fail(2, 0), fail(3, 2), fail(4, 9), fail(5, 255)].to_vec(alloc)?;
+    let mut keeper = MemKeeper::new(alloc, fails);
+    assert_eq!(rt; keeper.append(b"img", b"one"), Ok(()));
+    assert_eq!(rt; keeper.append(b"img", b"two"), Ok(()));
+    assert_eq!(rt; keeper.append(b"img", b"none"), Err(KeepError::Failed));
+    assert_eq!(rt; keeper.image(b"img"), Some(b"onetwo".as_slice()));
+    assert_eq!(rt; keeper.append(b"img", b"part"), Err(KeepError::Failed));
+    assert_eq!(rt; keeper.append(b"img", b"more"), Err(KeepError::Failed));
+    assert_eq!(rt; keeper.append(b"img", b"whole"), Err(KeepError::Failed));
+    assert_eq!(rt; keeper.append(b"other", b"four"), Ok(()));
+    assert_eq!(rt;
+        keeper.load(b"img"),
+        Ok(Some(b"onetwopamorewhole".to_vec(alloc)?))
+    );
+    assert_eq!(rt; keeper.save(b"img", b"new"), Ok(()));
+    assert_eq!(rt; keeper.image(b"img"), Some(b"new".as_slice()));
     Ok(())
 }
 
