@@ -9,14 +9,14 @@ use store_image::{ImageError, read_client, read_server, write_client, write_serv
 
 /// Which reader is asked.
 #[derive(Clone, Copy)]
-enum Reader {
+pub(crate) enum Reader {
     Client,
     Server,
 }
 
 /// What a reader says of bytes.
 #[derive(Clone, Copy, Debug, PartialEq, Eq)]
-enum Answer {
+pub(crate) enum Answer {
     Read,
     WrongKind,
     Bad(u32),
@@ -111,7 +111,7 @@ const CLIENT_ZEROS: [(usize, Answer); 75] = [
     (61, Read),
     (62, Bad(54)),
     (66, Read),
-    (67, Bad(67)),
+    (67, Bad(71)),
     (71, Read),
     (72, Bad(68)),
     (73, Bad(72)),
@@ -231,7 +231,7 @@ const CLIENT_ONES: [(usize, Answer); 63] = [
 ];
 
 /// The answers to the image of client 9 with a zero in place of a byte, each with the place behind the last byte that gets it.
-const RUN_ZEROS: [(usize, Answer); 68] = [
+const RUN_ZEROS: [(usize, Answer); 67] = [
     (4, Bad(0)),
     (5, Bad(4)),
     (6, Bad(5)),
@@ -245,8 +245,7 @@ const RUN_ZEROS: [(usize, Answer); 68] = [
     (30, Bad(34)),
     (33, Read),
     (34, Bad(34)),
-    (41, Read),
-    (42, Bad(42)),
+    (42, Read),
     (43, Bad(43)),
     (79, Read),
     (89, Bad(80)),
@@ -382,11 +381,9 @@ const NEW_ONES: [(usize, Answer); 7] = [
 ];
 
 /// The answers to the image of the server with a zero in place of a byte, each with the place behind the last byte that gets it.
-const SERVER_ZEROS: [(usize, Answer); 24] = [
+const SERVER_ZEROS: [(usize, Answer); 22] = [
     (4, Bad(0)),
     (5, Bad(4)),
-    (520, Read),
-    (521, Bad(521)),
     (522, Read),
     (523, Bad(521)),
     (524, Bad(523)),
@@ -433,7 +430,7 @@ const SERVER_ONES: [(usize, Answer); 19] = [
 ];
 
 /// The bytes that the hexadecimal digits spell; other letters stand between them.
-fn bytes_of(alloc: Global, text: &str) -> Result<Vec<u8>, AllocError> {
+pub(crate) fn bytes_of(alloc: Global, text: &str) -> Result<Vec<u8>, AllocError> {
     let mut bytes = Vec::new(alloc);
     let mut high = None;
     for letter in text.bytes() {
@@ -484,7 +481,7 @@ fn refusal(error: ImageError) -> Answer {
 }
 
 /// What the reader says of the bytes.
-fn answer_of(alloc: Global, reader: Reader, bytes: &[u8]) -> Answer {
+pub(crate) fn answer_of(alloc: Global, reader: Reader, bytes: &[u8]) -> Answer {
     match reader {
         Reader::Client => match read_client(alloc, bytes) {
             Ok(image) => {
@@ -582,7 +579,11 @@ fn code(answer: Answer) -> u32 {
 }
 
 /// The answers to each bit turned round, the lowest of each byte first, as one number.
-fn sum_of_answers(alloc: Global, reader: Reader, image: &[u8]) -> Result<u32, AllocError> {
+pub(crate) fn sum_of_answers(
+    alloc: Global,
+    reader: Reader,
+    image: &[u8],
+) -> Result<u32, AllocError> {
     let mut sum: u32 = 0;
     for (place, byte) in image.iter().enumerate() {
         for bit in [1, 2, 4, 8, 16, 32, 64, 128] {
@@ -636,7 +637,7 @@ fn a_spoilt_client_is_refused_at_its_field(rt: HostRuntime) -> Result<(), Fail> 
         fields: &CLIENT_FIELDS,
         zeros: &CLIENT_ZEROS,
         ones: &CLIENT_ONES,
-        turned: 3_599_973_107,
+        turned: 3_787_517_943,
     };
     assert_eq!(rt; wrong(alloc, Reader::Client, &image, &wanted)?, None);
     Ok(())
@@ -650,7 +651,7 @@ fn a_spoilt_client_of_a_run_is_refused_at_its_field(rt: HostRuntime) -> Result<(
         fields: &RUN_FIELDS,
         zeros: &RUN_ZEROS,
         ones: &RUN_ONES,
-        turned: 1_131_992_979,
+        turned: 1_270_409_147,
     };
     assert_eq!(rt; wrong(alloc, Reader::Client, &image, &wanted)?, None);
     Ok(())
@@ -679,7 +680,7 @@ fn a_spoilt_server_is_refused_at_its_field(rt: HostRuntime) -> Result<(), Fail> 
         fields: &fields,
         zeros: &SERVER_ZEROS,
         ones: &SERVER_ONES,
-        turned: 3_404_901_961,
+        turned: 3_283_058_140,
     };
     assert_eq!(rt; wrong(alloc, Reader::Server, &image, &wanted)?, None);
     Ok(())

@@ -29,11 +29,12 @@ use Rattle.mod_log.proofs.Origins.{unknown_maker, origin_refused}
 use Rattle.store_image.specs.declared.image.ImageError.TheVariants.{BadImage}
 use Rattle.store_image.specs.Reading.{growing_effect_at, known_base_at, next_entry_at, entries_at, log_at, marked, client_mark, client_body_at, client_versions, client_at, numbers_at, server_mark, server_body_at, server_versions, server_at}
 use Rattle.store_image.specs.Spelling.{numbers}
-use Rattle.store_image.specs.Image.{image_of}
+use Rattle.store_image.specs.Image.{kept_client_at, kept_server_at, image_of}
 use Rattle.store_image.specs.Broken.{BrokenEntries, BrokenImages}
 use Rattle.store_image.proofs.Entries.{made_log}
 use Rattle.store_image.proofs.Images.{client_made, number_codec, numbers_codec, server_made}
 use Rattle.store_image.proofs.Sizes.{numbers_size}
+use Rattle.store_image.proofs.Refused.{client_fails, server_fails}
 use Rattle.store_image.proofs.BreakingParts.{effect_is_none, effects_are_none, effect_is_refused, bases_are_others, base_is_refused}
 
 -- ---- entries
@@ -154,6 +155,6 @@ broken_images = record {
   client_rows_are_refused = λ client acked text offset some few small refused. client_rows client acked some few small text offset refused;
   server_rows_are_refused = server_rows;
   entries_are_refused = λ client acked base text offset some few small tree refused. client_entries client acked some few small base text offset tree refused;
-  client_is_refused = λ text more offset refused apart. whole_refused server_mark client_at text more offset refused apart;
-  server_is_refused = λ text more offset refused apart. whole_refused client_mark server_at text more offset refused apart;
+  client_is_refused = λ text more offset refused apart. whole_refused server_mark kept_client_at text more offset (λ bytes at next stands. client_fails bytes at (at + offset) (refused bytes at next stands)) apart;
+  server_is_refused = λ text more offset refused apart. whole_refused client_mark kept_server_at text more offset (λ bytes at next stands. server_fails bytes at (at + offset) (refused bytes at next stands)) apart;
 }

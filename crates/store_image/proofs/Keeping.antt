@@ -1,50 +1,139 @@
 -- What bytes that were read, or refused, are kept for.
-use Rattle.std.proofs.Common.{◌≡◌, ◌≢◌, ℕ, List, [], ◌++◌, Result, Ok, Err, refl, sym, ap, ◌∙◌}
+use Rattle.std.proofs.Common.{◌≡◌, ◌≢◌, ℕ, ◌+◌, false, List, ◌++◌, length, drop, take, Result, Ok, Err, refl, sym, ap, subst, ◌∙◌, arith, length-append}
+use Rattle.std.proofs.lemmas.List.{drop_at}
 use Rattle.std.specs.Prelude.{IfOk, IfErr}
-use Rattle.byte_fields.specs.Codec.{IsBytes}
-use Rattle.byte_fields.proofs.Codec.{one_value}
+use Rattle.std.specs.Str.{bytes_eq}
+use Rattle.byte_fields.specs.Field.{◌>>=◌}
+use Rattle.byte_fields.specs.Codec.{Stands, IsBytes}
+use Rattle.byte_fields.proofs.Codec.{bind_ok, ok_is, stands_both, stands_first, stands_second}
 use Rattle.mod_log.specs.Log.{Log}
 use Rattle.store_image.specs.declared.image.ClientImage.{ClientImage}
 use Rattle.store_image.specs.declared.image.ServerImage.{ServerImage}
 use Rattle.store_image.specs.declared.image.ImageError.{ImageError}
 use Rattle.store_image.specs.declared.image.ImageError.TheVariants.{Memory}
-use Rattle.store_image.specs.Reading.{client_mark, server_mark}
-use Rattle.store_image.specs.Image.{client_of, server_of, GivesImage, IsKeptFor, IsKeptForServer}
+use Rattle.store_image.specs.Reading.{client_mark, server_mark, client_at, server_at}
+use Rattle.store_image.specs.Spelling.{client, server}
+use Rattle.store_image.specs.Records.{behind, client_records, client_records_at, with_record, with_records, server_records, server_records_at, with_taken, with_all_taken}
+use Rattle.store_image.specs.Image.{kept_client_at, kept_server_at, client_of, server_of, GivesImage, IsKeptFor, IsKeptForServer}
 use Rattle.store_image.proofs.Images.{client_made, client_codec, server_codec}
-use Rattle.store_image.proofs.Whole.{read_found, read_none, image_again}
+use Rattle.store_image.proofs.Framing.{torn_alone, torn_behind}
+use Rattle.store_image.proofs.Notes.{notes_found, notes_again}
+use Rattle.store_image.proofs.Records.{records_found, records_again}
+use Rattle.store_image.proofs.Taken.{taken_found, taken_again}
+use Rattle.store_image.proofs.Whole.{image_again, read_kept, read_none, kept_once}
 
--- ---- a client's image
+-- a text stands at the front of bytes
+front_stands : (front tail : List ℕ) → Stands (front ++ tail) 0 front (length front)
+front_stands front tail = record { here = ap (λ (rest : List ℕ). front ++ rest) (sym (drop_at front tail (length front) refl)); next_is = omega arith; within = omega (arith, length-append front tail) }
+
+-- ---- a client
+
+abbrev pub IsKept : ClientImage → List ℕ → Type 0
+IsKept image bytes = IsKeptFor image.client image.log bytes
+
+client_found : (bytes : List ℕ) (x : ClientImage) (next : ℕ) → IsBytes bytes → kept_client_at bytes 0 ≡ Ok (x, next) → IsKept x bytes
+unfolding kept_client_at
+client_found bytes x torn fits e =
+    let b = bind_ok (client_at bytes 0) (λ image. behind client_records_at with_record image.0.log bytes image.1 >>= λ log. Ok (client_made image.0.client log.0, log.1)) (x, torn) e in
+    let first = b.0.0 in
+    let c = bind_ok (behind client_records_at with_record first.log bytes b.0.1) (λ log. Ok (client_made first.client log.0, log.1)) (x, torn) b.2 in
+    let d = bind_ok (client_records_at first.log bytes b.0.1) (λ notes. Ok (with_records first.log notes.0, notes.1)) c.0 c.1 in
+    let image = client_codec.found bytes 0 first b.0.1 fits (omega arith) b.1 in
+    let w = records_found (length bytes) first.log bytes b.0.1 d.0.0 d.0.1 fits image.0.within (omega arith) d.1 in
+    let both = stands_both bytes 0 (client first) b.0.1 (client_records d.0.0) d.0.1 image.0 w.stands in
+    let made : (client_made first.client (with_records first.log d.0.0), d.0.1) ≡ (x, torn) =
+    ap (λ (log : Log × ℕ). (client_made first.client log.0, log.1)) (ok_is (with_records first.log d.0.0, d.0.1) c.0 d.2) ∙ ok_is (client_made first.client c.0.0, c.0.1) (x, torn) c.2 in
+    let kept : IsKeptFor first.client (with_records first.log d.0.0) bytes = record {
+      front = client first ++ client_records d.0.0;
+      tail = drop d.0.1 bytes;
+      whole = record { first = first.log; notes = d.0.0; fits = image.1; are = notes_found first.log d.0.0 image.1.log w.each; leads = refl; spelled = refl };
+      torn = torn_alone bytes d.0.1 both.within ∙ w.is;
+      parts = both.here;
+    } in
+    subst (λ (y : ClientImage × ℕ). IsKept y.0 bytes) made kept
+
+client_read : (bytes : List ℕ) (x : ClientImage) → IsKept x bytes → (next : ℕ) × (kept_client_at bytes 0 ≡ Ok (x, next))
+unfolding kept_client_at
+client_read bytes x kept =
+    let w = kept.whole in
+    let image = client_made x.client w.first in
+    let text = client image in
+    let records = client_records w.notes in
+    let all = subst (λ (f : List ℕ). Stands (f ++ kept.tail) 0 f (length f)) w.spelled (front_stands kept.front kept.tail) in
+    let bytes_are : bytes ≡ (text ++ records) ++ kept.tail = kept.parts ∙ ap (λ (f : List ℕ). f ++ kept.tail) w.spelled in
+    let first = stands_first ((text ++ records) ++ kept.tail) 0 text records (length (text ++ records)) all in
+    let second = stands_second ((text ++ records) ++ kept.tail) 0 text records (length (text ++ records)) all in
+    let read = client_codec.again ((text ++ records) ++ kept.tail) 0 image (0 + length text) first w.fits in
+    let notes : client_records_at w.first ((text ++ records) ++ kept.tail) (0 + length text) ≡ Ok (w.notes, length (text ++ records)) =
+    records_again w.notes w.first ((text ++ records) ++ kept.tail) (0 + length text) (length (text ++ records))
+    (record { stands = second; each = notes_again w.first w.notes w.fits.log w.are; is = torn_behind (text ++ records) kept.tail ∙ kept.torn }) in
+    (length (text ++ records), rw (bytes_are, read, notes) (ap (λ (log : Log). Ok (client_made x.client log, length (text ++ records))) (sym w.leads)))
+
+client_apart : (bytes : List ℕ) (x : ClientImage) → IsKept x bytes → bytes_eq server_mark (take 4 bytes) ≡ false
+client_apart bytes x kept = rw (kept.parts, kept.whole.spelled) refl
 
 pub client_kept : (bytes : List ℕ) (r : Result ClientImage ImageError) → IsBytes bytes → GivesImage r (client_of bytes) → IfOk r (λ image. IsKeptFor image.client image.log bytes)
-client_kept bytes (Ok image) are gives = let found = read_found server_mark client_codec bytes (Ok image) are gives in record { fits = found.0; spelled = found.1 }
-client_kept bytes (Err e) are gives = tt
+client_kept bytes r are gives = read_kept kept_client_at server_mark client_found client_read client_apart bytes r are gives
 
 pub client_none : (bytes : List ℕ) (r : Result ClientImage ImageError) → GivesImage r (client_of bytes) → IfErr r (λ e. e ≢ Memory → (number : ℕ) (log : Log) → IsKeptFor number log bytes → ⊥)
 client_none bytes (Ok image) gives = tt
-client_none bytes (Err e) gives = λ none number log kept. read_none server_mark client_codec bytes (Err e) gives none (client_made number log) refl kept.fits kept.spelled
+client_none bytes (Err e) gives = λ none number log kept. read_none kept_client_at server_mark client_found client_read client_apart bytes (Err e) gives none (client_made number log) kept
 
 pub client_again : (number : ℕ) (log : Log) (bytes : List ℕ) → IsKeptFor number log bytes → client_of bytes ≡ Ok (client_made number log)
-client_again number log bytes kept = ap client_of kept.spelled ∙ image_again server_mark client_codec (client_made number log) refl kept.fits
+client_again number log bytes kept = image_again kept_client_at server_mark client_found client_read client_apart bytes (client_made number log) kept
 
 -- bytes are kept for one client
 pub client_once : (number number' : ℕ) (log log' : Log) (bytes : List ℕ) → IsKeptFor number log bytes → IsKeptFor number' log' bytes → (number ≡ number') × (log ≡ log')
 client_once number number' log log' bytes kept kept' =
-    let same = (one_value client_codec (client_made number log) (client_made number' log') [] [] kept.fits kept'.fits (ap (λ (x : List ℕ). x ++ []) (sym kept.spelled ∙ kept'.spelled))).0 in
+    let same = kept_once kept_client_at server_mark client_found client_read client_apart bytes (client_made number log) (client_made number' log') kept kept' in
     (ap (λ (image : ClientImage). image.client) same, ap (λ (image : ClientImage). image.log) same)
 
--- ---- a server's image
+-- ---- a server
+
+server_found : (bytes : List ℕ) (x : ServerImage) (next : ℕ) → IsBytes bytes → kept_server_at bytes 0 ≡ Ok (x, next) → IsKeptForServer x bytes
+unfolding kept_server_at
+server_found bytes x torn fits e =
+    let b = bind_ok (server_at bytes 0) (λ image. behind server_records_at with_taken image.0 bytes image.1) (x, torn) e in
+    let first = b.0.0 in
+    let d = bind_ok (server_records_at first bytes b.0.1) (λ notes. Ok (with_all_taken first notes.0, notes.1)) (x, torn) b.2 in
+    let image = server_codec.found bytes 0 first b.0.1 fits (omega arith) b.1 in
+    let w = taken_found first bytes b.0.1 d.0.0 d.0.1 fits image.0.within d.1 in
+    let both = stands_both bytes 0 (server first) b.0.1 (server_records d.0.0) d.0.1 image.0 w.stands in
+    let kept : IsKeptForServer (with_all_taken first d.0.0) bytes = record {
+      front = server first ++ server_records d.0.0;
+      tail = drop d.0.1 bytes;
+      whole = record { first = first; notes = d.0.0; fits = image.1; are = w.are; leads = refl; spelled = refl };
+      torn = torn_alone bytes d.0.1 both.within ∙ w.is;
+      parts = both.here;
+    } in
+    subst (λ (y : ServerImage × ℕ). IsKeptForServer y.0 bytes) (ok_is (with_all_taken first d.0.0, d.0.1) (x, torn) d.2) kept
+
+server_read : (bytes : List ℕ) (x : ServerImage) → IsKeptForServer x bytes → (next : ℕ) × (kept_server_at bytes 0 ≡ Ok (x, next))
+unfolding kept_server_at
+server_read bytes x kept =
+    let w = kept.whole in
+    let text = server w.first in
+    let records = server_records w.notes in
+    let all = subst (λ (f : List ℕ). Stands (f ++ kept.tail) 0 f (length f)) w.spelled (front_stands kept.front kept.tail) in
+    let bytes_are : bytes ≡ (text ++ records) ++ kept.tail = kept.parts ∙ ap (λ (f : List ℕ). f ++ kept.tail) w.spelled in
+    let first = stands_first ((text ++ records) ++ kept.tail) 0 text records (length (text ++ records)) all in
+    let second = stands_second ((text ++ records) ++ kept.tail) 0 text records (length (text ++ records)) all in
+    let read = server_codec.again ((text ++ records) ++ kept.tail) 0 w.first (0 + length text) first w.fits in
+    let notes : server_records_at w.first ((text ++ records) ++ kept.tail) (0 + length text) ≡ Ok (w.notes, length (text ++ records)) =
+    taken_again w.first w.notes ((text ++ records) ++ kept.tail) (0 + length text) (length (text ++ records)) (record { stands = second; are = w.are; is = torn_behind (text ++ records) kept.tail ∙ kept.torn }) in
+    (length (text ++ records), rw (bytes_are, read, notes) (ap (λ (image : ServerImage). Ok (image, length (text ++ records))) (sym w.leads)))
+
+server_apart : (bytes : List ℕ) (x : ServerImage) → IsKeptForServer x bytes → bytes_eq client_mark (take 4 bytes) ≡ false
+server_apart bytes x kept = rw (kept.parts, kept.whole.spelled) refl
 
 pub server_kept : (bytes : List ℕ) (r : Result ServerImage ImageError) → IsBytes bytes → GivesImage r (server_of bytes) → IfOk r (λ image. IsKeptForServer image bytes)
-server_kept bytes (Ok image) are gives = let found = read_found client_mark server_codec bytes (Ok image) are gives in record { fits = found.0; spelled = found.1 }
-server_kept bytes (Err e) are gives = tt
+server_kept bytes r are gives = read_kept kept_server_at client_mark server_found server_read server_apart bytes r are gives
 
 pub server_none : (bytes : List ℕ) (r : Result ServerImage ImageError) → GivesImage r (server_of bytes) → IfErr r (λ e. e ≢ Memory → (image : ServerImage) → IsKeptForServer image bytes → ⊥)
-server_none bytes (Ok image) gives = tt
-server_none bytes (Err e) gives = λ none image kept. read_none client_mark server_codec bytes (Err e) gives none image refl kept.fits kept.spelled
+server_none bytes r gives = read_none kept_server_at client_mark server_found server_read server_apart bytes r gives
 
 pub server_again : (image : ServerImage) (bytes : List ℕ) → IsKeptForServer image bytes → server_of bytes ≡ Ok image
-server_again image bytes kept = ap server_of kept.spelled ∙ image_again client_mark server_codec image refl kept.fits
+server_again image bytes kept = image_again kept_server_at client_mark server_found server_read server_apart bytes image kept
 
 pub server_once : (image image' : ServerImage) (bytes : List ℕ) → IsKeptForServer image bytes → IsKeptForServer image' bytes → image ≡ image'
-server_once image image' bytes kept kept' =
-    (one_value server_codec image image' [] [] kept.fits kept'.fits (ap (λ (x : List ℕ). x ++ []) (sym kept.spelled ∙ kept'.spelled))).0
+server_once image image' bytes kept kept' = kept_once kept_server_at client_mark server_found server_read server_apart bytes image image' kept kept'

@@ -2,10 +2,16 @@ pub mod Growing
 pub mod Bases
 pub mod Entries
 pub mod Images
+pub mod Framing
+pub mod Notes
+pub mod Records
+pub mod Taken
+pub mod Spelled
 pub mod Whole
 pub mod Places
 pub mod Sizes
 pub mod Keeping
+pub mod Appended
 pub mod Cuts
 pub mod Refused
 pub mod BreakingParts

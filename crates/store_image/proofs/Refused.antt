@@ -10,10 +10,10 @@ use Rattle.byte_fields.specs.Numbers.{as_u32}
 use Rattle.store_image.specs.declared.image.ClientImage.{ClientImage}
 use Rattle.store_image.specs.declared.image.ServerImage.{ServerImage}
 use Rattle.store_image.specs.declared.image.ImageError.TheVariants.{BadImage}
-use Rattle.store_image.specs.Reading.{client_mark, server_mark}
+use Rattle.store_image.specs.Reading.{client_mark, server_mark, client_at, server_at}
 use Rattle.store_image.specs.Spelling.{client, ClientFits, server, ServerFits}
 use Rattle.store_image.specs.Fields.{client_fields, server_fields}
-use Rattle.store_image.specs.Image.{image_of, client_of, server_of}
+use Rattle.store_image.specs.Image.{kept_client_at, kept_server_at, image_of, client_of, server_of}
 use Rattle.store_image.proofs.Cuts.{client_cut, server_cut}
 use Rattle.store_image.proofs.Sizes.{client_size, server_size}
 use Rattle.store_image.proofs.Whole.{whole_stands}
@@ -45,7 +45,8 @@ no_mark other text end four apart = by (bytes_eq other (take 4 (take end text)))
         let same = (bytes_eq-Decides other (take 4 text)).1 (is ∙ take_less 4 end text long) in
         sym same ∙ apart
 
-module _ {A : Type 0} {read : Reader A} {spelling fields : A → List ℕ} {Fits : A → Type 0} (other : List ℕ) (cut : IsCut read spelling fields Fits) where
+-- a reader that begins as one of images does, and refuses what that one refuses
+module _ {A : Type 0} {begun : Reader A} {spelling fields : A → List ℕ} {Fits : A → Type 0} (read : Reader A) (other : List ℕ) (cut : IsCut begun spelling fields Fits) (fails : (bytes : List ℕ) (place : ℕ) → begun bytes 0 ≡ Err place → read bytes 0 ≡ Err place) where
   image_refused : (x : A) (end : ℕ) → length other ≡ 4 → bytes_eq other (take 4 (spelling x)) ≡ false → Fits x → end < length (spelling x) → length (spelling x) < 2 ^ 32
       → image_of other read (take end (spelling x)) ≡ Err (BadImage (start_of end (fields x)))
   image_refused x end four apart fits lt small =
@@ -53,13 +54,21 @@ module _ {A : Type 0} {read : Reader A} {spelling fields : A → List ℕ} {Fits
       let whole_end : end - 0 ≡ end = omega arith in
       let start : 0 + start_of (end - 0) (fields x) ≡ start_of end (fields x) = rw whole_end (omega arith) in
       let place : as_u32 (0 + start_of (end - 0) (fields x)) ≡ start_of end (fields x) = ap as_u32 start ∙ at_most (start_of end (fields x)) (omega (arith, begins_before end (fields x), lt, small)) in
-      rw (no_mark other (spelling x) end four apart, ends) (ap (λ (n : ℕ). Err (BadImage n)) place)
+      rw (no_mark other (spelling x) end four apart, fails (take end (spelling x)) (0 + start_of (end - 0) (fields x)) ends) (ap (λ (n : ℕ). Err (BadImage n)) place)
     where
       at_most : (n : ℕ) → n ≤ 4294967295 → as_u32 n ≡ n
       at_most n le = omega arith
 
+pub client_fails : (bytes : List ℕ) (at place : ℕ) → client_at bytes at ≡ Err place → kept_client_at bytes at ≡ Err place
+unfolding kept_client_at
+client_fails bytes at place e = rw e refl
+
+pub server_fails : (bytes : List ℕ) (at place : ℕ) → server_at bytes at ≡ Err place → kept_server_at bytes at ≡ Err place
+unfolding kept_server_at
+server_fails bytes at place e = rw e refl
+
 pub client_refused : (image : ClientImage) (end : ℕ) → ClientFits image → end < length (client image) → client_of (take end (client image)) ≡ Err (BadImage (start_of end (client_fields image)))
-client_refused image end fits lt = image_refused server_mark client_cut image end refl refl fits lt (omega (arith, client_size image fits))
+client_refused image end fits lt = image_refused kept_client_at server_mark client_cut (λ bytes place. client_fails bytes 0 place) image end refl refl fits lt (omega (arith, client_size image fits))
 
 pub server_refused : (image : ServerImage) (end : ℕ) → ServerFits image → end < length (server image) → server_of (take end (server image)) ≡ Err (BadImage (start_of end (server_fields image)))
-server_refused image end fits lt = image_refused client_mark server_cut image end refl refl fits lt (omega (arith, server_size image fits))
+server_refused image end fits lt = image_refused kept_server_at client_mark server_cut (λ bytes place. server_fails bytes 0 place) image end refl refl fits lt (omega (arith, server_size image fits))

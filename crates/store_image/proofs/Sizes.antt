@@ -10,8 +10,9 @@ use Rattle.tree_values.proofs.Sizes.{rows_size}
 use Rattle.mod_log.specs.Log.{Log, entry, IsLog}
 use Rattle.store_image.specs.declared.image.ClientImage.{ClientImage}
 use Rattle.store_image.specs.declared.image.ServerImage.{ServerImage}
-use Rattle.store_image.specs.declared.image.TheConstants.{MAX_CLIENT_IMAGE, MAX_SERVER_IMAGE}
+use Rattle.store_image.specs.declared.image.TheConstants.{MAX_CLIENT_IMAGE, MAX_SERVER_IMAGE, MAX_RECORDS}
 use Rattle.store_image.specs.Spelling.{entries, log, client, ClientFits, numbers, server, ServerFits}
+use Rattle.store_image.specs.Records.{client_records, server_records}
 use Rattle.store_image.specs.Laws.{ImagesAreSmall}
 
 log_size : (l : Log) → IsLog l → length (log l) + 6 ≤ MAX_CLIENT_IMAGE
@@ -37,10 +38,20 @@ numbers_size (n ∷ last) = omega (arith, ap length (flat_map-cons (digits w64) 
 pub server_size : (image : ServerImage) → ServerFits image → length (server image) ≤ MAX_SERVER_IMAGE
 server_size image fits = omega (arith, length-append (numbers image.last) (rows image.tree), numbers_size image.last, fits.count, rows_size image.tree fits.tree)
 
+-- what is kept, of which so much stands behind the image
+kept_size : (image records front tail bytes : List ℕ) (most : ℕ) → front ≡ image ++ records → bytes ≡ front ++ tail → length image ≤ most → length (records ++ tail) ≤ MAX_RECORDS → length bytes ≤ most + MAX_RECORDS
+kept_size image records front tail bytes most spelled parts small few =
+    omega (arith, ap length parts, length-append front tail, ap length spelled, length-append image records, length-append records tail, small, few)
+
 pub images_small : ImagesAreSmall
 images_small = record {
-  clients = λ number log bytes kept. rw kept.spelled (client_size (record { client = number; log = log }) kept.fits);
-  servers = λ image bytes kept. rw kept.spelled (server_size image kept.fits);
+  clients = client_size;
+  servers = server_size;
+  kept_clients = λ number log bytes kept few.
+      let first : ClientImage = record { client = number; log = kept.whole.first } in
+      kept_size (client first) (client_records kept.whole.notes) kept.front kept.tail bytes MAX_CLIENT_IMAGE kept.whole.spelled kept.parts (client_size first kept.whole.fits) few;
+  kept_servers = λ image bytes kept few.
+      kept_size (server kept.whole.first) (server_records kept.whole.notes) kept.front kept.tail bytes MAX_SERVER_IMAGE kept.whole.spelled kept.parts (server_size kept.whole.first kept.whole.fits) few;
   clients_loaded = omega arith;
   servers_loaded = omega arith;
 }

@@ -1,32 +1,48 @@
 -- What bytes come to as an image, or why they are none; and what bytes are kept for.
-use Rattle.std.specs.Prelude.{◌≡◌, ℕ, ◌==◌, List, length, take, Option, Some, None, Result, Ok, Err, if◌then◌else◌}
+use Rattle.std.specs.Prelude.{◌≡◌, ℕ, List, ◌++◌, take, Option, Some, None, Result, Ok, Err, if◌then◌else◌}
 use Rattle.std.specs.Str.{bytes_eq}
 use Rattle.byte_fields.specs.Numbers.{as_u32}
-use Rattle.byte_fields.specs.Field.{Reader, Answers}
+use Rattle.byte_fields.specs.Field.{Reader, ◌>>=◌, Answers}
 use Rattle.mod_log.specs.Log.{Log, new_log}
 use Rattle.store_image.specs.declared.image.ClientImage.{ClientImage}
 use Rattle.store_image.specs.declared.image.ServerImage.{ServerImage}
 use Rattle.store_image.specs.declared.image.ImageError.{ImageError}
 use Rattle.store_image.specs.declared.image.ImageError.TheVariants.{WrongKind, BadImage, Memory}
+use Rattle.store_image.specs.declared.record.ClientRecord.{ClientRecord}
+use Rattle.store_image.specs.declared.record.ServerRecord.{ServerRecord}
 use Rattle.store_image.specs.Reading.{client_mark, server_mark, client_at, server_at}
 use Rattle.store_image.specs.Spelling.{client, ClientFits, server, ServerFits}
+use Rattle.store_image.specs.Records.{IsTorn, behind, client_records_at, client_records, with_record, with_records, AreNotes, server_records_at, server_records, with_taken, with_all_taken, AreTakenOf}
 
--- an image with nothing behind it; the first byte that is left is faulty
-abbrev pub whole : {A : Type 0} → ℕ → Result (A × ℕ) ℕ → Result A ImageError
-whole total (Ok x) = if x.1 == total then Ok x.0 else Err (BadImage (as_u32 x.1))
-whole total (Err place) = Err (BadImage (as_u32 place))
+-- what was read, or the first faulty field
+abbrev pub read_of : {A : Type 0} → Result (A × ℕ) ℕ → Result A ImageError
+read_of (Ok x) = Ok x.0
+read_of (Err place) = Err (BadImage (as_u32 place))
 
--- the image that the bytes spell, or the first refusal: the mark of the other kind, and the first faulty field
+-- what the bytes are kept for, or the first refusal: the mark of the other kind, and the first faulty field
 abbrev pub image_of : {A : Type 0} → List ℕ → Reader A → List ℕ → Result A ImageError
-image_of other read bytes = if bytes_eq other (take 4 bytes) then Err WrongKind else whole (length bytes) (read bytes 0)
+image_of other read bytes = if bytes_eq other (take 4 bytes) then Err WrongKind else read_of (read bytes 0)
 
--- the client's image that the bytes spell
+-- a client's image and the records behind it: the client that they lead to, and the place where a torn tail begins
+unfoldable pub kept_client_at : Reader ClientImage
+kept_client_at bytes at = do
+  image ← client_at bytes at
+  log ← behind client_records_at with_record image.0.log bytes image.1
+  Ok (record { client = image.0.client; log = log.0 }, log.1)
+
+-- a server's image and the records behind it: the server that they lead to, and the place where a torn tail begins
+unfoldable pub kept_server_at : Reader ServerImage
+kept_server_at bytes at = do
+  image ← server_at bytes at
+  behind server_records_at with_taken image.0 bytes image.1
+
+-- the client that the bytes are kept for
 abbrev pub client_of : List ℕ → Result ClientImage ImageError
-client_of = image_of server_mark client_at
+client_of = image_of server_mark kept_client_at
 
--- the server's image that the bytes spell
+-- the server that the bytes are kept for
 abbrev pub server_of : List ℕ → Result ServerImage ImageError
-server_of = image_of client_mark server_at
+server_of = image_of client_mark kept_server_at
 
 -- the refusal that an error names; want of memory is none
 abbrev pub refusal_of : ImageError → Option ImageError
@@ -39,15 +55,41 @@ GivesImage = Answers (λ image. image) refusal_of
 
 -- ---- what is kept
 
--- the bytes are kept for the client with this number and this log: they spell its image
-pub record IsKeptFor (number : ℕ) (log : Log) (bytes : List ℕ) : Type 0 where
-  pub fits : ClientFits (record { client = number; log = log })
-  pub spelled : bytes ≡ client (record { client = number; log = log })
+-- the bytes are kept for the client with this number and this log, and nothing is torn: they spell an image of it, and the
+-- records that lead from there to the log
+pub record IsKeptWholeFor (number : ℕ) (log : Log) (bytes : List ℕ) : Type 0 where
+  pub first : Log
+  pub notes : List ClientRecord
+  pub fits : ClientFits (record { client = number; log = first })
+  pub are : AreNotes first notes
+  pub leads : log ≡ with_records first notes
+  pub spelled : bytes ≡ client (record { client = number; log = first }) ++ client_records notes
 
--- the bytes are kept for the server with these last numbers and this tree: they spell its image
+-- the bytes are kept for the client with this number and this log: a torn tail may stand behind what is kept whole
+pub record IsKeptFor (number : ℕ) (log : Log) (bytes : List ℕ) : Type 0 where
+  pub front : List ℕ
+  pub tail : List ℕ
+  pub whole : IsKeptWholeFor number log front
+  pub torn : IsTorn tail
+  pub parts : bytes ≡ front ++ tail
+
+-- the bytes are kept for the server with these last numbers and this tree, and nothing is torn: they spell an image of it, and
+-- the records that lead from there to these
+pub record IsKeptWholeForServer (image : ServerImage) (bytes : List ℕ) : Type 0 where
+  pub first : ServerImage
+  pub notes : List ServerRecord
+  pub fits : ServerFits first
+  pub are : AreTakenOf first notes
+  pub leads : image ≡ with_all_taken first notes
+  pub spelled : bytes ≡ server first ++ server_records notes
+
+-- the bytes are kept for the server with these last numbers and this tree: a torn tail may stand behind what is kept whole
 pub record IsKeptForServer (image : ServerImage) (bytes : List ℕ) : Type 0 where
-  pub fits : ServerFits image
-  pub spelled : bytes ≡ server image
+  pub front : List ℕ
+  pub tail : List ℕ
+  pub whole : IsKeptWholeForServer image front
+  pub torn : IsTorn tail
+  pub parts : bytes ≡ front ++ tail
 
 -- what is kept under a name is kept for the client with this number and this log; nothing is kept for a new client
 abbrev pub Keeps : Option (List ℕ) → ℕ → Log → Type 0

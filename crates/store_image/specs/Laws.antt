@@ -1,20 +1,23 @@
 -- What holds of images, in their own words.
-use Rattle.std.specs.Prelude.{◌≡◌, ℕ, ◌<◌, ◌≤◌, List, length, take, Ok, Err}
+use Rattle.std.specs.Prelude.{◌≡◌, ℕ, ◌+◌, ◌<◌, ◌≤◌, List, ◌++◌, length, take, Ok, Err}
 use Rattle.byte_fields.specs.Cuts.{start_of}
 use Rattle.mod_log.specs.Log.{Log}
 use Rattle.store_image.specs.declared.image.ClientImage.{ClientImage}
 use Rattle.store_image.specs.declared.image.ServerImage.{ServerImage}
 use Rattle.store_image.specs.declared.image.ImageError.TheVariants.{BadImage}
-use Rattle.store_image.specs.declared.image.TheConstants.{MAX_CLIENT_IMAGE, MAX_SERVER_IMAGE, MAX_LOADED}
+use Rattle.store_image.specs.declared.image.TheConstants.{MAX_CLIENT_IMAGE, MAX_SERVER_IMAGE, MAX_RECORDS, MAX_LOADED}
+use Rattle.store_image.specs.declared.record.ClientRecord.{ClientRecord}
+use Rattle.store_image.specs.declared.record.ServerRecord.{ServerRecord}
 use Rattle.store_image.specs.Spelling.{client, ClientFits, server, ServerFits}
 use Rattle.store_image.specs.Fields.{client_fields, server_fields}
-use Rattle.store_image.specs.Image.{client_of, server_of, IsKeptFor, IsKeptForServer}
+use Rattle.store_image.specs.Records.{IsSpelled, client_record, client_records, with_record, with_records, IsNoteOf, AreNotes, server_record, server_records, with_taken, with_all_taken, IsTakenOf, AreTakenOf}
+use Rattle.store_image.specs.Image.{client_of, server_of, IsKeptWholeFor, IsKeptFor, IsKeptWholeForServer, IsKeptForServer}
 
--- bytes that are kept for a client are read as its image
+-- bytes that are kept for a client are read as this client
 abbrev pub WrittenClientsAreKept : Type 0
 WrittenClientsAreKept = (number : ℕ) (log : Log) (bytes : List ℕ) → IsKeptFor number log bytes → client_of bytes ≡ Ok (record { client = number; log = log })
 
--- bytes that are kept for a server are read as its image
+-- bytes that are kept for a server are read as this server
 abbrev pub WrittenServersAreKept : Type 0
 WrittenServersAreKept = (image : ServerImage) (bytes : List ℕ) → IsKeptForServer image bytes → server_of bytes ≡ Ok image
 
@@ -36,9 +39,36 @@ abbrev pub CutServerImagesAreRefused : Type 0
 CutServerImagesAreRefused = (image : ServerImage) (end : ℕ) → ServerFits image → end < length (server image)
     → server_of (take end (server image)) ≡ Err (BadImage (start_of end (server_fields image)))
 
--- what is kept for a client, and for a server, has so many bytes at most; a keeper loads more
+-- an image has so many bytes at most; with at most 8 MiB of records and of a torn tail behind it, a keeper loads more
 pub record ImagesAreSmall : Type 0 where
-  pub clients : (number : ℕ) (log : Log) (bytes : List ℕ) → IsKeptFor number log bytes → length bytes ≤ MAX_CLIENT_IMAGE
-  pub servers : (image : ServerImage) (bytes : List ℕ) → IsKeptForServer image bytes → length bytes ≤ MAX_SERVER_IMAGE
-  pub clients_loaded : MAX_CLIENT_IMAGE < MAX_LOADED
-  pub servers_loaded : MAX_SERVER_IMAGE < MAX_LOADED
+  pub clients : (image : ClientImage) → ClientFits image → length (client image) ≤ MAX_CLIENT_IMAGE
+  pub servers : (image : ServerImage) → ServerFits image → length (server image) ≤ MAX_SERVER_IMAGE
+  pub kept_clients : (number : ℕ) (log : Log) (bytes : List ℕ) (kept : IsKeptFor number log bytes) → length (client_records kept.whole.notes ++ kept.tail) ≤ MAX_RECORDS → length bytes ≤ MAX_CLIENT_IMAGE + MAX_RECORDS
+  pub kept_servers : (image : ServerImage) (bytes : List ℕ) (kept : IsKeptForServer image bytes) → length (server_records kept.whole.notes ++ kept.tail) ≤ MAX_RECORDS → length bytes ≤ MAX_SERVER_IMAGE + MAX_RECORDS
+  pub clients_loaded : MAX_CLIENT_IMAGE + MAX_RECORDS < MAX_LOADED
+  pub servers_loaded : MAX_SERVER_IMAGE + MAX_RECORDS < MAX_LOADED
+
+-- ---- what is appended to what is kept
+
+pub record RecordsAreAppended : Type 0 where
+  -- what is kept whole is kept
+  pub clients_kept : (number : ℕ) (log : Log) (bytes : List ℕ) → IsKeptWholeFor number log bytes → IsKeptFor number log bytes
+  pub servers_kept : (image : ServerImage) (bytes : List ℕ) → IsKeptWholeForServer image bytes → IsKeptForServer image bytes
+  -- behind a record that may come, the bytes are kept whole for the state with it
+  pub behind_client : (number : ℕ) (log : Log) (bytes : List ℕ) (note : ClientRecord) → IsKeptWholeFor number log bytes → IsNoteOf log note → IsKeptWholeFor number (with_record log note) (bytes ++ client_record note)
+  pub behind_server : (image : ServerImage) (bytes : List ℕ) (note : ServerRecord) → IsKeptWholeForServer image bytes → IsTakenOf image note → IsKeptWholeForServer (with_taken image note) (bytes ++ server_record note)
+  -- so are they behind several
+  pub all_behind_client : (number : ℕ) (log : Log) (bytes : List ℕ) (notes : List ClientRecord) → IsKeptWholeFor number log bytes → AreNotes log notes → IsKeptWholeFor number (with_records log notes) (bytes ++ client_records notes)
+  pub all_behind_server : (image : ServerImage) (bytes : List ℕ) (notes : List ServerRecord) → IsKeptWholeForServer image bytes → AreTakenOf image notes → IsKeptWholeForServer (with_all_taken image notes) (bytes ++ server_records notes)
+  -- what may come has a spelling
+  pub client_spelled : (log : Log) (note : ClientRecord) → IsNoteOf log note → IsSpelled note
+
+pub record CutRecordsAreTorn : Type 0 where
+  -- behind a record that is cut short, the bytes are kept for the state without it
+  pub behind_client : (number : ℕ) (log : Log) (bytes : List ℕ) (note : ClientRecord) (count : ℕ) → IsKeptWholeFor number log bytes → IsNoteOf log note → count < length (client_record note) → IsKeptFor number log (bytes ++ take count (client_record note))
+  pub behind_server : (image : ServerImage) (bytes : List ℕ) (note : ServerRecord) (count : ℕ) → IsKeptWholeForServer image bytes → IsTakenOf image note → count < length (server_record note) → IsKeptForServer image (bytes ++ take count (server_record note))
+  -- behind several that are cut somewhere, they are kept for the state after the first ones
+  pub all_behind_client : (number : ℕ) (log : Log) (bytes : List ℕ) (notes : List ClientRecord) (count : ℕ) → IsKeptWholeFor number log bytes → AreNotes log notes
+      → (whole : ℕ) × IsKeptFor number (with_records log (take whole notes)) (bytes ++ take count (client_records notes))
+  pub all_behind_server : (image : ServerImage) (bytes : List ℕ) (notes : List ServerRecord) (count : ℕ) → IsKeptWholeForServer image bytes → AreTakenOf image notes
+      → (whole : ℕ) × IsKeptForServer (with_all_taken image (take whole notes)) (bytes ++ take count (server_records notes))

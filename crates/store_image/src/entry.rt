@@ -89,7 +89,7 @@ fn effects_from(
 
 /// The effects of an entry, each of which the tree takes.
 #[tactic(auto, unfolding(crate::specs::Reading::applied_effects_at, byte_fields::specs::Field::ruled))]
-fn applied_effects(
+pub(crate) fn applied_effects(
     alloc: Global,
     bytes: &[u8],
     at: usize,

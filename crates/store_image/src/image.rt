@@ -19,7 +19,10 @@ pub const MAX_CLIENT_IMAGE: usize = 4 + 1 + 1 + 8 + ROWS_SIZE + 4 + MAX_LOG;
 /// The most bytes of a server's image: a mark, a version, 64 numbers and rows.
 pub const MAX_SERVER_IMAGE: usize = 4 + 1 + 64 * 8 + ROWS_SIZE;
 
-/// The most bytes that a keeper has to load. No image is as long.
+/// The most bytes of the records that are appended behind an image; a keeping that would pass them writes the image anew.
+pub const MAX_RECORDS: usize = 8_388_608;
+
+/// The most bytes that a keeper has to load. No image with its records is as long.
 pub const MAX_LOADED: usize = 134_217_728;
 
 /// A client's number, from 1 to 64, and its log.

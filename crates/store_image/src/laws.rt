@@ -6,7 +6,7 @@ ghost use Rattle.store_image.specs.Reading.{client_at, server_at};
 ghost use Rattle.store_image.specs.Spelling.{client, ClientFits, server, ServerFits};
 ghost use Rattle.store_image.specs.Fields.{client_fields, server_fields};
 ghost use Rattle.store_image.specs.Broken.{BrokenEntries, BrokenEntryLists, BrokenImages};
-ghost use Rattle.store_image.specs.Laws.{BytesAreKeptForOneClient, BytesAreKeptForOneServer, ImagesAreSmall, CutClientImagesAreRefused, CutServerImagesAreRefused, WrittenClientsAreKept, WrittenServersAreKept};
+ghost use Rattle.store_image.specs.Laws.{RecordsAreAppended, CutRecordsAreTorn, BytesAreKeptForOneClient, BytesAreKeptForOneServer, ImagesAreSmall, CutClientImagesAreRefused, CutServerImagesAreRefused, WrittenClientsAreKept, WrittenServersAreKept};
 
 /// States that each image has one spelling, and each spelling one image.
 pub fn images_are_spelled_once()
@@ -20,6 +20,16 @@ pub fn kept_states_are_read()
     ensures server_read { WrittenServersAreKept }
     ensures client_once { BytesAreKeptForOneClient }
     ensures server_once { BytesAreKeptForOneServer }
+{}
+
+/// States that records that may come can be appended to what is kept.
+pub fn records_are_appended()
+    ensures { RecordsAreAppended }
+{}
+
+/// States that what is kept outlives a record that is appended in part.
+pub fn cut_records_are_torn()
+    ensures { CutRecordsAreTorn }
 {}
 
 /// States that, where the bytes end inside an image, the field in which they end is the faulty one.

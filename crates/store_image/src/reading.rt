@@ -9,12 +9,14 @@ ghost use Rattle.tree_values.specs.Reading.{rows_at};
 ghost use Rattle.mod_log.specs.Limits.{max_entries, max_log};
 ghost use Rattle.mod_log.specs.Log.{Log, new_log_of};
 ghost use Rattle.store_image.specs.Reading.{next_entry_at, with_entry, entries_at, log_at, client_body_at, client_at, server_body_at, server_at};
-ghost use Rattle.store_image.specs.Image.{whole, client_of, server_of, GivesImage, IsKeptFor, IsKeptForServer};
+ghost use Rattle.store_image.specs.Image.{read_of, kept_client_at, kept_server_at, client_of, server_of, GivesImage, IsKeptFor, IsKeptForServer};
 ghost use Rattle.store_image.specs.declared.image.ServerImage.{ServerImage};
 
 use crate::entry::{log_entry, next_effects};
 use crate::image::{ClientImage, ImageError, ServerImage};
-use byte_fields::{TakeError, saturate_u32, span_at, u8_at, u32_at, u64_at};
+use crate::journal::log_behind;
+use crate::record::ServerRecord;
+use byte_fields::{TakeError, saturate_u32, span_at, take_until_end, u8_at, u32_at, u64_at};
 use mod_log::{Log, MAX_ENTRIES, MAX_LOG};
 use std::alloc::{AllocError, Global};
 use vol_tree::{Rows, RowsError, Tree, TryCopy};
@@ -191,32 +193,57 @@ fn begins_with(bytes: &[u8], mark: &[u8]) -> bool
     &bytes[..bytes.len().min(4)] == mark
 }
 
-/// The image, where the bytes end behind it.
-fn whole<T: Drop>(bytes: &[u8], taken: Result<(T, usize), TakeError>) -> Result<T, ImageError>
-    ensures { (wanted : Result (T × ℕ) ℕ) → Gives taken wanted → GivesImage result (whole (length bytes.now) wanted) }
+/// A client's image and the records behind it.
+#[tactic(auto, unfolding(crate::specs::Image::kept_client_at))]
+fn kept_client_at(alloc: Global, bytes: &[u8], at: usize) -> Result<(ClientImage, usize), TakeError>
+    ensures { Gives result (kept_client_at bytes.now at) }
+{
+    let (image, start) = client_at(alloc, bytes, at)?;
+    let ClientImage { client, log } = image;
+    let (log, torn) = log_behind(alloc, bytes, start, log)?;
+    Ok((ClientImage { client, log }, torn))
+}
+
+/// A server's image and the records behind it.
+#[tactic(auto, unfolding(crate::specs::Image::kept_server_at))]
+fn kept_server_at(alloc: Global, bytes: &[u8], at: usize) -> Result<(ServerImage, usize), TakeError>
+    ensures { Gives result (kept_server_at bytes.now at) }
+{
+    let (mut image, start) = server_at(alloc, bytes, at)?;
+    match take_until_end::<ServerRecord, ServerImage>(alloc, bytes, start, &mut image) {
+        Ok(torn) => Ok((image, torn)),
+        Err(fault) => {
+            drop(image);
+            Err(fault)
+        }
+    }
+}
+
+/// What was taken, whatever tail is torn.
+fn read_of<T: Drop>(taken: Result<(T, usize), TakeError>) -> Result<T, ImageError>
+    ensures { (wanted : Result (T × ℕ) ℕ) → Gives taken wanted → GivesImage result (read_of wanted) }
 {
     match taken {
-        Ok((image, next)) if next == bytes.len() => Ok(image),
-        Ok((_, next)) => Err(ImageError::BadImage(saturate_u32(next))),
+        Ok((image, _torn)) => Ok(image),
         Err(TakeError::At(place)) => Err(ImageError::BadImage(saturate_u32(place))),
         Err(TakeError::Memory) => Err(ImageError::Memory),
     }
 }
 
-/// The first refusal that fits, or the client's image.
+/// The first refusal that fits, or the client.
 fn client_of(alloc: Global, bytes: &[u8]) -> Result<ClientImage, ImageError>
     ensures { GivesImage result (client_of bytes.now) }
 {
     if begins_with(bytes, b"OSSI") {
         return Err(ImageError::WrongKind);
     }
-    whole(bytes, client_at(alloc, bytes, 0))
+    read_of(kept_client_at(alloc, bytes, 0))
 }
 
-/// The client's image that the bytes spell.
+/// The client that the bytes are kept for: that of the image and the whole records behind it. A torn tail is left.
 ///
-/// Refuses `WrongKind` where the bytes begin as a server's image does, and else `BadImage` at the first faulty field, or at
-/// the first byte that is left after the last field. `Memory` may come in place of each answer.
+/// Refuses `WrongKind` where the bytes begin as a server's image does, and else `BadImage` at the first faulty field; the first
+/// byte that is left in a record is one. `Memory` may come in place of each answer.
 pub fn read_client(alloc: Global, bytes: &[u8]) -> Result<ClientImage, ImageError>
     // The bytes are kept for what is read.
     ensures kept { IfOk result (λ image. IsKeptFor image.client image.log bytes.now) }
@@ -228,20 +255,20 @@ pub fn read_client(alloc: Global, bytes: &[u8]) -> Result<ClientImage, ImageErro
     client_of(alloc, bytes)
 }
 
-/// The first refusal that fits, or the server's image.
+/// The first refusal that fits, or the server.
 fn server_of(alloc: Global, bytes: &[u8]) -> Result<ServerImage, ImageError>
     ensures { GivesImage result (server_of bytes.now) }
 {
     if begins_with(bytes, b"OSCI") {
         return Err(ImageError::WrongKind);
     }
-    whole(bytes, server_at(alloc, bytes, 0))
+    read_of(kept_server_at(alloc, bytes, 0))
 }
 
-/// The server's image that the bytes spell.
+/// The server that the bytes are kept for: that of the image and the whole records behind it. A torn tail is left.
 ///
-/// Refuses `WrongKind` where the bytes begin as a client's image does, and else `BadImage` at the first faulty field, or at
-/// the first byte that is left after the last field. `Memory` may come in place of each answer.
+/// Refuses `WrongKind` where the bytes begin as a client's image does, and else `BadImage` at the first faulty field; the first
+/// byte that is left in a record is one. `Memory` may come in place of each answer.
 pub fn read_server(alloc: Global, bytes: &[u8]) -> Result<ServerImage, ImageError>
     // The bytes are kept for what is read.
     ensures kept { IfOk result (λ image. IsKeptForServer image bytes.now) }

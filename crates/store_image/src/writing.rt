@@ -5,10 +5,11 @@ ghost use Rattle.std.specs.List.{flat_map, AllByRecursion};
 ghost use Rattle.std.specs.Option.{option_to_list};
 ghost use Rattle.tree_values.specs.Spelling.{rows};
 ghost use Rattle.mod_log.specs.Log.{entry};
-ghost use Rattle.store_image.specs.Spelling.{entries, log, numbers};
-ghost use Rattle.store_image.specs.Image.{IsKeptFor, IsKeptForServer};
+ghost use Rattle.store_image.specs.Spelling.{entries, log, numbers, client as client_image, server as server_image};
+ghost use Rattle.store_image.specs.Image.{IsKeptFor, IsKeptForServer, IsKeptWholeFor, IsKeptWholeForServer};
 ghost use Rattle.store_image.specs.declared.image.TheConstants.{MAX_CLIENT_IMAGE, MAX_SERVER_IMAGE};
 
+use crate::appending::room_for;
 use byte_fields::{put_u32, put_u64};
 use mod_log::{Entry, Log};
 use std::alloc::{AllocError, Global};
@@ -31,6 +32,7 @@ fn put_entry(value: &Log, i: u32, out: &mut Vec<u8>) -> Result<(), AllocError>
     ensures { OnOk result (out.new.items ≡ out.old.items ++ flat_map entry (option_to_list (slice_get value.now.pending i))) }
 {
     if let Some(entry) = value.entry(i) {
+        out.reserve(room_for(entry))?;
         Entry::spell(entry, out)?;
     }
     Ok(())
@@ -60,6 +62,8 @@ pub fn write_client(client: u8, log: &Log) -> Result<Vec<u8>, AllocError>
     requires low { 1 ≤ client }
     requires high { client ≤ 64 }
     ensures kept { IfOk result (λ v. IsKeptFor client log.now v.items) }
+    ensures whole { IfOk result (λ v. IsKeptWholeFor client log.now v.items) }
+    ensures spelled { IfOk result (λ v. v.items ≡ client_image (record { client = client; log = log.now })) }
     ensures small { IfOk result (λ v. length v.items ≤ MAX_CLIENT_IMAGE) }
 {
     let alloc = log.tree().allocator();
@@ -84,6 +88,8 @@ fn put_numbers(values: &[u64], out: &mut Vec<u8>) -> Result<(), AllocError>
 /// The image of a server with these last numbers and this tree.
 pub fn write_server(last: &[u64; 64], tree: &Tree) -> Result<Vec<u8>, AllocError>
     ensures kept { IfOk result (λ v. IsKeptForServer (record { last = last.now; tree = tree.now }) v.items) }
+    ensures whole { IfOk result (λ v. IsKeptWholeForServer (record { last = last.now; tree = tree.now }) v.items) }
+    ensures spelled { IfOk result (λ v. v.items ≡ server_image (record { last = last.now; tree = tree.now })) }
     ensures small { IfOk result (λ v. length v.items ≤ MAX_SERVER_IMAGE) }
 {
     let mut out = Vec::from_slice(tree.allocator(), b"OSSI")?;
