@@ -11,4 +11,5 @@ pub mod CutFrames
 pub mod Breaking
 pub mod BreakingCauses
 pub mod Echoing
+pub mod Heads
 pub mod Standing

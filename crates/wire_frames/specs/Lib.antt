@@ -8,4 +8,5 @@ pub mod Malformed
 pub mod Reading
 pub mod Fields
 pub mod Laws
+pub mod Head
 pub mod Broken

@@ -5,6 +5,7 @@ mod cause;
 mod cause_spelling;
 mod copies;
 mod faults;
+mod head;
 mod kind;
 mod laws;
 mod lengths;
@@ -16,6 +17,7 @@ mod replies;
 mod writing;
 
 pub use cause::Cause;
+pub use head::{Head, head_of};
 pub use laws::{
     broken_rules_name_their_field, causes_are_spelled_once, faults_are_spelled_once,
     frames_are_apart, kinds_decide_replies, operations_stand_for_stores,

@@ -1,15 +1,24 @@
 //! Writing a frame.
 
-ghost use Rattle.std.specs.Prelude.{◌≡◌, ◌++◌, OnOk, IfOk};
+ghost use Rattle.std.specs.Prelude.{◌≡◌, ◌-◌, ◌^◌, ◌<◌, ◌≤◌, ◌++◌, length, drop, OnOk, IfOk};
+ghost use Rattle.std.specs.Int.{w32};
+ghost use Rattle.byte_fields.specs.Field.{digits};
 ghost use Rattle.wire_frames.specs.Frame.{frame, body, payload, BodyFits, IsValid};
 
 use crate::cause::Cause;
 use crate::kind::FRAME_VERSION;
+use crate::lengths::store_size;
 use crate::message::Message;
 use crate::operation::spell_operation;
 use byte_fields::{put_u32, put_u64};
 use std::alloc::{AllocError, Global};
-use vol_tree::{Bases, Effects, Path, Rows, TreeError};
+use vol_tree::{Bases, Effects, Node, Path, Row, Rows, TreeError};
+
+/// How long a frame is, about, that has no content.
+const SHORT_FRAME: usize = 64;
+
+/// How many bytes the spelling of most rows is shorter than, apart from the content.
+const ROW_ROOM: usize = 64;
 
 #[tactic(auto, using(std::proofs::Common::append_assoc, crate::proofs::FaultLaws::unfit_is_spelled, crate::proofs::FaultLaws::full_is_spelled))]
 fn spell_body(message: &Message, out: &mut Vec<u8>) -> Result<(), AllocError>
@@ -65,15 +74,60 @@ fn spell_payload(message: &Message, out: &mut Vec<u8>) -> Result<(), AllocError>
     Ok(())
 }
 
+/// Sets the length of a frame, for which its first four bytes keep the place.
+#[tactic(auto, unfolding(byte_fields::specs::Field::digits))]
+fn set_length(frame: &mut Vec<u8>)
+    requires place { 4 ≤ length frame.old.items }
+    requires small { length frame.old.items < 2 ^ 32 }
+    ensures { frame.new.items ≡ digits w32 (length frame.old.items - 4) ++ drop 4 frame.old.items }
+{
+    let length = (frame.len() - 4) as u32;
+    if let Some(place) = frame.first_chunk_mut::<4>() {
+        *place = length.to_be_bytes();
+    }
+}
+
+/// About how long the frame of a message is. A buffer with this room does not grow, and so does not move, behind contents.
+fn room_for(message: &Message) -> usize {
+    match message {
+        Message::Store { effects, base, .. } => store_size(effects, base) as usize,
+        Message::Snapshot { rows, .. } => rows_room(rows.as_slice()),
+        Message::Operate { .. }
+        | Message::Pull { .. }
+        | Message::Accepted { .. }
+        | Message::Stale { .. }
+        | Message::Unfit { .. }
+        | Message::Gap { .. }
+        | Message::Done { .. }
+        | Message::Declined { .. }
+        | Message::Full { .. }
+        | Message::Malformed { .. } => SHORT_FRAME,
+    }
+}
+
+/// About how long the spelling of rows is.
+fn rows_room(rows: &[Row]) -> usize {
+    let mut room = SHORT_FRAME;
+    for row in rows {
+        let content = match &row.node {
+            Some(Node::File(content)) => content.bytes().len(),
+            Some(Node::Folder) | None => 0,
+        };
+        room = room.saturating_add(ROW_ROOM).saturating_add(content);
+    }
+    room
+}
+
 /// The frame of a valid message, its one spelling. Fails where memory runs out.
+#[tactic(auto, unfolding(byte_fields::specs::Field::digits), using(crate::proofs::Sizes::payload_small, crate::proofs::Sizes::frame_small))]
 pub fn write(alloc: Global, message: &Message) -> Result<Vec<u8>, AllocError>
     requires { IsValid message.now }
     ensures { IfOk result (λ v. v.items ≡ frame message.now) }
 {
-    let mut payload = Vec::new(alloc);
-    spell_payload(message, &mut payload)?;
-    let mut out = Vec::new(alloc);
-    put_u32(&mut out, payload.len() as u32)?;
-    out.extend_from_slice(&payload)?;
-    Ok(out)
+    let mut frame = Vec::new(alloc);
+    frame.reserve(room_for(message))?;
+    put_u32(&mut frame, 0)?;
+    spell_payload(message, &mut frame)?;
+    set_length(&mut frame);
+    Ok(frame)
 }
