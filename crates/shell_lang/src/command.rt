@@ -90,9 +90,12 @@ pub fn read_line(alloc: Global, line: &[u8]) -> Result<Line, LineError>
 pub fn put_content(alloc: Global, text: &Content) -> Result<Content, AllocError>
     ensures { IfOk result (λ content. content ≡ put_content text.now) }
 {
-    let mut bytes = text.bytes().to_vec(alloc)?;
+    let text = text.bytes();
+    let mut bytes = Vec::new(alloc);
+    bytes.reserve_exact(text.len().saturating_add(1))?;
+    bytes.extend_from_slice(text)?;
     bytes.push(b'\n')?;
-    Content::of(alloc, &bytes)
+    Content::from_vec(bytes)
 }
 
 /// What these words ask for, the first of which names the command.

@@ -19,6 +19,9 @@ use tree_values::{
     Effect, MAX_FILES, MAX_ROWS, Node, Row, Rows, RowsError, TreeError, copy_node, size_of,
 };
 
+/// How many bytes the spelling of most rows is shorter than, apart from the content.
+const ROW_ROOM: usize = 64;
+
 /// What an effect changed, as the rows from before; version 0 stands for no row.
 #[derive(Debug, Drop)]
 pub struct Undo {
@@ -169,8 +172,9 @@ impl Tree {
         ensures err { OnErr result (IsFront out.old.items out.new.items (spelled_rows self.now)) }
         ensures tree { IsTree self.now }
     {
-        put_u32(out, self.count())?;
         let rows = &self.rows;
+        out.reserve(room_for(rows))?;
+        put_u32(out, self.count())?;
         rows.arena().spell(out)?;
         Ok(())
     }
@@ -214,6 +218,13 @@ impl Tree {
             None => self.rows.restore(first),
         }
     }
+}
+
+/// How much the spelling of the rows takes: the bytes of all files, and what the rest of most rows is shorter than. A buffer with
+/// this room does not grow, and so does not move, behind contents.
+fn room_for(rows: &Counted) -> usize {
+    let others = ROW_ROOM.saturating_mul(rows.count() as usize);
+    others.saturating_add(rows.size() as usize)
 }
 
 /// Puts two kept rows back, the last of which leaves a tree.
