@@ -17,10 +17,10 @@ use Rattle.mod_log.specs.Log.{Log, tree_at}
 use Rattle.wire_frames.specs.declared.message.Message.{Message}
 use Rattle.wire_frames.specs.declared.message.Message.TheVariants.{Store, Operate, Pull, Unfit, Full}
 use Rattle.wire_frames.specs.Frame.{client_of, IsValid}
-use Rattle.world_rules.specs.Served.{Served, IsServed, with_last, Verdict, Repeated, Early, Outdated, Refused, Taken, judged, verdict, is_want_of_room, reply, served_after, answer, state_after, taken_if, taken_of}
+use Rattle.world_rules.specs.Served.{Served, TakenEntry, entry_stored, IsServed, with_last, Verdict, Repeated, Early, Outdated, Refused, Taken, judged, verdict, is_want_of_room, reply, served_after, answer, state_after, taken_if, taken_of}
 use Rattle.world_rules.specs.World.{World, Step, Send, Deliver, Other, Relay, sent, delivered, happens, noted, IsForServer, IsLicensed, IsAllowed}
 use Rattle.world_rules.specs.InStep.{IsFitting, InStep, MaySend, HasNoCollision}
-use Rattle.world_rules.specs.Run.{own, Spares, taken_by}
+use Rattle.world_rules.specs.Run.{own, OthersSpare, taken_by}
 use Rattle.world_rules.specs.declared.asking.Ask.{Ask}
 use Rattle.world_rules.proofs.Asks.{IsIn-push}
 use Rattle.world_rules.proofs.Replies.{legal_effects, answer-valid, state_after-legal}
@@ -116,7 +116,7 @@ other_same : (client : ℕ) (log : Log) (served : Served) (of number : ℕ) (eff
     → (repeated beyond : Bool) (conflict : Option Conflict) (applied : Result _ (ℕ × TreeError)) → apply_all 0 effects served.volume ≡ applied
     → let judgement = judged repeated beyond conflict applied in
     let next = served_after of number judgement served in
-    ((message : Message) → IsIn message (taken_if judgement (Store of number effects base)) → client_of message ≢ client → Spares path message)
+    OthersSpare client path (taken_if judgement (entry_stored of number effects base))
     → version_at (tree_at (served.last client) log) path ≡ version_at served.volume path → version_at (tree_at (next.last client) log) path ≡ version_at next.volume path
 other_same client log served of number effects base path differ true beyond conflict applied d spared e = e
 other_same client log served of number effects base path differ false true conflict applied d spared e = e
@@ -125,22 +125,22 @@ other_same client log served of number effects base path differ false false None
 other_same client log served of number effects base path differ false false None (Ok after) d spared e =
     ap (λ n. version_at (tree_at n log) path) (raised-other of client number served.last differ)
     ∙ e
-    ∙ sym (version-untouched effects served.volume path (spared (Store of number effects base) (inl refl) differ))
+    ∙ sym (version-untouched effects served.volume path (spared (entry_stored of number effects base) (inl refl) differ))
     ∙ ap (λ v. version_at v path) (sym (applied-changes effects 0 served.volume after d))
 
-own-own : (client number : ℕ) (effects : List Effect) (base : List Base) (judgement : Verdict) → own client (taken_if judgement (Store client number effects base)) ≡ taken_if judgement (Store client number effects base)
+own-own : (client number : ℕ) (effects : List Effect) (base : List Base) (judgement : Verdict) → own client (taken_if judgement (entry_stored client number effects base)) ≡ taken_if judgement (entry_stored client number effects base)
 own-own client number effects base Repeated = refl
 own-own client number effects base Early = refl
 own-own client number effects base (Outdated conflict) = refl
 own-own client number effects base (Refused cause) = refl
-own-own client number effects base (Taken volume) = ap (λ b. if b then Store client number effects base ∷ [] else []) (test_same client)
+own-own client number effects base (Taken volume) = ap (λ b. if b then entry_stored client number effects base ∷ [] else []) (test_same client)
 
-own-other : (client of number : ℕ) (effects : List Effect) (base : List Base) → of ≢ client → (judgement : Verdict) → own client (taken_if judgement (Store of number effects base)) ≡ []
+own-other : (client of number : ℕ) (effects : List Effect) (base : List Base) → of ≢ client → (judgement : Verdict) → own client (taken_if judgement (entry_stored of number effects base)) ≡ []
 own-other client of number effects base differ Repeated = refl
 own-other client of number effects base differ Early = refl
 own-other client of number effects base differ (Outdated conflict) = refl
 own-other client of number effects base differ (Refused cause) = refl
-own-other client of number effects base differ (Taken volume) = ap (λ b. if b then Store of number effects base ∷ [] else []) (test_other of client differ)
+own-other client of number effects base differ (Taken volume) = ap (λ b. if b then entry_stored of number effects base ∷ [] else []) (test_other of client differ)
 
 last-other : (client of number : ℕ) → of ≢ client → (judgement : Verdict) (served : Served) → (served_after of number judgement served).last client ≡ served.last client
 last-other client of number differ Repeated served = refl
@@ -152,18 +152,18 @@ last-other client of number differ (Taken volume) served = raised-other of clien
 -- ---- a delivery
 
 -- what is agreed on after the delivery, with the answer and without
-record Answered (client : ℕ) (log : Log) (packets : List Message) (served next : Served) (taken : List Message) (message : Message) : Type 0 where
+record Answered (client : ℕ) (log : Log) (packets : List Message) (served next : Served) (taken : List TakenEntry) (message : Message) : Type 0 where
   lost : Agree client log (next.last client) next.volume packets
   kept : Agree client log (next.last client) next.volume (packets ++ message ∷ [])
   takes : TakesFirst client log (served.last client) (next.last client) (own client taken)
-  same : (path : FilePath) → ((other : Message) → IsIn other taken → client_of other ≢ client → Spares path other)
+  same : (path : FilePath) → OthersSpare client path taken
       → version_at (tree_at (served.last client) log) path ≡ version_at served.volume path → version_at (tree_at (next.last client) log) path ≡ version_at next.volume path
 
 module _ (client : ℕ) (log : Log) (served : Served) (packets : List Message) (now : Agree client log (served.last client) served.volume packets) where
-  answered : (next : Served) (taken : List Message) (message : Message) → Agree client log (next.last client) next.volume packets
+  answered : (next : Served) (taken : List TakenEntry) (message : Message) → Agree client log (next.last client) next.volume packets
       → (client_of message ≡ client → IsFitting log (next.last client) next.volume message)
       → TakesFirst client log (served.last client) (next.last client) (own client taken)
-      → ((path : FilePath) → ((other : Message) → IsIn other taken → client_of other ≢ client → Spares path other)
+      → ((path : FilePath) → OthersSpare client path taken
       → version_at (tree_at (served.last client) log) path ≡ version_at served.volume path → version_at (tree_at (next.last client) log) path ≡ version_at next.volume path)
       → Answered client log packets served next taken message
   answered next taken message state fits takes same = record {
@@ -178,7 +178,7 @@ module _ (client : ℕ) (log : Log) (served : Served) (packets : List Message) (
   own_answered number effects base among =
       let judgement = verdict client number effects base served in
       let store = Store client number effects base in
-      let mine : Judged client log (served.last client) served.volume packets number (Store client number effects base) (verdict client number effects base served) =
+      let mine : Judged client log (served.last client) served.volume packets number (entry_stored client number effects base) (verdict client number effects base served) =
       own_store client log.acked log.base (served.last client) served.volume packets number effects base log.pending _ _ _ _ refl refl refl refl now (now.fitting (Store client number effects base) among refl) in
       let last_is = last-own client number judgement served in
       let volume_is = volume-own client number judgement served in
@@ -188,7 +188,7 @@ module _ (client : ℕ) (log : Log) (served : Served) (packets : List Message) (
       (λ own. subst (λ v. IsFitting log ((served_after client number judgement served).last client) v (reply client number (served.last client) judgement)) (sym volume_is)
       (subst (λ n. IsFitting log n (volume_after served.volume judgement) (reply client number (served.last client) judgement)) (sym last_is) mine.fits))
       (subst (TakesFirst client log (served.last client) ((served_after client number judgement served).last client)) (sym (own-own client number effects base judgement))
-      (subst (λ n. TakesFirst client log (served.last client) n (taken_if judgement store)) (sym last_is) mine.taken))
+      (subst (λ n. TakesFirst client log (served.last client) n (taken_if judgement (entry_stored client number effects base))) (sym last_is) mine.taken))
       (λ path spared e. ap (λ n. version_at (tree_at n log) path) last_is ∙ mine.same path e ∙ ap (λ v. version_at v path) (sym volume_is))
 
   store_answered : (of number : ℕ) (effects : List Effect) (base : List Base) → AllByRecursion IsLegalEffect effects → IsIn (Store of number effects base) packets
@@ -221,11 +221,11 @@ module _ (client : ℕ) (log : Log) (served : Served) (packets : List Message) (
   message_answered (Pull of number) for valid among = pull_answered of number among
   message_answered _ for valid among = absurd for
 
--- What a step keeps, and which stores of the client are taken in it.
-pub record Stepped (client : ℕ) (log : Log) (world next : World) (taken : List Message) : Type 0 where
+-- What a step keeps, and which entries of the client are taken in it.
+pub record Stepped (client : ℕ) (log : Log) (world next : World) (taken : List TakenEntry) : Type 0 where
   pub in_step : InStep client log next
   pub takes : TakesFirst client log (world.served.last client) (next.served.last client) (own client taken)
-  pub same : (path : FilePath) → ((other : Message) → IsIn other taken → client_of other ≢ client → Spares path other)
+  pub same : (path : FilePath) → OthersSpare client path taken
       → version_at (tree_at (world.served.last client) log) path ≡ version_at world.served.volume path → version_at (tree_at (next.served.last client) log) path ≡ version_at next.served.volume path
 
 -- all packets are valid once a valid message has joined them

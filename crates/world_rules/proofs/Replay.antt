@@ -1,25 +1,25 @@
--- The served state is always the opening one after the taken stores.
+-- The served state is always the opening one after the taken entries.
 use Rattle.std.proofs.Common.{◌≡◌, ℕ, Bool, List, [], ◌∷◌, ◌++◌, refl, sym, ◌∙◌, ap, subst}
 use Rattle.wire_frames.specs.declared.message.Message.{Message}
 use Rattle.wire_frames.specs.declared.message.Message.TheVariants.{Store, Pull}
-use Rattle.world_rules.specs.Served.{Served, Verdict, Repeated, Early, Outdated, Refused, Taken, verdict, served_after, state_after, taken_if, taken_of, replay}
+use Rattle.world_rules.specs.Served.{Served, TakenEntry, entry_stored, as_store, Verdict, Repeated, Early, Outdated, Refused, Taken, verdict, served_after, state_after, taken_if, taken_of, replay}
 use Rattle.mod_log.specs.declared.log.Entry.{Entry}
 use Rattle.world_rules.specs.declared.asking.Ask.{Ask}
 use Rattle.world_rules.specs.World.{World, Step, Send, Deliver, Other, Relay, happens, happen, IsReplayed}
 use Rattle.world_rules.specs.Run.{State, Move, Network, Notes, Logs, Acknowledges, Pulls, Saves, moved, moved_by, Runs}
 
-replay-append : (xs ys : List Message) (served : Served) → replay (xs ++ ys) served ≡ replay ys (replay xs served)
+pub replay-append : (xs ys : List TakenEntry) (served : Served) → replay (xs ++ ys) served ≡ replay ys (replay xs served)
 replay-append [] ys served = refl
-replay-append (x ∷ xs) ys served = replay-append xs ys (state_after x served)
+replay-append (x ∷ xs) ys served = replay-append xs ys (state_after (as_store x) served)
 
-replay_if : (of number : ℕ) (effects : _) (base : _) (served : Served) (judgement : Verdict) → verdict of number effects base served ≡ judgement → replay (taken_if judgement (Store of number effects base)) served ≡ served_after of number judgement served
+replay_if : (of number : ℕ) (effects : _) (base : _) (served : Served) (judgement : Verdict) → verdict of number effects base served ≡ judgement → replay (taken_if judgement (entry_stored of number effects base)) served ≡ served_after of number judgement served
 replay_if of number effects base served Repeated is = refl
 replay_if of number effects base served Early is = refl
 replay_if of number effects base served (Outdated conflict) is = refl
 replay_if of number effects base served (Refused cause) is = refl
 replay_if of number effects base served (Taken volume) is = ap (λ v. served_after of number v served) is
 
-replay-taken : (message : Message) (served : Served) → replay (taken_of message served) served ≡ state_after message served
+pub replay-taken : (message : Message) (served : Served) → replay (taken_of message served) served ≡ state_after message served
 replay-taken (Store of number effects base) served = replay_if of number effects base served _ refl
 replay-taken (Pull of number) served = refl
 replay-taken _ served = refl

@@ -16,11 +16,11 @@ use Rattle.wire_frames.specs.declared.message.Message.{Message}
 use Rattle.wire_frames.specs.declared.message.Message.TheVariants.{Store, Operate, Pull, Accepted, Snapshot, Done}
 use Rattle.wire_frames.specs.Frame.{client_of, IsValid}
 use Rattle.world_rules.specs.declared.asking.Ask.{Ask}
-use Rattle.world_rules.specs.Served.{IsServed}
+use Rattle.world_rules.specs.Served.{TakenEntry, entry_stored, IsServed}
 use Rattle.world_rules.specs.World.{World, Step, Send, Deliver, Other, Relay, happens, happen, noted, Is, IsAllowed, AreAllowed, MovedBy, Moved}
 use Rattle.world_rules.specs.Asking.{AnswersStand}
 use Rattle.world_rules.specs.InStep.{InStep, MaySend, IsAcceptance, HasNoCollision}
-use Rattle.world_rules.specs.Run.{State, kept_at, restarted, AreInStep, MaySendKept, Move, Network, Notes, Logs, Acknowledges, Pulls, Saves, moved, IsPossible, AllPossible, moved_by, entry_in, entries_in, ask_in, asks_in, taken_by, taken_in_move, taken_in, own, numbered, stores_between, Spares, IsSameAt, Runs}
+use Rattle.world_rules.specs.Run.{State, kept_at, restarted, AreInStep, MaySendKept, Move, Network, Notes, Logs, Acknowledges, Pulls, Saves, moved, IsPossible, AllPossible, moved_by, entry_in, entries_in, ask_in, asks_in, taken_by, taken_in_move, taken_in, own, numbered, entries_between, AreAllOf, OthersSpare, IsSameAt, Runs}
 use Rattle.world_rules.proofs.Asks.{in_either, asked_among, noted-none, noted-noted, answers_stay, answers_append}
 use Rattle.world_rules.proofs.Replies.{legal_effects}
 use Rattle.world_rules.proofs.Steps.{Agree, tree_at-acked, TakesFirst}
@@ -108,7 +108,7 @@ moves_keep_both client ships [] state now may apart = now
 moves_keep_both client ships (move ∷ moves) state now may apart =
     moves_keep_both client ships moves (moved move state) (keep_first client ships move moves state now may.0 apart) may.1 (both_apart client move moves state apart)
 
--- ---- the taken stores of the client are its entries, in order
+-- ---- what is taken of the client are its entries, in order
 
 take_next : {X : Type 0} (k : ℕ) (xs : List X) (x : X) (rest : List X) → drop k xs ≡ x ∷ rest → take (suc k) xs ≡ take k xs ++ x ∷ []
 take_next zero [] x rest e = absurd (cc)
@@ -133,14 +133,14 @@ length-numbered client number [] = refl
 length-numbered client number (entry ∷ entries) = ap suc (length-numbered client (number + 1) entries)
 
 numbered-push : (client number : ℕ) (entries : List Entry) (entry : Entry) (next : ℕ) → next ≡ number + length entries
-    → numbered client number (entries ++ entry ∷ []) ≡ numbered client number entries ++ Store client next entry.effects entry.base ∷ []
-numbered-push client number [] entry next e = let same : number ≡ next = omega arith in ap (λ n. Store client n entry.effects entry.base ∷ []) same
-numbered-push client number (first ∷ entries) entry next e = ap (λ ms. Store client number first.effects first.base ∷ ms) (numbered-push client (number + 1) entries entry next (omega arith))
+    → numbered client number (entries ++ entry ∷ []) ≡ numbered client number entries ++ entry_stored client next entry.effects entry.base ∷ []
+numbered-push client number [] entry next e = let same : number ≡ next = omega arith in ap (λ n. entry_stored client n entry.effects entry.base ∷ []) same
+numbered-push client number (first ∷ entries) entry next e = ap (λ ms. entry_stored client number first.effects first.base ∷ ms) (numbered-push client (number + 1) entries entry next (omega arith))
 
 module _ (client acked first : ℕ) (low : acked ≤ first) where
-  stores_next : (last : ℕ) (entered rest : List Entry) (entry : Entry) → first ≤ last → drop (last - acked) entered ≡ entry ∷ rest
-      → stores_between client acked first (last + 1) entered ≡ stores_between client acked first last entered ++ Store client (last + 1) entry.effects entry.base ∷ []
-  stores_next last entered rest entry above is =
+  taken_next : (last : ℕ) (entered rest : List Entry) (entry : Entry) → first ≤ last → drop (last - acked) entered ≡ entry ∷ rest
+      → entries_between client acked first (last + 1) entered ≡ entries_between client acked first last entered ++ entry_stored client (last + 1) entry.effects entry.base ∷ []
+  taken_next last entered rest entry above is =
       let count = last - acked in
       let more : last + 1 - acked ≡ suc (last - acked) = omega arith in
       let within = drop_within count entered entry rest is in
@@ -151,27 +151,27 @@ module _ (client acked first : ℕ) (low : acked ≤ first) where
       ∙ drop-append-le (first - acked) (numbered client (acked + 1) (take count entered)) _ (omega (arith, length-numbered client (acked + 1) (take count entered), long))
 
   -- what is pending are the entries after the acknowledged one, and what was taken are those up to the last
-  record InOrder (state : State) (entered : List Entry) (taken : List Message) : Type 0 where
+  record InOrder (state : State) (entered : List Entry) (taken : List TakenEntry) : Type 0 where
     above : acked ≤ state.log.acked
     within : state.log.acked ≤ acked + length entered
     last_above : first ≤ state.world.served.last client
     pending : state.log.pending ≡ drop (state.log.acked - acked) entered
-    own_taken : own client taken ≡ stores_between client acked first (state.world.served.last client) entered
+    own_taken : own client taken ≡ entries_between client acked first (state.world.served.last client) entered
 
-  taken_more : (taken news : List Message) (stores more : List Message) → own client taken ≡ stores → own client news ≡ more → own client (taken ++ news) ≡ stores ++ more
-  taken_more taken news stores more e f = filter-append (λ message. client_of message == client) taken news ∙ cc
+  taken_more : (taken news are more : List TakenEntry) → own client taken ≡ are → own client news ≡ more → own client (taken ++ news) ≡ are ++ more
+  taken_more taken news are more e f = filter-append (λ (entry : TakenEntry). entry.client == client) taken news ∙ cc
 
   abbrev last_of : State → ℕ
   last_of state = state.world.served.last client
 
-  step_in_order : (state : State) (step : Step) (entered : List Entry) (taken news : List Message)
+  step_in_order : (state : State) (step : Step) (entered : List Entry) (taken news : List TakenEntry)
       → TakesFirst client state.log (last_of state) (last_of (moved (Network step) state)) (own client news) → InOrder state entered taken → InOrder (moved (Network step) state) entered (taken ++ news)
   step_in_order state step entered taken news (inl none) told = record {
     above = told.above;
     within = told.within;
     last_above = omega (arith, told.last_above, none.1);
     pending = told.pending;
-    own_taken = taken_more taken news _ [] told.own_taken none.0 ∙ append-nil _ ∙ ap (λ n. stores_between client acked first n entered) (sym none.1);
+    own_taken = taken_more taken news _ [] told.own_taken none.0 ∙ append-nil _ ∙ ap (λ n. entries_between client acked first n entered) (sym none.1);
   }
   step_in_order state step entered taken news (inr some) told =
       let entry = some.0 in
@@ -184,21 +184,21 @@ module _ (client acked first : ℕ) (low : acked ≤ first) where
         within = told.within;
         last_above = omega (arith, told.last_above, next);
         pending = told.pending;
-        own_taken = taken_more taken news _ _ told.own_taken (some.5 ∙ ap (λ n. Store client n entry.effects entry.base ∷ []) number)
-            ∙ sym (stores_next last entered some.1 entry told.last_above is)
-            ∙ ap (λ n. stores_between client acked first n entered) (sym next);
+        own_taken = taken_more taken news _ _ told.own_taken (some.5 ∙ ap (λ n. entry_stored client n entry.effects entry.base ∷ []) number)
+            ∙ sym (taken_next last entered some.1 entry told.last_above is)
+            ∙ ap (λ n. entries_between client acked first n entered) (sym next);
       }
 
   -- after an entry is logged the ones up to the last are the same
-  stores_same : (last : ℕ) (entered : List Entry) (entry : Entry) → last ≤ acked + length entered → stores_between client acked first last (entered ++ entry ∷ []) ≡ stores_between client acked first last entered
-  stores_same last entered entry within =
+  taken_same : (last : ℕ) (entered : List Entry) (entry : Entry) → last ≤ acked + length entered → entries_between client acked first last (entered ++ entry ∷ []) ≡ entries_between client acked first last entered
+  taken_same last entered entry within =
       let short : last - acked ≤ length entered = omega arith in
       ap (λ es. drop (first - acked) (numbered client (acked + 1) es)) (take-append-le (last - acked) entered (entry ∷ []) short)
 
-  own_nil : (taken : List Message) (stores : List Message) → own client taken ≡ stores → own client (taken ++ []) ≡ stores
-  own_nil taken stores e = ap (own client) (append-nil taken) ∙ e
+  own_nil : (taken are : List TakenEntry) → own client taken ≡ are → own client (taken ++ []) ≡ are
+  own_nil taken are e = ap (own client) (append-nil taken) ∙ e
 
-  logs_in_order : (state : State) (entry : Entry) (entered : List Entry) (taken : List Message) → InStep client state.log state.world → InOrder state entered taken → InOrder (moved (Logs entry) state) (entered ++ entry ∷ []) (taken ++ [])
+  logs_in_order : (state : State) (entry : Entry) (entered : List Entry) (taken : List TakenEntry) → InStep client state.log state.world → InOrder state entered taken → InOrder (moved (Logs entry) state) (entered ++ entry ∷ []) (taken ++ [])
   logs_in_order state entry entered taken now told =
       let long = length-append entered (entry ∷ []) in
       let pending_long : length state.log.pending ≡ length entered - (state.log.acked - acked) = ap length told.pending ∙ length-drop (state.log.acked - acked) entered in
@@ -207,11 +207,11 @@ module _ (client acked first : ℕ) (low : acked ≤ first) where
         within = omega (arith, told.within, long);
         last_above = told.last_above;
         pending = ap (λ es. es ++ entry ∷ []) told.pending ∙ sym (drop-append-le (state.log.acked - acked) entered (entry ∷ []) (omega (arith, told.within, told.above)));
-        own_taken = own_nil taken _ told.own_taken ∙ sym (stores_same (last_of state) entered entry (omega (arith, now.not_higher.at_most_logged, pending_long, told.within, told.above)));
+        own_taken = own_nil taken _ told.own_taken ∙ sym (taken_same (last_of state) entered entry (omega (arith, now.not_higher.at_most_logged, pending_long, told.within, told.above)));
       }
 
   -- the acknowledged number goes up by one where an entry is pending
-  acknowledged_in_order : (world : World) (kept : Log) (number : ℕ) (tree : Volume) (pending : List Entry) (entered : List Entry) (taken : List Message) → pending ≢ []
+  acknowledged_in_order : (world : World) (kept : Log) (number : ℕ) (tree : Volume) (pending : List Entry) (entered : List Entry) (taken : List TakenEntry) → pending ≢ []
       → InOrder (record { log = record { acked = number; base = tree; pending = pending }; kept = kept; world = world }) entered taken
       → InOrder (record { log = acknowledged (number + 1) (record { acked = number; base = tree; pending = pending }); kept = kept; world = world }) entered taken
   acknowledged_in_order world kept number tree [] entered taken some told = absurd (some refl)
@@ -227,10 +227,10 @@ module _ (client acked first : ℕ) (low : acked ≤ first) where
         own_taken = told.own_taken;
       })
 
-  InOrder-nil : (state : State) (entered : List Entry) (taken : List Message) → InOrder state entered taken → InOrder state (entered ++ []) (taken ++ [])
+  InOrder-nil : (state : State) (entered : List Entry) (taken : List TakenEntry) → InOrder state entered taken → InOrder state (entered ++ []) (taken ++ [])
   InOrder-nil state entered taken told = subst (λ es. InOrder state es (taken ++ [])) (sym (append-nil entered)) (subst (λ ms. InOrder state entered ms) (sym (append-nil taken)) told)
 
-  move_in_order : (ships : Bool) (state : State) (move : Move) (entered : List Entry) (taken : List Message)
+  move_in_order : (ships : Bool) (state : State) (move : Move) (entered : List Entry) (taken : List TakenEntry)
       → InStep client state.log state.world → IsPossible client ships state move → HasNoCollision client state.log.pending (moved move state).world.packets
       → InOrder state entered taken → InOrder (moved move state) (entered ++ entry_in move) (taken ++ taken_in_move move state)
   move_in_order ships state (Network step) entered taken now may none told =
@@ -246,7 +246,7 @@ module _ (client acked first : ℕ) (low : acked ≤ first) where
   move_in_order ships state Saves entered taken now may none told =
       InOrder-nil _ entered taken (record { above = told.above; within = told.within; last_above = told.last_above; pending = told.pending; own_taken = told.own_taken })
 
-  moves_in_order : (ships : Bool) (moves : List Move) (state : State) (entered : List Entry) (taken : List Message)
+  moves_in_order : (ships : Bool) (moves : List Move) (state : State) (entered : List Entry) (taken : List TakenEntry)
       → InStep client state.log state.world → AllPossible client ships state moves → IsApart client moves state
       → InOrder state entered taken → InOrder (moved_by moves state) (entered ++ entries_in moves) (taken ++ taken_in moves state)
   moves_in_order ships [] state entered taken now may apart told = InOrder-nil state entered taken told
@@ -282,11 +282,7 @@ pulled_same client log seen last volume packets upto path none among newer now e
     let base : version_at log.base path ≡ version_at volume path = ap (λ t. version_at t path) (sym (tree_at-acked log last is)) ∙ e in
     ap (λ t. version_at t path) (tree_at-acked (pulled seen log) last is) ∙ omega (arith, newer, base, fits.2.versions path)
 
--- none of the stores of other clients touches the path
-abbrev pub AllSpare : ℕ → FilePath → List Message → Type 0
-AllSpare client path taken = (message : Message) → IsIn message taken → client_of message ≢ client → Spares path message
-
-move_spares : (client : ℕ) (ships : Bool) (path : FilePath) (state : State) (move : Move) → AllSpare client path (taken_in_move move state)
+move_spares : (client : ℕ) (ships : Bool) (path : FilePath) (state : State) (move : Move) → OthersSpare client path (taken_in_move move state)
     → InStep client state.log state.world → IsPossible client ships state move → HasNoCollision client state.log.pending (moved move state).world.packets
     → IsSameVersion client state.log state.world path → IsSameVersion client (moved move state).log (moved move state).world path
 move_spares client ships path state (Network step) spare now may none same = (steps_on client ships state.log state.world step now (allowed_log client ships state step may) none).same path spare same
@@ -298,7 +294,7 @@ move_spares client ships path state (Acknowledges reply) spare now may none same
 move_spares client ships path state (Pulls last seen) spare now may none same = pulled_same client state.log seen _ _ _ last path may.0 may.2 (may.3 path) (agree client state.log state.world now) same
 move_spares client ships path state Saves spare now may none same = same
 
-moves_spare : (client : ℕ) (ships : Bool) (path : FilePath) (moves : List Move) (state : State) → AllSpare client path (taken_in moves state)
+moves_spare : (client : ℕ) (ships : Bool) (path : FilePath) (moves : List Move) (state : State) → OthersSpare client path (taken_in moves state)
     → InStep client state.log state.world → AllPossible client ships state moves → IsApart client moves state
     → IsSameVersion client state.log state.world path → IsSameVersion client (moved_by moves state).log (moved_by moves state).world path
 moves_spare client ships path [] state spare now may apart same = same
@@ -309,7 +305,7 @@ moves_spare client ships path (move ∷ moves) state spare now may apart same =
     moves_spare client ships path moves (moved move state) (λ message among. spare message (IsIn-right message _ _ among)) next may.1 (apart_next client move moves state apart) same_next
 
 -- what is kept has the path's version, too
-kept_spares : (client : ℕ) (ships : Bool) (path : FilePath) (state : State) (move : Move) → AllSpare client path (taken_in_move move state) → AreInStep client state → IsPossible client ships state move
+kept_spares : (client : ℕ) (ships : Bool) (path : FilePath) (state : State) (move : Move) → OthersSpare client path (taken_in_move move state) → AreInStep client state → IsPossible client ships state move
     → HasNoCollision client state.kept.pending (moved move state).world.packets → IsSameVersion client state.log state.world path → IsSameVersion client state.kept state.world path → IsSameVersion client (moved move state).kept (moved move state).world path
 kept_spares client ships path state (Network step) spare now may none same kept = (steps_on client ships state.kept state.world step now.kept (allowed_kept client ships state step may) none).same path spare kept
 kept_spares client ships path state (Notes ask) spare now may none same kept = kept
@@ -318,11 +314,11 @@ kept_spares client ships path state (Acknowledges reply) spare now may none same
 kept_spares client ships path state (Pulls last seen) spare now may none same kept = kept
 kept_spares client ships path state Saves spare now may none same kept = same
 
-kept_moves_spare : (client : ℕ) (ships : Bool) (path : FilePath) (moves : List Move) (state : State) → AllSpare client path (taken_in moves state) → AreInStep client state → AllPossible client ships state moves → AreApart client moves state
+kept_moves_spare : (client : ℕ) (ships : Bool) (path : FilePath) (moves : List Move) (state : State) → OthersSpare client path (taken_in moves state) → AreInStep client state → AllPossible client ships state moves → AreApart client moves state
     → IsSameVersion client state.log state.world path → IsSameVersion client state.kept state.world path → IsSameVersion client (moved_by moves state).kept (moved_by moves state).world path
 kept_moves_spare client ships path [] state spare now may apart same kept = kept
 kept_moves_spare client ships path (move ∷ moves) state spare now may apart same kept =
-    let first = λ (message : Message) (among : IsIn message (taken_in_move move state)). spare message (IsIn-left message _ _ among) in
+    let first = λ (entry : TakenEntry) (among : IsIn entry (taken_in_move move state)). spare entry (IsIn-left entry _ _ among) in
     kept_moves_spare client ships path moves (moved move state) (λ message among. spare message (IsIn-right message _ _ among)) (keep_first client ships move moves state now may.0 apart) may.1
     (both_apart client move moves state apart)
     (move_spares client ships path state move first now.in_memory may.0 (apart_here client move moves state (apart_in_memory client (move ∷ moves) state apart)) same)
@@ -364,7 +360,7 @@ in_order_at_end client ships entries made old new now runs none =
 
 pub entries_in_order : (client : ℕ) (ships : Bool) (entries : List Entry) (made : List Ask) (old new : State) → InStep client old.log old.world → (runs : Runs client ships entries made old new)
     → HasNoCollision client (old.log.pending ++ entries) new.world.packets
-    → own client (taken_in runs.moves old) ≡ stores_between client old.log.acked (old.world.served.last client) (new.world.served.last client) (old.log.pending ++ entries)
+    → own client (taken_in runs.moves old) ≡ entries_between client old.log.acked (old.world.served.last client) (new.world.served.last client) (old.log.pending ++ entries)
 entries_in_order client ships entries made old new now runs none = (in_order_at_end client ships entries made old new now runs none).own_taken
 
 pub pending_later : (client : ℕ) (ships : Bool) (entries : List Entry) (made : List Ask) (old new : State) → InStep client old.log old.world → Runs client ships entries made old new → HasNoCollision client (old.log.pending ++ entries) new.world.packets
@@ -379,7 +375,7 @@ counted_later client ships entries made old new now runs none =
     omega (arith, told.above, told.within, ap length told.pending, length-drop (new.log.acked - old.log.acked) (old.log.pending ++ entries), length-append old.log.pending entries)
 
 pub path_is_same : (client : ℕ) (ships : Bool) (entries : List Entry) (made : List Ask) (old new : State) (path : FilePath) → InStep client old.log old.world → (runs : Runs client ships entries made old new)
-    → version_at old.world.served.volume path ≡ version_at (tree_at (old.world.served.last client) old.log) path → AllSpare client path (taken_in runs.moves old)
+    → version_at old.world.served.volume path ≡ version_at (tree_at (old.world.served.last client) old.log) path → OthersSpare client path (taken_in runs.moves old)
     → HasNoCollision client (old.log.pending ++ entries) new.world.packets → IsSameAt client new.log new.world path
 path_is_same client ships entries made old new path now runs e spare none =
     let same = moves_spare client ships path runs.moves old spare now runs.possible (run_apart client ships entries made old new runs none) (sym e) in
@@ -388,7 +384,7 @@ path_is_same client ships entries made old new path now runs e spare none =
     record { version = sym same_new; node = sym (end.behind.nodes path same_new) }
 
 pub path_is_kept : (client : ℕ) (ships : Bool) (entries : List Entry) (made : List Ask) (old new : State) (path : FilePath) → AreInStep client old → old.kept ≡ old.log → (runs : Runs client ships entries made old new)
-    → version_at old.world.served.volume path ≡ version_at (tree_at (old.world.served.last client) old.log) path → AllSpare client path (taken_in runs.moves old)
+    → version_at old.world.served.volume path ≡ version_at (tree_at (old.world.served.last client) old.log) path → OthersSpare client path (taken_in runs.moves old)
     → HasNoCollision client (old.log.pending ++ entries) new.world.packets → IsSameAt client new.kept new.world path
 path_is_kept client ships entries made old new path now begins runs e spare none =
     let none_kept = kept_none client entries old new begins none in
@@ -417,7 +413,7 @@ served_tree client log world now at =
     (λ path. omega (arith, (at path).version)))
 
 pub lone_tree : (client : ℕ) (ships : Bool) (entries : List Entry) (made : List Ask) (old new : State) → InStep client old.log old.world → (runs : Runs client ships entries made old new)
-    → ((message : Message) → IsIn message (taken_in runs.moves old) → client_of message ≡ client)
+    → AreAllOf client (taken_in runs.moves old)
     → old.world.served.volume ≡ tree_at (old.world.served.last client) old.log → HasNoCollision client (old.log.pending ++ entries) new.world.packets
     → new.world.served.volume ≡ tree_at (new.world.served.last client) new.log
 lone_tree client ships entries made old new now runs alone same none =
@@ -425,25 +421,25 @@ lone_tree client ships entries made old new now runs alone same none =
     (λ path. path_is_same client ships entries made old new path now runs (ap (λ v. version_at v path) same) (λ message among differ. absurd (differ (alone message among))) none)
 
 pub lone_kept : (client : ℕ) (ships : Bool) (entries : List Entry) (made : List Ask) (old new : State) → AreInStep client old → old.kept ≡ old.log → (runs : Runs client ships entries made old new)
-    → ((message : Message) → IsIn message (taken_in runs.moves old) → client_of message ≡ client)
+    → AreAllOf client (taken_in runs.moves old)
     → old.world.served.volume ≡ tree_at (old.world.served.last client) old.log → HasNoCollision client (old.log.pending ++ entries) new.world.packets
     → new.world.served.volume ≡ tree_at (new.world.served.last client) new.kept
 lone_kept client ships entries made old new now begins runs alone same none =
     served_tree client new.kept new.world (both_in_step client ships entries made old new now runs (kept_none client entries old new begins none)).kept
     (λ path. path_is_kept client ships entries made old new path now begins runs (ap (λ v. version_at v path) same) (λ message among differ. absurd (differ (alone message among))) none)
 
-test_is : (client : ℕ) (message : Message) → client_of message ≡ client → (client_of message == client) ≡ true
-test_is client message is = grind (arith, nat_tests)
+test_is : (client of : ℕ) → of ≡ client → (of == client) ≡ true
+test_is client of is = grind (arith, nat_tests)
 
-own-all : (client : ℕ) (messages : List Message) → ((message : Message) → IsIn message messages → client_of message ≡ client) → own client messages ≡ messages
+own-all : (client : ℕ) (taken : List TakenEntry) → AreAllOf client taken → own client taken ≡ taken
 own-all client [] alone = refl
-own-all client (message ∷ messages) alone =
-    let P : Bool → Type 0 = λ b. (if b then message ∷ own client messages else own client messages) ≡ message ∷ messages in
-    subst P (sym (test_is client message (alone message (inl refl)))) (ap (λ rest. message ∷ rest) (own-all client messages (λ other among. alone other (inr among))))
+own-all client (entry ∷ taken) alone =
+    let P : Bool → Type 0 = λ b. (if b then entry ∷ own client taken else own client taken) ≡ entry ∷ taken in
+    subst P (sym (test_is client entry.client (alone entry (inl refl)))) (ap (λ rest. entry ∷ rest) (own-all client taken (λ other among. alone other (inr among))))
 
 pub lone_entries : (client : ℕ) (ships : Bool) (entries : List Entry) (made : List Ask) (old new : State) → InStep client old.log old.world → (runs : Runs client ships entries made old new)
-    → ((message : Message) → IsIn message (taken_in runs.moves old) → client_of message ≡ client) → HasNoCollision client (old.log.pending ++ entries) new.world.packets
-    → taken_in runs.moves old ≡ stores_between client old.log.acked (old.world.served.last client) (new.world.served.last client) (old.log.pending ++ entries)
+    → AreAllOf client (taken_in runs.moves old) → HasNoCollision client (old.log.pending ++ entries) new.world.packets
+    → taken_in runs.moves old ≡ entries_between client old.log.acked (old.world.served.last client) (new.world.served.last client) (old.log.pending ++ entries)
 lone_entries client ships entries made old new now runs alone none = sym (own-all client (taken_in runs.moves old) alone) ∙ entries_in_order client ships entries made old new now runs none
 
 -- ---- a new client
@@ -579,7 +575,7 @@ moved_runs client ships log request made old new may moved stand =
     moved_by_runs client ships log request made old new may moved.moves
     (λ ask among. subst (λ m. IsIn m new.packets) (sym (moved.asked ask among)) (asked_among request made old new moved (λ none. subst (IsIn ask) none among))) stand
 
--- ---- the world's list of taken stores grows by those of the run
+-- ---- the world's list of taken entries grows by those of the run
 
 taken_by_step : (step : Step) (world : World) → (happens step world).taken ≡ world.taken ++ taken_by step world.served
 taken_by_step (Send message) world = sym (append-nil world.taken)

@@ -17,7 +17,7 @@ use Rattle.mod_log.specs.Log.{Log, after, tree_at, IsLog, AreEntriesOf}
 use Rattle.wire_frames.specs.declared.message.Message.{Message}
 use Rattle.wire_frames.specs.declared.message.Message.TheVariants.{Store, Operate, Pull, Accepted, Stale, Unfit, Gap, Snapshot, Done, Declined, Full, Malformed}
 use Rattle.wire_frames.specs.Frame.{client_of}
-use Rattle.world_rules.specs.Served.{Verdict, Taken, judged, is_want_of_room, reply, taken_if}
+use Rattle.world_rules.specs.Served.{TakenEntry, entry_stored, Verdict, Taken, judged, is_want_of_room, reply, taken_if}
 use Rattle.world_rules.specs.InStep.{IsTakenUpTo, IsSendable, IsPendingAt, IsFitting}
 use Rattle.world_rules.proofs.Asks.{IsIn-push}
 use Rattle.world_rules.proofs.Replies.{legal_effects}
@@ -145,16 +145,16 @@ volume_after volume (Taken after) = after
 volume_after volume _ = volume
 
 -- Either nothing is taken and `last` stays, or the first pending entry is taken, as the next one.
-abbrev pub TakesFirst : ℕ → Log → ℕ → ℕ → List Message → Type 0
+abbrev pub TakesFirst : ℕ → Log → ℕ → ℕ → List TakenEntry → Type 0
 TakesFirst client log last next taken =
     ((taken ≡ []) × (next ≡ last))
-    ⊎ ((entry : Entry) × (entries : List Entry) × (log.pending ≡ entry ∷ entries) × (last ≡ log.acked) × (next ≡ log.acked + 1) × (taken ≡ Store client (log.acked + 1) entry.effects entry.base ∷ []))
+    ⊎ ((entry : Entry) × (entries : List Entry) × (log.pending ≡ entry ∷ entries) × (last ≡ log.acked) × (next ≡ log.acked + 1) × (taken ≡ entry_stored client (log.acked + 1) entry.effects entry.base ∷ []))
 
 -- the agreement holds after the verdict, and its reply fits
-pub record Judged (client : ℕ) (log : Log) (last : ℕ) (volume : Volume) (packets : List Message) (number : ℕ) (store : Message) (judgement : Verdict) : Type 0 where
+pub record Judged (client : ℕ) (log : Log) (last : ℕ) (volume : Volume) (packets : List Message) (number : ℕ) (stored : TakenEntry) (judgement : Verdict) : Type 0 where
   pub state : Agree client log (last_after number last judgement) (volume_after volume judgement) packets
   pub fits : IsFitting log (last_after number last judgement) (volume_after volume judgement) (reply client number last judgement)
-  pub taken : TakesFirst client log last (last_after number last judgement) (taken_if judgement store)
+  pub taken : TakesFirst client log last (last_after number last judgement) (taken_if judgement stored)
   -- a path with the same version in the client's tree and in the volume keeps it
   pub same : (path : FilePath) → version_at (tree_at last log) path ≡ version_at volume path → version_at (tree_at (last_after number last judgement) log) path ≡ version_at (volume_after volume judgement) path
 
@@ -188,7 +188,7 @@ module _ (client : ℕ) (acked : ℕ) (tree : Volume) where
     pub own_store : (pending : List Entry) (repeated beyond : Bool) (conflict : Option Conflict) (applied : Result Volume (ℕ × TreeError))
         → nat_le number last ≡ repeated → nat_lt (last + 1) number ≡ beyond → first_conflict base volume ≡ conflict → apply_all 0 effects volume ≡ applied
         → Agree client (log_with pending) last volume packets → IsFitting (log_with pending) last volume (Store client number effects base)
-        → Judged client (log_with pending) last volume packets number (Store client number effects base) (judged repeated beyond conflict applied)
+        → Judged client (log_with pending) last volume packets number (entry_stored client number effects base) (judged repeated beyond conflict applied)
     own_store pending true beyond conflict applied a b c d now fits = record { state = now; fits = le_if number last a; taken = inl (refl, refl); same = λ path e. e }
     own_store pending false true conflict applied a b c d now fits = absurd (omega (arith, lt_if (last + 1) number b, fits.0.at_most_next, now.not_lower))
     own_store [] false false conflict applied a b c d now fits = absurd (fits.1 (gt_if number last a)).1
@@ -231,7 +231,7 @@ module _ (client : ℕ) (acked : ℕ) (tree : Volume) where
         record {
           state = subst (λ n. Agree client (log_with (entry ∷ entries)) n after packets) (sym next) at_after;
           fits = omega arith;
-          taken = inr (entry, entries, refl, same, next, λ i. Store client (next i) (is.0 i) (is.1 i) ∷ []);
+          taken = inr (entry, entries, refl, same, next, λ i. entry_stored client (next i) (is.0 i) (is.1 i) ∷ []);
           same = λ path e.
               ap (λ t. version_at t path) (tree_at-next (log_with (entry ∷ entries)) number entry entries refl next)
               ∙ same-changes entry.effects tree volume path (ap (λ t. version_at t path) (sym (tree_at-acked (log_with (entry ∷ entries)) last same)) ∙ e)

@@ -17,7 +17,7 @@ use Rattle.world_rules.specs.declared.asking.Ask.{Ask}
 use Rattle.world_rules.specs.Served.{judged, is_want_of_room, reply, answer}
 use Rattle.world_rules.specs.World.{World, Step, Send, Deliver, Other, Relay, happens, IsForServer, IsLicensed, IsAllowed}
 use Rattle.world_rules.specs.InStep.{InStep, MaySend, IsRefusal, HasNoCollision}
-use Rattle.world_rules.specs.Run.{State, Move, Network, Notes, Logs, Acknowledges, Pulls, Saves, moved, IsPossible, AllPossible, moved_by, entry_in, ask_in, taken_in_move, taken_in, Runs}
+use Rattle.world_rules.specs.Run.{State, Move, Network, Notes, Logs, Acknowledges, Pulls, Saves, moved, IsPossible, AllPossible, moved_by, entry_in, ask_in, taken_in_move, taken_in, AreAllOf, Runs}
 use Rattle.world_rules.proofs.Asks.{IsIn-push}
 use Rattle.world_rules.proofs.Relaying.{relay_refuses_none}
 use Rattle.world_rules.proofs.Colliding.{IsApart, apart_here, apart_first, apart_next, run_apart}
@@ -115,7 +115,7 @@ module _ (client : ℕ) (ships : Bool) where
   IsTheirs state = state.world.served.volume ≡ tree_at (state.world.served.last client) state.log
 
   move_theirs : (move : Move) (state : State) → InStep client state.log state.world → IsPossible client ships state move → IsApart client (move ∷ []) state
-      → ((message : Message) → IsIn message (taken_in_move move state) → client_of message ≡ client) → IsTheirs state → IsTheirs (moved move state)
+      → AreAllOf client (taken_in_move move state) → IsTheirs state → IsTheirs (moved move state)
   move_theirs move state now may apart alone same =
       lone_tree client ships (entry_in move) (ask_in move) state (moved move state) now
       (record { moves = move ∷ []; entries = append-nil (entry_in move); asks = append-nil (ask_in move); possible = (may, tt); result = refl })
@@ -133,7 +133,7 @@ module _ (client : ℕ) (ships : Bool) where
   move_back Saves state now may none same number message is among = among
 
   moves_back : (moves : List Move) (state : State) → InStep client state.log state.world → AllPossible client ships state moves → IsApart client moves state
-      → ((message : Message) → IsIn message (taken_in moves state) → client_of message ≡ client) → IsTheirs state
+      → AreAllOf client (taken_in moves state) → IsTheirs state
       → (number : ℕ) (message : Message) → IsRefusal client number message → IsIn message (moved_by moves state).world.packets → IsIn message state.world.packets
   moves_back [] state now may apart alone same number message is among = among
   moves_back (move ∷ moves) state now may apart alone same number message is among =
@@ -144,7 +144,7 @@ module _ (client : ℕ) (ships : Bool) where
       (moves_back moves (moved move state) after may.1 (apart_next client move moves state apart) (λ m at. alone m (IsIn-right m _ _ at)) theirs number message is among)
 
   pub lone_unrefused : (entries : List Entry) (made : List Ask) (old new : State) → InStep client old.log old.world → (runs : Runs client ships entries made old new)
-      → ((message : Message) → IsIn message (taken_in runs.moves old) → client_of message ≡ client)
+      → AreAllOf client (taken_in runs.moves old)
       → old.world.served.volume ≡ tree_at (old.world.served.last client) old.log
       → HasNoCollision client (old.log.pending ++ entries) new.world.packets
       → (number : ℕ) (message : Message) → IsRefusal client number message → IsIn message new.world.packets → number ≤ old.log.acked

@@ -16,7 +16,7 @@ use Rattle.world_rules.specs.Served.{IsServed}
 use Rattle.world_rules.specs.World.{World, Step, Relay, happens, happen, IsReplayed, IsAllowed, IsFree, GoesOnAlone, MovedAlone, Moved, IsFresh}
 use Rattle.world_rules.specs.Asking.{AnswersStand}
 use Rattle.world_rules.specs.InStep.{InStep, MaySend, IsRefusal, HasNoCollision, HasNoOperation}
-use Rattle.world_rules.specs.Run.{State, kept_at, restarted, AreInStep, Runs, taken_in, own, stores_between, Spares, IsSameAt}
+use Rattle.world_rules.specs.Run.{State, kept_at, restarted, AreInStep, Runs, taken_in, own, entries_between, AreAllOf, OthersSpare, IsSameAt}
 
 -- ---- in step
 
@@ -89,12 +89,12 @@ RunsNeedNoSurrogate = (client : ℕ) (ships : Bool) (entries : List Entry) (made
 
 -- ---- entries
 
--- The client's stores that are taken in a run are its entries after the last taken one, in order and each once.
+-- What is taken of the client in a run are its entries after the last taken one, in order and each once.
 abbrev pub EntriesAreTakenOnce : Type 0
 EntriesAreTakenOnce = (client : ℕ) (ships : Bool) (entries : List Entry) (made : List Ask) (old new : State) → InStep client old.log old.world → (runs : Runs client ships entries made old new)
     → HasNoCollision client (old.log.pending ++ entries) new.world.packets
     → own client (taken_in runs.moves old)
-    ≡ stores_between client old.log.acked (old.world.served.last client) (new.world.served.last client) (old.log.pending ++ entries)
+    ≡ entries_between client old.log.acked (old.world.served.last client) (new.world.served.last client) (old.log.pending ++ entries)
 
 -- The acknowledged number only grows, and pending are, of the entries that were pending or logged, those after it.
 abbrev pub LaterEntriesArePending : Type 0
@@ -102,11 +102,11 @@ LaterEntriesArePending = (client : ℕ) (ships : Bool) (entries : List Entry) (m
     → HasNoCollision client (old.log.pending ++ entries) new.world.packets
     → (old.log.acked ≤ new.log.acked) × (new.log.pending ≡ drop (new.log.acked - old.log.acked) (old.log.pending ++ entries))
 
--- Where only the client's own stores are taken, what is taken are its entries after the last taken one, in order and each once.
+-- Where nothing of another client is taken, what is taken are its entries after the last taken one, in order and each once.
 abbrev pub LoneClientsEntriesAreTaken : Type 0
 LoneClientsEntriesAreTaken = (client : ℕ) (ships : Bool) (entries : List Entry) (made : List Ask) (old new : State) → InStep client old.log old.world → (runs : Runs client ships entries made old new)
-    → ((message : Message) → IsIn message (taken_in runs.moves old) → client_of message ≡ client) → HasNoCollision client (old.log.pending ++ entries) new.world.packets
-    → taken_in runs.moves old ≡ stores_between client old.log.acked (old.world.served.last client) (new.world.served.last client) (old.log.pending ++ entries)
+    → AreAllOf client (taken_in runs.moves old) → HasNoCollision client (old.log.pending ++ entries) new.world.packets
+    → taken_in runs.moves old ≡ entries_between client old.log.acked (old.world.served.last client) (new.world.served.last client) (old.log.pending ++ entries)
 
 -- ---- what the client wrote
 
@@ -116,7 +116,7 @@ abbrev pub SparedPathsAreTheClients : Type 0
 SparedPathsAreTheClients = (client : ℕ) (ships : Bool) (entries : List Entry) (made : List Ask) (old new : State) (path : FilePath) → InStep client old.log old.world
     → (runs : Runs client ships entries made old new)
     → version_at old.world.served.volume path ≡ version_at (tree_at (old.world.served.last client) old.log) path
-    → ((message : Message) → IsIn message (taken_in runs.moves old) → client_of message ≢ client → Spares path message)
+    → OthersSpare client path (taken_in runs.moves old)
     → HasNoCollision client (old.log.pending ++ entries) new.world.packets
     → IsSameAt client new.log new.world path
 
@@ -125,15 +125,15 @@ abbrev pub SparedPathsAreKept : Type 0
 SparedPathsAreKept = (client : ℕ) (ships : Bool) (entries : List Entry) (made : List Ask) (old new : State) (path : FilePath) → AreInStep client old → old.kept ≡ old.log
     → (runs : Runs client ships entries made old new)
     → version_at old.world.served.volume path ≡ version_at (tree_at (old.world.served.last client) old.log) path
-    → ((message : Message) → IsIn message (taken_in runs.moves old) → client_of message ≢ client → Spares path message)
+    → OthersSpare client path (taken_in runs.moves old)
     → HasNoCollision client (old.log.pending ++ entries) new.world.packets
     → IsSameAt client new.kept new.world path
 
--- Where only the client's own stores are taken in a run, and it begins with the client's tree served, it ends with the
+-- Where nothing of another client is taken in a run, and it begins with the client's tree served, it ends with the
 -- client's tree after the entries that were taken.
 abbrev pub LoneClientsAreServedTheirTree : Type 0
 LoneClientsAreServedTheirTree = (client : ℕ) (ships : Bool) (entries : List Entry) (made : List Ask) (old new : State) → InStep client old.log old.world → (runs : Runs client ships entries made old new)
-    → ((message : Message) → IsIn message (taken_in runs.moves old) → client_of message ≡ client)
+    → AreAllOf client (taken_in runs.moves old)
     → old.world.served.volume ≡ tree_at (old.world.served.last client) old.log → HasNoCollision client (old.log.pending ++ entries) new.world.packets
     → new.world.served.volume ≡ tree_at (new.world.served.last client) new.log
 
@@ -141,20 +141,20 @@ LoneClientsAreServedTheirTree = (client : ℕ) (ships : Bool) (entries : List En
 abbrev pub LoneClientsTreeIsKept : Type 0
 LoneClientsTreeIsKept = (client : ℕ) (ships : Bool) (entries : List Entry) (made : List Ask) (old new : State) → AreInStep client old → old.kept ≡ old.log
     → (runs : Runs client ships entries made old new)
-    → ((message : Message) → IsIn message (taken_in runs.moves old) → client_of message ≡ client)
+    → AreAllOf client (taken_in runs.moves old)
     → old.world.served.volume ≡ tree_at (old.world.served.last client) old.log → HasNoCollision client (old.log.pending ++ entries) new.world.packets
     → new.world.served.volume ≡ tree_at (new.world.served.last client) new.kept
 
 -- And in such a run none of its entries is refused that was not acknowledged when the run began.
 abbrev pub LoneClientsAreNotRefused : Type 0
 LoneClientsAreNotRefused = (client : ℕ) (ships : Bool) (entries : List Entry) (made : List Ask) (old new : State) → InStep client old.log old.world → (runs : Runs client ships entries made old new)
-    → ((message : Message) → IsIn message (taken_in runs.moves old) → client_of message ≡ client)
+    → AreAllOf client (taken_in runs.moves old)
     → old.world.served.volume ≡ tree_at (old.world.served.last client) old.log → HasNoCollision client (old.log.pending ++ entries) new.world.packets
     → (number : ℕ) (reply : Message) → IsRefusal client number reply → IsIn reply new.world.packets → number ≤ old.log.acked
 
 -- ---- what a world tells
 
--- Whatever happens, the served state is the opening one after the taken stores.
+-- Whatever happens, the served state is the opening one after the taken entries.
 abbrev pub ServedIsReplayed : Type 0
 ServedIsReplayed = (steps : List Step) (world : World) → IsReplayed world → IsReplayed (happen steps world)
 

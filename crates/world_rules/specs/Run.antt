@@ -7,9 +7,8 @@ use Rattle.tree_values.specs.Lists.{IsIn}
 use Rattle.mod_log.specs.declared.log.Entry.{Entry}
 use Rattle.mod_log.specs.Log.{Log, tree_at, IsLog, logged, acknowledged, pulled}
 use Rattle.wire_frames.specs.declared.message.Message.{Message}
-use Rattle.wire_frames.specs.declared.message.Message.TheVariants.{Store, Snapshot}
-use Rattle.wire_frames.specs.Frame.{client_of}
-use Rattle.world_rules.specs.Served.{Served, taken_of}
+use Rattle.wire_frames.specs.declared.message.Message.TheVariants.{Snapshot}
+use Rattle.world_rules.specs.Served.{Served, TakenEntry, entry_stored, taken_of}
 use Rattle.world_rules.specs.World.{World, Step, Deliver, happens, noted, IsAllowed}
 use Rattle.world_rules.specs.declared.asking.Ask.{Ask}
 use Rattle.world_rules.specs.Asking.{AnswerStands}
@@ -101,38 +100,45 @@ abbrev pub asks_in : List Move → List Ask
 asks_in [] = []
 asks_in (move ∷ moves) = ask_in move ++ asks_in moves
 
--- the store that the server takes in a step
-abbrev pub taken_by : Step → Served → List Message
+-- the entry that the server takes in a step
+abbrev pub taken_by : Step → Served → List TakenEntry
 taken_by (Deliver message joins) served = taken_of message served
 taken_by _ served = []
 
--- the store that the server takes in a move
-abbrev pub taken_in_move : Move → State → List Message
+-- the entry that the server takes in a move
+abbrev pub taken_in_move : Move → State → List TakenEntry
 taken_in_move (Network step) state = taken_by step state.world.served
 taken_in_move _ state = []
 
--- the stores that the server takes in the moves, in order
-abbrev pub taken_in : List Move → State → List Message
+-- the entries that the server takes in the moves, in order
+abbrev pub taken_in : List Move → State → List TakenEntry
 taken_in [] state = []
 taken_in (move ∷ moves) state = taken_in_move move state ++ taken_in moves (moved move state)
 
--- the messages of one client
-abbrev pub own : ℕ → List Message → List Message
-own client messages = filter (λ message. client_of message == client) messages
+-- of what was taken, the entries of one client
+abbrev pub own : ℕ → List TakenEntry → List TakenEntry
+own client taken = filter (λ entry. entry.client == client) taken
 
--- the entries as stores, numbered on from the first number
-abbrev pub numbered : ℕ → ℕ → List Entry → List Message
+-- the client's logged entries as they are taken, numbered on from the first number
+abbrev pub numbered : ℕ → ℕ → List Entry → List TakenEntry
 numbered client number [] = []
-numbered client number (entry ∷ entries) = Store client number entry.effects entry.base ∷ numbered client (number + 1) entries
+numbered client number (entry ∷ entries) = entry_stored client number entry.effects entry.base ∷ numbered client (number + 1) entries
 
--- of the entries after `acked`, the stores of those above one number and up to another
-abbrev pub stores_between : ℕ → ℕ → ℕ → ℕ → List Entry → List Message
-stores_between client acked above upto entries = drop (above - acked) (numbered client (acked + 1) (take (upto - acked) entries))
+-- of the client's entries after `acked`, those above one number and up to another, as they are taken
+abbrev pub entries_between : ℕ → ℕ → ℕ → ℕ → List Entry → List TakenEntry
+entries_between client acked above upto entries = drop (above - acked) (numbered client (acked + 1) (take (upto - acked) entries))
 
--- the message touches no such path
-abbrev pub Spares : FilePath → Message → Type 0
-Spares path (Store of number effects base) = IsIn path (touched_all effects) → ⊥
-Spares path message = Unit {0}
+-- all that was taken is the client's
+abbrev pub AreAllOf : ℕ → List TakenEntry → Type 0
+AreAllOf client taken = (entry : TakenEntry) → IsIn entry taken → entry.client ≡ client
+
+-- the entry does not touch the path
+abbrev pub Spares : FilePath → TakenEntry → Type 0
+Spares path entry = IsIn path (touched_all entry.effects) → ⊥
+
+-- nothing that was taken of another client touches the path
+abbrev pub OthersSpare : ℕ → FilePath → List TakenEntry → Type 0
+OthersSpare client path taken = (entry : TakenEntry) → IsIn entry taken → entry.client ≢ client → Spares path entry
 
 -- The served volume has at the path what the client's tree had after the entries that were taken.
 pub record IsSameAt (client : ℕ) (log : Log) (world : World) (path : FilePath) : Type 0 where

@@ -89,17 +89,34 @@ abbrev pub state_after : Message → Served → Served
 state_after (Store client number effects base) served = served_after client number (verdict client number effects base served) served
 state_after message served = served
 
--- the message, where the verdict on it is that it is taken
-abbrev pub taken_if : Verdict → Message → List Message
-taken_if (Taken volume) message = message ∷ []
-taken_if _ message = []
+-- ---- what is taken
 
--- the store, where it is taken
-abbrev pub taken_of : Message → Served → List Message
-taken_of (Store client number effects base) served = taken_if (verdict client number effects base served) (Store client number effects base)
+-- an entry that a server took: whose it is, its number, its effects, and the versions before them
+pub record TakenEntry : Type 0 where
+  pub client : ℕ
+  pub number : ℕ
+  pub effects : List Effect
+  pub base : List Base
+
+-- the entry of a store
+abbrev pub entry_stored : ℕ → ℕ → List Effect → List Base → TakenEntry
+entry_stored client number effects base = record { client = client; number = number; effects = effects; base = base }
+
+-- the store of an entry
+abbrev pub as_store : TakenEntry → Message
+as_store entry = Store entry.client entry.number entry.effects entry.base
+
+-- the entry, where the verdict on its store is that it is taken
+abbrev pub taken_if : Verdict → TakenEntry → List TakenEntry
+taken_if (Taken volume) entry = entry ∷ []
+taken_if _ entry = []
+
+-- the entry of a store, where it is taken
+abbrev pub taken_of : Message → Served → List TakenEntry
+taken_of (Store client number effects base) served = taken_if (verdict client number effects base served) (entry_stored client number effects base)
 taken_of message served = []
 
--- the served state after these messages, one after the other
-abbrev pub replay : List Message → Served → Served
+-- the served state after the stores of these entries, one after the other
+abbrev pub replay : List TakenEntry → Served → Served
 replay [] served = served
-replay (message ∷ messages) served = replay messages (state_after message served)
+replay (entry ∷ entries) served = replay entries (state_after (as_store entry) served)

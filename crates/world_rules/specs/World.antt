@@ -8,7 +8,7 @@ use Rattle.wire_frames.specs.Frame.{client_of, IsValid}
 use Rattle.mod_log.specs.declared.sketching.SketchEntry.{SketchEntry}
 use Rattle.mod_log.specs.Sketched.{AllFill}
 use Rattle.world_rules.specs.declared.asking.Ask.{Ask}
-use Rattle.world_rules.specs.Served.{Served, answer, state_after, taken_of, replay}
+use Rattle.world_rules.specs.Served.{Served, TakenEntry, answer, state_after, taken_of, replay}
 
 -- the world about one client
 pub record World : Type 0 where
@@ -16,15 +16,15 @@ pub record World : Type 0 where
   pub client : ℕ
   -- what was served when the world began
   pub opening : Served
-  -- the stores that the server took since then, in order
-  pub taken : List Message
+  -- the entries that the server took since then, in order
+  pub taken : List TakenEntry
   pub served : Served
   -- every message that was ever sent, in order
   pub packets : List Message
   -- what the client asked, and what came back, in order
   pub asks : List Ask
 
--- the served state is the opening one after the taken stores
+-- the served state is the opening one after the taken entries
 abbrev pub IsReplayed : World → Type 0
 IsReplayed world = world.served ≡ replay world.taken world.opening
 
