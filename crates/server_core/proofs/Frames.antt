@@ -4,7 +4,7 @@ use Rattle.wire_frames.specs.Frame.{IsValid, frame}
 use Rattle.wire_frames.proofs.Frames.{frame_found, frame_again}
 use Rattle.wire_frames.specs.declared.message.Message.{Message}
 use Rattle.wire_frames.specs.declared.message.Message.TheVariants.{Store, Pull, Malformed}
-use Rattle.world_rules.specs.Served.{Served, IsServed, refusal, answer, state_after, replay}
+use Rattle.world_rules.specs.Served.{Served, IsServed, refusal, answer, state_after}
 use Rattle.world_rules.proofs.Replies.{answer-valid}
 use Rattle.wire_frames.specs.declared.message.FrameError.{FrameError}
 use Rattle.wire_frames.specs.Malformed.{refusal_code, refusal_offset}
@@ -12,7 +12,7 @@ use Rattle.wire_frames.specs.Reading.{frame_of}
 use Rattle.std.specs.List.{cons_option}
 use Rattle.std.specs.Result.{result_ok}
 use Rattle.server_core.specs.Framing.{answer_to, state_with, frames_after, messages_of}
-use Rattle.server_core.specs.Laws.{FramesAreAnswered, OtherBytesAreMalformed, FramesActAsTheirMessages}
+use Rattle.server_core.specs.Laws.{state_after_all, FramesAreAnswered, OtherBytesAreMalformed, FramesActAsTheirMessages}
 
 not_for_server : (s : Served) → IsValid (Malformed 7 0)
 not_for_server s = record { client_fits = refl; number_fits = refl; number_small = omega arith; body_fits = (omega arith, refl, omega arith, refl) }
@@ -38,11 +38,11 @@ others_are_malformed bytes s are_bytes none = by (frame_of bytes) refl
     by (Ok m) e = absurd (none m (frame_found bytes m are_bytes e))
     by (Err refusal) e = (refusal, e, λ i. frame (answer_to (e i) s), λ i. state_with (e i) s)
 
-pub frames_replay : FramesActAsTheirMessages
-frames_replay [] s = refl
-frames_replay (bytes ∷ frames) s = by (frame_of bytes) (frames_replay frames)
+pub frames_act : FramesActAsTheirMessages
+frames_act [] s = refl
+frames_act (bytes ∷ frames) s = by (frame_of bytes) (frames_act frames)
   where
-    by : (read : Result Message FrameError) → ((t : Served) → frames_after frames t ≡ replay (messages_of frames) t)
-        → frames_after frames (state_with read s) ≡ replay (cons_option (result_ok read) (messages_of frames)) s
+    by : (read : Result Message FrameError) → ((t : Served) → frames_after frames t ≡ state_after_all (messages_of frames) t)
+        → frames_after frames (state_with read s) ≡ state_after_all (cons_option (result_ok read) (messages_of frames)) s
     by (Ok message) rest = rest (state_after message s)
     by (Err refusal) rest = rest s

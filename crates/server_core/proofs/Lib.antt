@@ -3,3 +3,4 @@ pub mod Cases
 pub mod Many
 pub mod Frames
 pub mod Noting
+pub mod Records

@@ -1,5 +1,5 @@
 -- Stores that come in any order and any number of times.
-use Rattle.std.proofs.Common.{◌≡◌, ◌⊎◌, inl, inr, ℕ, ◌+◌, Bool, true, false, cond, List, [], ◌∷◌, ◌++◌, length, map, filter, Option, Some, None, Result, Ok, Err, refl, sym, ap, ◌∙◌, subst, arith, eqb-true}
+use Rattle.std.proofs.Common.{◌≡◌, ◌⊎◌, inl, inr, ℕ, ◌+◌, Bool, true, false, cond, List, [], ◌∷◌, ◌++◌, length, map, Option, Some, None, Result, Ok, Err, refl, sym, ap, ◌∙◌, subst, arith, eqb-true}
 use Rattle.std.specs.Prelude.{◌==◌, nat_lt, nat_le, count_by, if◌then◌else◌}
 use Rattle.std.specs.List.{flat_map, range_with_len, sum_by}
 use Rattle.std.proofs.lemmas.Bool.Decides.{nat_tests}
@@ -16,11 +16,12 @@ use Rattle.tree_values.specs.declared.node.TreeError.{TreeError}
 use Rattle.tree_values.specs.Tree.{Volume, version_at, node_at, touched, touched_paths, changed}
 use Rattle.tree_values.specs.Effects.{apply_all, changed_all, touched_all, Conflict, first_conflict}
 use Rattle.vol_tree.proofs.Behind.{version-touched, applied-changes}
-use Rattle.wire_frames.specs.Frame.{client_of, number_of}
 use Rattle.wire_frames.specs.declared.message.Message.{Message}
 use Rattle.wire_frames.specs.declared.message.Message.TheVariants.{Store}
-use Rattle.world_rules.specs.Served.{Served, judged, served_after, state_after, taken_if, taken_of, replay, with_last}
-use Rattle.server_core.specs.Laws.{taken_among, effects_of, numbers_of, touches}
+use Rattle.world_rules.specs.Served.{Served, TakenEntry, entry_stored, judged, served_after, state_after, taken_if, taken_of, replay, with_last}
+use Rattle.world_rules.specs.Run.{own}
+use Rattle.world_rules.proofs.Replay.{replay-append, replay-taken}
+use Rattle.server_core.specs.Laws.{state_after_all, taken_among, numbers_of, touches, TakenEntriesTellTheState}
 
 -- ---- what becomes of one message
 
@@ -39,7 +40,7 @@ pub record IsTaken (message : Message) (s : Served) : Type 0 where
   pub is : message ≡ Store client number effects base
   pub next : number ≡ s.last client + 1
   pub applies : apply_all 0 effects s.volume ≡ Ok new
-  pub taken : taken_of message s ≡ message ∷ []
+  pub taken : taken_of message s ≡ entry_stored client number effects base ∷ []
   pub holds : state_after message s ≡ record { volume = new; last = with_last s.last client number }
 
 next_number : (n last : ℕ) → nat_le n last ≡ false → nat_lt (last + 1) n ≡ false → n ≡ last + 1
@@ -52,19 +53,19 @@ idle_or_taken (Store client number effects base) s =
     by : (r : Bool) → nat_le number (s.last client) ≡ r → (b : Bool) → nat_lt (s.last client + 1) number ≡ b → (c : Option Conflict) → first_conflict base s.volume ≡ c
         → (a : Result Volume (ℕ × TreeError)) → apply_all 0 effects s.volume ≡ a → IsIdle (Store client number effects base) s ⊎ IsTaken (Store client number effects base) s
     by true is_r b is_b c is_c a is_a = inl (record {
-      nothing = λ i. taken_if (judged (is_r i) (is_b i) (is_c i) (is_a i)) (Store client number effects base);
+      nothing = λ i. taken_if (judged (is_r i) (is_b i) (is_c i) (is_a i)) (entry_stored client number effects base);
       same = λ i. served_after client number (judged (is_r i) (is_b i) (is_c i) (is_a i)) s;
     })
     by false is_r true is_b c is_c a is_a = inl (record {
-      nothing = λ i. taken_if (judged (is_r i) (is_b i) (is_c i) (is_a i)) (Store client number effects base);
+      nothing = λ i. taken_if (judged (is_r i) (is_b i) (is_c i) (is_a i)) (entry_stored client number effects base);
       same = λ i. served_after client number (judged (is_r i) (is_b i) (is_c i) (is_a i)) s;
     })
     by false is_r false is_b (Some c) is_c a is_a = inl (record {
-      nothing = λ i. taken_if (judged (is_r i) (is_b i) (is_c i) (is_a i)) (Store client number effects base);
+      nothing = λ i. taken_if (judged (is_r i) (is_b i) (is_c i) (is_a i)) (entry_stored client number effects base);
       same = λ i. served_after client number (judged (is_r i) (is_b i) (is_c i) (is_a i)) s;
     })
     by false is_r false is_b None is_c (Err cause) is_a = inl (record {
-      nothing = λ i. taken_if (judged (is_r i) (is_b i) (is_c i) (is_a i)) (Store client number effects base);
+      nothing = λ i. taken_if (judged (is_r i) (is_b i) (is_c i) (is_a i)) (entry_stored client number effects base);
       same = λ i. served_after client number (judged (is_r i) (is_b i) (is_c i) (is_a i)) s;
     })
     by false is_r false is_b None is_c (Ok volume) is_a = inr (record {
@@ -76,7 +77,7 @@ idle_or_taken (Store client number effects base) s =
       is = refl;
       next = next_number _ _ is_r is_b;
       applies = is_a;
-      taken = λ i. taken_if (judged (is_r i) (is_b i) (is_c i) (is_a i)) (Store client number effects base);
+      taken = λ i. taken_if (judged (is_r i) (is_b i) (is_c i) (is_a i)) (entry_stored client number effects base);
       holds = λ i. served_after client number (judged (is_r i) (is_b i) (is_c i) (is_a i)) s;
     })
 idle_or_taken _ s = inl (record { nothing = refl; same = refl })
@@ -99,44 +100,43 @@ GoOn first last numbers = (numbers ≡ range_with_len (first + 1) (length number
 go_on : (first last : ℕ) (numbers : List ℕ) → GoOn (first + 1) last numbers → GoOn first last ((first + 1) ∷ numbers)
 go_on first last numbers rest = (ap (λ ns. (first + 1) ∷ ns) rest.0, omega (arith, rest.1))
 
--- what is to be shown of the messages from here on, the first of which gives these stores and this state
-abbrev OfTheRest : ℕ → Served → List Message → List Message → Served → Type 0
-OfTheRest client s messages front after = GoOn (s.last client) ((replay messages after).last client) (numbers_of client (front ++ taken_among messages after))
+-- what is to be shown of the messages from here on, the first of which gives these entries and this state
+abbrev OfTheRest : ℕ → Served → List Message → List TakenEntry → Served → Type 0
+OfTheRest client s messages front after = GoOn (s.last client) ((state_after_all messages after).last client) (numbers_of client (front ++ taken_among messages after))
 
-counts_its_own : (store : Message) (number client : ℕ) (s : Served) (messages : List Message) (after : Served) → number_of store ≡ number → number ≡ s.last client + 1 → after.last client ≡ number
-    → OfTheRest client after messages [] after → GoOn (s.last client) ((replay messages after).last client) (number_of store ∷ numbers_of client (taken_among messages after))
-counts_its_own store number client s messages after is next last rest =
-    let here : number_of store ≡ s.last client + 1 = is ∙ next in
+counts_its_own : (number client : ℕ) (s : Served) (messages : List Message) (after : Served) → number ≡ s.last client + 1 → after.last client ≡ number
+    → OfTheRest client after messages [] after → GoOn (s.last client) ((state_after_all messages after).last client) (number ∷ numbers_of client (taken_among messages after))
+counts_its_own number client s messages after next last rest =
     let there : after.last client ≡ s.last client + 1 = last ∙ next in
-    let P : ℕ → Type 0 = λ n. GoOn (s.last client) ((replay messages after).last client) (n ∷ numbers_of client (taken_among messages after)) in
-    let Q : ℕ → Type 0 = λ n. GoOn n ((replay messages after).last client) (numbers_of client (taken_among messages after)) in
-    subst P (sym here) (go_on _ _ _ (subst Q there rest))
+    let P : ℕ → Type 0 = λ n. GoOn (s.last client) ((state_after_all messages after).last client) (n ∷ numbers_of client (taken_among messages after)) in
+    let Q : ℕ → Type 0 = λ n. GoOn n ((state_after_all messages after).last client) (numbers_of client (taken_among messages after)) in
+    subst P (sym next) (go_on _ _ _ (subst Q there rest))
 
 takes_one : (owner number : ℕ) (effects : List Effect) (base : List Base) (new : Volume) (client : ℕ) (s : Served) (messages : List Message) → number ≡ s.last owner + 1
     → ((after : Served) → OfTheRest client after messages [] after)
-    → OfTheRest client s messages (Store owner number effects base ∷ []) (record { volume = new; last = with_last s.last owner number })
+    → OfTheRest client s messages (entry_stored owner number effects base ∷ []) (record { volume = new; last = with_last s.last owner number })
 takes_one owner number effects base new client s messages next rest = by (owner == client) refl
   where
     by : (b : Bool) → (owner == client) ≡ b
-        → GoOn (s.last client) ((replay messages (record { volume = new; last = with_last s.last owner number })).last client)
-        (map number_of
-        (cond b (Store owner number effects base ∷ filter (λ message. client_of message == client) (taken_among messages (record { volume = new; last = with_last s.last owner number })))
-        (filter (λ message. client_of message == client) (taken_among messages (record { volume = new; last = with_last s.last owner number })))))
+        → GoOn (s.last client) ((state_after_all messages (record { volume = new; last = with_last s.last owner number })).last client)
+        (map (λ (entry : TakenEntry). entry.number)
+        (cond b (entry_stored owner number effects base ∷ own client (taken_among messages (record { volume = new; last = with_last s.last owner number })))
+        (own client (taken_among messages (record { volume = new; last = with_last s.last owner number })))))
     by true e =
         let same : owner ≡ client = eqb-true owner client e in
         let last : with_last s.last owner number client ≡ number = subst (λ c. with_last s.last owner number c ≡ number) same (raised s.last owner number) in
-        counts_its_own (Store owner number effects base) number client s messages (record { volume = new; last = with_last s.last owner number }) refl (next ∙ ap (λ c. s.last c + 1) same) last (rest _)
+        counts_its_own number client s messages (record { volume = new; last = with_last s.last owner number }) (next ∙ ap (λ c. s.last c + 1) same) last (rest _)
     by false e =
-        let Q : ℕ → Type 0 = λ n. GoOn n ((replay messages (record { volume = new; last = with_last s.last owner number })).last client) (numbers_of client (taken_among messages (record { volume = new; last = with_last s.last owner number }))) in
+        let Q : ℕ → Type 0 = λ n. GoOn n ((state_after_all messages (record { volume = new; last = with_last s.last owner number })).last client) (numbers_of client (taken_among messages (record { volume = new; last = with_last s.last owner number }))) in
         subst Q (others_keep s.last owner number client e) (rest _)
 
-along : (client : ℕ) (s : Served) (message : Message) (messages : List Message) (front : List Message) (after : Served) → taken_of message s ≡ front → state_after message s ≡ after
+along : (client : ℕ) (s : Served) (message : Message) (messages : List Message) (front : List TakenEntry) (after : Served) → taken_of message s ≡ front → state_after message s ≡ after
     → OfTheRest client s messages front after → OfTheRest client s messages (taken_of message s) (state_after message s)
 along client s message messages front after is_front is_after goal =
     subst (λ ts. OfTheRest client s messages ts (state_after message s)) (sym is_front) (subst (λ t. OfTheRest client s messages front t) (sym is_after) goal)
 
--- the numbers of a client's stores that are taken go on from its last one
-pub stores_in_order : (messages : List Message) (s : Served) (client : ℕ) → GoOn (s.last client) ((replay messages s).last client) (numbers_of client (taken_among messages s))
+-- the numbers of what is taken of a client go on from its last one
+pub stores_in_order : (messages : List Message) (s : Served) (client : ℕ) → GoOn (s.last client) ((state_after_all messages s).last client) (numbers_of client (taken_among messages s))
 stores_in_order [] s client = (refl, omega arith)
 stores_in_order (message ∷ messages) s client = step message s (idle_or_taken message s) (λ t. stores_in_order messages t client)
   where
@@ -144,8 +144,8 @@ stores_in_order (message ∷ messages) s client = step message s (idle_or_taken 
         → OfTheRest client s messages (taken_of message s) (state_after message s)
     step message s (inl is) rest = along client s message messages [] s is.nothing is.same (rest s)
     step message s (inr is) rest =
-        along client s message messages (Store is.client is.number is.effects is.base ∷ []) (record { volume = is.new; last = with_last s.last is.client is.number })
-        (is.taken ∙ ap (λ m. m ∷ []) is.is) is.holds (takes_one is.client is.number is.effects is.base is.new client s messages is.next rest)
+        along client s message messages (entry_stored is.client is.number is.effects is.base ∷ []) (record { volume = is.new; last = with_last s.last is.client is.number })
+        is.taken is.holds (takes_one is.client is.number is.effects is.base is.new client s messages is.next rest)
 
 -- ---- versions
 
@@ -184,33 +184,34 @@ version-changed_all (effect ∷ effects) volume path =
 touched_all-append : (xs ys : List Effect) → touched_all (xs ++ ys) ≡ touched_all xs ++ touched_all ys
 touched_all-append xs ys = flat_map-append touched_paths xs ys
 
-touches-cons : (path : FilePath) (message : Message) (messages : List Message) → touches path (message ∷ messages) ≡ counted path (touched_all (effects_of message)) + touches path messages
-touches-cons path message messages =
-    ap (λ es. counted path (touched_all es)) (flat_map-cons effects_of message messages)
-    ∙ ap (counted path) (touched_all-append (effects_of message) (flat_map effects_of messages))
-    ∙ counted-append path (touched_all (effects_of message)) (touched_all (flat_map effects_of messages))
+touches-cons : (path : FilePath) (entry : TakenEntry) (taken : List TakenEntry) → touches path (entry ∷ taken) ≡ counted path (touched_all entry.effects) + touches path taken
+touches-cons path entry taken =
+    let effects : TakenEntry → List Effect = λ one. one.effects in
+    ap (λ es. counted path (touched_all es)) (flat_map-cons effects entry taken)
+    ∙ ap (counted path) (touched_all-append entry.effects (flat_map effects taken))
+    ∙ counted-append path (touched_all entry.effects) (touched_all (flat_map effects taken))
 
--- the version grows by the touches of these stores and those taken from here on
-abbrev Grows : FilePath → Served → List Message → List Message → Served → Type 0
-Grows path s messages front after = version_at (replay messages after).volume path ≡ version_at s.volume path + touches path (front ++ taken_among messages after)
+-- the version grows by the touches of these entries and those taken from here on
+abbrev Grows : FilePath → Served → List Message → List TakenEntry → Served → Type 0
+Grows path s messages front after = version_at (state_after_all messages after).volume path ≡ version_at s.volume path + touches path (front ++ taken_among messages after)
 
-grows_along : (path : FilePath) (s : Served) (message : Message) (messages : List Message) (front : List Message) (after : Served) → taken_of message s ≡ front → state_after message s ≡ after
+grows_along : (path : FilePath) (s : Served) (message : Message) (messages : List Message) (front : List TakenEntry) (after : Served) → taken_of message s ≡ front → state_after message s ≡ after
     → Grows path s messages front after → Grows path s messages (taken_of message s) (state_after message s)
 grows_along path s message messages front after is_front is_after goal =
     subst (λ ts. Grows path s messages ts (state_after message s)) (sym is_front) (subst (λ t. Grows path s messages front t) (sym is_after) goal)
 
 grows_by_one : (owner number : ℕ) (effects : List Effect) (base : List Base) (new : Volume) (path : FilePath) (s : Served) (messages : List Message) → apply_all 0 effects s.volume ≡ Ok new
     → ((after : Served) → Grows path after messages [] after)
-    → Grows path s messages (Store owner number effects base ∷ []) (record { volume = new; last = with_last s.last owner number })
+    → Grows path s messages (entry_stored owner number effects base ∷ []) (record { volume = new; last = with_last s.last owner number })
 grows_by_one owner number effects base new path s messages applies rest =
     let after : Served = record { volume = new; last = with_last s.last owner number } in
     let is = applied-changes effects 0 s.volume new applies in
     let here : version_at new path ≡ version_at s.volume path + counted path (touched_all effects) = ap (λ v. version_at v path) is ∙ version-changed_all effects s.volume path in
     let there = rest after in
-    let split = touches-cons path (Store owner number effects base) (taken_among messages after) in
+    let split = touches-cons path (entry_stored owner number effects base) (taken_among messages after) in
     omega (arith, here, there, split)
 
--- a path's version grows by the touches of the stores that are taken
+-- a path's version grows by the touches of the entries that are taken
 pub versions_grow : (messages : List Message) (s : Served) (path : FilePath) → Grows path s messages [] s
 versions_grow [] s path = omega arith
 versions_grow (message ∷ messages) s path = step message s (idle_or_taken message s) (λ t. versions_grow messages t path)
@@ -219,5 +220,14 @@ versions_grow (message ∷ messages) s path = step message s (idle_or_taken mess
         → Grows path s messages (taken_of message s) (state_after message s)
     step message s (inl is) rest = grows_along path s message messages [] s is.nothing is.same (rest s)
     step message s (inr is) rest =
-        grows_along path s message messages (Store is.client is.number is.effects is.base ∷ []) (record { volume = is.new; last = with_last s.last is.client is.number })
-        (is.taken ∙ ap (λ m. m ∷ []) is.is) is.holds (grows_by_one is.client is.number is.effects is.base is.new path s messages is.applies rest)
+        grows_along path s message messages (entry_stored is.client is.number is.effects is.base ∷ []) (record { volume = is.new; last = with_last s.last is.client is.number })
+        is.taken is.holds (grows_by_one is.client is.number is.effects is.base is.new path s messages is.applies rest)
+
+-- ---- the entries that are taken tell the state
+
+pub taken_tell : TakenEntriesTellTheState
+taken_tell [] s = refl
+taken_tell (message ∷ messages) s =
+    taken_tell messages (state_after message s)
+    ∙ ap (λ (t : Served). replay (taken_among messages (state_after message s)) t) (sym (replay-taken message s))
+    ∙ sym (replay-append (taken_of message s) (taken_among messages (state_after message s)) s)

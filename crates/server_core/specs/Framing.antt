@@ -8,7 +8,7 @@ use Rattle.wire_frames.specs.declared.message.FrameError.{FrameError}
 use Rattle.wire_frames.specs.Frame.{frame}
 use Rattle.wire_frames.specs.Malformed.{refusal_code, refusal_offset}
 use Rattle.wire_frames.specs.Reading.{frame_of}
-use Rattle.world_rules.specs.Served.{Served, answer, state_after, taken_of}
+use Rattle.world_rules.specs.Served.{Served, TakenEntry, answer, state_after, taken_of}
 
 -- what is answered to bytes that were read, or refused
 abbrev pub answer_to : Result Message FrameError → Served → Message
@@ -28,10 +28,10 @@ frame_answer bytes served = frame (answer_to (frame_of bytes) served)
 abbrev pub frame_after : List ℕ → Served → Served
 frame_after bytes served = state_with (frame_of bytes) served
 
--- whether any store is among those that were taken
-abbrev pub is_any : List Message → Bool
+-- whether anything was taken
+abbrev pub is_any : List TakenEntry → Bool
 is_any [] = false
-is_any (message ∷ messages) = true
+is_any (entry ∷ entries) = true
 
 -- whether what was read is a store that is taken
 abbrev pub takes_read : Result Message FrameError → Served → Bool

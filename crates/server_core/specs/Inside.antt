@@ -1,5 +1,5 @@
 -- Words that only the contracts of private functions cite.
-use Rattle.std.specs.Prelude.{◌≡◌, ℕ, List, not, ◌==◌, Bool, Result, Ok, Err}
+use Rattle.std.specs.Prelude.{◌≡◌, ℕ, List, not, ◌==◌, Bool, Option, Some, None, Result, Ok, Err}
 use Rattle.tree_values.specs.declared.node.Base.{Base}
 use Rattle.tree_values.specs.Tree.{Volume, version_at}
 use Rattle.tree_values.specs.Effects.{apply_all, Conflict}
@@ -8,6 +8,7 @@ use Rattle.tree_values.specs.declared.node.TreeError.{TreeError}
 use Rattle.wire_frames.specs.declared.message.Message.{Message}
 use Rattle.wire_frames.specs.declared.message.Message.TheVariants.{Accepted, Store}
 use Rattle.wire_frames.specs.Frame.{frame}
+use Rattle.store_image.specs.declared.record.ServerRecord.{ServerRecord}
 use Rattle.world_rules.specs.Served.{Served, refusal, with_last}
 
 -- whether the path has another version in the volume
@@ -36,3 +37,8 @@ last_of _ served = 0
 abbrev pub IsAcceptanceOf : Message → List ℕ → Type 0
 IsAcceptanceOf (Store client number effects base) bytes = bytes ≡ frame (Accepted client number)
 IsAcceptanceOf _ bytes = Unit {0}
+
+-- the record of a store: its client, its number and its effects; none of any other message
+abbrev pub record_of : Message → Option ServerRecord
+record_of (Store client number effects base) = Some (record { client = client; last = number; effects = effects })
+record_of _ = None

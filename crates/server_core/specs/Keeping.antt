@@ -1,8 +1,13 @@
--- What images keep of a server.
-use Rattle.std.specs.Prelude.{◌≡◌, ℕ, List, Option, Some, None}
+-- What images and records keep of a server.
+use Rattle.std.specs.Prelude.{◌≡◌, ℕ, ◌≤◌, ◌<◌, ◌^◌, List, ◌++◌, length, take, Option, Some, None, Ok}
+use Rattle.tree_values.specs.Effects.{apply_all}
+use Rattle.tree_values.specs.Spelling.{EffectsFit}
+use Rattle.wire_frames.specs.Limits.{max_client}
 use Rattle.store_image.specs.declared.image.ServerImage.{ServerImage}
-use Rattle.store_image.specs.Image.{IsKeptForServer}
-use Rattle.world_rules.specs.Served.{Served, new_served}
+use Rattle.store_image.specs.declared.record.ServerRecord.{ServerRecord}
+use Rattle.store_image.specs.Records.{server_record}
+use Rattle.store_image.specs.Image.{IsKeptForServer, IsKeptWholeForServer}
+use Rattle.world_rules.specs.Served.{Served, new_served, with_last}
 use Rattle.server_core.specs.Holding.{Holding, served}
 
 -- the image of what a server holds
@@ -13,10 +18,16 @@ server_image holding = record { last = holding.last; tree = holding.rows }
 abbrev pub holding_of : ServerImage → Holding
 holding_of image = record { rows = image.tree; last = image.last }
 
--- the bytes are kept for a server that serves so: they spell its image
+-- the bytes are kept for a server that serves so: an image and records behind it, of which the last may be torn
 pub record IsKeptForServed (state : Served) (bytes : List ℕ) : Type 0 where
   pub image : ServerImage
   pub kept : IsKeptForServer image bytes
+  pub serves : served (holding_of image) ≡ state
+
+-- the same, and no record is torn
+pub record IsKeptWholeForServed (state : Served) (bytes : List ℕ) : Type 0 where
+  pub image : ServerImage
+  pub kept : IsKeptWholeForServer image bytes
   pub serves : served (holding_of image) ≡ state
 
 -- what is kept under a name is kept for a server that serves so; nothing is kept for a new server
@@ -27,3 +38,33 @@ KeepsServed (Some bytes) state = IsKeptForServed state bytes
 -- what is kept is kept for one served state
 abbrev pub OneStateIsKept : Type 0
 OneStateIsKept = (kept : Option (List ℕ)) (state other : Served) → KeepsServed kept state → KeepsServed kept other → state ≡ other
+
+-- the record leads from one served state to the other: its number is above the client's last one and becomes it, and its
+-- effects are applied
+pub record Leads (note : ServerRecord) (before after : Served) : Type 0 where
+  pub some : 1 ≤ note.client
+  pub few : note.client ≤ max_client
+  pub higher : before.last note.client < note.last
+  pub small : note.last < 2 ^ 64
+  pub effects : EffectsFit note.effects
+  pub applies : apply_all 0 note.effects before.volume ≡ Ok after.volume
+  pub numbered : after.last ≡ with_last before.last note.client note.last
+
+-- what was noted leads from one served state to the other: without a record there is no change
+abbrev pub NoteLeads : Option ServerRecord → Served → Served → Type 0
+NoteLeads None before after = after ≡ before
+NoteLeads (Some note) before after = Leads note before after
+
+-- what is kept whole is kept
+abbrev pub WholeIsKept : Type 0
+WholeIsKept = (state : Served) (bytes : List ℕ) → IsKeptWholeForServed state bytes → IsKeptForServed state bytes
+
+-- with a record behind it, what is kept whole for the state before the record is kept whole for the state after it
+abbrev pub RecordsLeadOn : Type 0
+RecordsLeadOn = (before after : Served) (note : ServerRecord) (bytes : List ℕ) → IsKeptWholeForServed before bytes → Leads note before after
+    → IsKeptWholeForServed after (bytes ++ server_record note)
+
+-- with a front of the record behind it, it is still kept for the state before the record
+abbrev pub TornRecordsAreDropped : Type 0
+TornRecordsAreDropped = (before after : Served) (note : ServerRecord) (bytes : List ℕ) (count : ℕ) → IsKeptWholeForServed before bytes → Leads note before after
+    → count < length (server_record note) → IsKeptForServed before (bytes ++ take count (server_record note))

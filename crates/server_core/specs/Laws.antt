@@ -1,6 +1,6 @@
 -- What a server answers to a store, case by case, and what becomes of stores that come in any order and any number of times.
-use Rattle.std.specs.Prelude.{◌≡◌, ℕ, ◌+◌, ◌<◌, ◌≤◌, ◌==◌, true, false, Ok, Err, List, [], ◌∷◌, ◌++◌, length, map}
-use Rattle.std.specs.Prelude.{filter, count_by}
+use Rattle.std.specs.Prelude.{◌≡◌, ℕ, ◌+◌, ◌<◌, ◌≤◌, true, false, Ok, Err, List, [], ◌∷◌, ◌++◌, length, map}
+use Rattle.std.specs.Prelude.{count_by}
 use Rattle.std.specs.List.{AllByRecursion, flat_map, range_with_len}
 use Rattle.file_paths.specs.Path.{FilePath, is_same_path}
 use Rattle.tree_values.specs.declared.node.Base.{Base}
@@ -8,7 +8,6 @@ use Rattle.tree_values.specs.declared.node.Effect.{Effect}
 use Rattle.tree_values.specs.declared.node.TreeError.{TreeError}
 use Rattle.tree_values.specs.Tree.{Volume, version_at, apply}
 use Rattle.tree_values.specs.Effects.{apply_all, touched_all}
-use Rattle.wire_frames.specs.Frame.{client_of, number_of}
 use Rattle.wire_frames.specs.declared.message.Message.{Message}
 use Rattle.wire_frames.specs.declared.message.Message.TheVariants.{Store, Pull, Accepted, Stale, Unfit, Gap, Snapshot, Full, Malformed}
 use Rattle.wire_frames.specs.declared.message.FrameError.{FrameError}
@@ -18,7 +17,8 @@ use Rattle.wire_frames.specs.Reading.{frame_of}
 use Rattle.byte_fields.specs.Codec.{IsBytes}
 use Rattle.world_rules.specs.World.{IsForServer}
 use Rattle.server_core.specs.Framing.{frame_answer, frame_after, frames_after, takes, messages_of}
-use Rattle.world_rules.specs.Served.{Served, answer, state_after, taken_of, replay, with_last, is_want_of_room}
+use Rattle.world_rules.specs.Served.{Served, TakenEntry, answer, state_after, taken_of, replay, with_last, is_want_of_room}
+use Rattle.world_rules.specs.Run.{own}
 
 -- ---- one store
 
@@ -87,35 +87,39 @@ OthersAreMalformed = (message : Message) (served : Served) → (IsForServer mess
 
 -- ---- many messages, in any order and any number of times
 
--- the stores that are taken of these messages, in order
-abbrev pub taken_among : List Message → Served → List Message
+-- the served state after these messages, one after the other
+abbrev pub state_after_all : List Message → Served → Served
+state_after_all [] served = served
+state_after_all (message ∷ messages) served = state_after_all messages (state_after message served)
+
+-- the entries that are taken of these messages, in order
+abbrev pub taken_among : List Message → Served → List TakenEntry
 taken_among [] served = []
 taken_among (message ∷ messages) served = taken_of message served ++ taken_among messages (state_after message served)
 
--- the effects of a store
-abbrev pub effects_of : Message → List Effect
-effects_of (Store client number effects base) = effects
-effects_of _ = []
+-- the numbers of a client's taken entries, in order
+abbrev pub numbers_of : ℕ → List TakenEntry → List ℕ
+numbers_of client taken = map (λ entry. entry.number) (own client taken)
 
--- the numbers of a client's messages, in order
-abbrev pub numbers_of : ℕ → List Message → List ℕ
-numbers_of client messages = map number_of (filter (λ message. client_of message == client) messages)
+-- how often the effects of taken entries touch a path
+abbrev pub touches : FilePath → List TakenEntry → ℕ
+touches path taken = count_by (λ touched. is_same_path path touched) (touched_all (flat_map (λ entry. entry.effects) taken))
 
--- how often the effects of the messages touch a path
-abbrev pub touches : FilePath → List Message → ℕ
-touches path messages = count_by (λ touched. is_same_path path touched) (touched_all (flat_map effects_of messages))
-
--- the stores taken of a client are numbered on from its last one, without a gap and each once
+-- the entries taken of a client are numbered on from its last one, without a gap and each once
 abbrev pub StoresAreTakenInOrder : Type 0
 StoresAreTakenInOrder = (messages : List Message) (served : Served) (client : ℕ)
     → let numbers = numbers_of client (taken_among messages served) in
     (numbers ≡ range_with_len (served.last client + 1) (length numbers))
-    × ((replay messages served).last client ≡ served.last client + length numbers)
+    × ((state_after_all messages served).last client ≡ served.last client + length numbers)
 
--- a path's version grows by the touches of the stores that are taken, and by nothing else
+-- a path's version grows by the touches of the entries that are taken, and by nothing else
 abbrev pub VersionsCountTouches : Type 0
 VersionsCountTouches = (messages : List Message) (served : Served) (path : FilePath)
-    → version_at (replay messages served).volume path ≡ version_at served.volume path + touches path (taken_among messages served)
+    → version_at (state_after_all messages served).volume path ≡ version_at served.volume path + touches path (taken_among messages served)
+
+-- messages do what the entries that are taken of them do
+abbrev pub TakenEntriesTellTheState : Type 0
+TakenEntriesTellTheState = (messages : List Message) (served : Served) → state_after_all messages served ≡ replay (taken_among messages served) served
 
 -- ---- frames
 
@@ -139,4 +143,4 @@ TakenFramesChangeTheState = (bytes : List ℕ) (served : Served)
 -- frames do what their messages do; bytes that are refused change nothing
 abbrev pub FramesActAsTheirMessages : Type 0
 FramesActAsTheirMessages = (frames : List (List ℕ)) (served : Served)
-    → frames_after frames served ≡ replay (messages_of frames) served
+    → frames_after frames served ≡ state_after_all (messages_of frames) served

@@ -2,9 +2,9 @@
 ghost use Rattle.server_core.specs.Laws.{RepeatsChangeNothing, GapsChangeNothing, StaleStoresChangeNothing};
 ghost use Rattle.server_core.specs.Laws.{FullStoresChangeNothing, UnfitStoresChangeNothing, OtherStoresAreTaken};
 ghost use Rattle.server_core.specs.Laws.{PullsTellTheRows, OthersAreMalformed, StoresAreTakenInOrder, VersionsCountTouches};
-ghost use Rattle.server_core.specs.Laws.{FramesActAsTheirMessages, FramesAreAnswered, OtherBytesAreMalformed};
+ghost use Rattle.server_core.specs.Laws.{TakenEntriesTellTheState, FramesActAsTheirMessages, FramesAreAnswered, OtherBytesAreMalformed};
 ghost use Rattle.server_core.specs.Laws.{TakenFramesChangeTheState};
-ghost use Rattle.server_core.specs.Keeping.{OneStateIsKept};
+ghost use Rattle.server_core.specs.Keeping.{OneStateIsKept, RecordsLeadOn, TornRecordsAreDropped, WholeIsKept};
 
 /// States the answer to a message and what is held then, case by case.
 pub fn messages_are_answered()
@@ -18,12 +18,14 @@ pub fn messages_are_answered()
     ensures others { OthersAreMalformed }
 {}
 
-/// States what becomes of messages that come in any order and any number of times: the stores of
+/// States what becomes of messages that come in any order and any number of times: the entries of
 /// each client are taken in the order of their numbers, each once, and a path's version counts how
-/// often their effects touch it. Frames do what their messages do.
+/// often their effects touch it. What is served follows from the taken entries. Frames do what their
+/// messages do.
 pub fn stores_are_taken_once()
     ensures order { StoresAreTakenInOrder }
     ensures versions { VersionsCountTouches }
+    ensures replayed { TakenEntriesTellTheState }
     ensures frames { FramesActAsTheirMessages }
 {}
 
@@ -37,4 +39,11 @@ pub fn frames_are_answered()
 /// States that what is kept is kept for one served state.
 pub fn one_state_is_kept()
     ensures { OneStateIsKept }
+{}
+
+/// States that a record behind what is kept whole leads to the next state, and that a torn one changes nothing.
+pub fn records_lead_on()
+    ensures whole { WholeIsKept }
+    ensures records { RecordsLeadOn }
+    ensures torn { TornRecordsAreDropped }
 {}

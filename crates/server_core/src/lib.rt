@@ -5,6 +5,7 @@ mod laws;
 mod server;
 
 pub use laws::{
-    frames_are_answered, messages_are_answered, one_state_is_kept, stores_are_taken_once,
+    frames_are_answered, messages_are_answered, one_state_is_kept, records_lead_on,
+    stores_are_taken_once,
 };
 pub use server::Server;

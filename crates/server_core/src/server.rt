@@ -1,5 +1,5 @@
 // What a server holds, and how it answers.
-ghost use Rattle.std.specs.Prelude.{◌≡◌, ◌≢◌, ◌≤◌, ◌<◌, ◌+◌, ◌-◌, ◌^◌, false, find, option_map, replicate};
+ghost use Rattle.std.specs.Prelude.{◌≡◌, ◌≢◌, ◌≤◌, ◌<◌, ◌+◌, ◌-◌, ◌^◌, false, find, length, option_map, replicate, is_some};
 ghost use Rattle.std.specs.Prelude.{Some, None, Ok, Err, IfOk, OnOk, OnErr};
 ghost use Rattle.std.specs.Option.{option_copied};
 ghost use Rattle.tree_values.specs.Effects.{first_conflict as conflict_in, apply_all as applied_all};
@@ -9,13 +9,14 @@ ghost use Rattle.wire_frames.specs.declared.message.TheConstants.{CLIENTS};
 ghost use Rattle.wire_frames.specs.Frame.{IsValid, frame};
 ghost use Rattle.world_rules.specs.Served.{IsServed, new_served, answer, state_after, taken_of, refusal as refusal_of, with_last};
 ghost use Rattle.server_core.specs.Holding.{Holding, served, is_acceptance};
-ghost use Rattle.server_core.specs.Keeping.{holding_of, IsKeptForServed};
+ghost use Rattle.server_core.specs.Keeping.{holding_of, IsKeptWholeForServed, NoteLeads};
 ghost use Rattle.server_core.specs.Framing.{frame_answer, frame_after, is_any, takes};
-ghost use Rattle.server_core.specs.Inside.{is_outdated, EndsNext, IsAcceptanceOf, last_of};
+ghost use Rattle.server_core.specs.Inside.{is_outdated, EndsNext, IsAcceptanceOf, last_of, record_of};
+ghost use Rattle.store_image.specs.declared.image.TheConstants.{MAX_SERVER_IMAGE};
 
 use std::alloc::{AllocError, Global};
 use std::marker::Model;
-use store_image::{ServerImage, write_server};
+use store_image::{ServerImage, ServerRecord, write_server};
 use vol_tree::{ApplyAllError, Base, Bases, Effects, Tree, TreeError, TryCopy, apply_all};
 use wire_frames::{FrameError, Message, malformed, read, write};
 
@@ -62,7 +63,8 @@ impl Server {
 
     /// The bytes of the image that keeps the server.
     pub fn image(&self) -> Result<Vec<u8>, AllocError>
-        ensures { IfOk result (λ bytes. IsKeptForServed (served self.now) bytes.items) }
+        ensures kept { IfOk result (λ bytes. IsKeptWholeForServed (served self.now) bytes.items) }
+        ensures small { IfOk result (λ bytes. length bytes.items ≤ MAX_SERVER_IMAGE) }
     {
         write_server(&self.last, &self.tree)
     }
@@ -135,23 +137,50 @@ impl Server {
         }
     }
 
-    /// The same, and whether the frame's store was taken, which alone changes what the server holds.
-    pub fn serve_noted(&mut self, bytes: &[u8]) -> Result<(Vec<u8>, bool), AllocError>
+    /// The same, and the record of the frame's store where it was taken, which alone changes what the server holds. The record
+    /// takes the effects over from the frame, so nothing is copied for it.
+    pub fn serve_noted(
+        &mut self,
+        bytes: &[u8],
+    ) -> Result<(Vec<u8>, Option<ServerRecord>), AllocError>
         ensures ok { IfOk result (λ noted. noted.0.items ≡ frame_answer bytes.now (served self.old)) }
-        ensures taken { IfOk result (λ noted. noted.1 ≡ takes bytes.now (served self.old)) }
+        ensures taken { IfOk result (λ noted. is_some noted.1 ≡ takes bytes.now (served self.old)) }
+        ensures leads { IfOk result (λ noted. NoteLeads noted.1 (served self.old) (served self.new)) }
         ensures state { OnOk result (served self.new ≡ frame_after bytes.now (served self.old)) }
         ensures err { OnErr result (self.new ≡ self.old) }
         ensures legal { IsServed (served self.new) }
     {
         let alloc = self.tree.allocator();
         match read(alloc, bytes) {
-            Ok(message) => {
-                let noted = self.noted(&message);
-                drop(message);
-                noted
-            }
+            Ok(message) => self.serve_recorded(message),
             Err(FrameError::Memory) => Err(AllocError),
-            Err(refusal) => Ok((in_frame(alloc, malformed(&refusal))?, false)),
+            Err(refusal) => Ok((in_frame(alloc, malformed(&refusal))?, None)),
+        }
+    }
+
+    /// Serves a message, writes the reply, and gives the record of the message's store where it was taken.
+    fn serve_recorded(
+        &mut self,
+        message: Message,
+    ) -> Result<(Vec<u8>, Option<ServerRecord>), AllocError>
+        requires valid { IsValid message }
+        ensures ok { IfOk result (λ noted. noted.0.items ≡ frame (answer message (served self.old))) }
+        ensures taken { IfOk result (λ noted. is_some noted.1 ≡ is_any (taken_of message (served self.old))) }
+        ensures leads { IfOk result (λ noted. NoteLeads noted.1 (served self.old) (served self.new)) }
+        ensures state { OnOk result (served self.new ≡ state_after message (served self.old)) }
+        ensures err { OnErr result (self.new ≡ self.old) }
+        ensures legal { IsServed (served self.new) }
+    {
+        match self.noted(&message) {
+            Ok((reply, true)) => Ok((reply, record_of(message))),
+            Ok((reply, false)) => {
+                drop(message);
+                Ok((reply, None))
+            }
+            Err(error) => {
+                drop(message);
+                Err(error)
+            }
         }
     }
 
@@ -333,6 +362,31 @@ fn acceptance(alloc: Global, message: &Message) -> Result<Vec<u8>, AllocError>
             in_frame(alloc, Message::Accepted { client, number })
         }
         _ => Ok(Vec::new(alloc)),
+    }
+}
+
+/// The record of a store; none of any other message.
+fn record_of(message: Message) -> Option<ServerRecord>
+    ensures { result ≡ record_of message }
+{
+    match message {
+        Message::Store {
+            client,
+            number,
+            effects,
+            base,
+        } => {
+            drop(base);
+            Some(ServerRecord {
+                client,
+                last: number,
+                effects,
+            })
+        }
+        other => {
+            drop(other);
+            None
+        }
     }
 }
 
