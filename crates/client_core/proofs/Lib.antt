@@ -2,6 +2,7 @@ pub mod Acknowledging
 pub mod Counting
 pub mod Firsts
 pub mod Going
+pub mod Journal
 pub mod Licensing
 pub mod Locals
 pub mod Olders

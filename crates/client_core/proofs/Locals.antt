@@ -1,5 +1,5 @@
 -- What logging a local effect makes of the client and the world.
-use Rattle.std.proofs.Common.{Bool, ◌≡◌, ◌≢◌, inl, inr, ℕ, List, [], ◌∷◌, Option, Some, None, Result, Ok, Err, IfOk, IfErr, OnOk, OnErr, refl, sym, subst}
+use Rattle.std.proofs.Common.{Bool, false, ◌≡◌, ◌≢◌, inl, inr, ℕ, List, [], ◌∷◌, Option, Some, None, Result, Ok, Err, IfOk, IfErr, OnOk, OnErr, refl, sym, subst}
 use Rattle.outside.specs.Keeper.{Images}
 use Rattle.cmd_capture.specs.Runs.{RunnerTelling}
 use Rattle.file_paths.specs.Refusals.{unless_refused}
@@ -12,9 +12,12 @@ use Rattle.mod_log.specs.Log.{Log, IsLog, logged}
 use Rattle.mod_log.specs.Append.{next_entry, appended, append_refusals}
 use Rattle.world_rules.specs.World.{World}
 use Rattle.client_core.specs.Logging.{local_entry, LocalEnds}
-use Rattle.client_core.specs.Keeping.{IsKept}
+use Rattle.client_core.specs.declared.keeping.Journal.{Journal}
+use Rattle.client_core.specs.Journal.{next_notes}
+use Rattle.client_core.specs.Keeping.{IsKept, IsReady, IsKeptReady}
 use Rattle.client_core.specs.Goes.{Goes}
 use Rattle.client_core.proofs.Going.{goes_none, goes_logged}
+use Rattle.client_core.proofs.Journal.{IsOneAtMost, ready_current, logged_ready, logged_one}
 
 unrefused : {T E : Type 0} (refusals : List (Option E)) (value new : T) → unless_refused refusals value ≡ Ok new → value ≡ new
 unrefused [] value new is = cc
@@ -53,3 +56,20 @@ module _ (name : List ℕ) (client : ℕ) (ships : Bool) (effect : Effect) (befo
   local_goes (Err Memory) ok seq err same is_log r t w =
       subst (λ (next : Log). Goes client ships name (LocalEnds effect before (Err Memory) next) before next before i i r r t t w w) (sym same)
       (goes_none name client ships (LocalEnds effect before (Err Memory) before) before i r t w keeps (inr (refl, refl, refl)))
+
+-- a client that might go on under a name still may
+pub local_ready : (effects : List Effect) (before after : Log) (result : Result ℕ LogError) → OnOk result (appended None effects before ≡ Ok after) → OnErr result (after ≡ before)
+    → (name : List ℕ) (number : ℕ) (journal : Option Journal) (i : Option Images) → IsReady i name (record { number = number; log = before; journal = journal })
+    → IsReady i name (record { number = number; log = after; journal = journal })
+local_ready effects before after (Ok seq) is same name number journal i ready =
+    subst (λ (l : Log). IsReady i name (record { number = number; log = l; journal = journal })) (appended-is None effects before after is) (logged_ready name number before (next_entry None effects before) journal i ready)
+local_ready effects before after (Err refusal) is same name number journal i ready =
+    subst (λ (l : Log). IsReady i name (record { number = number; log = l; journal = journal })) (sym same) ready
+
+-- and one that is kept has one note at most to add
+pub local_one : (effects : List Effect) (before after : Log) → appended None effects before ≡ Ok after → (name : List ℕ) (number : ℕ) (journal now : Option Journal) → now ≡ journal → (i : Option Images)
+    → IsKeptReady i name (record { number = number; log = before; journal = journal }) → IsOneAtMost i (next_notes now false after)
+local_one effects before after is name number journal now same i kept =
+    subst (λ (j : Option Journal). IsOneAtMost i (next_notes j false after)) (sym same)
+    (subst (λ (l : Log). IsOneAtMost i (next_notes journal false l)) (appended-is None effects before after is)
+    (logged_one name number before (next_entry None effects before) journal i (ready_current name number before journal i kept.0 kept.1)))

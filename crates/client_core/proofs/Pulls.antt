@@ -266,7 +266,7 @@ IsUnpulled (ends.Pulled count) = ⊥
 IsUnpulled end = Unit {0}
 
 module _ (before after : Log) where
-  leaves_same : (end : PullEnd) → IsUnpulled end → PullLeaves end before after → after ≡ before
+  pub leaves_same : (end : PullEnd) → IsUnpulled end → PullLeaves end before after → after ≡ before
   leaves_same (ends.Pulled count) other leaves = absurd other
   leaves_same (ends.OtherLast last acked) other leaves = leaves
   leaves_same (ends.Older path theirs ours) other leaves = leaves

@@ -28,12 +28,15 @@ use Rattle.world_rules.specs.World.{World}
 use Rattle.client_core.specs.declared.running.RunEnd.{RunEnd}
 use Rattle.client_core.specs.declared.running.RunEnd.TheVariants as ends
 use Rattle.client_core.specs.Trace.{Trace, nothing, followed, logging, running}
-use Rattle.client_core.specs.Keeping.{IsKept}
+use Rattle.client_core.specs.declared.keeping.Journal.{Journal}
+use Rattle.client_core.specs.Keeping.{IsKept, IsReady, IsKeptReady}
 use Rattle.client_core.specs.Running.{changes_of, first_clash, origin_of, run_entry, run_logged, IsLoggable, RanEnd, ran_trace, RunTurn, BreaksRun, RunEnds, has_logged, RunsCommand}
-use Rattle.client_core.specs.Inside.{ran, RanEnds, IsUnlogged, unrun_end, jobless_end, odd_end}
+use Rattle.client_core.specs.Journal.{next_notes}
+use Rattle.client_core.specs.Inside.{IsCurrent, ran, RanEnds, IsUnlogged, unrun_end, jobless_end, odd_end}
 use Rattle.client_core.specs.Goes.{Goes, telling}
 use Rattle.client_core.proofs.Going.{has_run_none, changed_so, goes_ran, goes_ran_logged}
 use Rattle.client_core.proofs.Counting.{unrisen}
+use Rattle.client_core.proofs.Journal.{IsOneAtMost, ready_current, logged_ready, same_one, logged_one}
 use Rattle.client_core.proofs.Locals.{appended-is}
 
 -- ---- what the runner tells
@@ -116,6 +119,56 @@ module _ (work : List ℕ) (command : Command) (before : Log) where
         turn = inr (broken.0, broken.1, inr (run, record { work_is = refl; job_is = is }, refl));
         has_run = record { told = told_runs old new (run ∷ []) told; counted = omega (arith, cause.never (λ is. absurd (cc))) };
       }
+
+-- ---- what a command changes
+
+-- the log is as before, or has one more entry
+abbrev IsLoggedOrSame : Log → Log → Type 0
+IsLoggedOrSame before after = (after ≡ before) ⊎ ((e : Entry) × (after ≡ logged e before))
+
+module _ (command : Command) (before after : Log) where
+  ran_logs : (run : Run) (end : RunEnd) → RanEnd command before run end after → IsLoggedOrSame before after
+  ran_logs did_run (ends.Logged seq status) did = inr (run_entry command did_run before, sym (appended-is (Some (origin_of command did_run)) (changes_of did_run) before after did.1))
+  ran_logs did_run (ends.Nothing status) did = inl did.3
+  ran_logs did_run (ends.OddTree i) did = inl did.1
+  ran_logs did_run (ends.Clash path) did = inl did.2
+  ran_logs did_run (ends.Refused refusal) did = inl did.2
+  ran_logs did_run (ends.NoJob fault) did = absurd did
+  ran_logs did_run ends.NotRun did = absurd did
+  ran_logs did_run ends.Memory did = absurd did
+
+  runs_log : (work : List ℕ) (end : RunEnd) (trace : Trace) → RunEnds work command before end after trace → IsLoggedOrSame before after
+  runs_log work end trace (inr broken) = inl broken.1
+  runs_log work (ends.NoJob fault) trace (inl turn) = inl turn.1
+  runs_log work ends.NotRun trace (inl turn) = inl turn.1
+  runs_log work (ends.Logged seq status) trace (inl turn) = ran_logs turn.0 (ends.Logged seq status) turn.2
+  runs_log work (ends.Nothing status) trace (inl turn) = ran_logs turn.0 (ends.Nothing status) turn.2
+  runs_log work (ends.OddTree i) trace (inl turn) = ran_logs turn.0 (ends.OddTree i) turn.2
+  runs_log work (ends.Clash path) trace (inl turn) = ran_logs turn.0 (ends.Clash path) turn.2
+  runs_log work (ends.Refused refusal) trace (inl turn) = ran_logs turn.0 (ends.Refused refusal) turn.2
+  runs_log work ends.Memory trace (inl turn) = ran_logs turn.0 ends.Memory turn.2
+
+  -- so a client that might go on under a name still may
+  pub ran_ready : (work : List ℕ) (end : RunEnd) (p q : RunnerTelling) → RunsCommand work command before end after p q → (name : List ℕ) (number : ℕ) (journal : Option Journal) (i : Option Images)
+      → IsReady i name (record { number = number; log = before; journal = journal }) → IsReady i name (record { number = number; log = after; journal = journal })
+  ran_ready work end p q did name number journal i ready = by (runs_log work end did.trace did.turn)
+    where
+      by : IsLoggedOrSame before after → IsReady i name (record { number = number; log = after; journal = journal })
+      by (inl same) = subst (λ (l : Log). IsReady i name (record { number = number; log = l; journal = journal })) (sym same) ready
+      by (inr more) = subst (λ (l : Log). IsReady i name (record { number = number; log = l; journal = journal })) (sym more.1) (logged_ready name number before more.0 journal i ready)
+
+  -- and one that is kept has one note at most to add
+  pub ran_one : (work : List ℕ) (end : RunEnd) (p q : RunnerTelling) → RunsCommand work command before end after p q → (name : List ℕ) (number : ℕ) (journal now : Option Journal) → now ≡ journal → (i : Option Images)
+      → IsKeptReady i name (record { number = number; log = before; journal = journal }) → IsOneAtMost i (next_notes now false after)
+  ran_one work end p q did name number journal now same i kept =
+      subst (λ (j : Option Journal). IsOneAtMost i (next_notes j false after)) (sym same) (by (runs_log work end did.trace did.turn))
+    where
+      current : IsCurrent i name number before journal
+      current = ready_current name number before journal i kept.0 kept.1
+
+      by : IsLoggedOrSame before after → IsOneAtMost i (next_notes journal false after)
+      by (inl stays) = subst (λ (l : Log). IsOneAtMost i (next_notes journal false l)) (sym stays) (same_one name number before journal i current)
+      by (inr more) = subst (λ (l : Log). IsOneAtMost i (next_notes journal false l)) (sym more.1) (logged_one name number before more.0 journal i current)
 
 -- ---- how often the runner failed
 

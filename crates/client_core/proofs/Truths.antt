@@ -17,7 +17,7 @@ use Rattle.world_rules.specs.Telling.{LinkTelling, IsCalm}
 use Rattle.world_rules.specs.Asking.{AnswersStand}
 use Rattle.world_rules.specs.Settling.{failed_asks}
 use Rattle.world_rules.specs.InStep.{InStep, HasNoCollision}
-use Rattle.world_rules.specs.Run.{kept_at, taken_in}
+use Rattle.world_rules.specs.Run.{AreAllOf, kept_at, taken_in}
 use Rattle.world_rules.proofs.Asks.{told_as, answers_front, answers_end}
 use Rattle.world_rules.proofs.Settled.{failed-append}
 use Rattle.world_rules.proofs.Runs.{runs_in_step, run_answers, lone_tree, pulled_last}
@@ -247,7 +247,7 @@ module _ (client : ℕ) (ships : Bool) (name : List ℕ) (route : Route) (before
 pub calm_complete : (client : ℕ) (ships : Bool) (route : Route) (name : List ℕ) (before after kept : Log) (end : SyncEnd) (images images_now : Option Images) (runner ran : RunnerTelling) (troubles later : ℕ) (old new : World)
     → (goes : Goes client ships name (SyncEnds client route before end after kept) before after kept images images_now runner ran troubles later old new)
     → InStep client before old → HasNoCollision client before.pending new.packets → (Rose troubles later → ⊥)
-    → ((message : Message) → IsIn message (taken_in goes.runs.moves (kept_at before old)) → client_of message ≡ client)
+    → AreAllOf client (taken_in goes.runs.moves (kept_at before old))
     → old.served.volume ≡ tree_at (old.served.last client) before
     → ((end ≡ ends.Synced after.acked) × (after.pending ≡ [])) ⊎ (is_broken_sync end ≡ true)
 calm_complete client ships route name before after kept end images images_now runner ran troubles later old new goes now apart calm alone served =

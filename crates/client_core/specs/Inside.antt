@@ -1,9 +1,10 @@
 -- Words that only the contracts of private functions cite.
-use Rattle.std.specs.Prelude.{◌≡◌, ◌≢◌, ◌⊎◌, ℕ, ◌<◌, nat_lt, Bool, true, false, List, [], length, Option, None, Some, is_some, find, Result, Ok, Err}
+use Rattle.std.specs.Prelude.{◌≡◌, ◌≢◌, ◌⊎◌, ℕ, ◌<◌, nat_lt, Bool, true, false, List, [], length, Option, None, Some, is_some, IfSome, find, Result, Ok, Err}
 use Rattle.std.specs.declared.alloc.AllocError.{AllocError}
 use Rattle.tree_values.specs.Tree.{Volume, version_at}
 use Rattle.tree_values.specs.declared.node.Row.{Row}
 use Rattle.tree_values.specs.declared.node.Effect.{Effect}
+use Rattle.outside.specs.Keeper.{Images}
 use Rattle.cmd_capture.specs.declared.command.Command.{Command}
 use Rattle.cmd_capture.specs.declared.job.Job.{Job}
 use Rattle.cmd_capture.specs.declared.job.Outcome.{Outcome}
@@ -22,11 +23,16 @@ use Rattle.mod_log.specs.declared.log.Entry.{Entry}
 use Rattle.mod_log.specs.declared.sketching.SketchEntry.{SketchEntry}
 use Rattle.mod_log.specs.Log.{Log, IsLog}
 use Rattle.mod_log.specs.Sketched.{IsSketchOf}
+use Rattle.store_image.specs.declared.record.ClientRecord.{ClientRecord}
+use Rattle.store_image.specs.Image.{IsKeptWholeFor}
+use Rattle.store_image.specs.Records.{client_records, with_records, AreNotes}
 use Rattle.world_rules.specs.declared.asking.Peer.TheVariants.{Surrogate}
 use Rattle.world_rules.specs.declared.asking.Ask.{Ask}
 use Rattle.world_rules.specs.Telling.{LinkTelling, ToldWorlds, HadTroubles}
 use Rattle.world_rules.specs.Settling.{failed_asks, Settled}
 use Rattle.world_rules.specs.Run.{Runs, kept_at}
+use Rattle.client_core.specs.declared.keeping.Journal.{Journal}
+use Rattle.client_core.specs.declared.keeping.Piece.{Piece}
 use Rattle.client_core.specs.declared.route.Route.{Route}
 use Rattle.client_core.specs.declared.pulling.PullEnd.{PullEnd}
 use Rattle.client_core.specs.declared.pulling.PullEnd.TheVariants.{Pulled, KeepFault, Memory}
@@ -35,6 +41,7 @@ use Rattle.client_core.specs.declared.running.RunEnd.TheVariants as runs
 use Rattle.client_core.specs.Syncing.{store_of, IsFirst, SettlesOperation, StoreIsDue, Ships, BreaksShipping}
 use Rattle.client_core.specs.Pulling.{Meets}
 use Rattle.client_core.specs.Running.{changes_of, first_clash, IsLoggable, RanEnd}
+use Rattle.client_core.specs.Journal.{last_number, bytes_after}
 use Rattle.client_core.specs.Causes.{TakesRows}
 
 -- ---- shipping
@@ -140,3 +147,37 @@ jobless_end fault = runs.NoJob fault
 abbrev pub odd_end : RowsFault → RunEnd
 odd_end rows_faults.Memory = runs.Memory
 odd_end (rows_faults.OddTree i) = runs.OddTree i
+
+-- ---- keeping
+
+-- what stands under a name is kept, without a torn tail, for a log that the notes lead to this one
+pub record LeadsTo (number : ℕ) (log : Log) (notes : List ClientRecord) (found : Option (List ℕ)) : Type 0 where
+  pub bytes : List ℕ
+  pub stands : found ≡ Some bytes
+  pub base : Log
+  pub whole : IsKeptWholeFor number base bytes
+  pub noted : AreNotes base notes
+  pub leads : with_records base notes ≡ log
+
+-- what a keeping that adds notes finds under the name, where the keeper tells its images
+abbrev pub MayKeep : Option (List ClientRecord) → Option Images → List ℕ → ℕ → Log → Type 0
+MayKeep None images name number log = Unit {0}
+MayKeep (Some notes) None name number log = Unit {0}
+MayKeep (Some notes) (Some images) name number log = LeadsTo number log notes (images name)
+
+-- what stands under the name is this very log, without a torn tail, where there is a journal and the keeper tells its images
+pub record IsCurrentFor (number : ℕ) (log : Log) (journal : Journal) (found : Option (List ℕ)) : Type 0 where
+  pub bytes : List ℕ
+  pub stands : found ≡ Some bytes
+  pub last : journal.last ≡ last_number log
+  pub whole : IsKeptWholeFor number log bytes
+
+abbrev pub IsCurrent : Option Images → List ℕ → ℕ → Log → Option Journal → Type 0
+IsCurrent None name number log journal = Unit {0}
+IsCurrent (Some images) name number log journal = IfSome journal (λ journal. IsCurrentFor number log journal (images name))
+
+-- the piece is the records of the notes, and with them all records have so many bytes; there is none where the image is to be saved
+abbrev pub IsPiece : Option Journal → Option (List ClientRecord) → Option Piece → Type 0
+IsPiece journal None None = Unit {0}
+IsPiece journal (Some notes) (Some piece) = (piece.records.items ≡ client_records notes) × (piece.bytes ≡ bytes_after (Some notes) journal)
+IsPiece journal notes piece = ⊥

@@ -1,9 +1,15 @@
 -- What is kept of a client under a name, from one run to the next.
-use Rattle.std.specs.Prelude.{◌≡◌, ◌≢◌, ◌⊎◌, ℕ, List, [], Option, None, Some, Result, Ok, Err}
+use Rattle.std.specs.Prelude.{◌≡◌, ◌≢◌, ◌⊎◌, ℕ, suc, ◌-◌, ◌≤◌, List, [], ◌++◌, take, Option, None, Some, IfSome, Result, Ok, Err}
 use Rattle.outside.specs.Outside.{Told}
 use Rattle.outside.specs.Keeper.{Images}
 use Rattle.mod_log.specs.Log.{Log}
-use Rattle.store_image.specs.Image.{Keeps}
+use Rattle.store_image.specs.declared.record.ClientRecord.{ClientRecord}
+use Rattle.store_image.specs.Image.{Keeps, IsKeptWholeFor}
+use Rattle.store_image.specs.Records.{client_records, with_records}
+use Rattle.store_image.specs.Spelling.{client as image}
+use Rattle.client_core.specs.declared.keeping.Journal.{Journal}
+use Rattle.client_core.specs.Client.{Client}
+use Rattle.client_core.specs.Journal.{last_number}
 use Rattle.client_core.specs.Trace.{last_log, IsLastOrBefore}
 
 -- what stands under the name is kept for this log, where the keeper tells its images
@@ -28,6 +34,64 @@ StillKeeps old new = (client : ℕ) (log : Log) → Keeps old client log → Kee
 -- other names have what they had
 abbrev pub OthersStay : List ℕ → Images → Images → Type 0
 OthersStay name old new = (other : List ℕ) → other ≢ name → new other ≡ old other
+
+-- ---- what a keeping finds
+
+-- the log with its entries up to this number
+abbrev pub log_until : ℕ → Log → Log
+log_until number log = record { acked = log.acked; base = log.base; pending = take (number - log.acked) log.pending }
+
+-- What stands under a name is an image with whole records behind it, and no torn tail. It is kept for the log without the entries that were
+-- logged since the journal's keeping.
+pub record IsReadyFor (number : ℕ) (log : Log) (journal : Journal) (found : Option (List ℕ)) : Type 0 where
+  pub bytes : List ℕ
+  pub stands : found ≡ Some bytes
+  pub acked : log.acked ≤ journal.last
+  pub last : journal.last ≤ last_number log
+  pub whole : IsKeptWholeFor number (log_until journal.last log) bytes
+
+-- A client that adds to what is kept finds it so under the name, where the keeper tells its images. With what its next keeping appends
+-- behind them, those bytes are kept for it.
+abbrev pub IsReady : Option Images → List ℕ → Client → Type 0
+IsReady None name client = Unit {0}
+IsReady (Some images) name client = IfSome client.journal (λ journal. IsReadyFor client.number client.log journal (images name))
+
+-- the client's log is kept under the name, and the client may go on there
+abbrev pub IsKeptReady : Option Images → List ℕ → Client → Type 0
+IsKeptReady images name client = IsKept images name client.number client.log × IsReady images name client
+
+-- ---- what a keeping leaves
+
+-- the client's image, or what stood there and the notes behind it
+abbrev pub IsWritten : ℕ → Log → Option (List ClientRecord) → Option (List ℕ) → List ℕ → Type 0
+IsWritten number log None old bytes = bytes ≡ image (record { client = number; log = log })
+IsWritten number log (Some notes) old bytes = (before : List ℕ) × (old ≡ Some before) × (bytes ≡ before ++ client_records notes)
+
+-- the bytes that were to be written stand under the name, and are kept for the log, without a torn tail
+pub record IsKeptNext (name : List ℕ) (number : ℕ) (log : Log) (notes : Option (List ClientRecord)) (old new : Images) : Type 0 where
+  pub bytes : List ℕ
+  pub here : new name ≡ Some bytes
+  pub written : IsWritten number log notes (old name) bytes
+  pub whole : IsKeptWholeFor number log bytes
+  pub others : OthersStay name old new
+
+-- some of the notes, from the first on, were added to what was kept
+pub record AddsSome (number : ℕ) (log : Log) (notes : List ClientRecord) (old new : Option (List ℕ)) : Type 0 where
+  pub base : Log
+  pub kept : Keeps old number base
+  pub leads : with_records base notes ≡ log
+  pub count : ℕ
+  pub keeps : Keeps new number (with_records base (take (suc count) notes))
+
+-- What a refused keeping leaves: what was kept still is, or the image is, or some of the notes were added. Of one note that is the client.
+abbrev pub LeavesKept : ℕ → Log → Option (List ClientRecord) → Option (List ℕ) → Option (List ℕ) → Type 0
+LeavesKept number log None old new = StillKeeps old new ⊎ Keeps new number log
+LeavesKept number log (Some notes) old new = StillKeeps old new ⊎ AddsSome number log notes old new
+
+-- a keeping that adds these notes, or saves the image, and is perhaps refused
+abbrev pub KeepsNext : {E : Type 0} → List ℕ → ℕ → Log → Option (List ClientRecord) → Result (Unit {0}) E → Images → Images → Type 0
+KeepsNext name number log notes (Ok done) old new = IsKeptNext name number log notes old new
+KeepsNext name number log notes (Err e) old new = LeavesKept number log notes (old name) (new name) × OthersStay name old new
 
 -- a log is kept under the name; where that is refused, what was kept there still is, or the log is
 abbrev pub KeepsLog : {E : Type 0} → List ℕ → ℕ → Log → Result (Unit {0}) E → Images → Images → Type 0

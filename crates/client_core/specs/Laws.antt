@@ -3,14 +3,11 @@ use Rattle.std.specs.Prelude.{◌≡◌, ◌⊎◌, ℕ, Bool, true, List, [], O
 use Rattle.outside.specs.Outside.{Rose}
 use Rattle.outside.specs.Keeper.{Images}
 use Rattle.cmd_capture.specs.Runs.{RunnerTelling}
-use Rattle.tree_values.specs.Lists.{IsIn}
 use Rattle.mod_log.specs.Log.{Log, tree_at}
-use Rattle.wire_frames.specs.declared.message.Message.{Message}
-use Rattle.wire_frames.specs.Frame.{client_of}
 use Rattle.world_rules.specs.World.{World}
 use Rattle.world_rules.specs.Asking.{AnswersStand}
 use Rattle.world_rules.specs.InStep.{InStep, HasNoCollision}
-use Rattle.world_rules.specs.Run.{taken_in, kept_at}
+use Rattle.world_rules.specs.Run.{taken_in, AreAllOf, kept_at}
 use Rattle.client_core.specs.declared.route.Route.{Route}
 use Rattle.client_core.specs.declared.syncing.SyncEnd.{SyncEnd}
 use Rattle.client_core.specs.declared.syncing.SyncEnd.TheVariants.{Behind, Synced}
@@ -42,6 +39,6 @@ abbrev pub CalmSyncsAreComplete : Type 0
 CalmSyncsAreComplete = (client : ℕ) (ships : Bool) (route : Route) (name : List ℕ) (before after kept : Log) (end : SyncEnd) (images images_now : Option Images) (runner ran : RunnerTelling) (troubles later : ℕ) (old new : World)
     → (goes : Goes client ships name (SyncEnds client route before end after kept) before after kept images images_now runner ran troubles later old new)
     → InStep client before old → HasNoCollision client before.pending new.packets → (Rose troubles later → ⊥)
-    → ((message : Message) → IsIn message (taken_in goes.runs.moves (kept_at before old)) → client_of message ≡ client)
+    → AreAllOf client (taken_in goes.runs.moves (kept_at before old))
     → old.served.volume ≡ tree_at (old.served.last client) before
     → ((end ≡ Synced after.acked) × (after.pending ≡ [])) ⊎ (is_broken_sync end ≡ true)

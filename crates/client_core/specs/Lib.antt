@@ -3,6 +3,7 @@ pub mod Client
 pub mod Goes
 pub mod Honest
 pub mod Inside
+pub mod Journal
 pub mod Keeping
 pub mod Laws
 pub mod Licence

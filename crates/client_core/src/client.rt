@@ -1,12 +1,14 @@
 // A client: its number and its log.
-ghost use Rattle.std.specs.Prelude.{◌≡◌, ◌≢◌, ◌≤◌, [], ◌∷◌, None, Ok, Err, IfOk, IfErr, OnOk, OnErr};
+ghost use Rattle.std.specs.Prelude.{◌≡◌, ◌≢◌, ◌≤◌, ℕ, List, Option, [], ◌∷◌, None, false, Ok, Err, IfOk, IfErr, OnOk, OnErr};
 ghost use Rattle.outside.specs.Outside.{Told, CountsFault};
+ghost use Rattle.outside.specs.Keeper.{Images};
 ghost use Rattle.mod_log.specs.Log.{Log, IsLog, new_log};
 ghost use Rattle.mod_log.specs.Append.{appended};
 ghost use Rattle.client_core.specs.Logging.{local_entry};
-ghost use Rattle.client_core.specs.Keeping.{KeepsLog};
+ghost use Rattle.client_core.specs.Journal.{next_notes, journal_after};
+ghost use Rattle.client_core.specs.Keeping.{IsReady, KeepsNext};
 
-use crate::keeping::keep_log;
+use crate::keeping::{Journal, keep_log};
 use mod_log::{Log, LogError};
 use outside::{KeepError, Keeper};
 use std::alloc::Global;
@@ -19,6 +21,8 @@ use vol_tree::{Effect, Effects, Tree};
 pub struct Client {
     pub(crate) number: u8,
     pub(crate) log: Log,
+    /// What its last keeping left, where the next one may add to that.
+    pub(crate) journal: Option<Journal>,
 }
 
 impl Model for Client {
@@ -27,7 +31,7 @@ impl Model for Client {
 
     ghost Value = { Client };
 
-    ghost view = { λ client. record { number = client.number; log = client.log } };
+    ghost view = { λ client. record { number = client.number; log = client.log; journal = client.journal } };
 
     ghost invariant = { λ client. (1 ≤ client.number) × (client.number ≤ 64) };
 }
@@ -37,11 +41,12 @@ impl Client {
     pub fn new(alloc: Global, number: u8) -> Client
         requires low { 1 ≤ number }
         requires high { number ≤ 64 }
-        ensures { result ≡ record { number = number; log = new_log } }
+        ensures { result ≡ record { number = number; log = new_log; journal = None } }
     {
         Client {
             number,
             log: Log::new(0, Tree::new(alloc)),
+            journal: None,
         }
     }
 
@@ -49,11 +54,12 @@ impl Client {
     pub fn from_image(image: ClientImage) -> Client
         requires low { 1 ≤ image.client }
         requires high { image.client ≤ 64 }
-        ensures { result ≡ record { number = image.client; log = image.log } }
+        ensures { result ≡ record { number = image.client; log = image.log; journal = None } }
     {
         Client {
             number: image.client,
             log: image.log,
+            journal: None,
         }
     }
 
@@ -87,6 +93,9 @@ impl Client {
         ensures unchanged { OnErr result (self.new ≡ self.old) }
         ensures number { self.new.number ≡ self.old.number }
         ensures log { IsLog self.new.log }
+        ensures journal { self.new.journal ≡ self.old.journal }
+        // where the client may go on under a name, it still may
+        ensures ready { (images : Option Images) (name : List ℕ) → IsReady images name self.old → IsReady images name self.new }
     {
         let tree = self.log.tree();
         let mut effects = Effects::new(tree.allocator());
@@ -94,15 +103,36 @@ impl Client {
         self.log.append(None, effects)
     }
 
-    /// Keeps the client under a name.
+    /// Keeps the client under a name. Where it can, it adds the entries that were logged since the last keeping to what stands
+    /// there. It saves the whole image where no keeping of this value succeeded, since the last one failed or the base was
+    /// replaced since then, and where the records would have more than 8,388,608 bytes.
+    ///
+    /// Over a keeper that tells its images, a client that adds finds under the name what its last keeping left, or bytes that
+    /// are kept for the same log, without a torn tail.
     ///
     /// # Errors
     ///
-    /// Those of the keeper. What was kept under the name still is, or the client is.
-    pub fn keep<K: Keeper>(&self, name: &[u8], keeper: &mut K) -> Result<(), KeepError>
-        ensures kept { Told (K.images keeper.old) (K.images keeper.new) (KeepsLog name.now self.now.number self.now.log result) }
+    /// Those of the keeper. What was kept under the name still is, or the client is, or the client with some of the added
+    /// entries, from the first on. The next keeping saves the whole image.
+    pub fn keep<K: Keeper>(&mut self, name: &[u8], keeper: &mut K) -> Result<(), KeepError>
+        requires { IsReady (K.images keeper.old) name.now self.old }
+        ensures kept { Told (K.images keeper.old) (K.images keeper.new)
+            (KeepsNext name.now self.old.number self.old.log (next_notes self.old.journal false self.old.log) result) }
+        ensures ready { IsReady (K.images keeper.new) name.now self.new }
         ensures cause { CountsFault KeepError.Failed (K.faults keeper.old) (K.faults keeper.new) result }
+        ensures number { self.new.number ≡ self.old.number }
+        ensures log { self.new.log ≡ self.old.log }
+        ensures journal { self.new.journal
+            ≡ journal_after self.old.journal (next_notes self.old.journal false self.old.log) self.old.log result }
     {
-        keep_log(self.number, &self.log, name, keeper)
+        let _acked = self.log.acked();
+        keep_log(
+            self.number,
+            &self.log,
+            &mut self.journal,
+            false,
+            name,
+            keeper,
+        )
     }
 }

@@ -11,7 +11,7 @@ ghost use Rattle.world_rules.specs.Settling.{Settled, IsFreshReply};
 ghost use Rattle.client_core.specs.Pulling.{PullAsks, PullEnds, pulled_end};
 ghost use Rattle.client_core.specs.Goes.{Goes, Went, no_runner};
 ghost use Rattle.client_core.specs.Causes.{HasPullCause, PullKeeps};
-ghost use Rattle.client_core.specs.Keeping.{IsKept};
+ghost use Rattle.client_core.specs.Keeping.{IsKept, IsReady, IsKeptReady};
 ghost use Rattle.client_core.specs.Honest.{FromInStep, FromInStepApart, IsNotOtherLast, IsNotOlder};
 ghost use Rattle.client_core.specs.Inside.{first_lower, MeetsEnds, PullLeaves, snapshot_of};
 
@@ -57,14 +57,14 @@ impl Client {
     /// is not acknowledged, and no version is lower than the client's. The client is kept then.
     ///
     /// Over a keeper that tells its images this very client is kept under the route's image, or nothing is and the client
-    /// is new.
+    /// is new; and it may go on there (`keep`).
     pub fn pull<L: Link, K: Keeper>(
         &mut self,
         route: &Route,
         link: &mut L,
         keeper: &mut K,
     ) -> PullEnd
-        requires { IsKept (K.images keeper.old) route.now.image self.old.number self.old.log }
+        requires { IsKeptReady (K.images keeper.old) route.now.image self.old }
         ensures world { Went self.old.number (is_some route.now.surrogate) route.now.image
             (PullEnds self.old.number route.now self.old.log result self.new.log) self.old.log self.new.log
             (K.images keeper.old) (K.images keeper.new) (L.tells link.old) (L.tells link.new) }
@@ -80,6 +80,7 @@ impl Client {
         // and without trouble no older rows
         ensures fresh { IsCalm (L.tells link.old) (L.tells link.new)
             → FromInStep self.old.number self.old.log (L.tells link.old) (L.tells link.new) (λ new. IsNotOlder result) }
+        ensures ready { IsReady (K.images keeper.new) route.now.image self.new }
         ensures number { self.new.number ≡ self.old.number }
         ensures later { (L.tells link.old).troubles ≤ (L.tells link.new).troubles }
         // the keeper failed once where the pull ends so, and else never
@@ -89,7 +90,15 @@ impl Client {
             PullEnd::Pulled(count) => count,
             end => return end,
         };
-        let kept = keep_log(self.number, &self.log, route.image.bytes(), keeper);
+        self.journal = None;
+        let kept = keep_log(
+            self.number,
+            &self.log,
+            &mut self.journal,
+            false,
+            route.image.bytes(),
+            keeper,
+        );
         pulled_end(count, kept)
     }
 }

@@ -1,6 +1,7 @@
 // Running a command, and logging what the run changed.
-ghost use Rattle.std.specs.Prelude.{◌≡◌, ◌≢◌, ◌⊎◌, ℕ, List, [], false, Ok, IfOk, IfErr, OnOk};
+ghost use Rattle.std.specs.Prelude.{◌≡◌, ◌≢◌, ◌⊎◌, ℕ, List, Option, [], false, Ok, IfOk, IfErr, OnOk};
 ghost use Rattle.outside.specs.Outside.{RisesWhere};
+ghost use Rattle.outside.specs.Keeper.{Images};
 ghost use Rattle.cmd_capture.specs.declared.runner.Run.{Run};
 ghost use Rattle.cmd_capture.specs.Rows.{AreLegal, AreJobRows, read_rows};
 ghost use Rattle.cmd_capture.specs.Spelling.{IsCommand};
@@ -11,6 +12,7 @@ ghost use Rattle.mod_log.specs.Log.{IsLog, tree_of};
 ghost use Rattle.client_core.specs.Running.{RunsCommand, IsLoggable, changes_of, has_logged};
 ghost use Rattle.client_core.specs.Inside.{ran, RanEnds, IsToLog, IsUnlogged, unrun_end, jobless_end, odd_end};
 ghost use Rattle.client_core.specs.Goes.{telling};
+ghost use Rattle.client_core.specs.Keeping.{IsReady};
 
 use crate::Client;
 use cmd_capture::{Command, Job, Outcome, RunError, Runner, job_print};
@@ -57,6 +59,9 @@ impl Client {
         ensures unchanged { has_logged result ≡ false → self.new ≡ self.old }
         ensures number { self.new.number ≡ self.old.number }
         ensures log { IsLog self.new.log }
+        ensures journal { self.new.journal ≡ self.old.journal }
+        // where the client may go on under a name, it still may
+        ensures ready { (images : Option Images) (name : List ℕ) → IsReady images name self.old → IsReady images name self.new }
         // the runner failed once where it ends so, and else never
         ensures faults { RisesWhere (result ≡ RunEnd.NotRun) (R.faults runner.old) (R.faults runner.new) }
     {

@@ -5,7 +5,7 @@ ghost use Rattle.world_rules.specs.Telling.{IsCalm};
 ghost use Rattle.client_core.specs.Syncing.{end_by, SyncEnds, unkept_end};
 ghost use Rattle.client_core.specs.Goes.{Went};
 ghost use Rattle.client_core.specs.Causes.{HasSyncCause, AcknowledgesSome, SyncKeeps};
-ghost use Rattle.client_core.specs.Keeping.{IsKept};
+ghost use Rattle.client_core.specs.Keeping.{IsReady, IsKeptReady};
 ghost use Rattle.client_core.specs.Honest.{FromInStepApart, IsTrueSync, IsComplete};
 
 use crate::keeping::keep_log;
@@ -64,14 +64,14 @@ impl Client {
     /// failed. The client is kept after each acknowledgement, before the next request is sent.
     ///
     /// Over a keeper that tells its images this very client is kept under the route's image, or nothing is and the client
-    /// is new.
+    /// is new; and it may go on there (`keep`).
     pub fn sync<L: Link, K: Keeper>(
         &mut self,
         route: &Route,
         link: &mut L,
         keeper: &mut K,
     ) -> SyncEnd
-        requires { IsKept (K.images keeper.old) route.now.image self.old.number self.old.log }
+        requires { IsKeptReady (K.images keeper.old) route.now.image self.old }
         ensures world { Went self.old.number (is_some route.now.surrogate) route.now.image
             (SyncEnds self.old.number route.now self.old.log result self.new.log) self.old.log self.new.log
             (K.images keeper.old) (K.images keeper.new) (L.tells link.old) (L.tells link.new) }
@@ -92,6 +92,7 @@ impl Client {
         // and where nothing is pending at the end and no keeping failed, that is how it ends, but for want of memory
         ensures settled { self.new.log.pending ≡ [] → (Rose (K.faults keeper.old) (K.faults keeper.new) → ⊥)
             → (result ≡ SyncEnd.Synced self.new.log.acked) ⊎ (result ≡ SyncEnd.Memory) }
+        ensures ready { IsReady (K.images keeper.new) route.now.image self.new }
         ensures number { self.new.number ≡ self.old.number }
         ensures later { (L.tells link.old).troubles ≤ (L.tells link.new).troubles }
         // the keeper failed once where the sync ends so, and else never
@@ -109,7 +110,15 @@ impl Client {
                 Some(end) => return end,
                 None => self.log.acknowledge(number),
             }
-            if let Err(refused) = keep_log(client, &self.log, route.image.bytes(), keeper) {
+            let image = route.image.bytes();
+            if let Err(refused) = keep_log(
+                client,
+                &self.log,
+                &mut self.journal,
+                true,
+                image,
+                keeper,
+            ) {
                 return unkept_end(refused);
             }
         }

@@ -29,6 +29,10 @@ impl Keeper for Quiet {
     fn save(&mut self, _name: &[u8], _image: &[u8]) -> Result<(), KeepError> {
         Ok(())
     }
+
+    fn append(&mut self, _name: &[u8], _piece: &[u8]) -> Result<(), KeepError> {
+        Ok(())
+    }
 }
 
 /// A link over which no reply ever comes.

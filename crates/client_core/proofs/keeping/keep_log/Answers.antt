@@ -1,18 +1,41 @@
-use Rattle.std.proofs.Common.{refl, sym, subst}
-use Rattle.store_image.specs.Image.{IsKeptFor}
+use Rattle.std.proofs.Common.{refl, sym, ◌∙◌, ap, List, Option, ℕ, subst}
+use Rattle.outside.specs.Outside.{Told}
+use Rattle.outside.specs.declared.errors.KeepError.{KeepError}
 use Rattle.outside.specs.declared.errors.KeepError.TheVariants.{Memory}
+use Rattle.store_image.specs.declared.record.ClientRecord.{ClientRecord}
+use Rattle.client_core.specs.Journal.{next_notes, bytes_after, journal_with}
+use Rattle.client_core.specs.Keeping.{KeepsNext}
 use Rattle.client_core.proofs.Counting.{unrisen}
-use Rattle.client_core.proofs.Putting.{saved_keeps, unsaved_keeps}
+use Rattle.client_core.proofs.Journal.{no_piece, piece_bytes, piece_keeps}
+use Rattle.client_core.proofs.Putting.{unwritten_keeps}
 use Rattle.client_core.proofs.keeping.keep_log.Goals as goal
 
 pub returns-in-Err-clause-kept : goal.returns-in-Err-clause-kept
-returns-in-Err-clause-kept g c = unsaved_keeps c.args.name.now c.args.client c.args.log.now Memory (g.K.Keeper.images c.args.keeper.now)
-
-pub returns-clause-kept : goal.returns-clause-kept
-returns-clause-kept g c =
-    saved_keeps c.args.name.now c.args.client c.args.log.now c.deref.result.now c.save.result (g.K.Keeper.images c.args.keeper.now) (g.K.Keeper.images c.save.new.self)
-    (subst (IsKeptFor c.args.client c.args.log.now) (sym c.deref.ensures.value) c.in-Ok.ensures.kept) c.save.ensures.images
+returns-in-Err-clause-kept g c =
+    unwritten_keeps c.args.name.now c.args.client c.args.log.now (next_notes c.args.journal.now c.args.rose c.args.log.now) Memory (g.K.Keeper.images c.args.keeper.now)
 
 pub returns-in-Err-clause-cause : goal.returns-in-Err-clause-cause
 returns-in-Err-clause-cause g c =
     unrisen _ (g.K.Keeper.faults c.args.keeper.now) (g.K.Keeper.faults c.args.keeper.now) (λ is. absurd (cc)) refl
+
+pub returns-in-Some-clause-kept : goal.returns-in-Some-clause-kept
+returns-in-Some-clause-kept g c =
+    let notes = next_notes c.args.journal.now c.args.rose c.args.log.now in
+    piece_keeps c.args.journal.now notes c.in-Ok.piece c.in-Some.piece c.in-Ok.ensures c.in-Some.is c.args.name.now c.args.client c.args.log.now c.append_piece.result
+    (g.K.Keeper.images c.args.keeper.now) (g.K.Keeper.images c.append_piece.new.keeper) c.requires.ready c.append_piece.ensures.appended
+
+pub returns-in-Some-clause-journal : goal.returns-in-Some-clause-journal
+returns-in-Some-clause-journal g c =
+    let notes = next_notes c.args.journal.now c.args.rose c.args.log.now in
+    c.append_piece.ensures.journal ∙ ap (λ (bytes : ℕ). journal_with bytes c.args.log.now c.append_piece.result) (piece_bytes c.args.journal.now notes c.in-Ok.piece c.in-Some.piece c.in-Ok.ensures c.in-Some.is)
+
+pub returns-in-None-clause-kept : goal.returns-in-None-clause-kept
+returns-in-None-clause-kept g c =
+    let notes = next_notes c.args.journal.now c.args.rose c.args.log.now in
+    subst (λ (some : Option (List ClientRecord)). Told (g.K.Keeper.images c.args.keeper.now) (g.K.Keeper.images c.save_log.new.keeper) (KeepsNext {E = KeepError} c.args.name.now c.args.client c.args.log.now some c.save_log.result))
+    (sym (no_piece c.args.journal.now notes c.in-Ok.piece c.in-Ok.ensures c.in-None.is)) c.save_log.ensures.kept
+
+pub returns-in-None-clause-journal : goal.returns-in-None-clause-journal
+returns-in-None-clause-journal g c =
+    let notes = next_notes c.args.journal.now c.args.rose c.args.log.now in
+    c.save_log.ensures.journal ∙ ap (λ (some : Option (List ClientRecord)). journal_with (bytes_after some c.args.journal.now) c.args.log.now c.save_log.result) (sym (no_piece c.args.journal.now notes c.in-Ok.piece c.in-Ok.ensures c.in-None.is))

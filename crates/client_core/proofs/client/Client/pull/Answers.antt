@@ -1,17 +1,19 @@
-use Rattle.std.proofs.Common.{is_some, ◌≡◌, ℕ, List, refl, sym, subst}
+use Rattle.std.proofs.Common.{is_some, None, ◌≡◌, ℕ, List, refl, sym, subst}
 use Rattle.outside.specs.Outside.{Told, RisesWhere}
 use Rattle.world_rules.specs.Telling.{LinkTelling}
 use Rattle.client_core.specs.Client.{Client}
 use Rattle.client_core.specs.declared.pulling.PullEnd.{PullEnd}
 use Rattle.client_core.specs.declared.pulling.PullEnd.TheVariants.{KeepFault}
-use Rattle.client_core.specs.Inside.{PullLeaves}
+use Rattle.mod_log.specs.Log.{Log}
+use Rattle.client_core.specs.Inside.{PullLeaves, IsCurrent}
 use Rattle.client_core.specs.Pulling.{PullEnds}
-use Rattle.client_core.specs.Keeping.{IsKept, KeepsLog}
+use Rattle.client_core.specs.Keeping.{IsKept, IsReady, KeepsNext, KeepsLog}
 use Rattle.client_core.specs.Causes.{HasPullCause, PullKeeps}
 use Rattle.client_core.specs.Goes.{Went}
 use Rattle.client_core.specs.Honest.{FromInStep, IsNotOlder}
+use Rattle.client_core.proofs.Journal.{current_ready, none_added, next_keeps, next_current}
 use Rattle.client_core.proofs.Counting.{rose_once, unrisen, pulled_rises}
-use Rattle.client_core.proofs.Pulls.{pulled_went, unpulled_went, pull_keeps, pull_keeps_same, pulled_cause, older_never, unpulled}
+use Rattle.client_core.proofs.Pulls.{pulled_went, unpulled_went, pull_keeps, pull_keeps_same, pulled_cause, older_never, unpulled, leaves_same}
 use Rattle.client_core.proofs.Truths.{pull_not_other}
 use Rattle.client_core.proofs.client.Client.pull.Goals as goal
 
@@ -26,12 +28,13 @@ returns-clause-world g c =
     let i = g.K.Keeper.images c.args.keeper.now in
     let t : LinkTelling = g.L.Link.tells c.args.link.now in
     let u : LinkTelling = g.L.Link.tells c.pull_log.new.link in
-    let keeps : IsKept i route.image client before = subst (λ (self : Client). IsKept i route.image self.number self.log) (sym c.self.view_is) c.requires in
+    let keeps : IsKept i route.image client before = subst (λ (self : Client). IsKept i route.image self.number self.log) (sym c.self.view_is) c.requires.0 in
     let count = c.in-Pulled.count in
     let r = c.keep_log-kept.result in
     let end = c.pulled_end.result in
     let l = g.K.Keeper.images c.keep_log-kept.new.keeper in
-    let save : Told i l (KeepsLog route.image client after r) = subst (λ (n : List ℕ). Told i l (KeepsLog n client after r)) c.bytes.ensures.value c.keep_log-kept.ensures.kept in
+    let save : Told i l (KeepsLog route.image client after r) =
+    next_keeps route.image client after None r i l (none_added i) (subst (λ (n : List ℕ). Told i l (KeepsNext n client after None r)) c.bytes.ensures.value c.keep_log-kept.ensures.kept) in
     subst (λ (self : Client). Went self.number (is_some route.surrogate) route.image (PullEnds self.number route self.log end after) self.log after i l t u) c.self.view_is
     (subst (λ (e : PullEnd). Went client (is_some route.surrogate) route.image (PullEnds client route before e after) before after i l t u) (sym c.pulled_end.ensures)
     (pulled_went client route before after i l t u count r save (c.in-Pulled.ensures.world i keeps)))
@@ -64,12 +67,13 @@ returns-clause-keeps g c =
     let i = g.K.Keeper.images c.args.keeper.now in
     let t : LinkTelling = g.L.Link.tells c.args.link.now in
     let u : LinkTelling = g.L.Link.tells c.pull_log.new.link in
-    let keeps : IsKept i route.image client before = subst (λ (self : Client). IsKept i route.image self.number self.log) (sym c.self.view_is) c.requires in
+    let keeps : IsKept i route.image client before = subst (λ (self : Client). IsKept i route.image self.number self.log) (sym c.self.view_is) c.requires.0 in
     let count = c.in-Pulled.count in
     let r = c.keep_log-kept.result in
     let end = c.pulled_end.result in
     let l = g.K.Keeper.images c.keep_log-kept.new.keeper in
-    let save : Told i l (KeepsLog route.image client after r) = subst (λ (n : List ℕ). Told i l (KeepsLog n client after r)) c.bytes.ensures.value c.keep_log-kept.ensures.kept in
+    let save : Told i l (KeepsLog route.image client after r) =
+    next_keeps route.image client after None r i l (none_added i) (subst (λ (n : List ℕ). Told i l (KeepsNext n client after None r)) c.bytes.ensures.value c.keep_log-kept.ensures.kept) in
     subst (λ (self : Client). PullKeeps route.image self.number self.log end after i l) c.self.view_is
     (subst (λ (e : PullEnd). PullKeeps route.image client before e after i l) (sym c.pulled_end.ensures)
     (pull_keeps route.image client before after i l keeps count r c.in-Pulled.ensures.leaves.1 save))
@@ -114,7 +118,7 @@ returns-in_default-clause-world g c =
     let i = g.K.Keeper.images c.args.keeper.now in
     let t : LinkTelling = g.L.Link.tells c.args.link.now in
     let u : LinkTelling = g.L.Link.tells c.pull_log.new.link in
-    let keeps : IsKept i route.image client before = subst (λ (self : Client). IsKept i route.image self.number self.log) (sym c.self.view_is) c.requires in
+    let keeps : IsKept i route.image client before = subst (λ (self : Client). IsKept i route.image self.number self.log) (sym c.self.view_is) c.requires.0 in
     let end = c.pull_log.result in
     subst (λ (self : Client). Went self.number (is_some route.surrogate) route.image (PullEnds self.number route self.log end after) self.log after i i t u) c.self.view_is
     (unpulled_went client route before after i t u end (unpulled end c.in_default.not-Pulled) c.pull_log.ensures.leaves (c.pull_log.ensures.world i keeps))
@@ -140,7 +144,7 @@ returns-in_default-clause-keeps g c =
     let i = g.K.Keeper.images c.args.keeper.now in
     let t : LinkTelling = g.L.Link.tells c.args.link.now in
     let u : LinkTelling = g.L.Link.tells c.pull_log.new.link in
-    let keeps : IsKept i route.image client before = subst (λ (self : Client). IsKept i route.image self.number self.log) (sym c.self.view_is) c.requires in
+    let keeps : IsKept i route.image client before = subst (λ (self : Client). IsKept i route.image self.number self.log) (sym c.self.view_is) c.requires.0 in
     let end = c.pull_log.result in
     subst (λ (self : Client). PullKeeps route.image self.number self.log end after i i) c.self.view_is
     (pull_keeps_same route.image client before after i i keeps end (unpulled end c.in_default.not-Pulled) c.pull_log.ensures.leaves)
@@ -177,3 +181,27 @@ pub returns-in_default-clause-faults : goal.returns-in_default-clause-faults
 returns-in_default-clause-faults g c =
     let p = g.K.Keeper.faults c.args.keeper.now in
     unrisen (c.pull_log.result ≡ KeepFault) p p (λ is. subst (λ (e : PullEnd). PullLeaves e c.self.inside.log c.pull_log.new.log) is c.pull_log.ensures.leaves) refl
+
+-- ---- what the next keeping finds
+
+pub returns-clause-ready : goal.returns-clause-ready
+returns-clause-ready g c =
+    let client = c.self.inside.number in
+    let route = c.args.route.now in
+    let after = c.pull_log.new.log in
+    let i = g.K.Keeper.images c.args.keeper.now in
+    let r = c.keep_log-kept.result in
+    let l = g.K.Keeper.images c.keep_log-kept.new.keeper in
+    let told : Told i l (KeepsNext route.image client after None r) = subst (λ (n : List ℕ). Told i l (KeepsNext n client after None r)) c.bytes.ensures.value c.keep_log-kept.ensures.kept in
+    current_ready route.image client after c.keep_log-kept.new.journal l
+    (subst (IsCurrent l route.image client after) (sym c.keep_log-kept.ensures.journal) (next_current route.image client after None None r i l told))
+
+pub returns-in_default-clause-ready : goal.returns-in_default-clause-ready
+returns-in_default-clause-ready g c =
+    let client = c.self.inside.number in
+    let route = c.args.route.now in
+    let before = c.self.inside.log in
+    let i = g.K.Keeper.images c.args.keeper.now in
+    let end = c.pull_log.result in
+    let ready : IsReady i route.image (record { number = client; log = before; journal = c.self.inside.journal }) = subst (IsReady i route.image) (sym c.self.view_is) c.requires.1 in
+    subst (λ (log : Log). IsReady i route.image (record { number = client; log = log; journal = c.self.inside.journal })) (sym (leaves_same before c.pull_log.new.log end (unpulled end c.in_default.not-Pulled) c.pull_log.ensures.leaves)) ready

@@ -1,4 +1,4 @@
-use Rattle.std.proofs.Common.{is_some, ◌≡◌, ◌∙◌, ℕ, List, Ok, Err, Some, None, Option, refl, ap, sym, subst, arith}
+use Rattle.std.proofs.Common.{is_some, true, ◌≡◌, ◌∙◌, ℕ, List, Ok, Err, Some, None, Option, refl, ap, sym, subst, arith}
 use Rattle.outside.specs.Outside.{Told, RisesWhere}
 use Rattle.outside.specs.declared.errors.KeepError.{KeepError}
 use Rattle.mod_log.specs.Log.{Log, acknowledged}
@@ -9,11 +9,13 @@ use Rattle.client_core.specs.declared.syncing.SyncEnd.{SyncEnd}
 use Rattle.client_core.specs.declared.syncing.SyncEnd.TheVariants.{Synced, KeepFault, Memory}
 use Rattle.client_core.specs.Causes.{HasSyncCause, SyncKeeps, AcknowledgesSome}
 use Rattle.client_core.specs.Syncing.{IsFirst, acknowledged_first, end_by, Ships, unkept_end, SyncEnds}
-use Rattle.client_core.specs.Inside.{AskedFor}
-use Rattle.client_core.specs.Keeping.{IsKept, KeepsLog}
+use Rattle.client_core.specs.Inside.{AskedFor, MayKeep, IsCurrent}
+use Rattle.client_core.specs.Journal.{next_notes}
+use Rattle.client_core.specs.Keeping.{IsKept, IsReady, KeepsNext, KeepsLog}
 use Rattle.client_core.specs.Goes.{Went}
 use Rattle.client_core.proofs.Acknowledging.{some_none, some_more}
 use Rattle.client_core.proofs.Counting.{rose_once, unrisen, unkept_rises, end_by_reply}
+use Rattle.client_core.proofs.Journal.{current_ready, ready_current, acked_one, may_keep_acked, next_keeps, next_current}
 use Rattle.client_core.proofs.Firsts.{first_is, none_is, first_some, first_pending, first_number, first_made, store_valid, shorter}
 use Rattle.client_core.proofs.Syncs.{WentSoFar, KeepsAcked, unkept_cause, settled_end, acked_none, acked_more, keeps_none, keeps_now, keeps_more, keeps_cut, keeps_whole, sync_ends, sync_breaks, sync_unkept, sync_synced, has_cause}
 use Rattle.client_core.proofs.Ships.{goes_on, ships_reply, shipped_troubles}
@@ -26,13 +28,15 @@ loop-entry-init g c =
     let route = c.args.route.now in
     let before = c.self.inside.log in
     let i = g.K.Keeper.images c.args.keeper.now in
-    let keeps : IsKept i route.image client before = subst (λ (self : Client). IsKept i route.image self.number self.log) (sym c.self.view_is) c.requires in
+    let keeps : IsKept i route.image client before = subst (λ (self : Client). IsKept i route.image self.number self.log) (sym c.self.view_is) c.requires.0 in
+    let ready : IsReady i route.image (record { number = client; log = before; journal = c.self.inside.journal }) = subst (IsReady i route.image) (sym c.self.view_is) c.requires.1 in
     record {
       later = omega arith;
       faults = refl;
       number = refl;
       some = some_none before;
       keeps = keeps_none route.image client before i keeps;
+      current = ready_current route.image client before c.self.inside.journal i keeps ready;
       world = acked_none client route before i (g.L.Link.tells c.args.link.now) keeps;
     }
 
@@ -275,6 +279,21 @@ acknowledge-requires-clause-pending g c =
     let first : IsFirst entry mid.pending = first_is mid.pending entry c.in-Some.ensures.entry in
     omega (arith, first_number mid entry c.in-Some.ensures.log first, first_pending mid.pending entry first)
 
+pub keep_log-requires-clause-ready : goal.keep_log-requires-clause-ready
+keep_log-requires-clause-ready g c =
+    let client = c.self.inside.number in
+    let route = c.args.route.now in
+    let mid = c.loop-entry.self-inside.log in
+    let j = g.K.Keeper.images c.loop-entry.keeper in
+    let entry = c.in-Some.entry.now in
+    let first : IsFirst entry mid.pending = first_is mid.pending entry c.in-Some.ensures.entry in
+    let next = c.acknowledge.new.self in
+    let journal = c.loop-entry.self-inside.journal in
+    let is : acknowledged_first mid ≡ next = ap (λ (n : ℕ). acknowledged n mid) (sym (first_number mid entry c.in-Some.ensures.log first)) ∙ sym c.acknowledge.ensures.acknowledged in
+    subst (λ (n : List ℕ). MayKeep (next_notes journal true next) j n client next) (sym c.bytes-image.ensures.value)
+    (subst (λ (log : Log). MayKeep (next_notes journal true log) j route.image client log) is
+    (may_keep_acked route.image client mid (first_some mid.pending entry first) journal j c.loop-entry.invariant.current))
+
 pub loop-entry-smaller : goal.loop-entry-smaller
 loop-entry-smaller g c =
     let client = c.self.inside.number in
@@ -314,9 +333,13 @@ returns-in-Err-keep_log-clause-world g c =
     subst (λ (r : Option Message). AskedFor client route entry (Ships client route entry r) u v) on.1 shipped in
     let goes : end_by entry.seq (Some on.0) ≡ None = sym (c.in-None.ensures ∙ ap (end_by entry.seq) on.1) in
     let refused = c.in-Err-keep_log.refused in
+    let journal = c.loop-entry.self-inside.journal in
+    let told : Told j l (KeepsNext {E = KeepError} route.image client next (next_notes journal true next) (Err refused)) =
+    subst (λ (n : List ℕ). Told j l (KeepsNext {E = KeepError} n client next (next_notes journal true next) (Err refused))) c.bytes-image.ensures.value c.in-Err-keep_log.ensures.kept in
     let kept : Told j l (KeepsLog {E = KeepError} route.image client (acknowledged_first mid) (Err refused)) =
-    subst (λ (log : Log). Told j l (KeepsLog {E = KeepError} route.image client log (Err refused))) (sym is)
-    (subst (λ (n : List ℕ). Told j l (KeepsLog {E = KeepError} n client next (Err refused))) c.bytes.ensures.value c.in-Err-keep_log.ensures.kept) in
+    next_keeps {E = KeepError} route.image client (acknowledged_first mid) (next_notes journal true (acknowledged_first mid)) (Err refused) j l
+    (acked_one route.image client mid (first_some mid.pending entry first) journal j c.loop-entry.invariant.current)
+    (subst (λ (log : Log). Told j l (KeepsNext {E = KeepError} route.image client log (next_notes journal true log) (Err refused))) (sym is) told) in
     subst (λ (self : Client). Went self.number (is_some route.surrogate) route.image (SyncEnds self.number route self.log c.unkept_end.result next) self.log next i l t v) c.self.view_is
     (subst (λ (end : SyncEnd). Went client (is_some route.surrogate) route.image (SyncEnds client route before end next) before next i l t v) (sym c.unkept_end.ensures)
     (subst (λ (log : Log). Went client (is_some route.surrogate) route.image (SyncEnds client route before (unkept_end refused) log) before log i l t v) is
@@ -338,9 +361,13 @@ returns-in-Err-keep_log-clause-keeps g c =
     let l = g.K.Keeper.images c.keep_log.new.keeper in
     let is : acknowledged_first mid ≡ next = ap (λ (n : ℕ). acknowledged n mid) (sym (first_number mid entry c.in-Some.ensures.log first)) ∙ sym c.acknowledge.ensures.acknowledged in
     let refused = c.in-Err-keep_log.refused in
+    let journal = c.loop-entry.self-inside.journal in
+    let told : Told j l (KeepsNext {E = KeepError} route.image client next (next_notes journal true next) (Err refused)) =
+    subst (λ (n : List ℕ). Told j l (KeepsNext {E = KeepError} n client next (next_notes journal true next) (Err refused))) c.bytes-image.ensures.value c.in-Err-keep_log.ensures.kept in
     let kept : Told j l (KeepsLog {E = KeepError} route.image client (acknowledged_first mid) (Err refused)) =
-    subst (λ (log : Log). Told j l (KeepsLog {E = KeepError} route.image client log (Err refused))) (sym is)
-    (subst (λ (n : List ℕ). Told j l (KeepsLog {E = KeepError} n client next (Err refused))) c.bytes.ensures.value c.in-Err-keep_log.ensures.kept) in
+    next_keeps {E = KeepError} route.image client (acknowledged_first mid) (next_notes journal true (acknowledged_first mid)) (Err refused) j l
+    (acked_one route.image client mid (first_some mid.pending entry first) journal j c.loop-entry.invariant.current)
+    (subst (λ (log : Log). Told j l (KeepsNext {E = KeepError} route.image client log (next_notes journal true log) (Err refused))) (sym is) told) in
     subst (λ (self : Client). SyncKeeps route.image self.number self.log c.unkept_end.result next i l) c.self.view_is
     (subst (λ (end : SyncEnd). SyncKeeps route.image client before end next i l) (sym c.unkept_end.ensures)
     (subst (λ (log : Log). SyncKeeps route.image client before (unkept_end refused) log i l) is
@@ -432,9 +459,13 @@ loop-entry-preserved g c =
     let done : AskedFor client route entry (Ships client route entry (Some on.0)) u v =
     subst (λ (r : Option Message). AskedFor client route entry (Ships client route entry r) u v) on.1 shipped in
     let goes : end_by entry.seq (Some on.0) ≡ None = sym (c.in-None.ensures ∙ ap (end_by entry.seq) on.1) in
+    let journal = c.loop-entry.self-inside.journal in
+    let told : Told j l (KeepsNext {E = KeepError} route.image client next (next_notes journal true next) (Ok c.in_default-keep_log.field-0)) =
+    subst (λ (n : List ℕ). Told j l (KeepsNext {E = KeepError} n client next (next_notes journal true next) (Ok c.in_default-keep_log.field-0))) c.bytes-image.ensures.value c.in_default-keep_log.ensures.kept in
     let kept : Told j l (KeepsLog {E = KeepError} route.image client (acknowledged_first mid) (Ok c.in_default-keep_log.field-0)) =
-    subst (λ (log : Log). Told j l (KeepsLog {E = KeepError} route.image client log (Ok c.in_default-keep_log.field-0))) (sym is)
-    (subst (λ (n : List ℕ). Told j l (KeepsLog {E = KeepError} n client next (Ok c.in_default-keep_log.field-0))) c.bytes.ensures.value c.in_default-keep_log.ensures.kept) in
+    next_keeps {E = KeepError} route.image client (acknowledged_first mid) (next_notes journal true (acknowledged_first mid)) (Ok c.in_default-keep_log.field-0) j l
+    (acked_one route.image client mid (first_some mid.pending entry first) journal j c.loop-entry.invariant.current)
+    (subst (λ (log : Log). Told j l (KeepsNext {E = KeepError} route.image client log (next_notes journal true log) (Ok c.in_default-keep_log.field-0))) (sym is) told) in
     record {
       later = omega (arith, c.loop-entry.invariant.later, c.in-Ok.ensures.later);
       faults = c.in_default-keep_log.ensures.cause.never (λ is. absurd (cc)) ∙ c.loop-entry.invariant.faults;
@@ -442,6 +473,8 @@ loop-entry-preserved g c =
       some = some_more before mid next c.loop-entry.invariant.some (first_some mid.pending entry first) (sym is);
       keeps = subst (λ (log : Log). KeepsAcked before route.image client log i l) is
           (keeps_more route.image client before mid i j l c.loop-entry.invariant.keeps (first_some mid.pending entry first) (Ok c.in_default-keep_log.field-0) kept);
+      current = subst (IsCurrent l route.image client next) (sym c.in_default-keep_log.ensures.journal)
+          (next_current {E = KeepError} route.image client next journal (next_notes journal true next) (Ok c.in_default-keep_log.field-0) j l told);
       world = subst (λ (log : Log). WentSoFar client route before log i l t v) is
           (acked_more client route before mid entry c.in-Some.ensures.log first i j keeps t u v c.loop-entry.invariant.world on.0 on.2 goes done l (Ok c.in_default-keep_log.field-0) kept);
     }
@@ -559,3 +592,47 @@ returns-in-Err-keep_log-clause-faults g c =
 pub returns-clause-faults : goal.returns-clause-faults
 returns-clause-faults g c =
     unrisen (Synced c.acked.result ≡ KeepFault) (g.K.Keeper.faults c.args.keeper.now) (g.K.Keeper.faults c.loop-entry.keeper) (λ is. absurd (cc)) c.loop-entry.invariant.faults
+
+-- ---- what the next keeping finds
+
+pub returns-in-Err-clause-ready : goal.returns-in-Err-clause-ready
+returns-in-Err-clause-ready g c =
+    let log = c.loop-entry.self-inside.log in
+    let journal = c.loop-entry.self-inside.journal in
+    let i = g.K.Keeper.images c.loop-entry.keeper in
+    let name = c.args.route.now.image in
+    subst (λ (n : ℕ). IsReady i name (record { number = n; log = log; journal = journal })) (sym c.loop-entry.invariant.number)
+    (current_ready name c.self.inside.number log journal i c.loop-entry.invariant.current)
+
+pub returns-in-Some-end_by-clause-ready : goal.returns-in-Some-end_by-clause-ready
+returns-in-Some-end_by-clause-ready g c =
+    let log = c.loop-entry.self-inside.log in
+    let journal = c.loop-entry.self-inside.journal in
+    let i = g.K.Keeper.images c.loop-entry.keeper in
+    let name = c.args.route.now.image in
+    subst (λ (n : ℕ). IsReady i name (record { number = n; log = log; journal = journal })) (sym c.loop-entry.invariant.number)
+    (current_ready name c.self.inside.number log journal i c.loop-entry.invariant.current)
+
+pub returns-in-Err-keep_log-clause-ready : goal.returns-in-Err-keep_log-clause-ready
+returns-in-Err-keep_log-clause-ready g c =
+    let client = c.self.inside.number in
+    let route = c.args.route.now in
+    let j = g.K.Keeper.images c.loop-entry.keeper in
+    let l = g.K.Keeper.images c.keep_log.new.keeper in
+    let next = c.acknowledge.new.self in
+    let journal = c.loop-entry.self-inside.journal in
+    let refused = c.in-Err-keep_log.refused in
+    let told : Told j l (KeepsNext {E = KeepError} route.image client next (next_notes journal true next) (Err refused)) =
+    subst (λ (n : List ℕ). Told j l (KeepsNext {E = KeepError} n client next (next_notes journal true next) (Err refused))) c.bytes-image.ensures.value c.in-Err-keep_log.ensures.kept in
+    subst (λ (n : ℕ). IsReady l route.image (record { number = n; log = next; journal = c.keep_log.new.journal })) (sym c.loop-entry.invariant.number)
+    (current_ready route.image client next c.keep_log.new.journal l
+    (subst (IsCurrent l route.image client next) (sym c.in-Err-keep_log.ensures.journal) (next_current {E = KeepError} route.image client next journal (next_notes journal true next) (Err refused) j l told)))
+
+pub returns-clause-ready : goal.returns-clause-ready
+returns-clause-ready g c =
+    let log = c.loop-entry.self-inside.log in
+    let journal = c.loop-entry.self-inside.journal in
+    let i = g.K.Keeper.images c.loop-entry.keeper in
+    let name = c.args.route.now.image in
+    subst (λ (n : ℕ). IsReady i name (record { number = n; log = log; journal = journal })) (sym c.loop-entry.invariant.number)
+    (current_ready name c.self.inside.number log journal i c.loop-entry.invariant.current)
