@@ -1,5 +1,5 @@
 -- What serving an operation over the wires comes to, once the surrogate's own asks are forgotten.
-use Rattle.std.proofs.Common.{◌≡◌, inl, inr, ⊎_elim, ℕ, zero, suc, ◌≤◌, List, [], ◌∷◌, ◌++◌, length, take, Some, Result, Ok, Err, IfOk, OnOk, sym, ◌∙◌, ap, subst}
+use Rattle.std.proofs.Common.{◌≡◌, inl, inr, ⊎_elim, ℕ, zero, suc, ◌≤◌, List, [], ◌∷◌, ◌++◌, length, take, Some, Result, Ok, Err, IfOk, OnOk, refl, sym, ◌∙◌, ap, subst}
 use Rattle.std.specs.Prelude.{OnErr}
 use Rattle.std.specs.declared.alloc.AllocError.{AllocError}
 use Rattle.outside.specs.Outside.{RoseBy}
@@ -30,7 +30,7 @@ use Rattle.surrogate_core.proofs.Free.{handlings_move_alone, replies_are_free}
 use Rattle.mem_net.specs.declared.fate.Fate.{Fate}
 use Rattle.mem_net.specs.Net.{Wire, world_of}
 use Rattle.mem_net.specs.Spending.{IsAny, IsGivenAnswer, AreGiven, AreQuiet, Takes, Spends}
-use Rattle.mem_net.specs.Scenes.{Scene, server_address, work_folder, Replies, IsHandled}
+use Rattle.mem_net.specs.Scenes.{Scene, server_address, work_folder, HasServed, IsHandled, IsUnhandled, StaysButWorld}
 use Rattle.mem_net.specs.Inside.{MovedFree, GoesFree}
 use Rattle.mem_net.proofs.Taking.{take_front}
 use Rattle.mem_net.proofs.Network.{free_then}
@@ -178,6 +178,14 @@ tells_of wires = record { world = Some (world_of wires); troubles = wires.troubl
 abbrev pub scene_by : Wire → Volume → RunnerTelling → Scene
 scene_by wires copy runner = record { world = world_of wires; fates = wires.fates; troubles = wires.troubles; copy = copy; runner = runner }
 
+-- a scene is as itself
+pub stays_as_it_is : (scene : Scene) (request : Message) → IsUnhandled request scene scene
+stays_as_it_is scene request = inl refl
+
+-- where fates and troubles are as before all but the world is
+pub stays_by : (a b : Wire) (copy : Volume) (runner : RunnerTelling) → b.fates ≡ a.fates → b.troubles ≡ a.troubles → StaysButWorld (scene_by a copy runner) (scene_by b copy runner)
+stays_by a b copy runner fates troubles = λ i. record { world = world_of b; fates = fates i; troubles = troubles i; copy = copy; runner = runner }
+
 module _ (old served new : Wire) (copy after : Volume) (runner ran : RunnerTelling) (spends : Spends old served) (forgets : new ≡ record served { asks = take (length old.asks) served.asks }) where
   abbrev pub Served : Message → Result Message AllocError → Type 0
   Served request result = Serves server_address work_folder copy request result after runner ran (tells_of old) (tells_of served)
@@ -192,10 +200,10 @@ module _ (old served new : Wire) (copy after : Volume) (runner ran : RunnerTelli
       }
   serve_goes _ result asked valid operated serves = absurd asked
 
-  serve_one : (request reply : Message) → IsRequest Surrogate request → IsValid request → IsIn request old.packets → IsValid reply → Served request (Ok reply)
-      → Replies request reply (scene_by old copy runner) (scene_by new after ran)
-  serve_one (Operate client sketched) reply asked valid operated is_valid serves =
-      let of = of_server client sketched copy after serves.runs serves.asks (Ok reply) serves.serves in
+  pub has_served : (request : Message) (result : Result Message AllocError) → IsRequest Surrogate request → IsValid request → IsIn request old.packets → IfOk result IsValid → Served request result
+      → HasServed request result (scene_by old copy runner) (scene_by new after ran)
+  has_served (Operate client sketched) result asked valid operated is_valid serves =
+      let of = of_server client sketched copy after serves.runs serves.asks result serves.serves in
       record {
         runs = serves.runs;
         asks = serves.asks;
@@ -207,12 +215,7 @@ module _ (old served new : Wire) (copy after : Volume) (runner ran : RunnerTelli
         rose = subst (λ (n : ℕ). RoseBy (failed_asks serves.asks) old.troubles n) (sym (same_troubles old served new client sketched serves.asks valid operated serves.went spends of forgets)) serves.had_troubles;
         given = given_of old served new client sketched serves.asks valid operated serves.went spends of forgets;
       }
-  serve_one _ reply asked valid operated is_valid serves = absurd asked
-
-  pub serve_replies : (request : Message) (result : Result Message AllocError) → IsRequest Surrogate request → IsValid request → IsIn request old.packets → IfOk result IsValid → Served request result
-      → IfOk result (λ reply. Replies request reply (scene_by old copy runner) (scene_by new after ran))
-  serve_replies request (Ok reply) asked valid operated is_valid serves = serve_one request reply asked valid operated is_valid serves
-  serve_replies request (Err refused) asked valid operated is_valid serves = tt
+  has_served _ result asked valid operated is_valid serves = absurd asked
 
   echo_one : (request reply : Message) → IsRequest Surrogate request → Served request (Ok reply) → Echoes request reply
   echo_one (Operate client sketched) reply asked serves = handling_echoes client sketched copy after serves.runs serves.asks reply serves.serves
@@ -240,12 +243,18 @@ module _ (old served new : Wire) (copy after : Volume) (runner ran : RunnerTelli
 -- ---- a reply that joins the packets
 
 module _ (old : Wire) (a b : Wire) (copy : Volume) (runner : RunnerTelling) (request reply : Message) where
-  pub joined_handled : (start : Scene) (result : Result Message AllocError) → Replies request reply start (scene_by a copy runner) → IfOk result (λ packet. packet ≡ reply)
+  pub joined_handled : (start : Scene) (result : Result Message AllocError) → HasServed request (Ok reply) start (scene_by a copy runner) → IfOk result (λ packet. packet ≡ reply)
       → OnOk result (b ≡ record a { packets = a.packets ++ reply ∷ [] }) → IfOk result (λ packet. IsHandled request packet start (scene_by b copy runner))
-  joined_handled start (Ok packet) replies is joined =
+  joined_handled start (Ok packet) served is joined =
       subst (λ (r : Message). IsHandled request r start (scene_by b copy runner)) (sym is)
-      (scene_by a copy runner, replies, ap (λ (w : Wire). scene_by w copy runner) joined)
-  joined_handled start (Err refused) replies is joined = tt
+      (scene_by a copy runner, served, ap (λ (w : Wire). scene_by w copy runner) joined)
+  joined_handled start (Err refused) served is joined = tt
+
+  -- or does not, for want of memory
+  pub joined_not : (start : Scene) (result : Result Message AllocError) → HasServed request (Ok reply) start (scene_by a copy runner) → OnErr result (b ≡ a)
+      → OnErr result (IsUnhandled request start (scene_by b copy runner))
+  joined_not start (Ok packet) served same = tt
+  joined_not start (Err refused) served same = inr (Ok reply, subst (λ (w : Wire). HasServed request (Ok reply) start (scene_by w copy runner)) (sym same) served)
 
 -- what a surrogate may send joins the packets by a step of no client's own
 pub free_joins : (reply : Message) (w : World) → IsFree w reply → MovedFree w (sent reply w)

@@ -5,4 +5,5 @@ pub mod Deciding
 pub mod Spent
 pub mod Handling
 pub mod Reaching
+pub mod Early
 pub mod Meeting

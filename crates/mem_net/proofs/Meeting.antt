@@ -1,5 +1,5 @@
 -- What becomes of an ask by the fate that decides it, beside a surrogate.
-use Rattle.std.proofs.Common.{◌≡◌, inr, ℕ, ◌≤◌, false, List, [], ◌++◌, Result, Ok, Err, Vec, IfOk, sym, ◌∙◌, ap, subst, arith, append_assoc}
+use Rattle.std.proofs.Common.{◌≡◌, ◌⊎◌, inl, inr, ℕ, suc, ◌≤◌, false, List, [], ◌++◌, Result, Ok, Err, Vec, IfOk, refl, sym, ◌∙◌, ap, subst, arith, append_assoc}
 use Rattle.std.specs.Prelude.{IfErr, OnOk, OnErr}
 use Rattle.std.specs.declared.alloc.Global.{Global}
 use Rattle.std.proofs.Math.Nat.{le_trans}
@@ -22,10 +22,11 @@ use Rattle.mem_net.specs.Net.{Wire, world_of}
 use Rattle.mem_net.specs.Fates.{answered, is_trouble, troubles_after}
 use Rattle.mem_net.specs.Spending.{Takes, quiet_behind, quiet_front}
 use Rattle.mem_net.specs.Scenes.{Scene, with_world, with_troubles, IsHandled, MeetsAlone, MeetsOperation, UnlessMemory, Meets, IsReached, IsMet}
+use Rattle.mem_net.specs.Scenes.{OnMemory, StaysButWorld, IsHandledInPart, handlings, IsCutBefore, IsCutShort}
 use Rattle.mem_net.specs.Inside.{MovedFree, AsksSent, MeetsUnlessMemory, TakesBeside, KeepsFates}
 use Rattle.mem_net.proofs.Network.{got_in, noted_ask}
 use Rattle.mem_net.proofs.Spent.{quiet_after}
-use Rattle.mem_net.proofs.Handling.{scene_by}
+use Rattle.mem_net.proofs.Handling.{scene_by, stays_by}
 
 -- ---- the two errors
 
@@ -171,3 +172,40 @@ quiet_operates LoseReply address m b d (Err LinkFailed) met quiet failed = absur
 quiet_operates (Old k) address m b d (Err LinkFailed) met quiet failed = absurd (cc)
 quiet_operates (Late k) address m b d (Err LinkFailed) met quiet failed = met
 quiet_operates (Inject frame) address m b d (Err LinkFailed) met quiet failed = met
+
+-- ---- where memory runs out
+
+pub on_memory : (fact : Type 0) (result : Result (Vec ℕ Global) LinkError) → OnErr result fact → OnMemory result fact
+on_memory fact (Ok bytes) is = tt
+on_memory fact (Err LinkFailed) is = tt
+on_memory fact (Err LinkMemory) is = is
+
+-- what the wires meet alone stays but for the world
+pub stays_met : (fate : Fate) (result : Result (Vec ℕ Global) LinkError) (a d : Wire) (copy : Volume) (runner : RunnerTelling) → d.fates ≡ a.fates → d.troubles ≡ troubles_after fate result a.troubles
+    → OnMemory result (StaysButWorld (scene_by a copy runner) (scene_by d copy runner))
+stays_met fate (Ok bytes) a d copy runner fates troubles = tt
+stays_met fate (Err LinkFailed) a d copy runner fates troubles = tt
+stays_met fate (Err LinkMemory) a d copy runner fates troubles = stays_by a d copy runner fates troubles
+
+-- an operation was handled, and then memory ran out in it once more, or in noting the ask
+pub cut_after : (count : ℕ) (m reply : Message) (a b d : Scene) (result : Result (Vec ℕ Global) LinkError) → IsHandled m reply a b → OnMemory result (IsHandledInPart count m b d)
+    → OnMemory result (IsHandledInPart (suc count) m a d)
+cut_after count m reply a b d (Ok bytes) handled cut = tt
+cut_after count m reply a b d (Err LinkFailed) handled cut = tt
+cut_after count m reply a b d (Err LinkMemory) handled cut = inr (reply, b, handled, cut)
+
+pub cut_passing : (m reply : Message) (a : Scene) (b d : Wire) (copy : Volume) (runner : RunnerTelling) (result : Result (Vec ℕ Global) LinkError) → IsHandled m reply a (scene_by b copy runner)
+    → KeepsFates b d → OnErr result (IsHandledInPart 1 m a (scene_by d copy runner))
+cut_passing m reply a b d copy runner (Ok bytes) handled kept = tt
+cut_passing m reply a b d copy runner (Err error) handled kept = inr (reply, scene_by b copy runner, handled, stays_by b d copy runner kept.0 kept.1)
+
+pub is_cut : (to : Peer) (fate : Fate) (m : Message) (a b d : Scene) (result : Result (Vec ℕ Global) LinkError)
+    → IsReached (with_world (sent m a.world) a) fate b → OnMemory result (IsHandledInPart (handlings to fate) m b d) → OnMemory result (IsCutShort to m a d)
+is_cut to fate m a b d (Ok bytes) reaches cut = tt
+is_cut to fate m a b d (Err LinkFailed) reaches cut = tt
+is_cut to fate m a b d (Err LinkMemory) reaches cut = inr (inr (fate, b, reaches, cut))
+
+-- before it was decided
+pub is_cut_before : (to : Peer) (m : Message) (a d : Scene) → (d ≡ a) ⊎ IsCutBefore (with_world (sent m a.world) a) d → IsCutShort to m a d
+is_cut_before to m a d (inl same) = inl same
+is_cut_before to m a d (inr cut) = inr (inl cut)

@@ -1,6 +1,8 @@
 -- What happens by the fates before an ask is decided, beside a surrogate.
-use Rattle.std.proofs.Common.{◌≡◌, inl, inr, ◌⊎◌, ℕ, zero, suc, ◌+◌, ◌≤◌, Bool, true, false, List, [], ◌∷◌, ◌++◌, Result, Err, Vec, refl, sym, ◌∙◌, ap, subst, arith, append_assoc}
+use Rattle.std.proofs.Common.{◌≡◌, inl, inr, ◌⊎◌, ℕ, zero, suc, ◌+◌, ◌≤◌, Bool, true, false, List, [], ◌∷◌, ◌++◌, Result, Ok, Err, Vec, refl, sym, ◌∙◌, ap, subst, arith, append_assoc}
+use Rattle.std.specs.Prelude.{OnErr, Some, slice_get}
 use Rattle.std.specs.declared.alloc.Global.{Global}
+use Rattle.std.specs.declared.alloc.AllocError.{AllocError}
 use Rattle.std.proofs.Math.Nat.{le_refl, le_trans}
 use Rattle.tree_values.specs.Tree.{Volume}
 use Rattle.cmd_capture.specs.Runs.{RunnerTelling}
@@ -9,17 +11,19 @@ use Rattle.world_rules.specs.declared.asking.Peer.{Peer}
 use Rattle.world_rules.specs.declared.asking.Peer.TheVariants.{Server, Surrogate}
 use Rattle.world_rules.specs.declared.link.LinkError.{LinkError}
 use Rattle.world_rules.specs.declared.link.LinkError.TheVariants.{Failed as LinkFailed, Memory as LinkMemory}
-use Rattle.world_rules.specs.World.{World}
+use Rattle.world_rules.specs.World.{World, sent}
+use Rattle.world_rules.specs.Asking.{IsRequest}
 use Rattle.mem_net.specs.declared.fate.Fate.{Fate}
 use Rattle.mem_net.specs.declared.fate.Fate.TheVariants.{Pass, LoseRequest, LoseReply, Twice, Old, Late, Inject}
 use Rattle.mem_net.specs.Net.{Wire, world_of}
 use Rattle.mem_net.specs.Fates.{decides, is_trouble, befallen, troubles_after}
 use Rattle.mem_net.specs.Spending.{AreQuiet, Takes, quiet_front, quiet_behind}
 use Rattle.mem_net.specs.Scenes.{Scene, with_world, with_fates, IsHandled, IsLateOperation, Befalls, FrontDecides, Reaches, IsReached, TakesFates}
+use Rattle.mem_net.specs.Scenes.{StaysButWorld, IsUnhandled, BefallsInPart, IsFrontTaken, AllBefall, IsCutBefore}
 use Rattle.mem_net.specs.Inside.{MovedFree, GoesFree, FrontWaits, Nears, TakesBeside}
 use Rattle.mem_net.proofs.Network.{free_none, free_then, free_as}
 use Rattle.mem_net.proofs.Spent.{takes_none, takes_then, quiet_after}
-use Rattle.mem_net.proofs.Handling.{scene_by}
+use Rattle.mem_net.proofs.Handling.{scene_by, stays_by}
 
 -- ---- moves of no client's own, in a row
 
@@ -41,6 +45,19 @@ goes_kept a b moved kept = record {
 
 pub goes_same : (a b : Wire) → b ≡ a → GoesFree a b
 goes_same a b same = subst (GoesFree a) (sym same) (goes_none a)
+
+pub stays_in_part : (fate : Fate) (scene : Scene) → BefallsInPart fate scene scene
+stays_in_part fate scene = inl refl
+
+-- a late operation is left unhandled
+pub operation_in_part : (k : ℕ) (m : Message) (a b : Scene) → slice_get a.world.packets k ≡ Some m → IsRequest Surrogate m → IsUnhandled m a b → BefallsInPart (Late k) a b
+operation_in_part k m a b found asked part = inr (m, (found, asked), part)
+
+-- what the wires alone do stays but for the world, where memory runs out in it, too
+pub kept_in_part : (fate : Fate) (a b : Wire) (copy : Volume) (runner : RunnerTelling) {T : Type 0} (result : Result T AllocError) → (b.fates ≡ a.fates) × (b.troubles ≡ a.troubles)
+    → OnErr result (BefallsInPart fate (scene_by a copy runner) (scene_by b copy runner))
+kept_in_part fate a b copy runner (Ok x) kept = tt
+kept_in_part fate a b copy runner (Err refused) kept = inl (stays_by a b copy runner kept.0 kept.1)
 
 -- one fate is taken
 pub goes_taking : (a b : Wire) (fate : Fate) → a.fates ≡ fate ∷ b.fates → b ≡ record a { fates = b.fates } → GoesFree a b
@@ -99,7 +116,7 @@ waits_by start now fate rest front first_waits (inl same) = λ first others is.
 waits_by start now fate rest front first_waits (inr waits) = waits
 
 pub nears_start : (start : Scene) (wires : Wire) → Nears start start wires wires
-nears_start start wires = record { steps = 0; reaches = λ count fate reached reaches. subst (λ (n : ℕ). Reaches n start fate reached) (omega arith) reaches; goes = goes_none wires; front = inl refl }
+nears_start start wires = record { steps = 0; reaches = λ count fate reached reaches. subst (λ (n : ℕ). Reaches n start fate reached) (omega arith) reaches; befell = refl; goes = goes_none wires; front = inl refl }
 
 -- a fate was taken, and may have happened
 module _ (start now : Scene) (old mid taken new : Wire) (fate : Fate) (so_far : Nears start now old mid)
@@ -125,6 +142,11 @@ untaken_scene mid taken copy runner taking before after =
 module _ (start now next : Scene) (old mid taken new : Wire) (fate : Fate) (rest : List Fate) (so_far : Nears start now old mid)
     (front : now.fates ≡ fate ∷ rest) (mid_front : mid.fates ≡ fate ∷ taken.fates) (taking : taken ≡ record mid { fates = taken.fates })
     (befell : Befalls fate (with_fates rest now) next) (goes : GoesFree taken new) where
+  all_befell : decides fate ≡ false → AllBefall (so_far.steps + 1) start next
+  all_befell waiting =
+      let more : suc so_far.steps ≡ so_far.steps + 1 = omega arith in
+      subst (λ (n : ℕ). AllBefall n start next) more (now, with_fates rest now, fate, so_far.befell, (rest, front, waiting, refl), befell)
+
   reaches_next : decides fate ≡ false → (count : ℕ) (last : Fate) (reached : Scene) → Reaches count next last reached → Reaches (suc count) now last reached
   reaches_next waiting count last reached reaches =
       subst (λ (l : List Fate). FrontDecides (Reaches count) l now last reached) (sym front) (inr (waiting, (next, befell, reaches)))
@@ -135,6 +157,7 @@ module _ (start now next : Scene) (old mid taken new : Wire) (fate : Fate) (rest
     reaches = λ count last reached reaches.
         subst (λ (n : ℕ). Reaches n start last reached) (omega arith)
         (so_far.reaches (suc count) last reached (reaches_next waiting count last reached reaches));
+    befell = all_befell waiting;
     goes = goes_on start now old mid taken new fate so_far mid_front taking goes;
     front = inr (waits_on start now old mid taken new fate so_far mid_front taking goes waiting);
   }
@@ -148,12 +171,29 @@ module _ (start now next : Scene) (old mid taken new : Wire) (fate : Fate) (rest
         (inl (decided, refl, decided_same fate (with_fates rest now) next decided befell))),
   )
 
+-- memory ran out while it happened
+pub cut_on : (start now next : Scene) (old mid : Wire) (fate : Fate) (rest : List Fate) → Nears start now old mid → now.fates ≡ fate ∷ rest → decides fate ≡ false
+    → BefallsInPart fate (with_fates rest now) next → IsCutBefore start next
+cut_on start now next old mid fate rest so_far front waiting part = (so_far.steps, now, with_fates rest now, fate, so_far.befell, (rest, front, waiting, refl), part)
+
 -- no fate is left
 pub reached_end : (start now : Scene) (old mid : Wire) → Nears start now old mid → now.fates ≡ [] → IsReached start Pass now
 reached_end start now old mid so_far none = (
   so_far.steps + 1,
   so_far.reaches 1 Pass now (subst (λ (l : List Fate). FrontDecides (Reaches 0) l now Pass now) (sym none) (refl, refl)),
 )
+
+-- a request was not sent
+pub unsent : (m : Message) (a b : Wire) (copy : Volume) (runner : RunnerTelling) → b ≡ a
+    → (scene_by b copy runner ≡ scene_by a copy runner) ⊎ IsCutBefore (with_world (sent m (world_of a)) (scene_by a copy runner)) (scene_by b copy runner)
+unsent m a b copy runner same = inl (ap (λ (w : Wire). scene_by w copy runner) same)
+
+-- it was, and memory ran out before a fate decided
+pub cut_sent : (m : Message) (a b : Wire) (copy : Volume) (runner : RunnerTelling) (last : Scene) {T : Type 0} (result : Result T AllocError) → b ≡ record a { packets = a.packets ++ m ∷ [] }
+    → OnErr result (IsCutBefore (scene_by b copy runner) last)
+    → OnErr result ((last ≡ scene_by a copy runner) ⊎ IsCutBefore (with_world (sent m (world_of a)) (scene_by a copy runner)) last)
+cut_sent m a b copy runner last (Ok fate) sending cut = tt
+cut_sent m a b copy runner last (Err refused) sending cut = inr (subst (λ (s : Scene). IsCutBefore s last) (ap (λ (w : Wire). scene_by w copy runner) sending) cut)
 
 -- ---- what was taken until an ask was decided
 

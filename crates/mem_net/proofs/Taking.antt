@@ -1,6 +1,7 @@
 -- What the server's numbers tell of the store that it was given, and how its answer fits the request.
 use Rattle.std.proofs.Common.{◌≡◌, ◌≢◌, ℕ, ◌<◌, Bool, true, false, List, [], ◌∷◌, ◌++◌, length, take, Option, Result, refl, ap, subst, arith}
 use Rattle.std.specs.Prelude.{if◌then◌else◌}
+use Rattle.std.specs.List.{flat_map}
 use Rattle.outside.specs.Outside.{Rose}
 use Rattle.outside.specs.Memory.{one_more}
 use Rattle.byte_fields.proofs.Facts.{eq_itself, not_le_of}
@@ -14,9 +15,10 @@ use Rattle.wire_frames.specs.declared.message.Message.TheVariants.{Store, Pull, 
 use Rattle.wire_frames.specs.Frame.{Echoes, client_of}
 use Rattle.world_rules.specs.declared.asking.Peer.{Peer}
 use Rattle.world_rules.specs.declared.asking.Peer.TheVariants.{Server, Surrogate}
-use Rattle.world_rules.specs.Served.{Served, Verdict, Repeated, Early, Outdated, Refused, Taken, judged, verdict, reply, is_want_of_room, answer, state_after, served_after, taken_of, taken_if, with_last}
+use Rattle.world_rules.specs.Served.{Served, Verdict, Repeated, Early, Outdated, Refused, Taken, judged, verdict, reply, is_want_of_room, answer, state_after, served_after, TakenEntry, entry_stored, taken_of, taken_if, with_last}
 use Rattle.world_rules.specs.World.{IsForServer}
 use Rattle.world_rules.specs.Asking.{IsRequest}
+use Rattle.mem_net.specs.Net.{stored_in}
 
 with_last-own : (last : ℕ → ℕ) (client number : ℕ) → with_last last client number client ≡ number
 with_last-own last client number = ap (λ (b : Bool). if b then number else last client) (eq_itself client)
@@ -29,17 +31,20 @@ module _ (client number : ℕ) (effects : List Effect) (base : List Base) (s : S
   abbrev store : Message
   store = Store client number effects base
 
+  abbrev stored : TakenEntry
+  stored = entry_stored client number effects base
+
   new_number : (volume : Volume) → Taken volume ≡ verdict client number effects base s → s.last client < number
   new_number volume is = not_le_of number (s.last client) (judged-new _ _ (first_conflict base s.volume) (apply_all 0 effects s.volume) volume is)
 
-  untaken : (v : Verdict) → v ≡ verdict client number effects base s → (served_after client number v s).last client ≡ s.last client → taken_if v store ≡ []
+  untaken : (v : Verdict) → v ≡ verdict client number effects base s → (served_after client number v s).last client ≡ s.last client → taken_if v stored ≡ []
   untaken Repeated is same = refl
   untaken Early is same = refl
   untaken (Outdated conflict) is same = refl
   untaken (Refused cause) is same = refl
   untaken (Taken volume) is same = absurd (omega (arith, new_number volume is, with_last-own s.last client number, same))
 
-  is_taken : (v : Verdict) → (served_after client number v s).last client ≢ s.last client → taken_if v store ≡ store ∷ []
+  is_taken : (v : Verdict) → (served_after client number v s).last client ≢ s.last client → taken_if v stored ≡ stored ∷ []
   is_taken Repeated other = absurd (other refl)
   is_taken Early other = absurd (other refl)
   is_taken (Outdated conflict) other = absurd (other refl)
@@ -64,7 +69,7 @@ taken-none (Pull client number) s for same = refl
 taken-none _ s for same = absurd for
 
 -- where it changes, the store is taken
-pub taken-one : (m : Message) (s : Served) → IsForServer m → (state_after m s).last (client_of m) ≢ s.last (client_of m) → taken_of m s ≡ m ∷ []
+pub taken-one : (m : Message) (s : Served) → IsForServer m → (state_after m s).last (client_of m) ≢ s.last (client_of m) → taken_of m s ≡ flat_map stored_in (m ∷ [])
 taken-one (Store client number effects base) s for other = is_taken client number effects base s (verdict client number effects base s) other
 taken-one (Pull client number) s for other = absurd (other refl)
 taken-one _ s for other = absurd for

@@ -47,6 +47,12 @@ abbrev pub left_after : List Fate → List Fate
 left_after [] = []
 left_after (fate ∷ fates) = if decides fate then fates else left_after fates
 
+-- whether a packet comes late before an ask is decided
+abbrev pub comes_late : List Fate → Bool
+comes_late [] = false
+comes_late (Late k ∷ fates) = true
+comes_late (fate ∷ fates) = if decides fate then false else comes_late fates
+
 -- an ask of the server meets the first fate that decides; one of the surrogate is lost
 abbrev pub fate_of : Peer → List Fate → Fate
 fate_of Server fates = deciding fates

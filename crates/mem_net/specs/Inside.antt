@@ -17,7 +17,7 @@ use Rattle.mem_net.specs.declared.fate.Fate.{Fate}
 use Rattle.mem_net.specs.Net.{Wire, world_of}
 use Rattle.mem_net.specs.Fates.{decides, is_trouble, deciding, left_after, at_decision, IsEndOf, MeetsFate}
 use Rattle.mem_net.specs.Spending.{AreQuiet, Takes}
-use Rattle.mem_net.specs.Scenes.{Scene, Reaches}
+use Rattle.mem_net.specs.Scenes.{Scene, Reaches, AllBefall}
 
 -- the world moved by steps that may come while any request is asked
 abbrev pub MovedFree : World → World → Type 0
@@ -89,6 +89,7 @@ FrontWaits fates = (first : Fate) (rest : List Fate) → fates ≡ first ∷ res
 pub record Nears (start now : Scene) (old new : Wire) : Type 0 where
   pub steps : ℕ
   pub reaches : (count : ℕ) (fate : Fate) (reached : Scene) → Reaches count now fate reached → Reaches (steps + count) start fate reached
+  pub befell : AllBefall steps start now
   pub goes : GoesFree old new
   pub front : (new.fates ≡ old.fates) ⊎ FrontWaits old.fates
 

@@ -1,6 +1,7 @@
 -- The network with its surrogate: what an operation comes to, and what becomes of an ask.
-use Rattle.std.specs.Prelude.{◌≡◌, ◌≢◌, ◌⊎◌, ℕ, codes, zero, suc, true, false, List, [], ◌∷◌, Option, Some, slice_get, Result, Ok, Err, Vec}
+use Rattle.std.specs.Prelude.{◌≡◌, ◌≢◌, ◌⊎◌, ℕ, codes, zero, suc, true, false, List, [], ◌∷◌, Option, Some, slice_get, Result, Ok, Err, IfOk, Vec}
 use Rattle.std.specs.declared.alloc.Global.{Global}
+use Rattle.std.specs.declared.alloc.AllocError.{AllocError}
 use Rattle.outside.specs.Outside.{RoseBy}
 use Rattle.tree_values.specs.Tree.{Volume}
 use Rattle.cmd_capture.specs.declared.runner.Run.{Run}
@@ -17,7 +18,7 @@ use Rattle.world_rules.specs.declared.link.LinkError.TheVariants.{Failed as Link
 use Rattle.world_rules.specs.World.{World, MovedAlone, sent}
 use Rattle.world_rules.specs.Asking.{IsRequest}
 use Rattle.world_rules.specs.Settling.{failed_asks}
-use Rattle.surrogate_core.specs.Serving.{ServesTo, failed_runs, telling}
+use Rattle.surrogate_core.specs.Serving.{ServesTo, failures_told, telling}
 use Rattle.mem_net.specs.declared.fate.Fate.{Fate}
 use Rattle.mem_net.specs.declared.fate.Fate.TheVariants.{Pass, LoseRequest, LoseReply, Twice, Old, Late}
 use Rattle.mem_net.specs.declared.parts.Parts.{Parts}
@@ -64,14 +65,14 @@ server_address = codes "srv"
 abbrev pub work_folder : List ℕ
 work_folder = codes "work"
 
--- An operation that was sent is served to this reply: meanwhile the world goes on alone, and the surrogate's asks take fates from the
+-- An operation that was sent is served to this result: meanwhile the world goes on alone, and the surrogate's asks take fates from the
 -- front. Where none of these is a trouble, the answers to its asks were the server's own at moments of it.
-pub record Replies (request reply : Message) (old new : Scene) : Type 0 where
+pub record HasServed (request : Message) (result : Result Message AllocError) (old new : Scene) : Type 0 where
   pub runs : List Run
   pub asks : List Ask
-  pub serves : ServesTo server_address work_folder old.copy request runs asks (Ok reply) new.copy
-  pub valid : IsValid reply
-  pub has_run : HasRun runs (failed_runs reply) old.runner new.runner
+  pub serves : ServesTo server_address work_folder old.copy request runs asks result new.copy
+  pub valid : IfOk result IsValid
+  pub has_run : HasRun runs (failures_told result) old.runner new.runner
   pub moved : MovedAlone [] old.world new.world
   pub takes : Takes old.fates new.fates old.troubles new.troubles
   pub rose : RoseBy (failed_asks asks) old.troubles new.troubles
@@ -79,7 +80,7 @@ pub record Replies (request reply : Message) (old new : Scene) : Type 0 where
 
 -- the operation is handled by the surrogate: it is served, and the reply joins the packets
 abbrev pub IsHandled : Message → Message → Scene → Scene → Type 0
-IsHandled request reply old new = (served : Scene) × Replies request reply old served × (new ≡ with_world (sent reply served.world) served)
+IsHandled request reply old new = (served : Scene) × HasServed request (Ok reply) old served × (new ≡ with_world (sent reply served.world) served)
 
 -- ---- what happens before an ask is decided
 
@@ -155,6 +156,64 @@ pub record IsMet (to : Peer) (address : List ℕ) (request : Message) (old new :
   pub reached : Scene
   pub reaches : IsReached (with_world (sent request old.world) old) fate reached
   pub meets : Meets to fate address request reached new result
+
+-- ---- where memory runs out
+
+-- the fact holds where memory ran out
+abbrev pub OnMemory : Result (Vec ℕ Global) LinkError → Type 0 → Type 0
+OnMemory (Err LinkMemory) fact = fact
+OnMemory (Err LinkFailed) fact = Unit {0}
+OnMemory (Ok frame) fact = Unit {0}
+
+-- all but the world is as before
+abbrev pub StaysButWorld : Scene → Scene → Type 0
+StaysButWorld old new = new ≡ with_world new.world old
+
+-- no reply to the operation joins the packets: all but the world is as before, or it was served
+abbrev pub IsUnhandled : Message → Scene → Scene → Type 0
+IsUnhandled request old new = StaysButWorld old new ⊎ ((result : Result Message AllocError) × HasServed request result old new)
+
+-- memory ran out while the operation was handled so many times
+abbrev pub IsHandledInPart : ℕ → Message → Scene → Scene → Type 0
+IsHandledInPart zero request old new = StaysButWorld old new
+IsHandledInPart (suc count) request old new =
+    IsUnhandled request old new ⊎ ((reply : Message) × (middle : Scene) × IsHandled request reply old middle × IsHandledInPart count request middle new)
+
+-- memory ran out while this fate happened: a late operation is left unhandled, or all but the world is as before
+abbrev pub BefallsInPart : Fate → Scene → Scene → Type 0
+BefallsInPart fate old new = StaysButWorld old new ⊎ ((request : Message) × IsLateOperation fate old request × IsUnhandled request old new)
+
+-- this fate is the front of the fates, decides nothing, and is taken
+abbrev pub IsFrontTaken : Fate → Scene → Scene → Type 0
+IsFrontTaken fate old taken = (rest : List Fate) × (old.fates ≡ fate ∷ rest) × (decides fate ≡ false) × (taken ≡ with_fates rest old)
+
+-- so many fates that decide nothing were taken and happened, one after the other
+abbrev pub AllBefall : ℕ → Scene → Scene → Type 0
+AllBefall zero old new = new ≡ old
+AllBefall (suc count) old new =
+    (middle taken : Scene) × (fate : Fate) × AllBefall count old middle × IsFrontTaken fate middle taken × Befalls fate taken new
+
+-- fates that decide nothing were taken and happened, and while the last of them did memory ran out
+abbrev pub IsCutBefore : Scene → Scene → Type 0
+IsCutBefore old new =
+    (count : ℕ) × (middle taken : Scene) × (fate : Fate) × AllBefall count old middle × IsFrontTaken fate middle taken × BefallsInPart fate taken new
+
+-- how often an operation is handled by the fate that decides its ask; a request to the server is none
+abbrev pub handlings : Peer → Fate → ℕ
+handlings Server fate = 0
+handlings Surrogate Pass = 1
+handlings Surrogate LoseReply = 1
+handlings Surrogate Twice = 2
+handlings Surrogate fate = 0
+
+-- What an ask left where memory ran out: it was not sent, and all is as before; or fates before the one that decides happened, and memory
+-- ran out while the last of them did, or once the one that decides was taken. No fate behind it is taken, and no trouble is counted, but
+-- by the asks of a surrogate that served an operation meanwhile.
+abbrev pub IsCutShort : Peer → Message → Scene → Scene → Type 0
+IsCutShort to request old new =
+    let start = with_world (sent request old.world) old in
+    (new ≡ old)
+    ⊎ (IsCutBefore start new ⊎ ((fate : Fate) × (reached : Scene) × IsReached start fate reached × IsHandledInPart (handlings to fate) request reached new))
 
 -- ---- what an ask takes
 

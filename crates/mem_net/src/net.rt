@@ -120,14 +120,15 @@ impl<R> MemNet<R> {
 }
 
 impl<R: Runner> Link for MemNet<R> {
-    ghost use Rattle.std.specs.Prelude.{Some, IfOk};
+    ghost use Rattle.std.specs.Prelude.{false, Some, IfOk};
     ghost use Rattle.outside.specs.Outside.{Told, Rose, HasCause};
     ghost use Rattle.wire_frames.specs.declared.message.Message.{Message};
     ghost use Rattle.wire_frames.specs.Frame.{Spells};
     ghost use Rattle.world_rules.specs.Asking.{IsRequest, IsReplyTo, AsksOnce, IsDirect};
     ghost use Rattle.mem_net.specs.Net.{world_of};
+    ghost use Rattle.mem_net.specs.Fates.{comes_late, deciding, troubles_after, LeavesFates};
     ghost use Rattle.mem_net.specs.Spending.{Spends, spends_none, spends_then};
-    ghost use Rattle.mem_net.specs.Scenes.{scene_of, UnlessMemory, IsMet, TakesFates};
+    ghost use Rattle.mem_net.specs.Scenes.{scene_of, UnlessMemory, IsMet, TakesFates, OnMemory, IsCutShort};
 
     ghost tells = { λ n. record { world = Some (world_of n.wires); troubles = n.wires.troubles } };
 
@@ -157,6 +158,13 @@ impl<R: Runner> Link for MemNet<R> {
         ensures fates { TakesFates self.old.wires.fates self.new.wires.fates self.old.wires.troubles self.new.wires.troubles to result }
         ensures met { (request : Message) → Spells request frame.now
             → UnlessMemory result (IsMet to address.now request (scene_of R.runs R.faults self.old) (scene_of R.runs R.faults self.new) result) }
+        ensures cut { (request : Message) → Spells request frame.now
+            → OnMemory result (IsCutShort to request (scene_of R.runs R.faults self.old) (scene_of R.runs R.faults self.new)) }
+
+        // Where no packet comes late before it is decided, an ask of the server is as without a surrogate.
+        ensures lone { to ≡ Peer.Server → comes_late self.old.wires.fates ≡ false
+            → LeavesFates result self.old.wires.fates self.new.wires.fates
+            × (self.new.wires.troubles ≡ troubles_after (deciding self.old.wires.fates) result self.old.wires.troubles) }
     {
         self.parts.ask(to, address, frame)
     }

@@ -8,10 +8,11 @@ ghost use Rattle.world_rules.specs.World.{Is, MovedBy, IsFree, sent};
 ghost use Rattle.world_rules.specs.Asking.{IsRequest, IsReplyTo, AsksOnce, IsDirect};
 ghost use Rattle.surrogate_core.specs.Handling.{Idle};
 ghost use Rattle.mem_net.specs.Net.{world_of};
-ghost use Rattle.mem_net.specs.Fates.{decides};
+ghost use Rattle.mem_net.specs.Fates.{decides, comes_late, deciding, troubles_after, LeavesFates};
 ghost use Rattle.mem_net.specs.Spending.{Takes, Spends};
-ghost use Rattle.mem_net.specs.Scenes.{scene_of, with_world, Replies, IsHandled, Befalls, IsReached, UnlessMemory};
+ghost use Rattle.mem_net.specs.Scenes.{scene_of, with_world, HasServed, IsHandled, Befalls, IsReached, UnlessMemory};
 ghost use Rattle.mem_net.specs.Scenes.{MeetsOperation, IsMet, TakesFates};
+ghost use Rattle.mem_net.specs.Scenes.{OnMemory, IsUnhandled, IsHandledInPart, BefallsInPart, IsCutBefore, handlings, IsCutShort};
 ghost use Rattle.mem_net.specs.Inside.{IsSent, AsksSent, decision, GoesFree, FrontWaits, TakesBeside};
 ghost use Rattle.mem_net.specs.declared.fate.Fate.TheVariants.{Pass, Late};
 
@@ -41,8 +42,7 @@ impl<R: Runner> Parts<R> {
         requires request { IsRequest Peer.Surrogate operation }
         requires sent { IsIn operation self.old.wires.packets }
         ensures idle { self.new.surrogate.phase ≡ Idle }
-        ensures replies { IfOk result (λ reply. Replies operation reply (scene_of R.runs R.faults self.old)
-            (scene_of R.runs R.faults self.new)) }
+        ensures served { HasServed operation result (scene_of R.runs R.faults self.old) (scene_of R.runs R.faults self.new) }
         ensures echoes { IfOk result (Echoes operation) }
         ensures free { IfOk result (IsFree (world_of self.new.wires)) }
         ensures goes { GoesFree self.old.wires self.new.wires }
@@ -68,6 +68,7 @@ impl<R: Runner> Parts<R> {
         ensures idle { self.new.surrogate.phase ≡ Idle }
         ensures handled { IfOk result (λ reply. IsHandled request.now reply (scene_of R.runs R.faults self.old)
             (scene_of R.runs R.faults self.new)) }
+        ensures cut { OnErr result (IsUnhandled request.now (scene_of R.runs R.faults self.old) (scene_of R.runs R.faults self.new)) }
         ensures echoes { IfOk result (Echoes request.now) }
         ensures goes { GoesFree self.old.wires self.new.wires }
     {
@@ -83,6 +84,7 @@ impl<R: Runner> Parts<R> {
         requires idle { self.old.surrogate.phase ≡ Idle }
         ensures idle { self.new.surrogate.phase ≡ Idle }
         ensures befalls { OnOk result (Befalls (Late k) (scene_of R.runs R.faults self.old) (scene_of R.runs R.faults self.new)) }
+        ensures cut { OnErr result (BefallsInPart (Late k) (scene_of R.runs R.faults self.old) (scene_of R.runs R.faults self.new)) }
         ensures goes { GoesFree self.old.wires self.new.wires }
     {
         match self.wires.operation_at(k)? {
@@ -104,6 +106,7 @@ impl<R: Runner> Parts<R> {
         ensures ok { IfOk result (λ decided. decided ≡ decision fate) }
         ensures err { OnErr result (decides fate ≡ false) }
         ensures befalls { OnOk result (Befalls fate (scene_of R.runs R.faults self.old) (scene_of R.runs R.faults self.new)) }
+        ensures cut { OnErr result (BefallsInPart fate (scene_of R.runs R.faults self.old) (scene_of R.runs R.faults self.new)) }
         ensures goes { GoesFree self.old.wires self.new.wires }
     {
         match fate {
@@ -123,6 +126,7 @@ impl<R: Runner> Parts<R> {
         ensures reaches { IfOk result (λ fate. IsReached (scene_of R.runs R.faults self.old) fate (scene_of R.runs R.faults self.new)) }
         ensures goes { GoesFree self.old.wires self.new.wires }
         ensures front { OnErr result (FrontWaits self.old.wires.fates) }
+        ensures cut { OnErr result (IsCutBefore (scene_of R.runs R.faults self.old) (scene_of R.runs R.faults self.new)) }
     {
         while let Some(fate) = self.wires.take_fate() {
             if let Some(decided) = self.befall(fate)? {
@@ -145,6 +149,9 @@ impl<R: Runner> Parts<R> {
         ensures sent { OnOk result (IsIn request.now self.new.wires.packets) }
         ensures takes { Takes self.old.wires.fates self.new.wires.fates self.old.wires.troubles self.new.wires.troubles }
         ensures front { OnErr result ((self.new.wires ≡ self.old.wires) ⊎ FrontWaits self.old.wires.fates) }
+        ensures cut { OnErr result ((scene_of R.runs R.faults self.new ≡ scene_of R.runs R.faults self.old)
+            ⊎ IsCutBefore (with_world (sent request.now (world_of self.old.wires)) (scene_of R.runs R.faults self.old))
+            (scene_of R.runs R.faults self.new)) }
     {
         self.wires.send(request)?;
         self.decide()
@@ -162,6 +169,7 @@ impl<R: Runner> Parts<R> {
         ensures once { AsksSent Peer.Surrogate address.now request (world_of self.old.wires) (world_of self.new.wires) result }
         ensures takes { Takes self.old.wires.fates self.new.wires.fates self.old.wires.troubles self.new.wires.troubles }
         ensures memory { IfErr result (λ error. error ≡ LinkError.Memory) }
+        ensures cut { OnErr result (IsHandledInPart 1 request (scene_of R.runs R.faults self.old) (scene_of R.runs R.faults self.new)) }
     {
         match self.operate(&request) {
             Ok(reply) => self.wires.answer(Peer::Surrogate, address, request, reply),
@@ -185,6 +193,8 @@ impl<R: Runner> Parts<R> {
         ensures once { AsksSent Peer.Surrogate address.now request (world_of self.old.wires) (world_of self.new.wires) result }
         ensures takes { TakesBeside fate self.old.wires.fates self.new.wires.fates self.old.wires.troubles self.new.wires.troubles }
         ensures cause { HasCause LinkError.Failed self.old.wires.troubles self.new.wires.troubles result }
+        ensures cut { OnMemory result (IsHandledInPart (handlings Peer.Surrogate fate) request (scene_of R.runs R.faults self.old)
+            (scene_of R.runs R.faults self.new)) }
     {
         match fate {
             Fate::Pass => self.pass(address, request),
@@ -238,6 +248,13 @@ impl<R: Runner> Parts<R> {
         ensures fates { TakesFates self.old.wires.fates self.new.wires.fates self.old.wires.troubles self.new.wires.troubles to result }
         ensures met { (request : Message) → Spells request frame.now
             → UnlessMemory result (IsMet to address.now request (scene_of R.runs R.faults self.old) (scene_of R.runs R.faults self.new) result) }
+        ensures cut { (request : Message) → Spells request frame.now
+            → OnMemory result (IsCutShort to request (scene_of R.runs R.faults self.old) (scene_of R.runs R.faults self.new)) }
+
+        // Where no packet comes late before it is decided, an ask of the server is as without a surrogate.
+        ensures lone { to ≡ Peer.Server → comes_late self.old.wires.fates ≡ false
+            → LeavesFates result self.old.wires.fates self.new.wires.fates
+            × (self.new.wires.troubles ≡ troubles_after (deciding self.old.wires.fates) result self.old.wires.troubles) }
     {
         let Ok(request) = read(self.wires.allocator(), frame) else {
             return Err(LinkError::Memory);

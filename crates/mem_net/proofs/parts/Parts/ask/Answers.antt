@@ -10,13 +10,16 @@ use Rattle.world_rules.specs.Asking.{AsksOnce, IsDirect, IsReplyTo}
 use Rattle.surrogate_core.specs.Serving.{telling}
 use Rattle.mem_net.specs.declared.fate.Fate.{Fate}
 use Rattle.mem_net.specs.Net.{Wire, world_of}
-use Rattle.mem_net.specs.Scenes.{scene_of, with_world, UnlessMemory, IsMet}
+use Rattle.mem_net.specs.Scenes.{scene_of, with_world, UnlessMemory, IsMet, OnMemory, IsHandledInPart, handlings, IsCutShort}
 use Rattle.mem_net.specs.Inside.{AsksSent, MeetsUnlessMemory}
 use Rattle.mem_net.proofs.Taking.{for_server, not_the_server}
 use Rattle.mem_net.proofs.Network.{asks_on, asks_once, directly_on, asks_directly, calm_directly, replied, same_request}
 use Rattle.mem_net.proofs.Spent.{takes_none, quiet_after, want_after, spent_in_want, spent}
 use Rattle.mem_net.proofs.Reaching.{was_taken, takes_beside, takes_by_server, takes_by_surrogate, takes_in_want}
 use Rattle.mem_net.proofs.Meeting.{quiet_meets, quiet_operates, alone_met, rose_later, met_by_server, met_by_surrogate, is_met}
+use Rattle.mem_net.proofs.Meeting.{stays_met, is_cut, is_cut_before}
+use Rattle.mem_net.proofs.Deciding.{left_is_end}
+use Rattle.mem_net.proofs.Early.{reached_early, lone_in_want, lone_met}
 use Rattle.mem_net.proofs.parts.Parts.ask.Goals as goal
 
 -- ---- want of memory before the ask is decided
@@ -33,6 +36,28 @@ returns-in_default-reach-clause-kept g c =
 pub returns-in_default-reach-clause-fates : goal.returns-in_default-reach-clause-fates
 returns-in_default-reach-clause-fates g c =
     takes_in_want c.args.to c.args.self.now.wires c.reach.new.self.wires c.in_default-reach.ensures.takes c.in_default-reach.ensures.front
+
+pub returns-in_default-clause-cut : goal.returns-in_default-clause-cut
+returns-in_default-clause-cut g c = λ request spells. inl refl
+
+pub returns-in_default-reach-clause-cut : goal.returns-in_default-reach-clause-cut
+returns-in_default-reach-clause-cut g c = λ request spells.
+    let scene = scene_of g.R.Runner.runs g.R.Runner.faults in
+    let m = c.in-Ok.request in
+    let a = scene c.args.self.now in
+    let d = scene c.reach.new.self in
+    let same = same_request m request (c.in-Ok.ensures.only request spells.0 spells.1) in
+    subst (λ (x : Message). IsCutShort c.args.to x a d) (sym same) (is_cut_before c.args.to m a d c.in_default-reach.ensures.cut)
+
+pub returns-in_default-clause-lone : goal.returns-in_default-clause-lone
+returns-in_default-clause-lone g c = λ served early.
+    let fates = c.args.self.now.wires.fates in
+    (((0, refl), left_is_end fates), refl)
+
+pub returns-in_default-reach-clause-lone : goal.returns-in_default-reach-clause-lone
+returns-in_default-reach-clause-lone g c = λ served early.
+    let scene = scene_of g.R.Runner.runs g.R.Runner.faults in
+    lone_in_want c.in-Ok.request (scene c.args.self.now) (scene c.reach.new.self) early c.in_default-reach.ensures.cut
 
 -- ---- an ask of the server
 
@@ -139,6 +164,35 @@ returns-in-Server-clause-met g c = λ request spells.
     (met_by_server to fate address m b d c.meet.result (sym c.in-Server.is)
     (alone_met Server address m mid.surrogate.copy (telling (runs mid.runner) (faults mid.runner)) mid.wires c.meet.new.self fate c.meet.result met c.meet.ensures.fates c.meet.ensures.troubles)))
 
+pub returns-in-Server-clause-cut : goal.returns-in-Server-clause-cut
+returns-in-Server-clause-cut g c = λ request spells.
+    let runs = g.R.Runner.runs in
+    let faults = g.R.Runner.faults in
+    let to = c.args.to in
+    let m = c.in-Ok.request in
+    let same = same_request m request (c.in-Ok.ensures.only request spells.0 spells.1) in
+    let fate = c.in-Ok-reach.decided in
+    let result = c.meet.result in
+    let mid = c.reach.new.self in
+    let a = scene_of runs faults c.args.self.now in
+    let b = scene_of runs faults mid in
+    let d = scene_of runs faults (record { wires = c.meet.new.self; surrogate = mid.surrogate; runner = mid.runner }) in
+    let stays = stays_met fate result mid.wires c.meet.new.self mid.surrogate.copy (telling (runs mid.runner) (faults mid.runner)) c.meet.ensures.fates c.meet.ensures.troubles in
+    subst (λ (x : Message). OnMemory result (IsCutShort to x a d)) (sym same)
+    (is_cut to fate m a b d result c.in-Ok-reach.ensures.reaches
+    (subst (λ (p : Peer). OnMemory result (IsHandledInPart (handlings p fate) m b d)) (sym c.in-Server.is) stays))
+
+pub returns-in-Server-clause-lone : goal.returns-in-Server-clause-lone
+returns-in-Server-clause-lone g c = λ served early.
+    let scene = scene_of g.R.Runner.runs g.R.Runner.faults in
+    let mid = c.reach.new.self in
+    let fate = c.in-Ok-reach.decided in
+    let start = with_world (sent c.in-Ok.request (world_of c.args.self.now.wires)) (scene c.args.self.now) in
+    let reached = scene mid in
+    let reaches = c.in-Ok-reach.ensures.reaches in
+    lone_met c.meet.result fate start reached (scene (record { wires = c.meet.new.self; surrogate = mid.surrogate; runner = mid.runner }))
+    (reached_early reaches.0 start fate reached early reaches.1) c.meet.ensures.fates c.meet.ensures.troubles
+
 -- ---- an ask of the surrogate
 
 pub returns-in-Surrogate-clause-reply : goal.returns-in-Surrogate-clause-reply
@@ -219,3 +273,21 @@ returns-in-Surrogate-clause-met g c = λ request spells.
     subst (λ (x : Message). UnlessMemory result (IsMet to address x a d result)) (sym same)
     (is_met to fate address m a b d result c.in-Ok-reach.ensures.reaches
     (met_by_surrogate to fate address m b d result (sym c.in-Surrogate.is) c.meet-in-Surrogate.ensures.met))
+
+pub returns-in-Surrogate-clause-cut : goal.returns-in-Surrogate-clause-cut
+returns-in-Surrogate-clause-cut g c = λ request spells.
+    let scene = scene_of g.R.Runner.runs g.R.Runner.faults in
+    let to = c.args.to in
+    let m = c.in-Ok.request in
+    let same = same_request m request (c.in-Ok.ensures.only request spells.0 spells.1) in
+    let fate = c.in-Ok-reach.decided in
+    let result = c.meet-in-Surrogate.result in
+    let a = scene c.args.self.now in
+    let b = scene c.reach.new.self in
+    let d = scene c.meet-in-Surrogate.new.self in
+    subst (λ (x : Message). OnMemory result (IsCutShort to x a d)) (sym same)
+    (is_cut to fate m a b d result c.in-Ok-reach.ensures.reaches
+    (subst (λ (p : Peer). OnMemory result (IsHandledInPart (handlings p fate) m b d)) (sym c.in-Surrogate.is) c.meet-in-Surrogate.ensures.cut))
+
+pub returns-in-Surrogate-clause-lone : goal.returns-in-Surrogate-clause-lone
+returns-in-Surrogate-clause-lone g c = λ served early. absurd (not_the_server (sym c.in-Surrogate.is ∙ served))

@@ -1,10 +1,11 @@
 use Rattle.std.proofs.Common.{◌∙◌, sym, subst}
+use Rattle.byte_fields.proofs.Fronts.{on_error}
 use Rattle.surrogate_core.specs.Serving.{telling}
 use Rattle.mem_net.specs.declared.fate.Fate.{Fate}
 use Rattle.mem_net.specs.declared.fate.Fate.TheVariants.{Pass}
-use Rattle.mem_net.specs.Scenes.{Scene, scene_of, Befalls, IsReached}
+use Rattle.mem_net.specs.Scenes.{Scene, scene_of, Befalls, IsReached, BefallsInPart}
 use Rattle.mem_net.proofs.Deciding.{undecided, decided_by}
-use Rattle.mem_net.proofs.Reaching.{goes_on, taken_scene, untaken_scene, nears_on, reached_by, reached_end}
+use Rattle.mem_net.proofs.Reaching.{goes_on, taken_scene, untaken_scene, nears_on, reached_by, cut_on, reached_end}
 use Rattle.mem_net.proofs.parts.Parts.decide.Goals as goal
 
 pub returns-in_err-decided-clause-goes : goal.returns-in_err-decided-clause-goes
@@ -12,6 +13,20 @@ returns-in_err-decided-clause-goes g c =
     let scene = scene_of g.R.Runner.runs g.R.Runner.faults in
     goes_on (scene c.args.self.now) (scene c.loop-fate.self) c.args.self.now.wires c.loop-fate.self.wires c.take_fate.new.self c.befall.new.self.wires c.in-Some.fate
     c.loop-fate.invariant.nears c.in-Some.ensures.some c.in-Some.ensures.rest c.in_err-decided.ensures.goes
+
+pub returns-in_err-decided-clause-cut : goal.returns-in_err-decided-clause-cut
+returns-in_err-decided-clause-cut g c =
+    let runs = g.R.Runner.runs in
+    let faults = g.R.Runner.faults in
+    let mid = c.loop-fate.self in
+    let taken = c.take_fate.new.self in
+    let fate = c.in-Some.fate in
+    let next = scene_of runs faults c.befall.new.self in
+    on_error c.from_residual.result
+    (cut_on (scene_of runs faults c.args.self.now) (scene_of runs faults mid) next c.args.self.now.wires mid.wires fate taken.fates c.loop-fate.invariant.nears
+    c.in-Some.ensures.some c.in_err-decided.ensures.err
+    (subst (λ (s : Scene). BefallsInPart fate s next) (taken_scene mid.wires taken mid.surrogate.copy (telling (runs mid.runner) (faults mid.runner)) c.in-Some.ensures.rest)
+    c.in_err-decided.ensures.cut))
 
 pub returns-in-Some-2-clause-goes : goal.returns-in-Some-2-clause-goes
 returns-in-Some-2-clause-goes g c =

@@ -1,15 +1,15 @@
-use Rattle.std.proofs.Common.{[], inr, sym, subst}
+use Rattle.std.proofs.Common.{[], inl, inr, sym, subst}
 use Rattle.world_rules.specs.declared.asking.Peer.TheVariants.{Surrogate}
 use Rattle.world_rules.specs.World.{Is}
 use Rattle.world_rules.proofs.Asks.{moved_packets}
 use Rattle.surrogate_core.specs.Serving.{telling}
 use Rattle.mem_net.specs.declared.fate.Fate.{Fate}
-use Rattle.mem_net.specs.declared.fate.Fate.TheVariants.{LoseRequest}
+use Rattle.mem_net.specs.declared.fate.Fate.TheVariants.{LoseRequest, Old}
 use Rattle.mem_net.specs.Net.{world_of}
-use Rattle.mem_net.specs.Scenes.{scene_of, UnlessMemory, MeetsOperation}
+use Rattle.mem_net.specs.Scenes.{scene_of, UnlessMemory, MeetsOperation, OnMemory, IsHandledInPart, handlings}
 use Rattle.mem_net.proofs.Network.{asks_later, lost_once}
 use Rattle.mem_net.proofs.Spent.{takes_then}
-use Rattle.mem_net.proofs.Meeting.{alone_met, lost_reply_met, twice_met, old_once, beside_quiet}
+use Rattle.mem_net.proofs.Meeting.{alone_met, lost_reply_met, twice_met, old_once, beside_quiet, on_memory, stays_met, cut_after}
 use Rattle.mem_net.proofs.parts.Parts.meet.Goals as goal
 
 -- ---- the reply is lost
@@ -87,3 +87,63 @@ returns-in-Err-operate-clause-once g c = inr (c.in-Err-operate.ensures.goes.move
 pub returns-in-Old-clause-once : goal.returns-in-Old-clause-once
 returns-in-Old-clause-once g c =
     old_once c.in-Old.k Surrogate c.args.address.now c.args.request (world_of c.args.self.now.wires) (world_of c.answer_by_old.new.self) c.answer_by_old.result c.answer_by_old.ensures.met
+
+-- ---- memory runs out
+
+pub returns-in-Pass-clause-cut : goal.returns-in-Pass-clause-cut
+returns-in-Pass-clause-cut g c =
+    let scene = scene_of g.R.Runner.runs g.R.Runner.faults in
+    subst (λ (f : Fate). OnMemory c.pass.result (IsHandledInPart (handlings Surrogate f) c.args.request (scene c.args.self.now) (scene c.pass.new.self))) (sym c.in-Pass.is)
+    (on_memory (IsHandledInPart 1 c.args.request (scene c.args.self.now) (scene c.pass.new.self)) c.pass.result c.pass.ensures.cut)
+
+pub returns-in-LoseRequest-clause-cut : goal.returns-in-LoseRequest-clause-cut
+returns-in-LoseRequest-clause-cut g c =
+    let runs = g.R.Runner.runs in
+    let faults = g.R.Runner.faults in
+    let a = c.args.self.now in
+    let d = scene_of runs faults (record { wires = c.lose.new.self; surrogate = a.surrogate; runner = a.runner }) in
+    subst (λ (f : Fate). OnMemory c.lose.result (IsHandledInPart (handlings Surrogate f) c.args.request (scene_of runs faults a) d)) (sym c.in-LoseRequest.is)
+    (stays_met LoseRequest c.lose.result a.wires c.lose.new.self a.surrogate.copy (telling (runs a.runner) (faults a.runner)) c.lose.ensures.fates c.lose.ensures.troubles)
+
+pub returns-in-Ok-clause-cut : goal.returns-in-Ok-clause-cut
+returns-in-Ok-clause-cut g c =
+    let runs = g.R.Runner.runs in
+    let faults = g.R.Runner.faults in
+    let m = c.args.request in
+    let a = scene_of runs faults c.args.self.now in
+    let b = c.operate.new.self in
+    let d = scene_of runs faults (record { wires = c.lose-in-Ok.new.self; surrogate = b.surrogate; runner = b.runner }) in
+    subst (λ (f : Fate). OnMemory c.lose-in-Ok.result (IsHandledInPart (handlings Surrogate f) m a d)) (sym c.in-LoseReply.is)
+    (cut_after 0 m c.in-Ok.lost a (scene_of runs faults b) d c.lose-in-Ok.result c.in-Ok.ensures.handled
+    (stays_met LoseRequest c.lose-in-Ok.result b.wires c.lose-in-Ok.new.self b.surrogate.copy (telling (runs b.runner) (faults b.runner)) c.lose-in-Ok.ensures.fates c.lose-in-Ok.ensures.troubles))
+
+pub returns-in-Err-clause-cut : goal.returns-in-Err-clause-cut
+returns-in-Err-clause-cut g c =
+    let scene = scene_of g.R.Runner.runs g.R.Runner.faults in
+    subst (λ (f : Fate). IsHandledInPart (handlings Surrogate f) c.args.request (scene c.args.self.now) (scene c.operate.new.self)) (sym c.in-LoseReply.is) (inl c.in-Err.ensures.cut)
+
+pub returns-in-Ok-operate-clause-cut : goal.returns-in-Ok-operate-clause-cut
+returns-in-Ok-operate-clause-cut g c =
+    let scene = scene_of g.R.Runner.runs g.R.Runner.faults in
+    let m = c.args.request in
+    let a = scene c.args.self.now in
+    let b = scene c.operate-in-Twice.new.self in
+    let d = scene c.pass-in-Ok-operate.new.self in
+    let result = c.pass-in-Ok-operate.result in
+    subst (λ (f : Fate). OnMemory result (IsHandledInPart (handlings Surrogate f) m a d)) (sym c.in-Twice.is)
+    (cut_after 1 m c.in-Ok-operate.first a b d result c.in-Ok-operate.ensures.handled (on_memory (IsHandledInPart 1 m b d) result c.pass-in-Ok-operate.ensures.cut))
+
+pub returns-in-Err-operate-clause-cut : goal.returns-in-Err-operate-clause-cut
+returns-in-Err-operate-clause-cut g c =
+    let scene = scene_of g.R.Runner.runs g.R.Runner.faults in
+    subst (λ (f : Fate). IsHandledInPart (handlings Surrogate f) c.args.request (scene c.args.self.now) (scene c.operate-in-Twice.new.self)) (sym c.in-Twice.is) (inl c.in-Err-operate.ensures.cut)
+
+pub returns-in-Old-clause-cut : goal.returns-in-Old-clause-cut
+returns-in-Old-clause-cut g c =
+    let runs = g.R.Runner.runs in
+    let faults = g.R.Runner.faults in
+    let a = c.args.self.now in
+    let d = scene_of runs faults (record { wires = c.answer_by_old.new.self; surrogate = a.surrogate; runner = a.runner }) in
+    subst (λ (f : Fate). OnMemory c.answer_by_old.result (IsHandledInPart (handlings Surrogate f) c.args.request (scene_of runs faults a) d)) (sym c.in-Old.is)
+    (stays_met (Old c.in-Old.k) c.answer_by_old.result a.wires c.answer_by_old.new.self a.surrogate.copy (telling (runs a.runner) (faults a.runner))
+    c.answer_by_old.ensures.fates c.answer_by_old.ensures.troubles)

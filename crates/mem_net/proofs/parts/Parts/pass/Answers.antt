@@ -1,7 +1,7 @@
-use Rattle.std.proofs.Common.{inr}
+use Rattle.std.proofs.Common.{inl, inr}
 use Rattle.surrogate_core.specs.Serving.{telling}
 use Rattle.mem_net.specs.Scenes.{scene_of}
-use Rattle.mem_net.proofs.Meeting.{pass_met, pass_once}
+use Rattle.mem_net.proofs.Meeting.{pass_met, pass_once, cut_passing}
 use Rattle.mem_net.proofs.parts.Parts.pass.Goals as goal
 
 pub returns-in-Ok-clause-met : goal.returns-in-Ok-clause-met
@@ -24,3 +24,16 @@ returns-in-Ok-clause-once g c =
 
 pub returns-in-Err-clause-once : goal.returns-in-Err-clause-once
 returns-in-Err-clause-once g c = inr (c.in-Err.ensures.goes.moved c.args.request)
+
+-- ---- memory runs out
+
+pub returns-in-Ok-clause-cut : goal.returns-in-Ok-clause-cut
+returns-in-Ok-clause-cut g c =
+    let runs = g.R.Runner.runs in
+    let faults = g.R.Runner.faults in
+    let b = c.operate.new.self in
+    cut_passing c.args.request c.in-Ok.reply (scene_of runs faults c.args.self.now) b.wires c.answer.new.self b.surrogate.copy (telling (runs b.runner) (faults b.runner))
+    c.answer.result c.in-Ok.ensures.handled c.answer.ensures.kept
+
+pub returns-in-Err-clause-cut : goal.returns-in-Err-clause-cut
+returns-in-Err-clause-cut g c = inl c.in-Err.ensures.cut

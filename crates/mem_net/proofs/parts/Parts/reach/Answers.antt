@@ -1,10 +1,14 @@
 use Rattle.std.proofs.Common.{[]}
+use Rattle.byte_fields.proofs.Fronts.{on_error}
 use Rattle.tree_values.specs.Lists.{IsIn}
 use Rattle.world_rules.specs.World.{Is}
 use Rattle.world_rules.proofs.Asks.{moved_packets}
+use Rattle.surrogate_core.specs.Serving.{telling}
 use Rattle.mem_net.specs.Net.{world_of}
+use Rattle.mem_net.specs.Scenes.{scene_of}
 use Rattle.mem_net.specs.Inside.{IsSent}
 use Rattle.mem_net.proofs.Delivering.{sent_among, always, was_sent}
+use Rattle.mem_net.proofs.Reaching.{unsent, cut_sent}
 use Rattle.mem_net.proofs.parts.Parts.reach.Goals as goal
 
 pub returns-clause-moved : goal.returns-clause-moved
@@ -24,3 +28,21 @@ returns-clause-sent g c =
     always c.decide.result (IsIn m c.decide.new.self.wires.packets)
     (moved_packets (Is m) [] (world_of c.send.new.self) (world_of c.decide.new.self.wires) m (c.decide.ensures.goes.moved m)
     (sent_among m c.args.self.now.wires c.send.new.self c.in_ok-send.ensures.ok))
+
+-- ---- memory runs out
+
+pub returns-in_err-send-clause-cut : goal.returns-in_err-send-clause-cut
+returns-in_err-send-clause-cut g c =
+    let runs = g.R.Runner.runs in
+    let faults = g.R.Runner.faults in
+    let a = c.args.self.now in
+    on_error c.from_residual.result
+    (unsent c.args.request.now a.wires c.send.new.self a.surrogate.copy (telling (runs a.runner) (faults a.runner)) c.in_err-send.ensures.err)
+
+pub returns-clause-cut : goal.returns-clause-cut
+returns-clause-cut g c =
+    let runs = g.R.Runner.runs in
+    let faults = g.R.Runner.faults in
+    let a = c.args.self.now in
+    cut_sent c.args.request.now a.wires c.send.new.self a.surrogate.copy (telling (runs a.runner) (faults a.runner)) (scene_of runs faults c.decide.new.self)
+    c.decide.result c.in_ok-send.ensures.ok c.decide.ensures.cut

@@ -1,12 +1,14 @@
 use Rattle.std.proofs.Common.{◌≡◌, ◌≢◌, ◌∙◌, ℕ, List, [], ◌∷◌, ◌++◌, take, length, sym, ap, subst, arith}
 use Rattle.std.proofs.lemmas.Bool.Decides.{nat_tests}
+use Rattle.std.specs.List.{flat_map}
+use Rattle.std.proofs.lemmas.Grind.{flat_map-append}
 use Rattle.std.proofs.lemmas.List.{append-nil}
 use Rattle.wire_frames.specs.declared.message.Message.{Message}
 use Rattle.wire_frames.specs.Frame.{IsValid, client_of}
-use Rattle.world_rules.specs.Served.{Served, answer, state_after}
+use Rattle.world_rules.specs.Served.{Served, TakenEntry, answer, state_after}
 use Rattle.world_rules.proofs.Replies.{answer-valid}
 use Rattle.server_core.specs.Holding.{served}
-use Rattle.mem_net.specs.Net.{Wire}
+use Rattle.mem_net.specs.Net.{Wire, stored_in}
 use Rattle.mem_net.proofs.Taking.{taken-none, taken-one, take_front}
 use Rattle.mem_net.proofs.wires.Wires.handle.Goals as goal
 
@@ -32,8 +34,10 @@ returns-then-last_of-before-clause-world c =
     let differs : c.last_of.result ≢ c.last_of-before.result = λ (e : c.last_of.result ≡ c.last_of-before.result). grind (arith, nat_tests, c.if-last_of-before.true) in
     let other : (state_after m s).last (client_of m) ≢ s.last (client_of m) =
     λ e. differs (c.last_of.ensures.last ∙ ap (λ (t : Served). t.last (client_of m)) state ∙ e ∙ sym c.last_of-before.ensures.last) in
-    let taking = c.in_ok-push.ensures.items ∙ ap (λ (x : Message). old ++ x ∷ []) c.in_ok-store.ensures ∙ ap (λ (n : Wire). n.taken ++ m ∷ []) c.self.view_is
-    ∙ ap (λ (l : List Message). a.taken ++ l) (sym (taken-one m s c.requires.request other)) in
+    let taking = ap (flat_map stored_in)
+    (c.in_ok-push.ensures.items ∙ ap (λ (x : Message). old ++ x ∷ []) c.in_ok-store.ensures ∙ ap (λ (n : Wire). n.taken ++ m ∷ []) c.self.view_is)
+    ∙ flat_map-append stored_in a.taken (m ∷ [])
+    ∙ ap (λ (l : List TakenEntry). flat_map stored_in a.taken ++ l) (sym (taken-one m s c.requires.request other)) in
     λ i. record {
       client = (ap (λ (n : Wire). n.client) c.self.view_is) i;
       opening = (ap (λ (n : Wire). served n.opening) c.self.view_is) i;
@@ -55,9 +59,11 @@ returns-clause-world c =
     sym (ap (λ (t : Served). t.last (client_of m)) state) ∙ sym c.last_of.ensures.last ∙ same_last ∙ c.last_of-before.ensures.last in
     let long : c.len-count.result ≡ length old = omega arith in
     let front : take (length old) (old ++ c.in_ok-store.store ∷ []) ≡ old = take_front old (c.in_ok-store.store ∷ []) in
-    let taking = c.truncate-2.ensures.items ∙ ap (λ (l : List Message). take c.len-count.result l) c.in_ok-push.ensures.items
-    ∙ ap (λ (n : ℕ). take n (old ++ c.in_ok-store.store ∷ [])) long ∙ front ∙ ap (λ (n : Wire). n.taken) c.self.view_is ∙ sym (append-nil a.taken)
-    ∙ ap (λ (l : List Message). a.taken ++ l) (sym (taken-none m s c.requires.request same)) in
+    let taking = ap (flat_map stored_in)
+    (c.truncate-2.ensures.items ∙ ap (λ (l : List Message). take c.len-count.result l) c.in_ok-push.ensures.items
+    ∙ ap (λ (n : ℕ). take n (old ++ c.in_ok-store.store ∷ [])) long ∙ front ∙ ap (λ (n : Wire). n.taken) c.self.view_is)
+    ∙ sym (append-nil (flat_map stored_in a.taken))
+    ∙ ap (λ (l : List TakenEntry). flat_map stored_in a.taken ++ l) (sym (taken-none m s c.requires.request same)) in
     λ i. record {
       client = (ap (λ (n : Wire). n.client) c.self.view_is) i;
       opening = (ap (λ (n : Wire). served n.opening) c.self.view_is) i;
