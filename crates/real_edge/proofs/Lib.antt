@@ -1,2 +1,3 @@
+mod Echoing
 mod Framing
 mod Pacing

@@ -1,6 +1,10 @@
--- What the steps of reading a frame do.
+-- What the steps of reading a frame do, and what a reply is to a head.
 use Rattle.std.specs.Prelude.{◌≡◌, ℕ, ◌≤◌, List, ◌++◌, length, take, drop, Option, None, Some}
 use Rattle.std.specs.Io.KnownBytes.{Consumes, IsAtEnd}
+use Rattle.wire_frames.specs.declared.message.Message.{Message}
+use Rattle.wire_frames.specs.declared.head.Head.{Head}
+use Rattle.wire_frames.specs.Frame.{Spells}
+use Rattle.wire_frames.specs.Head.{IsEchoedBy}
 
 -- one read put so many bytes behind the old ones, and none only at the stream's end
 abbrev pub ReadsBlock : ℕ → Option (List ℕ) → Option (List ℕ) → List ℕ → List ℕ → ℕ → Type 0
@@ -16,3 +20,7 @@ IsFront most (Some before) after bytes = (bytes ≡ take most before) × (after 
 abbrev pub ReadsUpTo : ℕ → Option (List ℕ) → Option (List ℕ) → List ℕ → List ℕ → Type 0
 ReadsUpTo most before after old new =
     (bytes : List ℕ) × (new ≡ old ++ bytes) × (length bytes ≤ most) × IsFront most before after bytes
+
+-- the bytes spell a reply to the request with this head
+abbrev pub IsEchoTo : Head → List ℕ → Type 0
+IsEchoTo head bytes = (reply : Message) × Spells reply bytes × IsEchoedBy head reply

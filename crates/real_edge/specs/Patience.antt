@@ -2,8 +2,7 @@
 use Rattle.std.specs.Prelude.{ℕ, ◌/◌, min, Bool, false, ◌==◌, ◌&&◌, if◌then◌else◌, Option, None, Some}
 use Rattle.world_rules.specs.declared.asking.Peer.{Peer}
 use Rattle.world_rules.specs.declared.asking.Peer.TheVariants.{Server, Surrogate}
-use Rattle.wire_frames.specs.declared.message.Message.{Message}
-use Rattle.wire_frames.specs.Frame.{client_of, number_of}
+use Rattle.wire_frames.specs.declared.head.Head.{Head}
 use Rattle.real_edge.specs.declared.link.About.{About}
 use Rattle.real_edge.specs.Pace.{window_seconds, window_pace}
 
@@ -19,20 +18,20 @@ most_buffered = 262144
 abbrev pub in_buffers : ℕ → ℕ
 in_buffers bytes = min bytes most_buffered / window_pace
 
--- the entry is the one that the request is about
-abbrev pub is_about : Option About → Message → Bool
+-- the entry is the one that the request with this head is about
+abbrev pub is_about : Option About → Head → Bool
 is_about None request = false
-is_about (Some entry) request = (entry.client == client_of request) && (entry.number == number_of request)
+is_about (Some entry) request = (entry.client == request.client) && (entry.number == request.number)
 
 -- for how many seconds an ask waits, where the surrogate was silent of an entry
-abbrev pub patience : Option About → Peer → Message → ℕ
+abbrev pub patience : Option About → Peer → Head → ℕ
 patience silent Server request = window_seconds
 patience silent Surrogate request = if is_about silent request then window_seconds else command_seconds
 
 -- of which entry the surrogate was silent, after an ask to which no byte came in time
-abbrev pub after_silence : Option About → Peer → Message → Option About
+abbrev pub after_silence : Option About → Peer → Head → Option About
 after_silence silent Server request = silent
-after_silence silent Surrogate request = Some (record { client = client_of request; number = number_of request })
+after_silence silent Surrogate request = Some (record { client = request.client; number = request.number })
 
 -- and after an answer
 abbrev pub after_answer : Option About → Peer → Option About

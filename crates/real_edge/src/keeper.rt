@@ -1,7 +1,7 @@
 // Images as files.
 ghost use Rattle.std.specs.Prelude.{◌≡◌, ◌↔◌, None, IsTrue, IfOk};
 ghost use Rattle.outside.specs.Outside.{Told, CountsFault};
-ghost use Rattle.outside.specs.Keeper.{Images, Loads, Saves};
+ghost use Rattle.outside.specs.Keeper.{Images, Loads, Saves, Appends};
 ghost use Rattle.real_edge.specs.Held.{Holds};
 
 use crate::faults::count_fault;
@@ -9,7 +9,7 @@ use crate::lock::Held;
 use crate::names::{beside, folder_of, name_text};
 use outside::{KeepError, Keeper};
 use std::alloc::Global;
-use std::fs::{self, File, OpenFile};
+use std::fs::{self, File, OpenFile, OpenOptions};
 use std::io::{self, ErrorKind, Read, Write};
 use std::rt::Files;
 use store_image::MAX_LOADED;
@@ -17,8 +17,8 @@ use store_image::MAX_LOADED;
 /// One byte more than a keeper has to load, so that a file that is longer is read as no image.
 const MOST_READ: u64 = MAX_LOADED as u64 + 1;
 
-/// Images as files. A save writes beside the old file, under its name with `.new` added, and renames over it. Under the name
-/// with `.lock` added stands the lock: of all keepers that are alive one alone has it.
+/// Images as files. A save writes beside the old file, under its name with `.new` added, and renames over it. An append writes
+/// behind what the file has. Under the name with `.lock` added stands the lock: of all keepers that are alive one alone has it.
 #[derive(Drop)]
 pub struct FileKeeper<'a, R: Files<File = File>> {
     alloc: Global,
@@ -80,6 +80,15 @@ impl<'a, R: Files<File = File>> FileKeeper<'a, R> {
         self.hold(name)?;
         write_file(self.alloc, self.files, name, bytes)
     }
+
+    /// Takes the image's lock, and writes the piece behind the image.
+    fn write_piece(&mut self, name: &[u8], piece: &[u8]) -> io::Result<()>
+        ensures held { IfOk result (λ _. Holds self.new.held name.now) }
+        ensures same { self.new.faults ≡ self.old.faults }
+    {
+        self.hold(name)?;
+        append_file(self.files, name, piece)
+    }
 }
 
 /// Reads the file, where there is one.
@@ -119,6 +128,15 @@ fn write_over<R: Files>(files: &R, beside: &str, name: &str, bytes: &[u8]) -> io
     written?;
     fs::rename(files, beside, name)?;
     sync_folder(files, folder_of(name))
+}
+
+/// Writes the piece behind what the file has; where there is none, it is made.
+fn append_file<R: Files>(files: &R, name: &[u8], piece: &[u8]) -> io::Result<()> {
+    let mut file = OpenOptions::new()
+        .append(true)
+        .create(true)
+        .open(files, name_text(name)?)?;
+    write_down(&mut file, piece)
 }
 
 /// Writes the bytes, and waits until the platform has written them down.
@@ -184,6 +202,24 @@ impl<'a, R: Files<File = File>> Keeper for FileKeeper<'a, R> {
         ensures held { IfOk result (λ _. Holds self.new.held name.now) }
     {
         match self.write_image(name, bytes) {
+            Ok(()) => Ok(()),
+            Err(error) => match refusal_of(error) {
+                KeepError::Memory => Err(KeepError::Memory),
+                KeepError::Failed => {
+                    count_fault(&mut self.faults);
+                    Err(KeepError::Failed)
+                }
+            },
+        }
+    }
+
+    fn append(&mut self, name: &[u8], piece: &[u8]) -> Result<(), KeepError>
+        ensures images { Told {A = Images} None None (λ old new. Appends name.now piece.now result old new) }
+        ensures cause { CountsFault KeepError.Failed self.old.faults self.new.faults result }
+
+        ensures held { IfOk result (λ _. Holds self.new.held name.now) }
+    {
+        match self.write_piece(name, piece) {
             Ok(()) => Ok(()),
             Err(error) => match refusal_of(error) {
                 KeepError::Memory => Err(KeepError::Memory),

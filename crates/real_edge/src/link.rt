@@ -7,6 +7,7 @@ ghost use Rattle.world_rules.specs.World.{World};
 ghost use Rattle.world_rules.specs.Asking.{IsRequest, IsReplyTo, AsksOnce, IsDirect};
 ghost use Rattle.real_edge.specs.Pace.{HasWaited};
 ghost use Rattle.real_edge.specs.Patience.{patience, in_buffers, is_about, after_silence, after_answer};
+ghost use Rattle.real_edge.specs.Inside.{IsEchoTo};
 
 use crate::faults::count_fault;
 use crate::frames::read_frame;
@@ -16,7 +17,7 @@ use std::io;
 use std::io::{ErrorKind, Read, Write};
 use std::net::{Net, OpenStream, TcpStream, ToSocketAddrs};
 use std::time::{Clock, Duration};
-use wire_frames::{FrameError, Message, echoes, read};
+use wire_frames::{FrameError, Head, head_of, read};
 use world_rules::{Link, LinkError, Peer};
 
 /// For how many seconds the first byte of a surrogate's answer is waited for: it runs a command before, which it ends after 500
@@ -83,25 +84,22 @@ impl<'a, N: Net + Clock> TcpLink<'a, N> {
         ensures reply { (request : Message) → Spells request frame.now → IfOk result (λ bytes. IsReplyTo request bytes.items) }
         ensures troubles { self.new.troubles ≡ self.old.troubles }
     {
-        match read(self.alloc, frame) {
-            Ok(request) => {
-                let reply = self.reply_to_request(to, address, &request, frame);
-                drop(request);
-                reply
-            }
-            Err(refused) => Err(failure_of(&refused)),
+        match head_of(frame) {
+            Some(request) => self.reply_to_request(to, address, request, frame),
+            None => Err(LinkError::Failed),
         }
     }
 
-    /// Asks once, and gives the frame that comes back where it spells a reply to this request, which the frame spells.
+    /// Asks once, and gives the frame that comes back where it spells a reply to the request with this head, which the frame
+    /// spells.
     fn reply_to_request(
         &mut self,
         to: Peer,
         address: &[u8],
-        request: &Message,
+        request: Head,
         frame: &[u8],
     ) -> Result<Vec<u8>, LinkError>
-        ensures reply { IfOk result (λ bytes. IsReplyTo request.now bytes.items) }
+        ensures reply { IfOk result (λ bytes. IsEchoTo request bytes.items) }
         ensures troubles { self.new.troubles ≡ self.old.troubles }
     {
         let seconds = patience(self.silent, to, request) + in_buffers(frame.len());
@@ -123,8 +121,8 @@ impl<'a, N: Net + Clock> TcpLink<'a, N> {
 }
 
 /// For how many seconds an ask waits for the first byte of its answer, where the surrogate was silent of an entry.
-fn patience(silent: Option<About>, to: Peer, request: &Message) -> u64
-    ensures { result ≡ patience silent to request.now }
+fn patience(silent: Option<About>, to: Peer, request: Head) -> u64
+    ensures { result ≡ patience silent to request }
 {
     match to {
         Peer::Server => WINDOW_SECONDS,
@@ -146,24 +144,24 @@ fn in_buffers(bytes: usize) -> u64
 }
 
 /// Whether the request is about this entry.
-fn is_about(entry: Option<About>, request: &Message) -> bool
-    ensures { result ≡ is_about entry request.now }
+fn is_about(entry: Option<About>, request: Head) -> bool
+    ensures { result ≡ is_about entry request }
 {
     match entry {
-        Some(about) => about.client == request.client() && about.number == request.number(),
+        Some(about) => about.client == request.client && about.number == request.number,
         None => false,
     }
 }
 
 /// Of which entry the surrogate was silent, after an ask to which no byte came in time.
-fn after_silence(silent: Option<About>, to: Peer, request: &Message) -> Option<About>
-    ensures { result ≡ after_silence silent to request.now }
+fn after_silence(silent: Option<About>, to: Peer, request: Head) -> Option<About>
+    ensures { result ≡ after_silence silent to request }
 {
     match to {
         Peer::Server => silent,
         Peer::Surrogate => Some(About {
-            client: request.client(),
-            number: request.number(),
+            client: request.client,
+            number: request.number,
         }),
     }
 }
@@ -194,13 +192,13 @@ fn converse<S: Read + Write + OpenStream + Drop, C: Clock>(
     Ok(Some(read_frame(alloc, stream)?))
 }
 
-/// Refuses bytes that spell no reply to the request.
-fn check_echo(alloc: Global, request: &Message, bytes: &[u8]) -> Result<(), LinkError>
-    ensures { OnOk result (IsReplyTo request.now bytes.now) }
+/// Refuses bytes that spell no reply to the request with this head.
+fn check_echo(alloc: Global, request: Head, bytes: &[u8]) -> Result<(), LinkError>
+    ensures { OnOk result (IsEchoTo request bytes.now) }
 {
     match read(alloc, bytes) {
         Ok(reply) => {
-            let fits = echoes(request, &reply);
+            let fits = request.is_echoed_by(&reply);
             drop(reply);
             if fits { Ok(()) } else { Err(LinkError::Failed) }
         }
