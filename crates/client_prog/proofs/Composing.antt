@@ -43,7 +43,7 @@ use Rattle.client_prog.specs.declared.input.InputEnd.{InputEnd}
 use Rattle.client_prog.specs.declared.run.Stop.{Stop}
 use Rattle.client_prog.specs.declared.run.Stop.TheVariants as stops
 use Rattle.client_session.specs.Session.{SessionState, opened, put_effect, make_effect, remove_effect, move_effect, LogTurn, CommandTurn, LineTurn, BreaksCommand, BreaksOff, Broken, BreaksChain}
-use Rattle.client_prog.specs.Run.{asked_for, Handles, RunTurn}
+use Rattle.client_prog.specs.Run.{asked_for, Handles, WholeRun}
 use Rattle.client_prog.specs.Composing.{RunsCompose, StoresNeverCollide}
 use Rattle.client_prog.proofs.RunningLeaves.{leaves}
 
@@ -237,7 +237,7 @@ module _ (route : Route) (before after : SessionState) (kept : Log) where
   handled_kept stops.Keeper handled answers trace some = ⊎_elim (λ all. all_kept all.1) (λ breaks. chain_kept (asked_for handled) answers trace breaks) some
   handled_kept stops.Memory handled answers trace some = ⊎_elim (λ all. all_kept all.1) (λ breaks. chain_kept (asked_for handled) answers trace breaks) some
 
-  run_kept : (left rest o n : Option (List ℕ)) (answers : List (Option Answer)) (ended : Result InputEnd Stop) (trace : Trace) → RunTurn route before left rest answers o n ended after kept trace → LacksAtMostOne
+  run_kept : (left rest o n : Option (List ℕ)) (answers : List (Option Answer)) (ended : Result InputEnd Stop) (trace : Trace) → WholeRun route before left rest answers o n ended after kept trace → LacksAtMostOne
   run_kept left rest o n answers (Ok end) trace turn = all_kept turn.3.1
   run_kept left rest o n answers (Err stop) trace turn =
       ⊎_elim (λ did. handled_kept stop did.0 answers trace did.4) (λ closing. all_kept closing.1.3.1) turn.3

@@ -1,4 +1,4 @@
--- How the faults of the sink and of the keeper are counted from call to call.
+-- How the faults of the source, the sink and the keeper are counted from call to call.
 use Rattle.std.proofs.Common.{◌≡◌, ℕ, Result, Ok, Err, refl, ◌∙◌, ap, arith}
 use Rattle.std.specs.Prelude.{IsErrOf}
 use Rattle.outside.specs.Outside.{Rose, raised, RisesWhere, CountsFault}
@@ -18,6 +18,10 @@ use Rattle.client_prog.specs.Run.{status_of, stop_of, stop_by}
 -- none failed
 pub no_fault : {U : Type 0} (f : Stop) (p q : ℕ) (x : U) → q ≡ p → CountsFault {T = U} f p q (Ok x)
 no_fault f p q x same = record { later = omega (arith, same); once = λ is. absurd (cc (is)); never = λ no. same }
+
+-- the source did not fail, and its count is as before
+pub no_source_fault : (p m q : ℕ) (ended : Result InputEnd Stop) → (ended ≡ Ok Failed → ⊥) → q ≡ m → m ≡ p → RisesWhere (ended ≡ Ok Failed) p q
+no_source_fault p m q ended other same before = record { later = omega (arith, same, before); once = λ is. absurd (other is); never = λ no. same ∙ before }
 
 -- none failed, and another cause stopped
 pub wanted_fault : {U : Type 0} (e f : Stop) (p q : ℕ) → (e ≡ f → ⊥) → q ≡ p → CountsFault {T = U} f p q (Err e)
@@ -68,6 +72,19 @@ keeper_status p m q status (Err stops.Keeper) is same counts =
     record { later = omega (arith, same, counts.later); once = λ five. counts.once refl ∙ ap (raised 1) same; never = λ no. absurd (no is) }
 keeper_status p m q status (Err stops.Memory) is same counts = other_status 5 p q status (λ five. omega (arith, is, five)) (counts.never (λ other. absurd (cc (other))) ∙ same)
 
+pub source_status : (p q status : ℕ) (ended : Result InputEnd Stop) → status ≡ status_of ended → RisesWhere (ended ≡ Ok Failed) p q → RisesWhere (status ≡ 3) p q
+source_status p q status (Ok Read) is rises = other_status 3 p q status (λ three. omega (arith, is, three)) (rises.never (λ other. absurd (cc (other))))
+source_status p q status (Ok Failed) is rises = record { later = rises.later; once = λ three. rises.once refl; never = λ no. absurd (no is) }
+source_status p q status (Ok TooLong) is rises = other_status 3 p q status (λ three. omega (arith, is, three)) (rises.never (λ other. absurd (cc (other))))
+source_status p q status (Err stops.Sink) is rises = other_status 3 p q status (λ three. omega (arith, is, three)) (rises.never (λ other. absurd (cc (other))))
+source_status p q status (Err stops.Keeper) is rises = other_status 3 p q status (λ three. omega (arith, is, three)) (rises.never (λ other. absurd (cc (other))))
+source_status p q status (Err stops.Memory) is rises = other_status 3 p q status (λ three. omega (arith, is, three)) (rises.never (λ other. absurd (cc (other))))
+
+pub source_unopened : (p status : ℕ) (u : Unopened) → status ≡ status_unopened u → RisesWhere (status ≡ 3) p p
+source_unopened p status Keeper is = other_status 3 p p status (λ three. omega (arith, is, three)) refl
+source_unopened p status Image is = other_status 3 p p status (λ three. omega (arith, is, three)) refl
+source_unopened p status Memory is = other_status 3 p p status (λ three. omega (arith, is, three)) refl
+
 pub sink_unopened : (p status : ℕ) (u : Unopened) → status ≡ status_unopened u → RisesWhere (status ≡ 4) p p
 sink_unopened p status Keeper is = other_status 4 p p status (λ four. omega (arith, is, four)) refl
 sink_unopened p status Image is = other_status 4 p p status (λ four. omega (arith, is, four)) refl
@@ -79,6 +96,9 @@ keeper_unopened p q status Image is counts = other_status 5 p q status (λ five.
 keeper_unopened p q status Memory is counts = other_status 5 p q status (λ five. omega (arith, is, five)) (counts.never (λ other. absurd (cc (other))))
 
 -- ---- a fault that was answered raised the count
+
+pub rises : {is : Type 0} (p q : ℕ) → RisesWhere is p q → is → Rose p q
+rises p q counts so = let up : q ≡ raised 1 p = counts.once so in omega (arith, up)
 
 pub rose : {T E : Type 0} (f : E) (p q : ℕ) (r : Result T E) → CountsFault f p q r → r ≡ Err f → Rose p q
 rose f p q r counts is = let up : q ≡ raised 1 p = counts.once is in omega (arith, up)

@@ -27,7 +27,7 @@ use Rattle.client_session.proofs.Answered.{Stand, Gapless, Unrefused, IsPast, st
 use Rattle.client_prog.specs.declared.input.InputEnd.{InputEnd}
 use Rattle.client_prog.specs.declared.run.Stop.{Stop}
 use Rattle.client_prog.specs.declared.run.Stop.TheVariants.{Sink, Keeper, Memory}
-use Rattle.client_prog.specs.Run.{asked_for, HandlesAll, Handles, RunTurn}
+use Rattle.client_prog.specs.Run.{asked_for, HandlesAll, Handles, WholeRun}
 
 -- ---- the session behind the answers
 
@@ -49,18 +49,18 @@ module _ (route : Route) (before after : SessionState) (kept : Log) (answers : L
   handled Keeper lines some = ⊎_elim (λ all. all_handled lines all) (λ breaks. some_handled lines breaks) some
   handled Memory lines some = ⊎_elim (λ all. all_handled lines all) (λ breaks. some_handled lines breaks) some
 
-  session_of : (left rest o n : Option (List ℕ)) (ended : Result InputEnd Stop) → RunTurn route before left rest answers o n ended after kept trace → SessionAnswers route before answers trace
+  session_of : (left rest o n : Option (List ℕ)) (ended : Result InputEnd Stop) → WholeRun route before left rest answers o n ended after kept trace → SessionAnswers route before answers trace
   session_of left rest o n (Ok end) turn = all_handled turn.0 turn.3
   session_of left rest o n (Err stop) turn = ⊎_elim (λ stops. handled stop stops.0 stops.4) (λ closing. all_handled turn.0 closing.1.3) turn.3
 
   -- the lines that were answered `not run` are no more than the runs that failed
-  pub few_unrun : (left rest o n : Option (List ℕ)) (ended : Result InputEnd Stop) → RunTurn route before left rest answers o n ended after kept trace → count_by is_unrun answers ≤ trace.missed
+  pub few_unrun : (left rest o n : Option (List ℕ)) (ended : Result InputEnd Stop) → WholeRun route before left rest answers o n ended after kept trace → count_by is_unrun answers ≤ trace.missed
   few_unrun left rest o n ended turn =
       let session = session_of left rest o n ended turn in
       omega (arith, unrun_lines_are_counted route before session.0 answers session.1 session.2 session.4, session.6)
 
   -- a pull that is answered so is told
-  pub pull_of_run : (left rest o n : Option (List ℕ)) (ended : Result InputEnd Stop) → RunTurn route before left rest answers o n ended after kept trace
+  pub pull_of_run : (left rest o n : Option (List ℕ)) (ended : Result InputEnd Stop) → WholeRun route before left rest answers o n ended after kept trace
       → (answer : Option Answer) → IsIn answer answers → IsRefusedPull answer → IsOfPull answer trace
   pull_of_run left rest o n ended turn answer among refused =
       let session = session_of left rest o n ended turn in
@@ -86,7 +86,7 @@ none_failed zero before now rose calm = refl
 none_failed (suc failed) before now rose calm = absurd (calm (omega (arith, rose)))
 
 module _ (client : ℕ) (route : Route) (before after : SessionState) (kept : Log) (answers : List (Option Answer)) (trace : Trace) (left rest o n : Option (List ℕ)) (ended : Result InputEnd Stop) (log : Log) (world : World)
-    (number : before.client.number ≡ client) (now : InStep client log world) (stand : AnswersStand world trace.asks) (turn : RunTurn route before left rest answers o n ended after kept trace) where
+    (number : before.client.number ≡ client) (now : InStep client log world) (stand : AnswersStand world trace.asks) (turn : WholeRun route before left rest answers o n ended after kept trace) where
   pub unbehind : (seq last : ℕ) → IsIn (Some (Behind seq last)) answers → ⊥
   unbehind seq last among =
       let session = session_of route before after kept answers trace left rest o n ended turn in

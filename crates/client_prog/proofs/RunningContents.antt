@@ -9,7 +9,7 @@ use Rattle.client_session.proofs.Contents.{WriteWhatIsLeft, chain_written, broke
 use Rattle.client_prog.specs.declared.input.InputEnd.{InputEnd}
 use Rattle.client_prog.specs.declared.run.Stop.{Stop}
 use Rattle.client_prog.specs.declared.run.Stop.TheVariants.{Sink, Keeper, Memory}
-use Rattle.client_prog.specs.Run.{asked_for, HandlesAll, Handles, RunTurn}
+use Rattle.client_prog.specs.Run.{asked_for, HandlesAll, Handles, WholeRun}
 use Rattle.client_prog.specs.Contents.{DistinctContentsNeverCollide, DistinctContentsLeave}
 
 module _ (route : Route) (before after : SessionState) (kept : Log) (answers : List (Option Answer)) (trace : Trace) where
@@ -22,7 +22,7 @@ module _ (route : Route) (before after : SessionState) (kept : Log) (answers : L
   some_written Memory lines some = ⊎_elim (λ all. all_written lines all) (λ breaks. broken_chain_written route before (asked_for lines) answers after kept trace breaks) some
 
   -- each entry of a command that was logged writes what its run left
-  run_written : (left rest o n : Option (List ℕ)) (ended : Result InputEnd Stop) → RunTurn route before left rest answers o n ended after kept trace → WriteWhatIsLeft trace
+  run_written : (left rest o n : Option (List ℕ)) (ended : Result InputEnd Stop) → WholeRun route before left rest answers o n ended after kept trace → WriteWhatIsLeft trace
   run_written left rest o n (Ok end) turn = all_written turn.0 turn.3
   run_written left rest o n (Err stop) turn = ⊎_elim (λ stops. some_written stop stops.0 stops.4) (λ closing. all_written turn.0 closing.1.3) turn.3
 

@@ -15,7 +15,7 @@ use Rattle.client_prog.specs.declared.run.Stop.{Stop}
 use Rattle.client_prog.specs.declared.run.Stop.TheVariants.{Sink, Keeper, Memory}
 use Rattle.client_prog.specs.Input.{EndsAt, within_limit, lines_at}
 use Rattle.client_session.specs.Session.{SessionState}
-use Rattle.client_prog.specs.Run.{status_of, closing_at, closing_line, has_quit, end_of, HasLines, StopsIn, IsRead}
+use Rattle.client_prog.specs.Run.{status_of, closing_at, closing_line, has_quit, end_of, HasLines, StopsIn, IsInputRead}
 use Rattle.client_prog.specs.InsideRun.{AnswersInput, TakesInput, RunAnswers}
 
 module _ (route : Route) (before : SessionState) (left rest o : Option (List ℕ)) where
@@ -106,7 +106,7 @@ module _ (l r : List ℕ) (lines : List (List ℕ)) (ended : InputEnd) (has : Ha
       by TooLong stands true has_it is = absurd (cc)
       by TooLong stands false has_it is = absurd (cc)
 
-read_ended : (l r : List ℕ) (lines : List (List ℕ)) (ended : InputEnd) → HasLines (Some l) (Some r) lines ended → IsRead (status_of (Ok ended)) l r
+read_ended : (l r : List ℕ) (lines : List (List ℕ)) (ended : InputEnd) → HasLines (Some l) (Some r) lines ended → IsInputRead (status_of (Ok ended)) l r
 read_ended l r lines Read has = record {
   input = has.input;
   taken = has.taken;
@@ -132,7 +132,7 @@ read_ended l r lines TooLong has = record {
   failed = λ is. absurd (omega arith);
 }
 
-read_stopped : (l r : List ℕ) (lines : List (List ℕ)) (ended : InputEnd) (stop : Stop) → HasLines (Some l) (Some r) lines ended → IsRead (status_of (Err stop)) l r
+read_stopped : (l r : List ℕ) (lines : List (List ℕ)) (ended : InputEnd) (stop : Stop) → HasLines (Some l) (Some r) lines ended → IsInputRead (status_of (Err stop)) l r
 read_stopped l r lines ended Sink has = record {
   input = has.input;
   taken = has.taken;
@@ -158,7 +158,7 @@ read_stopped l r lines ended Memory has = record {
   failed = λ is. absurd (omega arith);
 }
 
-read_told : (l r : List ℕ) (ended : Result InputEnd Stop) → TakesInput (Some l) (Some r) ended → IsRead (status_of ended) l r
+read_told : (l r : List ℕ) (ended : Result InputEnd Stop) → TakesInput (Some l) (Some r) ended → IsInputRead (status_of ended) l r
 read_told l r (Ok ended) takes = read_ended l r takes.0 ended takes.1
 read_told l r (Err stop) takes = read_stopped l r takes.0 takes.1 stop takes.2
 
@@ -166,7 +166,7 @@ input_taken : (left rest : Option (List ℕ)) (ended : Result InputEnd Stop) →
 input_taken left rest (Ok ended) takes = (takes.1.input, takes.1.taken)
 input_taken left rest (Err stop) takes = (takes.2.input, takes.2.taken)
 
-pub is_read : (left rest : Option (List ℕ)) (ended : Result InputEnd Stop) → TakesInput left rest ended → Told left rest (IsRead (status_of ended))
+pub is_read : (left rest : Option (List ℕ)) (ended : Result InputEnd Stop) → TakesInput left rest ended → Told left rest (IsInputRead (status_of ended))
 is_read (Some l) (Some r) ended takes = read_told l r ended takes
 is_read (Some l) None ended takes = (input_taken (Some l) None ended takes).1
 is_read None rest ended takes = (input_taken None rest ended takes).1

@@ -22,7 +22,7 @@ use Rattle.client_core.proofs.Going.{goes_none}
 use Rattle.shell_lang.specs.declared.answer.Answer.{Answer}
 use Rattle.shell_lang.specs.declared.answer.Answer.TheVariants.{OtherLast, Older}
 use Rattle.client_session.specs.Session.{SessionState, opened}
-use Rattle.client_prog.specs.Run.{status_of, Handles, RunTurn}
+use Rattle.client_prog.specs.Run.{status_of, Handles, WholeRun}
 use Rattle.client_prog.specs.InsideRun.{RunAnswers}
 use Rattle.client_prog.specs.Headline.{Leaves, Around, Ran}
 use Rattle.client_session.proofs.Answered.{log_past}
@@ -58,7 +58,7 @@ module _ (route : Route) (before after : SessionState) (left rest o n : Option (
   kept_handled Keeper lines answers trace other more handled = absurd (other refl)
   kept_handled Memory lines answers trace other more handled = absurd (more refl)
 
-  kept_at_end : (ended : Result InputEnd Stop) (answers : List (Option Answer)) (trace : Trace) → status_of ended ≢ 5 → status_of ended ≢ 7 → RunTurn route before left rest answers o n ended after kept trace → kept ≡ after.client.log
+  kept_at_end : (ended : Result InputEnd Stop) (answers : List (Option Answer)) (trace : Trace) → status_of ended ≢ 5 → status_of ended ≢ 7 → WholeRun route before left rest answers o n ended after kept trace → kept ≡ after.client.log
   kept_at_end (Ok end) answers trace other more turn = turn.3.1
   kept_at_end (Err stop) answers trace other more turn =
       ⊎_elim (λ stops. kept_handled stop stops.0 answers trace other more stops.4) (λ closing. closing.1.3.1) turn.3

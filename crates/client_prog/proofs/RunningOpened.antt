@@ -19,7 +19,7 @@ use Rattle.client_prog.specs.Words.{Invocation}
 use Rattle.client_session.specs.Session.{SessionState, opened}
 use Rattle.client_session.specs.Doing.{Telling, Does, WentDoing}
 use Rattle.client_prog.specs.Opening.{status_unopened}
-use Rattle.client_prog.specs.Run.{status_of, route_of, IsRead}
+use Rattle.client_prog.specs.Run.{status_of, route_of, IsInputRead}
 use Rattle.client_prog.specs.InsideRun.{RunAnswers}
 use Rattle.client_prog.specs.Headline.{Around, Ran}
 use Rattle.client_prog.proofs.RunningEnds.{EndsWell}
@@ -57,7 +57,7 @@ is_unopened Memory status is = inr (inr is)
 
 -- ---- without a client nothing is read
 
-unread : (u : Unopened) (l : List ℕ) → IsRead (status_unopened u) l l
+unread : (u : Unopened) (l : List ℕ) → IsInputRead (status_unopened u) l l
 unread Keeper l = record { input = []; taken = refl; most = omega arith; past = λ sink keeper memory. absurd (keeper refl); ended = λ is. absurd (omega (arith, is)); failed = λ is. absurd (omega (arith, is)) }
 unread Image l = record {
   input = [];
@@ -69,8 +69,8 @@ unread Image l = record {
 }
 unread Memory l = record { input = []; taken = refl; most = omega arith; past = λ sink keeper memory. absurd (memory refl); ended = λ is. absurd (omega (arith, is)); failed = λ is. absurd (omega (arith, is)) }
 
-pub none_read : (u : Unopened) (status : ℕ) (left : Option (List ℕ)) → status ≡ status_unopened u → Told left left (IsRead status)
-none_read u status left is = subst (λ (n : ℕ). Told left left (IsRead n)) (sym is) (told_start left (IsRead (status_unopened u)) (unread u))
+pub none_read : (u : Unopened) (status : ℕ) (left : Option (List ℕ)) → status ≡ status_unopened u → Told left left (IsInputRead status)
+none_read u status left is = subst (λ (n : ℕ). Told left left (IsInputRead n)) (sym is) (told_start left (IsInputRead (status_unopened u)) (unread u))
 
 -- ---- the session of a run
 

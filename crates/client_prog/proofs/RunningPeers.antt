@@ -12,7 +12,7 @@ use Rattle.client_session.proofs.Peers.{asks_are_of_the_route, broken_sessions_a
 use Rattle.client_prog.specs.declared.input.InputEnd.{InputEnd}
 use Rattle.client_prog.specs.declared.run.Stop.{Stop}
 use Rattle.client_prog.specs.declared.run.Stop.TheVariants.{Sink, Keeper, Memory}
-use Rattle.client_prog.specs.Run.{asked_for, HandlesAll, Handles, RunTurn}
+use Rattle.client_prog.specs.Run.{asked_for, HandlesAll, Handles, WholeRun}
 
 module _ (route : Route) (before after : SessionState) (kept : Log) (answers : List (Option Answer)) (trace : Trace) (ask : Ask) (among : IsIn ask trace.asks) where
   all_peers : (lines : List (List ℕ)) → HandlesAll route before lines answers after kept trace → IsOfRoute route ask
@@ -23,6 +23,6 @@ module _ (route : Route) (before after : SessionState) (kept : Log) (answers : L
   some_peers Keeper lines some = ⊎_elim (λ all. all_peers lines all) (λ breaks. broken_sessions_ask_the_route route before (asked_for lines) answers after kept trace ask breaks among) some
   some_peers Memory lines some = ⊎_elim (λ all. all_peers lines all) (λ breaks. broken_sessions_ask_the_route route before (asked_for lines) answers after kept trace ask breaks among) some
 
-  pub run_peers : (left rest o n : Option (List ℕ)) (ended : Result InputEnd Stop) → RunTurn route before left rest answers o n ended after kept trace → IsOfRoute route ask
+  pub run_peers : (left rest o n : Option (List ℕ)) (ended : Result InputEnd Stop) → WholeRun route before left rest answers o n ended after kept trace → IsOfRoute route ask
   run_peers left rest o n (Ok end) turn = all_peers turn.0 turn.3
   run_peers left rest o n (Err stop) turn = ⊎_elim (λ stops. some_peers stop stops.0 stops.4) (λ closing. all_peers turn.0 closing.1.3) turn.3

@@ -164,6 +164,15 @@ module _ (left : Option (List ℕ)) where
       (sym (ap up_to_quit all ∙ behind_no_quit behind (last_at end reading.bytes) now.no_quit ∙ ap (λ (ls : List (List ℕ)). behind ++ ls) (last_up_to end reading.bytes)))
       (end_stays end reading.bytes ∙ sym (ap (λ (b : Bool). end_of b end) (ap has_quit all ∙ quit_behind behind (last_at end reading.bytes) now.no_quit)))
 
+  -- the source failed, and gave nothing
+  pub failed_in : (mid rest : Option (List ℕ)) (old new : Reading) (behind : List (List ℕ)) (end : Option InputEnd) → old.count ≤ MAX_INPUT → ReadsPiece mid rest old new end
+      → end ≡ Some Failed → new ≡ old → parts old.bytes ≡ old.bytes ∷ [] → ReadsSoFar left mid old behind → HasLines left rest behind Failed
+  failed_in mid rest old new behind end few reads failed same none so_far =
+      let no_line : parts new.bytes ≡ new.bytes ∷ [] = subst (λ (r : Reading). parts r.bytes ≡ r.bytes ∷ []) (sym same) none in
+      let ends : EndsAt rest new.count Failed = subst (GoesOnOrEnds rest old.count new.count) failed reads.ended in
+      subst (λ (ls : List (List ℕ)). HasLines left rest ls Failed) (append-nil behind)
+      (all_in rest new behind Failed no_line ends (piece_read mid rest old new behind end few reads so_far))
+
 -- ---- and their answers
 
 module _ (route : Route) (a : SessionState) (left o : Option (List ℕ)) where
@@ -179,6 +188,13 @@ module _ (route : Route) (a : SessionState) (left o : Option (List ℕ)) where
     reads_more left mid rest old new final so_far.0 end few reads left_is none so_far.1,
     answers_then route a b c so_far.0 (whole_lines new.bytes) o m n p q so_far.2 (subst (λ (ls : List (List ℕ)). AllAnswered route b ls m n c q) (all_lines (whole_lines new.bytes) none) answered),
   )
+
+  -- the source failed
+  pub so_far_failed : (mid rest : Option (List ℕ)) (old new : Reading) (end : Option InputEnd) (b : SessionState) (m : Option (List ℕ)) (p : Trace) → old.count ≤ MAX_INPUT
+      → ReadsPiece mid rest old new end → end ≡ Some Failed → new ≡ old → parts old.bytes ≡ old.bytes ∷ [] → AnswersSoFar route a left mid old o m b p
+      → AnswersInput route a left rest o m (Ok Failed) b b.client.log p
+  so_far_failed mid rest old new end b m p few reads failed same none so_far =
+      (so_far.0, failed_in left mid rest old new so_far.0 end few reads failed same none so_far.1, so_far.2, refl)
 
   -- a line of a piece quits
   pub so_far_quits : (mid rest : Option (List ℕ)) (old new : Reading) (end : Option InputEnd) (b c : SessionState) (k : Log) (m n : Option (List ℕ)) (p q : Trace) → old.count ≤ MAX_INPUT

@@ -9,13 +9,12 @@ use Rattle.tree_values.specs.Lists.{IsIn}
 use Rattle.mod_log.specs.declared.log.Entry.{Entry}
 use Rattle.mod_log.specs.Log.{Log, tree_at}
 use Rattle.mod_log.specs.declared.sketching.SketchEntry.{SketchEntry}
-use Rattle.wire_frames.specs.declared.message.Message.{Message}
 use Rattle.wire_frames.specs.declared.message.Message.TheVariants.{Operate}
-use Rattle.wire_frames.specs.Frame.{client_of}
 use Rattle.world_rules.specs.declared.asking.Ask.{Ask}
 use Rattle.world_rules.specs.World.{World}
 use Rattle.world_rules.specs.InStep.{InStep, HasNoCollision, HasNoOperation}
-use Rattle.world_rules.specs.Run.{own, stores_between, Spares, IsSameAt}
+use Rattle.world_rules.specs.Served.{TakenEntry}
+use Rattle.world_rules.specs.Run.{own, entries_between, AreAllOf, OthersSpare, IsSameAt}
 use Rattle.cmd_capture.specs.Runs.{RunnerTelling}
 use Rattle.client_prog.specs.declared.input.InputEnd.{InputEnd}
 use Rattle.client_prog.specs.declared.run.Stop.{Stop}
@@ -26,21 +25,17 @@ use Rattle.shell_lang.specs.declared.answer.Answer.{Answer}
 use Rattle.shell_lang.specs.declared.answer.Answer.TheVariants.{Behind, OtherLast, Older}
 use Rattle.client_session.specs.Session.{SessionState, opened, LeavesPending, is_unrun}
 use Rattle.client_session.specs.Laws.{IsOfRoute}
-use Rattle.client_prog.specs.Run.{RunTurn, status_of}
+use Rattle.client_prog.specs.Run.{WholeRun, status_of}
 
 -- the number of the client's last entry that the server took
 abbrev pub last_taken : ℕ → World → ℕ
 last_taken client world = world.served.last client
 
--- these messages are all of the client
-abbrev pub AreAllOf : ℕ → List Message → Type 0
-AreAllOf client messages = (message : Message) → IsIn message messages → client_of message ≡ client
-
 -- What a run leaves that began with this log in step: `log` is the client's in memory at the end, `kept` is the one that is kept, and
 -- `entries` are those that were logged in the run, in order.
 pub record Leaves (client : ℕ) (start log kept : Log) (entries : List Entry) (old new : World) : Type 0 where
-  -- the stores that the server took in the run, in order
-  pub taken : List Message
+  -- the entries that the server took in the run, in order
+  pub taken : List TakenEntry
   pub since : new.taken ≡ old.taken ++ taken
   -- what is kept and the world fit together, so that the next run may begin here; and so does the log in memory
   pub in_step : InStep client kept new
@@ -52,11 +47,10 @@ pub record Leaves (client : ℕ) (start log kept : Log) (entries : List Entry) (
   -- what is pending in memory are the entries after the acknowledged one, of those that were pending and those that were logged
   pub pending : log.pending ≡ drop (log.acked - start.acked) (start.pending ++ entries)
   -- of the client's entries the server took those after the last that it had, up to that one, in order and each once
-  pub once : own client taken ≡ stores_between client start.acked (last_taken client old) (last_taken client new) (start.pending ++ entries)
+  pub once : own client taken ≡ entries_between client start.acked (last_taken client old) (last_taken client new) (start.pending ++ entries)
   -- at each path whose version was that of the client's tree when the run began, and that no other client wrote in it, the server
   -- holds what the kept tree was after that entry: the node, and the version, which counts the writes
-  pub spared : (path : FilePath) → version_at old.served.volume path ≡ version_at (tree_at (last_taken client old) start) path
-      → ((message : Message) → IsIn message taken → client_of message ≢ client → Spares path message) → IsSameAt client kept new path
+  pub spared : (path : FilePath) → version_at old.served.volume path ≡ version_at (tree_at (last_taken client old) start) path → OthersSpare client path taken → IsSameAt client kept new path
   -- where nobody else wrote, the server holds that tree
   pub alone : old.served.volume ≡ tree_at (last_taken client old) start → AreAllOf client taken → new.served.volume ≡ tree_at (last_taken client new) kept
 
@@ -80,7 +74,7 @@ pub record Ran (client : ℕ) (route : Route) (start : Log) (around around_now :
   pub after : SessionState
   -- what is kept at the end: the keeper's bytes are kept for it, and are as before where nothing was changed
   pub kept : Log
-  pub goes : Goes client (is_some route.surrogate) route.image (RunTurn route (opened client start) around.left around_now.left answers around.written around_now.written ended after kept)
+  pub goes : Goes client (is_some route.surrogate) route.image (WholeRun route (opened client start) around.left around_now.left answers around.written around_now.written ended after kept)
       start after.client.log kept around.images around_now.images around.runner around_now.runner around.troubles around_now.troubles old new
   -- it is the client's log after the last change, but where a keeping was refused or memory ran out, perhaps the one before that change
   pub kept_last : status ≢ 5 → status ≢ 7 → kept ≡ last_log start goes.trace.changes

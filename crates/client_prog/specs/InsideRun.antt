@@ -10,7 +10,7 @@ use Rattle.client_prog.specs.declared.run.Stop.{Stop}
 use Rattle.client_prog.specs.Input.{Reading, HasRead}
 use Rattle.shell_lang.specs.declared.answer.Answer.{Answer}
 use Rattle.client_session.specs.Session.{SessionState, Chain, AreTexts}
-use Rattle.client_prog.specs.Run.{HasLines, StopsIn, RunTurn, asked_for, has_quit}
+use Rattle.client_prog.specs.Run.{HasLines, StopsIn, WholeRun, asked_for, has_quit}
 
 -- the lines were answered, one after the other
 abbrev pub AllAnswered : Route → SessionState → List (List ℕ) → Option (List ℕ) → Option (List ℕ) → SessionState → Trace → Type 0
@@ -65,4 +65,4 @@ AnswersInput route before left rest old new (Err stop) after kept trace =
 
 -- a run, whatever was answered
 abbrev pub RunAnswers : Route → SessionState → Option (List ℕ) → Option (List ℕ) → Option (List ℕ) → Option (List ℕ) → Result InputEnd Stop → SessionState → Log → Trace → Type 0
-RunAnswers route before left rest old new ended after kept trace = (answers : List (Option Answer)) × RunTurn route before left rest answers old new ended after kept trace
+RunAnswers route before left rest old new ended after kept trace = (answers : List (Option Answer)) × WholeRun route before left rest answers old new ended after kept trace

@@ -1,5 +1,5 @@
 -- Opening what is kept of a client.
-use Rattle.std.specs.Prelude.{◌≡◌, ℕ, List, Some, Result, Ok, Err}
+use Rattle.std.specs.Prelude.{◌≡◌, ℕ, List, Some, None, Result, Ok, Err}
 use Rattle.outside.specs.declared.errors.KeepError.{KeepError}
 use Rattle.outside.specs.declared.errors.KeepError.TheVariants as keepers
 use Rattle.mod_log.specs.Log.{Log}
@@ -23,7 +23,7 @@ status_unopened Memory = 7
 -- keeper is asked.
 abbrev pub OpensBytes : ℕ → List ℕ → Result Client Unopened → Type 0
 OpensBytes number bytes (Ok client) =
-    (client.number ≡ number) × Keeps (Some bytes) number client.log × ((start : Log) → Keeps (Some bytes) number start → client.log ≡ start)
+    (client.number ≡ number) × (client.journal ≡ None) × Keeps (Some bytes) number client.log × ((start : Log) → Keeps (Some bytes) number start → client.log ≡ start)
 OpensBytes number bytes (Err Image) = (start : Log) → Keeps (Some bytes) number start → ⊥
 OpensBytes number bytes (Err Memory) = Unit {0}
 OpensBytes number bytes (Err Keeper) = ⊥

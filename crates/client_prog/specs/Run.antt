@@ -131,18 +131,18 @@ StopsAtClosing stop route before lines answers old new after kept trace =
 
 -- What a run did by how it ended. Where its input came to an end: all the lines that count were handled, the client is kept, and
 -- the texts of what was answered to each were written, and the closing line where one is due. Where it was stopped: a front of them.
-abbrev pub RunTurn : Route → SessionState → Option (List ℕ) → Option (List ℕ) → List (Option Answer) → Option (List ℕ) → Option (List ℕ) → Result InputEnd Stop → SessionState → Log → Trace → Type 0
-RunTurn route before left rest answers old new (Ok ended) after kept trace =
+abbrev pub WholeRun : Route → SessionState → Option (List ℕ) → Option (List ℕ) → List (Option Answer) → Option (List ℕ) → Option (List ℕ) → Result InputEnd Stop → SessionState → Log → Trace → Type 0
+WholeRun route before left rest answers old new (Ok ended) after kept trace =
     (lines : List (List ℕ)) × (text : List ℕ) × HasLines left rest lines ended
     × HandlesAll route before lines answers after kept trace × AreTexts answers text × Adds old new (text ++ closing_at ended after)
-RunTurn route before left rest answers old new (Err stop) after kept trace =
+WholeRun route before left rest answers old new (Err stop) after kept trace =
     (lines : List (List ℕ)) × (ended : InputEnd) × HasLines left rest lines ended
     × (StopsIn stop route before lines answers old new after kept trace ⊎ ((ended ≡ Read) × StopsAtClosing stop route before lines answers old new after kept trace))
 
 -- How much of a source a run with this status takes: never more than the first byte past the limit. It answers 8 exactly where it
 -- takes that byte and no whole line before it quits, but that a sink, a keeper or want of memory may stop it before; 0 only where it
 -- takes all that is left or a whole line quits; and 3 only where no whole line does.
-pub record IsRead (status : ℕ) (left rest : List ℕ) : Type 0 where
+pub record IsInputRead (status : ℕ) (left rest : List ℕ) : Type 0 where
   pub input : List ℕ
   pub taken : left ≡ input ++ rest
   pub most : length input ≤ MAX_INPUT + 1

@@ -1,6 +1,6 @@
 ghost use Rattle.std.specs.Prelude.{◌≡◌, ◌≤◌, ◌+◌, ◌-◌, ◌++◌, ℕ, List, [], Ok, Some, IfOk, OnOk, OnErr, length, take, drop};
 ghost use Rattle.std.specs.Option.{option_copied};
-ghost use Rattle.outside.specs.Outside.{Takes, Rose};
+ghost use Rattle.outside.specs.Outside.{Takes, RisesWhere};
 ghost use Rattle.shell_lang.specs.Lines.{FirstLine};
 ghost use Rattle.client_prog.specs.Input.{Reading, ReadsPiece};
 ghost use Rattle.client_prog.specs.Inside.{end_by_count};
@@ -71,8 +71,8 @@ impl LineReader {
         ensures err { OnErr result ((piece : List ℕ) × Takes (I.left input.old) (I.left input.new) piece
             × (self.old.count + length piece ≤ MAX_INPUT + 1)) }
         ensures same { OnErr result (self.new ≡ self.old) }
-        ensures later { I.faults input.old ≤ I.faults input.new }
-        ensures cause { result ≡ Ok (Some InputEnd.Failed) → Rose (I.faults input.old) (I.faults input.new) }
+        ensures failed { result ≡ Ok (Some InputEnd.Failed) → self.new ≡ self.old }
+        ensures cause { RisesWhere (result ≡ Ok (Some InputEnd.Failed)) (I.faults input.old) (I.faults input.new) }
     {
         let mut chunk = [0; PIECE];
         let room = (MAX_INPUT + 1 - self.count).min(PIECE);

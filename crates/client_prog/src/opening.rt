@@ -1,5 +1,5 @@
 // Opening what is kept of a client.
-ghost use Rattle.std.specs.Prelude.{◌≡◌, ◌≤◌, Err, IfOk};
+ghost use Rattle.std.specs.Prelude.{◌≡◌, ◌≤◌, None, Err, IfOk};
 ghost use Rattle.outside.specs.Outside.{CountsFault};
 ghost use Rattle.mod_log.specs.Log.{Log};
 ghost use Rattle.client_core.specs.Keeping.{IsKept, TellsKept};
@@ -32,6 +32,8 @@ pub(crate) fn open<K: Keeper>(
     requires high { number ≤ 64 }
     ensures number { IfOk result (λ client. client.number ≡ number) }
     ensures kept { IfOk result (λ client. IsKept (K.images keeper.old) name.now number client.log) }
+    // its first keeping saves the whole image
+    ensures journal { IfOk result (λ client. client.journal ≡ None) }
     ensures only { (start : Log) → TellsKept (K.images keeper.old) name.now number start → IfOk result (λ client. client.log ≡ start) }
     ensures image { result ≡ Err Unopened.Image → (start : Log) → TellsKept (K.images keeper.old) name.now number start → ⊥ }
     ensures same { K.images keeper.new ≡ K.images keeper.old }
@@ -52,8 +54,13 @@ fn opened(alloc: Global, number: u8, bytes: &[u8]) -> Result<Client, Unopened>
 {
     match read_client(alloc, bytes) {
         Ok(image) if image.client == number => Ok(Client::from_image(image)),
+        Ok(other) => {
+            drop(other);
+            Err(Unopened::Image)
+        }
+        Err(ImageError::WrongKind) => Err(Unopened::Image),
+        Err(ImageError::BadImage(_)) => Err(Unopened::Image),
         Err(ImageError::Memory) => Err(Unopened::Memory),
-        _ => Err(Unopened::Image),
     }
 }
 

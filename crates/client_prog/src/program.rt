@@ -7,7 +7,7 @@ ghost use Rattle.world_rules.specs.Telling.{ToldWorlds};
 ghost use Rattle.client_core.specs.Keeping.{TellsKept, IsKeptOfNone};
 ghost use Rattle.client_core.specs.Goes.{telling};
 ghost use Rattle.client_prog.specs.Words.{run_of};
-ghost use Rattle.client_prog.specs.Run.{is_status, route_of, IsRead};
+ghost use Rattle.client_prog.specs.Run.{is_status, route_of, IsInputRead};
 ghost use Rattle.client_prog.specs.Headline.{Ran};
 ghost use Rattle.std.specs.Process.{exit_status};
 ghost use Rattle.program_words.specs.Pages.{page_asked};
@@ -200,14 +200,13 @@ pub fn answered<R: Eprint, I: Source, O: Sink, K: Keeper, J: Runner, L: Link>(
     ensures no_image { IfSome (run_of (map string_bytes words.now)) (λ run. IsKeptOfNone (K.images keeper.old) run.image run.client
         → (exit_status result ≡ 5) ⊎ (exit_status result ≡ 6) ⊎ (exit_status result ≡ 7)) }
     // no count of faults or troubles falls
-    ensures source_later { I.faults input.old ≤ I.faults input.new }
     ensures later { (L.tells link.old).troubles ≤ (L.tells link.new).troubles }
     ensures runner_later { J.faults runner.old ≤ J.faults runner.new }
-    ensures source { exit_status result ≡ 3 → Rose (I.faults input.old) (I.faults input.new) }
-    // the sink failed once where it stopped the run, and else never; and so did the keeper
+    // the source failed once where that ended the run, and else never; and so did the sink and the keeper
+    ensures source { RisesWhere (exit_status result ≡ 3) (I.faults input.old) (I.faults input.new) }
     ensures sink { RisesWhere (exit_status result ≡ 4) (O.faults output.old) (O.faults output.new) }
     ensures keeper { RisesWhere (exit_status result ≡ 5) (K.faults keeper.old) (K.faults keeper.new) }
-    ensures input { Told (I.left input.old) (I.left input.new) (IsRead (exit_status result)) }
+    ensures input { Told (I.left input.old) (I.left input.new) (IsInputRead (exit_status result)) }
     ensures complete { IfSome (run_of (map string_bytes words.now)) (λ run. IfSome (I.left input.old)
         (λ bytes. (start : Log) → TellsKept (K.images keeper.old) run.image run.client start → length bytes ≤ MAX_INPUT
         → (Rose (I.faults input.old) (I.faults input.new) → ⊥) → (Rose (O.faults output.old) (O.faults output.new) → ⊥)

@@ -6,15 +6,15 @@ ghost use Rattle.std.specs.String.{string_bytes};
 ghost use Rattle.outside.specs.Outside.{Told, Adds, CountsFault, RisesWhere, Rose};
 ghost use Rattle.mod_log.specs.Log.{Log};
 ghost use Rattle.world_rules.specs.Telling.{ToldWorlds};
-ghost use Rattle.client_core.specs.Keeping.{IsKept, TellsKept, IsKeptOfNone};
+ghost use Rattle.client_core.specs.Keeping.{IsKeptReady, TellsKept, IsKeptOfNone};
 ghost use Rattle.shell_lang.specs.Lines.{whole_lines, last_line};
 ghost use Rattle.shell_lang.specs.Commands.{read_line};
 ghost use Rattle.client_prog.specs.Input.{last_at};
 ghost use Rattle.client_prog.specs.Words.{run_of};
-ghost use Rattle.client_session.specs.Session.{IsText};
+ghost use Rattle.client_session.specs.Session.{IsText, state_of};
 ghost use Rattle.client_prog.specs.Opening.{status_unopened};
 ghost use Rattle.client_prog.specs.Run.{status_of, is_status, route_of, is_quit, quits, has_quit, up_to_quit, end_of};
-ghost use Rattle.client_prog.specs.Run.{closing_line, closing_at, IsRead};
+ghost use Rattle.client_prog.specs.Run.{closing_line, closing_at, IsInputRead};
 ghost use Rattle.client_prog.specs.Headline.{Ran};
 ghost use Rattle.client_session.specs.Doing.{WentDoing, beside};
 ghost use Rattle.client_core.specs.Goes.{telling};
@@ -141,13 +141,13 @@ fn answer<O: Sink, K: Keeper, R: Runner, L: Link>(
     runner: &mut R,
     link: &mut L,
 ) -> Result<bool, Stop>
-    requires { IsKept (K.images keeper.old) route.now.image session.old.client.number session.old.client.log }
-    ensures world { WentDoing route.now (AnswersLines route.now session.old (line.now ∷ []) (O.written output.old)
-        (O.written output.new) result session.new) session.old session.new (K.images keeper.old) (K.images keeper.new)
+    requires { IsKeptReady (K.images keeper.old) route.now.image session.old.client }
+    ensures world { WentDoing route.now (AnswersLines route.now (state_of session.old) (line.now ∷ []) (O.written output.old)
+        (O.written output.new) result (state_of session.new)) (state_of session.old) (state_of session.new) (K.images keeper.old) (K.images keeper.new)
         (beside (L.tells link.old) (telling (R.runs runner.old) (R.faults runner.old)))
         (beside (L.tells link.new) (telling (R.runs runner.new) (R.faults runner.new))) }
     ensures quit { IfOk result (λ quit. quit ≡ quits line.now) }
-    ensures kept { IfOk result (λ done. IsKept (K.images keeper.new) route.now.image session.new.client.number session.new.client.log) }
+    ensures kept { IfOk result (λ done. IsKeptReady (K.images keeper.new) route.now.image session.new.client) }
     ensures later { (L.tells link.old).troubles ≤ (L.tells link.new).troubles }
     ensures runner_later { R.faults runner.old ≤ R.faults runner.new }
     ensures cause { CountsFault Stop.Sink (O.faults output.old) (O.faults output.new) result }
@@ -172,14 +172,14 @@ fn answer_lines<O: Sink, K: Keeper, R: Runner, L: Link>(
     runner: &mut R,
     link: &mut L,
 ) -> Result<bool, Stop>
-    requires { IsKept (K.images keeper.old) route.now.image session.old.client.number session.old.client.log }
-    ensures world { WentDoing route.now (AnswersLines route.now session.old (up_to_quit (whole_lines reader.old.bytes))
-        (O.written output.old) (O.written output.new) result session.new) session.old session.new (K.images keeper.old)
+    requires { IsKeptReady (K.images keeper.old) route.now.image session.old.client }
+    ensures world { WentDoing route.now (AnswersLines route.now (state_of session.old) (up_to_quit (whole_lines reader.old.bytes))
+        (O.written output.old) (O.written output.new) result (state_of session.new)) (state_of session.old) (state_of session.new) (K.images keeper.old)
         (K.images keeper.new) (beside (L.tells link.old) (telling (R.runs runner.old) (R.faults runner.old)))
         (beside (L.tells link.new) (telling (R.runs runner.new) (R.faults runner.new))) }
     ensures quit { IfOk result (λ quit. quit ≡ has_quit (whole_lines reader.old.bytes)) }
     ensures left { IfOk result (λ quit. quit ≡ false → HasUnfinished reader.old reader.new) }
-    ensures kept { IfOk result (λ done. IsKept (K.images keeper.new) route.now.image session.new.client.number session.new.client.log) }
+    ensures kept { IfOk result (λ done. IsKeptReady (K.images keeper.new) route.now.image session.new.client) }
     ensures later { (L.tells link.old).troubles ≤ (L.tells link.new).troubles }
     ensures runner_later { R.faults runner.old ≤ R.faults runner.new }
     ensures cause { CountsFault Stop.Sink (O.faults output.old) (O.faults output.new) result }
@@ -207,23 +207,25 @@ fn answer_input<I: Source, O: Sink, K: Keeper, R: Runner, L: Link>(
     runner: &mut R,
     link: &mut L,
 ) -> Result<InputEnd, Stop>
-    requires { IsKept (K.images keeper.old) route.now.image session.old.client.number session.old.client.log }
-    ensures world { WentDoing route.now (AnswersInput route.now session.old (I.left input.old) (I.left input.new) (O.written output.old)
-        (O.written output.new) result session.new) session.old session.new (K.images keeper.old) (K.images keeper.new)
+    requires { IsKeptReady (K.images keeper.old) route.now.image session.old.client }
+    ensures world { WentDoing route.now (AnswersInput route.now (state_of session.old) (I.left input.old) (I.left input.new) (O.written output.old)
+        (O.written output.new) result (state_of session.new)) (state_of session.old) (state_of session.new) (K.images keeper.old) (K.images keeper.new)
         (beside (L.tells link.old) (telling (R.runs runner.old) (R.faults runner.old)))
         (beside (L.tells link.new) (telling (R.runs runner.new) (R.faults runner.new))) }
     ensures input { TakesInput (I.left input.old) (I.left input.new) result }
-    ensures kept { IfOk result (λ done. IsKept (K.images keeper.new) route.now.image session.new.client.number session.new.client.log) }
+    ensures kept { IfOk result (λ done. IsKeptReady (K.images keeper.new) route.now.image session.new.client) }
     ensures later { (L.tells link.old).troubles ≤ (L.tells link.new).troubles }
     ensures runner_later { R.faults runner.old ≤ R.faults runner.new }
-    ensures source { I.faults input.old ≤ I.faults input.new }
-    ensures source_cause { result ≡ Ok InputEnd.Failed → Rose (I.faults input.old) (I.faults input.new) }
+    ensures source { RisesWhere (result ≡ Ok InputEnd.Failed) (I.faults input.old) (I.faults input.new) }
     ensures cause { CountsFault Stop.Sink (O.faults output.old) (O.faults output.new) result }
     ensures keeper { CountsFault Stop.Keeper (K.faults keeper.old) (K.faults keeper.new) result }
 {
     let mut reader = LineReader::new(alloc);
     loop {
         let end = reader.read_piece(input)?;
+        if let Some(InputEnd::Failed) = end {
+            return Ok(InputEnd::Failed);
+        }
         let quit = answer_lines(
             alloc,
             route,
@@ -258,12 +260,12 @@ fn answer_last<O: Sink, K: Keeper, R: Runner, L: Link>(
     runner: &mut R,
     link: &mut L,
 ) -> Result<(), Stop>
-    requires { IsKept (K.images keeper.old) route.now.image session.old.client.number session.old.client.log }
-    ensures world { WentDoing route.now (AnswersLines route.now session.old (last_at end reader.now.bytes) (O.written output.old)
-        (O.written output.new) result session.new) session.old session.new (K.images keeper.old) (K.images keeper.new)
+    requires { IsKeptReady (K.images keeper.old) route.now.image session.old.client }
+    ensures world { WentDoing route.now (AnswersLines route.now (state_of session.old) (last_at end reader.now.bytes) (O.written output.old)
+        (O.written output.new) result (state_of session.new)) (state_of session.old) (state_of session.new) (K.images keeper.old) (K.images keeper.new)
         (beside (L.tells link.old) (telling (R.runs runner.old) (R.faults runner.old)))
         (beside (L.tells link.new) (telling (R.runs runner.new) (R.faults runner.new))) }
-    ensures kept { IfOk result (λ done. IsKept (K.images keeper.new) route.now.image session.new.client.number session.new.client.log) }
+    ensures kept { IfOk result (λ done. IsKeptReady (K.images keeper.new) route.now.image session.new.client) }
     ensures later { (L.tells link.old).troubles ≤ (L.tells link.new).troubles }
     ensures runner_later { R.faults runner.old ≤ R.faults runner.new }
     ensures cause { CountsFault Stop.Sink (O.faults output.old) (O.faults output.new) result }
@@ -295,12 +297,12 @@ fn answer_unfinished<O: Sink, K: Keeper, R: Runner, L: Link>(
     runner: &mut R,
     link: &mut L,
 ) -> Result<(), Stop>
-    requires { IsKept (K.images keeper.old) route.now.image session.old.client.number session.old.client.log }
-    ensures world { WentDoing route.now (AnswersLines route.now session.old (last_line line.now) (O.written output.old)
-        (O.written output.new) result session.new) session.old session.new (K.images keeper.old) (K.images keeper.new)
+    requires { IsKeptReady (K.images keeper.old) route.now.image session.old.client }
+    ensures world { WentDoing route.now (AnswersLines route.now (state_of session.old) (last_line line.now) (O.written output.old)
+        (O.written output.new) result (state_of session.new)) (state_of session.old) (state_of session.new) (K.images keeper.old) (K.images keeper.new)
         (beside (L.tells link.old) (telling (R.runs runner.old) (R.faults runner.old)))
         (beside (L.tells link.new) (telling (R.runs runner.new) (R.faults runner.new))) }
-    ensures kept { IfOk result (λ done. IsKept (K.images keeper.new) route.now.image session.new.client.number session.new.client.log) }
+    ensures kept { IfOk result (λ done. IsKeptReady (K.images keeper.new) route.now.image session.new.client) }
     ensures later { (L.tells link.old).troubles ≤ (L.tells link.new).troubles }
     ensures runner_later { R.faults runner.old ≤ R.faults runner.new }
     ensures cause { CountsFault Stop.Sink (O.faults output.old) (O.faults output.new) result }
@@ -320,9 +322,9 @@ fn close<O: Sink>(
     end: InputEnd,
     output: &mut O,
 ) -> Result<(), Stop>
-    ensures all { OnOk result (Adds (O.written output.old) (O.written output.new) (closing_at end session.now)) }
+    ensures all { OnOk result (Adds (O.written output.old) (O.written output.new) (closing_at end (state_of session.now))) }
     ensures front { OnErr result ((end ≡ InputEnd.Read) × ((count : ℕ)
-        × Adds (O.written output.old) (O.written output.new) (take count (closing_line session.now)))) }
+        × Adds (O.written output.old) (O.written output.new) (take count (closing_line (state_of session.now))))) }
     ensures cause { CountsFault Stop.Sink (O.faults output.old) (O.faults output.new) result }
     ensures keeper { result ≢ Err Stop.Keeper }
 {
@@ -338,7 +340,7 @@ fn close<O: Sink>(
 
 /// The line that ends the output.
 fn closing(alloc: Global, session: &Session) -> Result<Vec<u8>, AllocError>
-    ensures { IfOk result (λ text. text.items ≡ closing_line session.now) }
+    ensures { IfOk result (λ text. text.items ≡ closing_line (state_of session.now)) }
 {
     let status = session.status();
     let text = text_of(alloc, &status);
@@ -357,16 +359,15 @@ fn run<I: Source, O: Sink, K: Keeper, R: Runner, L: Link>(
     runner: &mut R,
     link: &mut L,
 ) -> Result<InputEnd, Stop>
-    requires { IsKept (K.images keeper.old) route.now.image session.old.client.number session.old.client.log }
-    ensures world { WentDoing route.now (RunAnswers route.now session.old (I.left input.old) (I.left input.new) (O.written output.old)
-        (O.written output.new) result session.new) session.old session.new (K.images keeper.old) (K.images keeper.new)
+    requires { IsKeptReady (K.images keeper.old) route.now.image session.old.client }
+    ensures world { WentDoing route.now (RunAnswers route.now (state_of session.old) (I.left input.old) (I.left input.new) (O.written output.old)
+        (O.written output.new) result (state_of session.new)) (state_of session.old) (state_of session.new) (K.images keeper.old) (K.images keeper.new)
         (beside (L.tells link.old) (telling (R.runs runner.old) (R.faults runner.old)))
         (beside (L.tells link.new) (telling (R.runs runner.new) (R.faults runner.new))) }
     ensures input { TakesInput (I.left input.old) (I.left input.new) result }
     ensures later { (L.tells link.old).troubles ≤ (L.tells link.new).troubles }
     ensures runner_later { R.faults runner.old ≤ R.faults runner.new }
-    ensures source_later { I.faults input.old ≤ I.faults input.new }
-    ensures source { result ≡ Ok InputEnd.Failed → Rose (I.faults input.old) (I.faults input.new) }
+    ensures source { RisesWhere (result ≡ Ok InputEnd.Failed) (I.faults input.old) (I.faults input.new) }
     ensures sink { CountsFault Stop.Sink (O.faults output.old) (O.faults output.new) result }
     ensures keeper { CountsFault Stop.Keeper (K.faults keeper.old) (K.faults keeper.new) result }
 {
@@ -455,14 +456,13 @@ pub fn client_run<I: Source, O: Sink, K: Keeper, R: Runner, L: Link>(
     ensures no_image { IfSome (run_of (map string_bytes words.now)) (λ run. IsKeptOfNone (K.images keeper.old) run.image run.client
         → (result ≡ 5) ⊎ (result ≡ 6) ⊎ (result ≡ 7)) }
     // no count of faults or troubles falls
-    ensures source_later { I.faults input.old ≤ I.faults input.new }
     ensures later { (L.tells link.old).troubles ≤ (L.tells link.new).troubles }
     ensures runner_later { R.faults runner.old ≤ R.faults runner.new }
-    ensures source { result ≡ 3 → Rose (I.faults input.old) (I.faults input.new) }
-    // the sink failed once where it stopped the run, and else never; and so did the keeper
+    // the source failed once where that ended the run, and else never; and so did the sink and the keeper
+    ensures source { RisesWhere (result ≡ 3) (I.faults input.old) (I.faults input.new) }
     ensures sink { RisesWhere (result ≡ 4) (O.faults output.old) (O.faults output.new) }
     ensures keeper { RisesWhere (result ≡ 5) (K.faults keeper.old) (K.faults keeper.new) }
-    ensures input { Told (I.left input.old) (I.left input.new) (IsRead result) }
+    ensures input { Told (I.left input.old) (I.left input.new) (IsInputRead result) }
     ensures complete { IfSome (run_of (map string_bytes words.now)) (λ run. IfSome (I.left input.old)
         (λ bytes. (start : Log) → TellsKept (K.images keeper.old) run.image run.client start → length bytes ≤ MAX_INPUT
         → (Rose (I.faults input.old) (I.faults input.new) → ⊥) → (Rose (O.faults output.old) (O.faults output.new) → ⊥)

@@ -26,7 +26,7 @@ use Rattle.shell_lang.specs.declared.line.Line.TheVariants.{Run as RunLine}
 use Rattle.shell_lang.specs.declared.answer.Answer.{Answer}
 use Rattle.client_session.specs.Session.{SessionState, CommandTurn, LineTurn, BreaksCommand, Broken, capture_answer, run_answer}
 use Rattle.client_session.specs.Doing.{beside, Does, WentDoing, LineEnds}
-use Rattle.client_session.specs.Inside.{IsGiven, RunsLine, RunsMade}
+use Rattle.client_session.specs.Inside.{IsAnswerOrMemory, RunsLine, RunsMade}
 use Rattle.client_session.proofs.Doing.{does_none}
 use Rattle.client_session.proofs.Turning.{a_world, same_but_log}
 
@@ -46,7 +46,7 @@ module _ (route : Route) (words : List (List ℕ)) (before : SessionState) (i : 
   named_refusal refusal answer is memory = absurd (cc (ap capture_answer memory, is))
 
   pub capture_given : (refusal : CaptureError) (told : Option Answer) (r : Result (Option Answer) KeepError) → (refusal ≢ captures.Memory → capture words before.folder ≡ Err refusal) → told ≡ capture_answer refusal
-      → IsGiven told r → RunsLine route words before r before i i p p
+      → IsAnswerOrMemory told r → RunsLine route words before r before i i p p
   capture_given refusal (Some answer) (Ok given) refused shown gave = λ link world.
       let is : capture words before.folder ≡ Err refusal = refused (named_refusal refusal answer (sym shown)) in
       let turn : LineTurn route before (Ok (RunLine words)) (Some answer) before nothing =
@@ -109,7 +109,7 @@ module _ (route : Route) (command : Command) (before after : SessionState) (numb
     went t w = run_goes route.image before.client.number (is_some route.surrogate) route.work command before.client.log i keeps p q t w end after.client.log did is_log
 
     -- the log is as before
-    pub run_given : (told : Option Answer) (r : Result (Option Answer) KeepError) → told ≡ run_answer end → IsGiven told r → after.client.log ≡ before.client.log → RunsMade route command before r after i i p q
+    pub run_given : (told : Option Answer) (r : Result (Option Answer) KeepError) → told ≡ run_answer end → IsAnswerOrMemory told r → after.client.log ≡ before.client.log → RunsMade route command before r after i i p q
     run_given (Some answer) (Ok given) shown gave same = λ words made link world.
         subst (λ (a : Option Answer). (kept : Log) × Does (is_some route.surrogate) route.image (LineEnds route before (Ok (RunLine words)) (Ok a) after kept) before after kept i i (beside link p) (beside link q) world world) (sym gave) (
           before.client.log,
@@ -140,7 +140,7 @@ module _ (route : Route) (command : Command) (before after : SessionState) (numb
           goes_saved route.image before.client.number (is_some route.surrogate) Ends before.client.log after.client.log before.client.log i i j p q t t w w r goes
           (logged_changes route.work command before.client.log end after.client.log goes.trace logged goes.turn) save
 
-      pub run_kept : (done : Unit {0}) (told : Option Answer) (r : Result (Option Answer) KeepError) → told ≡ run_answer end → IsGiven told r
+      pub run_kept : (done : Unit {0}) (told : Option Answer) (r : Result (Option Answer) KeepError) → told ≡ run_answer end → IsAnswerOrMemory told r
           → Told i j (KeepsLog {E = KeepError} route.image before.client.number after.client.log (Ok done)) → RunsMade route command before r after i j p q
       run_kept done (Some answer) (Ok given) shown gave save = λ words made link world.
           let all = saved (Ok done) save link.troubles world in

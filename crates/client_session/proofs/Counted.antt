@@ -37,7 +37,7 @@ use Rattle.shell_lang.specs.declared.line.Line.TheVariants as lines
 use Rattle.shell_lang.specs.declared.line.LineError.{LineError}
 use Rattle.shell_lang.specs.declared.answer.Answer.{Answer}
 use Rattle.client_session.specs.Session.{SessionState, is_unrun, put_effect, make_effect, remove_effect, move_effect, sync_answer, pull_answer, local_answer, word_answer, capture_answer, job_answer, run_answer, LogTurn, CommandTurn, LineTurn}
-use Rattle.client_session.specs.Causes.{is_run}
+use Rattle.client_session.specs.Causes.{asks_to_run}
 use Rattle.client_session.specs.Looking.{found_at, shown, listed, entered, about, list_answer}
 use Rattle.client_session.specs.Laws.{UnrunLinesAreCounted, LinesRunOnce}
 
@@ -214,7 +214,7 @@ module _ (route : Route) (before after : SessionState) (trace : Trace) (answer :
   command_counts (Ok command) turn = run_counts route.work command before.client.log turn.0 after.client.log trace answer turn.1 turn.3
   command_counts (Err refusal) turn = at_most_one answer trace (quiet_counts answer (capture_answer refusal) trace turn.0 (capture_other refusal) (as_nothing trace turn.2))
 
-  pub line_counts : (line : Result Line LineError) → LineTurn route before line answer after trace → Counts (cond (is_run line) 1 0) answer trace
+  pub line_counts : (line : Result Line LineError) → LineTurn route before line answer after trace → Counts (cond (asks_to_run line) 1 0) answer trace
   line_counts (Err refusal) turn = quiet_counts answer _ trace turn.0 refl (as_nothing trace turn.2)
   line_counts (Ok lines.Empty) turn = quiet_counts answer None trace turn.0 refl (as_nothing trace turn.2)
   line_counts (Ok (lines.Put word text)) turn = log_counts (put_effect before.folder word text) turn
@@ -253,5 +253,5 @@ lines_run_once route before [] answers after trace chain = omega (arith, ap (λ 
 lines_run_once route before (line ∷ more) answers after trace chain =
     let one = line_counts route before chain.0 chain.1 chain.3 line chain.5 in
     let rest = lines_run_once route chain.0 more chain.4 after chain.2 chain.6 in
-    let first : count_by is_run (line ∷ more) ≡ cond (is_run line) 1 0 + count_by is_run more = sum_by-cons (λ x. cond (is_run x) 1 0) line more in
+    let first : count_by asks_to_run (line ∷ more) ≡ cond (asks_to_run line) 1 0 + count_by asks_to_run more = sum_by-cons (λ x. cond (asks_to_run x) 1 0) line more in
     omega (arith, first, one.once, rest, ap (λ (t : Trace). length t.runs + t.missed) chain.8, length-append chain.1.runs chain.2.runs)

@@ -4,6 +4,7 @@ use Rattle.outside.specs.Outside.{Told, RisesWhere, CountsFault}
 use Rattle.outside.specs.Keeper.{Images}
 use Rattle.outside.specs.declared.errors.KeepError.{KeepError}
 use Rattle.outside.specs.declared.errors.KeepError.TheVariants as keepers
+use Rattle.file_paths.specs.Path.{FilePath}
 use Rattle.file_paths.specs.declared.path.PathError.{PathError}
 use Rattle.file_paths.specs.declared.path.PathError.TheVariants as paths
 use Rattle.tree_values.specs.declared.node.Effect.{Effect}
@@ -26,7 +27,7 @@ use Rattle.client_core.specs.Trace.{Trace, nothing}
 use Rattle.client_core.specs.Logging.{local_entry, LocalEnds}
 use Rattle.client_core.specs.Syncing.{SyncEnds, is_broken_sync}
 use Rattle.client_core.specs.Pulling.{PullEnds, is_broken_pull}
-use Rattle.client_core.specs.Keeping.{IsKept, KeepsLog}
+use Rattle.client_core.specs.Keeping.{IsKept, IsReady, IsKeptReady, KeepsLog}
 use Rattle.cmd_capture.specs.Runs.{RunnerTelling, HasRun}
 use Rattle.client_core.specs.Goes.{no_runner}
 use Rattle.client_core.specs.Goes.{Goes, Went}
@@ -37,11 +38,11 @@ use Rattle.shell_lang.specs.declared.line.Line.TheVariants.{Enter, Status, Sync,
 use Rattle.shell_lang.specs.declared.line.LineError.{LineError}
 use Rattle.shell_lang.specs.declared.answer.Answer.{Answer}
 use Rattle.shell_lang.specs.declared.answer.Answer.TheVariants as answers
-use Rattle.client_session.specs.Session.{SessionState, with_log, with_folder, LogTurn, LineTurn, local_answer, word_answer, status_answer, sync_answer, pull_answer}
+use Rattle.client_session.specs.Session.{SessionState, ClientState, Sitting, state_of, with_log, with_folder, LogTurn, LineTurn, local_answer, word_answer, status_answer, sync_answer, pull_answer}
 use Rattle.client_session.specs.Looking.{enter_answer, folder_by}
 use Rattle.client_session.specs.Doing.{Telling, beside, Does, WentDoing, LineEnds}
-use Rattle.client_session.specs.Inside.{IsGiven, GivesEffect, LogEnds, Logs, LogsMade}
-use Rattle.client_session.specs.Causes.{HasLineCause, is_sync_fault, is_pull_fault, answered}
+use Rattle.client_session.specs.Inside.{IsAnswerOrMemory, GivesEffect, LogEnds, LogsOrRefuses, LogsMade}
+use Rattle.client_session.specs.Causes.{HasLineCause, is_sync_fault, is_pull_fault, answer_or_fault}
 use Rattle.client_session.proofs.Doing.{does_none, does_as}
 
 -- what a line that asks nothing of the server does in any world, with a surrogate or without, where the keeper's images were these and
@@ -60,6 +61,23 @@ kept_ok name client log (Some i) (Some j) done told = told.0
 kept_ok name client log (Some i) None done told = absurd told
 kept_ok name client log None None done told = tt
 kept_ok name client log None (Some j) done told = absurd (cc)
+
+-- a client that is kept, and after that call may go on, is so with the same number and log
+pub kept_still : (name : List ℕ) (client now : Client) (i : Option Images) → now.number ≡ client.number → now.log ≡ client.log → IsKept i name client.number client.log → IsReady i name now → IsKeptReady i name now
+kept_still name client now i number log keeps ready =
+    (subst (λ (n : ℕ). IsKept i name n now.log) (sym number) (subst (IsKept i name client.number) (sym log) keeps), ready)
+
+pub err_seen : (r : Result (Option Answer) KeepError) (now before : Sitting) → OnErr r (now ≡ before) → OnErr r (state_of now ≡ state_of before)
+err_seen (Ok answer) now before same = tt
+err_seen (Err e) now before same = ap state_of same
+
+pub both_ok : {T E : Type 0} (r : Result T E) (A B : Type 0) → IfOk r (λ done. A) → B → IfOk r (λ done. A × B)
+both_ok (Ok done) A B a b = (a, b)
+both_ok (Err e) A B a b = tt
+
+-- turns see the same of it
+pub seen_same : (client now : Client) (folder : FilePath) → now.number ≡ client.number → now.log ≡ client.log → state_of (record { client = client; folder = folder }) ≡ state_of (record { client = now; folder = folder })
+seen_same client now folder number log = λ i. record { client = record { number = sym number i; log = sym log i }; folder = folder }
 
 -- some world
 pub a_world : World
@@ -121,11 +139,6 @@ module _ (name : List ℕ) (i : Option Images) where
         ))
     enter_quietly after word (Err e) is entered same = subst (λ (s : SessionState). Quietly name before (Ok (Enter word)) (Err e) s i i) (sym same) (breaks_quietly (Ok (Enter word)) e)
 
-    pub enter_kept : (after : SessionState) (word : List ℕ) (r : Result (Option Answer) KeepError)
-        → IfOk r (λ given. after ≡ with_folder before (folder_by (enter_answer (tree_of before.client.log) before.folder word) before.folder)) → IfOk r (λ given. IsKept i name after.client.number after.client.log)
-    enter_kept after word (Ok given) entered = subst (λ (s : SessionState). IsKept i name s.client.number s.client.log) (sym entered) keeps
-    enter_kept after word (Err e) entered = tt
-
     -- the line of status
     pub status_quietly : (answer : Answer) → answer ≡ status_answer before → Quietly name before (Ok Status) (Ok (Some answer)) before i i
     status_quietly answer is = told_quietly (Ok Status) (Some (status_answer before)) (Ok (Some answer)) (λ route. (refl, refl, refl)) (ap Some is)
@@ -133,23 +146,23 @@ module _ (name : List ℕ) (i : Option Images) where
     -- ---- a line that logs nothing
 
     -- memory was wanted before
-    unlogged : (named : Result Effect PathError) (e : KeepError) → Logs name named before (Err e) before i i
+    unlogged : (named : Result Effect PathError) (e : KeepError) → LogsOrRefuses name named before (Err e) before i i
     unlogged named e = λ ships t w. (before.client.log, does_none ships name (LogEnds named before (Err e) before before.client.log) before i t w keeps (inl (refl, refl)))
 
     -- the refusal of a path word
-    refused_word : (refusal : PathError) (answer : Answer) → word_answer refusal ≡ Some answer → Logs name (Err refusal) before (Ok (Some answer)) before i i
+    refused_word : (refusal : PathError) (answer : Answer) → word_answer refusal ≡ Some answer → LogsOrRefuses name (Err refusal) before (Ok (Some answer)) before i i
     refused_word refusal answer is = λ ships t w. (before.client.log, does_none ships name (LogEnds (Err refusal) before (Ok (Some answer)) before before.client.log) before i t w keeps ((sym is, refl, refl), refl))
 
     no_memory_word : (refusal : PathError) (answer : Answer) → word_answer refusal ≡ Some answer → refusal ≢ paths.Memory
     no_memory_word refusal answer is memory = absurd (cc (ap word_answer memory, is))
 
     pub word_given : (made : Result Effect PathError) (refusal : PathError) (told : Option Answer) (r : Result (Option Answer) KeepError) → made ≡ Err refusal → told ≡ word_answer refusal
-        → IsGiven told r → LogsMade name made before r before i i
+        → IsAnswerOrMemory told r → LogsMade name made before r before i i
     word_given made refusal (Some answer) (Ok given) is shown gave = λ named gives.
         let word : word_answer refusal ≡ Some answer = sym shown in
         let is_named : named ≡ Err refusal = subst (λ (m : Result Effect PathError). GivesEffect m named) is gives (no_memory_word refusal answer word) in
-        subst (λ (n : Result Effect PathError). Logs name n before (Ok given) before i i) (sym is_named)
-        (subst (λ (a : Option Answer). Logs name (Err refusal) before (Ok a) before i i) (sym gave) (refused_word refusal answer word))
+        subst (λ (n : Result Effect PathError). LogsOrRefuses name n before (Ok given) before i i) (sym is_named)
+        (subst (λ (a : Option Answer). LogsOrRefuses name (Err refusal) before (Ok a) before i i) (sym gave) (refused_word refusal answer word))
     word_given made refusal None (Err keepers.Memory) is shown gave = λ named gives. unlogged named keepers.Memory
     word_given made refusal None (Err keepers.Failed) is shown gave = absurd gave
     word_given made refusal (Some answer) (Err e) is shown gave = absurd gave
@@ -163,13 +176,13 @@ module _ (name : List ℕ) (i : Option Images) where
       refused_turn refusal answer shown trace (inr memory) = absurd (cc (ap local_answer memory.0, shown))
 
       -- the log refused the effect
-      pub refusal_given : (made : Result Effect PathError) (refusal : LogError) (told : Option Answer) (r : Result (Option Answer) KeepError) → made ≡ Ok effect → told ≡ local_answer (Err refusal) → IsGiven told r
+      pub refusal_given : (made : Result Effect PathError) (refusal : LogError) (told : Option Answer) (r : Result (Option Answer) KeepError) → made ≡ Ok effect → told ≡ local_answer (Err refusal) → IsAnswerOrMemory told r
           → (refusal ≢ logs.Memory → appended None (effect ∷ []) before.client.log ≡ Err refusal) → after.client ≡ before.client → IsLog after.client.log → LogsMade name made before r after i i
       refusal_given made refusal (Some answer) (Ok given) is shown gave err same is_log = λ named gives.
           let is_named : named ≡ Ok effect = subst (λ (m : Result Effect PathError). GivesEffect m named) is gives in
-          let log_same : after.client.log ≡ before.client.log = ap (λ (c : Client). c.log) same in
-          subst (λ (n : Result Effect PathError). Logs name n before (Ok given) after i i) (sym is_named)
-          (subst (λ (a : Option Answer). Logs name (Ok effect) before (Ok a) after i i) (sym gave)
+          let log_same : after.client.log ≡ before.client.log = ap (λ (c : ClientState). c.log) same in
+          subst (λ (n : Result Effect PathError). LogsOrRefuses name n before (Ok given) after i i) (sym is_named)
+          (subst (λ (a : Option Answer). LogsOrRefuses name (Ok effect) before (Ok a) after i i) (sym gave)
           (λ ships t w. (
             before.client.log,
             record {
@@ -181,7 +194,7 @@ module _ (name : List ℕ) (i : Option Images) where
           )))
       refusal_given made refusal None (Err keepers.Memory) is shown gave err same is_log = λ named gives.
           let unchanged : after ≡ before = λ k. record { client = same k; folder = folder k } in
-          subst (λ (s : SessionState). Logs name named before (Err keepers.Memory) s i i) (sym unchanged) (unlogged named keepers.Memory)
+          subst (λ (s : SessionState). LogsOrRefuses name named before (Err keepers.Memory) s i i) (sym unchanged) (unlogged named keepers.Memory)
       refusal_given made refusal None (Err keepers.Failed) is shown gave err same is_log = absurd gave
       refusal_given made refusal (Some answer) (Err e) is shown gave err same is_log = absurd gave
       refusal_given made refusal None (Ok given) is shown gave err same is_log = absurd gave
@@ -206,7 +219,7 @@ module _ (name : List ℕ) (i : Option Images) where
             → LogsMade name made before (Ok (Some (answers.Logged seq))) after i j
         logged_kept made done is save = λ named gives.
             let is_named : named ≡ Ok effect = subst (λ (m : Result Effect PathError). GivesEffect m named) is gives in
-            subst (λ (n : Result Effect PathError). Logs name n before (Ok (Some (answers.Logged seq))) after i j) (sym is_named)
+            subst (λ (n : Result Effect PathError). LogsOrRefuses name n before (Ok (Some (answers.Logged seq))) after i j) (sym is_named)
             (λ ships t w.
             let saved = goes_kept (Ok done) save ships t w in (
               saved.0,
@@ -220,7 +233,7 @@ module _ (name : List ℕ) (i : Option Images) where
         pub logged_unkept : (made : Result Effect PathError) (e : KeepError) → made ≡ Ok effect → Told i j (KeepsLog {E = KeepError} name before.client.number after.client.log (Err e)) → LogsMade name made before (Err e) after i j
         logged_unkept made e is save = λ named gives.
             let is_named : named ≡ Ok effect = subst (λ (m : Result Effect PathError). GivesEffect m named) is gives in
-            subst (λ (n : Result Effect PathError). Logs name n before (Err e) after i j) (sym is_named)
+            subst (λ (n : Result Effect PathError). LogsOrRefuses name n before (Err e) after i j) (sym is_named)
             (λ ships t w.
             let saved = goes_kept (Err e) save ships t w in (
               saved.0,
@@ -234,7 +247,7 @@ module _ (name : List ℕ) (i : Option Images) where
   -- in every world, as its line
   pub logs_quietly : (named : Result Effect PathError) (before : SessionState) (line : Result Line LineError) (r : Result (Option Answer) KeepError) (after : SessionState) (j : Option Images)
       → ((route : Route) (answer : Option Answer) (trace : Trace) → LogTurn named before answer after trace → LineTurn route before line answer after trace)
-      → Logs name named before r after i j → Quietly name before line r after i j
+      → LogsOrRefuses name named before r after i j → Quietly name before line r after i j
   logs_quietly named before line (Ok answer) after j to logs = λ ships route t w.
       let done = logs ships t w in (
         done.0,
@@ -289,17 +302,17 @@ module _ (route : Route) (before after : SessionState) (k : Log) (i j : Option I
   broken_turn e trace (inl turn) = inr (inl (sync_answer end, (end, turn.0, same_but_log before after number folder, refl)))
   broken_turn e trace (inr broken) = inr (inr (broken.1, same_but_log before after number folder))
 
-  sync_answered : (fault : Bool) (told : Option Answer) → told ≡ sync_answer end → Did (answered fault told)
+  sync_answered : (fault : Bool) (told : Option Answer) → told ≡ sync_answer end → Did (answer_or_fault fault told)
   sync_answered true told shown = sync_as (Err keepers.Failed) (broken_turn keepers.Failed)
   sync_answered false None shown = sync_as (Err keepers.Memory) (broken_turn keepers.Memory)
   sync_answered false (Some answer) shown = sync_as (Ok (Some answer)) (told_turn answer (sym shown))
 
-  sync_given : (fault : Bool) (told : Option Answer) (r : Result (Option Answer) KeepError) → told ≡ sync_answer end → r ≡ answered fault told → Did r
+  sync_given : (fault : Bool) (told : Option Answer) (r : Result (Option Answer) KeepError) → told ≡ sync_answer end → r ≡ answer_or_fault fault told → Did r
   sync_given fault told r shown is = subst Did (sym is) (sync_answered fault told shown)
 
 -- over a link
 pub sync_went : (route : Route) (before after : SessionState) (i j : Option Images) (t u : LinkTelling) (number : after.client.number ≡ before.client.number) (folder : after.folder ≡ before.folder) (end : SyncEnd)
-    (fault : Bool) (told : Option Answer) (r : Result (Option Answer) KeepError) → told ≡ sync_answer end → r ≡ answered fault told
+    (fault : Bool) (told : Option Answer) (r : Result (Option Answer) KeepError) → told ≡ sync_answer end → r ≡ answer_or_fault fault told
     → Went before.client.number (is_some route.surrogate) route.image (SyncEnds before.client.number route before.client.log end after.client.log) before.client.log after.client.log i j t u
     → (runner : RunnerTelling) → WentDoing route (LineEnds route before (Ok Sync) r after) before after i j (beside t runner) (beside u runner)
 sync_went route before after i j t u number folder end fault told r shown is went runner =
@@ -309,17 +322,17 @@ sync_went route before after i j t u number folder end fault told r shown is wen
 
 pub sync_cause : (route : Route) (before after : SessionState) (t u : LinkTelling) (p q : ℕ) (number : after.client.number ≡ before.client.number) (folder : after.folder ≡ before.folder)
     → AcknowledgesSome before.client.log after.client.log → (end : SyncEnd) (fault : Bool) (told : Option Answer) (r : Result (Option Answer) KeepError) → told ≡ sync_answer end → fault ≡ is_sync_fault end
-    → r ≡ answered fault told → HasSyncCause end after.client.log t.troubles u.troubles p q → ((runner : RunnerTelling) → HasLineCause route before (Ok Sync) r after (beside t runner) (beside u runner) p q)
+    → r ≡ answer_or_fault fault told → HasSyncCause end after.client.log t.troubles u.troubles p q → ((runner : RunnerTelling) → HasLineCause route before (Ok Sync) r after (beside t runner) (beside u runner) p q)
 sync_cause route before after t u p q number folder some end fault told r shown faulty is cause runner =
-    (same_but_log before after number folder, some, (end, is ∙ ap (λ (b : Bool). answered b told) faulty ∙ ap (answered (is_sync_fault end)) shown, cause))
+    (same_but_log before after number folder, some, (end, is ∙ ap (λ (b : Bool). answer_or_fault b told) faulty ∙ ap (answer_or_fault (is_sync_fault end)) shown, cause))
 
 -- the keeper's faults are counted by the answer as by the end
-pub sync_counts : (p q : ℕ) (end : SyncEnd) (fault : Bool) (told : Option Answer) (r : Result (Option Answer) KeepError) → told ≡ sync_answer end → fault ≡ is_sync_fault end → r ≡ answered fault told
+pub sync_counts : (p q : ℕ) (end : SyncEnd) (fault : Bool) (told : Option Answer) (r : Result (Option Answer) KeepError) → told ≡ sync_answer end → fault ≡ is_sync_fault end → r ≡ answer_or_fault fault told
     → RisesWhere (end ≡ syncs.KeepFault) p q → CountsFault keepers.Failed p q r
 sync_counts p q end fault told r shown faulty is rises =
-    subst (CountsFault keepers.Failed p q) (sym (is ∙ ap (λ (b : Bool). answered b told) faulty ∙ ap (answered (is_sync_fault end)) shown)) (by end rises)
+    subst (CountsFault keepers.Failed p q) (sym (is ∙ ap (λ (b : Bool). answer_or_fault b told) faulty ∙ ap (answer_or_fault (is_sync_fault end)) shown)) (by end rises)
   where
-    by : (end : SyncEnd) → RisesWhere (end ≡ syncs.KeepFault) p q → CountsFault keepers.Failed p q (answered (is_sync_fault end) (sync_answer end))
+    by : (end : SyncEnd) → RisesWhere (end ≡ syncs.KeepFault) p q → CountsFault keepers.Failed p q (answer_or_fault (is_sync_fault end) (sync_answer end))
     by syncs.KeepFault rises = record { later = rises.later; once = λ is. rises.once refl; never = λ no. absurd (no refl) }
     by syncs.Memory rises = record { later = rises.later; once = λ is. absurd (cc (is)); never = λ no. rises.never (λ is. absurd (cc (is))) }
     by (syncs.Synced n) rises = record { later = rises.later; once = λ is. absurd (cc (is)); never = λ no. rises.never (λ is. absurd (cc (is))) }
@@ -341,11 +354,11 @@ unbroken syncs.Memory answer is = absurd (cc)
 
 -- a sync that is answered leaves its log kept
 pub sync_kept : (name : List ℕ) (client : ℕ) (before after : Log) (end : SyncEnd) (i j : Option Images) (fault : Bool) (told : Option Answer) (r : Result (Option Answer) KeepError) → told ≡ sync_answer end
-    → r ≡ answered fault told → SyncKeeps name client before end after i j → IfOk r (λ answer. IsKept j name client after)
+    → r ≡ answer_or_fault fault told → SyncKeeps name client before end after i j → IfOk r (λ answer. IsKept j name client after)
 sync_kept name client before after end i j fault told r shown is keeps =
     subst (λ (a : Result (Option Answer) KeepError). IfOk a (λ answer. IsKept j name client after)) (sym is) (by fault told shown)
   where
-    by : (fault : Bool) (told : Option Answer) → told ≡ sync_answer end → IfOk (answered fault told) (λ answer. IsKept j name client after)
+    by : (fault : Bool) (told : Option Answer) → told ≡ sync_answer end → IfOk (answer_or_fault fault told) (λ answer. IsKept j name client after)
     by true told shown = tt
     by false None shown = tt
     by false (Some answer) shown =
@@ -385,17 +398,17 @@ module _ (route : Route) (before after : SessionState) (k : Log) (i j : Option I
   pull_broken e trace (inl turn) = inr (inl (pull_answer end, (end, turn.0, same_but_log before after number folder, refl)))
   pull_broken e trace (inr broken) = inr (inr (broken.1, same_but_log before after number folder))
 
-  pull_answered : (fault : Bool) (told : Option Answer) → told ≡ pull_answer end → Pulls_so (answered fault told)
+  pull_answered : (fault : Bool) (told : Option Answer) → told ≡ pull_answer end → Pulls_so (answer_or_fault fault told)
   pull_answered true told shown = pull_as (Err keepers.Failed) (pull_broken keepers.Failed)
   pull_answered false None shown = pull_as (Err keepers.Memory) (pull_broken keepers.Memory)
   pull_answered false (Some answer) shown = pull_as (Ok (Some answer)) (pull_told answer (sym shown))
 
-  pull_given : (fault : Bool) (told : Option Answer) (r : Result (Option Answer) KeepError) → told ≡ pull_answer end → r ≡ answered fault told → Pulls_so r
+  pull_given : (fault : Bool) (told : Option Answer) (r : Result (Option Answer) KeepError) → told ≡ pull_answer end → r ≡ answer_or_fault fault told → Pulls_so r
   pull_given fault told r shown is = subst Pulls_so (sym is) (pull_answered fault told shown)
 
 -- over a link
 pub pull_went : (route : Route) (before after : SessionState) (i j : Option Images) (t u : LinkTelling) (number : after.client.number ≡ before.client.number) (folder : after.folder ≡ before.folder) (end : PullEnd)
-    (fault : Bool) (told : Option Answer) (r : Result (Option Answer) KeepError) → told ≡ pull_answer end → r ≡ answered fault told
+    (fault : Bool) (told : Option Answer) (r : Result (Option Answer) KeepError) → told ≡ pull_answer end → r ≡ answer_or_fault fault told
     → Went before.client.number (is_some route.surrogate) route.image (PullEnds before.client.number route before.client.log end after.client.log) before.client.log after.client.log i j t u
     → (runner : RunnerTelling) → WentDoing route (LineEnds route before (Ok Pull) r after) before after i j (beside t runner) (beside u runner)
 pull_went route before after i j t u number folder end fault told r shown is went runner =
@@ -405,16 +418,16 @@ pull_went route before after i j t u number folder end fault told r shown is wen
 
 pub pull_cause : (route : Route) (before after : SessionState) (t u : LinkTelling) (p q : ℕ) (number : after.client.number ≡ before.client.number) (folder : after.folder ≡ before.folder)
     → (end : PullEnd) (fault : Bool) (told : Option Answer) (r : Result (Option Answer) KeepError) → told ≡ pull_answer end → fault ≡ is_pull_fault end
-    → r ≡ answered fault told → HasPullCause end before.client.log after.client.log t.troubles u.troubles p q → ((runner : RunnerTelling) → HasLineCause route before (Ok Pull) r after (beside t runner) (beside u runner) p q)
+    → r ≡ answer_or_fault fault told → HasPullCause end before.client.log after.client.log t.troubles u.troubles p q → ((runner : RunnerTelling) → HasLineCause route before (Ok Pull) r after (beside t runner) (beside u runner) p q)
 pull_cause route before after t u p q number folder end fault told r shown faulty is cause runner =
-    (same_but_log before after number folder, (end, is ∙ ap (λ (b : Bool). answered b told) faulty ∙ ap (answered (is_pull_fault end)) shown, cause))
+    (same_but_log before after number folder, (end, is ∙ ap (λ (b : Bool). answer_or_fault b told) faulty ∙ ap (answer_or_fault (is_pull_fault end)) shown, cause))
 
-pub pull_counts : (p q : ℕ) (end : PullEnd) (fault : Bool) (told : Option Answer) (r : Result (Option Answer) KeepError) → told ≡ pull_answer end → fault ≡ is_pull_fault end → r ≡ answered fault told
+pub pull_counts : (p q : ℕ) (end : PullEnd) (fault : Bool) (told : Option Answer) (r : Result (Option Answer) KeepError) → told ≡ pull_answer end → fault ≡ is_pull_fault end → r ≡ answer_or_fault fault told
     → RisesWhere (end ≡ pulls.KeepFault) p q → CountsFault keepers.Failed p q r
 pull_counts p q end fault told r shown faulty is rises =
-    subst (CountsFault keepers.Failed p q) (sym (is ∙ ap (λ (b : Bool). answered b told) faulty ∙ ap (answered (is_pull_fault end)) shown)) (by end rises)
+    subst (CountsFault keepers.Failed p q) (sym (is ∙ ap (λ (b : Bool). answer_or_fault b told) faulty ∙ ap (answer_or_fault (is_pull_fault end)) shown)) (by end rises)
   where
-    by : (end : PullEnd) → RisesWhere (end ≡ pulls.KeepFault) p q → CountsFault keepers.Failed p q (answered (is_pull_fault end) (pull_answer end))
+    by : (end : PullEnd) → RisesWhere (end ≡ pulls.KeepFault) p q → CountsFault keepers.Failed p q (answer_or_fault (is_pull_fault end) (pull_answer end))
     by pulls.KeepFault rises = record { later = rises.later; once = λ is. rises.once refl; never = λ no. absurd (no refl) }
     by pulls.Memory rises = record { later = rises.later; once = λ is. absurd (cc (is)); never = λ no. rises.never (λ is. absurd (cc (is))) }
     by (pulls.Pulled count) rises = record { later = rises.later; once = λ is. absurd (cc (is)); never = λ no. rises.never (λ is. absurd (cc (is))) }
@@ -434,11 +447,11 @@ unbroken_pull pulls.Memory answer is = absurd (cc)
 
 -- a pull that is answered leaves its log kept
 pub pull_kept : (name : List ℕ) (client : ℕ) (before after : Log) (end : PullEnd) (i j : Option Images) (fault : Bool) (told : Option Answer) (r : Result (Option Answer) KeepError) → told ≡ pull_answer end
-    → r ≡ answered fault told → PullKeeps name client before end after i j → IfOk r (λ answer. IsKept j name client after)
+    → r ≡ answer_or_fault fault told → PullKeeps name client before end after i j → IfOk r (λ answer. IsKept j name client after)
 pull_kept name client before after end i j fault told r shown is keeps =
     subst (λ (a : Result (Option Answer) KeepError). IfOk a (λ answer. IsKept j name client after)) (sym is) (by fault told shown)
   where
-    by : (fault : Bool) (told : Option Answer) → told ≡ pull_answer end → IfOk (answered fault told) (λ answer. IsKept j name client after)
+    by : (fault : Bool) (told : Option Answer) → told ≡ pull_answer end → IfOk (answer_or_fault fault told) (λ answer. IsKept j name client after)
     by true told shown = tt
     by false None shown = tt
     by false (Some answer) shown =

@@ -29,15 +29,15 @@ is_pull_fault pulls.KeepFault = true
 is_pull_fault end = false
 
 -- an answer that is there, unless a keeping failed; where there is none, memory was wanted
-abbrev pub answered : Bool → Option Answer → Result (Option Answer) KeepError
-answered true answer = Err keepers.Failed
-answered false None = Err keepers.Memory
-answered false (Some answer) = Ok (Some answer)
+abbrev pub answer_or_fault : Bool → Option Answer → Result (Option Answer) KeepError
+answer_or_fault true answer = Err keepers.Failed
+answer_or_fault false None = Err keepers.Memory
+answer_or_fault false (Some answer) = Ok (Some answer)
 
 -- whether a line asks for a run
-abbrev pub is_run : Result Line LineError → Bool
-is_run (Ok (Run words)) = true
-is_run line = false
+abbrev pub asks_to_run : Result Line LineError → Bool
+asks_to_run (Ok (Run words)) = true
+asks_to_run line = false
 
 -- A sync acknowledges some entries and a pull may replace the base, and nothing else of the session changes; each ends with a cause,
 -- and is answered so. Every other line has its turn, or was broken off; what its runs were, the runner tells, and its faults rose
@@ -45,9 +45,9 @@ is_run line = false
 abbrev pub HasLineCause : Route → SessionState → Result Line LineError → Result (Option Answer) KeepError → SessionState → Telling → Telling → ℕ → ℕ → Type 0
 HasLineCause route before (Ok Sync) result after old new faults faults_now =
     (after ≡ with_log before after.client.log) × AcknowledgesSome before.client.log after.client.log
-    × ((end : SyncEnd) × (result ≡ answered (is_sync_fault end) (sync_answer end)) × HasSyncCause end after.client.log old.link.troubles new.link.troubles faults faults_now)
+    × ((end : SyncEnd) × (result ≡ answer_or_fault (is_sync_fault end) (sync_answer end)) × HasSyncCause end after.client.log old.link.troubles new.link.troubles faults faults_now)
 HasLineCause route before (Ok Pull) result after old new faults faults_now =
     (after ≡ with_log before after.client.log)
-    × ((end : PullEnd) × (result ≡ answered (is_pull_fault end) (pull_answer end))
+    × ((end : PullEnd) × (result ≡ answer_or_fault (is_pull_fault end) (pull_answer end))
     × HasPullCause end before.client.log after.client.log old.link.troubles new.link.troubles faults faults_now)
 HasLineCause route before line result after old new faults faults_now = (kept : Log) × (trace : Trace) × LineEnds route before line result after kept trace × HasRun trace.runs trace.missed old.runner new.runner

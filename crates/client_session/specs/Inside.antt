@@ -20,10 +20,10 @@ use Rattle.client_session.specs.Session.{SessionState, LogTurn}
 use Rattle.client_session.specs.Doing.{Telling, beside, Does, LineEnds}
 
 -- an answer is given where there is one, and else memory was wanted
-abbrev pub IsGiven : Option Answer → Result (Option Answer) KeepError → Type 0
-IsGiven (Some answer) (Ok given) = given ≡ Some answer
-IsGiven None (Err keepers.Memory) = ⊤
-IsGiven answer result = ⊥
+abbrev pub IsAnswerOrMemory : Option Answer → Result (Option Answer) KeepError → Type 0
+IsAnswerOrMemory (Some answer) (Ok given) = given ≡ Some answer
+IsAnswerOrMemory None (Err keepers.Memory) = ⊤
+IsAnswerOrMemory answer result = ⊥
 
 -- the effect that was made is the one that is named, or the refusal is that of the naming, unless memory ran out
 abbrev pub GivesEffect : Result Effect PathError → Result Effect PathError → Type 0
@@ -38,13 +38,13 @@ LogEnds named before (Err error) after kept trace =
     ((after ≡ before) × (trace ≡ nothing)) ⊎ ((answer : Option Answer) × LogTurn named before answer after trace)
 
 -- what it does in any world, with a surrogate or without, where the keeper's images were these and are those now
-abbrev pub Logs : List ℕ → Result Effect PathError → SessionState → Result (Option Answer) KeepError → SessionState → Option Images → Option Images → Type 0
-Logs name named before result after images now =
+abbrev pub LogsOrRefuses : List ℕ → Result Effect PathError → SessionState → Result (Option Answer) KeepError → SessionState → Option Images → Option Images → Type 0
+LogsOrRefuses name named before result after images now =
     (ships : Bool) (told : Telling) (world : World) → (kept : Log) × Does ships name (LogEnds named before result after kept) before after kept images now told told world world
 
 -- the same of an effect that was made, whatever it was made of
 abbrev pub LogsMade : List ℕ → Result Effect PathError → SessionState → Result (Option Answer) KeepError → SessionState → Option Images → Option Images → Type 0
-LogsMade name made before result after images now = (named : Result Effect PathError) → GivesEffect made named → Logs name named before result after images now
+LogsMade name made before result after images now = (named : Result Effect PathError) → GivesEffect made named → LogsOrRefuses name named before result after images now
 
 -- What a command of a line does in any world, where the keeper's images and what the runner tells were these and are those now: the
 -- line has its turn, or is broken off.

@@ -13,7 +13,7 @@ use Rattle.client_core.specs.Syncing.{acknowledged_first}
 use Rattle.shell_lang.specs.declared.line.Line.{Line}
 use Rattle.shell_lang.specs.declared.line.LineError.{LineError}
 use Rattle.shell_lang.specs.declared.answer.Answer.{Answer}
-use Rattle.client_session.specs.Causes.{is_run}
+use Rattle.client_session.specs.Causes.{asks_to_run}
 use Rattle.client_session.specs.Session.{SessionState, Chain, BreaksChain, is_unrun}
 
 -- one entry with the next number is logged, the first pending one is acknowledged, or the base is replaced by a pull
@@ -45,7 +45,7 @@ UnrunLinesAreCounted = (route : Route) (before : SessionState) (lines : List (Re
 -- Each run, failed ones too, is of a line `run`, and no line has two.
 abbrev pub LinesRunOnce : Type 0
 LinesRunOnce = (route : Route) (before : SessionState) (lines : List (Result Line LineError)) (answers : List (Option Answer)) (after : SessionState) (trace : Trace)
-    → Chain route before lines answers after trace → length trace.runs + trace.missed ≤ count_by is_run lines
+    → Chain route before lines answers after trace → length trace.runs + trace.missed ≤ count_by asks_to_run lines
 
 -- the ask is of a peer of the route: of the server at its address, or of the surrogate at its address, where there is one
 abbrev pub IsOfRoute : Route → Ask → Type 0

@@ -37,10 +37,27 @@ use Rattle.shell_lang.specs.declared.answer.Answer.TheVariants as answers
 use Rattle.shell_lang.specs.declared.answer.Fault.TheVariants as faults
 use Rattle.client_session.specs.Looking.{cat_answer, list_answer, enter_answer, folder_by}
 
+-- a client as turns see it: its number and its log
+pub record ClientState : Type 0 where
+  pub number : ℕ
+  pub log : Log
+
 -- what a line finds and leaves: the client, and the current folder
 pub record SessionState : Type 0 where
+  pub client : ClientState
+  pub folder : FilePath
+
+-- a session between two lines: the client, with what it kept last, and the current folder
+pub record Sitting : Type 0 where
   pub client : Client
   pub folder : FilePath
+
+-- what turns see of a client, and of a session
+abbrev pub seen : Client → ClientState
+seen client = record { number = client.number; log = client.log }
+
+abbrev pub state_of : Sitting → SessionState
+state_of sitting = record { client = seen sitting.client; folder = sitting.folder }
 
 -- the client of this number with this log, in the root folder
 abbrev pub opened : ℕ → Log → SessionState

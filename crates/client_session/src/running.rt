@@ -2,10 +2,10 @@
 ghost use Rattle.std.specs.Prelude.{◌≡◌, ◌≤◌, Err, IfOk};
 ghost use Rattle.outside.specs.Outside.{CountsFault};
 ghost use Rattle.cmd_capture.specs.Spelling.{IsCommand};
-ghost use Rattle.client_core.specs.Keeping.{IsKept};
+ghost use Rattle.client_core.specs.Keeping.{IsKeptReady};
 ghost use Rattle.client_core.specs.Goes.{telling};
 ghost use Rattle.client_core.specs.Running.{has_logged};
-ghost use Rattle.client_session.specs.Session.{capture_answer, job_answer, run_answer};
+ghost use Rattle.client_session.specs.Session.{state_of, capture_answer, job_answer, run_answer};
 ghost use Rattle.client_session.specs.Inside.{RunsLine, RunsMade};
 
 use crate::session::{Session, given, local_refusal};
@@ -26,10 +26,10 @@ impl Session {
         keeper: &mut K,
         runner: &mut R,
     ) -> Result<Option<Answer>, KeepError>
-        requires { IsKept (K.images keeper.old) route.now.image self.old.client.number self.old.client.log }
-        ensures runs { RunsLine route.now words.now self.old result self.new (K.images keeper.old) (K.images keeper.new)
+        requires { IsKeptReady (K.images keeper.old) route.now.image self.old.client }
+        ensures runs { RunsLine route.now words.now (state_of self.old) result (state_of self.new) (K.images keeper.old) (K.images keeper.new)
             (telling (R.runs runner.old) (R.faults runner.old)) (telling (R.runs runner.new) (R.faults runner.new)) }
-        ensures kept { IfOk result (λ answer. IsKept (K.images keeper.new) route.now.image self.new.client.number self.new.client.log) }
+        ensures kept { IfOk result (λ answer. IsKeptReady (K.images keeper.new) route.now.image self.new.client) }
         ensures later { R.faults runner.old ≤ R.faults runner.new }
         ensures keeper { CountsFault KeepError.Failed (K.faults keeper.old) (K.faults keeper.new) result }
     {
@@ -48,10 +48,10 @@ impl Session {
         runner: &mut R,
     ) -> Result<Option<Answer>, KeepError>
         requires command { IsCommand command }
-        requires kept { IsKept (K.images keeper.old) route.now.image self.old.client.number self.old.client.log }
-        ensures runs { RunsMade route.now command self.old result self.new (K.images keeper.old) (K.images keeper.new)
+        requires kept { IsKeptReady (K.images keeper.old) route.now.image self.old.client }
+        ensures runs { RunsMade route.now command (state_of self.old) result (state_of self.new) (K.images keeper.old) (K.images keeper.new)
             (telling (R.runs runner.old) (R.faults runner.old)) (telling (R.runs runner.new) (R.faults runner.new)) }
-        ensures kept { IfOk result (λ answer. IsKept (K.images keeper.new) route.now.image self.new.client.number self.new.client.log) }
+        ensures kept { IfOk result (λ answer. IsKeptReady (K.images keeper.new) route.now.image self.new.client) }
         ensures later { R.faults runner.old ≤ R.faults runner.new }
         ensures keeper { CountsFault KeepError.Failed (K.faults keeper.old) (K.faults keeper.new) result }
     {

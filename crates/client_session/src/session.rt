@@ -1,18 +1,18 @@
 // The turns of a session's lines.
-ghost use Rattle.std.specs.Prelude.{◌≡◌, ◌≢◌, ◌≤◌, false, Some, Ok, Err, IfOk, OnErr};
+ghost use Rattle.std.specs.Prelude.{◌≡◌, ◌≢◌, ◌≤◌, [], false, Some, Ok, Err, IfOk, OnErr};
 ghost use Rattle.std.specs.Option.{option_copied};
 ghost use Rattle.outside.specs.Outside.{CountsFault};
 ghost use Rattle.mod_log.specs.Log.{tree_of};
-ghost use Rattle.client_core.specs.Keeping.{IsKept};
-ghost use Rattle.client_session.specs.Session.{opened, put_effect, make_effect, remove_effect, move_effect};
+ghost use Rattle.client_core.specs.Keeping.{IsKeptReady};
+ghost use Rattle.client_session.specs.Session.{state_of, put_effect, make_effect, remove_effect, move_effect};
 ghost use Rattle.client_session.specs.Session.{with_folder, local_answer, word_answer, sync_answer, pull_answer};
 ghost use Rattle.client_session.specs.Session.{status_answer};
 ghost use Rattle.client_session.specs.Looking.{cat_answer, list_answer, enter_answer, folder_by};
 ghost use Rattle.cmd_capture.specs.Runs.{RunnerTelling};
 ghost use Rattle.client_core.specs.Goes.{telling};
 ghost use Rattle.client_session.specs.Doing.{beside, WentDoing, LineEnds};
-ghost use Rattle.client_session.specs.Causes.{HasLineCause, is_run, is_sync_fault, is_pull_fault, answered};
-ghost use Rattle.client_session.specs.Inside.{IsGiven, Logs, LogsMade};
+ghost use Rattle.client_session.specs.Causes.{HasLineCause, asks_to_run, is_sync_fault, is_pull_fault, answer_or_fault};
+ghost use Rattle.client_session.specs.Inside.{IsAnswerOrMemory, LogsOrRefuses, LogsMade};
 
 use crate::effects::{make_effect, move_effect, put_effect, remove_effect};
 use crate::looking::{cat, enter, list};
@@ -34,9 +34,9 @@ pub struct Session {
 }
 
 impl Model for Session {
-    ghost use Rattle.client_session.specs.Session.{SessionState};
+    ghost use Rattle.client_session.specs.Session.{Sitting};
 
-    ghost Value = { SessionState };
+    ghost Value = { Sitting };
 
     ghost view = { λ session. record { client = session.client; folder = session.folder } };
 }
@@ -44,7 +44,7 @@ impl Model for Session {
 impl Session {
     /// A client's session, in the root folder. It takes no memory.
     pub fn new(alloc: Global, client: Client) -> Session
-        ensures { result ≡ opened client.number client.log }
+        ensures { result ≡ record { client = client; folder = [] } }
     {
         Session {
             client,
@@ -68,17 +68,17 @@ impl Session {
         keeper: &mut K,
         runner: &mut R,
     ) -> Result<Option<Answer>, KeepError>
-        requires { IsKept (K.images keeper.old) route.now.image self.old.client.number self.old.client.log }
-        ensures world { WentDoing route.now (LineEnds route.now self.old line result self.new) self.old self.new (K.images keeper.old)
+        requires { IsKeptReady (K.images keeper.old) route.now.image self.old.client }
+        ensures world { WentDoing route.now (LineEnds route.now (state_of self.old) line result (state_of self.new)) (state_of self.old) (state_of self.new) (K.images keeper.old)
             (K.images keeper.new) (beside (L.tells link.old) (telling (R.runs runner.old) (R.faults runner.old)))
             (beside (L.tells link.new) (telling (R.runs runner.new) (R.faults runner.new))) }
-        ensures cause { HasLineCause route.now self.old line result self.new
+        ensures cause { HasLineCause route.now (state_of self.old) line result (state_of self.new)
             (beside (L.tells link.old) (telling (R.runs runner.old) (R.faults runner.old)))
             (beside (L.tells link.new) (telling (R.runs runner.new) (R.faults runner.new))) (K.faults keeper.old) (K.faults keeper.new) }
-        ensures kept { IfOk result (λ answer. IsKept (K.images keeper.new) route.now.image self.new.client.number self.new.client.log) }
+        ensures kept { IfOk result (λ answer. IsKeptReady (K.images keeper.new) route.now.image self.new.client) }
         ensures later { (L.tells link.old).troubles ≤ (L.tells link.new).troubles }
         ensures runner_later { R.faults runner.old ≤ R.faults runner.new }
-        ensures runner { is_run line ≡ false → telling (R.runs runner.new) (R.faults runner.new) ≡ telling (R.runs runner.old)
+        ensures runner { asks_to_run line ≡ false → telling (R.runs runner.new) (R.faults runner.new) ≡ telling (R.runs runner.old)
             (R.faults runner.old) }
         ensures keeper { CountsFault KeepError.Failed (K.faults keeper.old) (K.faults keeper.new) result }
     {
@@ -87,7 +87,7 @@ impl Session {
             Err(refusal) => Ok(Some(Answer::Refused(Fault::Line(refusal)))),
             Ok(Line::Empty) => Ok(None),
             Ok(Line::Quit) => Ok(None),
-            Ok(Line::Put(path, text)) => self.put(alloc, &path, &text, image, keeper),
+            Ok(Line::Put(path, text)) => self.put(alloc, &path, text, image, keeper),
             Ok(Line::Make(path)) => self.make(alloc, &path, image, keeper),
             Ok(Line::Remove(path)) => self.remove(alloc, &path, image, keeper),
             Ok(Line::Move(from, to)) => self.relocate(alloc, &from, &to, image, keeper),
@@ -103,7 +103,7 @@ impl Session {
 
     /// The acknowledged number, and how many entries are pending.
     pub fn status(&self) -> Answer
-        ensures { result ≡ status_answer self.now }
+        ensures { result ≡ status_answer (state_of self.now) }
     {
         let log = self.client.log();
         Answer::Status {
@@ -116,17 +116,18 @@ impl Session {
         &mut self,
         alloc: Global,
         path: &Content,
-        text: &Content,
+        text: Content,
         image: &[u8],
         keeper: &mut K,
     ) -> Result<Option<Answer>, KeepError>
-        requires { IsKept (K.images keeper.old) image.now self.old.client.number self.old.client.log }
-        ensures logs { Logs image.now (put_effect self.old.folder path.now text.now) self.old result self.new (K.images keeper.old)
+        requires { IsKeptReady (K.images keeper.old) image.now self.old.client }
+        ensures logs { LogsOrRefuses image.now (put_effect self.old.folder path.now text) (state_of self.old) result (state_of self.new) (K.images keeper.old)
             (K.images keeper.new) }
-        ensures kept { IfOk result (λ answer. IsKept (K.images keeper.new) image.now self.new.client.number self.new.client.log) }
+        ensures kept { IfOk result (λ answer. IsKeptReady (K.images keeper.new) image.now self.new.client) }
         ensures keeper { CountsFault KeepError.Failed (K.faults keeper.old) (K.faults keeper.new) result }
     {
-        let made = put_effect(alloc, &self.folder, path, text);
+        let made = put_effect(alloc, &self.folder, path, &text);
+        drop(text);
         self.log(made, image, keeper)
     }
 
@@ -137,10 +138,10 @@ impl Session {
         image: &[u8],
         keeper: &mut K,
     ) -> Result<Option<Answer>, KeepError>
-        requires { IsKept (K.images keeper.old) image.now self.old.client.number self.old.client.log }
-        ensures logs { Logs image.now (make_effect self.old.folder path.now) self.old result self.new (K.images keeper.old)
+        requires { IsKeptReady (K.images keeper.old) image.now self.old.client }
+        ensures logs { LogsOrRefuses image.now (make_effect self.old.folder path.now) (state_of self.old) result (state_of self.new) (K.images keeper.old)
             (K.images keeper.new) }
-        ensures kept { IfOk result (λ answer. IsKept (K.images keeper.new) image.now self.new.client.number self.new.client.log) }
+        ensures kept { IfOk result (λ answer. IsKeptReady (K.images keeper.new) image.now self.new.client) }
         ensures keeper { CountsFault KeepError.Failed (K.faults keeper.old) (K.faults keeper.new) result }
     {
         let made = make_effect(alloc, &self.folder, path);
@@ -154,10 +155,10 @@ impl Session {
         image: &[u8],
         keeper: &mut K,
     ) -> Result<Option<Answer>, KeepError>
-        requires { IsKept (K.images keeper.old) image.now self.old.client.number self.old.client.log }
-        ensures logs { Logs image.now (remove_effect self.old.folder path.now) self.old result self.new (K.images keeper.old)
+        requires { IsKeptReady (K.images keeper.old) image.now self.old.client }
+        ensures logs { LogsOrRefuses image.now (remove_effect self.old.folder path.now) (state_of self.old) result (state_of self.new) (K.images keeper.old)
             (K.images keeper.new) }
-        ensures kept { IfOk result (λ answer. IsKept (K.images keeper.new) image.now self.new.client.number self.new.client.log) }
+        ensures kept { IfOk result (λ answer. IsKeptReady (K.images keeper.new) image.now self.new.client) }
         ensures keeper { CountsFault KeepError.Failed (K.faults keeper.old) (K.faults keeper.new) result }
     {
         let made = remove_effect(alloc, &self.folder, path);
@@ -172,10 +173,10 @@ impl Session {
         image: &[u8],
         keeper: &mut K,
     ) -> Result<Option<Answer>, KeepError>
-        requires { IsKept (K.images keeper.old) image.now self.old.client.number self.old.client.log }
-        ensures logs { Logs image.now (move_effect self.old.folder from.now to.now) self.old result self.new (K.images keeper.old)
+        requires { IsKeptReady (K.images keeper.old) image.now self.old.client }
+        ensures logs { LogsOrRefuses image.now (move_effect self.old.folder from.now to.now) (state_of self.old) result (state_of self.new) (K.images keeper.old)
             (K.images keeper.new) }
-        ensures kept { IfOk result (λ answer. IsKept (K.images keeper.new) image.now self.new.client.number self.new.client.log) }
+        ensures kept { IfOk result (λ answer. IsKeptReady (K.images keeper.new) image.now self.new.client) }
         ensures keeper { CountsFault KeepError.Failed (K.faults keeper.old) (K.faults keeper.new) result }
     {
         let made = move_effect(alloc, &self.folder, from, to);
@@ -189,9 +190,9 @@ impl Session {
         image: &[u8],
         keeper: &mut K,
     ) -> Result<Option<Answer>, KeepError>
-        requires { IsKept (K.images keeper.old) image.now self.old.client.number self.old.client.log }
-        ensures logs { LogsMade image.now made self.old result self.new (K.images keeper.old) (K.images keeper.new) }
-        ensures kept { IfOk result (λ answer. IsKept (K.images keeper.new) image.now self.new.client.number self.new.client.log) }
+        requires { IsKeptReady (K.images keeper.old) image.now self.old.client }
+        ensures logs { LogsMade image.now made (state_of self.old) result (state_of self.new) (K.images keeper.old) (K.images keeper.new) }
+        ensures kept { IfOk result (λ answer. IsKeptReady (K.images keeper.new) image.now self.new.client) }
         ensures keeper { CountsFault KeepError.Failed (K.faults keeper.old) (K.faults keeper.new) result }
     {
         let effect = match made {
@@ -228,9 +229,10 @@ impl Session {
     /// Answers `cd`, and makes the folder at which the answer says to be the current one.
     fn enter(&mut self, alloc: Global, path: &Content) -> Result<Option<Answer>, KeepError>
         ensures ok { IfOk result (λ answer. answer ≡ Some (enter_answer (tree_of self.old.client.log) self.old.folder path.now)) }
-        ensures folder { IfOk result (λ answer. self.new ≡ with_folder self.old
+        ensures folder { IfOk result (λ answer. state_of self.new ≡ with_folder (state_of self.old)
             (folder_by (enter_answer (tree_of self.old.client.log) self.old.folder path.now) self.old.folder)) }
         ensures err { OnErr result (self.new ≡ self.old) }
+        ensures client { self.new.client ≡ self.old.client }
         ensures memory { result ≢ Err KeepError.Failed }
     {
         let tree = self.client.log().tree();
@@ -254,13 +256,13 @@ impl Session {
         link: &mut L,
         keeper: &mut K,
     ) -> Result<Option<Answer>, KeepError>
-        requires { IsKept (K.images keeper.old) route.now.image self.old.client.number self.old.client.log }
+        requires { IsKeptReady (K.images keeper.old) route.now.image self.old.client }
         ensures world { (runner : RunnerTelling) → WentDoing route.now
-            (LineEnds route.now self.old (Ok Line.Sync) result self.new) self.old self.new (K.images keeper.old) (K.images keeper.new)
+            (LineEnds route.now (state_of self.old) (Ok Line.Sync) result (state_of self.new)) (state_of self.old) (state_of self.new) (K.images keeper.old) (K.images keeper.new)
             (beside (L.tells link.old) runner) (beside (L.tells link.new) runner) }
-        ensures cause { (runner : RunnerTelling) → HasLineCause route.now self.old (Ok Line.Sync) result self.new
+        ensures cause { (runner : RunnerTelling) → HasLineCause route.now (state_of self.old) (Ok Line.Sync) result (state_of self.new)
             (beside (L.tells link.old) runner) (beside (L.tells link.new) runner) (K.faults keeper.old) (K.faults keeper.new) }
-        ensures kept { IfOk result (λ answer. IsKept (K.images keeper.new) route.now.image self.new.client.number self.new.client.log) }
+        ensures kept { IfOk result (λ answer. IsKeptReady (K.images keeper.new) route.now.image self.new.client) }
         ensures later { (L.tells link.old).troubles ≤ (L.tells link.new).troubles }
         ensures keeper { CountsFault KeepError.Failed (K.faults keeper.old) (K.faults keeper.new) result }
     {
@@ -276,13 +278,13 @@ impl Session {
         link: &mut L,
         keeper: &mut K,
     ) -> Result<Option<Answer>, KeepError>
-        requires { IsKept (K.images keeper.old) route.now.image self.old.client.number self.old.client.log }
+        requires { IsKeptReady (K.images keeper.old) route.now.image self.old.client }
         ensures world { (runner : RunnerTelling) → WentDoing route.now
-            (LineEnds route.now self.old (Ok Line.Pull) result self.new) self.old self.new (K.images keeper.old) (K.images keeper.new)
+            (LineEnds route.now (state_of self.old) (Ok Line.Pull) result (state_of self.new)) (state_of self.old) (state_of self.new) (K.images keeper.old) (K.images keeper.new)
             (beside (L.tells link.old) runner) (beside (L.tells link.new) runner) }
-        ensures cause { (runner : RunnerTelling) → HasLineCause route.now self.old (Ok Line.Pull) result self.new
+        ensures cause { (runner : RunnerTelling) → HasLineCause route.now (state_of self.old) (Ok Line.Pull) result (state_of self.new)
             (beside (L.tells link.old) runner) (beside (L.tells link.new) runner) (K.faults keeper.old) (K.faults keeper.new) }
-        ensures kept { IfOk result (λ answer. IsKept (K.images keeper.new) route.now.image self.new.client.number self.new.client.log) }
+        ensures kept { IfOk result (λ answer. IsKeptReady (K.images keeper.new) route.now.image self.new.client) }
         ensures later { (L.tells link.old).troubles ≤ (L.tells link.new).troubles }
         ensures keeper { CountsFault KeepError.Failed (K.faults keeper.old) (K.faults keeper.new) result }
     {
@@ -294,7 +296,7 @@ impl Session {
 
 /// An answer that is there; where there is none, memory was wanted.
 pub(crate) fn given(answer: Option<Answer>) -> Result<Option<Answer>, KeepError>
-    ensures { IsGiven answer result }
+    ensures { IsAnswerOrMemory answer result }
 {
     match answer {
         Some(answer) => Ok(Some(answer)),
@@ -318,7 +320,7 @@ fn is_pull_fault(end: &PullEnd) -> bool
 
 /// An answer that is there, unless a keeping failed; where there is none, memory was wanted.
 fn answered(fault: bool, answer: Option<Answer>) -> Result<Option<Answer>, KeepError>
-    ensures { result ≡ answered fault answer }
+    ensures { result ≡ answer_or_fault fault answer }
 {
     if fault {
         drop(answer);

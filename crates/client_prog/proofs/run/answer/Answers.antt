@@ -5,6 +5,7 @@ use Rattle.shell_lang.specs.Commands.{read_line}
 use Rattle.shell_lang.specs.declared.line.Line.{Line}
 use Rattle.shell_lang.specs.declared.line.LineError.{LineError}
 use Rattle.client_core.specs.Goes.{telling}
+use Rattle.client_session.specs.Session.{state_of}
 use Rattle.client_session.specs.Doing.{WentDoing, LineEnds, beside}
 use Rattle.client_session.proofs.Doing.{went_none, went_as}
 use Rattle.client_prog.specs.declared.run.Stop.TheVariants.{Memory}
@@ -19,17 +20,17 @@ pub returns-in_err-asked-clause-world : goal.returns-in_err-asked-clause-world
 returns-in_err-asked-clause-world g c =
     let p = err_from_is_err_and c.from_residual.result c.from_residual.ensures.1 in
     let r = c.args.route.now in
-    let a = c.args.session.now in
+    let a = state_of c.args.session.now in
     let line = c.args.line.now in
     let o = g.O.Sink.written c.args.output.now in
-    rw (p.1, p.2) (went_none r (AnswersLines {T = Bool} r a (line ∷ []) o o (Err Memory) a) a (g.K.Keeper.images c.args.keeper.now) (beside (g.L.Link.tells c.args.link.now) (telling (g.R.Runner.runs c.args.runner.now) (g.R.Runner.faults c.args.runner.now))) c.requires (line_unread r a line o))
+    rw (p.1, p.2) (went_none r (AnswersLines {T = Bool} r a (line ∷ []) o o (Err Memory) a) a (g.K.Keeper.images c.args.keeper.now) (beside (g.L.Link.tells c.args.link.now) (telling (g.R.Runner.runs c.args.runner.now) (g.R.Runner.faults c.args.runner.now))) c.requires.0 (line_unread r a line o))
 
 pub returns-in_err-answer-clause-world : goal.returns-in_err-answer-clause-world
 returns-in_err-answer-clause-world g c =
     let p = err_from_is_err_and c.from_residual-in_err-answer.result c.from_residual-in_err-answer.ensures.1 in
     let r = c.args.route.now in
-    let a = c.args.session.now in
-    let b = c.answer.new.self in
+    let a = state_of c.args.session.now in
+    let b = state_of c.answer.new.self in
     let t = beside (g.L.Link.tells c.args.link.now) (telling (g.R.Runner.runs c.args.runner.now) (g.R.Runner.faults c.args.runner.now)) in
     let u = beside (g.L.Link.tells c.answer.new.link) (telling (g.R.Runner.runs c.answer.new.runner) (g.R.Runner.faults c.answer.new.runner)) in
     let i = g.K.Keeper.images c.args.keeper.now in
@@ -46,8 +47,8 @@ pub returns-in_err-text-clause-world : goal.returns-in_err-text-clause-world
 returns-in_err-text-clause-world g c =
     let p = err_from_is_err_and c.from_residual-in_err-text.result c.from_residual-in_err-text.ensures.1 in
     let r = c.args.route.now in
-    let a = c.args.session.now in
-    let b = c.answer.new.self in
+    let a = state_of c.args.session.now in
+    let b = state_of c.answer.new.self in
     let t = beside (g.L.Link.tells c.args.link.now) (telling (g.R.Runner.runs c.args.runner.now) (g.R.Runner.faults c.args.runner.now)) in
     let u = beside (g.L.Link.tells c.answer.new.link) (telling (g.R.Runner.runs c.answer.new.runner) (g.R.Runner.faults c.answer.new.runner)) in
     let i = g.K.Keeper.images c.args.keeper.now in
@@ -63,8 +64,8 @@ returns-in_err-text-clause-world g c =
 pub returns-clause-world : goal.returns-clause-world
 returns-clause-world g c =
     let r = c.args.route.now in
-    let a = c.args.session.now in
-    let b = c.answer.new.self in
+    let a = state_of c.args.session.now in
+    let b = state_of c.answer.new.self in
     let t = beside (g.L.Link.tells c.args.link.now) (telling (g.R.Runner.runs c.args.runner.now) (g.R.Runner.faults c.args.runner.now)) in
     let u = beside (g.L.Link.tells c.answer.new.link) (telling (g.R.Runner.runs c.answer.new.runner) (g.R.Runner.faults c.answer.new.runner)) in
     let i = g.K.Keeper.images c.args.keeper.now in
@@ -84,8 +85,8 @@ pub returns-in_err-write_all-clause-world : goal.returns-in_err-write_all-clause
 returns-in_err-write_all-clause-world g c =
     let p = err_from_is_err_and c.from_residual-in_err-write_all.result c.from_residual-in_err-write_all.ensures.1 in
     let r = c.args.route.now in
-    let a = c.args.session.now in
-    let b = c.answer.new.self in
+    let a = state_of c.args.session.now in
+    let b = state_of c.answer.new.self in
     let t = beside (g.L.Link.tells c.args.link.now) (telling (g.R.Runner.runs c.args.runner.now) (g.R.Runner.faults c.args.runner.now)) in
     let u = beside (g.L.Link.tells c.answer.new.link) (telling (g.R.Runner.runs c.answer.new.runner) (g.R.Runner.faults c.answer.new.runner)) in
     let i = g.K.Keeper.images c.args.keeper.now in

@@ -1,10 +1,11 @@
-use Rattle.std.proofs.Common.{◌≡◌, Bool, false, true, ◌++◌, ◌∷◌, [], Ok, Err, refl, sym, ap, ◌∙◌, subst, arith}
+use Rattle.std.proofs.Common.{◌≡◌, Bool, false, true, ◌++◌, ◌∷◌, [], Some, Ok, Err, refl, sym, ap, ◌∙◌, subst, arith}
 use Rattle.std.proofs.lemmas.Result.{err_from_is_err_and}
 use Rattle.shell_lang.specs.Lines.{whole_lines, parts}
 use Rattle.client_core.specs.Goes.{telling}
+use Rattle.client_session.specs.Session.{state_of}
 use Rattle.client_session.specs.Doing.{beside}
 use Rattle.client_session.proofs.Doing.{WentKept, kept_none, kept_as, kept_then, kept_next}
-use Rattle.client_prog.specs.declared.input.InputEnd.TheVariants.{Read}
+use Rattle.client_prog.specs.declared.input.InputEnd.TheVariants.{Read, Failed}
 use Rattle.client_prog.specs.declared.input.InputEnd.{InputEnd}
 use Rattle.client_prog.specs.declared.run.Stop.TheVariants.{Memory}
 use Rattle.client_prog.specs.declared.run.Stop.TheVariants as stops
@@ -12,13 +13,13 @@ use Rattle.client_prog.specs.Input.{last_at, Reading, EndsAt, GoesOnOrEnds}
 use Rattle.client_prog.specs.Run.{has_quit, up_to_quit}
 use Rattle.client_prog.specs.InsideRun.{AnswersLines, AnswersSoFar, AnswersInput, HasUnfinished}
 use Rattle.client_prog.proofs.Counting.{no_fault, same_fault, wanted_fault}
-use Rattle.client_prog.proofs.RunningPieces.{reads_none, reads_more, quits_in, stops_in, lost_in, all_in, ends_at, so_far_none, so_far_more, so_far_quits, so_far_stops, so_far_lost, all_answered, all_stops}
+use Rattle.client_prog.proofs.RunningPieces.{reads_none, reads_more, failed_in, quits_in, stops_in, lost_in, all_in, ends_at, so_far_none, so_far_more, so_far_failed, so_far_quits, so_far_stops, so_far_lost, all_answered, all_stops}
 use Rattle.client_prog.proofs.run.answer_input.Goals as goal
 
 pub loop-reader-init : goal.loop-reader-init
 loop-reader-init g c =
     let r = c.args.route.now in
-    let a = c.args.session.now in
+    let a = state_of c.args.session.now in
     let o = g.O.Sink.written c.args.output.now in
     let left = g.I.Source.left c.args.input.now in
     let reader = c.new-reader.result in
@@ -28,19 +29,19 @@ loop-reader-init g c =
       taken = ([], reads_none left reader c.new-reader.ensures);
       later = omega arith;
       runner_later = omega arith;
-      source_later = omega arith;
+      source_same = refl;
       sink_same = refl;
       keeper_same = refl;
       kept = c.requires;
-      world = kept_none r (AnswersSoFar r a left left reader o o a) a (g.K.Keeper.images c.args.keeper.now) (beside (g.L.Link.tells c.args.link.now) (telling (g.R.Runner.runs c.args.runner.now) (g.R.Runner.faults c.args.runner.now))) c.requires (so_far_none r a left o reader c.new-reader.ensures);
+      world = kept_none r (AnswersSoFar r a left left reader o o a) a (g.K.Keeper.images c.args.keeper.now) (beside (g.L.Link.tells c.args.link.now) (telling (g.R.Runner.runs c.args.runner.now) (g.R.Runner.faults c.args.runner.now))) c.requires.0 (so_far_none r a left o reader c.new-reader.ensures);
     }
 
 pub returns-in_err-end-clause-world : goal.returns-in_err-end-clause-world
 returns-in_err-end-clause-world g c =
     let x = err_from_is_err_and c.from_residual.result c.from_residual.ensures.1 in
     let r = c.args.route.now in
-    let a = c.args.session.now in
-    let b = c.loop-reader.session in
+    let a = state_of c.args.session.now in
+    let b = state_of c.loop-reader.session in
     let o = g.O.Sink.written c.args.output.now in
     let m = g.O.Sink.written c.loop-reader.output in
     let left = g.I.Source.left c.args.input.now in
@@ -60,12 +61,41 @@ returns-in_err-end-clause-input g c =
     let lines = lost_in _ _ _ c.loop-reader.reader taken.0 lost.0 c.loop-reader.invariant.few lost.1 lost.2 taken.1 in
     rw x.1 (taken.0 ++ lines.0, lines.1, lines.2)
 
+pub returns-in-Some-Failed-clause-world : goal.returns-in-Some-Failed-clause-world
+returns-in-Some-Failed-clause-world g c =
+    let r = c.args.route.now in
+    let a = state_of c.args.session.now in
+    let b = state_of c.loop-reader.session in
+    let o = g.O.Sink.written c.args.output.now in
+    let m = g.O.Sink.written c.loop-reader.output in
+    let left = g.I.Source.left c.args.input.now in
+    let mid = g.I.Source.left c.loop-reader.input in
+    let rest = g.I.Source.left c.read_piece.new.input in
+    let old = c.loop-reader.reader in
+    let new = c.read_piece.new.self in
+    let failed : c.in-Some-Failed.field-0 ≡ Failed = rw c.in-Some-Failed.is at c.in-Some-Failed.field-0-is in
+    let ended : c.in_ok-end.end ≡ Some Failed = c.in-Some-Failed.is ∙ ap (λ (e : InputEnd). Some e) failed in
+    let same : new ≡ old = c.in_ok-end.ensures.failed (ap Ok ended) in
+    kept_as r (AnswersSoFar r a left mid old o m b) (AnswersInput r a left rest o m (Ok Failed) b) a b (g.K.Keeper.images c.args.keeper.now) (g.K.Keeper.images c.loop-reader.keeper)
+    (beside (g.L.Link.tells c.args.link.now) (telling (g.R.Runner.runs c.args.runner.now) (g.R.Runner.faults c.args.runner.now))) (beside (g.L.Link.tells c.loop-reader.link) (telling (g.R.Runner.runs c.loop-reader.runner) (g.R.Runner.faults c.loop-reader.runner))) c.loop-reader.invariant.world
+    (λ p so_far. so_far_failed r a left o mid rest old new c.in_ok-end.end b m p c.loop-reader.invariant.few c.in_ok-end.ensures.ok ended same c.loop-reader.invariant.no_line so_far)
+
+pub returns-in-Some-Failed-clause-input : goal.returns-in-Some-Failed-clause-input
+returns-in-Some-Failed-clause-input g c =
+    let taken = c.loop-reader.invariant.taken in
+    let old = c.loop-reader.reader in
+    let new = c.read_piece.new.self in
+    let failed : c.in-Some-Failed.field-0 ≡ Failed = rw c.in-Some-Failed.is at c.in-Some-Failed.field-0-is in
+    let ended : c.in_ok-end.end ≡ Some Failed = c.in-Some-Failed.is ∙ ap (λ (e : InputEnd). Some e) failed in
+    let same : new ≡ old = c.in_ok-end.ensures.failed (ap Ok ended) in
+    (taken.0, failed_in _ _ _ old new taken.0 c.in_ok-end.end c.loop-reader.invariant.few c.in_ok-end.ensures.ok ended same c.loop-reader.invariant.no_line taken.1)
+
 pub returns-then-quit-clause-world : goal.returns-then-quit-clause-world
 returns-then-quit-clause-world g c =
     let r = c.args.route.now in
-    let a = c.args.session.now in
-    let b = c.loop-reader.session in
-    let d = c.answer_lines.new.session in
+    let a = state_of c.args.session.now in
+    let b = state_of c.loop-reader.session in
+    let d = state_of c.answer_lines.new.session in
     let t = beside (g.L.Link.tells c.args.link.now) (telling (g.R.Runner.runs c.args.runner.now) (g.R.Runner.faults c.args.runner.now)) in
     let u = beside (g.L.Link.tells c.loop-reader.link) (telling (g.R.Runner.runs c.loop-reader.runner) (g.R.Runner.faults c.loop-reader.runner)) in
     let v = beside (g.L.Link.tells c.answer_lines.new.link) (telling (g.R.Runner.runs c.answer_lines.new.runner) (g.R.Runner.faults c.answer_lines.new.runner)) in
@@ -95,9 +125,9 @@ pub returns-in_err-quit-clause-world : goal.returns-in_err-quit-clause-world
 returns-in_err-quit-clause-world g c =
     let x = err_from_is_err_and c.from_residual-in_err-quit.result c.from_residual-in_err-quit.ensures.1 in
     let r = c.args.route.now in
-    let a = c.args.session.now in
-    let b = c.loop-reader.session in
-    let d = c.answer_lines.new.session in
+    let a = state_of c.args.session.now in
+    let b = state_of c.loop-reader.session in
+    let d = state_of c.answer_lines.new.session in
     let t = beside (g.L.Link.tells c.args.link.now) (telling (g.R.Runner.runs c.args.runner.now) (g.R.Runner.faults c.args.runner.now)) in
     let u = beside (g.L.Link.tells c.loop-reader.link) (telling (g.R.Runner.runs c.loop-reader.runner) (g.R.Runner.faults c.loop-reader.runner)) in
     let v = beside (g.L.Link.tells c.answer_lines.new.link) (telling (g.R.Runner.runs c.answer_lines.new.runner) (g.R.Runner.faults c.answer_lines.new.runner)) in
@@ -129,9 +159,9 @@ pub returns-in_err-answer_last-clause-world : goal.returns-in_err-answer_last-cl
 returns-in_err-answer_last-clause-world g c =
     let x = err_from_is_err_and c.from_residual-in_err-answer_last.result c.from_residual-in_err-answer_last.ensures.1 in
     let r = c.args.route.now in
-    let a = c.args.session.now in
-    let b = c.loop-reader.session in
-    let d = c.answer_lines.new.session in
+    let a = state_of c.args.session.now in
+    let b = state_of c.loop-reader.session in
+    let d = state_of c.answer_lines.new.session in
     let t = beside (g.L.Link.tells c.args.link.now) (telling (g.R.Runner.runs c.args.runner.now) (g.R.Runner.faults c.args.runner.now)) in
     let u = beside (g.L.Link.tells c.loop-reader.link) (telling (g.R.Runner.runs c.loop-reader.runner) (g.R.Runner.faults c.loop-reader.runner)) in
     let v = beside (g.L.Link.tells c.answer_lines.new.link) (telling (g.R.Runner.runs c.answer_lines.new.runner) (g.R.Runner.faults c.answer_lines.new.runner)) in
@@ -146,7 +176,7 @@ returns-in_err-answer_last-clause-world g c =
     let rest = g.I.Source.left c.read_piece.new.input in
     let old = c.loop-reader.reader in
     let new = c.read_piece.new.self in
-    let e = c.answer_last.new.session in
+    let e = state_of c.answer_last.new.session in
     let w = beside (g.L.Link.tells c.answer_last.new.link) (telling (g.R.Runner.runs c.answer_last.new.runner) (g.R.Runner.faults c.answer_last.new.runner)) in
     let h = g.K.Keeper.images c.answer_last.new.keeper in
     let k = g.O.Sink.written c.answer_last.new.output in
@@ -175,9 +205,9 @@ returns-in_err-answer_last-clause-input g c =
 pub returns-in-Some-clause-world : goal.returns-in-Some-clause-world
 returns-in-Some-clause-world g c =
     let r = c.args.route.now in
-    let a = c.args.session.now in
-    let b = c.loop-reader.session in
-    let d = c.answer_lines.new.session in
+    let a = state_of c.args.session.now in
+    let b = state_of c.loop-reader.session in
+    let d = state_of c.answer_lines.new.session in
     let t = beside (g.L.Link.tells c.args.link.now) (telling (g.R.Runner.runs c.args.runner.now) (g.R.Runner.faults c.args.runner.now)) in
     let u = beside (g.L.Link.tells c.loop-reader.link) (telling (g.R.Runner.runs c.loop-reader.runner) (g.R.Runner.faults c.loop-reader.runner)) in
     let v = beside (g.L.Link.tells c.answer_lines.new.link) (telling (g.R.Runner.runs c.answer_lines.new.runner) (g.R.Runner.faults c.answer_lines.new.runner)) in
@@ -192,7 +222,7 @@ returns-in-Some-clause-world g c =
     let rest = g.I.Source.left c.read_piece.new.input in
     let old = c.loop-reader.reader in
     let new = c.read_piece.new.self in
-    let e = c.answer_last.new.session in
+    let e = state_of c.answer_last.new.session in
     let w = beside (g.L.Link.tells c.answer_last.new.link) (telling (g.R.Runner.runs c.answer_last.new.runner) (g.R.Runner.faults c.answer_last.new.runner)) in
     let h = g.K.Keeper.images c.answer_last.new.keeper in
     let k = g.O.Sink.written c.answer_last.new.output in
@@ -232,9 +262,9 @@ returns-in-Some-clause-input g c =
 pub loop-reader-preserved : goal.loop-reader-preserved
 loop-reader-preserved g c =
     let r = c.args.route.now in
-    let a = c.args.session.now in
-    let b = c.loop-reader.session in
-    let d = c.answer_lines.new.session in
+    let a = state_of c.args.session.now in
+    let b = state_of c.loop-reader.session in
+    let d = state_of c.answer_lines.new.session in
     let t = beside (g.L.Link.tells c.args.link.now) (telling (g.R.Runner.runs c.args.runner.now) (g.R.Runner.faults c.args.runner.now)) in
     let u = beside (g.L.Link.tells c.loop-reader.link) (telling (g.R.Runner.runs c.loop-reader.runner) (g.R.Runner.faults c.loop-reader.runner)) in
     let v = beside (g.L.Link.tells c.answer_lines.new.link) (telling (g.R.Runner.runs c.answer_lines.new.runner) (g.R.Runner.faults c.answer_lines.new.runner)) in
@@ -254,12 +284,12 @@ loop-reader-preserved g c =
     let none : has_quit (whole_lines new.bytes) ≡ false = sym c.in_ok-quit.ensures.quit ∙ c.if-quit.false in
     let taken = c.loop-reader.invariant.taken in
     record {
-      few = omega (arith, left_is.count, (subst (GoesOnOrEnds rest old.count new.count) c.in_default.is c.in_ok-end.ensures.ok.ended).1);
+      few = omega (arith, left_is.count, (subst (GoesOnOrEnds rest old.count new.count) c.in_default-end.is c.in_ok-end.ensures.ok.ended).1);
       no_line = left_is.no_line;
       taken = (taken.0 ++ whole_lines new.bytes, reads_more left mid rest old new final taken.0 c.in_ok-end.end c.loop-reader.invariant.few c.in_ok-end.ensures.ok left_is none taken.1);
       later = omega (arith, c.answer_lines.ensures.later);
       runner_later = omega (arith, c.answer_lines.ensures.runner_later);
-      source_later = omega (arith, c.read_piece.ensures.later);
+      source_same = c.in_ok-end.ensures.cause.never (λ is. absurd (cc (is, c.in_default-end.is))) ∙ c.loop-reader.invariant.source_same;
       sink_same = c.in_ok-quit.ensures.cause.never (λ is. absurd (cc (is))) ∙ c.loop-reader.invariant.sink_same;
       keeper_same = c.in_ok-quit.ensures.keeper.never (λ is. absurd (cc (is))) ∙ c.loop-reader.invariant.keeper_same;
       kept = c.in_ok-quit.ensures.kept;

@@ -1,7 +1,8 @@
 use Rattle.std.proofs.Common.{◌≡◌, ◌≤◌, ◌-◌, ℕ, List, [], ◌∷◌}
 use Rattle.shell_lang.specs.Lines.{parts}
-use Rattle.client_core.specs.Keeping.{IsKept}
+use Rattle.client_core.specs.Keeping.{IsKeptReady}
 use Rattle.client_core.specs.Goes.{telling}
+use Rattle.client_session.specs.Session.{state_of}
 use Rattle.client_session.specs.Doing.{beside}
 use Rattle.client_session.proofs.Doing.{WentKept}
 use Rattle.client_prog.specs.declared.input.TheConstants.{MAX_INPUT}
@@ -15,11 +16,11 @@ invariant-loop-reader g l = record {
   taken : (behind : List (List ℕ)) × ReadsSoFar (g.I.Source.left l.fn.input) (g.I.Source.left l.input) l.reader behind;
   later : (g.L.Link.tells l.fn.link).troubles ≤ (g.L.Link.tells l.link).troubles;
   runner_later : g.R.Runner.faults l.fn.runner ≤ g.R.Runner.faults l.runner;
-  source_later : g.I.Source.faults l.fn.input ≤ g.I.Source.faults l.input;
+  source_same : g.I.Source.faults l.input ≡ g.I.Source.faults l.fn.input;
   sink_same : g.O.Sink.faults l.output ≡ g.O.Sink.faults l.fn.output;
   keeper_same : g.K.Keeper.faults l.keeper ≡ g.K.Keeper.faults l.fn.keeper;
-  kept : IsKept (g.K.Keeper.images l.keeper) l.route.image l.session.client.number l.session.client.log;
-  world : WentKept l.route (AnswersSoFar l.route l.fn.session (g.I.Source.left l.fn.input) (g.I.Source.left l.input) l.reader (g.O.Sink.written l.fn.output) (g.O.Sink.written l.output) l.session) l.fn.session l.session (g.K.Keeper.images l.fn.keeper) (g.K.Keeper.images l.keeper) (beside (g.L.Link.tells l.fn.link) (telling (g.R.Runner.runs l.fn.runner) (g.R.Runner.faults l.fn.runner))) (beside (g.L.Link.tells l.link) (telling (g.R.Runner.runs l.runner) (g.R.Runner.faults l.runner)));
+  kept : IsKeptReady (g.K.Keeper.images l.keeper) l.route.image l.session.client;
+  world : WentKept l.route (AnswersSoFar l.route (state_of l.fn.session) (g.I.Source.left l.fn.input) (g.I.Source.left l.input) l.reader (g.O.Sink.written l.fn.output) (g.O.Sink.written l.output) (state_of l.session)) (state_of l.fn.session) (state_of l.session) (g.K.Keeper.images l.fn.keeper) (g.K.Keeper.images l.keeper) (beside (g.L.Link.tells l.fn.link) (telling (g.R.Runner.runs l.fn.runner) (g.R.Runner.faults l.fn.runner))) (beside (g.L.Link.tells l.link) (telling (g.R.Runner.runs l.runner) (g.R.Runner.faults l.runner)));
 }
 
 abbrev pub decreases-loop-reader : goal.decreases-loop-reader

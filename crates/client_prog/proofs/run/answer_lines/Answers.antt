@@ -3,6 +3,7 @@ use Rattle.std.proofs.lemmas.Result.{err_from_is_err_and}
 use Rattle.shell_lang.specs.Lines.{whole_lines, BeginsWithLine, parts}
 use Rattle.shell_lang.proofs.Cutting.{all_lines_taken}
 use Rattle.client_core.specs.Goes.{telling}
+use Rattle.client_session.specs.Session.{state_of}
 use Rattle.client_session.specs.Doing.{beside}
 use Rattle.client_session.proofs.Doing.{kept_none, kept_as, kept_then, kept_next}
 use Rattle.client_prog.specs.declared.run.Stop.TheVariants as stops
@@ -16,7 +17,7 @@ use Rattle.client_prog.proofs.run.answer_lines.Goals as goal
 pub loop-line-init : goal.loop-line-init
 loop-line-init g c =
     let r = c.args.route.now in
-    let a = c.args.session.now in
+    let a = state_of c.args.session.now in
     let o = g.O.Sink.written c.args.output.now in
     let bytes = c.args.reader.now.bytes in
     record {
@@ -27,15 +28,15 @@ loop-line-init g c =
       sink_same = refl;
       keeper_same = refl;
       kept = c.requires;
-      world = kept_none r (AnswersFront r a bytes bytes o o a) a (g.K.Keeper.images c.args.keeper.now) (beside (g.L.Link.tells c.args.link.now) (telling (g.R.Runner.runs c.args.runner.now) (g.R.Runner.faults c.args.runner.now))) c.requires (front_none r a bytes o);
+      world = kept_none r (AnswersFront r a bytes bytes o o a) a (g.K.Keeper.images c.args.keeper.now) (beside (g.L.Link.tells c.args.link.now) (telling (g.R.Runner.runs c.args.runner.now) (g.R.Runner.faults c.args.runner.now))) c.requires.0 (front_none r a bytes o);
     }
 
 pub loop-line-preserved : goal.loop-line-preserved
 loop-line-preserved g c =
     let r = c.args.route.now in
-    let a = c.args.session.now in
-    let b = c.loop-line.session in
-    let d = c.answer.new.session in
+    let a = state_of c.args.session.now in
+    let b = state_of c.loop-line.session in
+    let d = state_of c.answer.new.session in
     let t = beside (g.L.Link.tells c.args.link.now) (telling (g.R.Runner.runs c.args.runner.now) (g.R.Runner.faults c.args.runner.now)) in
     let u = beside (g.L.Link.tells c.loop-line.link) (telling (g.R.Runner.runs c.loop-line.runner) (g.R.Runner.faults c.loop-line.runner)) in
     let v = beside (g.L.Link.tells c.answer.new.link) (telling (g.R.Runner.runs c.answer.new.runner) (g.R.Runner.faults c.answer.new.runner)) in
@@ -70,9 +71,9 @@ loop-line-preserved g c =
 pub returns-then-quit-clause-world : goal.returns-then-quit-clause-world
 returns-then-quit-clause-world g c =
     let r = c.args.route.now in
-    let a = c.args.session.now in
-    let b = c.loop-line.session in
-    let d = c.answer.new.session in
+    let a = state_of c.args.session.now in
+    let b = state_of c.loop-line.session in
+    let d = state_of c.answer.new.session in
     let t = beside (g.L.Link.tells c.args.link.now) (telling (g.R.Runner.runs c.args.runner.now) (g.R.Runner.faults c.args.runner.now)) in
     let u = beside (g.L.Link.tells c.loop-line.link) (telling (g.R.Runner.runs c.loop-line.runner) (g.R.Runner.faults c.loop-line.runner)) in
     let v = beside (g.L.Link.tells c.answer.new.link) (telling (g.R.Runner.runs c.answer.new.runner) (g.R.Runner.faults c.answer.new.runner)) in
@@ -101,9 +102,9 @@ pub returns-in_err-quit-clause-world : goal.returns-in_err-quit-clause-world
 returns-in_err-quit-clause-world g c =
     let e = err_from_is_err_and c.from_residual.result c.from_residual.ensures.1 in
     let r = c.args.route.now in
-    let a = c.args.session.now in
-    let b = c.loop-line.session in
-    let d = c.answer.new.session in
+    let a = state_of c.args.session.now in
+    let b = state_of c.loop-line.session in
+    let d = state_of c.answer.new.session in
     let t = beside (g.L.Link.tells c.args.link.now) (telling (g.R.Runner.runs c.args.runner.now) (g.R.Runner.faults c.args.runner.now)) in
     let u = beside (g.L.Link.tells c.loop-line.link) (telling (g.R.Runner.runs c.loop-line.runner) (g.R.Runner.faults c.loop-line.runner)) in
     let v = beside (g.L.Link.tells c.answer.new.link) (telling (g.R.Runner.runs c.answer.new.runner) (g.R.Runner.faults c.answer.new.runner)) in
@@ -125,8 +126,8 @@ returns-in_err-quit-clause-world g c =
 pub returns-clause-world : goal.returns-clause-world
 returns-clause-world g c =
     let r = c.args.route.now in
-    let a = c.args.session.now in
-    let b = c.loop-line.session in
+    let a = state_of c.args.session.now in
+    let b = state_of c.loop-line.session in
     let o = g.O.Sink.written c.args.output.now in
     let m = g.O.Sink.written c.loop-line.output in
     let bytes = c.args.reader.now.bytes in

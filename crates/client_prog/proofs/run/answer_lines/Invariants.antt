@@ -1,6 +1,7 @@
 use Rattle.std.proofs.Common.{◌≡◌, ◌≤◌, ℕ, List, length}
-use Rattle.client_core.specs.Keeping.{IsKept}
+use Rattle.client_core.specs.Keeping.{IsKeptReady}
 use Rattle.client_core.specs.Goes.{telling}
+use Rattle.client_session.specs.Session.{state_of}
 use Rattle.client_session.specs.Doing.{beside}
 use Rattle.client_session.proofs.Doing.{WentKept}
 use Rattle.client_prog.specs.InsideRun.{CutsFront, AnswersFront}
@@ -14,8 +15,8 @@ invariant-loop-line g l = record {
   runner_later : g.R.Runner.faults l.fn.runner ≤ g.R.Runner.faults l.runner;
   sink_same : g.O.Sink.faults l.output ≡ g.O.Sink.faults l.fn.output;
   keeper_same : g.K.Keeper.faults l.keeper ≡ g.K.Keeper.faults l.fn.keeper;
-  kept : IsKept (g.K.Keeper.images l.keeper) l.route.image l.session.client.number l.session.client.log;
-  world : WentKept l.route (AnswersFront l.route l.fn.session l.fn.reader.bytes l.reader.bytes (g.O.Sink.written l.fn.output) (g.O.Sink.written l.output) l.session) l.fn.session l.session (g.K.Keeper.images l.fn.keeper) (g.K.Keeper.images l.keeper) (beside (g.L.Link.tells l.fn.link) (telling (g.R.Runner.runs l.fn.runner) (g.R.Runner.faults l.fn.runner))) (beside (g.L.Link.tells l.link) (telling (g.R.Runner.runs l.runner) (g.R.Runner.faults l.runner)));
+  kept : IsKeptReady (g.K.Keeper.images l.keeper) l.route.image l.session.client;
+  world : WentKept l.route (AnswersFront l.route (state_of l.fn.session) l.fn.reader.bytes l.reader.bytes (g.O.Sink.written l.fn.output) (g.O.Sink.written l.output) (state_of l.session)) (state_of l.fn.session) (state_of l.session) (g.K.Keeper.images l.fn.keeper) (g.K.Keeper.images l.keeper) (beside (g.L.Link.tells l.fn.link) (telling (g.R.Runner.runs l.fn.runner) (g.R.Runner.faults l.fn.runner))) (beside (g.L.Link.tells l.link) (telling (g.R.Runner.runs l.runner) (g.R.Runner.faults l.runner)));
 }
 
 abbrev pub decreases-loop-line : goal.decreases-loop-line

@@ -4,6 +4,7 @@ use Rattle.std.proofs.lemmas.Result.{err_from_is_err_and}
 use Rattle.shell_lang.specs.Lines.{last_line}
 use Rattle.client_core.specs.Trace.{nothing}
 use Rattle.client_core.specs.Goes.{telling}
+use Rattle.client_session.specs.Session.{state_of}
 use Rattle.client_session.specs.Doing.{WentDoing, beside}
 use Rattle.client_session.proofs.Doing.{went_none}
 use Rattle.client_prog.specs.InsideRun.{AllAnswered, AnswersLines}
@@ -14,17 +15,17 @@ use Rattle.client_prog.proofs.run.answer_unfinished.Goals as goal
 pub returns-then-is_empty-clause-world : goal.returns-then-is_empty-clause-world
 returns-then-is_empty-clause-world g c =
     let r = c.args.route.now in
-    let a = c.args.session.now in
+    let a = state_of c.args.session.now in
     let o = g.O.Sink.written c.args.output.now in
     let none : last_line c.args.line.now ≡ [] = last_line_none c.args.line.now (grind (arith, nat_tests)) in
-    went_none r (AnswersLines {T = Unit {0}} r a (last_line c.args.line.now) o o (Ok tt) a) a (g.K.Keeper.images c.args.keeper.now) (beside (g.L.Link.tells c.args.link.now) (telling (g.R.Runner.runs c.args.runner.now) (g.R.Runner.faults c.args.runner.now))) c.requires
+    went_none r (AnswersLines {T = Unit {0}} r a (last_line c.args.line.now) o o (Ok tt) a) a (g.K.Keeper.images c.args.keeper.now) (beside (g.L.Link.tells c.args.link.now) (telling (g.R.Runner.runs c.args.runner.now) (g.R.Runner.faults c.args.runner.now))) c.requires.0
     (subst (λ (ls : List (List ℕ)). AllAnswered r a ls o o a nothing) (sym none) (answers_nothing r a o), refl)
 
 pub returns-clause-world : goal.returns-clause-world
 returns-clause-world g c =
     let r = c.args.route.now in
-    let a = c.args.session.now in
-    let b = c.answer.new.session in
+    let a = state_of c.args.session.now in
+    let b = state_of c.answer.new.session in
     let o = g.O.Sink.written c.args.output.now in
     let n = g.O.Sink.written c.answer.new.output in
     let one : last_line c.args.line.now ≡ c.args.line.now ∷ [] = last_line_some c.args.line.now (grind (arith, nat_tests)) in
@@ -35,8 +36,8 @@ pub returns-in_err-answer-clause-world : goal.returns-in_err-answer-clause-world
 returns-in_err-answer-clause-world g c =
     let x = err_from_is_err_and c.from_residual.result c.from_residual.ensures.1 in
     let r = c.args.route.now in
-    let a = c.args.session.now in
-    let b = c.answer.new.session in
+    let a = state_of c.args.session.now in
+    let b = state_of c.answer.new.session in
     let o = g.O.Sink.written c.args.output.now in
     let n = g.O.Sink.written c.answer.new.output in
     let stop = c.in_err-answer.field-0.0 in

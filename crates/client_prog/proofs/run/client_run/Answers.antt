@@ -5,18 +5,19 @@ use Rattle.outside.specs.Outside.{Told}
 use Rattle.outside.specs.Keeper.{Images}
 use Rattle.mod_log.specs.Log.{Log}
 use Rattle.client_core.specs.declared.route.Route.{Route}
-use Rattle.client_core.specs.Keeping.{IsKept, TellsKept, IsKeptOfNone}
+use Rattle.client_core.specs.Keeping.{IsKept, IsKeptReady, TellsKept, IsKeptOfNone}
 use Rattle.client_core.specs.Client.{Client}
+use Rattle.client_core.proofs.Journal.{unkept_ready}
 use Rattle.client_prog.specs.declared.run.Stop.TheVariants as stops
 use Rattle.client_prog.specs.declared.opening.Unopened.TheVariants.{Image, Keeper}
 use Rattle.client_prog.specs.Words.{Invocation}
-use Rattle.client_session.specs.Session.{SessionState, opened}
+use Rattle.client_session.specs.Session.{Sitting, state_of, opened}
 use Rattle.client_prog.specs.Opening.{status_unopened}
-use Rattle.client_prog.specs.Run.{route_of, status_of, IsRead}
+use Rattle.client_prog.specs.Run.{route_of, status_of, IsInputRead}
 use Rattle.client_core.specs.Goes.{telling}
 use Rattle.client_session.specs.Doing.{WentDoing, beside}
 use Rattle.client_prog.specs.InsideRun.{RunAnswers}
-use Rattle.client_prog.proofs.Counting.{sink_status, keeper_status, sink_unopened, keeper_unopened, rose}
+use Rattle.client_prog.proofs.Counting.{source_status, sink_status, keeper_status, source_unopened, sink_unopened, keeper_unopened, rises, rose}
 use Rattle.client_prog.proofs.RunningEnds.{is_read, ends_well}
 use Rattle.client_prog.proofs.RunningOpened.{not_six, image_is, is_unopened, none_read, RanFrom, opened_ran, wanted_ran, unopened_ran, EndsWellFrom, opened_well, wanted_well, unopened_well, opened_of_none}
 use Rattle.client_prog.proofs.run.client_run.Goals as goal
@@ -43,10 +44,11 @@ run-ended-requires g c =
     let client = c.in-Ok-open.client in
     let route = c.in-Ok.route in
     let k = g.K.Keeper.images c.«open».new.keeper in
-    subst (λ (s : SessionState). IsKept k route.image s.client.number s.client.log) (sym c.new-session.ensures)
-    (subst (λ (m : ℕ). IsKept k route.image m client.log) (sym c.in-Ok-open.ensures.number)
+    let keeps : IsKept k route.image client.number client.log =
+    subst (λ (m : ℕ). IsKept k route.image m client.log) (sym c.in-Ok-open.ensures.number)
     (subst (λ (m : List ℕ). IsKept k m words.client client.log) c.bytes.ensures.value
-    (subst (λ (told : Option Images). IsKept told c.bytes.result.now words.client client.log) (sym c.in-Ok-open.ensures.same) c.in-Ok-open.ensures.kept)))
+    (subst (λ (told : Option Images). IsKept told c.bytes.result.now words.client client.log) (sym c.in-Ok-open.ensures.same) c.in-Ok-open.ensures.kept)) in
+    subst (λ (s : Sitting). IsKeptReady k route.image s.client) (sym c.new-session.ensures) (keeps, unkept_ready k route.image client c.in-Ok-open.ensures.journal)
 
 pub returns-in-Ok-open-clause-session : goal.returns-in-Ok-open-clause-session
 returns-in-Ok-open-clause-session g c =
@@ -65,11 +67,11 @@ returns-in-Ok-open-clause-session g c =
     let n = g.O.Sink.written c.run-ended.new.output in
     let j = g.K.Keeper.images c.run-ended.new.keeper in
     let u = beside (g.L.Link.tells c.run-ended.new.link) (telling (g.R.Runner.runs c.run-ended.new.runner) (g.R.Runner.faults c.run-ended.new.runner)) in
-    let after = c.run-ended.new.session in
+    let after = state_of c.run-ended.new.session in
     let went : WentDoing (route_of run) (RunAnswers (route_of run) (opened client.number client.log) left rest o n ended after) (opened client.number client.log) after i j t u =
-    subst (λ (s : SessionState). WentDoing (route_of run) (RunAnswers (route_of run) s left rest o n ended after) s after i j t u) c.new-session.ensures
-    (subst (λ (r : Route). WentDoing r (RunAnswers r c.new-session.result left rest o n ended after) c.new-session.result after i j t u) c.in-Ok.ensures
-    (subst (λ (told : Option Images). WentDoing c.in-Ok.route (RunAnswers c.in-Ok.route c.new-session.result left rest o n ended after) c.new-session.result after told j t u) c.in-Ok-open.ensures.same c.run-ended.ensures.world)) in
+    subst (λ (s : Sitting). WentDoing (route_of run) (RunAnswers (route_of run) (state_of s) left rest o n ended after) (state_of s) after i j t u) c.new-session.ensures
+    (subst (λ (r : Route). WentDoing r (RunAnswers r (state_of c.new-session.result) left rest o n ended after) (state_of c.new-session.result) after i j t u) c.in-Ok.ensures
+    (subst (λ (told : Option Images). WentDoing c.in-Ok.route (RunAnswers c.in-Ok.route (state_of c.new-session.result) left rest o n ended after) (state_of c.new-session.result) after told j t u) c.in-Ok-open.ensures.same c.run-ended.ensures.world)) in
     subst (λ (f : Option Invocation). IfSome f (RanFrom i j left rest o n status t u)) (sym c.in-Some.ensures.form)
     (opened_ran run client i j left rest o n ended after status t u c.in-Ok-open.ensures.number
     (λ start told. c.in-Ok-open.ensures.only start (subst (λ (m : List ℕ). TellsKept i m run.client start) (sym at) told)) is went)
@@ -102,7 +104,11 @@ pub returns-in-Ok-open-clause-input : goal.returns-in-Ok-open-clause-input
 returns-in-Ok-open-clause-input g c =
     let left = g.I.Source.left c.args.input.now in
     let rest = g.I.Source.left c.run-ended.new.input in
-    subst (λ (status : ℕ). Told left rest (IsRead status)) (sym c.status_of.ensures.status) (is_read left rest c.run-ended.result c.run-ended.ensures.input)
+    subst (λ (status : ℕ). Told left rest (IsInputRead status)) (sym c.status_of.ensures.status) (is_read left rest c.run-ended.result c.run-ended.ensures.input)
+
+pub returns-in-Ok-open-clause-source : goal.returns-in-Ok-open-clause-source
+returns-in-Ok-open-clause-source g c =
+    source_status (g.I.Source.faults c.args.input.now) (g.I.Source.faults c.run-ended.new.input) c.status_of.result c.run-ended.result c.status_of.ensures.status c.run-ended.ensures.source
 
 pub returns-in-Ok-open-clause-sink : goal.returns-in-Ok-open-clause-sink
 returns-in-Ok-open-clause-sink g c =
@@ -131,7 +137,7 @@ returns-in-Ok-open-clause-complete g c =
     let e = g.O.Sink.faults c.run-ended.new.output in
     subst (λ (f : Option Invocation). IfSome f (EndsWellFrom i left a b d e p q status)) (sym c.in-Some.ensures.form)
     (opened_well run i left a b d e p q status
-    (ends_well left rest a b d e p q status ended is c.run-ended.ensures.input c.run-ended.ensures.source (rose stops.Sink d e ended c.run-ended.ensures.sink)
+    (ends_well left rest a b d e p q status ended is c.run-ended.ensures.input (rises a b c.run-ended.ensures.source) (rose stops.Sink d e ended c.run-ended.ensures.sink)
     (λ faulty. omega (arith, c.in-Ok-open.ensures.cause.later, rose stops.Keeper (g.K.Keeper.faults c.«open».new.keeper) q ended c.run-ended.ensures.keeper faulty))))
 
 -- ---- no client was opened
@@ -180,6 +186,9 @@ returns-in-Err-open-clause-input g c =
     let status = c.status_unopened.result in
     let is : status ≡ status_unopened unopened = c.status_unopened.ensures.status in
     none_read unopened status (g.I.Source.left c.args.input.now) is
+
+pub returns-in-Err-open-clause-source : goal.returns-in-Err-open-clause-source
+returns-in-Err-open-clause-source g c = source_unopened (g.I.Source.faults c.args.input.now) c.status_unopened.result c.in-Err-open.unopened c.status_unopened.ensures.status
 
 pub returns-in-Err-open-clause-sink : goal.returns-in-Err-open-clause-sink
 returns-in-Err-open-clause-sink g c = sink_unopened (g.O.Sink.faults c.args.output.now) c.status_unopened.result c.in-Err-open.unopened c.status_unopened.ensures.status

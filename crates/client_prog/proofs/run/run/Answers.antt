@@ -1,6 +1,7 @@
 use Rattle.std.proofs.Common.{◌≢◌, Ok, Err, ap}
 use Rattle.std.proofs.lemmas.Result.{err_from_is_err_and}
 use Rattle.client_core.specs.Goes.{telling}
+use Rattle.client_session.specs.Session.{state_of}
 use Rattle.client_session.specs.Doing.{beside}
 use Rattle.client_session.proofs.Doing.{went_as}
 use Rattle.client_prog.specs.declared.run.Stop.TheVariants.{Keeper}
@@ -12,8 +13,8 @@ pub returns-in_err-end-clause-world : goal.returns-in_err-end-clause-world
 returns-in_err-end-clause-world g c =
     let x = err_from_is_err_and c.from_residual.result c.from_residual.ensures.1 in
     let r = c.args.route.now in
-    let a = c.args.session.now in
-    let b = c.answer_input.new.session in
+    let a = state_of c.args.session.now in
+    let b = state_of c.answer_input.new.session in
     let t = beside (g.L.Link.tells c.args.link.now) (telling (g.R.Runner.runs c.args.runner.now) (g.R.Runner.faults c.args.runner.now)) in
     let u = beside (g.L.Link.tells c.answer_input.new.link) (telling (g.R.Runner.runs c.answer_input.new.runner) (g.R.Runner.faults c.answer_input.new.runner)) in
     let i = g.K.Keeper.images c.args.keeper.now in
@@ -29,8 +30,8 @@ returns-in_err-end-clause-world g c =
 pub returns-clause-world : goal.returns-clause-world
 returns-clause-world g c =
     let r = c.args.route.now in
-    let a = c.args.session.now in
-    let b = c.answer_input.new.session in
+    let a = state_of c.args.session.now in
+    let b = state_of c.answer_input.new.session in
     let t = beside (g.L.Link.tells c.args.link.now) (telling (g.R.Runner.runs c.args.runner.now) (g.R.Runner.faults c.args.runner.now)) in
     let u = beside (g.L.Link.tells c.answer_input.new.link) (telling (g.R.Runner.runs c.answer_input.new.runner) (g.R.Runner.faults c.answer_input.new.runner)) in
     let i = g.K.Keeper.images c.args.keeper.now in
@@ -48,8 +49,8 @@ pub returns-in_err-close-clause-world : goal.returns-in_err-close-clause-world
 returns-in_err-close-clause-world g c =
     let x = err_from_is_err_and c.from_residual-in_err-close.result c.from_residual-in_err-close.ensures.1 in
     let r = c.args.route.now in
-    let a = c.args.session.now in
-    let b = c.answer_input.new.session in
+    let a = state_of c.args.session.now in
+    let b = state_of c.answer_input.new.session in
     let t = beside (g.L.Link.tells c.args.link.now) (telling (g.R.Runner.runs c.args.runner.now) (g.R.Runner.faults c.args.runner.now)) in
     let u = beside (g.L.Link.tells c.answer_input.new.link) (telling (g.R.Runner.runs c.answer_input.new.runner) (g.R.Runner.faults c.answer_input.new.runner)) in
     let i = g.K.Keeper.images c.args.keeper.now in

@@ -5,259 +5,258 @@ use Rattle.shell_lang.specs.declared.line.LineError.{LineError}
 use Rattle.shell_lang.specs.declared.answer.Answer.TheVariants.{Refused}
 use Rattle.shell_lang.specs.declared.answer.Fault.TheVariants as faults
 use Rattle.mod_log.specs.Log.{tree_of}
-use Rattle.client_core.specs.Keeping.{IsKept}
-use Rattle.client_session.specs.Session.{put_effect, make_effect, remove_effect, move_effect}
+use Rattle.client_core.specs.Keeping.{IsKeptReady}
+use Rattle.client_session.specs.Session.{state_of, put_effect, make_effect, remove_effect, move_effect}
 use Rattle.client_session.specs.Looking.{list_answer}
 use Rattle.client_core.specs.Goes.{telling}
 use Rattle.client_session.specs.Doing.{beside, WentDoing, LineEnds}
-use Rattle.client_session.specs.Inside.{Logs}
-use Rattle.client_session.specs.Causes.{HasLineCause, is_run}
-use Rattle.client_session.proofs.Turning.{line_world, quietly_caused, tells_quietly, silent_quietly, told_quietly, logs_quietly, enter_quietly, enter_kept, status_quietly, unkept}
-use Rattle.client_session.proofs.Commanding.{run_went, run_caused}
+use Rattle.client_session.specs.Inside.{LogsOrRefuses}
+use Rattle.client_session.specs.Causes.{HasLineCause, asks_to_run}
+use Rattle.client_session.proofs.Turning.{line_world, quietly_caused, tells_quietly, silent_quietly, told_quietly, logs_quietly, enter_quietly, err_seen, status_quietly, unkept}
+use Rattle.client_session.proofs.Commanding.{run_went, run_caused, whatever}
 use Rattle.client_session.proofs.session.Session.answer.Goals as goal
 
 pub returns-in-Err-clause-world : goal.returns-in-Err-clause-world
 returns-in-Err-clause-world g c =
-    let s = c.args.self.now in
+    let s = state_of c.args.self.now in
     let route = c.args.route.now in
     let i = g.K.Keeper.images c.args.keeper.now in
     let t = beside (g.L.Link.tells c.args.link.now) (telling (g.R.Runner.runs c.args.runner.now) (g.R.Runner.faults c.args.runner.now)) in
     line_world route i s c.args.line (Err c.in-Err.refusal) (Ok (Some (Refused (faults.Line c.in-Err.refusal)))) s i t c.in-Err.is
-    (tells_quietly route.image i s c.requires (Err c.in-Err.refusal) (Some (Refused (faults.Line c.in-Err.refusal))) (λ r. (refl, refl, refl)))
+    (tells_quietly route.image i s c.requires.0 (Err c.in-Err.refusal) (Some (Refused (faults.Line c.in-Err.refusal))) (λ r. (refl, refl, refl)))
 
 pub returns-in-Err-clause-cause : goal.returns-in-Err-clause-cause
 returns-in-Err-clause-cause g c =
-    let s = c.args.self.now in
+    let s = state_of c.args.self.now in
     let route = c.args.route.now in
     let i = g.K.Keeper.images c.args.keeper.now in
     let t = beside (g.L.Link.tells c.args.link.now) (telling (g.R.Runner.runs c.args.runner.now) (g.R.Runner.faults c.args.runner.now)) in
     subst (λ (l : Result Line LineError). HasLineCause route s l (Ok (Some (Refused (faults.Line c.in-Err.refusal)))) s t t (g.K.Keeper.faults c.args.keeper.now) (g.K.Keeper.faults c.args.keeper.now)) (sym c.in-Err.is)
-    (quietly_caused route i s (Err c.in-Err.refusal) (Ok (Some (Refused (faults.Line c.in-Err.refusal)))) s i (tells_quietly route.image i s c.requires (Err c.in-Err.refusal) (Some (Refused (faults.Line c.in-Err.refusal))) (λ r. (refl, refl, refl))) t)
+    (quietly_caused route i s (Err c.in-Err.refusal) (Ok (Some (Refused (faults.Line c.in-Err.refusal)))) s i (tells_quietly route.image i s c.requires.0 (Err c.in-Err.refusal) (Some (Refused (faults.Line c.in-Err.refusal))) (λ r. (refl, refl, refl))) t)
 
 pub returns-in-Ok-Put-clause-world : goal.returns-in-Ok-Put-clause-world
 returns-in-Ok-Put-clause-world g c =
-    let s = c.args.self.now in
+    let s = state_of c.args.self.now in
     let route = c.args.route.now in
     let i = g.K.Keeper.images c.args.keeper.now in
     let t = beside (g.L.Link.tells c.args.link.now) (telling (g.R.Runner.runs c.args.runner.now) (g.R.Runner.faults c.args.runner.now)) in
     let j = g.K.Keeper.images c.put.new.keeper in
-    line_world route i s c.args.line (Ok (Put c.in-Ok-Put.path c.in-Ok-Put.text)) c.put.result c.put.new.self j t (c.in-Ok-Put.is ∙ ap Ok c.in-Ok-Put.field-0-is)
-    (logs_quietly route.image i (put_effect s.folder c.in-Ok-Put.path c.in-Ok-Put.text) s (Ok (Put c.in-Ok-Put.path c.in-Ok-Put.text)) c.put.result c.put.new.self j (λ r answer trace turn. turn) (subst (λ (n : List ℕ). Logs n (put_effect s.folder c.in-Ok-Put.path c.in-Ok-Put.text) s c.put.result c.put.new.self i j) c.bytes-image.ensures.value c.put.ensures.logs))
+    line_world route i s c.args.line (Ok (Put c.in-Ok-Put.path c.in-Ok-Put.text)) c.put.result (state_of c.put.new.self) j t (c.in-Ok-Put.is ∙ ap Ok c.in-Ok-Put.field-0-is)
+    (logs_quietly route.image i (put_effect s.folder c.in-Ok-Put.path c.in-Ok-Put.text) s (Ok (Put c.in-Ok-Put.path c.in-Ok-Put.text)) c.put.result (state_of c.put.new.self) j (λ r answer trace turn. turn) (subst (λ (n : List ℕ). LogsOrRefuses n (put_effect s.folder c.in-Ok-Put.path c.in-Ok-Put.text) s c.put.result (state_of c.put.new.self) i j) c.bytes-image.ensures.value c.put.ensures.logs))
 
 pub returns-in-Ok-Put-clause-cause : goal.returns-in-Ok-Put-clause-cause
 returns-in-Ok-Put-clause-cause g c =
-    let s = c.args.self.now in
+    let s = state_of c.args.self.now in
     let route = c.args.route.now in
     let i = g.K.Keeper.images c.args.keeper.now in
     let t = beside (g.L.Link.tells c.args.link.now) (telling (g.R.Runner.runs c.args.runner.now) (g.R.Runner.faults c.args.runner.now)) in
     let j = g.K.Keeper.images c.put.new.keeper in
-    subst (λ (l : Result Line LineError). HasLineCause route s l c.put.result c.put.new.self t t (g.K.Keeper.faults c.args.keeper.now) (g.K.Keeper.faults c.put.new.keeper)) (sym (c.in-Ok-Put.is ∙ ap Ok c.in-Ok-Put.field-0-is))
-    (quietly_caused route i s (Ok (Put c.in-Ok-Put.path c.in-Ok-Put.text)) c.put.result c.put.new.self j (logs_quietly route.image i (put_effect s.folder c.in-Ok-Put.path c.in-Ok-Put.text) s (Ok (Put c.in-Ok-Put.path c.in-Ok-Put.text)) c.put.result c.put.new.self j (λ r answer trace turn. turn) (subst (λ (n : List ℕ). Logs n (put_effect s.folder c.in-Ok-Put.path c.in-Ok-Put.text) s c.put.result c.put.new.self i j) c.bytes-image.ensures.value c.put.ensures.logs)) t)
+    subst (λ (l : Result Line LineError). HasLineCause route s l c.put.result (state_of c.put.new.self) t t (g.K.Keeper.faults c.args.keeper.now) (g.K.Keeper.faults c.put.new.keeper)) (sym (c.in-Ok-Put.is ∙ ap Ok c.in-Ok-Put.field-0-is))
+    (quietly_caused route i s (Ok (Put c.in-Ok-Put.path c.in-Ok-Put.text)) c.put.result (state_of c.put.new.self) j (logs_quietly route.image i (put_effect s.folder c.in-Ok-Put.path c.in-Ok-Put.text) s (Ok (Put c.in-Ok-Put.path c.in-Ok-Put.text)) c.put.result (state_of c.put.new.self) j (λ r answer trace turn. turn) (subst (λ (n : List ℕ). LogsOrRefuses n (put_effect s.folder c.in-Ok-Put.path c.in-Ok-Put.text) s c.put.result (state_of c.put.new.self) i j) c.bytes-image.ensures.value c.put.ensures.logs)) t)
 
 pub put-requires : goal.put-requires
-put-requires g c = subst (λ (n : List ℕ). IsKept (g.K.Keeper.images c.args.keeper.now) n c.args.self.now.client.number c.args.self.now.client.log) (sym c.bytes-image.ensures.value) c.requires
+put-requires g c = subst (λ (n : List ℕ). IsKeptReady (g.K.Keeper.images c.args.keeper.now) n c.args.self.now.client) (sym c.bytes-image.ensures.value) c.requires
 
 pub returns-in-Ok-Put-clause-kept : goal.returns-in-Ok-Put-clause-kept
 returns-in-Ok-Put-clause-kept g c =
-    subst (λ (n : List ℕ). IfOk c.put.result (λ answer. IsKept (g.K.Keeper.images c.put.new.keeper) n c.put.new.self.client.number c.put.new.self.client.log)) c.bytes-image.ensures.value c.put.ensures.kept
+    subst (λ (n : List ℕ). IfOk c.put.result (λ answer. IsKeptReady (g.K.Keeper.images c.put.new.keeper) n c.put.new.self.client)) c.bytes-image.ensures.value c.put.ensures.kept
 
 pub returns-in-Ok-Make-clause-world : goal.returns-in-Ok-Make-clause-world
 returns-in-Ok-Make-clause-world g c =
-    let s = c.args.self.now in
+    let s = state_of c.args.self.now in
     let route = c.args.route.now in
     let i = g.K.Keeper.images c.args.keeper.now in
     let t = beside (g.L.Link.tells c.args.link.now) (telling (g.R.Runner.runs c.args.runner.now) (g.R.Runner.faults c.args.runner.now)) in
     let j = g.K.Keeper.images c.make.new.keeper in
-    line_world route i s c.args.line (Ok (Make c.in-Ok-Make.path)) c.make.result c.make.new.self j t (c.in-Ok-Make.is ∙ ap Ok c.in-Ok-Make.field-0-is)
-    (logs_quietly route.image i (make_effect s.folder c.in-Ok-Make.path) s (Ok (Make c.in-Ok-Make.path)) c.make.result c.make.new.self j (λ r answer trace turn. turn) (subst (λ (n : List ℕ). Logs n (make_effect s.folder c.in-Ok-Make.path) s c.make.result c.make.new.self i j) c.bytes-image.ensures.value c.make.ensures.logs))
+    line_world route i s c.args.line (Ok (Make c.in-Ok-Make.path)) c.make.result (state_of c.make.new.self) j t (c.in-Ok-Make.is ∙ ap Ok c.in-Ok-Make.field-0-is)
+    (logs_quietly route.image i (make_effect s.folder c.in-Ok-Make.path) s (Ok (Make c.in-Ok-Make.path)) c.make.result (state_of c.make.new.self) j (λ r answer trace turn. turn) (subst (λ (n : List ℕ). LogsOrRefuses n (make_effect s.folder c.in-Ok-Make.path) s c.make.result (state_of c.make.new.self) i j) c.bytes-image.ensures.value c.make.ensures.logs))
 
 pub returns-in-Ok-Make-clause-cause : goal.returns-in-Ok-Make-clause-cause
 returns-in-Ok-Make-clause-cause g c =
-    let s = c.args.self.now in
+    let s = state_of c.args.self.now in
     let route = c.args.route.now in
     let i = g.K.Keeper.images c.args.keeper.now in
     let t = beside (g.L.Link.tells c.args.link.now) (telling (g.R.Runner.runs c.args.runner.now) (g.R.Runner.faults c.args.runner.now)) in
     let j = g.K.Keeper.images c.make.new.keeper in
-    subst (λ (l : Result Line LineError). HasLineCause route s l c.make.result c.make.new.self t t (g.K.Keeper.faults c.args.keeper.now) (g.K.Keeper.faults c.make.new.keeper)) (sym (c.in-Ok-Make.is ∙ ap Ok c.in-Ok-Make.field-0-is))
-    (quietly_caused route i s (Ok (Make c.in-Ok-Make.path)) c.make.result c.make.new.self j (logs_quietly route.image i (make_effect s.folder c.in-Ok-Make.path) s (Ok (Make c.in-Ok-Make.path)) c.make.result c.make.new.self j (λ r answer trace turn. turn) (subst (λ (n : List ℕ). Logs n (make_effect s.folder c.in-Ok-Make.path) s c.make.result c.make.new.self i j) c.bytes-image.ensures.value c.make.ensures.logs)) t)
+    subst (λ (l : Result Line LineError). HasLineCause route s l c.make.result (state_of c.make.new.self) t t (g.K.Keeper.faults c.args.keeper.now) (g.K.Keeper.faults c.make.new.keeper)) (sym (c.in-Ok-Make.is ∙ ap Ok c.in-Ok-Make.field-0-is))
+    (quietly_caused route i s (Ok (Make c.in-Ok-Make.path)) c.make.result (state_of c.make.new.self) j (logs_quietly route.image i (make_effect s.folder c.in-Ok-Make.path) s (Ok (Make c.in-Ok-Make.path)) c.make.result (state_of c.make.new.self) j (λ r answer trace turn. turn) (subst (λ (n : List ℕ). LogsOrRefuses n (make_effect s.folder c.in-Ok-Make.path) s c.make.result (state_of c.make.new.self) i j) c.bytes-image.ensures.value c.make.ensures.logs)) t)
 
 pub make-requires : goal.make-requires
-make-requires g c = subst (λ (n : List ℕ). IsKept (g.K.Keeper.images c.args.keeper.now) n c.args.self.now.client.number c.args.self.now.client.log) (sym c.bytes-image.ensures.value) c.requires
+make-requires g c = subst (λ (n : List ℕ). IsKeptReady (g.K.Keeper.images c.args.keeper.now) n c.args.self.now.client) (sym c.bytes-image.ensures.value) c.requires
 
 pub returns-in-Ok-Make-clause-kept : goal.returns-in-Ok-Make-clause-kept
 returns-in-Ok-Make-clause-kept g c =
-    subst (λ (n : List ℕ). IfOk c.make.result (λ answer. IsKept (g.K.Keeper.images c.make.new.keeper) n c.make.new.self.client.number c.make.new.self.client.log)) c.bytes-image.ensures.value c.make.ensures.kept
+    subst (λ (n : List ℕ). IfOk c.make.result (λ answer. IsKeptReady (g.K.Keeper.images c.make.new.keeper) n c.make.new.self.client)) c.bytes-image.ensures.value c.make.ensures.kept
 
 pub returns-in-Ok-Remove-clause-world : goal.returns-in-Ok-Remove-clause-world
 returns-in-Ok-Remove-clause-world g c =
-    let s = c.args.self.now in
+    let s = state_of c.args.self.now in
     let route = c.args.route.now in
     let i = g.K.Keeper.images c.args.keeper.now in
     let t = beside (g.L.Link.tells c.args.link.now) (telling (g.R.Runner.runs c.args.runner.now) (g.R.Runner.faults c.args.runner.now)) in
     let j = g.K.Keeper.images c.remove.new.keeper in
-    line_world route i s c.args.line (Ok (Remove c.in-Ok-Remove.path)) c.remove.result c.remove.new.self j t (c.in-Ok-Remove.is ∙ ap Ok c.in-Ok-Remove.field-0-is)
-    (logs_quietly route.image i (remove_effect s.folder c.in-Ok-Remove.path) s (Ok (Remove c.in-Ok-Remove.path)) c.remove.result c.remove.new.self j (λ r answer trace turn. turn) (subst (λ (n : List ℕ). Logs n (remove_effect s.folder c.in-Ok-Remove.path) s c.remove.result c.remove.new.self i j) c.bytes-image.ensures.value c.remove.ensures.logs))
+    line_world route i s c.args.line (Ok (Remove c.in-Ok-Remove.path)) c.remove.result (state_of c.remove.new.self) j t (c.in-Ok-Remove.is ∙ ap Ok c.in-Ok-Remove.field-0-is)
+    (logs_quietly route.image i (remove_effect s.folder c.in-Ok-Remove.path) s (Ok (Remove c.in-Ok-Remove.path)) c.remove.result (state_of c.remove.new.self) j (λ r answer trace turn. turn) (subst (λ (n : List ℕ). LogsOrRefuses n (remove_effect s.folder c.in-Ok-Remove.path) s c.remove.result (state_of c.remove.new.self) i j) c.bytes-image.ensures.value c.remove.ensures.logs))
 
 pub returns-in-Ok-Remove-clause-cause : goal.returns-in-Ok-Remove-clause-cause
 returns-in-Ok-Remove-clause-cause g c =
-    let s = c.args.self.now in
+    let s = state_of c.args.self.now in
     let route = c.args.route.now in
     let i = g.K.Keeper.images c.args.keeper.now in
     let t = beside (g.L.Link.tells c.args.link.now) (telling (g.R.Runner.runs c.args.runner.now) (g.R.Runner.faults c.args.runner.now)) in
     let j = g.K.Keeper.images c.remove.new.keeper in
-    subst (λ (l : Result Line LineError). HasLineCause route s l c.remove.result c.remove.new.self t t (g.K.Keeper.faults c.args.keeper.now) (g.K.Keeper.faults c.remove.new.keeper)) (sym (c.in-Ok-Remove.is ∙ ap Ok c.in-Ok-Remove.field-0-is))
-    (quietly_caused route i s (Ok (Remove c.in-Ok-Remove.path)) c.remove.result c.remove.new.self j (logs_quietly route.image i (remove_effect s.folder c.in-Ok-Remove.path) s (Ok (Remove c.in-Ok-Remove.path)) c.remove.result c.remove.new.self j (λ r answer trace turn. turn) (subst (λ (n : List ℕ). Logs n (remove_effect s.folder c.in-Ok-Remove.path) s c.remove.result c.remove.new.self i j) c.bytes-image.ensures.value c.remove.ensures.logs)) t)
+    subst (λ (l : Result Line LineError). HasLineCause route s l c.remove.result (state_of c.remove.new.self) t t (g.K.Keeper.faults c.args.keeper.now) (g.K.Keeper.faults c.remove.new.keeper)) (sym (c.in-Ok-Remove.is ∙ ap Ok c.in-Ok-Remove.field-0-is))
+    (quietly_caused route i s (Ok (Remove c.in-Ok-Remove.path)) c.remove.result (state_of c.remove.new.self) j (logs_quietly route.image i (remove_effect s.folder c.in-Ok-Remove.path) s (Ok (Remove c.in-Ok-Remove.path)) c.remove.result (state_of c.remove.new.self) j (λ r answer trace turn. turn) (subst (λ (n : List ℕ). LogsOrRefuses n (remove_effect s.folder c.in-Ok-Remove.path) s c.remove.result (state_of c.remove.new.self) i j) c.bytes-image.ensures.value c.remove.ensures.logs)) t)
 
 pub remove-requires : goal.remove-requires
-remove-requires g c = subst (λ (n : List ℕ). IsKept (g.K.Keeper.images c.args.keeper.now) n c.args.self.now.client.number c.args.self.now.client.log) (sym c.bytes-image.ensures.value) c.requires
+remove-requires g c = subst (λ (n : List ℕ). IsKeptReady (g.K.Keeper.images c.args.keeper.now) n c.args.self.now.client) (sym c.bytes-image.ensures.value) c.requires
 
 pub returns-in-Ok-Remove-clause-kept : goal.returns-in-Ok-Remove-clause-kept
 returns-in-Ok-Remove-clause-kept g c =
-    subst (λ (n : List ℕ). IfOk c.remove.result (λ answer. IsKept (g.K.Keeper.images c.remove.new.keeper) n c.remove.new.self.client.number c.remove.new.self.client.log)) c.bytes-image.ensures.value c.remove.ensures.kept
+    subst (λ (n : List ℕ). IfOk c.remove.result (λ answer. IsKeptReady (g.K.Keeper.images c.remove.new.keeper) n c.remove.new.self.client)) c.bytes-image.ensures.value c.remove.ensures.kept
 
 pub returns-in-Ok-Move-clause-world : goal.returns-in-Ok-Move-clause-world
 returns-in-Ok-Move-clause-world g c =
-    let s = c.args.self.now in
+    let s = state_of c.args.self.now in
     let route = c.args.route.now in
     let i = g.K.Keeper.images c.args.keeper.now in
     let t = beside (g.L.Link.tells c.args.link.now) (telling (g.R.Runner.runs c.args.runner.now) (g.R.Runner.faults c.args.runner.now)) in
     let j = g.K.Keeper.images c.relocate.new.keeper in
-    line_world route i s c.args.line (Ok (Move c.in-Ok-Move.from c.in-Ok-Move.to)) c.relocate.result c.relocate.new.self j t (c.in-Ok-Move.is ∙ ap Ok c.in-Ok-Move.field-0-is)
-    (logs_quietly route.image i (move_effect s.folder c.in-Ok-Move.from c.in-Ok-Move.to) s (Ok (Move c.in-Ok-Move.from c.in-Ok-Move.to)) c.relocate.result c.relocate.new.self j (λ r answer trace turn. turn) (subst (λ (n : List ℕ). Logs n (move_effect s.folder c.in-Ok-Move.from c.in-Ok-Move.to) s c.relocate.result c.relocate.new.self i j) c.bytes-image.ensures.value c.relocate.ensures.logs))
+    line_world route i s c.args.line (Ok (Move c.in-Ok-Move.from c.in-Ok-Move.to)) c.relocate.result (state_of c.relocate.new.self) j t (c.in-Ok-Move.is ∙ ap Ok c.in-Ok-Move.field-0-is)
+    (logs_quietly route.image i (move_effect s.folder c.in-Ok-Move.from c.in-Ok-Move.to) s (Ok (Move c.in-Ok-Move.from c.in-Ok-Move.to)) c.relocate.result (state_of c.relocate.new.self) j (λ r answer trace turn. turn) (subst (λ (n : List ℕ). LogsOrRefuses n (move_effect s.folder c.in-Ok-Move.from c.in-Ok-Move.to) s c.relocate.result (state_of c.relocate.new.self) i j) c.bytes-image.ensures.value c.relocate.ensures.logs))
 
 pub returns-in-Ok-Move-clause-cause : goal.returns-in-Ok-Move-clause-cause
 returns-in-Ok-Move-clause-cause g c =
-    let s = c.args.self.now in
+    let s = state_of c.args.self.now in
     let route = c.args.route.now in
     let i = g.K.Keeper.images c.args.keeper.now in
     let t = beside (g.L.Link.tells c.args.link.now) (telling (g.R.Runner.runs c.args.runner.now) (g.R.Runner.faults c.args.runner.now)) in
     let j = g.K.Keeper.images c.relocate.new.keeper in
-    subst (λ (l : Result Line LineError). HasLineCause route s l c.relocate.result c.relocate.new.self t t (g.K.Keeper.faults c.args.keeper.now) (g.K.Keeper.faults c.relocate.new.keeper)) (sym (c.in-Ok-Move.is ∙ ap Ok c.in-Ok-Move.field-0-is))
-    (quietly_caused route i s (Ok (Move c.in-Ok-Move.from c.in-Ok-Move.to)) c.relocate.result c.relocate.new.self j (logs_quietly route.image i (move_effect s.folder c.in-Ok-Move.from c.in-Ok-Move.to) s (Ok (Move c.in-Ok-Move.from c.in-Ok-Move.to)) c.relocate.result c.relocate.new.self j (λ r answer trace turn. turn) (subst (λ (n : List ℕ). Logs n (move_effect s.folder c.in-Ok-Move.from c.in-Ok-Move.to) s c.relocate.result c.relocate.new.self i j) c.bytes-image.ensures.value c.relocate.ensures.logs)) t)
+    subst (λ (l : Result Line LineError). HasLineCause route s l c.relocate.result (state_of c.relocate.new.self) t t (g.K.Keeper.faults c.args.keeper.now) (g.K.Keeper.faults c.relocate.new.keeper)) (sym (c.in-Ok-Move.is ∙ ap Ok c.in-Ok-Move.field-0-is))
+    (quietly_caused route i s (Ok (Move c.in-Ok-Move.from c.in-Ok-Move.to)) c.relocate.result (state_of c.relocate.new.self) j (logs_quietly route.image i (move_effect s.folder c.in-Ok-Move.from c.in-Ok-Move.to) s (Ok (Move c.in-Ok-Move.from c.in-Ok-Move.to)) c.relocate.result (state_of c.relocate.new.self) j (λ r answer trace turn. turn) (subst (λ (n : List ℕ). LogsOrRefuses n (move_effect s.folder c.in-Ok-Move.from c.in-Ok-Move.to) s c.relocate.result (state_of c.relocate.new.self) i j) c.bytes-image.ensures.value c.relocate.ensures.logs)) t)
 
 pub relocate-requires : goal.relocate-requires
-relocate-requires g c = subst (λ (n : List ℕ). IsKept (g.K.Keeper.images c.args.keeper.now) n c.args.self.now.client.number c.args.self.now.client.log) (sym c.bytes-image.ensures.value) c.requires
+relocate-requires g c = subst (λ (n : List ℕ). IsKeptReady (g.K.Keeper.images c.args.keeper.now) n c.args.self.now.client) (sym c.bytes-image.ensures.value) c.requires
 
 pub returns-in-Ok-Move-clause-kept : goal.returns-in-Ok-Move-clause-kept
 returns-in-Ok-Move-clause-kept g c =
-    subst (λ (n : List ℕ). IfOk c.relocate.result (λ answer. IsKept (g.K.Keeper.images c.relocate.new.keeper) n c.relocate.new.self.client.number c.relocate.new.self.client.log)) c.bytes-image.ensures.value c.relocate.ensures.kept
+    subst (λ (n : List ℕ). IfOk c.relocate.result (λ answer. IsKeptReady (g.K.Keeper.images c.relocate.new.keeper) n c.relocate.new.self.client)) c.bytes-image.ensures.value c.relocate.ensures.kept
 
 pub returns-in-Ok-Cat-clause-world : goal.returns-in-Ok-Cat-clause-world
 returns-in-Ok-Cat-clause-world g c =
-    let s = c.args.self.now in
+    let s = state_of c.args.self.now in
     let route = c.args.route.now in
     let i = g.K.Keeper.images c.args.keeper.now in
     let t = beside (g.L.Link.tells c.args.link.now) (telling (g.R.Runner.runs c.args.runner.now) (g.R.Runner.faults c.args.runner.now)) in
     line_world route i s c.args.line (Ok (Cat c.in-Ok-Cat.path)) c.cat.result s i t (c.in-Ok-Cat.is ∙ ap Ok c.in-Ok-Cat.field-0-is)
-    (told_quietly route.image i s c.requires (Ok (Cat c.in-Ok-Cat.path)) _ c.cat.result (λ r. (refl, refl, refl)) c.cat.ensures.answer)
+    (told_quietly route.image i s c.requires.0 (Ok (Cat c.in-Ok-Cat.path)) _ c.cat.result (λ r. (refl, refl, refl)) c.cat.ensures.answer)
 
 pub returns-in-Ok-Cat-clause-cause : goal.returns-in-Ok-Cat-clause-cause
 returns-in-Ok-Cat-clause-cause g c =
-    let s = c.args.self.now in
+    let s = state_of c.args.self.now in
     let route = c.args.route.now in
     let i = g.K.Keeper.images c.args.keeper.now in
     let t = beside (g.L.Link.tells c.args.link.now) (telling (g.R.Runner.runs c.args.runner.now) (g.R.Runner.faults c.args.runner.now)) in
     subst (λ (l : Result Line LineError). HasLineCause route s l c.cat.result s t t (g.K.Keeper.faults c.args.keeper.now) (g.K.Keeper.faults c.args.keeper.now)) (sym (c.in-Ok-Cat.is ∙ ap Ok c.in-Ok-Cat.field-0-is))
-    (quietly_caused route i s (Ok (Cat c.in-Ok-Cat.path)) c.cat.result s i (told_quietly route.image i s c.requires (Ok (Cat c.in-Ok-Cat.path)) _ c.cat.result (λ r. (refl, refl, refl)) c.cat.ensures.answer) t)
+    (quietly_caused route i s (Ok (Cat c.in-Ok-Cat.path)) c.cat.result s i (told_quietly route.image i s c.requires.0 (Ok (Cat c.in-Ok-Cat.path)) _ c.cat.result (λ r. (refl, refl, refl)) c.cat.ensures.answer) t)
 
 pub returns-in-Ok-List-clause-world : goal.returns-in-Ok-List-clause-world
 returns-in-Ok-List-clause-world g c =
-    let s = c.args.self.now in
+    let s = state_of c.args.self.now in
     let route = c.args.route.now in
     let i = g.K.Keeper.images c.args.keeper.now in
     let t = beside (g.L.Link.tells c.args.link.now) (telling (g.R.Runner.runs c.args.runner.now) (g.R.Runner.faults c.args.runner.now)) in
     line_world route i s c.args.line (Ok (Ls c.in-Ok-List.path)) c.list.result s i t (c.in-Ok-List.is ∙ ap Ok c.in-Ok-List.field-0-is)
-    (told_quietly route.image i s c.requires (Ok (Ls c.in-Ok-List.path)) (Some (list_answer (tree_of s.client.log) s.folder c.in-Ok-List.path)) c.list.result (λ r. (refl, refl, refl))
+    (told_quietly route.image i s c.requires.0 (Ok (Ls c.in-Ok-List.path)) (Some (list_answer (tree_of s.client.log) s.folder c.in-Ok-List.path)) c.list.result (λ r. (refl, refl, refl))
     (subst (λ (word : Option (List ℕ)). IfOk c.list.result (λ given. given ≡ Some (list_answer (tree_of s.client.log) s.folder word))) c.as_ref.ensures.value c.list.ensures.answer))
 
 pub returns-in-Ok-List-clause-cause : goal.returns-in-Ok-List-clause-cause
 returns-in-Ok-List-clause-cause g c =
-    let s = c.args.self.now in
+    let s = state_of c.args.self.now in
     let route = c.args.route.now in
     let i = g.K.Keeper.images c.args.keeper.now in
     let t = beside (g.L.Link.tells c.args.link.now) (telling (g.R.Runner.runs c.args.runner.now) (g.R.Runner.faults c.args.runner.now)) in
     subst (λ (l : Result Line LineError). HasLineCause route s l c.list.result s t t (g.K.Keeper.faults c.args.keeper.now) (g.K.Keeper.faults c.args.keeper.now)) (sym (c.in-Ok-List.is ∙ ap Ok c.in-Ok-List.field-0-is))
-    (quietly_caused route i s (Ok (Ls c.in-Ok-List.path)) c.list.result s i (told_quietly route.image i s c.requires (Ok (Ls c.in-Ok-List.path)) (Some (list_answer (tree_of s.client.log) s.folder c.in-Ok-List.path)) c.list.result (λ r. (refl, refl, refl))
+    (quietly_caused route i s (Ok (Ls c.in-Ok-List.path)) c.list.result s i (told_quietly route.image i s c.requires.0 (Ok (Ls c.in-Ok-List.path)) (Some (list_answer (tree_of s.client.log) s.folder c.in-Ok-List.path)) c.list.result (λ r. (refl, refl, refl))
     (subst (λ (word : Option (List ℕ)). IfOk c.list.result (λ given. given ≡ Some (list_answer (tree_of s.client.log) s.folder word))) c.as_ref.ensures.value c.list.ensures.answer)) t)
 
 pub returns-in-Ok-Enter-clause-world : goal.returns-in-Ok-Enter-clause-world
 returns-in-Ok-Enter-clause-world g c =
-    let s = c.args.self.now in
+    let s = state_of c.args.self.now in
     let route = c.args.route.now in
     let i = g.K.Keeper.images c.args.keeper.now in
     let t = beside (g.L.Link.tells c.args.link.now) (telling (g.R.Runner.runs c.args.runner.now) (g.R.Runner.faults c.args.runner.now)) in
-    line_world route i s c.args.line (Ok (Enter c.in-Ok-Enter.path)) c.enter.result c.enter.new.self i t (c.in-Ok-Enter.is ∙ ap Ok c.in-Ok-Enter.field-0-is)
-    (enter_quietly route.image i s c.requires c.enter.new.self c.in-Ok-Enter.path c.enter.result c.enter.ensures.ok c.enter.ensures.folder c.enter.ensures.err)
+    line_world route i s c.args.line (Ok (Enter c.in-Ok-Enter.path)) c.enter.result (state_of c.enter.new.self) i t (c.in-Ok-Enter.is ∙ ap Ok c.in-Ok-Enter.field-0-is)
+    (enter_quietly route.image i s c.requires.0 (state_of c.enter.new.self) c.in-Ok-Enter.path c.enter.result c.enter.ensures.ok c.enter.ensures.folder (err_seen c.enter.result c.enter.new.self c.args.self.now c.enter.ensures.err))
 
 pub returns-in-Ok-Enter-clause-cause : goal.returns-in-Ok-Enter-clause-cause
 returns-in-Ok-Enter-clause-cause g c =
-    let s = c.args.self.now in
+    let s = state_of c.args.self.now in
     let route = c.args.route.now in
     let i = g.K.Keeper.images c.args.keeper.now in
     let t = beside (g.L.Link.tells c.args.link.now) (telling (g.R.Runner.runs c.args.runner.now) (g.R.Runner.faults c.args.runner.now)) in
-    subst (λ (l : Result Line LineError). HasLineCause route s l c.enter.result c.enter.new.self t t (g.K.Keeper.faults c.args.keeper.now) (g.K.Keeper.faults c.args.keeper.now)) (sym (c.in-Ok-Enter.is ∙ ap Ok c.in-Ok-Enter.field-0-is))
-    (quietly_caused route i s (Ok (Enter c.in-Ok-Enter.path)) c.enter.result c.enter.new.self i (enter_quietly route.image i s c.requires c.enter.new.self c.in-Ok-Enter.path c.enter.result c.enter.ensures.ok c.enter.ensures.folder c.enter.ensures.err) t)
+    subst (λ (l : Result Line LineError). HasLineCause route s l c.enter.result (state_of c.enter.new.self) t t (g.K.Keeper.faults c.args.keeper.now) (g.K.Keeper.faults c.args.keeper.now)) (sym (c.in-Ok-Enter.is ∙ ap Ok c.in-Ok-Enter.field-0-is))
+    (quietly_caused route i s (Ok (Enter c.in-Ok-Enter.path)) c.enter.result (state_of c.enter.new.self) i (enter_quietly route.image i s c.requires.0 (state_of c.enter.new.self) c.in-Ok-Enter.path c.enter.result c.enter.ensures.ok c.enter.ensures.folder (err_seen c.enter.result c.enter.new.self c.args.self.now c.enter.ensures.err)) t)
 
 pub returns-in-Ok-Enter-clause-kept : goal.returns-in-Ok-Enter-clause-kept
 returns-in-Ok-Enter-clause-kept g c =
-    let s = c.args.self.now in
-    let route = c.args.route.now in
+    let image = c.args.route.now.image in
     let i = g.K.Keeper.images c.args.keeper.now in
-    enter_kept route.image i s c.requires c.enter.new.self c.in-Ok-Enter.path c.enter.result c.enter.ensures.folder
+    whatever c.enter.result (IsKeptReady i image c.enter.new.self.client) (subst (IsKeptReady i image) (sym c.enter.ensures.client) c.requires)
 
 pub returns-in-Ok-Status-clause-world : goal.returns-in-Ok-Status-clause-world
 returns-in-Ok-Status-clause-world g c =
-    let s = c.args.self.now in
+    let s = state_of c.args.self.now in
     let route = c.args.route.now in
     let i = g.K.Keeper.images c.args.keeper.now in
     let t = beside (g.L.Link.tells c.args.link.now) (telling (g.R.Runner.runs c.args.runner.now) (g.R.Runner.faults c.args.runner.now)) in
     line_world route i s c.args.line (Ok Status) (Ok (Some c.status.result)) s i t (c.in-Ok-Status.is ∙ ap Ok c.in-Ok-Status.field-0-is)
-    (status_quietly route.image i s c.requires c.status.result c.status.ensures)
+    (status_quietly route.image i s c.requires.0 c.status.result c.status.ensures)
 
 pub returns-in-Ok-Status-clause-cause : goal.returns-in-Ok-Status-clause-cause
 returns-in-Ok-Status-clause-cause g c =
-    let s = c.args.self.now in
+    let s = state_of c.args.self.now in
     let route = c.args.route.now in
     let i = g.K.Keeper.images c.args.keeper.now in
     let t = beside (g.L.Link.tells c.args.link.now) (telling (g.R.Runner.runs c.args.runner.now) (g.R.Runner.faults c.args.runner.now)) in
     subst (λ (l : Result Line LineError). HasLineCause route s l (Ok (Some c.status.result)) s t t (g.K.Keeper.faults c.args.keeper.now) (g.K.Keeper.faults c.args.keeper.now)) (sym (c.in-Ok-Status.is ∙ ap Ok c.in-Ok-Status.field-0-is))
-    (quietly_caused route i s (Ok Status) (Ok (Some c.status.result)) s i (status_quietly route.image i s c.requires c.status.result c.status.ensures) t)
+    (quietly_caused route i s (Ok Status) (Ok (Some c.status.result)) s i (status_quietly route.image i s c.requires.0 c.status.result c.status.ensures) t)
 
 pub returns-in-Ok-Empty-clause-world : goal.returns-in-Ok-Empty-clause-world
 returns-in-Ok-Empty-clause-world g c =
-    let s = c.args.self.now in
+    let s = state_of c.args.self.now in
     let route = c.args.route.now in
     let i = g.K.Keeper.images c.args.keeper.now in
     let t = beside (g.L.Link.tells c.args.link.now) (telling (g.R.Runner.runs c.args.runner.now) (g.R.Runner.faults c.args.runner.now)) in
     line_world route i s c.args.line (Ok Empty) (Ok None) s i t (c.in-Ok-Empty.is ∙ ap Ok c.in-Ok-Empty.field-0-is)
-    (silent_quietly route.image i s c.requires (Ok Empty) (λ r. (refl, refl, refl)))
+    (silent_quietly route.image i s c.requires.0 (Ok Empty) (λ r. (refl, refl, refl)))
 
 pub returns-in-Ok-Empty-clause-cause : goal.returns-in-Ok-Empty-clause-cause
 returns-in-Ok-Empty-clause-cause g c =
-    let s = c.args.self.now in
+    let s = state_of c.args.self.now in
     let route = c.args.route.now in
     let i = g.K.Keeper.images c.args.keeper.now in
     let t = beside (g.L.Link.tells c.args.link.now) (telling (g.R.Runner.runs c.args.runner.now) (g.R.Runner.faults c.args.runner.now)) in
     subst (λ (l : Result Line LineError). HasLineCause route s l (Ok None) s t t (g.K.Keeper.faults c.args.keeper.now) (g.K.Keeper.faults c.args.keeper.now)) (sym (c.in-Ok-Empty.is ∙ ap Ok c.in-Ok-Empty.field-0-is))
-    (quietly_caused route i s (Ok Empty) (Ok None) s i (silent_quietly route.image i s c.requires (Ok Empty) (λ r. (refl, refl, refl))) t)
+    (quietly_caused route i s (Ok Empty) (Ok None) s i (silent_quietly route.image i s c.requires.0 (Ok Empty) (λ r. (refl, refl, refl))) t)
 
 pub returns-in-Ok-Quit-clause-world : goal.returns-in-Ok-Quit-clause-world
 returns-in-Ok-Quit-clause-world g c =
-    let s = c.args.self.now in
+    let s = state_of c.args.self.now in
     let route = c.args.route.now in
     let i = g.K.Keeper.images c.args.keeper.now in
     let t = beside (g.L.Link.tells c.args.link.now) (telling (g.R.Runner.runs c.args.runner.now) (g.R.Runner.faults c.args.runner.now)) in
     line_world route i s c.args.line (Ok Quit) (Ok None) s i t (c.in-Ok-Quit.is ∙ ap Ok c.in-Ok-Quit.field-0-is)
-    (silent_quietly route.image i s c.requires (Ok Quit) (λ r. (refl, refl, refl)))
+    (silent_quietly route.image i s c.requires.0 (Ok Quit) (λ r. (refl, refl, refl)))
 
 pub returns-in-Ok-Quit-clause-cause : goal.returns-in-Ok-Quit-clause-cause
 returns-in-Ok-Quit-clause-cause g c =
-    let s = c.args.self.now in
+    let s = state_of c.args.self.now in
     let route = c.args.route.now in
     let i = g.K.Keeper.images c.args.keeper.now in
     let t = beside (g.L.Link.tells c.args.link.now) (telling (g.R.Runner.runs c.args.runner.now) (g.R.Runner.faults c.args.runner.now)) in
     subst (λ (l : Result Line LineError). HasLineCause route s l (Ok None) s t t (g.K.Keeper.faults c.args.keeper.now) (g.K.Keeper.faults c.args.keeper.now)) (sym (c.in-Ok-Quit.is ∙ ap Ok c.in-Ok-Quit.field-0-is))
-    (quietly_caused route i s (Ok Quit) (Ok None) s i (silent_quietly route.image i s c.requires (Ok Quit) (λ r. (refl, refl, refl))) t)
+    (quietly_caused route i s (Ok Quit) (Ok None) s i (silent_quietly route.image i s c.requires.0 (Ok Quit) (λ r. (refl, refl, refl))) t)
 
 pub returns-in-Ok-Cat-clause-keeper : goal.returns-in-Ok-Cat-clause-keeper
 returns-in-Ok-Cat-clause-keeper g c = unkept c.cat.result (g.K.Keeper.faults c.args.keeper.now) c.cat.ensures.memory
@@ -270,67 +269,67 @@ returns-in-Ok-Enter-clause-keeper g c = unkept c.enter.result (g.K.Keeper.faults
 
 pub returns-in-Ok-Run-clause-world : goal.returns-in-Ok-Run-clause-world
 returns-in-Ok-Run-clause-world g c =
-    let s = c.args.self.now in
+    let s = state_of c.args.self.now in
     let route = c.args.route.now in
     let i = g.K.Keeper.images c.args.keeper.now in
     let j = g.K.Keeper.images c.run.new.keeper in
     let p = telling (g.R.Runner.runs c.args.runner.now) (g.R.Runner.faults c.args.runner.now) in
     let q = telling (g.R.Runner.runs c.run.new.runner) (g.R.Runner.faults c.run.new.runner) in
     let t = g.L.Link.tells c.args.link.now in
-    subst (λ (l : Result Line LineError). WentDoing route (LineEnds route s l c.run.result c.run.new.self) s c.run.new.self i j (beside t p) (beside t q)) (sym (c.in-Ok-Run.is ∙ ap Ok c.in-Ok-Run.field-0-is))
-    (run_went route c.in-Ok-Run.words s c.run.new.self c.run.result i j p q c.run.ensures.runs t)
+    subst (λ (l : Result Line LineError). WentDoing route (LineEnds route s l c.run.result (state_of c.run.new.self)) s (state_of c.run.new.self) i j (beside t p) (beside t q)) (sym (c.in-Ok-Run.is ∙ ap Ok c.in-Ok-Run.field-0-is))
+    (run_went route c.in-Ok-Run.words s (state_of c.run.new.self) c.run.result i j p q c.run.ensures.runs t)
 
 pub returns-in-Ok-Run-clause-cause : goal.returns-in-Ok-Run-clause-cause
 returns-in-Ok-Run-clause-cause g c =
-    let s = c.args.self.now in
+    let s = state_of c.args.self.now in
     let route = c.args.route.now in
     let i = g.K.Keeper.images c.args.keeper.now in
     let j = g.K.Keeper.images c.run.new.keeper in
     let p = telling (g.R.Runner.runs c.args.runner.now) (g.R.Runner.faults c.args.runner.now) in
     let q = telling (g.R.Runner.runs c.run.new.runner) (g.R.Runner.faults c.run.new.runner) in
     let t = g.L.Link.tells c.args.link.now in
-    subst (λ (l : Result Line LineError). HasLineCause route s l c.run.result c.run.new.self (beside t p) (beside t q) (g.K.Keeper.faults c.args.keeper.now) (g.K.Keeper.faults c.run.new.keeper)) (sym (c.in-Ok-Run.is ∙ ap Ok c.in-Ok-Run.field-0-is))
-    (run_caused route c.in-Ok-Run.words s c.run.new.self c.run.result i j p q c.run.ensures.runs t)
+    subst (λ (l : Result Line LineError). HasLineCause route s l c.run.result (state_of c.run.new.self) (beside t p) (beside t q) (g.K.Keeper.faults c.args.keeper.now) (g.K.Keeper.faults c.run.new.keeper)) (sym (c.in-Ok-Run.is ∙ ap Ok c.in-Ok-Run.field-0-is))
+    (run_caused route c.in-Ok-Run.words s (state_of c.run.new.self) c.run.result i j p q c.run.ensures.runs t)
 
 pub returns-in-Ok-Run-clause-runner : goal.returns-in-Ok-Run-clause-runner
-returns-in-Ok-Run-clause-runner g c = λ no. absurd (cc (sym (ap is_run (c.in-Ok-Run.is ∙ ap Ok c.in-Ok-Run.field-0-is)) ∙ no))
+returns-in-Ok-Run-clause-runner g c = λ no. absurd (cc (sym (ap asks_to_run (c.in-Ok-Run.is ∙ ap Ok c.in-Ok-Run.field-0-is)) ∙ no))
 
 pub returns-in-Ok-Sync-clause-world : goal.returns-in-Ok-Sync-clause-world
 returns-in-Ok-Sync-clause-world g c =
-    let s = c.args.self.now in
+    let s = state_of c.args.self.now in
     let route = c.args.route.now in
     let i = g.K.Keeper.images c.args.keeper.now in
     let j = g.K.Keeper.images c.sync.new.keeper in
     let ran = telling (g.R.Runner.runs c.args.runner.now) (g.R.Runner.faults c.args.runner.now) in
     let t = beside (g.L.Link.tells c.args.link.now) ran in
     let u = beside (g.L.Link.tells c.sync.new.link) ran in
-    subst (λ (l : Result Line LineError). WentDoing route (LineEnds route s l c.sync.result c.sync.new.self) s c.sync.new.self i j t u) (sym (c.in-Ok-Sync.is ∙ ap Ok c.in-Ok-Sync.field-0-is)) (c.sync.ensures.world ran)
+    subst (λ (l : Result Line LineError). WentDoing route (LineEnds route s l c.sync.result (state_of c.sync.new.self)) s (state_of c.sync.new.self) i j t u) (sym (c.in-Ok-Sync.is ∙ ap Ok c.in-Ok-Sync.field-0-is)) (c.sync.ensures.world ran)
 
 pub returns-in-Ok-Sync-clause-cause : goal.returns-in-Ok-Sync-clause-cause
 returns-in-Ok-Sync-clause-cause g c =
-    let s = c.args.self.now in
+    let s = state_of c.args.self.now in
     let route = c.args.route.now in
     let ran = telling (g.R.Runner.runs c.args.runner.now) (g.R.Runner.faults c.args.runner.now) in
     let t = beside (g.L.Link.tells c.args.link.now) ran in
     let u = beside (g.L.Link.tells c.sync.new.link) ran in
-    subst (λ (l : Result Line LineError). HasLineCause route s l c.sync.result c.sync.new.self t u (g.K.Keeper.faults c.args.keeper.now) (g.K.Keeper.faults c.sync.new.keeper)) (sym (c.in-Ok-Sync.is ∙ ap Ok c.in-Ok-Sync.field-0-is)) (c.sync.ensures.cause ran)
+    subst (λ (l : Result Line LineError). HasLineCause route s l c.sync.result (state_of c.sync.new.self) t u (g.K.Keeper.faults c.args.keeper.now) (g.K.Keeper.faults c.sync.new.keeper)) (sym (c.in-Ok-Sync.is ∙ ap Ok c.in-Ok-Sync.field-0-is)) (c.sync.ensures.cause ran)
 
 pub returns-in-Ok-Pull-clause-world : goal.returns-in-Ok-Pull-clause-world
 returns-in-Ok-Pull-clause-world g c =
-    let s = c.args.self.now in
+    let s = state_of c.args.self.now in
     let route = c.args.route.now in
     let i = g.K.Keeper.images c.args.keeper.now in
     let j = g.K.Keeper.images c.pull.new.keeper in
     let ran = telling (g.R.Runner.runs c.args.runner.now) (g.R.Runner.faults c.args.runner.now) in
     let t = beside (g.L.Link.tells c.args.link.now) ran in
     let u = beside (g.L.Link.tells c.pull.new.link) ran in
-    subst (λ (l : Result Line LineError). WentDoing route (LineEnds route s l c.pull.result c.pull.new.self) s c.pull.new.self i j t u) (sym (c.in-Ok-Pull.is ∙ ap Ok c.in-Ok-Pull.field-0-is)) (c.pull.ensures.world ran)
+    subst (λ (l : Result Line LineError). WentDoing route (LineEnds route s l c.pull.result (state_of c.pull.new.self)) s (state_of c.pull.new.self) i j t u) (sym (c.in-Ok-Pull.is ∙ ap Ok c.in-Ok-Pull.field-0-is)) (c.pull.ensures.world ran)
 
 pub returns-in-Ok-Pull-clause-cause : goal.returns-in-Ok-Pull-clause-cause
 returns-in-Ok-Pull-clause-cause g c =
-    let s = c.args.self.now in
+    let s = state_of c.args.self.now in
     let route = c.args.route.now in
     let ran = telling (g.R.Runner.runs c.args.runner.now) (g.R.Runner.faults c.args.runner.now) in
     let t = beside (g.L.Link.tells c.args.link.now) ran in
     let u = beside (g.L.Link.tells c.pull.new.link) ran in
-    subst (λ (l : Result Line LineError). HasLineCause route s l c.pull.result c.pull.new.self t u (g.K.Keeper.faults c.args.keeper.now) (g.K.Keeper.faults c.pull.new.keeper)) (sym (c.in-Ok-Pull.is ∙ ap Ok c.in-Ok-Pull.field-0-is)) (c.pull.ensures.cause ran)
+    subst (λ (l : Result Line LineError). HasLineCause route s l c.pull.result (state_of c.pull.new.self) t u (g.K.Keeper.faults c.args.keeper.now) (g.K.Keeper.faults c.pull.new.keeper)) (sym (c.in-Ok-Pull.is ∙ ap Ok c.in-Ok-Pull.field-0-is)) (c.pull.ensures.cause ran)

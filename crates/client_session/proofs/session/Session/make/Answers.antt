@@ -1,12 +1,12 @@
 use Rattle.std.proofs.Common.{ap, subst}
 use Rattle.file_paths.specs.Path.{FilePath}
-use Rattle.client_session.specs.Session.{SessionState, make_effect}
-use Rattle.client_session.specs.Inside.{Logs}
+use Rattle.client_session.specs.Session.{Sitting, state_of, make_effect}
+use Rattle.client_session.specs.Inside.{LogsOrRefuses}
 use Rattle.client_session.proofs.session.Session.make.Goals as goal
 
 pub returns-clause-logs : goal.returns-clause-logs
 returns-clause-logs g c =
     let i = g.K.Keeper.images c.args.keeper.now in
     let j = g.K.Keeper.images c.log.new.keeper in
-    subst (λ (folder : FilePath). Logs c.args.image.now (make_effect folder c.args.path.now) c.args.self.now c.log.result c.log.new.self i j) (ap (λ (s : SessionState). s.folder) c.self.view_is)
+    subst (λ (folder : FilePath). LogsOrRefuses c.args.image.now (make_effect folder c.args.path.now) (state_of c.args.self.now) c.log.result (state_of c.log.new.self) i j) (ap (λ (s : Sitting). s.folder) c.self.view_is)
     (c.log.ensures.logs (make_effect c.self.inside.folder c.args.path.now) c.make_effect-made.ensures)

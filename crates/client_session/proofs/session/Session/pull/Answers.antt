@@ -1,38 +1,38 @@
 use Rattle.std.proofs.Common.{ℕ, Ok, IfOk, refl, sym, subst}
-use Rattle.client_core.specs.Keeping.{IsKept}
+use Rattle.client_core.specs.Keeping.{IsKept, IsReady}
 use Rattle.shell_lang.specs.declared.line.Line.TheVariants.{Pull}
-use Rattle.client_session.specs.Session.{SessionState}
+use Rattle.client_session.specs.Session.{SessionState, Sitting, state_of}
 use Rattle.client_session.specs.Doing.{beside, WentDoing, LineEnds}
 use Rattle.client_session.specs.Causes.{HasLineCause}
-use Rattle.client_session.proofs.Turning.{pull_went, pull_cause, pull_kept, pull_counts}
+use Rattle.client_session.proofs.Turning.{pull_went, pull_cause, pull_kept, both_ok, pull_counts}
 use Rattle.client_session.proofs.session.Session.pull.Goals as goal
 
 pub returns-clause-world : goal.returns-clause-world
 returns-clause-world g c =
     let route = c.args.route.now in
-    let before : SessionState = record { client = c.self.inside.client; folder = c.self.inside.folder } in
-    let after : SessionState = record { client = c.pull-end.new.self; folder = c.self.inside.folder } in
+    let before : SessionState = state_of (record { client = c.self.inside.client; folder = c.self.inside.folder }) in
+    let after : SessionState = state_of (record { client = c.pull-end.new.self; folder = c.self.inside.folder }) in
     let i = g.K.Keeper.images c.args.keeper.now in
     let j = g.K.Keeper.images c.pull-end.new.keeper in
     let t = g.L.Link.tells c.args.link.now in
     let u = g.L.Link.tells c.pull-end.new.link in
     let r = c.answered.result in
     λ runner.
-    subst (λ (s : SessionState). WentDoing route (LineEnds route s (Ok Pull) r after) s after i j (beside t runner) (beside u runner)) c.self.view_is
+    subst (λ (s : Sitting). WentDoing route (LineEnds route (state_of s) (Ok Pull) r after) (state_of s) after i j (beside t runner) (beside u runner)) c.self.view_is
     (pull_went route before after i j t u c.pull-end.ensures.number refl c.pull-end.result c.is_pull_fault-fault.result c.pull_answer.result r c.pull_answer.ensures c.answered.ensures c.pull-end.ensures.world runner)
 
 pub returns-clause-cause : goal.returns-clause-cause
 returns-clause-cause g c =
     let route = c.args.route.now in
-    let before : SessionState = record { client = c.self.inside.client; folder = c.self.inside.folder } in
-    let after : SessionState = record { client = c.pull-end.new.self; folder = c.self.inside.folder } in
+    let before : SessionState = state_of (record { client = c.self.inside.client; folder = c.self.inside.folder }) in
+    let after : SessionState = state_of (record { client = c.pull-end.new.self; folder = c.self.inside.folder }) in
     let t = g.L.Link.tells c.args.link.now in
     let u = g.L.Link.tells c.pull-end.new.link in
     let p = g.K.Keeper.faults c.args.keeper.now in
     let q = g.K.Keeper.faults c.pull-end.new.keeper in
     let r = c.answered.result in
     λ runner.
-    subst (λ (s : SessionState). HasLineCause route s (Ok Pull) r after (beside t runner) (beside u runner) p q) c.self.view_is
+    subst (λ (s : Sitting). HasLineCause route (state_of s) (Ok Pull) r after (beside t runner) (beside u runner) p q) c.self.view_is
     (pull_cause route before after t u p q c.pull-end.ensures.number refl c.pull-end.result c.is_pull_fault-fault.result c.pull_answer.result r c.pull_answer.ensures c.is_pull_fault-fault.ensures c.answered.ensures
     c.pull-end.ensures.cause runner)
 
@@ -44,8 +44,10 @@ returns-clause-kept g c =
     let i = g.K.Keeper.images c.args.keeper.now in
     let j = g.K.Keeper.images c.pull-end.new.keeper in
     let r = c.answered.result in
-    subst (λ (n : ℕ). IfOk r (λ answer. IsKept j image n after.log)) (sym c.pull-end.ensures.number)
-    (pull_kept image before.number before.log after.log c.pull-end.result i j c.is_pull_fault-fault.result c.pull_answer.result r c.pull_answer.ensures c.answered.ensures c.pull-end.ensures.keeps)
+    both_ok r (IsKept j image after.number after.log) (IsReady j image after)
+    (subst (λ (n : ℕ). IfOk r (λ answer. IsKept j image n after.log)) (sym c.pull-end.ensures.number)
+    (pull_kept image before.number before.log after.log c.pull-end.result i j c.is_pull_fault-fault.result c.pull_answer.result r c.pull_answer.ensures c.answered.ensures c.pull-end.ensures.keeps))
+    c.pull-end.ensures.ready
 
 pub returns-clause-keeper : goal.returns-clause-keeper
 returns-clause-keeper g c =

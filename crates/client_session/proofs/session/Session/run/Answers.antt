@@ -3,18 +3,18 @@ use Rattle.file_paths.specs.Path.{FilePath}
 use Rattle.cmd_capture.specs.declared.capturing.CaptureError.TheVariants.{Memory}
 use Rattle.cmd_capture.specs.Capture.{capture}
 use Rattle.client_core.specs.Goes.{telling}
-use Rattle.client_session.specs.Session.{SessionState}
+use Rattle.client_session.specs.Session.{Sitting, state_of}
 use Rattle.client_session.proofs.Commanding.{capture_given}
 use Rattle.client_session.proofs.session.Session.run.Goals as goal
 
 pub returns-in-Ok-clause-runs : goal.returns-in-Ok-clause-runs
 returns-in-Ok-clause-runs g c =
     let words = c.args.words.now in
-    c.run_command.ensures.runs words (subst (λ (folder : FilePath). capture words folder ≡ Ok c.in-Ok.command) (ap (λ (s : SessionState). s.folder) c.self.view_is) c.in-Ok.ensures.ok)
+    c.run_command.ensures.runs words (subst (λ (folder : FilePath). capture words folder ≡ Ok c.in-Ok.command) (ap (λ (s : Sitting). s.folder) c.self.view_is) c.in-Ok.ensures.ok)
 
 pub returns-in-Err-clause-runs : goal.returns-in-Err-clause-runs
 returns-in-Err-clause-runs g c =
     let words = c.args.words.now in
     let p = telling (g.R.Runner.runs c.args.runner.now) (g.R.Runner.faults c.args.runner.now) in
-    capture_given c.args.route.now words c.args.self.now (g.K.Keeper.images c.args.keeper.now) c.requires p c.in-Err.refusal c.capture_answer.result c.given.result
-    (subst (λ (folder : FilePath). c.in-Err.refusal ≢ Memory → capture words folder ≡ Err c.in-Err.refusal) (ap (λ (s : SessionState). s.folder) c.self.view_is) c.in-Err.ensures.err) c.capture_answer.ensures c.given.ensures
+    capture_given c.args.route.now words (state_of c.args.self.now) (g.K.Keeper.images c.args.keeper.now) c.requires.0 p c.in-Err.refusal c.capture_answer.result c.given.result
+    (subst (λ (folder : FilePath). c.in-Err.refusal ≢ Memory → capture words folder ≡ Err c.in-Err.refusal) (ap (λ (s : Sitting). s.folder) c.self.view_is) c.in-Err.ensures.err) c.capture_answer.ensures c.given.ensures
