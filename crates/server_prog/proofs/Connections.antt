@@ -1,18 +1,26 @@
 -- Connections that are served one after the other.
-use Rattle.std.proofs.Common.{◌≡◌, ◌≤◌, ◌<◌, ℕ, ◌+◌, List, [], ◌∷◌, ◌++◌, map, refl, sym, ap, subst}
+use Rattle.std.proofs.Common.{◌≡◌, ◌≤◌, ◌<◌, ◌⊎◌, inl, inr, ℕ, ◌+◌, Bool, ◌||◌, List, [], ◌∷◌, ◌++◌, map, None, Some, refl, sym, ◌∙◌, ap, subst}
 use Rattle.std.proofs.lemmas.List.{append-nil}
+use Rattle.std.specs.Prelude.{Vec}
+use Rattle.std.specs.declared.alloc.Global.{Global}
 use Rattle.outside.specs.Outside.{Told}
+use Rattle.outside.specs.Port.{PortTelling}
 use Rattle.port_serving.specs.declared.serving.Came.{Came}
 use Rattle.port_serving.specs.declared.serving.Came.TheVariants as came
+use Rattle.port_serving.specs.declared.serving.Taking.{Taking}
+use Rattle.port_serving.specs.declared.serving.Taking.TheVariants as taking
 use Rattle.port_serving.specs.declared.serving.Tally.{Tally}
-use Rattle.port_serving.specs.Serving.{Connection, Missed, exchanges, frames_taken, connection_of, Uses, tallied}
+use Rattle.port_serving.specs.Serving.{Connection, Missed, Answered, exchanges, frames_taken, connection_of, Uses, IsAtHand, Takes, Replies, tallied}
 use Rattle.port_serving.specs.Inside.{UsesSoFar}
 use Rattle.port_serving.proofs.Connections as ports
 use Rattle.world_rules.specs.Served.{Served}
-use Rattle.server_core.specs.Framing.{frame_after, frames_after, change}
-use Rattle.server_prog.specs.Serving.{ServedBy, KeptAs, Serves, Telling}
-use Rattle.server_prog.specs.Inside.{ServesNext, BreaksOff, ServesSoFar, ServesAll, ServesFront}
-use Rattle.server_prog.proofs.Kept.{Kept, kept_same, kept_more}
+use Rattle.server_core.specs.Framing.{frame_answer, frame_after, frames_after, takes, change}
+use Rattle.server_prog.specs.declared.journal.Journal.{Journal}
+use Rattle.server_prog.specs.declared.journal.Journal.TheVariants.{Unsaved}
+use Rattle.server_prog.specs.Serving.{ServedBy, KeptAs, IsKeptAfter, PerhapsKept, ServesConnections, ServerTelling}
+use Rattle.server_prog.specs.Inside.{is_saved, Journals, KeepsOn, ServerMayKeep, ServesNext, BreaksConnection, ServesSoFar, ServesAll, ServesFront}
+use Rattle.server_prog.proofs.Appending.{still}
+use Rattle.server_prog.proofs.Kept.{Kept, kept_same, told_then, told_with, or_false, change-append, kept_more, perhaps_more, kept_one, perhaps_one}
 
 -- ---- replies in a row
 
@@ -25,65 +33,148 @@ after_pairs [] s t served = served
 after_pairs (pair ∷ pairs) s t served = after_pairs pairs (frame_after pair.0 s) t served.1
 
 -- the state is that after the frames
-pub holds : (xs : List Connection) (s t : Served) (a b : Kept) → Serves xs s t a b → t ≡ frames_after (frames_taken xs) s
-holds xs s t a b serves = after_pairs (exchanges xs) s t serves.replies
+pub holds : (xs : List Connection) (s t : Served) → ServedBy (exchanges xs) s t → t ≡ frames_after (frames_taken xs) s
+holds xs s t replies = after_pairs (exchanges xs) s t replies
 
-pub serves_none : (s : Served) (kept : Kept) → Serves [] s s kept kept
+pub serves_none : (s : Served) (kept : Kept) → ServesConnections [] s s kept kept
 serves_none s kept = record { replies = refl; kept = kept_same kept s }
 
-pub serves_more : (xs ys : List Connection) (s t u : Served) (a b c : Kept) → Serves xs s t a b → Serves ys t u b c → Serves (xs ++ ys) s u a c
+pub serves_more : (xs ys : List Connection) (s t u : Served) (a b c : Kept) → ServesConnections xs s t a b → ServesConnections ys t u b c → ServesConnections (xs ++ ys) s u a c
 serves_more xs ys s t u a b c first second = record {
   replies = subst (λ (l : List (List ℕ × List ℕ)). ServedBy l s u) (sym (ports.exchanges-append xs ys)) (served_more (exchanges xs) (exchanges ys) s t u first.replies second.replies);
   kept =
       subst (λ (l : List (List ℕ)). Told a c (KeptAs (change l s) u)) (sym (ports.frames_taken-append xs ys))
-      (kept_more (frames_taken xs) (frames_taken ys) s t u a b c (holds xs s t a b first) (holds ys t u b c second) first.kept second.kept);
+      (kept_more (frames_taken xs) (frames_taken ys) s t u a b c (holds xs s t first.replies) (holds ys t u second.replies) first.kept second.kept);
 }
 
 -- ---- one connection
 
-pub none_left : (s : Served) (a b : Telling) → b.port.left ≡ 0 → Uses [] a.port b.port → b.kept ≡ a.kept → ServesNext came.NoConnection s s a b
-none_left s a b left uses same = record { frame = []; reply = []; uses = uses; serves = subst (λ (k : Kept). Serves [] s s a.kept k) (sym same) (serves_none s a.kept); none = λ _. left }
+-- a frame that was taken is at hand
+pub is_at_hand : (how : Taking) (frame : Vec ℕ Global) (a b : PortTelling) → how ≡ taking.Taken frame → Takes how a b → IsAtHand (frame.items ∷ []) a b
+is_at_hand how frame a b is leads = subst (λ (t : Taking). Takes t a b) is leads
 
-pub was_missed : (s : Served) (a b : Telling) → Uses (Missed ∷ []) a.port b.port → b.kept ≡ a.kept → ServesNext came.Missed s s a b
-was_missed s a b uses same = record { frame = []; reply = []; uses = uses; serves = record { replies = refl; kept = subst (λ (k : Kept). Told a.kept k (KeptAs (change [] s) s)) (sym same) (kept_same a.kept s) }; none = λ is. absurd (cc is) }
+module _ (j : Journal) (s : Served) (a b : ServerTelling) where
+  -- nothing was kept
+  stays : Journals j s a.kept → b.kept ≡ a.kept → Journals j s b.kept
+  stays journals same = subst (Journals j s) (sym same) journals
+
+  pub none_left : Journals j s a.kept → b.port.left ≡ 0 → Uses [] a.port b.port → b.kept ≡ a.kept → ServesNext came.NoConnection j j s s a b
+  none_left journals left uses same = record {
+    frame = [];
+    reply = [];
+    uses = uses;
+    serves = subst (λ (k : Kept). ServesConnections [] s s a.kept k) (sym same) (serves_none s a.kept);
+    none = λ _. left;
+    journals = stays journals same;
+    saved = sym (or_false (is_saved j));
+  }
+
+  pub was_missed : Journals j s a.kept → Uses (Missed ∷ []) a.port b.port → b.kept ≡ a.kept → ServesNext came.Missed j j s s a b
+  was_missed journals uses same = record {
+    frame = [];
+    reply = [];
+    uses = uses;
+    serves = record { replies = refl; kept = subst (λ (k : Kept). Told a.kept k (KeptAs (change [] s) s)) (sym same) (kept_same a.kept s) };
+    none = λ is. absurd (cc is);
+    journals = stays journals same;
+    saved = sym (or_false (is_saved j));
+  }
+
+  -- no frame was taken
+  pub breaks_before : IsAtHand [] a.port b.port → b.kept ≡ a.kept → BreaksConnection j s a b
+  breaks_before at_hand same = record { frames = []; at_hand = at_hand; kept = by a.kept b.kept same }
+    where
+      by : (k l : Kept) → l ≡ k → Told k l (λ o n. KeptAs (is_saved j) s o n ⊎ (n ≡ o))
+      by None l same = same
+      by (Some o) None same = absurd (cc same)
+      by (Some o) (Some n) same = inr cc
+
+  -- the frame was not served
+  pub breaks_unserved : (frame : List ℕ) → Journals j s a.kept → IsAtHand (frame ∷ []) a.port b.port → b.kept ≡ a.kept → BreaksConnection j s a b
+  breaks_unserved frame journals at_hand same = record {
+    frames = frame ∷ [];
+    at_hand = at_hand;
+    kept =
+        subst (λ (k : Kept). Told a.kept k (λ o n. KeptAs (is_saved j) s o n ⊎ IsKeptAfter (frame ∷ []) s o n)) (sym same)
+        (told_with a.kept a.kept (KeptAs (is_saved j) s) (λ o n. KeptAs (is_saved j) s o n ⊎ IsKeptAfter (frame ∷ []) s o n) (λ o n k. inl k) (still j s a.kept journals));
+  }
+
+  module _ (changed : Bool) (frame : List ℕ) (t : Served) (is : changed ≡ takes frame s) (after : t ≡ frame_after frame s) where
+    -- its change was not kept
+    pub breaks_unkept : IsAtHand (frame ∷ []) a.port b.port → ServerMayKeep changed j s t a.kept b.kept → BreaksConnection j s a b
+    breaks_unkept at_hand may = record { frames = frame ∷ []; at_hand = at_hand; kept = perhaps_one changed (is_saved j) frame s t a.kept b.kept is after may }
+
+    -- it was not answered
+    pub breaks_unanswered : (next : Journal) → IsAtHand (frame ∷ []) a.port b.port → KeepsOn changed j next t a.kept b.kept → BreaksConnection j s a b
+    breaks_unanswered next at_hand keeps =
+        breaks_unkept at_hand (told_with a.kept b.kept (KeptAs changed t) (λ o n. KeptAs (is_saved j) s o n ⊎ KeptAs changed t o n) (λ o n k. inr k) keeps.kept)
+
+    -- it was answered, or the port failed to
+    pub was_served : (how : Came) (reply : List ℕ) (next : Journal) → Replies how frame reply a.port b.port → reply ≡ frame_answer frame s → KeepsOn changed j next t a.kept b.kept → ServesNext how j next s t a b
+    was_served how reply next replies answers keeps = by how replies.is replies.uses
+      where
+        one : ServesConnections (Answered frame reply ∷ []) s t a.kept b.kept
+        one = record { replies = (answers, after); kept = kept_one changed frame s t a.kept b.kept is keeps.kept }
+
+        saved : is_saved next ≡ (is_saved j || change (frame ∷ []) s)
+        saved = keeps.saved ∙ ap (λ c. is_saved j || c) (is ∙ sym (or_false (takes frame s)))
+
+        by : (how : Came) → (how ≡ came.Unanswered) ⊎ (how ≡ came.Answered) → Uses (connection_of how frame reply) a.port b.port → ServesNext how j next s t a b
+        by came.NoConnection (inl is) uses = absurd (cc is)
+        by came.NoConnection (inr is) uses = absurd (cc is)
+        by came.Missed (inl is) uses = absurd (cc is)
+        by came.Missed (inr is) uses = absurd (cc is)
+        by came.Unanswered is uses = record { frame = frame; reply = reply; uses = uses; serves = record { replies = one.replies; kept = one.kept }; none = λ is. absurd (cc is); journals = keeps.journals; saved = saved }
+        by came.Answered is uses = record { frame = frame; reply = reply; uses = uses; serves = one; none = λ is. absurd (cc is); journals = keeps.journals; saved = saved }
 
 -- ---- so far
 
 -- nothing was taken yet
-pub so_far_begins : (tally : Tally) (s : Served) (a : Telling) → tally ≡ record { frames = 0; faults = 0 } → ServesSoFar 0 tally s s a a
+pub so_far_begins : (tally : Tally) (s : Served) (a : ServerTelling) → tally ≡ record { frames = 0; faults = 0 } → ServesSoFar 0 tally Unsaved s s a a
 so_far_begins tally s a none = record {
   connections = [];
   port = subst (λ (t : Tally). UsesSoFar 0 t [] a.port a.port) (sym none) (ports.so_far_none a.port);
   serves = serves_none s a.kept;
+  journals = tt;
+  saved = refl;
 }
 
 -- one more take
-pub so_far_next : (takes : ℕ) (tally new : Tally) (how : Came) (s t u : Served) (a b c : Telling) → (how ≡ came.NoConnection → ⊥) → new ≡ tallied tally how → ServesSoFar takes tally s t a b → ServesNext how t u b c
-    → ServesSoFar (takes + 1) new s u a c
-so_far_next takes tally new how s t u a b c other is before one = record {
-  connections = before.connections ++ connection_of how one.frame one.reply;
-  port = ports.so_far_next takes tally new how one.frame one.reply before.connections a.port b.port c.port other is before.port one.uses;
-  serves = serves_more before.connections (connection_of how one.frame one.reply) s t u a.kept b.kept c.kept before.serves one.serves;
-}
+pub so_far_next : (takes : ℕ) (tally new : Tally) (how : Came) (j k : Journal) (s t u : Served) (a b c : ServerTelling) → (how ≡ came.NoConnection → ⊥) → new ≡ tallied tally how → ServesSoFar takes tally j s t a b → ServesNext how j k t u b c
+    → ServesSoFar (takes + 1) new k s u a c
+so_far_next takes tally new how j k s t u a b c other is before one =
+    let last = connection_of how one.frame one.reply in
+    let xs = frames_taken before.connections in
+    let state : t ≡ frames_after xs s = holds before.connections s t before.serves.replies in
+    let more : change (xs ++ frames_taken last) s ≡ (change xs s || change (frames_taken last) t) = change-append xs (frames_taken last) s ∙ ap (λ v. change xs s || change (frames_taken last) v) (sym state) in
+    record {
+      connections = before.connections ++ last;
+      port = ports.so_far_next takes tally new how one.frame one.reply before.connections a.port b.port c.port other is before.port one.uses;
+      serves = serves_more before.connections last s t u a.kept b.kept c.kept before.serves one.serves;
+      journals = one.journals;
+      saved =
+          one.saved ∙ ap (λ p. p || change (frames_taken last) t) before.saved ∙ sym more
+          ∙ ap (λ fs. change fs s) (sym (ports.frames_taken-append before.connections last));
+    }
 
 -- no connection is left
-pub all_came : (count takes : ℕ) (tally : Tally) (how : Came) (s t u : Served) (a b c : Telling) → takes ≤ count → how ≡ came.NoConnection → ServesSoFar takes tally s t a b → ServesNext how t u b c → ServesAll count tally s u a c
-all_came count takes tally how s t u a b c few is before one =
+pub all_came : (count takes : ℕ) (tally : Tally) (how : Came) (j k : Journal) (s t u : Served) (a b c : ServerTelling) → takes ≤ count → how ≡ came.NoConnection → ServesSoFar takes tally j s t a b → ServesNext how j k t u b c → ServesAll count tally s u a c
+all_came count takes tally how j k s t u a b c few is before one =
     let none : connection_of how one.frame one.reply ≡ [] = ap (λ (h : Came). connection_of h one.frame one.reply) is in
     let uses = subst (λ (xs : List Connection). Uses xs b.port c.port) none one.uses in
-    let serves = subst (λ (xs : List Connection). Serves xs t u b.kept c.kept) none one.serves in
+    let serves = subst (λ (xs : List Connection). ServesConnections xs t u b.kept c.kept) none one.serves in
     record {
       connections = before.connections;
       port = ports.all_left count takes tally before.connections a.port b.port c.port few before.port uses (one.none is);
       counts = before.port.counts;
       serves =
-          subst (λ (xs : List Connection). Serves xs s u a.kept c.kept) (append-nil before.connections)
+          subst (λ (xs : List Connection). ServesConnections xs s u a.kept c.kept) (append-nil before.connections)
           (serves_more before.connections [] s t u a.kept b.kept c.kept before.serves serves);
     }
 
 -- all takes were made
-pub all_made : (count takes : ℕ) (tally : Tally) (s t : Served) (a b : Telling) → takes ≡ count → ServesSoFar takes tally s t a b → ServesAll count tally s t a b
-all_made count takes tally s t a b full before = record {
+pub all_made : (count takes : ℕ) (tally : Tally) (j : Journal) (s t : Served) (a b : ServerTelling) → takes ≡ count → ServesSoFar takes tally j s t a b → ServesAll count tally s t a b
+all_made count takes tally j s t a b full before = record {
   connections = before.connections;
   port = ports.all_made count takes tally before.connections a.port b.port full before.port;
   counts = before.port.counts;
@@ -91,13 +182,16 @@ all_made count takes tally s t a b full before = record {
 }
 
 -- the next take was broken off
-pub front : (count takes : ℕ) (tally : Tally) (s t : Served) (a b c : Telling) → takes < count → ServesSoFar takes tally s t a b → BreaksOff t b c → ServesFront count s a c
-front count takes tally s t a b c more before broken = record {
-  connections = before.connections;
-  frames = broken.frames;
-  port = ports.front count takes tally before.connections broken.frames a.port b.port c.port more before.port broken.at_hand;
-  after = t;
-  middle = b.kept;
-  serves = before.serves;
-  kept = broken.kept;
-}
+pub front : (count takes : ℕ) (tally : Tally) (j : Journal) (s t : Served) (a b c : ServerTelling) → takes < count → ServesSoFar takes tally j s t a b → BreaksConnection j t b c → ServesFront count s a c
+front count takes tally j s t a b c more before broken =
+    let fs = frames_taken before.connections in
+    record {
+      connections = before.connections;
+      frames = broken.frames;
+      port = ports.front count takes tally before.connections broken.frames a.port b.port c.port more before.port broken.at_hand;
+      after = t;
+      replies = before.serves.replies;
+      kept =
+          told_then a.kept b.kept c.kept (KeptAs (change fs s) t) (λ o n. KeptAs (is_saved j) t o n ⊎ IsKeptAfter broken.frames t o n) (PerhapsKept fs broken.frames s)
+          (perhaps_more fs broken.frames (is_saved j) s t (holds before.connections s t before.serves.replies) before.saved) before.serves.kept broken.kept;
+    }

@@ -1,17 +1,17 @@
 -- What is kept while frames are served.
-use Rattle.std.proofs.Common.{◌≡◌, ◌⊎◌, inl, inr, ℕ, Bool, true, false, ◌||◌, List, [], ◌∷◌, ◌++◌, Option, None, Some, Result, Ok, Err, OnOk, OnErr, refl, sym, ◌∙◌, ap, subst, true≢false}
+use Rattle.std.proofs.Common.{◌≡◌, ◌⊎◌, inl, inr, ℕ, Bool, true, false, ◌||◌, List, [], ◌∷◌, ◌++◌, Option, None, Some, refl, sym, ◌∙◌, ap, subst, true≢false}
 use Rattle.outside.specs.Outside.{Told}
-use Rattle.outside.specs.Keeper.{Images, IsPut, Saves, kept_under}
 use Rattle.world_rules.specs.Served.{Served}
 use Rattle.server_core.specs.Framing.{frame_after, frames_after, takes, change}
 use Rattle.server_core.specs.Keeping.{IsKeptForServed}
 use Rattle.server_core.proofs.Noting.{taken_frames_change}
-use Rattle.server_prog.specs.Serving.{KeptAs}
+use Rattle.server_prog.specs.Serving.{KeptAs, IsKeptAfter, PerhapsKept}
 
 -- what is kept under a name, told or not
 abbrev pub Kept : Type 0
 Kept = Option (Option (List ℕ))
 
+-- nothing was kept
 pub kept_same : (k : Kept) (s : Served) → Told k k (KeptAs false s)
 kept_same None s = refl
 kept_same (Some x) s = refl
@@ -39,7 +39,7 @@ either : (a b : Bool) → (a || b) ≡ false → (a ≡ false) × (b ≡ false)
 either true b e = absurd (true≢false e)
 either false b e = (refl, e)
 
-or_false : (a : Bool) → (a || false) ≡ a
+pub or_false : (a : Bool) → (a || false) ≡ a
 or_false true = refl
 or_false false = refl
 
@@ -63,7 +63,15 @@ unchanged (f ∷ frames) s none =
 pub kept_both : (p q : Bool) (t u : Served) → (q ≡ false → u ≡ t) → (x y z : Option (List ℕ)) → KeptAs p t x y → KeptAs q u y z → KeptAs (p || q) u x z
 kept_both false q t u same x y z first second = subst (λ (k : Option (List ℕ)). KeptAs q u k z) first second
 kept_both true true t u same x y z first second = second
-kept_both true false t u same x y z first second = (first.0, second ∙ first.1, subst (λ (s : Served). IsKeptForServed s first.0) (sym (same refl)) first.2)
+kept_both true false t u same x y z first second =
+    record { bytes = first.bytes; here = second ∙ first.here; kept = subst (λ (s : Served). IsKeptForServed s first.bytes) (sym (same refl)) first.kept; small = first.small }
+
+-- no more than before was kept
+pub kept_again : (p q : Bool) (t : Served) → q ≡ p → (x y z : Option (List ℕ)) → KeptAs p t x y → KeptAs q t y z → KeptAs p t x z
+kept_again false false t is x y z first second = second ∙ first
+kept_again false true t is x y z first second = absurd (true≢false is)
+kept_again true false t is x y z first second = absurd (true≢false (sym is))
+kept_again true true t is x y z first second = second
 
 pub kept_more : (xs ys : List (List ℕ)) (s t u : Served) (a b c : Kept) → t ≡ frames_after xs s → u ≡ frames_after ys t → Told a b (KeptAs (change xs s) t) → Told b c (KeptAs (change ys t) u) → Told a c (KeptAs (change (xs ++ ys) s) u)
 kept_more xs ys s t u a b c is is' first second =
@@ -71,44 +79,24 @@ kept_more xs ys s t u a b c is is' first second =
     subst (λ (p : Bool). Told a c (KeptAs p u)) (sym both)
     (told_then a b c (KeptAs (change xs s) t) (KeptAs (change ys t) u) (KeptAs (change xs s || change ys t) u) (kept_both (change xs s) (change ys t) t u (λ none. is' ∙ unchanged ys t none)) first second)
 
+-- what is kept where the frames at hand may be missing
+pub perhaps_more : (fs hs : List (List ℕ)) (saved : Bool) (s t : Served) → t ≡ frames_after fs s → saved ≡ change fs s → (x y z : Option (List ℕ)) → KeptAs (change fs s) t x y → KeptAs saved t y z ⊎ IsKeptAfter hs t y z → PerhapsKept fs hs s x z
+perhaps_more fs hs saved s t is same x y z first (inl second) = inl (subst (λ (u : Served). KeptAs (change fs s) u x z) is (kept_again (change fs s) saved t same x y z first second))
+perhaps_more fs hs saved s t is same x y z first (inr second) =
+    let both = kept_both (change fs s) (change hs t) t (frames_after hs t) (unchanged hs t) x y z first second in
+    let changes : change (fs ++ hs) s ≡ (change fs s || change hs t) = change-append fs hs s ∙ ap (λ u. change fs s || change hs u) (sym is) in
+    let state : frames_after hs t ≡ frames_after (fs ++ hs) s = ap (frames_after hs) is ∙ sym (frames_after-append fs hs s) in
+    inr (subst (λ (b : Bool). KeptAs b (frames_after (fs ++ hs) s) x z) (sym changes) (subst (λ (u : Served). KeptAs (change fs s || change hs t) u x z) state both))
+
 -- ---- one frame
 
 -- what is kept of a frame that was taken
 pub kept_one : (changed : Bool) (frame : List ℕ) (s t : Served) (a b : Kept) → changed ≡ takes frame s → Told a b (KeptAs changed t) → Told a b (KeptAs (change (frame ∷ []) s) t)
 kept_one changed frame s t a b is kept = subst (λ (p : Bool). Told a b (KeptAs p t)) (is ∙ sym (or_false (takes frame s))) kept
 
--- what is kept where serving was broken off
-abbrev pub PerhapsAs : Bool → Served → Option (List ℕ) → Option (List ℕ) → Type 0
-PerhapsAs changed t o n = (n ≡ o) ⊎ KeptAs changed t o n
-
-pub perhaps_same : (k : Kept) (frames : List (List ℕ)) (s t : Served) → Told k k (PerhapsAs (change frames s) t)
-perhaps_same None frames s t = refl
-perhaps_same (Some x) frames s t = inl refl
-
-pub perhaps_one : (changed : Bool) (frame : List ℕ) (s t : Served) (a b : Kept) → changed ≡ takes frame s → t ≡ frame_after frame s → Told a b (PerhapsAs changed t) → Told a b (PerhapsAs (change (frame ∷ []) s) (frames_after (frame ∷ []) s))
-perhaps_one changed frame s t a b is after kept = subst (λ (p : Bool). Told a b (PerhapsAs p (frame_after frame s))) (is ∙ sym (or_false (takes frame s))) (subst (λ (v : Served). Told a b (PerhapsAs changed v)) after kept)
-
-pub perhaps_kept : (changed : Bool) (frame : List ℕ) (s t : Served) (a b : Kept) → changed ≡ takes frame s → t ≡ frame_after frame s → Told a b (KeptAs changed t) → Told a b (PerhapsAs (change (frame ∷ []) s) (frames_after (frame ∷ []) s))
-perhaps_kept changed frame s t a b is after kept = perhaps_one changed frame s t a b is after (told_with a b (KeptAs changed t) (PerhapsAs changed t) (λ x y k. inr k) kept)
-
--- ---- a save
-
-pub saved : {T E : Type 0} (result : Result T E) (name image : List ℕ) (old new : Option Images) (s : Served) → IsKeptForServed s image → Told old new (λ o n. Saves name image result o n)
-    → OnOk result (Told (kept_under name old) (kept_under name new) (KeptAs true s))
-saved (Ok done) name image None None s kept told = refl
-saved (Ok done) name image None (Some n) s kept told = absurd (cc told)
-saved (Ok done) name image (Some o) None s kept told = absurd told
-saved (Ok done) name image (Some o) (Some n) s kept told = (image, told.here, kept)
-saved (Err e) name image old new s kept told = tt
-
-pub not_saved : {T E : Type 0} (result : Result T E) (name image : List ℕ) (old new : Option Images) (s : Served) → IsKeptForServed s image → Told old new (λ o n. Saves name image result o n)
-    → OnErr result (Told (kept_under name old) (kept_under name new) (PerhapsAs true s))
-not_saved (Ok done) name image old new s kept told = tt
-not_saved (Err e) name image None None s kept told = refl
-not_saved (Err e) name image None (Some n) s kept told = absurd (cc told)
-not_saved (Err e) name image (Some o) None s kept told = absurd told
-not_saved (Err e) name image (Some o) (Some n) s kept told = by told
-  where
-    by : (n ≡ o) ⊎ IsPut name image o n → (n name ≡ o name) ⊎ KeptAs true s (o name) (n name)
-    by (inl same) = inl (ap (λ (f : Images). f name) same)
-    by (inr put) = inr (image, put.here, kept)
+-- where its keeping was refused
+pub perhaps_one : (changed saved : Bool) (frame : List ℕ) (s t : Served) (a b : Kept) → changed ≡ takes frame s → t ≡ frame_after frame s → Told a b (λ o n. KeptAs saved s o n ⊎ KeptAs changed t o n)
+    → Told a b (λ o n. KeptAs saved s o n ⊎ IsKeptAfter (frame ∷ []) s o n)
+perhaps_one changed saved frame s t a b is after kept =
+    subst (λ (p : Bool). Told a b (λ o n. KeptAs saved s o n ⊎ KeptAs p (frame_after frame s) o n)) (is ∙ sym (or_false (takes frame s)))
+    (subst (λ (v : Served). Told a b (λ o n. KeptAs saved s o n ⊎ KeptAs changed v o n)) after kept)

@@ -1,4 +1,5 @@
 pub mod Kept
+pub mod Appending
 pub mod Connections
 pub mod Running
 pub mod Totals

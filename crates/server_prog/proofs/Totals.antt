@@ -5,8 +5,8 @@ use Rattle.port_serving.specs.Laws.{HasFallen, HasTalks, IsTold}
 use Rattle.port_serving.proofs.Totals as ports
 use Rattle.server_prog.specs.declared.run.Stopped.{Stopped}
 use Rattle.server_prog.specs.declared.run.Stopped.TheVariants.{Sink, Keeper, Image, Memory}
-use Rattle.server_prog.specs.Serving.{Telling}
-use Rattle.server_prog.specs.Run.{status_of, RunTurn}
+use Rattle.server_prog.specs.Serving.{ServerTelling}
+use Rattle.server_prog.specs.Run.{server_status_of, ServerRun}
 use Rattle.server_prog.specs.Laws.{IsWhole, FallsAreBounded, FramesAreCounted}
 
 -- a run that ended with 5, 6 or 7 ended neither with 0 nor with 4
@@ -22,11 +22,11 @@ seven : (status : ℕ) → status ≡ 7 → IsWhole status → ⊥
 seven status is (inl zero) = omega arith
 seven status is (inr four) = omega arith
 
-same_port : (old new : Telling) → new ≡ old → new.port ≡ old.port
-same_port old new same = ap (λ (t : Telling). t.port) same
+same_port : (old new : ServerTelling) → new ≡ old → new.port ≡ old.port
+same_port old new same = ap (λ (t : ServerTelling). t.port) same
 
-module _ (count status : ℕ) (old new : Telling) (written now : Option (List ℕ)) where
-  bounded : (ended : Result (Unit {0}) Stopped) → status ≡ status_of ended → RunTurn count old new written now ended → HasFallen count (IsWhole status) old.port new.port
+module _ (count status : ℕ) (old new : ServerTelling) (written now : Option (List ℕ)) where
+  bounded : (ended : Result (Unit {0}) Stopped) → status ≡ server_status_of ended → ServerRun count old new written now ended → HasFallen count (IsWhole status) old.port new.port
   bounded (Ok done) is turn = ports.all_fallen count turn.1 old.port new.port (IsWhole status) turn.3.port
   bounded (Err Sink) is turn = ports.all_fallen count turn.1 old.port new.port (IsWhole status) turn.4.port
   bounded (Err Keeper) is (inl before) = ports.not_fallen count old.port new.port (IsWhole status) (five status is) (same_port old new before.0)
@@ -43,7 +43,7 @@ module _ (count status : ℕ) (old new : Telling) (written now : Option (List �
     stopped : (IsWhole status → ⊥) → new ≡ old → Tells
     stopped part same = ports.told_none old.port new.port (same_port old new same) talks has (IsWhole status) (status ≡ 0) written now part (λ zero. part (inl zero))
 
-    counted : (ended : Result (Unit {0}) Stopped) → status ≡ status_of ended → RunTurn count old new written now ended → Tells
+    counted : (ended : Result (Unit {0}) Stopped) → status ≡ server_status_of ended → ServerRun count old new written now ended → Tells
     counted (Ok done) is turn = ports.told_all count turn.1 old.port new.port turn.3.port talks has (IsWhole status) (status ≡ 0) written now turn.4
     counted (Err Sink) is turn = ports.told_in_line count turn.1 old.port new.port turn.4.port talks has (IsWhole status) (status ≡ 0) written now (λ zero. absurd (omega arith))
     counted (Err Keeper) is (inl before) = stopped (five status is) before.0

@@ -1,5 +1,5 @@
 -- Words that only contracts below the whole run cite.
-use Rattle.std.specs.Prelude.{◌≡◌, ℕ, List, Option}
+use Rattle.std.specs.Prelude.{◌≡◌, ◌≤◌, ◌⊎◌, ℕ, ◌+◌, nat_le, Bool, true, false, ◌||◌, List, length, Option, None, Some, IfSome, if◌then◌else◌}
 use Rattle.outside.specs.Outside.{Told}
 use Rattle.outside.specs.declared.errors.SinkError.{SinkError}
 use Rattle.outside.specs.declared.errors.SinkError.TheVariants as sinks
@@ -8,49 +8,94 @@ use Rattle.outside.specs.declared.errors.KeepError.TheVariants as keeps
 use Rattle.port_serving.specs.declared.serving.Came.{Came}
 use Rattle.port_serving.specs.declared.serving.Came.TheVariants as came
 use Rattle.port_serving.specs.declared.serving.Tally.{Tally}
-use Rattle.port_serving.specs.Serving.{Connection, connection_of, Uses, IsAtHand, UsesAll, UsesFront, Counts}
+use Rattle.port_serving.specs.Serving.{Connection, connection_of, exchanges, frames_taken, Uses, IsAtHand, UsesAll, UsesFront, Counts}
 use Rattle.port_serving.specs.Inside.{UsesSoFar}
+use Rattle.store_image.specs.declared.image.TheConstants.{MAX_SERVER_IMAGE, MAX_RECORDS}
 use Rattle.world_rules.specs.Served.{Served}
+use Rattle.server_core.specs.Framing.{change}
+use Rattle.server_core.specs.Keeping.{IsKeptWholeForServed}
+use Rattle.server_prog.specs.declared.journal.Journal.{Journal}
+use Rattle.server_prog.specs.declared.journal.Journal.TheVariants as journals
 use Rattle.server_prog.specs.declared.run.Stopped.{Stopped}
 use Rattle.server_prog.specs.declared.run.Stopped.TheVariants as stops
-use Rattle.server_prog.specs.Serving.{PerhapsKept, Serves, Telling}
+use Rattle.server_prog.specs.Serving.{KeptAs, IsKeptAfter, PerhapsKept, ServedBy, ServesConnections, ServerTelling}
+
+-- ---- what this run has kept
+
+-- whether an image was saved
+abbrev pub is_saved : Journal → Bool
+is_saved journals.Unsaved = false
+is_saved (journals.Saved records) = true
+
+-- the bytes of the records with one more of this size, where so few may stand behind a saved image
+abbrev pub room_for : Journal → ℕ → Option ℕ
+room_for journals.Unsaved size = None
+room_for (journals.Saved records) size = if nat_le (records + size) MAX_RECORDS then Some (records + size) else None
+
+-- an image and whole records behind it, of so many bytes, are kept for the state
+pub record IsJournaled (records : ℕ) (state : Served) (now : Option (List ℕ)) : Type 0 where
+  pub bytes : List ℕ
+  pub here : now ≡ Some bytes
+  pub whole : IsKeptWholeForServed state bytes
+  pub few : records ≤ MAX_RECORDS
+  pub small : length bytes ≤ MAX_SERVER_IMAGE + records
+
+-- what the journal says of what is kept, where the keeper tells it
+abbrev pub Journals : Journal → Served → Option (Option (List ℕ)) → Type 0
+Journals journals.Unsaved state kept = Unit {0}
+Journals (journals.Saved records) state kept = IfSome kept (IsJournaled records state)
+
+-- what changed was kept, where anything did, and the journal goes on with it
+pub record KeepsOn (changed : Bool) (journal next : Journal) (after : Served) (old new : Option (Option (List ℕ))) : Type 0 where
+  pub saved : is_saved next ≡ (is_saved journal || changed)
+  pub journals : Journals next after new
+  pub kept : Told old new (KeptAs changed after)
+
+-- its keeping was refused: what is kept has the change or not
+abbrev pub ServerMayKeep : Bool → Journal → Served → Served → Option (Option (List ℕ)) → Option (Option (List ℕ)) → Type 0
+ServerMayKeep changed journal before after old new = Told old new (λ o n. KeptAs (is_saved journal) before o n ⊎ KeptAs changed after o n)
+
+-- ---- connections
 
 -- one connection was used up and served, or none was left
-pub record ServesNext (how : Came) (before after : Served) (old new : Telling) : Type 0 where
+pub record ServesNext (how : Came) (journal next : Journal) (before after : Served) (old new : ServerTelling) : Type 0 where
   pub frame : List ℕ
   pub reply : List ℕ
   pub uses : Uses (connection_of how frame reply) old.port new.port
-  pub serves : Serves (connection_of how frame reply) before after old.kept new.kept
+  pub serves : ServesConnections (connection_of how frame reply) before after old.kept new.kept
   pub none : how ≡ came.NoConnection → new.port.left ≡ 0
+  pub journals : Journals next after new.kept
+  pub saved : is_saved next ≡ (is_saved journal || change (frames_taken (connection_of how frame reply)) before)
 
 -- want of memory, or a fault of the keeper, broke off the connection at hand
-pub record BreaksOff (before : Served) (old new : Telling) : Type 0 where
+pub record BreaksConnection (journal : Journal) (before : Served) (old new : ServerTelling) : Type 0 where
   pub frames : List (List ℕ)
   pub at_hand : IsAtHand frames old.port new.port
-  pub kept : Told old.kept new.kept (PerhapsKept frames before)
+  pub kept : Told old.kept new.kept (λ o n. KeptAs (is_saved journal) before o n ⊎ IsKeptAfter frames before o n)
 
 -- connections were served and counted, one for each take so far
-pub record ServesSoFar (made : ℕ) (tally : Tally) (before after : Served) (old new : Telling) : Type 0 where
+pub record ServesSoFar (made : ℕ) (tally : Tally) (journal : Journal) (before after : Served) (old new : ServerTelling) : Type 0 where
   pub connections : List Connection
   pub port : UsesSoFar made tally connections old.port new.port
-  pub serves : Serves connections before after old.kept new.kept
+  pub serves : ServesConnections connections before after old.kept new.kept
+  pub journals : Journals journal after new.kept
+  pub saved : is_saved journal ≡ change (frames_taken connections) before
 
 -- at the end of the takes, or of the connections
-pub record ServesAll (count : ℕ) (tally : Tally) (before after : Served) (old new : Telling) : Type 0 where
+pub record ServesAll (count : ℕ) (tally : Tally) (before after : Served) (old new : ServerTelling) : Type 0 where
   pub connections : List Connection
   pub port : UsesAll count connections old.port new.port
   pub counts : Counts connections tally
-  pub serves : Serves connections before after old.kept new.kept
+  pub serves : ServesConnections connections before after old.kept new.kept
 
 -- broken off for want of memory, or by a fault of the keeper
-pub record ServesFront (count : ℕ) (before : Served) (old new : Telling) : Type 0 where
+pub record ServesFront (count : ℕ) (before : Served) (old new : ServerTelling) : Type 0 where
   pub connections : List Connection
   pub frames : List (List ℕ)
   pub port : UsesFront count connections frames old.port new.port
   pub after : Served
-  pub middle : Option (Option (List ℕ))
-  pub serves : Serves connections before after old.kept middle
-  pub kept : Told middle new.kept (PerhapsKept frames after)
+  pub replies : ServedBy (exchanges connections) before after
+  pub kept : Told old.kept new.kept (PerhapsKept (frames_taken connections) frames before)
 
 -- a fault of the sink, and of the keeper, as the run's end
 abbrev pub stopped_by_sink : SinkError → Stopped

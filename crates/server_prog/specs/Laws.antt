@@ -3,27 +3,21 @@ use Rattle.std.specs.Prelude.{◌≡◌, ◌⊎◌, ℕ, List, [], ◌∷◌, �
 use Rattle.outside.specs.Port.{Talk}
 use Rattle.port_serving.specs.Laws.{frames_of, HasFallen, HasTalks, IsTold}
 use Rattle.world_rules.specs.Served.{Served}
-use Rattle.server_core.specs.Framing.{frames_after, change}
 use Rattle.server_core.specs.Keeping.{KeepsServed}
-use Rattle.server_prog.specs.Serving.{KeptAs, Telling}
-use Rattle.server_prog.specs.Run.{Ran}
+use Rattle.server_prog.specs.Serving.{IsKeptAfter, ServerTelling}
+use Rattle.server_prog.specs.Run.{ServerRan}
 
 -- serving came to its end
 abbrev pub IsWhole : ℕ → Type 0
 IsWhole status = (status ≡ 0) ⊎ (status ≡ 4)
 
 abbrev pub FallsAreBounded : Type 0
-FallsAreBounded = (count status : ℕ) (old new : Telling) (written now : Option (List ℕ)) → Ran count status old new written now → HasFallen count (IsWhole status) old.port new.port
+FallsAreBounded = (count status : ℕ) (old new : ServerTelling) (written now : Option (List ℕ)) → ServerRan count status old new written now → HasFallen count (IsWhole status) old.port new.port
 
 -- at status 5 or 7 the connection at hand may be without an answer and without a fault; at status 0 the last line was written
 abbrev pub FramesAreCounted : Type 0
-FramesAreCounted = (count status : ℕ) (old new : Telling) (written now : Option (List ℕ)) (talks : List Talk)
-    → Ran count status old new written now → HasTalks talks old.port new.port → IsTold (IsWhole status) (status ≡ 0) talks old.port new.port written now
-
--- the bytes under the name at the end: where a frame of these changed the state, an image of the state after them, and else
--- those from the start
-abbrev pub IsKeptAfter : List (List ℕ) → Served → Option (List ℕ) → Option (List ℕ) → Type 0
-IsKeptAfter frames first old new = KeptAs (change frames first) (frames_after frames first) old new
+FramesAreCounted = (count status : ℕ) (old new : ServerTelling) (written now : Option (List ℕ)) (talks : List Talk)
+    → ServerRan count status old new written now → HasTalks talks old.port new.port → IsTold (IsWhole status) (status ≡ 0) talks old.port new.port written now
 
 -- nothing was taken, and what is kept is as before
 pub record IsNothingTaken (status : ℕ) (taken : List (List ℕ)) (old new : Option (List ℕ)) : Type 0 where
@@ -39,9 +33,9 @@ pub record IsKeptBefore (status : ℕ) (taken : List (List ℕ)) (first : Served
   pub all : taken ≡ before ++ at_hand ∷ []
   pub kept : IsKeptAfter before first old new
 
--- What is kept at the end of a run is the state after the taken frames. At status 5 or 7 the change of the frame at hand may
--- be missing.
+-- What is kept at the end of a run is the state after the taken frames, and as before where none of them changed it. At status
+-- 5 or 7 the change of the frame at hand may be missing.
 abbrev pub KeptImagesAreServed : Type 0
-KeptImagesAreServed = (count status : ℕ) (old new : Telling) (written now : Option (List ℕ)) (talks : List Talk) (o n : Option (List ℕ))
-    → Ran count status old new written now → HasTalks talks old.port new.port → old.kept ≡ Some o → new.kept ≡ Some n
+KeptImagesAreServed = (count status : ℕ) (old new : ServerTelling) (written now : Option (List ℕ)) (talks : List Talk) (o n : Option (List ℕ))
+    → ServerRan count status old new written now → HasTalks talks old.port new.port → old.kept ≡ Some o → new.kept ≡ Some n
     → IsNothingTaken status (frames_of talks) o n ⊎ ((first : Served) × KeepsServed o first × (IsKeptAfter (frames_of talks) first o n ⊎ IsKeptBefore status (frames_of talks) first o n))

@@ -4,32 +4,32 @@ use Rattle.std.specs.List.{list_any}
 use Rattle.outside.specs.Outside.{Told, Adds, Rose, RisesWhere}
 use Rattle.outside.specs.Keeper.{Images, kept_under}
 use Rattle.outside.specs.Port.{PortTelling}
-use Rattle.port_serving.specs.Serving.{Connection, UsesAll, UsesFront, line_of}
+use Rattle.port_serving.specs.Serving.{Connection, UsesAll, UsesFront, exchanges, frames_taken, line_of}
 use Rattle.program_words.specs.Status.{code}
 use Rattle.program_words.specs.declared.status.Status.TheVariants as statuses
 use Rattle.world_rules.specs.Served.{Served}
 use Rattle.server_core.specs.Keeping.{KeepsServed}
 use Rattle.server_prog.specs.declared.run.Stopped.{Stopped}
 use Rattle.server_prog.specs.declared.run.Stopped.TheVariants.{Sink, Keeper, Image, Memory}
-use Rattle.server_prog.specs.Words.{run_of}
-use Rattle.server_prog.specs.Serving.{PerhapsKept, Serves, Telling, telling}
+use Rattle.server_prog.specs.Words.{server_run_of}
+use Rattle.server_prog.specs.Serving.{PerhapsKept, ServedBy, ServesConnections, ServerTelling, server_telling}
 
 -- the status of a run that ended so: with its last line, or stopped before
-abbrev pub status_of : Result (Unit {0}) Stopped → ℕ
-status_of (Ok done) = code statuses.Done
-status_of (Err Sink) = code statuses.SinkFailed
-status_of (Err Keeper) = code statuses.KeeperFailed
-status_of (Err Image) = code statuses.OtherImage
-status_of (Err Memory) = code statuses.NoMemory
+abbrev pub server_status_of : Result (Unit {0}) Stopped → ℕ
+server_status_of (Ok done) = code statuses.Done
+server_status_of (Err Sink) = code statuses.SinkFailed
+server_status_of (Err Keeper) = code statuses.KeeperFailed
+server_status_of (Err Image) = code statuses.OtherImage
+server_status_of (Err Memory) = code statuses.NoMemory
 
 -- the statuses that a run may give
-abbrev pub is_status : ℕ → Bool
-is_status status =
+abbrev pub is_server_status : ℕ → Bool
+is_server_status status =
     list_any (λ known. code known == status) (statuses.Done ∷ statuses.NoForm ∷ statuses.SinkFailed ∷ statuses.KeeperFailed ∷ statuses.OtherImage ∷ statuses.NoMemory ∷ [])
 
 -- those that the program may end with: one more where it cannot listen
 abbrev pub is_exit : ℕ → Bool
-is_exit status = code statuses.CannotListen == status || is_status status
+is_exit status = code statuses.CannotListen == status || is_server_status status
 
 -- a server that serves so is kept under the name, where the keeper tells it
 abbrev pub Opens : Option (Option (List ℕ)) → Served → Type 0
@@ -40,49 +40,48 @@ abbrev pub OpensNone : Option (Option (List ℕ)) → Type 0
 OpensNone kept = IfSome kept (λ image. (state : Served) → KeepsServed image state → ⊥)
 
 -- serving came to its end: as many connections were used up as the words say, or none is left
-pub record IsServed (count : ℕ) (first : Served) (connections : List Connection) (after : Served) (old new : Telling) : Type 0 where
+pub record ServerIsServed (count : ℕ) (first : Served) (connections : List Connection) (after : Served) (old new : ServerTelling) : Type 0 where
   pub opens : Opens old.kept first
   pub port : UsesAll count connections old.port new.port
-  pub serves : Serves connections first after old.kept new.kept
+  pub serves : ServesConnections connections first after old.kept new.kept
 
 -- serving was broken off at a connection for want of memory, or by a fault of the keeper: its frame, where it was taken, is not
 -- answered, and what is kept has its change or not
-pub record IsBrokenOff (count : ℕ) (first : Served) (connections : List Connection) (after : Served) (old new : Telling) : Type 0 where
+pub record IsBrokenOff (count : ℕ) (first : Served) (connections : List Connection) (after : Served) (old new : ServerTelling) : Type 0 where
   pub opens : Opens old.kept first
   pub frames : List (List ℕ)
   pub port : UsesFront count connections frames old.port new.port
-  pub middle : Option (Option (List ℕ))
-  pub serves : Serves connections first after old.kept middle
-  pub kept : Told middle new.kept (PerhapsKept frames after)
+  pub replies : ServedBy (exchanges connections) first after
+  pub kept : Told old.kept new.kept (PerhapsKept (frames_taken connections) frames first)
 
 -- no connection was taken, nothing was kept and nothing written
-abbrev pub StopsBefore : Telling → Telling → Option (List ℕ) → Option (List ℕ) → Type 0
+abbrev pub StopsBefore : ServerTelling → ServerTelling → Option (List ℕ) → Option (List ℕ) → Type 0
 StopsBefore old new written now = (new ≡ old) × (now ≡ written)
 
 -- all connections were served, and a front of the last line was written
-abbrev pub StopsInLine : ℕ → Telling → Telling → Option (List ℕ) → Option (List ℕ) → Type 0
+abbrev pub StopsInLine : ℕ → ServerTelling → ServerTelling → Option (List ℕ) → Option (List ℕ) → Type 0
 StopsInLine count old new written now =
     (first : Served) × (connections : List Connection) × (after : Served) × (bytes : ℕ)
-    × IsServed count first connections after old new × Adds written now (take bytes (line_of connections))
+    × ServerIsServed count first connections after old new × Adds written now (take bytes (line_of connections))
 
 -- a connection was broken off, and nothing was written
-abbrev pub StopsInServing : ℕ → Telling → Telling → Option (List ℕ) → Option (List ℕ) → Type 0
+abbrev pub StopsInServing : ℕ → ServerTelling → ServerTelling → Option (List ℕ) → Option (List ℕ) → Type 0
 StopsInServing count old new written now =
     (first : Served) × (connections : List Connection) × (after : Served)
     × IsBrokenOff count first connections after old new × (now ≡ written)
 
 -- what a run did by how it ended
-abbrev pub RunTurn : ℕ → Telling → Telling → Option (List ℕ) → Option (List ℕ) → Result (Unit {0}) Stopped → Type 0
-RunTurn count old new written now (Ok done) =
-    (first : Served) × (connections : List Connection) × (after : Served) × IsServed count first connections after old new × Adds written now (line_of connections)
-RunTurn count old new written now (Err Sink) = StopsInLine count old new written now
-RunTurn count old new written now (Err Keeper) = StopsBefore old new written now ⊎ StopsInServing count old new written now
-RunTurn count old new written now (Err Image) = StopsBefore old new written now × OpensNone old.kept
-RunTurn count old new written now (Err Memory) = StopsBefore old new written now ⊎ (StopsInLine count old new written now ⊎ StopsInServing count old new written now)
+abbrev pub ServerRun : ℕ → ServerTelling → ServerTelling → Option (List ℕ) → Option (List ℕ) → Result (Unit {0}) Stopped → Type 0
+ServerRun count old new written now (Ok done) =
+    (first : Served) × (connections : List Connection) × (after : Served) × ServerIsServed count first connections after old new × Adds written now (line_of connections)
+ServerRun count old new written now (Err Sink) = StopsInLine count old new written now
+ServerRun count old new written now (Err Keeper) = StopsBefore old new written now ⊎ StopsInServing count old new written now
+ServerRun count old new written now (Err Image) = StopsBefore old new written now × OpensNone old.kept
+ServerRun count old new written now (Err Memory) = StopsBefore old new written now ⊎ (StopsInLine count old new written now ⊎ StopsInServing count old new written now)
 
 -- a run that gave this status
-abbrev pub Ran : ℕ → ℕ → Telling → Telling → Option (List ℕ) → Option (List ℕ) → Type 0
-Ran count status old new written now = (ended : Result (Unit {0}) Stopped) × (status ≡ status_of ended) × RunTurn count old new written now ended
+abbrev pub ServerRan : ℕ → ℕ → ServerTelling → ServerTelling → Option (List ℕ) → Option (List ℕ) → Type 0
+ServerRan count status old new written now = (ended : Result (Unit {0}) Stopped) × (status ≡ server_status_of ended) × ServerRun count old new written now ended
 
 -- what a port, a keeper and a sink tell
 pub record Objects : Type 0 where
@@ -93,8 +92,8 @@ pub record Objects : Type 0 where
   pub sink_faults : ℕ
 
 -- what is told of the port, and of what is kept under a name
-abbrev pub told_of : List ℕ → Objects → Telling
-told_of name all = telling all.port (kept_under name all.images)
+abbrev pub told_of : List ℕ → Objects → ServerTelling
+told_of name all = server_telling all.port (kept_under name all.images)
 
 -- What a run on these words does, by the status that it gives:
 -- 0: as many connections were used up as the words say, or none is left, and the output is the last line;
@@ -102,11 +101,11 @@ told_of name all = telling all.port (kept_under name all.images)
 -- 4 and 5: a call of the sink or of the keeper failed, and in a run with another status none did;
 -- 6: what is kept is no server's image; 7: memory ran out.
 pub record Ends (words : List (List ℕ)) (status : ℕ) (old new : Objects) : Type 0 where
-  pub form : status ≡ 2 ↔ run_of words ≡ None
-  pub known : IsTrue (is_status status)
-  pub untouched : run_of words ≡ None → new ≡ old
+  pub form : status ≡ 2 ↔ server_run_of words ≡ None
+  pub known : IsTrue (is_server_status status)
+  pub untouched : server_run_of words ≡ None → new ≡ old
   pub sink : RisesWhere (status ≡ 4) old.sink_faults new.sink_faults
   pub keeper : RisesWhere (status ≡ 5) old.keeper_faults new.keeper_faults
   pub complete :
-      IfSome (run_of words) (λ run. (Rose old.sink_faults new.sink_faults → ⊥) → (Rose old.keeper_faults new.keeper_faults → ⊥) → (status ≡ 0) ⊎ ((status ≡ 6) ⊎ (status ≡ 7)))
-  pub served : IfSome (run_of words) (λ run. Ran run.count status (told_of run.image old) (told_of run.image new) old.written new.written)
+      IfSome (server_run_of words) (λ run. (Rose old.sink_faults new.sink_faults → ⊥) → (Rose old.keeper_faults new.keeper_faults → ⊥) → (status ≡ 0) ⊎ ((status ≡ 6) ⊎ (status ≡ 7)))
+  pub served : IfSome (server_run_of words) (λ run. ServerRan run.count status (told_of run.image old) (told_of run.image new) old.written new.written)

@@ -1,8 +1,9 @@
 -- What a server does with the frames that it takes, and what is kept of it.
-use Rattle.std.specs.Prelude.{◌≡◌, ◌⊎◌, ℕ, Bool, true, false, List, [], ◌∷◌, Option, Some}
+use Rattle.std.specs.Prelude.{◌≡◌, ◌≤◌, ◌⊎◌, ℕ, ◌+◌, Bool, true, false, List, [], ◌∷◌, ◌++◌, length, Option, Some}
 use Rattle.outside.specs.Outside.{Told}
 use Rattle.outside.specs.Port.{PortTelling}
 use Rattle.port_serving.specs.Serving.{Connection, exchanges, frames_taken}
+use Rattle.store_image.specs.declared.image.TheConstants.{MAX_SERVER_IMAGE, MAX_RECORDS}
 use Rattle.world_rules.specs.Served.{Served}
 use Rattle.server_core.specs.Framing.{frame_answer, frame_after, frames_after, change}
 use Rattle.server_core.specs.Keeping.{IsKeptForServed}
@@ -12,26 +13,38 @@ abbrev pub ServedBy : List (List ℕ × List ℕ) → Served → Served → Type
 ServedBy [] before after = after ≡ before
 ServedBy (pair ∷ pairs) before after = (pair.1 ≡ frame_answer pair.0 before) × ServedBy pairs (frame_after pair.0 before) after
 
--- what is kept under the server's name once frames were served: where any of them changed the state, an image of the state
--- after them, and else what was kept before
+-- what a run that kept a change leaves under the server's name: bytes for the state after it, an image and at most so many
+-- bytes of records as a run appends
+pub record IsKeptNow (after : Served) (now : Option (List ℕ)) : Type 0 where
+  pub bytes : List ℕ
+  pub here : now ≡ Some bytes
+  pub kept : IsKeptForServed after bytes
+  pub small : length bytes ≤ MAX_SERVER_IMAGE + MAX_RECORDS
+
+-- what is kept under the server's name once frames were served: where any of them changed the state, bytes for the state after
+-- them, and else what was kept before
 abbrev pub KeptAs : Bool → Served → Option (List ℕ) → Option (List ℕ) → Type 0
-KeptAs true after old new = (bytes : List ℕ) × (new ≡ Some bytes) × IsKeptForServed after bytes
+KeptAs true after old new = IsKeptNow after new
 KeptAs false after old new = new ≡ old
 
--- what is kept is as before, or with the change of these frames
-abbrev pub PerhapsKept : List (List ℕ) → Served → Option (List ℕ) → Option (List ℕ) → Type 0
-PerhapsKept frames before old new = (new ≡ old) ⊎ KeptAs (change frames before) (frames_after frames before) old new
+-- the same of these frames
+abbrev pub IsKeptAfter : List (List ℕ) → Served → Option (List ℕ) → Option (List ℕ) → Type 0
+IsKeptAfter frames before old new = KeptAs (change frames before) (frames_after frames before) old new
+
+-- what is kept is that of the frames that were served, or of them and those at hand
+abbrev pub PerhapsKept : List (List ℕ) → List (List ℕ) → Served → Option (List ℕ) → Option (List ℕ) → Type 0
+PerhapsKept frames at_hand before old new = IsKeptAfter frames before old new ⊎ IsKeptAfter (frames ++ at_hand) before old new
 
 -- a server that held one state replied to the frames of these connections, and holds the other state now; what is kept under
 -- its name, where the keeper tells it, became this
-pub record Serves (connections : List Connection) (before after : Served) (old new : Option (Option (List ℕ))) : Type 0 where
+pub record ServesConnections (connections : List Connection) (before after : Served) (old new : Option (Option (List ℕ))) : Type 0 where
   pub replies : ServedBy (exchanges connections) before after
   pub kept : Told old new (KeptAs (change (frames_taken connections) before) after)
 
 -- what a port tells, and what is kept under the server's name
-pub record Telling : Type 0 where
+pub record ServerTelling : Type 0 where
   pub port : PortTelling
   pub kept : Option (Option (List ℕ))
 
-abbrev pub telling : PortTelling → Option (Option (List ℕ)) → Telling
-telling port kept = record { port = port; kept = kept }
+abbrev pub server_telling : PortTelling → Option (Option (List ℕ)) → ServerTelling
+server_telling port kept = record { port = port; kept = kept }

@@ -5,20 +5,20 @@ use Rattle.port_serving.specs.Words.{count_of}
 
 -- what the words of a run say: the address at which the server listens, the name under which it is kept, and how many
 -- connections it takes at most
-pub record Run : Type 0 where
+pub record ServerInvocation : Type 0 where
   pub address : List ℕ
   pub image : List ℕ
   pub count : ℕ
 
 -- the word `run`, and an address and an image that are not empty
-abbrev pub is_run : List ℕ → List ℕ → List ℕ → Bool
-is_run run address image = bytes_eq run (codes "run") && nat_lt 0 (length address) && nat_lt 0 (length image)
+abbrev pub is_server_run : List ℕ → List ℕ → List ℕ → Bool
+is_server_run run address image = bytes_eq run (codes "run") && nat_lt 0 (length address) && nat_lt 0 (length image)
 
-abbrev pub with_count : List ℕ → List ℕ → Option ℕ → Option Run
+abbrev pub with_count : List ℕ → List ℕ → Option ℕ → Option ServerInvocation
 with_count address image None = None
 with_count address image (Some count) = Some (record { address = address; image = image; count = count })
 
 -- what `run LISTEN IMAGE COUNT` says; any other words are of no form
-abbrev pub run_of : List (List ℕ) → Option Run
-run_of (run ∷ address ∷ image ∷ count ∷ []) = if is_run run address image then with_count address image (count_of count) else None
-run_of words = None
+abbrev pub server_run_of : List (List ℕ) → Option ServerInvocation
+server_run_of (run ∷ address ∷ image ∷ count ∷ []) = if is_server_run run address image then with_count address image (count_of count) else None
+server_run_of words = None

@@ -1,6 +1,7 @@
 //! The server program: connections of a port, each with one frame in and one frame out.
 #![tactic(auto)]
 
+mod journal;
 mod laws;
 mod program;
 mod run;

@@ -4,7 +4,7 @@ ghost use Rattle.std.specs.String.{string_bytes};
 ghost use Rattle.std.specs.Process.{exit_status};
 ghost use Rattle.program_words.specs.Pages.{page_asked};
 ghost use Rattle.server_prog.specs.Run.{is_exit, Ends};
-ghost use Rattle.server_prog.specs.Words.{run_of};
+ghost use Rattle.server_prog.specs.Words.{server_run_of};
 
 use crate::run::server_run;
 use crate::words::{RunWords, run_words};
@@ -84,7 +84,7 @@ pub fn server_main<R: Print + Eprint + AllocGlobal + Files<File = File> + Net + 
     words: &[String],
 ) -> ExitCode
     ensures form { exit_status result ≡ 2 ↔ (page_asked (map string_bytes words.now) ≡ None)
-        × (run_of (map string_bytes words.now) ≡ None) }
+        × (server_run_of (map string_bytes words.now) ≡ None) }
     ensures known { IsTrue (is_exit (exit_status result)) }
 {
     let mut output = StdSink::new(io::writer(rt));
@@ -106,7 +106,7 @@ fn serve_bound<R: Eprint + AllocGlobal + Files<File = File> + Net + Clock, O: Si
     bound: io::Result<TcpPort<'_, R>>,
     output: &mut O,
 ) -> ExitCode
-    requires said { run_of (map string_bytes words.now) ≡ Some (record
+    requires said { server_run_of (map string_bytes words.now) ≡ Some (record
         { address = run.now.address.now; image = run.now.image.now; count = run.now.count }) }
     requires there { IfOk bound (λ port. port.address.now ≡ run.now.address.now) }
     ensures refused { IsErr bound.entry → exit_status result ≡ 1 }

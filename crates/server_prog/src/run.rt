@@ -6,8 +6,8 @@ ghost use Rattle.outside.specs.Keeper.{kept_under};
 ghost use Rattle.world_rules.specs.Served.{Served};
 ghost use Rattle.server_core.specs.Holding.{served};
 ghost use Rattle.server_core.specs.Keeping.{IsKeptForServed};
-ghost use Rattle.server_prog.specs.Serving.{telling};
-ghost use Rattle.server_prog.specs.Run.{status_of, is_status, Opens, OpensNone, RunTurn, Ends};
+ghost use Rattle.server_prog.specs.Serving.{server_telling};
+ghost use Rattle.server_prog.specs.Run.{server_status_of, is_server_status, Opens, OpensNone, ServerRun, Ends};
 ghost use Rattle.server_prog.specs.Inside.{stopped_by_keeper, stopped_by_sink};
 
 use crate::serving::serve;
@@ -56,8 +56,8 @@ impl From<KeepError> for Stopped {
 
 /// The status of a run that ended so.
 fn status_of(ended: Result<(), Stopped>) -> u8
-    ensures status { result ≡ status_of ended }
-    ensures known { IsTrue (is_status result) }
+    ensures status { result ≡ server_status_of ended }
+    ensures known { IsTrue (is_server_status result) }
 {
     let status = match ended {
         Ok(()) => Status::Done,
@@ -109,8 +109,8 @@ fn run<P: Port, K: Keeper, O: Sink>(
     output: &mut O,
 ) -> Result<(), Stopped>
     requires { count ≤ 65536 }
-    ensures turn { RunTurn count (telling (P.tells port.old) (kept_under name.now (K.images keeper.old)))
-        (telling (P.tells port.new) (kept_under name.now (K.images keeper.new))) (O.written output.old) (O.written output.new) result }
+    ensures turn { ServerRun count (server_telling (P.tells port.old) (kept_under name.now (K.images keeper.old)))
+        (server_telling (P.tells port.new) (kept_under name.now (K.images keeper.new))) (O.written output.old) (O.written output.new) result }
     ensures sink { CountsFault Stopped.Sink (O.faults output.old) (O.faults output.new) result }
     ensures keeper { CountsFault Stopped.Keeper (K.faults keeper.old) (K.faults keeper.new) result }
 {
@@ -121,7 +121,7 @@ fn run<P: Port, K: Keeper, O: Sink>(
 }
 
 /// Runs the server on its words: takes frames from a port, and answers each by the server that is kept under the image's name,
-/// or a new one, before it takes the next one. Where a frame changes what the server holds, its image is kept before the frame
+/// or a new one, before it takes the next one. Where a frame changes what the server holds, that change is kept before the frame
 /// is answered. A fault of the port ends one connection alone. It gives a status.
 pub fn server_run<P: Port, O: Sink, K: Keeper>(
     alloc: Global,

@@ -1,47 +1,30 @@
 // Serving the connections of a port, and keeping the server.
-ghost use Rattle.std.specs.Prelude.{◌≡◌, ◌≤◌, ◌⊎◌, IfOk, OnOk, OnErr};
-ghost use Rattle.outside.specs.Outside.{Told, CountsFault};
+ghost use Rattle.std.specs.Prelude.{◌≤◌, IfOk, OnErr};
+ghost use Rattle.outside.specs.Outside.{CountsFault};
 ghost use Rattle.outside.specs.Keeper.{kept_under};
 ghost use Rattle.server_core.specs.Holding.{served};
-ghost use Rattle.server_prog.specs.Serving.{telling, KeptAs};
-ghost use Rattle.server_prog.specs.Inside.{ServesNext, BreaksOff, ServesAll, ServesFront};
+ghost use Rattle.server_prog.specs.Serving.{server_telling};
+ghost use Rattle.server_prog.specs.Inside.{Journals, ServesNext, BreaksConnection, ServesAll, ServesFront};
 
+use crate::journal::{Journal, keep};
 use outside::{KeepError, Keeper, Port};
 use port_serving::{Came, Taking, Tally, answer_frame, take_frame, tallied};
 use server_core::Server;
 
-/// Keeps the server's image under the name, where the server has changed.
-fn keep_if<K: Keeper>(
-    changed: bool,
-    server: &Server,
-    name: &[u8],
-    keeper: &mut K,
-) -> Result<(), KeepError>
-    ensures ok { OnOk result (Told (kept_under name.now (K.images keeper.old)) (kept_under name.now (K.images keeper.new))
-        (KeptAs changed (served server.now))) }
-    ensures err { OnErr result (Told (kept_under name.now (K.images keeper.old)) (kept_under name.now (K.images keeper.new))
-        (λ old new. (new ≡ old) ⊎ KeptAs changed (served server.now) old new)) }
-    ensures cause { CountsFault KeepError.Failed (K.faults keeper.old) (K.faults keeper.new) result }
-{
-    if !changed {
-        return Ok(());
-    }
-    let image = server.image()?;
-    keeper.save(name, &image)
-}
-
-/// Serves the next connection: takes its frame, keeps the server where the frame changed it, and answers the frame.
+/// Serves the next connection: takes its frame, keeps what the frame changed, and answers the frame.
 fn serve_next<P: Port, K: Keeper>(
     server: &mut Server,
+    journal: &mut Journal,
     port: &mut P,
     name: &[u8],
     keeper: &mut K,
 ) -> Result<Came, KeepError>
-    ensures ok { IfOk result (λ came. ServesNext came (served server.old) (served server.new)
-        (telling (P.tells port.old) (kept_under name.now (K.images keeper.old)))
-        (telling (P.tells port.new) (kept_under name.now (K.images keeper.new)))) }
-    ensures err { OnErr result (BreaksOff (served server.old) (telling (P.tells port.old) (kept_under name.now (K.images keeper.old)))
-        (telling (P.tells port.new) (kept_under name.now (K.images keeper.new)))) }
+    requires journals { Journals journal.old (served server.old) (kept_under name.now (K.images keeper.old)) }
+    ensures ok { IfOk result (λ came. ServesNext came journal.old journal.new (served server.old) (served server.new)
+        (server_telling (P.tells port.old) (kept_under name.now (K.images keeper.old)))
+        (server_telling (P.tells port.new) (kept_under name.now (K.images keeper.new)))) }
+    ensures err { OnErr result (BreaksConnection journal.old (served server.old) (server_telling (P.tells port.old) (kept_under name.now (K.images keeper.old)))
+        (server_telling (P.tells port.new) (kept_under name.now (K.images keeper.new)))) }
     ensures cause { CountsFault KeepError.Failed (K.faults keeper.old) (K.faults keeper.new) result }
 {
     let frame = match take_frame(port)? {
@@ -49,8 +32,8 @@ fn serve_next<P: Port, K: Keeper>(
         Taking::Missed => return Ok(Came::Missed),
         Taking::NoConnection => return Ok(Came::NoConnection),
     };
-    let (reply, taken) = server.serve_noted(&frame)?;
-    keep_if(taken, server, name, keeper)?;
+    let (reply, note) = server.serve_noted(&frame)?;
+    *journal = keep(*journal, note, server, name, keeper)?;
     Ok(answer_frame(port, &reply)?)
 }
 
@@ -65,15 +48,16 @@ pub(crate) fn serve<P: Port, K: Keeper>(
 ) -> Result<Tally, KeepError>
     requires { count ≤ 65536 }
     ensures ok { IfOk result (λ tally. ServesAll count tally (served server.old) (served server.new)
-        (telling (P.tells port.old) (kept_under name.now (K.images keeper.old)))
-        (telling (P.tells port.new) (kept_under name.now (K.images keeper.new)))) }
-    ensures err { OnErr result (ServesFront count (served server.old) (telling (P.tells port.old)
-        (kept_under name.now (K.images keeper.old))) (telling (P.tells port.new) (kept_under name.now (K.images keeper.new)))) }
+        (server_telling (P.tells port.old) (kept_under name.now (K.images keeper.old)))
+        (server_telling (P.tells port.new) (kept_under name.now (K.images keeper.new)))) }
+    ensures err { OnErr result (ServesFront count (served server.old) (server_telling (P.tells port.old)
+        (kept_under name.now (K.images keeper.old))) (server_telling (P.tells port.new) (kept_under name.now (K.images keeper.new)))) }
     ensures cause { CountsFault KeepError.Failed (K.faults keeper.old) (K.faults keeper.new) result }
 {
     let mut tally = Tally::new();
+    let mut journal = Journal::Unsaved;
     for _take in 0..count {
-        match serve_next(server, port, name, keeper)? {
+        match serve_next(server, &mut journal, port, name, keeper)? {
             Came::NoConnection => break,
             came => tally = tallied(tally, came),
         }

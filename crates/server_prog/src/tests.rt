@@ -11,6 +11,23 @@ const STORE: [u8; 48] = [
     108, 108, 111, 10, 0, 0, 0, 1, 0, 1, 97, 0, 0, 0, 0, 0, 0, 0, 0,
 ];
 
+/// Entry 2 of client 1: the same is put at `b`.
+const OTHER: [u8; 48] = [
+    0, 0, 0, 44, 1, 1, 1, 0, 0, 0, 0, 0, 0, 0, 2, 0, 0, 0, 1, 2, 0, 1, 98, 0, 0, 0, 6, 104, 101,
+    108, 108, 111, 10, 0, 0, 0, 1, 0, 1, 98, 0, 0, 0, 0, 0, 0, 0, 0,
+];
+
+/// The record of entry 2.
+const RECORD: [u8; 32] = [
+    0, 0, 0, 28, 3, 1, 0, 0, 0, 0, 0, 0, 0, 2, 0, 0, 0, 1, 2, 0, 1, 98, 0, 0, 0, 6, 104, 101, 108,
+    108, 111, 10,
+];
+
+/// The bytes of the image after entry 1, and after entry 2.
+const ONE: usize = 543;
+
+const TWO: usize = 565;
+
 /// Entry 1 of client 1 is accepted.
 const ACCEPTED: [u8; 15] = [0, 0, 0, 11, 1, 17, 1, 0, 0, 0, 0, 0, 0, 0, 1];
 
@@ -32,6 +49,12 @@ fn port_of_stores(alloc: Global, stores: usize, fails: &[u32]) -> Result<MemPort
         frames.push(STORE.to_vec(alloc)?)?;
     }
     Ok(MemPort::new(alloc, frames, fails.to_vec(alloc)?))
+}
+
+/// A port with a connection for entry 1 and one for entry 2.
+fn port_of_both(alloc: Global) -> Result<MemPort, AllocError> {
+    let frames = vec![in alloc; STORE.to_vec(alloc)?, OTHER.to_vec(alloc)?]?;
+    Ok(MemPort::new(alloc, frames, Vec::new(alloc)))
 }
 
 /// Runs a server on these words over this port, of which nothing is kept, and gives its status and its output.
@@ -151,6 +174,7 @@ fn a_taken_store_is_kept_once(rt: HostRuntime) -> Result<(), Fail> {
     let fails = [KeepFail {
         call: 2,
         leaves_new: true,
+        part: 0,
     }]
     .to_vec(alloc)?;
     let mut keeper = MemKeeper::new(alloc, fails);
@@ -161,7 +185,7 @@ fn a_taken_store_is_kept_once(rt: HostRuntime) -> Result<(), Fail> {
     assert!(rt; accepts(&port, 1));
     // The next server has taken the store already.
     let image = keeper.image(b"img").ok_or("not kept")?.to_vec(alloc)?;
-    assert_eq!(rt; image.len(), 543);
+    assert_eq!(rt; image.len(), ONE);
     let mut next = MemKeeper::new(alloc, Vec::new(alloc));
     let _ = next.save(b"img", &image);
     let mut port = port_of_stores(alloc, 1, &[])?;
@@ -172,6 +196,80 @@ fn a_taken_store_is_kept_once(rt: HostRuntime) -> Result<(), Fail> {
     Ok(())
 }
 
+/// What a run keeps that takes so many connections of these.
+fn kept_after(alloc: Global, count: &str, mut port: MemPort) -> Result<Vec<u8>, Fail> {
+    let mut keeper = MemKeeper::new(alloc, Vec::new(alloc));
+    let (_status, output) = run_kept(alloc, &["run", "l", "img", count], &mut port, &mut keeper)?;
+    drop(output);
+    let image = keeper.image(b"img").ok_or("not kept")?;
+    Ok(image.to_vec(alloc)?)
+}
+
+#[test]
+fn another_store_is_a_record_behind_the_image(rt: HostRuntime) -> Result<(), Fail> {
+    let alloc = rt.alloc();
+    let one = kept_after(alloc, "1", port_of_stores(alloc, 1, &[])?)?;
+    // One run saves after entry 1, and appends entry 2.
+    let two = kept_after(alloc, "2", port_of_both(alloc)?)?;
+    assert_eq!(rt; one.len(), ONE);
+    assert!(rt; two.starts_with(&one) && two.ends_with(&RECORD));
+    assert_eq!(rt; two.len(), ONE + RECORD.len());
+    Ok(())
+}
+
+/// The status of a run over both connections, and the numbers of the entries that were accepted in it, 0 for none.
+fn run_both(alloc: Global, keeper: &mut MemKeeper) -> Result<(u8, [u8; 2]), Fail> {
+    let mut port = port_of_both(alloc)?;
+    let (status, output) = run_kept(alloc, &["run", "l", "img", "2"], &mut port, keeper)?;
+    drop(output);
+    Ok((status, [accepted(&port, 0), accepted(&port, 1)]))
+}
+
+/// The number of the entry that an answer accepts; 0 where there is none.
+fn accepted(port: &MemPort, number: u32) -> u8 {
+    match port.answered(number) {
+        Some([_, _, _, _, _, 17, _, _, _, _, _, _, _, _, last]) => *last,
+        _ => 0,
+    }
+}
+
+/// How many bytes are kept.
+fn length(keeper: &MemKeeper) -> usize {
+    match keeper.image(b"img") {
+        Some(image) => image.len(),
+        None => 0,
+    }
+}
+
+/// A run whose append fails behind so many bytes of the record, and the next one: the status of each, what it accepted, and
+/// the bytes that it leaves.
+fn cut_at(alloc: Global, part: u32) -> Result<[(u8, [u8; 2], usize); 2], Fail> {
+    // Call 0 loads, call 1 saves, and call 2 appends.
+    let fails = [KeepFail {
+        call: 2,
+        leaves_new: false,
+        part,
+    }];
+    let mut keeper = MemKeeper::new(alloc, fails.to_vec(alloc)?);
+    let (status, first) = run_both(alloc, &mut keeper)?;
+    let left = length(&keeper);
+    let (next_status, next) = run_both(alloc, &mut keeper)?;
+    Ok([(status, first, left), (next_status, next, length(&keeper))])
+}
+
+#[test]
+fn a_torn_record_is_dropped(rt: HostRuntime) -> Result<(), Fail> {
+    for part in 0..33 {
+        let [first, next] = cut_at(rt.alloc(), part)?;
+        // Entry 2 is answered in the next run alone.
+        assert_eq!(rt; first, (5, [1, 0], ONE + part as usize));
+        // A whole record has been taken; else entry 2 is taken now, and the first keeping of a run is a save.
+        let then = if part == 32 { ONE + 32 } else { TWO };
+        assert_eq!(rt; next, (0, [1, 2], then));
+    }
+    Ok(())
+}
+
 #[test]
 fn a_failing_keeper_answers_nothing(rt: HostRuntime) -> Result<(), Fail> {
     let alloc = rt.alloc();
@@ -179,6 +277,7 @@ fn a_failing_keeper_answers_nothing(rt: HostRuntime) -> Result<(), Fail> {
         let fails = [KeepFail {
             call,
             leaves_new: false,
+            part: 0,
         }]
         .to_vec(alloc)?;
         let mut keeper = MemKeeper::new(alloc, fails);

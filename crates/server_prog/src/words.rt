@@ -1,7 +1,7 @@
 ghost use Rattle.std.specs.Prelude.{◌≡◌, ◌≤◌, IfSome, MatchOption, None, Some, map};
 ghost use Rattle.std.specs.String.{string_bytes};
 ghost use Rattle.port_serving.specs.Words.{most_connections};
-ghost use Rattle.server_prog.specs.Words.{run_of, is_run};
+ghost use Rattle.server_prog.specs.Words.{server_run_of, is_server_run};
 
 use port_serving::connection_count;
 
@@ -18,8 +18,8 @@ pub struct RunWords<'a> {
 
 /// Takes apart the words `run LISTEN IMAGE COUNT`; `None` for any others.
 pub fn run_words(words: &[String]) -> Option<RunWords<'_>>
-    ensures form { MatchOption result (run_of (map string_bytes words.now) ≡ None)
-        (λ run. run_of (map string_bytes words.now) ≡ Some (record {
+    ensures form { MatchOption result (server_run_of (map string_bytes words.now) ≡ None)
+        (λ run. server_run_of (map string_bytes words.now) ≡ Some (record {
           address = run.address.now;
           image = run.image.now;
           count = run.count;
@@ -43,7 +43,7 @@ pub fn run_words(words: &[String]) -> Option<RunWords<'_>>
 }
 
 fn is_run(run: &[u8], address: &[u8], image: &[u8]) -> bool
-    ensures { result ≡ is_run run.now address.now image.now }
+    ensures { result ≡ is_server_run run.now address.now image.now }
 {
     run == b"run".as_slice() && !address.is_empty() && !image.is_empty()
 }

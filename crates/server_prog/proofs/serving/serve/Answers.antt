@@ -9,12 +9,12 @@ loop-take-init g c = record { served = so_far_begins _ _ _ c.new-tally.ensures; 
 
 pub loop-take-preserved : goal.loop-take-preserved
 loop-take-preserved g c = record {
-  served = so_far_next _ _ _ _ _ _ _ _ _ _ c.in_default.not-NoConnection c.tallied-tally.ensures c.loop-take.invariant.served c.in_ok-came.ensures.ok;
+  served = so_far_next _ _ _ _ _ _ _ _ _ _ _ _ c.in_default.not-NoConnection c.tallied-tally.ensures c.loop-take.invariant.served c.in_ok-came.ensures.ok;
   faults = c.in_ok-came.ensures.cause.never (λ is. absurd (cc is)) ∙ c.loop-take.invariant.faults;
 }
 
 pub returns-in_err-came-clause-err : goal.returns-in_err-came-clause-err
-returns-in_err-came-clause-err g c = on_err _ _ _ _ (front _ _ _ _ _ _ _ _ c.loop-take-test.true c.loop-take.invariant.served c.in_err-came.ensures.err)
+returns-in_err-came-clause-err g c = on_err _ _ _ _ (front _ _ _ _ _ _ _ _ _ c.loop-take-test.true c.loop-take.invariant.served c.in_err-came.ensures.err)
 
 pub tallied-tally-requires : goal.tallied-tally-requires
 tallied-tally-requires g c =
@@ -24,9 +24,9 @@ tallied-tally-requires g c =
 pub returns-after-loop-take-clause-ok : goal.returns-after-loop-take-clause-ok
 returns-after-loop-take-clause-ok g c =
     let full : c.loop-take._take ≡ c.args.count = omega (arith, c.loop-take-test.false, c.loop-take.auto._take-end) in
-    all_made _ _ _ _ _ _ _ full c.loop-take.invariant.served
+    all_made _ _ _ _ _ _ _ _ full c.loop-take.invariant.served
 
 pub returns-in-NoConnection-clause-ok : goal.returns-in-NoConnection-clause-ok
 returns-in-NoConnection-clause-ok g c =
     let few : c.loop-take._take ≤ c.args.count = omega (arith, c.loop-take-test.true) in
-    all_came _ _ _ _ _ _ _ _ _ _ few c.in-NoConnection.is c.loop-take.invariant.served c.in_ok-came.ensures.ok
+    all_came _ _ _ _ _ _ _ _ _ _ _ _ few c.in-NoConnection.is c.loop-take.invariant.served c.in_ok-came.ensures.ok
