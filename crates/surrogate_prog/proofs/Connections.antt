@@ -13,9 +13,9 @@ use Rattle.port_serving.proofs.Connections as ports
 use Rattle.tree_values.specs.Tree.{Volume}
 use Rattle.cmd_capture.specs.declared.runner.Run.{Run}
 use Rattle.world_rules.specs.declared.asking.Ask.{Ask}
-use Rattle.surrogate_prog.specs.Serving.{Doings, nothing, and_then, ServesFrame, ServesFrames, BreaksServing, Outside, Did}
-use Rattle.surrogate_prog.specs.Inside.{RepliesTo, BreaksReply, ServesNext, BreaksOff, ServesSoFar, ServesAll, ServesFront}
-use Rattle.surrogate_prog.proofs.Doing.{did_nothing, did_more, unanswered}
+use Rattle.surrogate_prog.specs.Serving.{Doings, did_nothing, and_then, ServesFrame, ServesFrames, BreaksServing, Outside, Did}
+use Rattle.surrogate_prog.specs.Inside.{RepliesTo, BreaksReply, SurrogateServesNext, BreaksTaking, SurrogateServesSoFar, SurrogateServesAll, SurrogateServesFront}
+use Rattle.surrogate_prog.proofs.Doing.{nothing_done, did_more, unanswered}
 
 -- ---- doings in a row
 
@@ -26,22 +26,22 @@ same_doings : (a b : Doings) → a.runs ≡ b.runs → a.failed ≡ b.failed →
 same_doings a b runs failed asks =
     ap (λ (r : List Run). doings r a.failed a.asks) runs ∙ ap (λ (n : ℕ). doings b.runs n a.asks) failed ∙ ap (λ (k : List Ask). doings b.runs b.failed k) asks
 
-nothing_then : (did : Doings) → and_then nothing did ≡ did
-nothing_then did = same_doings (and_then nothing did) did refl (omega arith) refl
+nothing_then : (did : Doings) → and_then did_nothing did ≡ did
+nothing_then did = same_doings (and_then did_nothing did) did refl (omega arith) refl
 
-then_nothing : (did : Doings) → and_then did nothing ≡ did
-then_nothing did = same_doings (and_then did nothing) did (append-nil did.runs) (omega arith) (append-nil did.asks)
+then_nothing : (did : Doings) → and_then did did_nothing ≡ did
+then_nothing did = same_doings (and_then did did_nothing) did (append-nil did.runs) (omega arith) (append-nil did.asks)
 
 then_then : (a b c : Doings) → and_then (and_then a b) c ≡ and_then a (and_then b c)
 then_then a b c = same_doings (and_then (and_then a b) c) (and_then a (and_then b c)) (append_assoc a.runs b.runs c.runs) (omega arith) (append_assoc a.asks b.asks c.asks)
 
 -- ---- frames in a row
 
-pub frames_none : (server work : List ℕ) (copy : Volume) → ServesFrames server work copy [] nothing copy
+pub frames_none : (server work : List ℕ) (copy : Volume) → ServesFrames server work copy [] did_nothing copy
 frames_none server work copy = (refl, refl)
 
 pub frames_one : (server work : List ℕ) (copy after : Volume) (pair : List ℕ × List ℕ) (did : Doings) → ServesFrame server work copy pair did after → ServesFrames server work copy (pair ∷ []) did after
-frames_one server work copy after pair did one = (did, nothing, after, one, (refl, refl), sym (then_nothing did))
+frames_one server work copy after pair did one = (did, did_nothing, after, one, (refl, refl), sym (then_nothing did))
 
 frames_more : (server work : List ℕ) (xs ys : List (List ℕ × List ℕ)) (s t u : Volume) (first more : Doings) → ServesFrames server work s xs first t → ServesFrames server work t ys more u
     → ServesFrames server work s (xs ++ ys) (and_then first more) u
@@ -53,19 +53,19 @@ frames_more server work (x ∷ xs) ys s t u first more one two =
 
 -- ---- one connection
 
-pub next_none : (server work : List ℕ) (copy : Volume) (port used : PortTelling) (there : Outside) → used.left ≡ 0 → Uses [] port used → ServesNext server work came.NoConnection copy copy port used there there
+pub next_none : (server work : List ℕ) (copy : Volume) (port used : PortTelling) (there : Outside) → used.left ≡ 0 → Uses [] port used → SurrogateServesNext server work came.NoConnection copy copy port used there there
 next_none server work copy port used there left uses =
-    record { bytes = []; reply = []; uses = uses; did = nothing; serves = frames_none server work copy; did_outside = did_nothing [] there; none = λ _. left }
+    record { bytes = []; reply = []; uses = uses; did = did_nothing; serves = frames_none server work copy; did_outside = nothing_done [] there; none = λ _. left }
 
-pub next_missed : (server work : List ℕ) (copy : Volume) (port used : PortTelling) (there : Outside) → Uses (Missed ∷ []) port used → ServesNext server work came.Missed copy copy port used there there
+pub next_missed : (server work : List ℕ) (copy : Volume) (port used : PortTelling) (there : Outside) → Uses (Missed ∷ []) port used → SurrogateServesNext server work came.Missed copy copy port used there there
 next_missed server work copy port used there uses =
-    record { bytes = []; reply = []; uses = uses; did = nothing; serves = frames_none server work copy; did_outside = did_nothing [] there; none = λ is. absurd (cc is) }
+    record { bytes = []; reply = []; uses = uses; did = did_nothing; serves = frames_none server work copy; did_outside = nothing_done [] there; none = λ is. absurd (cc is) }
 
 pub next_replied : (server work bytes reply : List ℕ) (how : Came) (s t : Volume) (port used : PortTelling) (a b : Outside) → RepliesTo server work bytes reply s t a b → Replies how bytes reply port used
-    → ServesNext server work how s t port used a b
+    → SurrogateServesNext server work how s t port used a b
 next_replied server work bytes reply how s t port used a b replied answered = by how answered.is answered.uses
   where
-    by : (how : Came) → (how ≡ came.Unanswered) ⊎ (how ≡ came.Answered) → Uses (connection_of how bytes reply) port used → ServesNext server work how s t port used a b
+    by : (how : Came) → (how ≡ came.Unanswered) ⊎ (how ≡ came.Answered) → Uses (connection_of how bytes reply) port used → SurrogateServesNext server work how s t port used a b
     by came.NoConnection (inl is) uses = absurd (cc is)
     by came.NoConnection (inr is) uses = absurd (cc is)
     by came.Missed (inl is) uses = absurd (cc is)
@@ -74,37 +74,37 @@ next_replied server work bytes reply how s t port used a b replied answered = by
     by came.Answered is uses = record { bytes = bytes; reply = reply; uses = uses; did = replied.did; serves = frames_one server work s t (bytes, reply) replied.did replied.serves; did_outside = replied.did_outside; none = λ no. absurd (cc no) }
 
 -- memory ran out before the frame was taken
-pub breaks_take : (server work : List ℕ) (copy : Volume) (port used : PortTelling) (there : Outside) → IsAtHand [] port used → BreaksOff server work copy port used there there
-breaks_take server work copy port used there at_hand = record { frames = []; at_hand = at_hand; did = nothing; breaks = inl refl; did_outside = did_nothing [] there }
+pub breaks_take : (server work : List ℕ) (copy : Volume) (port used : PortTelling) (there : Outside) → IsAtHand [] port used → BreaksTaking server work copy port used there there
+breaks_take server work copy port used there at_hand = record { frames = []; at_hand = at_hand; did = did_nothing; breaks = inl refl; did_outside = nothing_done [] there }
 
 -- memory ran out while the frame was served
-pub breaks_reply : (server work bytes : List ℕ) (copy : Volume) (port used : PortTelling) (a b : Outside) → IsAtHand (bytes ∷ []) port used → BreaksReply server work bytes copy a b → BreaksOff server work copy port used a b
+pub breaks_reply : (server work bytes : List ℕ) (copy : Volume) (port used : PortTelling) (a b : Outside) → IsAtHand (bytes ∷ []) port used → BreaksReply server work bytes copy a b → BreaksTaking server work copy port used a b
 breaks_reply server work bytes copy port used a b at_hand broken = record { frames = bytes ∷ []; at_hand = at_hand; did = broken.did; breaks = broken.breaks; did_outside = broken.did_outside }
 
 -- memory ran out when the frame was to be answered: what it came to is told of the frame at hand
-pub breaks_answer : (server work bytes reply : List ℕ) (s t : Volume) (port used : PortTelling) (a b : Outside) → IsAtHand (bytes ∷ []) port used → RepliesTo server work bytes reply s t a b → BreaksOff server work s port used a b
+pub breaks_answer : (server work bytes reply : List ℕ) (s t : Volume) (port used : PortTelling) (a b : Outside) → IsAtHand (bytes ∷ []) port used → RepliesTo server work bytes reply s t a b → BreaksTaking server work s port used a b
 breaks_answer server work bytes reply s t port used a b at_hand replied = breaks_reply server work bytes s port used a b at_hand (unanswered server work bytes reply s t a b replied)
 
 pub breaks_answer_where : (server work bytes reply : List ℕ) (s t : Volume) (port used : PortTelling) (a b : Outside) (result : Result Came AllocError) → OnErr result (IsAtHand (bytes ∷ []) port used) → RepliesTo server work bytes reply s t a b
-    → OnErr result (BreaksOff server work s port used a b)
+    → OnErr result (BreaksTaking server work s port used a b)
 breaks_answer_where server work bytes reply s t port used a b (Ok how) at_hand replied = tt
 breaks_answer_where server work bytes reply s t port used a b (Err e) at_hand replied = breaks_answer server work bytes reply s t port used a b at_hand replied
 
 -- ---- so far
 
 module _ (server work : List ℕ) where
-  pub so_far_begins : (tally : Tally) (s : Volume) (port : PortTelling) (there : Outside) → tally ≡ record { frames = 0; faults = 0 } → ServesSoFar server work 0 tally s s port port there there
+  pub so_far_begins : (tally : Tally) (s : Volume) (port : PortTelling) (there : Outside) → tally ≡ record { frames = 0; faults = 0 } → SurrogateServesSoFar server work 0 tally s s port port there there
   so_far_begins tally s port there none = record {
     connections = [];
     uses = subst (λ (t : Tally). UsesSoFar 0 t [] port port) (sym none) (ports.so_far_none port);
-    did = nothing;
+    did = did_nothing;
     serves = frames_none server work s;
-    did_outside = did_nothing [] there;
+    did_outside = nothing_done [] there;
   }
 
   -- one more take
   pub so_far_next : (takes : ℕ) (tally new : Tally) (how : Came) (s t u : Volume) (p q r : PortTelling) (a b c : Outside) → (how ≡ came.NoConnection → ⊥) → new ≡ tallied tally how
-      → ServesSoFar server work takes tally s t p q a b → ServesNext server work how t u q r b c → ServesSoFar server work (takes + 1) new s u p r a c
+      → SurrogateServesSoFar server work takes tally s t p q a b → SurrogateServesNext server work how t u q r b c → SurrogateServesSoFar server work (takes + 1) new s u p r a c
   so_far_next takes tally new how s t u p q r a b c other is before one =
       let next = connection_of how one.bytes one.reply in
       record {
@@ -121,7 +121,7 @@ module _ (server work : List ℕ) where
 
   -- no connection is left
   pub all_came : (count takes : ℕ) (tally : Tally) (how : Came) (s t u : Volume) (p q r : PortTelling) (a b c : Outside) → takes ≤ count → how ≡ came.NoConnection
-      → ServesSoFar server work takes tally s t p q a b → ServesNext server work how t u q r b c → ServesAll server work count tally s p r a c
+      → SurrogateServesSoFar server work takes tally s t p q a b → SurrogateServesNext server work how t u q r b c → SurrogateServesAll server work count tally s p r a c
   all_came count takes tally how s t u p q r a b c few is before one =
       let none : connection_of how one.bytes one.reply ≡ [] = ap (λ (h : Came). connection_of h one.bytes one.reply) is in
       let uses = subst (λ (xs : List Connection). Uses xs q r) none one.uses in
@@ -142,7 +142,7 @@ module _ (server work : List ℕ) where
       }
 
   -- all takes were made
-  pub all_made : (count takes : ℕ) (tally : Tally) (s t : Volume) (p q : PortTelling) (a b : Outside) → takes ≡ count → ServesSoFar server work takes tally s t p q a b → ServesAll server work count tally s p q a b
+  pub all_made : (count takes : ℕ) (tally : Tally) (s t : Volume) (p q : PortTelling) (a b : Outside) → takes ≡ count → SurrogateServesSoFar server work takes tally s t p q a b → SurrogateServesAll server work count tally s p q a b
   all_made count takes tally s t p q a b full before = record {
     connections = before.connections;
     uses = ports.all_made count takes tally before.connections p q full before.uses;
@@ -154,8 +154,8 @@ module _ (server work : List ℕ) where
   }
 
   -- the next take was broken off
-  pub front : (count takes : ℕ) (tally : Tally) (s t : Volume) (p q r : PortTelling) (a b c : Outside) → takes < count → ServesSoFar server work takes tally s t p q a b → BreaksOff server work t q r b c
-      → ServesFront server work count s p r a c
+  pub front : (count takes : ℕ) (tally : Tally) (s t : Volume) (p q r : PortTelling) (a b c : Outside) → takes < count → SurrogateServesSoFar server work takes tally s t p q a b → BreaksTaking server work t q r b c
+      → SurrogateServesFront server work count s p r a c
   front count takes tally s t p q r a b c more before broken = record {
     connections = before.connections;
     frames = broken.frames;

@@ -22,8 +22,8 @@ use Rattle.world_rules.specs.Asking.{AnswersStand}
 use Rattle.world_rules.specs.Settling.{failed_asks, one_if_failed}
 use Rattle.world_rules.proofs.Asks.{moved_by_then, moved_by_none, moved_packets, told_then, told_start, told_as, answers_append, answers_stay}
 use Rattle.surrogate_core.specs.Serving.{MayAsk, ServesTo, Serves, WorldWent, failed_runs, failures_told}
-use Rattle.surrogate_prog.specs.Serving.{Doings, nothing, and_then, ServesRead, ServesFrame, ServesFrames, ServesPart, BreaksServing, AnyAsks, Outside, Did}
-use Rattle.surrogate_prog.specs.Inside.{IsHandled, BreaksHandled, RepliesTo, BreaksReply}
+use Rattle.surrogate_prog.specs.Serving.{Doings, did_nothing, and_then, ServesRead, ServesFrame, ServesFrames, ServesPart, BreaksServing, AnyAsks, Outside, Did}
+use Rattle.surrogate_prog.specs.Inside.{IsMessageHandled, BreaksHandled, RepliesTo, BreaksReply}
 
 -- ---- who may send
 
@@ -78,8 +78,8 @@ no_runs (Some x) = ap (λ (l : List Run). Some l) (sym (append-nil x))
 
 -- ---- outside
 
-pub did_nothing : (frames : List (List ℕ)) (there : Outside) → Did frames nothing there there
-did_nothing frames there = record {
+pub nothing_done : (frames : List (List ℕ)) (there : Outside) → Did frames did_nothing there there
+nothing_done frames there = record {
   has_run = record { told = no_runs there.runner.runs; counted = omega arith };
   had_troubles = omega arith;
   went = told_start there.link.world (λ before after. MovedBy (AnyAsks frames) [] before after × AnswersStand after []) (λ world. (moved_by_none (AnyAsks frames) world, tt));
@@ -137,7 +137,7 @@ did_of bytes server work copy after request result old new read valid serves = r
 }
 
 module _ (server work bytes : List ℕ) (copy : Volume) (request : Message) (old new : Outside) (read : frame_of bytes ≡ Ok request) (valid : IsValid request) where
-  pub replies_handled : (answer : List ℕ) (after : Volume) → IsHandled server work copy request answer after old new → RepliesTo server work bytes answer copy after old new
+  pub replies_handled : (answer : List ℕ) (after : Volume) → IsMessageHandled server work copy request answer after old new → RepliesTo server work bytes answer copy after old new
   replies_handled answer after handled =
       let did = doings_of handled.serves.runs (Ok handled.reply) handled.serves.asks in
       record {
@@ -161,17 +161,17 @@ module _ (server work bytes : List ℕ) (copy : Volume) (request : Message) (old
 pub replies_refused : (server work bytes answer : List ℕ) (copy : Volume) (refusal : FrameError) (there : Outside) → frame_of bytes ≡ Err refusal
     → answer ≡ frame (messages.Malformed (refusal_code refusal) (refusal_offset refusal)) → RepliesTo server work bytes answer copy copy there there
 replies_refused server work bytes answer copy refusal there read spells = record {
-  did = nothing;
+  did = did_nothing;
   serves = record {
     reply = messages.Malformed (refusal_code refusal) (refusal_offset refusal);
-    serves = subst (λ (r : Result Message FrameError). ServesRead server work copy r nothing (messages.Malformed (refusal_code refusal) (refusal_offset refusal)) copy) (sym read) (refl, refl, refl);
+    serves = subst (λ (r : Result Message FrameError). ServesRead server work copy r did_nothing (messages.Malformed (refusal_code refusal) (refusal_offset refusal)) copy) (sym read) (refl, refl, refl);
     spells = spells;
   };
-  did_outside = did_nothing (bytes ∷ []) there;
+  did_outside = nothing_done (bytes ∷ []) there;
 }
 
 pub breaks_before : (server work bytes : List ℕ) (copy : Volume) (there : Outside) → BreaksReply server work bytes copy there there
-breaks_before server work bytes copy there = record { did = nothing; breaks = inl refl; did_outside = did_nothing (bytes ∷ []) there }
+breaks_before server work bytes copy there = record { did = did_nothing; breaks = inl refl; did_outside = nothing_done (bytes ∷ []) there }
 
 -- a frame that was served and is not answered
 pub unanswered : (server work bytes reply : List ℕ) (s t : Volume) (old new : Outside) → RepliesTo server work bytes reply s t old new → BreaksReply server work bytes s old new
@@ -185,11 +185,11 @@ unanswered server work bytes reply s t old new replied = record { did = replied.
 -- ---- by what a call gave
 
 module _ (server work bytes : List ℕ) (copy : Volume) (old new : Outside) (result : Result (Vec ℕ Global) AllocError) where
-  pub replies_where : (after : Volume) (request : Message) → frame_of bytes ≡ Ok request → IsValid request → IfOk result (λ answer. IsHandled server work copy request answer.items after old new)
+  pub replies_where : (after : Volume) (request : Message) → frame_of bytes ≡ Ok request → IsValid request → IfOk result (λ answer. IsMessageHandled server work copy request answer.items after old new)
       → IfOk result (λ answer. RepliesTo server work bytes answer.items copy after old new)
   replies_where after request read valid handled = by result handled
     where
-      by : (came : Result (Vec ℕ Global) AllocError) → IfOk came (λ answer. IsHandled server work copy request answer.items after old new) → IfOk came (λ answer. RepliesTo server work bytes answer.items copy after old new)
+      by : (came : Result (Vec ℕ Global) AllocError) → IfOk came (λ answer. IsMessageHandled server work copy request answer.items after old new) → IfOk came (λ answer. RepliesTo server work bytes answer.items copy after old new)
       by (Ok answer) is = replies_handled server work bytes copy request old new read valid answer.items after is
       by (Err e) is = tt
 

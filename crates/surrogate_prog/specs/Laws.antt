@@ -14,21 +14,21 @@ use Rattle.wire_frames.specs.Reading.{frame_of}
 use Rattle.world_rules.specs.World.{World, MovedBy, MovedAlone}
 use Rattle.world_rules.specs.declared.asking.Ask.{Ask}
 use Rattle.world_rules.specs.Settling.{failed_asks}
-use Rattle.surrogate_prog.specs.Words.{Run}
+use Rattle.surrogate_prog.specs.Words.{SurrogateInvocation}
 use Rattle.surrogate_prog.specs.Serving.{Doings, AnyAsks, ServesFrames}
-use Rattle.surrogate_prog.specs.Run.{Telling, Ran}
+use Rattle.surrogate_prog.specs.Run.{SurrogateTelling, SurrogateRan}
 
 -- serving came to its end
-abbrev pub IsWhole : ℕ → Type 0
-IsWhole status = (status ≡ 0) ⊎ (status ≡ 4)
+abbrev pub SurrogateIsWhole : ℕ → Type 0
+SurrogateIsWhole status = (status ≡ 0) ⊎ (status ≡ 4)
 
-abbrev pub FallsAreBounded : Type 0
-FallsAreBounded = (run : Run) (status : ℕ) (old new : Telling) (written now : Option (List ℕ)) → Ran run status old new written now → HasFallen run.count (IsWhole status) old.port new.port
+abbrev pub SurrogateFallsAreBounded : Type 0
+SurrogateFallsAreBounded = (run : SurrogateInvocation) (status : ℕ) (old new : SurrogateTelling) (written now : Option (List ℕ)) → SurrogateRan run status old new written now → HasFallen run.count (SurrogateIsWhole status) old.port new.port
 
 -- at status 7 the connection at hand may be without an answer and without a fault; at status 0 the last line was written
-abbrev pub FramesAreCounted : Type 0
-FramesAreCounted = (run : Run) (status : ℕ) (old new : Telling) (written now : Option (List ℕ)) (talks : List Talk)
-    → Ran run status old new written now → HasTalks talks old.port new.port → IsTold (IsWhole status) (status ≡ 0) talks old.port new.port written now
+abbrev pub SurrogateFramesAreCounted : Type 0
+SurrogateFramesAreCounted = (run : SurrogateInvocation) (status : ℕ) (old new : SurrogateTelling) (written now : Option (List ℕ)) (talks : List Talk)
+    → SurrogateRan run status old new written now → HasTalks talks old.port new.port → IsTold (SurrogateIsWhole status) (status ≡ 0) talks old.port new.port written now
 
 -- the operations of a client among the frames had been sent when the world was so
 abbrev pub WereSent : List (List ℕ) → World → Type 0

@@ -25,8 +25,8 @@ pub record Doings : Type 0 where
   pub failed : ℕ
   pub asks : List Ask
 
-abbrev pub nothing : Doings
-nothing = record { runs = []; failed = 0; asks = [] }
+abbrev pub did_nothing : Doings
+did_nothing = record { runs = []; failed = 0; asks = [] }
 
 -- these doings, and then more
 abbrev pub and_then : Doings → Doings → Doings
@@ -35,7 +35,7 @@ and_then first more = record { runs = first.runs ++ more.runs; failed = first.fa
 -- Bytes that were read are served by a handling of their message; bytes that were refused are answered so.
 abbrev pub ServesRead : List ℕ → List ℕ → Volume → Result Message FrameError → Doings → Message → Volume → Type 0
 ServesRead server work copy (Ok request) did reply after = ServesTo server work copy request did.runs did.asks (Ok reply) after × (did.failed ≡ failed_runs reply)
-ServesRead server work copy (Err refusal) did reply after = (reply ≡ Malformed (refusal_code refusal) (refusal_offset refusal)) × (did ≡ nothing) × (after ≡ copy)
+ServesRead server work copy (Err refusal) did reply after = (reply ≡ Malformed (refusal_code refusal) (refusal_offset refusal)) × (did ≡ did_nothing) × (after ≡ copy)
 
 -- a frame was served: the frame that answers it spells the reply that its bytes came to
 pub record ServesFrame (server work : List ℕ) (copy : Volume) (pair : List ℕ × List ℕ) (did : Doings) (after : Volume) : Type 0 where
@@ -45,7 +45,7 @@ pub record ServesFrame (server work : List ℕ) (copy : Volume) (pair : List ℕ
 
 -- frames were served one after the other, each on the copy that the one before it left
 abbrev pub ServesFrames : List ℕ → List ℕ → Volume → List (List ℕ × List ℕ) → Doings → Volume → Type 0
-ServesFrames server work copy [] did after = (did ≡ nothing) × (after ≡ copy)
+ServesFrames server work copy [] did after = (did ≡ did_nothing) × (after ≡ copy)
 ServesFrames server work copy (pair ∷ pairs) did after =
     (first more : Doings) × (middle : Volume) × ServesFrame server work copy pair first middle × ServesFrames server work middle pairs more after × (did ≡ and_then first more)
 
@@ -61,7 +61,7 @@ pub record ServesPart (server work : List ℕ) (copy : Volume) (frames : List (L
   pub failed : did.failed ≡ failures_told result
 
 abbrev pub BreaksServing : List ℕ → List ℕ → Volume → List (List ℕ) → Doings → Type 0
-BreaksServing server work copy frames did = (did ≡ nothing) ⊎ ServesPart server work copy frames did
+BreaksServing server work copy frames did = (did ≡ did_nothing) ⊎ ServesPart server work copy frames did
 
 -- ---- what a runner and a link tell of it
 

@@ -1,11 +1,11 @@
 // What holds of every run: functions that do nothing, whose contracts are laws.
-ghost use Rattle.surrogate_prog.specs.Laws.{FallsAreBounded, FramesAreCounted, SilentServersFailedEight, RunsMoveAlone};
+ghost use Rattle.surrogate_prog.specs.Laws.{SurrogateFallsAreBounded, SurrogateFramesAreCounted, SilentServersFailedEight, RunsMoveAlone};
 
 /// Law: how many connections a run uses up, and how the frames taken and answered, the faults of the port and the last line
 /// follow from one another.
 pub fn connections_are_counted()
-    ensures falls { FallsAreBounded }
-    ensures frames { FramesAreCounted }
+    ensures falls { SurrogateFallsAreBounded }
+    ensures frames { SurrogateFramesAreCounted }
 {}
 
 /// Law: for each operation that is declined since no server answered, eight asks failed.

@@ -4,8 +4,8 @@ ghost use Rattle.std.specs.String.{string_bytes};
 ghost use Rattle.std.specs.Process.{exit_status};
 ghost use Rattle.program_words.specs.Pages.{page_asked};
 ghost use Rattle.surrogate_prog.specs.Serving.{told};
-ghost use Rattle.surrogate_prog.specs.Run.{is_exit, Ends};
-ghost use Rattle.surrogate_prog.specs.Words.{run_of};
+ghost use Rattle.surrogate_prog.specs.Run.{is_surrogate_exit, SurrogateEnds};
+ghost use Rattle.surrogate_prog.specs.Words.{surrogate_run_of};
 
 use crate::run::surrogate_run;
 use crate::words::{RunWords, run_words};
@@ -75,7 +75,7 @@ pub(crate) const NAME: &str = "surrogate";
 pub fn surrogate_program<
     R: Print + Eprint + AllocGlobal + Env + Files<File = File> + Net + Clock + Processes,
 >(rt: &R, process: u32) -> ExitCode
-    ensures { IsTrue (is_exit (exit_status result)) }
+    ensures { IsTrue (is_surrogate_exit (exit_status result)) }
 {
     match checked_words(given_words(rt)) {
         Ok(words) => surrogate_main(rt, process, &words),
@@ -91,8 +91,8 @@ pub fn surrogate_main<
     R: Print + Eprint + AllocGlobal + Files<File = File> + Net + Clock + Processes,
 >(rt: &R, process: u32, words: &[String]) -> ExitCode
     ensures form { exit_status result ≡ 2 ↔ (page_asked (map string_bytes words.now) ≡ None)
-        × (run_of (map string_bytes words.now) ≡ None) }
-    ensures known { IsTrue (is_exit (exit_status result)) }
+        × (surrogate_run_of (map string_bytes words.now) ≡ None) }
+    ensures known { IsTrue (is_surrogate_exit (exit_status result)) }
 {
     let mut output = StdSink::new(io::writer(rt));
     if let Some(ended) = page_shown(rt, NAME, &PAGES, words, &mut output) {
@@ -114,13 +114,13 @@ fn serve_bound<R: Eprint + AllocGlobal + Files<File = File> + Net + Clock + Proc
     bound: io::Result<TcpPort<'_, R>>,
     output: &mut O,
 ) -> ExitCode
-    requires said { run_of (map string_bytes words.now) ≡ Some (record
+    requires said { surrogate_run_of (map string_bytes words.now) ≡ Some (record
         { address = run.now.address.now; server = run.now.server.now; work = run.now.work.now; count = run.now.count }) }
     requires there { IfOk bound (λ port. port.address.now ≡ run.now.address.now) }
     ensures refused { IsErr bound.entry → exit_status result ≡ 1 }
     ensures bound { IsOk bound.entry → exit_status result ≢ 1 }
     ensures form { exit_status result ≢ 2 }
-    ensures known { IsTrue (is_exit (exit_status result)) }
+    ensures known { IsTrue (is_surrogate_exit (exit_status result)) }
 {
     match bound {
         Ok(mut port) => {
@@ -155,7 +155,7 @@ pub fn served<E: Eprint, P: Port, L: Link, R: Runner, O: Sink>(
     runner: &mut R,
     output: &mut O,
 ) -> ExitCode
-    ensures { Ends (map string_bytes words.now) (exit_status result)
+    ensures { SurrogateEnds (map string_bytes words.now) (exit_status result)
         (record {
           port = P.tells port.old;
           outside = told (R.runs runner.old) (R.faults runner.old) (L.tells link.old);

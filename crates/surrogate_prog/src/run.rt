@@ -3,8 +3,8 @@ ghost use Rattle.std.specs.Prelude.{◌≡◌, ◌≤◌, IsTrue, map};
 ghost use Rattle.std.specs.String.{string_bytes};
 ghost use Rattle.outside.specs.Outside.{CountsFault};
 ghost use Rattle.surrogate_prog.specs.Serving.{told};
-ghost use Rattle.surrogate_prog.specs.Run.{status_of, is_status, telling, RunTurn, Ends};
-ghost use Rattle.surrogate_prog.specs.Inside.{stopped_by_sink};
+ghost use Rattle.surrogate_prog.specs.Run.{surrogate_status_of, is_surrogate_status, surrogate_telling, SurrogateRun, SurrogateEnds};
+ghost use Rattle.surrogate_prog.specs.Inside.{surrogate_stopped_by_sink};
 
 use crate::serving::{Route, serve};
 use crate::words::{RunWords, run_words};
@@ -26,7 +26,7 @@ pub(crate) enum Stopped {
 }
 
 impl From<SinkError> for Stopped {
-    ghost from_gives = { λ error stopped. stopped ≡ stopped_by_sink error };
+    ghost from_gives = { λ error stopped. stopped ≡ surrogate_stopped_by_sink error };
 
     fn from(error: SinkError) -> Stopped {
         match error {
@@ -48,8 +48,8 @@ impl From<AllocError> for Stopped {
 
 /// The status of a run that ended so.
 fn status_of(ended: Result<(), Stopped>) -> u8
-    ensures status { result ≡ status_of ended }
-    ensures known { IsTrue (is_status result) }
+    ensures status { result ≡ surrogate_status_of ended }
+    ensures known { IsTrue (is_surrogate_status result) }
 {
     let status = match ended {
         Ok(()) => Status::Done,
@@ -69,12 +69,12 @@ fn run<P: Port, R: Runner, L: Link, O: Sink>(
     output: &mut O,
 ) -> Result<(), Stopped>
     requires { words.now.count ≤ 65536 }
-    ensures turn { RunTurn (record {
+    ensures turn { SurrogateRun (record {
       address = words.now.address.now;
       server = words.now.server.now;
       work = words.now.work.now;
       count = words.now.count;
-    }) (telling (P.tells port.old) (told (R.runs runner.old) (R.faults runner.old) (L.tells link.old))) (telling (P.tells port.new) (told (R.runs runner.new) (R.faults runner.new) (L.tells link.new))) (O.written output.old) (O.written output.new) result }
+    }) (surrogate_telling (P.tells port.old) (told (R.runs runner.old) (R.faults runner.old) (L.tells link.old))) (surrogate_telling (P.tells port.new) (told (R.runs runner.new) (R.faults runner.new) (L.tells link.new))) (O.written output.old) (O.written output.new) result }
     ensures sink { CountsFault Stopped.Sink (O.faults output.old) (O.faults output.new) result }
 {
     let route = Route {
@@ -107,7 +107,7 @@ pub fn surrogate_run<P: Port, O: Sink, R: Runner, L: Link>(
     runner: &mut R,
     output: &mut O,
 ) -> u8
-    ensures { Ends (map string_bytes words.now) result
+    ensures { SurrogateEnds (map string_bytes words.now) result
         (record {
           port = P.tells port.old;
           outside = told (R.runs runner.old) (R.faults runner.old) (L.tells link.old);

@@ -3,8 +3,8 @@ ghost use Rattle.std.specs.Prelude.{◌≡◌, ◌≤◌, IfOk, OnErr};
 ghost use Rattle.wire_frames.specs.Frame.{IsValid, frame};
 ghost use Rattle.surrogate_core.specs.Handling.{Idle};
 ghost use Rattle.surrogate_prog.specs.Serving.{told};
-ghost use Rattle.surrogate_prog.specs.Inside.{RepliesTo, BreaksReply, IsHandled, BreaksHandled, ServesNext, BreaksOff};
-ghost use Rattle.surrogate_prog.specs.Inside.{ServesAll, ServesFront};
+ghost use Rattle.surrogate_prog.specs.Inside.{RepliesTo, BreaksReply, IsMessageHandled, BreaksHandled, SurrogateServesNext, BreaksTaking};
+ghost use Rattle.surrogate_prog.specs.Inside.{SurrogateServesAll, SurrogateServesFront};
 
 use cmd_capture::Runner;
 use outside::Port;
@@ -35,7 +35,7 @@ fn handle<R: Runner, L: Link>(
     requires idle { surrogate.old.phase ≡ Idle }
     requires valid { IsValid request }
     ensures idle { surrogate.new.phase ≡ Idle }
-    ensures ok { IfOk result (λ bytes. IsHandled route.now.server.now route.now.work.now surrogate.old.copy request bytes.items
+    ensures ok { IfOk result (λ bytes. IsMessageHandled route.now.server.now route.now.work.now surrogate.old.copy request bytes.items
         surrogate.new.copy (told (R.runs runner.old) (R.faults runner.old) (L.tells link.old))
         (told (R.runs runner.new) (R.faults runner.new) (L.tells link.new))) }
     ensures err { OnErr result (BreaksHandled route.now.server.now route.now.work.now surrogate.old.copy request
@@ -91,10 +91,10 @@ fn serve_next<P: Port, R: Runner, L: Link>(
 ) -> Result<Came, AllocError>
     requires idle { surrogate.old.phase ≡ Idle }
     ensures idle { surrogate.new.phase ≡ Idle }
-    ensures ok { IfOk result (λ came. ServesNext route.now.server.now route.now.work.now came surrogate.old.copy surrogate.new.copy
+    ensures ok { IfOk result (λ came. SurrogateServesNext route.now.server.now route.now.work.now came surrogate.old.copy surrogate.new.copy
         (P.tells port.old) (P.tells port.new) (told (R.runs runner.old) (R.faults runner.old) (L.tells link.old))
         (told (R.runs runner.new) (R.faults runner.new) (L.tells link.new))) }
-    ensures err { OnErr result (BreaksOff route.now.server.now route.now.work.now surrogate.old.copy (P.tells port.old)
+    ensures err { OnErr result (BreaksTaking route.now.server.now route.now.work.now surrogate.old.copy (P.tells port.old)
         (P.tells port.new) (told (R.runs runner.old) (R.faults runner.old) (L.tells link.old))
         (told (R.runs runner.new) (R.faults runner.new) (L.tells link.new))) }
 {
@@ -119,10 +119,10 @@ pub(crate) fn serve<P: Port, R: Runner, L: Link>(
 ) -> Result<Tally, AllocError>
     requires idle { surrogate.old.phase ≡ Idle }
     requires count { count ≤ 65536 }
-    ensures ok { IfOk result (λ tally. ServesAll route.now.server.now route.now.work.now count tally surrogate.old.copy
+    ensures ok { IfOk result (λ tally. SurrogateServesAll route.now.server.now route.now.work.now count tally surrogate.old.copy
         (P.tells port.old) (P.tells port.new) (told (R.runs runner.old) (R.faults runner.old) (L.tells link.old))
         (told (R.runs runner.new) (R.faults runner.new) (L.tells link.new))) }
-    ensures err { OnErr result (ServesFront route.now.server.now route.now.work.now count surrogate.old.copy (P.tells port.old)
+    ensures err { OnErr result (SurrogateServesFront route.now.server.now route.now.work.now count surrogate.old.copy (P.tells port.old)
         (P.tells port.new) (told (R.runs runner.old) (R.faults runner.old) (L.tells link.old))
         (told (R.runs runner.new) (R.faults runner.new) (L.tells link.new))) }
 {

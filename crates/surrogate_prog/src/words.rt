@@ -1,7 +1,7 @@
 ghost use Rattle.std.specs.Prelude.{◌≡◌, ◌≤◌, IfSome, MatchOption, None, Some, map};
 ghost use Rattle.std.specs.String.{string_bytes};
 ghost use Rattle.port_serving.specs.Words.{most_connections};
-ghost use Rattle.surrogate_prog.specs.Words.{run_of, is_run};
+ghost use Rattle.surrogate_prog.specs.Words.{surrogate_run_of, is_surrogate_run};
 
 use port_serving::connection_count;
 
@@ -20,8 +20,8 @@ pub struct RunWords<'a> {
 
 /// Takes apart the words `run LISTEN SERVER WORK COUNT`; `None` for any others.
 pub fn run_words(words: &[String]) -> Option<RunWords<'_>>
-    ensures form { MatchOption result (run_of (map string_bytes words.now) ≡ None)
-        (λ run. run_of (map string_bytes words.now) ≡ Some (record {
+    ensures form { MatchOption result (surrogate_run_of (map string_bytes words.now) ≡ None)
+        (λ run. surrogate_run_of (map string_bytes words.now) ≡ Some (record {
           address = run.address.now;
           server = run.server.now;
           work = run.work.now;
@@ -52,7 +52,7 @@ pub fn run_words(words: &[String]) -> Option<RunWords<'_>>
 }
 
 fn is_run(run: &[u8], address: &[u8], server: &[u8], work: &[u8]) -> bool
-    ensures { result ≡ is_run run.now address.now server.now work.now }
+    ensures { result ≡ is_surrogate_run run.now address.now server.now work.now }
 {
     run == b"run".as_slice() && !address.is_empty() && !server.is_empty() && !work.is_empty()
 }
