@@ -80,7 +80,11 @@ fn calls_from(alloc: Global, first: u32) -> Result<Vec<u32>, AllocError> {
 fn fails_from(alloc: Global, first: u32, leaves_new: bool) -> Result<Vec<KeepFail>, AllocError> {
     let mut fails = Vec::new(alloc);
     for call in first..9 {
-        fails.push(KeepFail { call, leaves_new })?;
+        fails.push(KeepFail {
+            call,
+            leaves_new,
+            part: 0,
+        })?;
     }
     Ok(fails)
 }
@@ -328,4 +332,90 @@ fn told_without_image(probe: &mut Probe) -> Result<Vec<u8>, AllocError> {
     told.extend_from_slice(&probe.run(b"put b y\nsync\n")?)?;
     told.extend_from_slice(&probe.rows()?)?;
     Ok(told)
+}
+
+// ---- records behind an image
+
+/// The record of a put of "y\n" at "b", and those of the numbers 1 and 2.
+const SECOND_PUT: &[u8] =
+    b"\0\0\0\x1f\x01\0\0\0\0\x01\x02\0\x01b\0\0\0\x02y\n\0\0\0\x01\0\x01b\0\0\0\0\0\0\0\0";
+
+const FIRST_ACKED: &[u8] = b"\0\0\0\x09\x02\0\0\0\0\0\0\0\x01";
+
+const SECOND_ACKED: &[u8] = b"\0\0\0\x09\x02\0\0\0\0\0\0\0\x02";
+
+/// What is kept after a run over this input.
+fn kept_after(alloc: Global, input: &[u8]) -> Result<Vec<u8>, AllocError> {
+    let mut probe = Probe::calm(alloc)?;
+    let told = probe.run(input);
+    let kept = match probe.image() {
+        Some(image) => image.to_vec(alloc),
+        None => Ok(Vec::new(alloc)),
+    };
+    drop(probe);
+    let _told = told?;
+    kept
+}
+
+/// The first change of a run saves the image, and each later one appends its record.
+#[test]
+fn later_changes_are_appended(rt: HostRuntime) -> Result<(), Fail> {
+    let alloc = rt.alloc();
+    let mut wanted = image_of(alloc, 1, 0)?;
+    assert_eq!(rt;
+        kept_after(alloc, b"put a x\n")?.as_slice(),
+        wanted.as_slice()
+    );
+    wanted.extend_from_slice(SECOND_PUT)?;
+    assert_eq!(rt;
+        kept_after(alloc, b"put a x\nput b y\n")?.as_slice(),
+        wanted.as_slice()
+    );
+    wanted.extend_from_slice(FIRST_ACKED)?;
+    wanted.extend_from_slice(SECOND_ACKED)?;
+    let kept = kept_after(alloc, b"put a x\nput b y\nsync\n")?;
+    assert_eq!(rt; kept.as_slice(), wanted.as_slice());
+    Ok(())
+}
+
+/// What a run and the next one tell, the second keeping of which fails and leaves so many bytes of its record.
+fn told_around_part(alloc: Global, part: u32) -> Result<Vec<u8>, AllocError> {
+    let mut fails = Vec::new(alloc);
+    fails.push(KeepFail {
+        call: 2,
+        leaves_new: false,
+        part,
+    })?;
+    let keeper = MemKeeper::new(alloc, fails);
+    let mut probe = Probe::keeping(alloc, keeper, Server::new(alloc), Vec::new(alloc))?;
+    let told = told_with_sync(&mut probe);
+    drop(probe);
+    told
+}
+
+fn told_with_sync(probe: &mut Probe) -> Result<Vec<u8>, AllocError> {
+    let mut told = probe.run(b"put a x\nput b y\n")?;
+    let mut next = probe.again()?;
+    let told_next = next.run(b"put c z\nsync\n");
+    drop(next);
+    told.extend_from_slice(&told_next?)?;
+    Ok(told)
+}
+
+/// A record that was not appended as a whole is none: the next run goes on without it.
+#[test]
+fn a_torn_record_is_dropped(rt: HostRuntime) -> Result<(), Fail> {
+    let alloc = rt.alloc();
+    let size = SECOND_PUT.len() as u32;
+    let torn = b"logged 1\nstatus 5\nlogged 2\nsynced 2\nacknowledged 2 pending 0\nstatus 0\n";
+    for part in 0..size {
+        assert_eq!(rt;
+            told_around_part(alloc, part)?.as_slice(),
+            torn.as_slice(),
+            "{part}"
+        );
+    }
+    let whole = b"logged 1\nstatus 5\nlogged 3\nsynced 3\nacknowledged 3 pending 0\nstatus 0\n";
+    assert_eq!(rt; told_around_part(alloc, size)?.as_slice(), whole.as_slice());
+    Ok(())
 }

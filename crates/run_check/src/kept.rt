@@ -21,6 +21,18 @@ const IMAGE: [u8; 162] = [
     63, 0, 0, 0, 1, 2, 0, 1, 98, 0, 0, 0, 2, 120, 10, 0, 0, 0, 1, 0, 1, 98, 0, 0, 0, 0, 0, 0, 0, 0,
 ];
 
+/// What a client keeps that was killed behind both lines: the image after the first, and a record of the second's entry, which is
+/// the one above, behind the number of its bytes and its kind.
+const KEPT: [u8; 167] = [
+    79, 83, 67, 73, 1, 1, 0, 0, 0, 0, 0, 0, 0, 0, 0, 0, 0, 0, 0, 0, 0, 1, 0, 0, 0, 0, 1, 2, 0, 1,
+    97, 0, 0, 0, 2, 120, 10, 0, 0, 0, 1, 0, 1, 97, 0, 0, 0, 0, 0, 0, 0, 0, 0, 0, 0, 111, 1, 1, 68,
+    131, 235, 145, 22, 180, 80, 177, 172, 238, 205, 224, 93, 63, 184, 16, 179, 6, 209, 13, 149,
+    178, 254, 118, 21, 28, 188, 118, 13, 99, 204, 56, 3, 0, 0, 0, 7, 47, 98, 105, 110, 47, 99, 112,
+    0, 2, 0, 0, 0, 1, 97, 0, 0, 0, 1, 98, 0, 0, 0, 1, 0, 0, 0, 1, 65, 0, 0, 0, 1, 49, 0, 1, 0, 1,
+    97, 0, 1, 2, 116, 63, 0, 0, 0, 1, 2, 0, 1, 98, 0, 0, 0, 2, 120, 10, 0, 0, 0, 1, 0, 1, 98, 0, 0,
+    0, 0, 0, 0, 0, 0,
+];
+
 /// A client whose keeper fails in these calls.
 fn probe_of(alloc: Global, fails: Vec<KeepFail>) -> Result<Probe, AllocError> {
     let keeper = MemKeeper::new(alloc, fails);
@@ -36,7 +48,7 @@ fn give_b(alloc: Global, probe: &mut Probe) -> Result<(), AllocError> {
 
 // ---- a client that is stopped behind its run
 
-/// What a client tells whose source fails behind both lines, and whether its image is then the one wanted.
+/// What a client tells whose source fails behind both lines, and whether what it keeps is then what is wanted.
 fn stopped(alloc: Global, probe: &mut Probe) -> Result<(Vec<u8>, bool), AllocError> {
     give_b(alloc, probe)?;
     let fails = Fails {
@@ -44,7 +56,7 @@ fn stopped(alloc: Global, probe: &mut Probe) -> Result<(Vec<u8>, bool), AllocErr
         sink: Vec::new(alloc),
     };
     let told = probe.run_as("1", INPUT, fails)?;
-    Ok((told, probe.image() == Some(IMAGE.as_slice())))
+    Ok((told, probe.image() == Some(KEPT.as_slice())))
 }
 
 #[test]
@@ -88,7 +100,8 @@ fn told_around(alloc: Global, leaves_new: bool) -> Result<Vec<u8>, AllocError> {
     let fails = vec![in alloc;
         KeepFail {
             call: 2,
-            leaves_new
+            leaves_new,
+            part: 0
         },
     ]?;
     let mut probe = probe_of(alloc, fails)?;

@@ -20,7 +20,7 @@ use wire_frames::{Message, read};
 ///
 /// A packet is told by its client, its kind, its number and the paths and versions of its base, and a row by its path,
 /// its version, and what stands there.
-pub(crate) fn account_of_network(alloc: Global, net: &Network) -> Result<Vec<u8>, AllocError> {
+pub fn account_of_network(alloc: Global, net: &Network) -> Result<Vec<u8>, AllocError> {
     let mut text = Vec::new(alloc);
     let troubles = net.troubles();
     let last = net.server().last(1);

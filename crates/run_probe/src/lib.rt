@@ -7,6 +7,7 @@ mod networks;
 mod outcomes;
 mod probe;
 
+pub use account::account_of_network;
 pub use networks::{Network, network};
 pub use outcomes::giving;
 pub use probe::{
