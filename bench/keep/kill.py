@@ -115,22 +115,28 @@ def random_line(number):
     return f"{word} {random.choice([path(), random.choice(FOLDERS)]) if word == 'rm' else random.choice(FOLDERS)}"
 
 
+def read_rows(kept, count, at):
+    """The tree of so many rows, and the place behind them."""
+    tree = {}
+    for _ in range(count):
+        (size,) = struct.unpack_from(">H", kept, at)
+        path = kept[at + 2 : at + 2 + size].decode()
+        version, kind = struct.unpack_from(">QB", kept, at + 2 + size)
+        at += size + 11
+        node = [None, "folder", b""][kind]
+        if kind == 2:
+            (size,) = struct.unpack_from(">I", kept, at)
+            node = kept[at + 4 : at + 4 + size]
+            at += 4 + size
+        tree[path] = (version, node)
+    return tree, at
+
+
 def read_snapshot(frame):
     """The last number and the tree of a Snapshot frame."""
     expect(frame[4:7] == bytes([1, 21, 64]), f"no snapshot: {frame[:20].hex()}")
     last, count = struct.unpack_from(">QI", frame, 15)
-    at, tree = 27, {}
-    for _ in range(count):
-        (size,) = struct.unpack_from(">H", frame, at)
-        path = frame[at + 2 : at + 2 + size].decode()
-        version, kind = struct.unpack_from(">QB", frame, at + 2 + size)
-        at += size + 11
-        node = [None, "folder", b""][kind]
-        if kind == 2:
-            (size,) = struct.unpack_from(">I", frame, at)
-            node = frame[at + 4 : at + 4 + size]
-            at += 4 + size
-        tree[path] = (version, node)
+    tree, at = read_rows(frame, count, 27)
     expect(at == len(frame), "bytes are left behind a snapshot")
     return last, tree
 
@@ -181,9 +187,18 @@ class Pair:
         if not os.path.exists(self.server_image):
             return 0
         with open(self.server_image, "rb") as it:
-            kept = it.read(13)
+            kept = it.read()
         expect(kept[:5] == b"OSSI\x01", "no server's image")
-        return struct.unpack_from(">Q", kept, 5)[0]
+        (last,) = struct.unpack_from(">Q", kept, 5)
+        (count,) = struct.unpack_from(">I", kept, 5 + 64 * 8)
+        _, at = read_rows(kept, count, 9 + 64 * 8)
+        # the records behind it, of which the last one may be torn
+        while at + 4 <= len(kept) and at + 4 + struct.unpack_from(">I", kept, at)[0] <= len(kept):
+            size, kind, client, number = struct.unpack_from(">IBBQ", kept, at)
+            expect(kind == 3, "no record of a store")
+            last = number if client == 1 else last
+            at += 4 + size
+        return last
 
     def pull(self):
         """The tree that the server has, asked as client 64. It may have been started just now."""

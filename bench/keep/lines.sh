@@ -1,6 +1,7 @@
 #!/usr/bin/env bash
-# The seconds that logged lines take, each of which writes the client's whole image and syncs it to the disk: on an empty base, and on
-# a base of 32 MiB; beside them a program in Python that writes, syncs and renames as many files of these lengths.
+# The seconds that logged lines take, of which the first writes the client's whole image, and each later one appends a record, and
+# syncs it to the disk: on an empty base, and on a base of 32 MiB; beside them a program in Python that writes, syncs and renames a
+# file of the first length, and appends as many pieces, each synced.
 #
 #   bench/keep/lines.sh [LINES [LINES ON 32 MIB]]    1000 and 100 of them, where nothing else is said
 #   CLIENT=.. bench/keep/lines.sh                    over this program; else the proved one is built
@@ -31,16 +32,20 @@ measure() {
 import os, sys, time
 folder, count, least, most = sys.argv[1], *map(int, sys.argv[2:])
 began = time.monotonic()
-for i in range(count):
-    with open(f"{folder}/beside.new", "wb") as it:
-        it.write(bytes(least + (most - least) * i // count))
+with open(f"{folder}/beside.new", "wb") as it:
+    it.write(bytes(least))
+    it.flush()
+    os.fsync(it.fileno())
+os.rename(f"{folder}/beside.new", f"{folder}/beside")
+for i in range(1, count):
+    with open(f"{folder}/beside", "ab") as it:
+        it.write(bytes((most - least) * (i + 1) // count - (most - least) * i // count))
         it.flush()
         os.fsync(it.fileno())
-    os.rename(f"{folder}/beside.new", f"{folder}/beside")
 print(round((time.monotonic() - began) * 1000))
 PYTHON
     )
-    echo "$1: $2 lines in $spent ms, the last image of $size bytes; as many files written, synced and renamed: $beside ms"
+    echo "$1: $2 lines in $spent ms, at the end $size bytes are kept; a file and as many pieces behind it, each synced: $beside ms"
 }
 
 measure "on an empty base" "${1-1000}" 22
