@@ -25,10 +25,10 @@ use Rattle.store_image.proofs.Appended.{records_are_appended, cut_records_are_to
 use Rattle.client_core.specs.declared.keeping.Journal.{Journal}
 use Rattle.client_core.specs.declared.keeping.Piece.{Piece}
 use Rattle.client_core.specs.Client.{Client}
-use Rattle.client_core.specs.Journal.{last_number, notes_since, bytes_with, may_add, next_notes, bytes_after, journal_after}
+use Rattle.client_core.specs.Journal.{last_logged, notes_since, bytes_with, may_add, next_notes, bytes_after, journal_after}
 use Rattle.client_core.specs.Syncing.{acknowledged_first}
 use Rattle.client_core.specs.Keeping.{IsKept, log_until, IsReadyFor, IsReady, IsKeptNext, AddsSome, StillKeeps, LeavesKept, KeepsNext, KeepsLog}
-use Rattle.client_core.specs.Inside.{LeadsTo, MayKeep, IsPiece, IsCurrentFor, IsCurrent}
+use Rattle.client_core.specs.Inside.{LeadsTo, MayKeep, IsPiece, IsCurrentFor, JournalIsCurrent}
 
 -- ---- logs and their fronts
 
@@ -89,17 +89,17 @@ since_lead number log is =
     (lead.0, lead.1 ∙ ap (log_of log.acked log.base) whole)
 
 -- with all its entries it is the log
-until_last : (log : Log) (number : ℕ) → number ≡ last_number log → log_until number log ≡ log
+until_last : (log : Log) (number : ℕ) → number ≡ last_logged log → log_until number log ≡ log
 until_last log number is = ap (log_of log.acked log.base) (take_all (number - log.acked) log.pending (omega (arith, is)))
 
-until_all : (log : Log) (number : ℕ) → log_until number log ≡ log → number ≤ last_number log → log.acked ≤ number → number ≡ last_number log
+until_all : (log : Log) (number : ℕ) → log_until number log ≡ log → number ≤ last_logged log → log.acked ≤ number → number ≡ last_logged log
 until_all log number is last acked =
     let same = ap (λ (l : Log). length l.pending) is in
     let count = length-take (number - log.acked) log.pending in
     omega (arith, same, count, last, acked)
 
 -- and without an entry that was logged since it is the log without it
-until_logged : (log : Log) (e : Entry) (number : ℕ) → number ≤ last_number log → log_until number (logged e log) ≡ log_until number log
+until_logged : (log : Log) (e : Entry) (number : ℕ) → number ≤ last_logged log → log_until number (logged e log) ≡ log_until number log
 until_logged log e number last = ap (log_of log.acked log.base) (take-append-le (number - log.acked) log.pending (e ∷ []) (omega (arith, last)))
 
 -- ---- what a keeping finds
@@ -124,7 +124,7 @@ module _ (name : List ℕ) (number : ℕ) where
 
   module _ (log : Log) where
     -- the log that stands there is one under which the client may go on
-    pub current_ready : (journal : Option Journal) (i : Option Images) → IsCurrent i name number log journal → IsReady i name (record { number = number; log = log; journal = journal })
+    pub current_ready : (journal : Option Journal) (i : Option Images) → JournalIsCurrent i name number log journal → IsReady i name (record { number = number; log = log; journal = journal })
     current_ready journal None current = tt
     current_ready None (Some i) current = tt
     current_ready (Some j) (Some i) current = record {
@@ -136,7 +136,7 @@ module _ (name : List ℕ) (number : ℕ) where
     }
 
     -- one that is kept, and may go on there, stands there
-    pub ready_current : (journal : Option Journal) (i : Option Images) → IsKept i name number log → IsReady i name (record { number = number; log = log; journal = journal }) → IsCurrent i name number log journal
+    pub ready_current : (journal : Option Journal) (i : Option Images) → IsKept i name number log → IsReady i name (record { number = number; log = log; journal = journal }) → JournalIsCurrent i name number log journal
     ready_current journal None keeps ready = tt
     ready_current None (Some i) keeps ready = tt
     ready_current (Some j) (Some i) keeps ready =
@@ -186,7 +186,7 @@ few_notes false notes few = tt
 
 module _ (name : List ℕ) (number : ℕ) (log : Log) where
   -- the entry that was logged since the log was kept
-  pub logged_one : (e : Entry) (journal : Option Journal) (i : Option Images) → IsCurrent i name number log journal → IsOneAtMost i (next_notes journal false (logged e log))
+  pub logged_one : (e : Entry) (journal : Option Journal) (i : Option Images) → JournalIsCurrent i name number log journal → IsOneAtMost i (next_notes journal false (logged e log))
   logged_one e journal None current = tt
   logged_one e None (Some i) current = tt
   logged_one e (Some j) (Some i) current =
@@ -198,7 +198,7 @@ module _ (name : List ℕ) (number : ℕ) (log : Log) where
       (subst (λ (es : List Entry). length (map Logged es ++ []) ≤ 1) (sym one) (omega arith))
 
   -- nothing, where nothing was logged
-  pub same_one : (journal : Option Journal) (i : Option Images) → IsCurrent i name number log journal → IsOneAtMost i (next_notes journal false log)
+  pub same_one : (journal : Option Journal) (i : Option Images) → JournalIsCurrent i name number log journal → IsOneAtMost i (next_notes journal false log)
   same_one journal None current = tt
   same_one None (Some i) current = tt
   same_one (Some j) (Some i) current =
@@ -211,7 +211,7 @@ module _ (name : List ℕ) (number : ℕ) (log : Log) where
     some_of (entry ∷ entries) some = omega arith
 
     -- the number of the first pending entry, where the log was kept before it was acknowledged
-    acked_note : (j : Journal) → j.last ≡ last_number log → notes_since j true (acknowledged_first log) ≡ Acked (log.acked + 1) ∷ []
+    acked_note : (j : Journal) → j.last ≡ last_logged log → notes_since j true (acknowledged_first log) ≡ Acked (log.acked + 1) ∷ []
     acked_note j is =
         let m = log.acked + 1 - log.acked in
         let left = length-drop m log.pending in
@@ -219,7 +219,7 @@ module _ (name : List ℕ) (number : ℕ) (log : Log) where
         let none = drop_of_length-le (drop m log.pending) {i = j.last - (log.acked + 1)} (omega (arith, left, is, many)) in
         ap (λ (es : List Entry). map Logged es ++ Acked (log.acked + 1) ∷ []) none
 
-    pub acked_one : (journal : Option Journal) (i : Option Images) → IsCurrent i name number log journal → IsOneAtMost i (next_notes journal true (acknowledged_first log))
+    pub acked_one : (journal : Option Journal) (i : Option Images) → JournalIsCurrent i name number log journal → IsOneAtMost i (next_notes journal true (acknowledged_first log))
     acked_one journal None current = tt
     acked_one None (Some i) current = tt
     acked_one (Some j) (Some i) current =
@@ -232,11 +232,11 @@ module _ (name : List ℕ) (number : ℕ) (log : Log) where
         subst (λ (notes : List ClientRecord). LeadsTo number (acknowledged_first log) notes found) (sym (acked_note j current.last))
         (record { bytes = current.bytes; stands = current.stands; base = log; whole = current.whole; noted = ((omega arith, omega (arith, many)), tt); leads = refl })
 
-    pub may_keep_acked : (journal : Option Journal) (i : Option Images) → IsCurrent i name number log journal → MayKeep (next_notes journal true (acknowledged_first log)) i name number (acknowledged_first log)
+    pub may_keep_acked : (journal : Option Journal) (i : Option Images) → JournalIsCurrent i name number log journal → MayKeep (next_notes journal true (acknowledged_first log)) i name number (acknowledged_first log)
     may_keep_acked None i current = tt
     may_keep_acked (Some j) i current = by (may_add j true (acknowledged_first log)) i current
       where
-        by : (may : Bool) (i : Option Images) → IsCurrent i name number log (Some j) → MayKeep (if may then Some (notes_since j true (acknowledged_first log)) else None) i name number (acknowledged_first log)
+        by : (may : Bool) (i : Option Images) → JournalIsCurrent i name number log (Some j) → MayKeep (if may then Some (notes_since j true (acknowledged_first log)) else None) i name number (acknowledged_first log)
         by true None current = tt
         by true (Some i) current = acked_leads j (i name) current
         by false i current = tt
@@ -263,7 +263,7 @@ module _ {E : Type 0} (name : List ℕ) (number : ℕ) (log : Log) where
 
   -- and what it leaves is what the next one finds
   pub next_current : (journal : Option Journal) (notes : Option (List ClientRecord)) (r : Result (Unit {0}) E) (i j : Option Images) → Told i j (KeepsNext name number log notes r)
-      → IsCurrent j name number log (journal_after journal notes log r)
+      → JournalIsCurrent j name number log (journal_after journal notes log r)
   next_current journal notes r i None told = tt
   next_current journal notes (Err e) i (Some y) told = tt
   next_current journal notes (Ok done) None (Some y) told = absurd (cc)

@@ -32,7 +32,7 @@ use Rattle.client_core.specs.declared.keeping.Journal.{Journal}
 use Rattle.client_core.specs.Keeping.{IsKept, IsReady, IsKeptReady}
 use Rattle.client_core.specs.Running.{changes_of, first_clash, origin_of, run_entry, run_logged, IsLoggable, RanEnd, ran_trace, RunTurn, BreaksRun, RunEnds, has_logged, RunsCommand}
 use Rattle.client_core.specs.Journal.{next_notes}
-use Rattle.client_core.specs.Inside.{IsCurrent, ran, RanEnds, IsUnlogged, unrun_end, jobless_end, odd_end}
+use Rattle.client_core.specs.Inside.{JournalIsCurrent, ran, RanEnds, IsUnlogged, unrun_end, jobless_end, odd_end}
 use Rattle.client_core.specs.Goes.{Goes, telling}
 use Rattle.client_core.proofs.Going.{has_run_none, changed_so, goes_ran, goes_ran_logged}
 use Rattle.client_core.proofs.Counting.{unrisen}
@@ -163,7 +163,7 @@ module _ (command : Command) (before after : Log) where
   ran_one work end p q did name number journal now same i kept =
       subst (λ (j : Option Journal). IsOneAtMost i (next_notes j false after)) (sym same) (by (runs_log work end did.trace did.turn))
     where
-      current : IsCurrent i name number before journal
+      current : JournalIsCurrent i name number before journal
       current = ready_current name number before journal i kept.0 kept.1
 
       by : IsLoggedOrSame before after → IsOneAtMost i (next_notes journal false after)

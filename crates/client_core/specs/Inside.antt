@@ -41,7 +41,7 @@ use Rattle.client_core.specs.declared.running.RunEnd.TheVariants as runs
 use Rattle.client_core.specs.Syncing.{store_of, IsFirst, SettlesOperation, StoreIsDue, Ships, BreaksShipping}
 use Rattle.client_core.specs.Pulling.{Meets}
 use Rattle.client_core.specs.Running.{changes_of, first_clash, IsLoggable, RanEnd}
-use Rattle.client_core.specs.Journal.{last_number, bytes_after}
+use Rattle.client_core.specs.Journal.{last_logged, bytes_after}
 use Rattle.client_core.specs.Causes.{TakesRows}
 
 -- ---- shipping
@@ -169,12 +169,12 @@ MayKeep (Some notes) (Some images) name number log = LeadsTo number log notes (i
 pub record IsCurrentFor (number : ℕ) (log : Log) (journal : Journal) (found : Option (List ℕ)) : Type 0 where
   pub bytes : List ℕ
   pub stands : found ≡ Some bytes
-  pub last : journal.last ≡ last_number log
+  pub last : journal.last ≡ last_logged log
   pub whole : IsKeptWholeFor number log bytes
 
-abbrev pub IsCurrent : Option Images → List ℕ → ℕ → Log → Option Journal → Type 0
-IsCurrent None name number log journal = Unit {0}
-IsCurrent (Some images) name number log journal = IfSome journal (λ journal. IsCurrentFor number log journal (images name))
+abbrev pub JournalIsCurrent : Option Images → List ℕ → ℕ → Log → Option Journal → Type 0
+JournalIsCurrent None name number log journal = Unit {0}
+JournalIsCurrent (Some images) name number log journal = IfSome journal (λ journal. IsCurrentFor number log journal (images name))
 
 -- the piece is the records of the notes, and with them all records have so many bytes; there is none where the image is to be saved
 abbrev pub IsPiece : Option Journal → Option (List ClientRecord) → Option Piece → Type 0

@@ -8,8 +8,8 @@ use Rattle.store_image.specs.Records.{client_records}
 use Rattle.client_core.specs.declared.keeping.Journal.{Journal}
 
 -- the number of the log's last entry
-abbrev pub last_number : Log → ℕ
-last_number log = log.acked + length log.pending
+abbrev pub last_logged : Log → ℕ
+last_logged log = log.acked + length log.pending
 
 -- the acknowledged number, where it rose
 abbrev pub acked_notes : Bool → Log → List ClientRecord
@@ -41,7 +41,7 @@ bytes_after (Some notes) (Some journal) = bytes_with journal notes
 
 -- the journal after a keeping of a log, with so many bytes of records; none where it was refused
 abbrev pub journal_with : {E : Type 0} → ℕ → Log → Result (Unit {0}) E → Option Journal
-journal_with bytes log (Ok done) = Some (record { last = last_number log; bytes = bytes })
+journal_with bytes log (Ok done) = Some (record { last = last_logged log; bytes = bytes })
 journal_with bytes log (Err e) = None
 
 -- the journal after a keeping that was to add these notes

@@ -9,7 +9,7 @@ use Rattle.store_image.specs.Records.{client_records, with_records}
 use Rattle.store_image.specs.Spelling.{client as image}
 use Rattle.client_core.specs.declared.keeping.Journal.{Journal}
 use Rattle.client_core.specs.Client.{Client}
-use Rattle.client_core.specs.Journal.{last_number}
+use Rattle.client_core.specs.Journal.{last_logged}
 use Rattle.client_core.specs.Trace.{last_log, IsLastOrBefore}
 
 -- what stands under the name is kept for this log, where the keeper tells its images
@@ -47,7 +47,7 @@ pub record IsReadyFor (number : ℕ) (log : Log) (journal : Journal) (found : Op
   pub bytes : List ℕ
   pub stands : found ≡ Some bytes
   pub acked : log.acked ≤ journal.last
-  pub last : journal.last ≤ last_number log
+  pub last : journal.last ≤ last_logged log
   pub whole : IsKeptWholeFor number (log_until journal.last log) bytes
 
 -- A client that adds to what is kept finds it so under the name, where the keeper tells its images. With what its next keeping appends

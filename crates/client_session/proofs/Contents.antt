@@ -25,7 +25,7 @@ use Rattle.work_area.specs.Changes.{is_gone, is_new, removal_of, made, making, m
 use Rattle.mod_log.specs.declared.log.Entry.{Entry}
 use Rattle.mod_log.specs.declared.log.LogError.{LogError}
 use Rattle.mod_log.specs.Log.{Log}
-use Rattle.mod_log.specs.Sketched.{Writes}
+use Rattle.mod_log.specs.Sketched.{WritesContent}
 use Rattle.wire_frames.specs.declared.message.Message.{Message}
 use Rattle.wire_frames.specs.declared.message.Message.TheVariants.{Store}
 use Rattle.world_rules.specs.declared.asking.Ask.{Ask}
@@ -107,7 +107,7 @@ read_node raw row is = by (ok (path_of raw.path)) is
     by None is = absurd (cc)
 
 -- what the changes of a run write, the run left
-run_writes : (run : Run) (content : List ℕ) → Writes (changes_of run) content → IsOfRuns (run ∷ []) content
+run_writes : (run : Run) (content : List ℕ) → WritesContent (changes_of run) content → IsOfRuns (run ∷ []) content
 run_writes run content writes =
     let put = put_is_left run.job.rows (read_rows run.outcome.rows) writes.0 content writes.1 in
     let read = in_filter_map read_row run.outcome.rows put.0 put.1 in
@@ -117,7 +117,7 @@ run_writes run content writes =
 
 -- what an entry writes that a command made, a run left
 abbrev pub WriteWhatIsLeft : Trace → Type 0
-WriteWhatIsLeft trace = (entry : Entry) (content : List ℕ) → IsIn entry trace.entries → IsSome entry.origin → Writes entry.effects content → IsOfRuns trace.runs content
+WriteWhatIsLeft trace = (entry : Entry) (content : List ℕ) → IsIn entry trace.entries → IsSome entry.origin → WritesContent entry.effects content → IsOfRuns trace.runs content
 
 none_written : (trace : Trace) → trace.entries ≡ [] → WriteWhatIsLeft trace
 none_written trace none entry content among made writes = absurd (subst (IsIn entry) none among)
@@ -172,7 +172,7 @@ pull_none client route before pulls.Memory after trace turn = snapshot_none clie
 
 entry_writes : (command : Command) (before : Log) (run : Run) (after : Log) → WriteWhatIsLeft (followed (running (run ∷ []) 0) (logging (run_entry command run before) after))
 entry_writes command before run after entry content (inl is) made writes =
-    run_writes run content (subst (λ (e : Entry). Writes e.effects content) is writes)
+    run_writes run content (subst (λ (e : Entry). WritesContent e.effects content) is writes)
 entry_writes command before run after entry content (inr never) made writes = absurd never
 
 run_written : (work : List ℕ) (command : Command) (before : Log) (end : RunEnd) (after : Log) (trace : Trace) → RunTurn work command before end after trace → WriteWhatIsLeft trace

@@ -8,7 +8,7 @@ use Rattle.cmd_capture.specs.declared.job.RawRow.{RawRow}
 use Rattle.cmd_capture.specs.declared.runner.Run.{Run}
 use Rattle.mod_log.specs.declared.log.Entry.{Entry}
 use Rattle.mod_log.specs.Log.{Log}
-use Rattle.mod_log.specs.Sketched.{Writes}
+use Rattle.mod_log.specs.Sketched.{WritesContent}
 use Rattle.wire_frames.specs.declared.message.Message.{Message}
 use Rattle.wire_frames.specs.declared.message.Message.TheVariants.{Store, Snapshot}
 use Rattle.world_rules.specs.InStep.{HasNoCollision}
@@ -23,7 +23,7 @@ use Rattle.client_session.specs.Session.{SessionState, Chain, BreaksChain}
 
 -- one of the entries writes this content
 abbrev pub IsOfEntries : List Entry → List ℕ → Type 0
-IsOfEntries entries content = (entry : Entry) × IsIn entry entries × Writes entry.effects content
+IsOfEntries entries content = (entry : Entry) × IsIn entry entries × WritesContent entry.effects content
 
 -- one of the lines puts a text that is this content with its line end
 abbrev pub IsOfLines : List (Result Line LineError) → List ℕ → Type 0
@@ -39,7 +39,7 @@ IsOfTheRun pending lines runs content = IsOfEntries pending content ⊎ IsOfLine
 
 -- the message has this content: a store what its effects write, a snapshot what its files have
 abbrev pub HasContent : Message → List ℕ → Type 0
-HasContent (Store client number effects base) content = Writes effects content
+HasContent (Store client number effects base) content = WritesContent effects content
 HasContent (Snapshot client number last rows) content = (row : Row) × IsIn row rows × (row.node ≡ Some (File content))
 HasContent message content = ⊥
 

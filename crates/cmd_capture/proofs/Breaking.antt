@@ -31,7 +31,7 @@ use Rattle.cmd_capture.specs.Rules.{is_text, is_program, is_key, is_key_byte, is
 use Rattle.cmd_capture.specs.Spelling.{variable, template, counted, command, AreParts, IsCommand, job_row, RowFits}
 use Rattle.cmd_capture.specs.Fields.{command_fields}
 use Rattle.cmd_capture.specs.Reading.{bytes_at, text_at, template_at, is_new_key, variable_at, with_pair, variables_at, alike_at}
-use Rattle.cmd_capture.specs.Reading.{counted_at, parts_at, command_at, file_at, node_kinds, node_at, job_row_at, job_rows_at, job_at}
+use Rattle.cmd_capture.specs.Reading.{counted_at, parts_at, command_at, job_file_at, job_node_kinds, job_node_at, job_row_at, job_rows_at, job_at}
 use Rattle.cmd_capture.specs.Broken.{HasLength, BrokenParts, BrokenLists, before_args, before_cwd, before_env}
 use Rattle.cmd_capture.specs.Broken.{before_inputs, before_templates, IsRefusedBehind, BrokenCommands, LongCommands, BrokenJobRows}
 use Rattle.cmd_capture.specs.Broken.{BrokenJobs}
@@ -297,26 +297,26 @@ long_refused c are counts large small bytes at next stands =
 
 -- ---- jobs
 
-no_kind : (kind : ℕ) → kind < 2 ^ 8 → AllByRecursion (λ known. kind ≢ known.0) node_kinds → IsRefused node_at (kind ∷ []) 0
-unfolding node_at
-no_kind kind byte none = unknown_kind node_kinds kind byte none
+no_kind : (kind : ℕ) → kind < 2 ^ 8 → AllByRecursion (λ known. kind ≢ known.0) job_node_kinds → IsRefused job_node_at (kind ∷ []) 0
+unfolding job_node_at
+no_kind kind byte none = unknown_kind job_node_kinds kind byte none
 
-large_file : (size : ℕ) → max_file < size → size < 2 ^ 32 → IsRefused node_at (2 ∷ digits w32 size) (1 + 0)
-unfolding node_at file_at
+large_file : (size : ℕ) → max_file < size → size < 2 ^ 32 → IsRefused job_node_at (2 ∷ digits w32 size) (1 + 0)
+unfolding job_node_at job_file_at
 large_file size large small =
-    tagged_refused node_kinds 2 file_at (digits w32 size) 0 (lit< tt) (λ tag at bytes. refl)
+    tagged_refused job_node_kinds 2 job_file_at (digits w32 size) 0 (lit< tt) (λ tag at bytes. refl)
     (first_refused (content_at max_file) (λ c. none (File c)) (digits w32 size) 0 (length_refused max_file size large small))
 
 path_refused : (text : List ℕ) (offset : ℕ) → IsRefused path_at text offset → IsRefused job_row_at text offset
 unfolding job_row_at
-path_refused text offset refused = first_refused path_at (λ p. one node_at (λ n. record { path = p; node = n })) text offset refused
+path_refused text offset refused = first_refused path_at (λ p. one job_node_at (λ n. record { path = p; node = n })) text offset refused
 
-node_refused : (p : FilePath) (text : List ℕ) (offset : ℕ) → IsPath p → IsRefused node_at text offset
+node_refused : (p : FilePath) (text : List ℕ) (offset : ℕ) → IsPath p → IsRefused job_node_at text offset
     → IsRefused job_row_at (path p ++ text) (length (path p) + offset)
 unfolding job_row_at
 node_refused p text offset is refused =
-    later_refused path_at (λ q. one node_at (λ n. record { path = q; node = n })) (path p) text p offset (read_again path_codec p is)
-    (first_refused node_at (λ n. none (record { path = p; node = n })) text offset refused)
+    later_refused path_at (λ q. one job_node_at (λ n. record { path = q; node = n })) (path p) text p offset (read_again path_codec p is)
+    (first_refused job_node_at (λ n. none (record { path = p; node = n })) text offset refused)
 
 pub broken_job_rows : BrokenJobRows
 broken_job_rows = record {

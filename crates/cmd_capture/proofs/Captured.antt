@@ -28,7 +28,7 @@ use Rattle.cmd_capture.specs.Rules.{AreVariables}
 use Rattle.cmd_capture.specs.Spelling.{command, IsCommand}
 use Rattle.cmd_capture.specs.Capture.{options, program_words, program, in_mark, env_mark, tmp_mark, behind, holds_behind, is_unknown}
 use Rattle.cmd_capture.specs.Capture.{is_bad_path, is_bad_assignment, is_bad_template, has_zero, assignment, variable_of, set_variable}
-use Rattle.cmd_capture.specs.Capture.{ok, input_of, captured, refusal_at, text_refusals, refusals, capture}
+use Rattle.cmd_capture.specs.Capture.{ok, input_of, captured, refusal_at, text_refusals, capture_refusals, capture}
 use Rattle.cmd_capture.proofs.Pairs.{new_key_is_last}
 use Rattle.cmd_capture.proofs.Codec.{keys, one_more_key}
 
@@ -225,7 +225,7 @@ other_texts (w ∷ words) all = all.1
 
 pub captured_fits : (words : List (List ℕ)) (cwd : FilePath) (c : Command) → IsPath cwd → capture words cwd ≡ Ok c → IsCommand c
 captured_fits words cwd c is h =
-    let n = none_refused (refusals words cwd) (captured words cwd) c h in
+    let n = none_refused (capture_refusals words cwd) (captured words cwd) c h in
     let some = not_when (nat_lt (length (program_words words)) 1) NoProgram n.0 in
     let env = none_passes (holds_behind env_mark is_bad_assignment) (options words) (not_at BadEnv _ n.1.1.1.0) in
     let templates = none_passes (holds_behind tmp_mark is_bad_template) (options words) (not_at BadTemplate _ n.1.1.1.1.0) in
@@ -254,7 +254,7 @@ captured_fits words cwd c is h =
       };
       short = short;
     } in
-    subst IsCommand (sym (value_unrefused (refusals words cwd) (captured words cwd) c h)) fits
+    subst IsCommand (sym (value_unrefused (capture_refusals words cwd) (captured words cwd) c h)) fits
 
 pub spelled_ok : (words : List (List ℕ)) (cwd : FilePath) (r : Result Command CaptureError) → IsPath cwd
     → IfOk r (λ c. capture words cwd ≡ Ok c) → IfOk r IsCommand

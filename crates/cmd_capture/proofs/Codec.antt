@@ -30,10 +30,10 @@ use Rattle.cmd_capture.specs.declared.job.Job.{Job}
 use Rattle.cmd_capture.specs.declared.job.JobRow.{JobRow}
 use Rattle.cmd_capture.specs.Environment.{has_key}
 use Rattle.cmd_capture.specs.Rules.{is_text, is_program, is_key, is_pattern, is_template, IsVariable, AreVariables}
-use Rattle.cmd_capture.specs.Spelling.{variable, template, counted, command, AreParts, CountsFit, IsCommand, node, job_row, job}
+use Rattle.cmd_capture.specs.Spelling.{variable, template, counted, command, AreParts, CountsFit, IsCommand, job_node, job_row, job}
 use Rattle.cmd_capture.specs.Spelling.{RowFits, IsJob}
 use Rattle.cmd_capture.specs.Reading.{bytes_at, text_at, template_at, is_new_key, variable_at, with_pair, variables_at, alike_at}
-use Rattle.cmd_capture.specs.Reading.{counted_at, parts_at, command_at, file_at, node_kinds, node_at, job_row_at, job_rows_at, job_at}
+use Rattle.cmd_capture.specs.Reading.{counted_at, parts_at, command_at, job_file_at, job_node_kinds, job_node_at, job_row_at, job_rows_at, job_at}
 
 -- ---- one field and what is read behind it
 
@@ -431,22 +431,22 @@ command_codec =
 abbrev pub NodeFits : Node → Type 0
 NodeFits n = (node_size (Some n) ≤ max_file) × IsBytes (file_bytes (Some n))
 
-node_again : (bytes : List ℕ) (at : ℕ) (n : Node) (next : ℕ) → Stands bytes at (node n) next → NodeFits n → node_at bytes at ≡ Ok (n, next)
-unfolding node_at file_at
-node_again bytes at Folder next stands fits = tagged_again0 node_kinds 1 (lit< tt) Folder bytes at next refl stands
+node_again : (bytes : List ℕ) (at : ℕ) (n : Node) (next : ℕ) → Stands bytes at (job_node n) next → NodeFits n → job_node_at bytes at ≡ Ok (n, next)
+unfolding job_node_at job_file_at
+node_again bytes at Folder next stands fits = tagged_again0 job_node_kinds 1 (lit< tt) Folder bytes at next refl stands
 node_again bytes at (File c) next stands fits =
-    tagged_again1 node_kinds 2 (lit< tt) (content_codec max_file (lit< tt)) File bytes at c next refl stands fits
+    tagged_again1 job_node_kinds 2 (lit< tt) (content_codec max_file (lit< tt)) File bytes at c next refl stands fits
 
-node_branches : AllByRecursion (λ (k : ℕ × Reader Node). IsBranch node NodeFits k.0 k.1) node_kinds
-unfolding file_at
+node_branches : AllByRecursion (λ (k : ℕ × Reader Node). IsBranch job_node NodeFits k.0 k.1) job_node_kinds
+unfolding job_file_at
 node_branches =
     (branch0 (lit< tt) Folder refl (omega arith, no_bytes), (branch1 (lit< tt) (content_codec max_file (lit< tt)) File (λ c. refl) (λ c le. le), tt))
 
-node_codec : IsCodec node_at node NodeFits
-unfolding node_at
+node_codec : IsCodec job_node_at job_node NodeFits
+unfolding job_node_at
 node_codec = record {
-  found = tagged_found node NodeFits node_kinds node_branches;
-  fault = tagged_fault node NodeFits node_kinds node_branches;
+  found = tagged_found job_node NodeFits job_node_kinds node_branches;
+  fault = tagged_fault job_node NodeFits job_node_kinds node_branches;
   again = node_again;
 }
 

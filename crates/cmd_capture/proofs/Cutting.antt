@@ -26,9 +26,9 @@ use Rattle.cmd_capture.specs.Limits.{max_command, max_template}
 use Rattle.cmd_capture.specs.declared.job.Job.{Job}
 use Rattle.cmd_capture.specs.declared.job.JobRow.{JobRow}
 use Rattle.cmd_capture.specs.Rules.{is_text, is_program, is_key, is_pattern, is_template}
-use Rattle.cmd_capture.specs.Spelling.{variable, template, counted, command, IsCommand, node, job_row, job, RowFits, IsJob}
+use Rattle.cmd_capture.specs.Spelling.{variable, template, counted, command, IsCommand, job_node, job_row, job, RowFits, IsJob}
 use Rattle.cmd_capture.specs.Reading.{bytes_at, template_at, is_new_key, variable_at, with_pair, variables_at, alike_at}
-use Rattle.cmd_capture.specs.Reading.{counted_at, parts_at, command_at, file_at, node_kinds, node_at, job_row_at, job_rows_at, job_at}
+use Rattle.cmd_capture.specs.Reading.{counted_at, parts_at, command_at, job_file_at, job_node_kinds, job_node_at, job_row_at, job_rows_at, job_at}
 use Rattle.cmd_capture.specs.Fields.{variable_fields, template_fields, counted_fields, command_fields, job_row_fields, job_fields}
 use Rattle.cmd_capture.proofs.Codec.{BytesFit, bytes_codec, low_byte, CountedFit, alike_again, items_codec, template_codec}
 use Rattle.cmd_capture.proofs.Codec.{PairFits, variable_codec, VariablesFit, variables_again, variables_codec, whole, Fits5, Fits4}
@@ -167,24 +167,24 @@ command_cut = record {
 
 -- ---- jobs
 
-node_whole : (n : Node) → NodeFits n → sum (node_fields (Some n)) ≡ length (node n)
+node_whole : (n : Node) → NodeFits n → sum (node_fields (Some n)) ≡ length (job_node n)
 node_whole Folder fits = omega (arith, sum_more 1 [])
 node_whole (File c) fits = omega (arith, sum_more 1 (content_fields c), (content_cut max_file (lit< tt)).whole c fits)
 
 short_node : (bytes : List ℕ) (at next end : ℕ) → Stands bytes at (1 ∷ []) next → at + 1 ≤ end → end < next → ⊥
 short_node bytes at next end stands ge lt = omega (arith, stands.next_is)
 
-node_ends : (bytes : List ℕ) (at : ℕ) (n : Node) (next end : ℕ) → Stands bytes at (node n) next → NodeFits n
-    → at ≤ end → end < next → node_at (take end bytes) at ≡ Err (at + start_of (end - at) (node_fields (Some n)))
-unfolding node_at file_at
+node_ends : (bytes : List ℕ) (at : ℕ) (n : Node) (next end : ℕ) → Stands bytes at (job_node n) next → NodeFits n
+    → at ≤ end → end < next → job_node_at (take end bytes) at ≡ Err (at + start_of (end - at) (node_fields (Some n)))
+unfolding job_node_at job_file_at
 node_ends bytes at Folder next end stands fits le lt =
-    tagged_cut node_kinds 1 (lit< tt) bytes at [] next end [] stands le (λ ge. absurd (short_node bytes at next end stands ge lt))
+    tagged_cut job_node_kinds 1 (lit< tt) bytes at [] next end [] stands le (λ ge. absurd (short_node bytes at next end stands ge lt))
 node_ends bytes at (File c) next end stands fits le lt =
-    tagged_cut node_kinds 2 (lit< tt) bytes at (content c) next end (content_fields c) stands le
+    tagged_cut job_node_kinds 2 (lit< tt) bytes at (content c) next end (content_fields c) stands le
     (λ ge. one_cut (content_cut max_file (lit< tt)) File bytes (at + 1) c next end
     (stands_second bytes at (2 ∷ []) (content c) next stands) fits ge lt)
 
-node_cut : IsCut node_at node (λ n. node_fields (Some n)) NodeFits
+node_cut : IsCut job_node_at job_node (λ n. node_fields (Some n)) NodeFits
 node_cut = record { whole = node_whole; cut = node_ends }
 
 pub job_row_cut : IsCut job_row_at job_row job_row_fields RowFits

@@ -16,7 +16,7 @@ use Rattle.cmd_capture.specs.Environment.{has_key}
 use Rattle.cmd_capture.specs.Rules.{is_text, is_program, is_key, is_pattern, is_template, AreVariables}
 use Rattle.cmd_capture.specs.Spelling.{variable, template, counted, command, AreParts, CountsFit, IsCommand, job_row, RowFits}
 use Rattle.cmd_capture.specs.Fields.{command_fields}
-use Rattle.cmd_capture.specs.Reading.{bytes_at, text_at, template_at, variable_at, variables_at, counted_at, command_at, node_kinds}
+use Rattle.cmd_capture.specs.Reading.{bytes_at, text_at, template_at, variable_at, variables_at, counted_at, command_at, job_node_kinds}
 use Rattle.cmd_capture.specs.Reading.{job_row_at, job_at}
 
 -- ---- parts of a command
@@ -110,7 +110,7 @@ pub record BrokenJobRows : Type 0 where
   pub path_is_none : (text : List ℕ) (offset : ℕ) → IsRefused path_at text offset → IsRefused job_row_at text offset
   -- a number that is that of no kind of node: at it, behind the path
   pub kind_is_none : (p : FilePath) (kind : ℕ) → IsPath p → kind < 2 ^ 8
-      → AllByRecursion (λ known. kind ≢ known.0) node_kinds
+      → AllByRecursion (λ known. kind ≢ known.0) job_node_kinds
       → IsRefused job_row_at (path p ++ kind ∷ []) (length (path p))
   -- a content of more than 8 MiB: at its length
   pub content_is_large : (p : FilePath) (size : ℕ) → IsPath p → max_file < size → size < 2 ^ 32

@@ -135,8 +135,8 @@ text_refusals options texts =
     ∷ []
 
 -- why words are refused, in the order in which it is tried
-abbrev pub refusals : List (List ℕ) → FilePath → List (Option CaptureError)
-refusals words cwd =
+abbrev pub capture_refusals : List (List ℕ) → FilePath → List (Option CaptureError)
+capture_refusals words cwd =
     when (nat_lt (length (program_words words)) 1) NoProgram
     ∷ refusal_at BadOption (position is_unknown (options words))
     ∷ refusal_at BadInput (position (holds_behind in_mark (is_bad_path cwd)) (options words))
@@ -146,7 +146,7 @@ refusals words cwd =
 
 -- the command of the words, or the first refusal
 abbrev pub capture : List (List ℕ) → FilePath → Result Command CaptureError
-capture words cwd = unless_refused (refusals words cwd) (captured words cwd)
+capture words cwd = unless_refused (capture_refusals words cwd) (captured words cwd)
 
 -- ---- law
 

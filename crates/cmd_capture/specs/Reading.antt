@@ -81,22 +81,22 @@ command_at = limited max_command parts_at
 -- ---- jobs
 
 -- a file
-unfoldable pub file_at : Reader Node
-file_at bytes at = do
+unfoldable pub job_file_at : Reader Node
+job_file_at bytes at = do
   content ← content_at max_file bytes at
   Ok (File content.0, content.1)
 
 -- each kind of node with what follows it
-abbrev pub node_kinds : List (ℕ × Reader Node)
-node_kinds = (1, none Folder) ∷ (2, file_at) ∷ []
+abbrev pub job_node_kinds : List (ℕ × Reader Node)
+job_node_kinds = (1, none Folder) ∷ (2, job_file_at) ∷ []
 
-unfoldable pub node_at : Reader Node
-node_at = tagged_at node_kinds
+unfoldable pub job_node_at : Reader Node
+job_node_at = tagged_at job_node_kinds
 
 unfoldable pub job_row_at : Reader JobRow
 job_row_at bytes at = do
   path ← path_at bytes at
-  node ← node_at bytes path.1
+  node ← job_node_at bytes path.1
   Ok (record { path = path.0; node = node.0 }, node.1)
 
 -- rows behind their number

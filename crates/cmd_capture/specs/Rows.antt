@@ -13,21 +13,21 @@ use Rattle.cmd_capture.specs.declared.job.RawRow.{RawRow}
 
 -- ---- what stands at a path
 
-abbrev pub is_at : FilePath → JobRow → Bool
-is_at path row = is_same_path row.path path
+abbrev pub is_job_row_at : FilePath → JobRow → Bool
+is_job_row_at path row = is_same_path row.path path
 
 -- the node of a path; none where it has no row
 abbrev pub node_in : List JobRow → FilePath → Option Node
-node_in rows path = option_map (λ row. row.node) (find (is_at path) rows)
+node_in rows path = option_map (λ row. row.node) (find (is_job_row_at path) rows)
 
 -- the root is always a folder
 abbrev pub is_folder_in : List JobRow → FilePath → Bool
 is_folder_in rows path = is_root path || is_folder_node (node_in rows path)
 
 -- each row's path is above those before it
-abbrev pub AreInOrder : List JobRow → Type 0
-AreInOrder [] = Unit {0}
-AreInOrder (row ∷ rows) = AllByRecursion (λ next. path_cmp row.path next.path ≡ Less) rows × AreInOrder rows
+abbrev pub JobRowsAreInOrder : List JobRow → Type 0
+JobRowsAreInOrder [] = Unit {0}
+JobRowsAreInOrder (row ∷ rows) = AllByRecursion (λ next. path_cmp row.path next.path ≡ Less) rows × JobRowsAreInOrder rows
 
 -- a path, and not the root
 pub record IsJobRow (row : JobRow) : Type 0 where
@@ -36,15 +36,15 @@ pub record IsJobRow (row : JobRow) : Type 0 where
 
 -- the rows of a job, or of a legal outcome: in order, each in a folder of theirs or in the root
 pub record AreJobRows (rows : List JobRow) : Type 0 where
-  pub in_order : AreInOrder rows
+  pub in_order : JobRowsAreInOrder rows
   pub each : AllByRecursion IsJobRow rows
   pub in_folders : (path : FilePath) → is_some (node_in rows path) ≡ true → is_folder_in rows (folder_of path) ≡ true
 
 -- ---- legal rows
 
 -- whether the row may stand behind these: not the root, above them all, and in one of their folders or in the root
-abbrev pub may_follow : List JobRow → JobRow → Bool
-may_follow rows row =
+abbrev pub may_follow_rows : List JobRow → JobRow → Bool
+may_follow_rows rows row =
     not (is_root row.path)
     && (list_all (λ before. is_lt (path_cmp before.path row.path)) rows
     && is_folder_in rows (folder_of row.path))
@@ -58,7 +58,7 @@ read_rows raws = filter_map read_row raws
 
 -- the row, where its text spells a path that may stand behind these rows
 abbrev pub next_row : List JobRow → RawRow → Option JobRow
-next_row before raw = option_and_then (λ row. if may_follow before row then Some row else None) (read_row raw)
+next_row before raw = option_and_then (λ row. if may_follow_rows before row then Some row else None) (read_row raw)
 
 -- whether the raw row with this index may stand behind those before it
 abbrev pub is_legal_at : List RawRow → ℕ → Bool

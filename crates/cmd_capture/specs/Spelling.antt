@@ -66,12 +66,12 @@ pub record IsCommand (c : Command) : Type 0 where
 -- ---- jobs
 
 -- the kind of node, and a file's content
-abbrev pub node : Node → List ℕ
-node n = node_or_none (Some n)
+abbrev pub job_node : Node → List ℕ
+job_node n = node_or_none (Some n)
 
 -- a path, and what stands there
 abbrev pub job_row : JobRow → List ℕ
-job_row row = path row.path ++ node row.node
+job_row row = path row.path ++ job_node row.node
 
 -- the command, and the rows behind their number
 abbrev pub job : Job → List ℕ

@@ -150,8 +150,8 @@ impl Command {
 
 /// Appends what stands at a path: a byte for its kind, and a file's content.
 fn put_node(out: &mut Vec<u8>, node: &Node) -> Result<(), AllocError>
-    ensures ok { OnOk result (out.new.items ≡ out.old.items ++ spelling.node node.now) }
-    ensures err { OnErr result (IsFront out.old.items out.new.items (spelling.node node.now)) }
+    ensures ok { OnOk result (out.new.items ≡ out.old.items ++ spelling.job_node node.now) }
+    ensures err { OnErr result (IsFront out.old.items out.new.items (spelling.job_node node.now)) }
 {
     match node {
         Node::Folder => out.push(1)?,

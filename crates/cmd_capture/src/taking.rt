@@ -6,7 +6,7 @@ ghost use Rattle.file_paths.specs.Reading.{path_at};
 ghost use Rattle.cmd_capture.specs.Environment.{has_key};
 ghost use Rattle.cmd_capture.specs.Rules.{is_text, is_program, is_key, is_pattern};
 ghost use Rattle.cmd_capture.specs.Reading.{bytes_at, text_at, template_at, is_new_key, variable_at, with_pair, variables_at, alike_at};
-ghost use Rattle.cmd_capture.specs.Reading.{counted_at, parts_at, command_at, file_at, node_at, job_row_at, job_rows_at, job_at};
+ghost use Rattle.cmd_capture.specs.Reading.{counted_at, parts_at, command_at, job_file_at, job_node_at, job_row_at, job_rows_at, job_at};
 
 use crate::command::{Command, Templates, Words};
 use crate::environment::Env;
@@ -280,18 +280,18 @@ fn front(bytes: &[u8], end: usize) -> &[u8]
     }
 }
 
-#[tactic(auto, unfolding(crate::specs::Reading::file_at))]
+#[tactic(auto, unfolding(crate::specs::Reading::job_file_at))]
 fn file_at(alloc: Global, bytes: &[u8], at: usize) -> Result<(Node, usize), TakeError>
-    ensures { Gives result (file_at bytes.now at) }
+    ensures { Gives result (job_file_at bytes.now at) }
 {
     let (content, next) = Content::take(alloc, bytes, at)?;
     Ok((Node::File(content), next))
 }
 
 /// What stands at a path.
-#[tactic(auto, unfolding(crate::specs::Reading::node_at))]
+#[tactic(auto, unfolding(crate::specs::Reading::job_node_at))]
 fn node_at(alloc: Global, bytes: &[u8], at: usize) -> Result<(Node, usize), TakeError>
-    ensures { Gives result (node_at bytes.now at) }
+    ensures { Gives result (job_node_at bytes.now at) }
 {
     let (kind, start) = u8_at(bytes, at)?;
     match kind {

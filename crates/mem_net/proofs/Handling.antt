@@ -24,7 +24,7 @@ use Rattle.world_rules.specs.Telling.{LinkTelling}
 use Rattle.world_rules.proofs.Asks.{noted-none, happen-noted, AreAllowed-noted, moved_packets, moved_by_step, in_either}
 use Rattle.surrogate_core.specs.Handling.{answering, Handling}
 use Rattle.surrogate_core.specs.Serving.{MayAsk, Serves, ServesTo, WorldWent}
-use Rattle.surrogate_core.specs.Laws.{EndsAs}
+use Rattle.surrogate_core.specs.Laws.{EndsOperation}
 use Rattle.surrogate_core.proofs.Copies.{keeps_the_copy, asks_the_server}
 use Rattle.surrogate_core.proofs.Free.{handlings_move_alone, replies_are_free}
 use Rattle.mem_net.specs.declared.fate.Fate.{Fate}
@@ -113,7 +113,7 @@ module _ (client : ℕ) (sketched : SketchEntry) (copy after : Volume) (runs : L
       (broken_of server_address broken.request broken.broken broken.breaks))
 
   -- the reply is one to the operation
-  ends_echoing : (reply : Message) → EndsAs client sketched copy asks after reply → Echoes (Operate client sketched) reply
+  ends_echoing : (reply : Message) → EndsOperation client sketched copy asks after reply → Echoes (Operate client sketched) reply
   ends_echoing (Declined of number cause) ends = (tt, sym ends.0, sym ends.1)
   ends_echoing (Done of number) ends = (tt, sym ends.0, sym ends.1)
   ends_echoing _ ends = absurd ends

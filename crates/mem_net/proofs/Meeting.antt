@@ -21,7 +21,7 @@ use Rattle.mem_net.specs.declared.fate.Fate.TheVariants.{Pass, LoseRequest, Lose
 use Rattle.mem_net.specs.Net.{Wire, world_of}
 use Rattle.mem_net.specs.Fates.{answered, is_trouble, troubles_after}
 use Rattle.mem_net.specs.Spending.{Takes, quiet_behind, quiet_front}
-use Rattle.mem_net.specs.Scenes.{Scene, with_world, with_troubles, IsHandled, MeetsAlone, MeetsOperation, UnlessMemory, Meets, IsReached, IsMet}
+use Rattle.mem_net.specs.Scenes.{Scene, with_world, with_troubles, IsHandled, MeetsAlone, MeetsOperation, UnlessMemory, IsDecided, IsReached, IsMet}
 use Rattle.mem_net.specs.Scenes.{OnMemory, StaysButWorld, IsHandledInPart, handlings, IsCutBefore, IsCutShort}
 use Rattle.mem_net.specs.Inside.{MovedFree, AsksSent, MeetsUnlessMemory, TakesBeside, KeepsFates}
 use Rattle.mem_net.proofs.Network.{got_in, noted_ask}
@@ -147,15 +147,15 @@ rose_later x y z later rose = omega (arith, later, rose)
 -- ---- a whole ask
 
 pub met_by_server : (to : Peer) (fate : Fate) (address : List ℕ) (m : Message) (b d : Scene) (result : Result (Vec ℕ Global) LinkError) → Server ≡ to
-    → UnlessMemory result (MeetsAlone fate Server address m b d result) → UnlessMemory result (Meets to fate address m b d result)
-met_by_server to fate address m b d result is met = subst (λ (p : Peer). UnlessMemory result (Meets p fate address m b d result)) is met
+    → UnlessMemory result (MeetsAlone fate Server address m b d result) → UnlessMemory result (IsDecided to fate address m b d result)
+met_by_server to fate address m b d result is met = subst (λ (p : Peer). UnlessMemory result (IsDecided p fate address m b d result)) is met
 
 pub met_by_surrogate : (to : Peer) (fate : Fate) (address : List ℕ) (m : Message) (b d : Scene) (result : Result (Vec ℕ Global) LinkError) → Surrogate ≡ to
-    → UnlessMemory result (MeetsOperation fate Surrogate address m b d result) → UnlessMemory result (Meets to fate address m b d result)
-met_by_surrogate to fate address m b d result is met = subst (λ (p : Peer). UnlessMemory result (Meets p fate address m b d result)) is met
+    → UnlessMemory result (MeetsOperation fate Surrogate address m b d result) → UnlessMemory result (IsDecided to fate address m b d result)
+met_by_surrogate to fate address m b d result is met = subst (λ (p : Peer). UnlessMemory result (IsDecided p fate address m b d result)) is met
 
 pub is_met : (to : Peer) (fate : Fate) (address : List ℕ) (m : Message) (a b d : Scene) (result : Result (Vec ℕ Global) LinkError)
-    → IsReached (with_world (sent m a.world) a) fate b → UnlessMemory result (Meets to fate address m b d result) → UnlessMemory result (IsMet to address m a d result)
+    → IsReached (with_world (sent m a.world) a) fate b → UnlessMemory result (IsDecided to fate address m b d result) → UnlessMemory result (IsMet to address m a d result)
 is_met to fate address m a b d (Ok bytes) reaches met = record { fate = fate; reached = b; reaches = reaches; meets = met }
 is_met to fate address m a b d (Err LinkFailed) reaches met = record { fate = fate; reached = b; reaches = reaches; meets = met }
 is_met to fate address m a b d (Err LinkMemory) reaches met = tt

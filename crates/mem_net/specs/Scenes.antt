@@ -146,16 +146,16 @@ UnlessMemory (Err LinkFailed) fact = fact
 UnlessMemory (Ok frame) fact = fact
 
 -- What becomes of an ask by the fate that decides it: an ask of the server is met as without a surrogate.
-abbrev pub Meets : Peer → Fate → List ℕ → Message → Scene → Scene → Result (Vec ℕ Global) LinkError → Type 0
-Meets Server fate address request old new result = MeetsAlone fate Server address request old new result
-Meets Surrogate fate address request old new result = MeetsOperation fate Surrogate address request old new result
+abbrev pub IsDecided : Peer → Fate → List ℕ → Message → Scene → Scene → Result (Vec ℕ Global) LinkError → Type 0
+IsDecided Server fate address request old new result = MeetsAlone fate Server address request old new result
+IsDecided Surrogate fate address request old new result = MeetsOperation fate Surrogate address request old new result
 
 -- A request that was sent reaches the fate that decides it, and is met by it.
 pub record IsMet (to : Peer) (address : List ℕ) (request : Message) (old new : Scene) (result : Result (Vec ℕ Global) LinkError) : Type 0 where
   pub fate : Fate
   pub reached : Scene
   pub reaches : IsReached (with_world (sent request old.world) old) fate reached
-  pub meets : Meets to fate address request reached new result
+  pub meets : IsDecided to fate address request reached new result
 
 -- ---- where memory runs out
 

@@ -20,7 +20,7 @@ use Rattle.mod_log.specs.declared.origin.Origin.{Origin}
 use Rattle.mod_log.specs.Origin.{MadeByFits}
 use Rattle.mod_log.specs.declared.log.Entry.{Entry}
 use Rattle.mod_log.specs.Log.{Log, after, tree_of, IsLog, logged}
-use Rattle.mod_log.specs.Append.{next_entry, is_too_large, size_with, has_no_room, is_at_last, refused_effect, append_refusals, appended}
+use Rattle.mod_log.specs.Append.{next_entry, is_too_large, log_size_with, log_has_no_room, is_at_last, refused_effect, append_refusals, appended}
 use Rattle.mod_log.proofs.Entries.{AreEntriesOf-push, after-append}
 
 -- ---- effects that apply fit
@@ -49,10 +49,10 @@ effects_fit effects v after some small legal applies =
 -- ---- the log with one more
 
 pub logged_is_log : (origin : Option Origin) (effects : List Effect) (log : Log) → IsLog log → MadeByFits origin → EffectsFit effects → apply_all 0 effects (tree_of log) ≡ Ok (changed_all effects (tree_of log))
-    → has_no_room (next_entry origin effects log) log ≡ false → is_at_last log ≡ false → IsLog (logged (next_entry origin effects log) log)
+    → log_has_no_room (next_entry origin effects log) log ≡ false → is_at_last log ≡ false → IsLog (logged (next_entry origin effects log) log)
 logged_is_log origin effects log is made fits applies room number =
     let next : Entry = next_entry origin effects log in
-    let tests = or_false_of (nat_le max_entries (length log.pending)) (nat_lt max_log (size_with (next_entry origin effects log) log)) room in
+    let tests = or_false_of (nat_le max_entries (length log.pending)) (nat_lt max_log (log_size_with (next_entry origin effects log) log)) room in
     let count = not_le_of max_entries (length log.pending) tests.0 in
     let long = length-append log.pending (next_entry origin effects log ∷ []) in
     let last = eqb-false (log.acked + length log.pending) 18446744073709551615 number in
@@ -60,7 +60,7 @@ logged_is_log origin effects log is made fits applies room number =
       base_is = is.base_is;
       entries = AreEntriesOf-push (log.acked + 1) log.base log.pending (next_entry origin effects log) is.entries (record { numbered = omega arith; origin_fits = made; fits = fits; applies = applies; based = refl });
       few = omega (arith, count, long);
-      small = not_lt_of max_log (size_with (next_entry origin effects log) log) tests.1;
+      small = not_lt_of max_log (log_size_with (next_entry origin effects log) log) tests.1;
       last = omega (arith, long, last, is.last);
     }
 
@@ -77,7 +77,7 @@ appended_adds origin effects log new is made legal some e =
     let none = none_refused (append_refusals origin effects log) (logged (next_entry origin effects log) log) new e in
     let same = value_unrefused (append_refusals origin effects log) (logged (next_entry origin effects log) log) new e in
     let large = not_when (is_too_large effects) _ none.0 in
-    let room = not_when (has_no_room (next_entry origin effects log) log) _ none.1.0 in
+    let room = not_when (log_has_no_room (next_entry origin effects log) log) _ none.1.0 in
     let number = not_when (is_at_last log) _ none.1.1.0 in
     let applied = applied_by (apply_all 0 effects (tree_of log)) none.1.1.1.0 in
     let all = applied.1 ∙ ap Ok (applied-changes effects 0 (tree_of log) applied.0 applied.1) in

@@ -11,7 +11,7 @@ use Rattle.tree_values.specs.Spelling.{EffectsFit}
 use Rattle.mod_log.specs.Limits.{max_entries, max_log}
 use Rattle.mod_log.specs.declared.log.Entry.{Entry}
 use Rattle.mod_log.specs.Log.{Log, after, IsEntryOf, AreEntriesOf, IsLog, logged}
-use Rattle.mod_log.specs.Append.{next_entry, is_too_large, size_with, has_no_room, refused_effect, appended}
+use Rattle.mod_log.specs.Append.{next_entry, is_too_large, log_size_with, log_has_no_room, refused_effect, appended}
 use Rattle.mod_log.proofs.Kept.{appended_as}
 
 -- entries with one behind them
@@ -36,7 +36,7 @@ fit_is_appended log e is =
     let seq : e.seq ≡ log.acked + length log.pending + 1 = omega (arith, last.numbered) in
     let same : next_entry e.origin e.effects log ≡ e = λ i. record { seq = sym seq i; origin = e.origin; effects = e.effects; base = sym last.based i } in
     let long = length-append log.pending (e ∷ []) in
-    let room : has_no_room e log ≡ false = neither _ _ (le_fails max_entries (length log.pending) (omega (arith, long, is.few))) (lt_fails max_log (size_with e log) is.small) in
+    let room : log_has_no_room e log ≡ false = neither _ _ (le_fails max_entries (length log.pending) (omega (arith, long, is.few))) (lt_fails max_log (log_size_with e log) is.small) in
     appended_as e.origin e.effects log None (small_enough e.effects last.fits) (rw same room) (apart (log.acked + length log.pending) 18446744073709551615 (omega (arith, long, is.last))) (ap refused_effect last.applies)
     ∙ ap (λ next. Ok (logged next log)) same
 

@@ -20,7 +20,7 @@ use Rattle.mod_log.specs.declared.log.Pending.{Pending}
 use Rattle.mod_log.specs.declared.log.LogError.{LogError}
 use Rattle.mod_log.specs.declared.log.LogError.TheVariants.{EntryTooLarge, LogFull, LastNumber, Tree, Memory}
 use Rattle.mod_log.specs.Log.{Log, entry, after, tree_of, IsLog, logged, acknowledged}
-use Rattle.mod_log.specs.Append.{next_entry, is_too_large, size_with, has_no_room, is_at_last, refused_effect, appended}
+use Rattle.mod_log.specs.Append.{next_entry, is_too_large, log_size_with, log_has_no_room, is_at_last, refused_effect, appended}
 use Rattle.mod_log.specs.Inside.{rolled_back, entries_of, IsKept, AreKept, log_of, AreFields, room_refusals, log_error}
 use Rattle.mod_log.proofs.Sums.{size_behind, size_front}
 use Rattle.mod_log.proofs.Entries.{acknowledged_is_log}
@@ -90,13 +90,13 @@ module _ (origin : Option Origin) (effects : List Effect) (log : Log) where
   table large full last refusal =
       unless_refused
       (when large (EntryTooLarge (length effects) (as_u64 (contents_size effects)))
-      ∷ when full (LogFull (length log.pending) (as_u64 (size_with (next_entry origin effects log) log)))
+      ∷ when full (LogFull (length log.pending) (as_u64 (log_size_with (next_entry origin effects log) log)))
       ∷ when last LastNumber
       ∷ refusal
       ∷ [])
       (logged (next_entry origin effects log) log)
 
-  pub appended_as : (refusal : Option LogError) → is_too_large effects ≡ false → has_no_room (next_entry origin effects log) log ≡ false → is_at_last log ≡ false
+  pub appended_as : (refusal : Option LogError) → is_too_large effects ≡ false → log_has_no_room (next_entry origin effects log) log ≡ false → is_at_last log ≡ false
       → refused_effect (apply_all 0 effects (tree_of log)) ≡ refusal → appended origin effects log ≡ unless_refused (refusal ∷ []) (logged (next_entry origin effects log) log)
   appended_as refusal small room number is = λ i. table (small i) (room i) (number i) (is i)
 
@@ -116,7 +116,7 @@ pub record IsLonger (acked : ℕ) (after : Volume) (pending : List Pending) (siz
 pub longer : (acked : ℕ) (tree next : Volume) (pending : List Pending) (size : ℕ) (kept : Pending) (origin : Option Origin) (effects : List Effect)
     → AreFields acked tree pending size → kept.entry ≡ next_entry origin effects (log_of acked tree pending) → kept.size ≡ length (entry kept.entry)
     → undone_all kept.undos.items next ≡ tree → CanUndoAll kept.undos.items next → apply_all 0 effects tree ≡ Ok next → MadeByFits origin → EffectsFit effects
-    → has_no_room (next_entry origin effects (log_of acked tree pending)) (log_of acked tree pending) ≡ false → is_at_last (log_of acked tree pending) ≡ false
+    → log_has_no_room (next_entry origin effects (log_of acked tree pending)) (log_of acked tree pending) ≡ false → is_at_last (log_of acked tree pending) ≡ false
     → IsLonger acked next (pending ++ kept ∷ []) (size + kept.size) (logged (next_entry origin effects (log_of acked tree pending)) (log_of acked tree pending))
 longer acked tree next pending size kept origin effects fields entry_is kept_size back can applies made fits room number =
     let more : entries_of (pending ++ kept ∷ []) ≡ entries_of pending ++ kept.entry ∷ [] = map-append (λ k. k.entry) pending (kept ∷ []) in
@@ -145,14 +145,14 @@ longer acked tree next pending size kept origin effects fields entry_is kept_siz
 -- the next entry is logged, as appending its effects does
 pub logged_next : (log : Log) (acked : ℕ) (tree next : Volume) (pending : List Pending) (size : ℕ) (kept : Pending) → log_of acked tree pending ≡ log → AreFields acked tree pending size
     → kept.entry ≡ next_entry kept.entry.origin kept.entry.effects log → kept.size ≡ length (entry kept.entry) → undone_all kept.undos.items next ≡ tree → CanUndoAll kept.undos.items next → apply_all 0 kept.entry.effects tree ≡ Ok next
-    → MadeByFits kept.entry.origin → EffectsFit kept.entry.effects → is_too_large kept.entry.effects ≡ false → has_no_room kept.entry log ≡ false → is_at_last log ≡ false
+    → MadeByFits kept.entry.origin → EffectsFit kept.entry.effects → is_too_large kept.entry.effects ≡ false → log_has_no_room kept.entry log ≡ false → is_at_last log ≡ false
     → IsLonger acked next (pending ++ kept ∷ []) (size + kept.size) (logged kept.entry log) × (appended kept.entry.origin kept.entry.effects log ≡ Ok (logged kept.entry log))
 logged_next log acked tree next pending size kept viewed fields is_next kept_size back can applies made fits small room number =
     let o = kept.entry.origin in
     let es = kept.entry.effects in
-    let has_room : has_no_room (next_entry o es log) log ≡ false = subst (λ e. has_no_room e log ≡ false) is_next room in
+    let has_room : log_has_no_room (next_entry o es log) log ≡ false = subst (λ e. log_has_no_room e log ≡ false) is_next room in
     let done = longer acked tree next pending size kept o es fields (is_next ∙ ap (next_entry o es) (sym viewed)) kept_size back can applies made fits
-    (subst (λ l. has_no_room (next_entry o es l) l ≡ false) (sym viewed) has_room) (subst (λ l. is_at_last l ≡ false) (sym viewed) number) in
+    (subst (λ l. log_has_no_room (next_entry o es l) l ≡ false) (sym viewed) has_room) (subst (λ l. is_at_last l ≡ false) (sym viewed) number) in
     let tree_is : tree ≡ tree_of log = sym (after_kept pending tree fields.kept) ∙ ap tree_of viewed in (
       record { fields = done.fields; view = done.view ∙ ap (λ l. logged (next_entry o es l) l) viewed ∙ ap (λ e. logged e log) (sym is_next) },
       appended_as o es log None small has_room number (ap refused_effect (ap (apply_all 0 es) (sym tree_is) ∙ applies)) ∙ ap (λ e. Ok (logged e log)) (sym is_next),
@@ -161,9 +161,9 @@ logged_next log acked tree next pending size kept viewed fields is_next kept_siz
 -- ---- the first refusal
 
 pub refused_in_room : (origin : Option Origin) (effects : List Effect) (log : Log) (e : LogError) → is_too_large effects ≡ false → unless_refused (room_refusals (next_entry origin effects log) log) log ≡ Err e → appended origin effects log ≡ Err e
-refused_in_room origin effects log e small refused = by (is_too_large effects) (has_no_room (next_entry origin effects log) log) (is_at_last log) small refused
+refused_in_room origin effects log e small refused = by (is_too_large effects) (log_has_no_room (next_entry origin effects log) log) (is_at_last log) small refused
   where
-    by : (a b d : Bool) → a ≡ false → unless_refused (when b (LogFull (length log.pending) (as_u64 (size_with (next_entry origin effects log) log))) ∷ when d LastNumber ∷ []) log ≡ Err e
+    by : (a b d : Bool) → a ≡ false → unless_refused (when b (LogFull (length log.pending) (as_u64 (log_size_with (next_entry origin effects log) log))) ∷ when d LastNumber ∷ []) log ≡ Err e
         → table origin effects log a b d (refused_effect (apply_all 0 effects (tree_of log))) ≡ Err e
     by true b d h refused = absurd (cc)
     by false true d h refused = cc
@@ -171,7 +171,7 @@ refused_in_room origin effects log e small refused = by (is_too_large effects) (
     by false false false h refused = absurd (cc)
 
 -- where the tree refuses an effect
-pub refused_as : (origin : Option Origin) (effects : List Effect) (log : Log) (cause : ApplyAllError) (e : LogError) → is_too_large effects ≡ false → has_no_room (next_entry origin effects log) log ≡ false → is_at_last log ≡ false
+pub refused_as : (origin : Option Origin) (effects : List Effect) (log : Log) (cause : ApplyAllError) (e : LogError) → is_too_large effects ≡ false → log_has_no_room (next_entry origin effects log) log ≡ false → is_at_last log ≡ false
     → IsAllRefusal effects (tree_of log) cause → e ≡ log_error cause → e ≢ Memory → appended origin effects log ≡ Err e
 refused_as origin effects log (At i refusal) e small room number refused is no_memory =
     appended_as origin effects log (Some (Tree i refusal)) small room number (ap refused_effect refused) ∙ ap Err (sym is)

@@ -19,7 +19,7 @@ use Rattle.tree_values.specs.Spelling.{EffectFits}
 use Rattle.tree_values.specs.declared.node.Effect.{Effect}
 use Rattle.tree_values.specs.declared.node.Effect.TheVariants.{Make, Put, Remove, Move}
 use Rattle.mod_log.proofs.Entries.{legal_each}
-use Rattle.mod_log.specs.Sketched.{sketch_paths, sketched_size, IsSketchedAs, AreSketchedAs, Fills, AllFill, Writes, SketchesAreFilled, FillingsAreEqual, FillingsTouchAlike, OneSketchList, OneSketchOf}
+use Rattle.mod_log.specs.Sketched.{sketch_paths, sketched_size, IsSketchedAs, AreSketchedAs, Fills, AllFill, WritesContent, SketchesAreFilled, FillingsAreEqual, FillingsTouchAlike, OneSketchList, OneSketchOf}
 use Rattle.mod_log.specs.Spelling.{SketchEffectFits, FillingsFit, SketchesOfEffectsFit}
 use Rattle.mod_log.specs.declared.origin.Origin.{Origin}
 use Rattle.mod_log.specs.declared.sketched.SketchEffect.{SketchEffect}
@@ -86,16 +86,16 @@ sketch_fits : (e : Effect) (k : SketchEffect) → IsSketchedAs e k → EffectFit
 sketch_fits =
     sketched_kinds (λ e k. EffectFits e → SketchEffectFits k) (λ p fits. fits.0) (λ p content sketch is fits. (fits.0.0, sketches_fit_each content sketch max_file is (omega (arith, fits.1)))) (λ p fits. fits.0) (λ p to fits. fits.0)
 
-filling_equal : (e : Effect) (k : SketchEffect) → IsSketchedAs e k → (other : Effect) → Fills k other → Distinct (Writes (e ∷ [])) (Writes (other ∷ [])) → other ≡ e
-filling_equal = sketched_kinds (λ e k. (other : Effect) → Fills k other → Distinct (Writes (e ∷ [])) (Writes (other ∷ [])) → other ≡ e) make put remove move
+filling_equal : (e : Effect) (k : SketchEffect) → IsSketchedAs e k → (other : Effect) → Fills k other → Distinct (WritesContent (e ∷ [])) (WritesContent (other ∷ [])) → other ≡ e
+filling_equal = sketched_kinds (λ e k. (other : Effect) → Fills k other → Distinct (WritesContent (e ∷ [])) (WritesContent (other ∷ [])) → other ≡ e) make put remove move
   where
-    make : (p : FilePath) (other : Effect) → Fills (of_sketch.Make p) other → Distinct (Writes (Make p ∷ [])) (Writes (other ∷ [])) → other ≡ Make p
+    make : (p : FilePath) (other : Effect) → Fills (of_sketch.Make p) other → Distinct (WritesContent (Make p ∷ [])) (WritesContent (other ∷ [])) → other ≡ Make p
     make p (Make q) fills differ = ap Make fills
     make p (Put q content) fills differ = absurd fills
     make p (Remove q) fills differ = absurd fills
     make p (Move q onto) fills differ = absurd fills
 
-    put : (p : FilePath) (content : List ℕ) (sketch : Sketch) → IsSketch content sketch → (other : Effect) → Fills (of_sketch.Put p sketch) other → Distinct (Writes (Put p content ∷ [])) (Writes (other ∷ [])) → other ≡ Put p content
+    put : (p : FilePath) (content : List ℕ) (sketch : Sketch) → IsSketch content sketch → (other : Effect) → Fills (of_sketch.Put p sketch) other → Distinct (WritesContent (Put p content ∷ [])) (WritesContent (other ∷ [])) → other ≡ Put p content
     put p content sketch is (Put q written) fills differ =
         let same : content ≡ written = differ content written (p, inl refl) (q, inl refl) (sym is.print ∙ sym fills.2) in
         λ i. Put (fills.0 i) (sym same i)
@@ -103,13 +103,13 @@ filling_equal = sketched_kinds (λ e k. (other : Effect) → Fills k other → D
     put p content sketch is (Remove q) fills differ = absurd fills
     put p content sketch is (Move q onto) fills differ = absurd fills
 
-    remove : (p : FilePath) (other : Effect) → Fills (of_sketch.Remove p) other → Distinct (Writes (Remove p ∷ [])) (Writes (other ∷ [])) → other ≡ Remove p
+    remove : (p : FilePath) (other : Effect) → Fills (of_sketch.Remove p) other → Distinct (WritesContent (Remove p ∷ [])) (WritesContent (other ∷ [])) → other ≡ Remove p
     remove p (Remove q) fills differ = ap Remove fills
     remove p (Make q) fills differ = absurd fills
     remove p (Put q content) fills differ = absurd fills
     remove p (Move q onto) fills differ = absurd fills
 
-    move : (p to : FilePath) (other : Effect) → Fills (of_sketch.Move p to) other → Distinct (Writes (Move p to ∷ [])) (Writes (other ∷ [])) → other ≡ Move p to
+    move : (p to : FilePath) (other : Effect) → Fills (of_sketch.Move p to) other → Distinct (WritesContent (Move p to ∷ [])) (WritesContent (other ∷ [])) → other ≡ Move p to
     move p to (Move q onto) fills differ = λ i. Move (fills.0 i) (fills.1 i)
     move p to (Make q) fills differ = absurd fills
     move p to (Put q content) fills differ = absurd fills

@@ -24,12 +24,12 @@ abbrev pub is_too_large : List Effect → Bool
 is_too_large effects = nat_lt max_effects (length effects) || nat_lt max_files (contents_size effects)
 
 -- the bytes of the spelled entries, this one behind them
-abbrev pub size_with : Entry → Log → ℕ
-size_with next log = length (flat_map entry (log.pending ++ next ∷ []))
+abbrev pub log_size_with : Entry → Log → ℕ
+log_size_with next log = length (flat_map entry (log.pending ++ next ∷ []))
 
 -- 1,024 entries pending, or more than 67,108,864 spelled bytes with this entry
-abbrev pub has_no_room : Entry → Log → Bool
-has_no_room next log = nat_le max_entries (length log.pending) || nat_lt max_log (size_with next log)
+abbrev pub log_has_no_room : Entry → Log → Bool
+log_has_no_room next log = nat_le max_entries (length log.pending) || nat_lt max_log (log_size_with next log)
 
 -- whether the last entry has the greatest number
 abbrev pub is_at_last : Log → Bool
@@ -44,7 +44,7 @@ refused_effect (Err refusal) = Some (Tree refusal.0 refusal.1)
 abbrev pub append_refusals : Option Origin → List Effect → Log → List (Option LogError)
 append_refusals origin effects log =
     when (is_too_large effects) (EntryTooLarge (length effects) (as_u64 (contents_size effects)))
-    ∷ when (has_no_room (next_entry origin effects log) log) (LogFull (length log.pending) (as_u64 (size_with (next_entry origin effects log) log)))
+    ∷ when (log_has_no_room (next_entry origin effects log) log) (LogFull (length log.pending) (as_u64 (log_size_with (next_entry origin effects log) log)))
     ∷ when (is_at_last log) LastNumber
     ∷ refused_effect (apply_all 0 effects (tree_of log))
     ∷ []

@@ -16,7 +16,7 @@ use Rattle.mod_log.specs.declared.log.Pending.{Pending}
 use Rattle.mod_log.specs.declared.log.LogError.{LogError}
 use Rattle.mod_log.specs.declared.log.LogError.TheVariants.{LogFull, LastNumber, Tree, Memory}
 use Rattle.mod_log.specs.Log.{Log, entry, IsLog}
-use Rattle.mod_log.specs.Append.{size_with, has_no_room, is_at_last}
+use Rattle.mod_log.specs.Append.{log_size_with, log_has_no_room, is_at_last}
 
 -- the tree once the effects of all these entries are undone, the last first
 abbrev pub rolled_back : List Pending → Volume → Volume
@@ -56,7 +56,7 @@ entry_with origin effects base log = record { seq = log.acked + length log.pendi
 -- the refusals for want of room or of a number
 abbrev pub room_refusals : Entry → Log → List (Option LogError)
 room_refusals next log =
-    when (has_no_room next log) (LogFull (length log.pending) (as_u64 (size_with next log)))
+    when (log_has_no_room next log) (LogFull (length log.pending) (as_u64 (log_size_with next log)))
     ∷ when (is_at_last log) LastNumber
     ∷ []
 

@@ -78,8 +78,8 @@ AllFill (sketched ∷ more) (effect ∷ effects) = Fills sketched effect × AllF
 AllFill sketched effects = ⊥
 
 -- the effects write this content
-abbrev pub Writes : List Effect → List ℕ → Type 0
-Writes effects content = (path : FilePath) × IsIn (Put path content) effects
+abbrev pub WritesContent : List Effect → List ℕ → Type 0
+WritesContent effects content = (path : FilePath) × IsIn (Put path content) effects
 
 -- ---- laws
 
@@ -89,7 +89,7 @@ SketchesAreFilled = (effects : List Effect) (sketched : List SketchEffect) → A
 
 -- only the effects themselves do, where no two contents have one print
 abbrev pub FillingsAreEqual : Type 0
-FillingsAreEqual = (effects others : List Effect) (sketched : List SketchEffect) → AreSketchedAs effects sketched → AllFill sketched others → Distinct (Writes effects) (Writes others) → others ≡ effects
+FillingsAreEqual = (effects others : List Effect) (sketched : List SketchEffect) → AreSketchedAs effects sketched → AllFill sketched others → Distinct (WritesContent effects) (WritesContent others) → others ≡ effects
 
 -- what fills sketches touches the same paths, and writes as many bytes as they stand for
 abbrev pub FillingsTouchAlike : Type 0

@@ -11,7 +11,7 @@ ghost use Rattle.mod_log.specs.declared.log.LogError.TheVariants.{Memory, EntryT
 ghost use Rattle.mod_log.specs.Log.{IsLog, IsEntryOf, tree_after, entry as spelled, new_log_of, acknowledged, pulled, tree_of};
 ghost use Rattle.mod_log.specs.Origin.{MadeByFits};
 ghost use Rattle.mod_log.specs.Limits.{max_entries, max_log};
-ghost use Rattle.mod_log.specs.Append.{next_entry, appended, is_too_large, has_no_room, is_at_last};
+ghost use Rattle.mod_log.specs.Append.{next_entry, appended, is_too_large, log_has_no_room, is_at_last};
 ghost use Rattle.mod_log.specs.Inside.{entry_with, room_refusals, log_error, AreKept, entries_of, rolled_back as tree_before};
 
 use crate::limits::{MAX_ENTRIES, MAX_LOG};
@@ -236,7 +236,7 @@ impl Log {
         ensures base { IfOk result (λ x. x.0 ≡ bases_of effects.now (tree_of self.now)) }
         ensures size { IfOk result (λ x. x.1 ≡ length (spelled (next_entry origin.now effects.now self.now))) }
         ensures small { OnOk result (is_too_large effects.now ≡ false) }
-        ensures room { OnOk result (has_no_room (next_entry origin.now effects.now self.now) self.now ≡ false) }
+        ensures room { OnOk result (log_has_no_room (next_entry origin.now effects.now self.now) self.now ≡ false) }
         ensures number { OnOk result (is_at_last self.now ≡ false) }
         ensures err { IfErr result (λ e. e ≢ LogError.Memory → appended origin.now effects.now self.now ≡ Err e) }
     {
@@ -252,7 +252,7 @@ impl Log {
         requires some { entry.effects ≢ [] }
         requires made_by { MadeByFits entry.origin }
         requires small { is_too_large entry.effects ≡ false }
-        requires room { has_no_room entry self.old ≡ false }
+        requires room { log_has_no_room entry self.old ≡ false }
         requires number { is_at_last self.old ≡ false }
         requires size { size ≡ length (spelled entry) }
         ensures ok { OnOk result (appended entry.origin entry.effects self.old ≡ Ok self.new) }
@@ -289,7 +289,7 @@ impl Log {
         base: &Bases,
     ) -> Result<u64, LogError>
         ensures size { IfOk result (λ size. size ≡ length (spelled (entry_with origin.now effects.now base.now self.now))) }
-        ensures room { OnOk result (has_no_room (entry_with origin.now effects.now base.now self.now) self.now ≡ false) }
+        ensures room { OnOk result (log_has_no_room (entry_with origin.now effects.now base.now self.now) self.now ≡ false) }
         ensures number { OnOk result (is_at_last self.now ≡ false) }
         ensures err { IfErr result (λ e. e ≢ LogError.Memory → unless_refused (room_refusals (entry_with origin.now effects.now base.now self.now) self.now) self.now ≡ Err e) }
     {

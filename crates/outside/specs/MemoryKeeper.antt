@@ -29,8 +29,8 @@ abbrev pub fail_of : List KeepFail → ℕ → Option KeepFail
 fail_of fails call = find (λ fail. fail.call == call) fails
 
 -- whether the next call fails
-abbrev pub fails_now : KeeperInMemory → Bool
-fails_now keeper = is_some (fail_of keeper.fails keeper.calls.made)
+abbrev pub keeping_fails_now : KeeperInMemory → Bool
+keeping_fails_now keeper = is_some (fail_of keeper.fails keeper.calls.made)
 
 -- whether the next call leaves the new image where it fails
 abbrev pub leaves_new : KeeperInMemory → Bool

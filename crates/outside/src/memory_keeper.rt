@@ -3,7 +3,7 @@ ghost use Rattle.std.specs.Option.{option_copied};
 ghost use Rattle.outside.specs.Outside.{Told, CountsFault};
 ghost use Rattle.outside.specs.Keeper.{IsPut, Loads, Saves, Appends, followed_by};
 ghost use Rattle.outside.specs.Memory.{after_call};
-ghost use Rattle.outside.specs.MemoryKeeper.{KeeperInMemory, has_name, images_of, fail_of, fails_now, has_failed, SavesAs, left_of, AppendsAs};
+ghost use Rattle.outside.specs.MemoryKeeper.{KeeperInMemory, has_name, images_of, fail_of, keeping_fails_now, has_failed, SavesAs, left_of, AppendsAs};
 
 use crate::calls::Calls;
 use crate::{KeepError, Keeper};
@@ -97,7 +97,7 @@ impl Keeper for MemKeeper {
         ensures images { Told (Some (images_of self.old.slots)) (Some (images_of self.new.slots)) (λ old new. Loads name.now result old new) }
         ensures cause { CountsFault KeepError.Failed self.old.calls.faults self.new.calls.faults result }
 
-        ensures exactly { IsErrOf result KeepError.Failed ↔ IsTrue (fails_now self.old) }
+        ensures exactly { IsErrOf result KeepError.Failed ↔ IsTrue (keeping_fails_now self.old) }
         ensures counted { self.new ≡ record self.old { calls = after_call (has_failed result) self.old.calls } }
     {
         let call = self.calls.count();
@@ -116,9 +116,9 @@ impl Keeper for MemKeeper {
         ensures images { Told (Some (images_of self.old.slots)) (Some (images_of self.new.slots)) (λ old new. Saves name.now image.now result old new) }
         ensures cause { CountsFault KeepError.Failed self.old.calls.faults self.new.calls.faults result }
 
-        ensures exactly { IsErrOf result KeepError.Failed → IsTrue (fails_now self.old) }
+        ensures exactly { IsErrOf result KeepError.Failed → IsTrue (keeping_fails_now self.old) }
         // A named call fails, or memory ran out before the image that it leaves was there.
-        ensures always { IsTrue (fails_now self.old) → IsErr result }
+        ensures always { IsTrue (keeping_fails_now self.old) → IsErr result }
         ensures left { SavesAs name.now image.now result self.old self.new.slots }
         ensures counted { self.new ≡ record self.old { slots = self.new.slots; calls = after_call (has_failed result) self.old.calls } }
     {
@@ -143,9 +143,9 @@ impl Keeper for MemKeeper {
         ensures images { Told (Some (images_of self.old.slots)) (Some (images_of self.new.slots)) (λ old new. Appends name.now piece.now result old new) }
         ensures cause { CountsFault KeepError.Failed self.old.calls.faults self.new.calls.faults result }
 
-        ensures exactly { IsErrOf result KeepError.Failed → IsTrue (fails_now self.old) }
+        ensures exactly { IsErrOf result KeepError.Failed → IsTrue (keeping_fails_now self.old) }
         // A named call fails, or memory ran out before what it leaves was there.
-        ensures always { IsTrue (fails_now self.old) → IsErr result }
+        ensures always { IsTrue (keeping_fails_now self.old) → IsErr result }
         ensures left { AppendsAs name.now piece.now result self.old self.new.slots }
         ensures counted { self.new ≡ record self.old { slots = self.new.slots; calls = after_call (has_failed result) self.old.calls } }
     {

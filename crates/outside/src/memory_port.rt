@@ -1,7 +1,7 @@
 ghost use Rattle.std.specs.Prelude.{◌≡◌, ◌<◌, ◌-◌, ◌↔◌, [], Some, None, Ok, ◌∷◌, ◌++◌, length, map, slice_get, option_map, IfOk, OnOk, OnErr, IsErrOf, IsTrue};
 ghost use Rattle.std.specs.Option.{option_copied};
 ghost use Rattle.outside.specs.Outside.{Told, CountsFault};
-ghost use Rattle.outside.specs.Port.{AddsTalks, talks_begun, Answers};
+ghost use Rattle.outside.specs.Port.{AddsTalks, talks_begun, AnswersLast};
 ghost use Rattle.outside.specs.MemoryPort.{PortInMemory, talks_of, reply_of, awaits_answer, take_fails, answer_fails, after_take, after_answer};
 
 use crate::calls::Calls;
@@ -99,7 +99,7 @@ impl Port for MemPort {
     /// Keeps the answer, but in the named calls, and where no connection waits for one.
     fn answer(&mut self, frame: &[u8]) -> Result<(), PortError>
         ensures left { length self.new.left ≡ length self.old.left }
-        ensures talks { Told (Some self.old.talks) (Some self.new.talks) (Answers frame.now result) }
+        ensures talks { Told (Some self.old.talks) (Some self.new.talks) (AnswersLast frame.now result) }
         ensures cause { CountsFault PortError.Failed self.old.calls.faults self.new.calls.faults result }
 
         ensures exactly { IsErrOf result PortError.Failed ↔ IsTrue (answer_fails self.old) }
@@ -135,7 +135,7 @@ fn begin(talks: &mut Vec<HeldTalk>, frame: &[u8]) -> Result<(), AllocError>
 /// Gives the talk that was begun last a copy of the reply.
 fn answer_last(talks: &mut Vec<HeldTalk>, reply: &[u8]) -> Result<(), AllocError>
     requires { IsTrue (awaits_answer (talks_of talks.old.items)) }
-    ensures ok { Answers reply.now result (talks_of talks.old.items) (talks_of talks.new.items) }
+    ensures ok { AnswersLast reply.now result (talks_of talks.old.items) (talks_of talks.new.items) }
     ensures err { OnErr result (talks.new.items ≡ talks.old.items) }
 {
     let copy = reply.to_vec(*talks.allocator())?;

@@ -1,6 +1,6 @@
 ghost use Rattle.std.specs.Prelude.{◌≡◌, ◌-◌, ◌↔◌, None, Ok};
 ghost use Rattle.outside.specs.Outside.{Told, CountsFault};
-ghost use Rattle.outside.specs.Port.{PortTelling, AddsTalks, talks_begun, Answers};
+ghost use Rattle.outside.specs.Port.{PortTelling, AddsTalks, talks_begun, AnswersLast};
 
 use crate::PortError;
 
@@ -28,6 +28,6 @@ pub trait Port {
     /// `Failed` is counted. Either refusal answers nothing.
     fn answer(&mut self, frame: &[u8]) -> Result<(), PortError>
         ensures left { (tells self.new).left ≡ (tells self.old).left }
-        ensures talks { Told (tells self.old).talks (tells self.new).talks (Answers frame.now result) }
+        ensures talks { Told (tells self.old).talks (tells self.new).talks (AnswersLast frame.now result) }
         ensures cause { CountsFault PortError.Failed (tells self.old).faults (tells self.new).faults result };
 }

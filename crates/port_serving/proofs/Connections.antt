@@ -9,7 +9,7 @@ use Rattle.outside.specs.Port.{Talk, PortTelling, AddsTalks}
 use Rattle.port_serving.specs.declared.serving.Came.{Came}
 use Rattle.port_serving.specs.declared.serving.Came.TheVariants as came
 use Rattle.port_serving.specs.declared.serving.Tally.{Tally}
-use Rattle.port_serving.specs.Serving.{Connection, Missed, Unanswered, Answered, exchange, exchanges, frames_taken, talk, talks, connection_of, is_failure, failures, Uses, IsAtHand, UsesAll, UsesFront, Counts, tallied}
+use Rattle.port_serving.specs.Serving.{Connection, Missed, Unanswered, Answered, exchange, exchanges, frames_taken, talk, talks, connection_of, is_failure, failed_connections, Uses, IsAtHand, UsesAll, UsesFront, Counts, tallied}
 use Rattle.port_serving.specs.Inside.{UsesSoFar}
 
 -- ---- connections in a row
@@ -23,7 +23,7 @@ frames_taken-append xs ys = ap (map (λ (pair : List ℕ × List ℕ). pair.0)) 
 pub talks-append : (xs ys : List Connection) → talks (xs ++ ys) ≡ talks xs ++ talks ys
 talks-append xs ys = flat_map-append talk xs ys
 
-pub failures-append : (xs ys : List Connection) → failures (xs ++ ys) ≡ failures xs + failures ys
+pub failures-append : (xs ys : List Connection) → failed_connections (xs ++ ys) ≡ failed_connections xs + failed_connections ys
 failures-append xs ys = sum_by-append (λ c. cond (is_failure c) 1 0) xs ys
 
 -- ---- what a port tells
@@ -51,7 +51,7 @@ pub uses_more : (xs ys : List Connection) (a b c : PortTelling) → Uses xs a b 
 uses_more xs ys a b c first second = record {
   left = omega (arith, first.left, second.left, length-append xs ys);
   talks = subst (AddsTalks a.talks c.talks) (sym (talks-append xs ys)) (adds_more a.talks b.talks c.talks (talks xs) (talks ys) first.talks second.talks);
-  failed = subst (λ (n : ℕ). c.faults ≡ raised n a.faults) (sym (failures-append xs ys)) (raised_more (failures xs) (failures ys) a.faults b.faults c.faults first.failed second.failed);
+  failed = subst (λ (n : ℕ). c.faults ≡ raised n a.faults) (sym (failures-append xs ys)) (raised_more (failed_connections xs) (failed_connections ys) a.faults b.faults c.faults first.failed second.failed);
 }
 
 -- ---- counting
@@ -62,21 +62,21 @@ few_taken (Missed ∷ more) = omega (arith, few_taken more)
 few_taken (Unanswered frame reply ∷ more) = omega (arith, few_taken more)
 few_taken (Answered frame reply ∷ more) = omega (arith, few_taken more)
 
-pub few_failures : (connections : List Connection) → failures connections ≤ length connections
+pub few_failures : (connections : List Connection) → failed_connections connections ≤ length connections
 few_failures connections = count_by-le-length is_failure connections
 
 -- nothing was taken yet
 pub so_far_none : (port : PortTelling) → UsesSoFar 0 (record { frames = 0; faults = 0 }) [] port port
 so_far_none port = record { uses = uses_none port; counts = record { frames = refl; faults = refl }; takes = refl }
 
-counted : (xs ys : List Connection) (tally new : Tally) → Counts xs tally → new.frames ≡ tally.frames + length (frames_taken ys) → new.faults ≡ tally.faults + failures ys → Counts (xs ++ ys) new
+counted : (xs ys : List Connection) (tally new : Tally) → Counts xs tally → new.frames ≡ tally.frames + length (frames_taken ys) → new.faults ≡ tally.faults + failed_connections ys → Counts (xs ++ ys) new
 counted xs ys tally new counts frames faults = record {
   frames = omega (arith, counts.frames, frames, ap length (frames_taken-append xs ys), length-append (frames_taken xs) (frames_taken ys));
   faults = omega (arith, counts.faults, faults, failures-append xs ys);
 }
 
 so_far_more : (takes : ℕ) (tally new : Tally) (xs : List Connection) (next : Connection) (a b c : PortTelling) → UsesSoFar takes tally xs a b → Uses (next ∷ []) b c
-    → new.frames ≡ tally.frames + length (frames_taken (next ∷ [])) → new.faults ≡ tally.faults + failures (next ∷ []) → UsesSoFar (takes + 1) new (xs ++ next ∷ []) a c
+    → new.frames ≡ tally.frames + length (frames_taken (next ∷ [])) → new.faults ≡ tally.faults + failed_connections (next ∷ []) → UsesSoFar (takes + 1) new (xs ++ next ∷ []) a c
 so_far_more takes tally new xs next a b c before one frames faults = record {
   uses = uses_more xs (next ∷ []) a b c before.uses one;
   counts = counted xs (next ∷ []) tally new before.counts frames faults;

@@ -3,7 +3,7 @@ use Rattle.std.proofs.Common.{◌≡◌, inl, inr, ℕ, List, [], ◌∷◌, ◌
 use Rattle.outside.specs.Outside.{Told, raised}
 use Rattle.outside.specs.Port.{Talk, PortTelling, AddsTalks}
 use Rattle.port_serving.specs.declared.serving.Came.TheVariants as came
-use Rattle.port_serving.specs.Serving.{unanswered, answered, IsAtHand, Replies}
+use Rattle.port_serving.specs.Serving.{unanswered, answered_talk, IsAtHand, Replies}
 
 -- lists that agree but for their last are equal before it
 same_front : (xs ys : List Talk) (x y : Talk) → xs ++ x ∷ [] ≡ ys ++ y ∷ [] → (xs ≡ ys) × (x ≡ y)
@@ -22,17 +22,17 @@ frame_is f g e = ap (λ (t : Talk). t.frame) e
 
 -- the last talk was given this answer
 abbrev pub IsGiven : List ℕ → List Talk → List Talk → Type 0
-IsGiven reply old new = (before : List Talk) × (frame : List ℕ) × (old ≡ before ++ unanswered frame ∷ []) × (new ≡ before ++ answered frame reply ∷ [])
+IsGiven reply old new = (before : List Talk) × (frame : List ℕ) × (old ≡ before ++ unanswered frame ∷ []) × (new ≡ before ++ answered_talk frame reply ∷ [])
 
 -- it goes to the talk at hand
-given_at_hand : (a b c : Option (List Talk)) (frame reply : List ℕ) → AddsTalks a b (unanswered frame ∷ []) → Told b c (IsGiven reply) → AddsTalks a c (answered frame reply ∷ [])
+given_at_hand : (a b c : Option (List Talk)) (frame reply : List ℕ) → AddsTalks a b (unanswered frame ∷ []) → Told b c (IsGiven reply) → AddsTalks a c (answered_talk frame reply ∷ [])
 given_at_hand None None c frame reply begun told = told
 given_at_hand None (Some y) c frame reply begun told = absurd (cc begun)
 given_at_hand (Some x) None c frame reply begun told = absurd begun
 given_at_hand (Some x) (Some y) None frame reply begun told = absurd told
 given_at_hand (Some x) (Some y) (Some z) frame reply begun told =
     let both = same_front told.0 x (unanswered told.1) (unanswered frame) (sym told.2 ∙ begun) in
-    told.3 ∙ ap (λ (l : List Talk). l ++ answered told.1 reply ∷ []) both.0 ∙ ap (λ (f : List ℕ). x ++ answered f reply ∷ []) (frame_is told.1 frame both.1)
+    told.3 ∙ ap (λ (l : List Talk). l ++ answered_talk told.1 reply ∷ []) both.0 ∙ ap (λ (f : List ℕ). x ++ answered_talk f reply ∷ []) (frame_is told.1 frame both.1)
 
 -- nothing was answered
 left_at_hand : (a b c : Option (List Talk)) (talks : List Talk) → AddsTalks a b talks → Told b c (λ old new. new ≡ old) → AddsTalks a c talks

@@ -5,7 +5,7 @@ use Rattle.std.proofs.lemmas.Grind.{flat_map-append}
 use Rattle.std.specs.Option.{option_to_list}
 use Rattle.outside.specs.Outside.{Told, raised, Adds}
 use Rattle.outside.specs.Port.{Talk, PortTelling, AddsTalks}
-use Rattle.port_serving.specs.Serving.{Connection, Missed, Unanswered, Answered, frames_taken, frames_answered, talks, unanswered, failures, UsesAll, UsesFront, last_line, line_of}
+use Rattle.port_serving.specs.Serving.{Connection, Missed, Unanswered, Answered, frames_taken, frames_answered, talks, unanswered, failed_connections, UsesAll, UsesFront, served_line, served_line_of}
 use Rattle.port_serving.specs.Laws.{frames_of, replies_of, TalksAreExchanges, fall, HasFallen, HasTalks, IsTold}
 use Rattle.port_serving.proofs.Connections.{adds_none, adds_more, failures-append}
 
@@ -50,16 +50,16 @@ talks_are_exchanges connections old new uses = record {
 }
 
 -- each connection is answered, or a call of the port failed
-answered_or_failed : (connections : List Connection) → failures connections + length (frames_answered connections) ≡ length connections
+answered_or_failed : (connections : List Connection) → failed_connections connections + length (frames_answered connections) ≡ length connections
 answered_or_failed [] = refl
 answered_or_failed (Missed ∷ more) =
-    let one : failures (Missed ∷ more) ≡ 1 + failures more = failures-append (Missed ∷ []) more in
+    let one : failed_connections (Missed ∷ more) ≡ 1 + failed_connections more = failures-append (Missed ∷ []) more in
     omega (arith, one, answered_or_failed more)
 answered_or_failed (Unanswered frame reply ∷ more) =
-    let one : failures (Unanswered frame reply ∷ more) ≡ 1 + failures more = failures-append (Unanswered frame reply ∷ []) more in
+    let one : failed_connections (Unanswered frame reply ∷ more) ≡ 1 + failed_connections more = failures-append (Unanswered frame reply ∷ []) more in
     omega (arith, one, answered_or_failed more)
 answered_or_failed (Answered frame reply ∷ more) =
-    let none : failures (Answered frame reply ∷ more) ≡ 0 + failures more = failures-append (Answered frame reply ∷ []) more in
+    let none : failed_connections (Answered frame reply ∷ more) ≡ 0 + failed_connections more = failures-append (Answered frame reply ∷ []) more in
     omega (arith, none, answered_or_failed more)
 
 -- ---- the fall
@@ -102,16 +102,16 @@ module _ (count : ℕ) (connections : List Connection) (old new : PortTelling) (
   all_replied : frames_answered connections ≡ replies_of all
   all_replied = sym (replies_of_talks connections) ∙ ap replies_of same_all
 
-  all_failed : failures connections ≡ fall old new - length (replies_of all)
+  all_failed : failed_connections connections ≡ fall old new - length (replies_of all)
   all_failed = omega (arith, answered_or_failed connections, ap length all_replied, is.uses.left)
 
-  same_line : line_of connections ≡ last_line (length (frames_of all)) (fall old new - length (replies_of all))
-  same_line = ap (λ (l : List (List ℕ)). last_line (length l) (failures connections)) all_taken ∙ ap (λ (n : ℕ). last_line (length (frames_of all)) n) all_failed
+  same_line : served_line_of connections ≡ served_line (length (frames_of all)) (fall old new - length (replies_of all))
+  same_line = ap (λ (l : List (List ℕ)). served_line (length l) (failed_connections connections)) all_taken ∙ ap (λ (n : ℕ). served_line (length (frames_of all)) n) all_failed
 
   raised_all : new.faults ≡ raised (fall old new - length (replies_of all)) old.faults
   raised_all = is.uses.failed ∙ ap (λ (n : ℕ). raised n old.faults) all_failed
 
-  pub told_all : (whole lined : Type 0) (written now : Option (List ℕ)) → Adds written now (line_of connections) → IsTold whole lined all old new written now
+  pub told_all : (whole lined : Type 0) (written now : Option (List ℕ)) → Adds written now (served_line_of connections) → IsTold whole lined all old new written now
   told_all whole lined written now adds = record { all = λ _. raised_all; at_hand = inl raised_all; line = λ _. subst (Adds written now) same_line adds }
 
   pub told_in_line : (whole lined : Type 0) (written now : Option (List ℕ)) → (lined → ⊥) → IsTold whole lined all old new written now
@@ -137,7 +137,7 @@ module _ (count : ℕ) (connections : List Connection) (frames : List (List ℕ)
 
   pub told_front : (whole lined : Type 0) (written now : Option (List ℕ)) → (whole → ⊥) → (lined → ⊥) → IsTold whole lined all old new written now
   told_front whole lined written now part unlined =
-      let missing : failures connections ≡ fall old new - length (replies_of all) - 1 = omega (arith, answered_or_failed connections, front_replied, is.uses.left, is.at_hand.left) in
+      let missing : failed_connections connections ≡ fall old new - length (replies_of all) - 1 = omega (arith, answered_or_failed connections, front_replied, is.uses.left, is.at_hand.left) in
       record {
         all = λ ended. absurd (part ended);
         at_hand = inr (is.at_hand.faults ∙ is.uses.failed ∙ ap (λ (n : ℕ). raised n old.faults) missing);

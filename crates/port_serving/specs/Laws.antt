@@ -4,7 +4,7 @@ use Rattle.std.specs.List.{flat_map}
 use Rattle.std.specs.Option.{option_to_list}
 use Rattle.outside.specs.Outside.{Told, Adds, raised}
 use Rattle.outside.specs.Port.{Talk, PortTelling}
-use Rattle.port_serving.specs.Serving.{Connection, frames_taken, frames_answered, Uses, last_line}
+use Rattle.port_serving.specs.Serving.{Connection, frames_taken, frames_answered, Uses, served_line}
 
 -- the frames of talks, and the answers that were given in them
 abbrev pub frames_of : List Talk → List (List ℕ)
@@ -42,4 +42,4 @@ pub record HasTalks (talks : List Talk) (old new : PortTelling) : Type 0 where
 pub record IsTold (whole lined : Type 0) (talks : List Talk) (old new : PortTelling) (written now : Option (List ℕ)) : Type 0 where
   pub all : whole → new.faults ≡ raised (fall old new - length (replies_of talks)) old.faults
   pub at_hand : (new.faults ≡ raised (fall old new - length (replies_of talks)) old.faults) ⊎ (new.faults ≡ raised (fall old new - length (replies_of talks) - 1) old.faults)
-  pub line : lined → Adds written now (last_line (length (frames_of talks)) (fall old new - length (replies_of talks)))
+  pub line : lined → Adds written now (served_line (length (frames_of talks)) (fall old new - length (replies_of talks)))

@@ -43,14 +43,14 @@ frames_answered connections = flat_map reply_answered connections
 abbrev pub unanswered : List ℕ → Talk
 unanswered frame = record { frame = frame; reply = None }
 
-abbrev pub answered : List ℕ → List ℕ → Talk
-answered frame reply = record { frame = frame; reply = Some reply }
+abbrev pub answered_talk : List ℕ → List ℕ → Talk
+answered_talk frame reply = record { frame = frame; reply = Some reply }
 
 -- the talk over a connection: its frame, and the reply where it was answered by it
 abbrev pub talk : Connection → List Talk
 talk Missed = []
 talk (Unanswered frame reply) = unanswered frame ∷ []
-talk (Answered frame reply) = answered frame reply ∷ []
+talk (Answered frame reply) = answered_talk frame reply ∷ []
 
 abbrev pub talks : List Connection → List Talk
 talks connections = flat_map talk connections
@@ -68,15 +68,15 @@ is_failure Missed = true
 is_failure (Unanswered frame reply) = true
 is_failure (Answered frame reply) = false
 
-abbrev pub failures : List Connection → ℕ
-failures connections = count_by is_failure connections
+abbrev pub failed_connections : List Connection → ℕ
+failed_connections connections = count_by is_failure connections
 
 -- these connections of a port were used up, one after the other: each frame was taken once the connection before it had its
 -- answer, or had failed
 pub record Uses (connections : List Connection) (old new : PortTelling) : Type 0 where
   pub left : old.left ≡ new.left + length connections
   pub talks : AddsTalks old.talks new.talks (talks connections)
-  pub failed : new.faults ≡ raised (failures connections) old.faults
+  pub failed : new.faults ≡ raised (failed_connections connections) old.faults
 
 -- a connection is at hand: it is used up, its frame was taken, unless memory ran out, and is not answered; no call of the port failed
 pub record IsAtHand (frames : List (List ℕ)) (old new : PortTelling) : Type 0 where
@@ -86,10 +86,10 @@ pub record IsAtHand (frames : List (List ℕ)) (old new : PortTelling) : Type 0 
   pub faults : new.faults ≡ old.faults
 
 -- what a take came to
-abbrev pub Takes : Taking → PortTelling → PortTelling → Type 0
-Takes taking.NoConnection old new = (new.left ≡ 0) × Uses [] old new
-Takes taking.Missed old new = Uses (Missed ∷ []) old new
-Takes (taking.Taken frame) old new = IsAtHand (frame.items ∷ []) old new
+abbrev pub TakesConnection : Taking → PortTelling → PortTelling → Type 0
+TakesConnection taking.NoConnection old new = (new.left ≡ 0) × Uses [] old new
+TakesConnection taking.Missed old new = Uses (Missed ∷ []) old new
+TakesConnection (taking.Taken frame) old new = IsAtHand (frame.items ∷ []) old new
 
 -- where the connection of this frame is at hand, it is used up with this reply: answered by it, or the port failed to
 pub record Replies (how : Came) (frame reply : List ℕ) (old new : PortTelling) : Type 0 where
@@ -112,7 +112,7 @@ pub record UsesFront (count : ℕ) (connections : List Connection) (frames : Lis
 -- the frames taken, and the calls that failed
 pub record Counts (connections : List Connection) (tally : Tally) : Type 0 where
   pub frames : tally.frames ≡ length (frames_taken connections)
-  pub faults : tally.faults ≡ failures connections
+  pub faults : tally.faults ≡ failed_connections connections
 
 -- the tally with one more take
 abbrev pub tallied : Tally → Came → Tally
@@ -122,8 +122,8 @@ tallied tally came.Unanswered = record { frames = tally.frames + 1; faults = tal
 tallied tally came.Answered = record { frames = tally.frames + 1; faults = tally.faults }
 
 -- the line that ends the output: how many frames were taken, and how many calls of the port failed
-abbrev pub last_line : ℕ → ℕ → List ℕ
-last_line frames faults = codes "served " ++ (decimal frames ++ (codes " faults " ++ (decimal faults ++ 10 ∷ [])))
+abbrev pub served_line : ℕ → ℕ → List ℕ
+served_line frames faults = codes "served " ++ (decimal frames ++ (codes " faults " ++ (decimal faults ++ 10 ∷ [])))
 
-abbrev pub line_of : List Connection → List ℕ
-line_of connections = last_line (length (frames_taken connections)) (failures connections)
+abbrev pub served_line_of : List Connection → List ℕ
+served_line_of connections = served_line (length (frames_taken connections)) (failed_connections connections)

@@ -1,7 +1,7 @@
 // One connection of a port: its frame, and the answer to it.
 ghost use Rattle.std.specs.Prelude.{◌≡◌, ◌<◌, ◌+◌, List, ℕ, [], ◌∷◌, IfOk, OnErr};
 ghost use Rattle.outside.specs.Port.{PortTelling};
-ghost use Rattle.port_serving.specs.Serving.{IsAtHand, Takes, Replies, tallied};
+ghost use Rattle.port_serving.specs.Serving.{IsAtHand, TakesConnection, Replies, tallied};
 
 use outside::{Port, PortError};
 use std::alloc::AllocError;
@@ -55,7 +55,7 @@ impl Tally {
 ///
 /// Want of memory, which uses the connection up.
 pub fn take_frame<P: Port>(port: &mut P) -> Result<Taking, AllocError>
-    ensures ok { IfOk result (λ taking. Takes taking (P.tells port.old) (P.tells port.new)) }
+    ensures ok { IfOk result (λ taking. TakesConnection taking (P.tells port.old) (P.tells port.new)) }
     ensures err { OnErr result (IsAtHand [] (P.tells port.old) (P.tells port.new)) }
 {
     match port.take() {

@@ -4,11 +4,11 @@ use Rattle.std.specs.Int.{w32, from_be_bytes}
 use Rattle.std.proofs.lemmas.Bool.{le-leb}
 use Rattle.std.proofs.lemmas.List.{take_all, length-append}
 use Rattle.std.proofs.Math.Seq.{take-add}
-use Rattle.real_edge.specs.Frames.{frame_limit, behind, first_frame}
+use Rattle.real_edge.specs.Frames.{frame_limit, announced_bytes, first_frame}
 use Rattle.real_edge.specs.Inside.{IsFront, ReadsUpTo}
 
 -- the first four bytes announce as much as all
-behind_front : (bytes : List ℕ) → behind (take 4 bytes) ≡ behind bytes
+behind_front : (bytes : List ℕ) → announced_bytes (take 4 bytes) ≡ announced_bytes bytes
 behind_front [] = refl
 behind_front (a ∷ []) = refl
 behind_front (a ∷ b ∷ []) = refl
@@ -18,7 +18,7 @@ behind_front (a ∷ b ∷ c ∷ d ∷ rest) =
     ap (λ (four : Bool). if four && nat_le (said + 4) frame_limit then said else 0) (sym (le-leb 4 (length (a ∷ b ∷ c ∷ d ∷ rest)) (omega arith)))
 
 -- the bytes behind the first four announce nothing
-behind_cut : (head body : List ℕ) → length head ≤ 4 → length body ≤ behind head → behind (head ++ body) ≡ behind head
+behind_cut : (head body : List ℕ) → length head ≤ 4 → length body ≤ announced_bytes head → announced_bytes (head ++ body) ≡ announced_bytes head
 behind_cut [] [] short few = refl
 behind_cut (a ∷ []) [] short few = refl
 behind_cut (a ∷ b ∷ []) [] short few = refl
@@ -32,25 +32,25 @@ behind_cut (a ∷ b ∷ c ∷ d ∷ e ∷ head) body short few = absurd (omega a
 
 -- what is read is one frame, or what there is of it
 pub frame_form : (before middle after : Option (List ℕ)) (empty head frame : List ℕ) → empty ≡ []
-    → ReadsUpTo 4 before middle empty head → ReadsUpTo (behind head) middle after head frame → first_frame frame ≡ frame
+    → ReadsUpTo 4 before middle empty head → ReadsUpTo (announced_bytes head) middle after head frame → first_frame frame ≡ frame
 frame_form before middle after empty head frame none first second =
     let start : head ≡ first.0 = first.1 ∙ ap (λ (l : List ℕ). l ++ first.0) none in
     let short : length head ≤ 4 = subst (λ (l : List ℕ). length l ≤ 4) (sym start) first.2 in
-    let few : length second.0 ≤ behind head = second.2 in
-    let same : behind frame ≡ behind head = ap behind second.1 ∙ behind_cut head second.0 short few in
+    let few : length second.0 ≤ announced_bytes head = second.2 in
+    let same : announced_bytes frame ≡ announced_bytes head = ap announced_bytes second.1 ∙ behind_cut head second.0 short few in
     let long : length frame ≡ length head + length second.0 = ap length second.1 ∙ length-append head second.0 in
-    take_all (4 + behind frame) frame (omega arith)
+    take_all (4 + announced_bytes frame) frame (omega arith)
 
 -- it is the first frame of a stream that tells its bytes
 pub frame_known : (before middle after : Option (List ℕ)) (empty head frame : List ℕ) → empty ≡ []
-    → ReadsUpTo 4 before middle empty head → ReadsUpTo (behind head) middle after head frame
+    → ReadsUpTo 4 before middle empty head → ReadsUpTo (announced_bytes head) middle after head frame
     → IfSome before (λ bytes. frame ≡ first_frame bytes)
 frame_known None middle after empty head frame none first second = tt
 frame_known (Some bytes) middle after empty head frame none first second =
     let start : head ≡ take 4 bytes = first.1 ∙ ap (λ (l : List ℕ). l ++ first.0) none ∙ first.3.0 in
-    let count : behind head ≡ behind bytes = ap behind start ∙ behind_front bytes in
-    let rest : IsFront (behind head) (Some (drop 4 bytes)) after second.0 =
-    subst (λ (m : Option (List ℕ)). IsFront (behind head) m after second.0) first.3.1 second.3 in
-    let body : second.0 ≡ take (behind bytes) (drop 4 bytes) = rest.0 ∙ ap (λ (n : ℕ). take n (drop 4 bytes)) count in
+    let count : announced_bytes head ≡ announced_bytes bytes = ap announced_bytes start ∙ behind_front bytes in
+    let rest : IsFront (announced_bytes head) (Some (drop 4 bytes)) after second.0 =
+    subst (λ (m : Option (List ℕ)). IsFront (announced_bytes head) m after second.0) first.3.1 second.3 in
+    let body : second.0 ≡ take (announced_bytes bytes) (drop 4 bytes) = rest.0 ∙ ap (λ (n : ℕ). take n (drop 4 bytes)) count in
     second.1 ∙ ap (λ (l : List ℕ). l ++ second.0) start ∙ ap (λ (l : List ℕ). take 4 bytes ++ l) body
-    ∙ sym (take-add 4 (behind bytes) bytes)
+    ∙ sym (take-add 4 (announced_bytes bytes) bytes)

@@ -4,7 +4,7 @@ use Rattle.std.proofs.KnownBytes.{Keeps-trans}
 use Rattle.std.specs.Io.KnownBytes.{Keeps, Appends, Consumes, IsAtEnd, ReadConsumes, WriteAppends}
 use Rattle.std.specs.declared.time.Instant.{Instant}
 use Rattle.real_edge.specs.declared.pace.Window.{Window}
-use Rattle.real_edge.specs.Pace.{window_bytes, fresh, limit, spent, after_bytes, GoesOn}
+use Rattle.real_edge.specs.Pace.{window_bytes, fresh, limit, spent, after_bytes, LeadsOn}
 
 -- ---- known bytes
 
@@ -34,14 +34,14 @@ writes_then a b c (Err e) buf first second = Keeps-trans a b c first second
 
 -- ---- windows
 
-pub stays : (a : Window) → GoesOn a a
+pub stays : (a : Window) → LeadsOn a a
 stays a = inl refl
 
 -- no third window follows within one call, since the second has moved nothing yet
-pub goes_on : (a b c : Window) → GoesOn a b → GoesOn b c → GoesOn a c
-goes_on a b c (inl same) second = subst (λ (w : Window). GoesOn w c) same second
+pub goes_on : (a b c : Window) → LeadsOn a b → LeadsOn b c → LeadsOn a c
+goes_on a b c (inl same) second = subst (λ (w : Window). LeadsOn w c) same second
 goes_on a b c (inr next) (inl same) = inr (next.0, next.1, next.2, same ∙ next.3)
 goes_on a b c (inr next) (inr third) = absurd (omega (arith, third.0, ap (λ (w : Window). w.moved) next.3))
 
-pub moved : (a b c : Window) (count : ℕ) → GoesOn a b → c ≡ after_bytes count b → (window : Window) × GoesOn a window × (c ≡ after_bytes count window)
+pub moved : (a b c : Window) (count : ℕ) → LeadsOn a b → c ≡ after_bytes count b → (window : Window) × LeadsOn a window × (c ≡ after_bytes count window)
 moved a b c count first is = (b, first, is)

@@ -7,11 +7,11 @@ abbrev pub frame_limit : ℕ
 frame_limit = 67108864
 
 -- how many bytes the first four announce behind them; none where there are no four, or where the frame would be over the limit
-abbrev pub behind : List ℕ → ℕ
-behind bytes =
+abbrev pub announced_bytes : List ℕ → ℕ
+announced_bytes bytes =
     let said = from_be_bytes w32 (take 4 bytes) in
     if nat_le 4 (length bytes) && nat_le (said + 4) frame_limit then said else 0
 
 -- the frame at the front of the bytes, or what there is of it
 abbrev pub first_frame : List ℕ → List ℕ
-first_frame bytes = take (4 + behind bytes) bytes
+first_frame bytes = take (4 + announced_bytes bytes) bytes

@@ -73,10 +73,10 @@ abbrev pub HasWaited : ℕ → Window → Type 0
 HasWaited seconds window = StartsBy (waiting seconds) window × (now : Instant) × (seconds * second ≤ spent window now)
 
 -- the window that holds after one: itself, or where it is over and moved its share, the next one
-abbrev pub GoesOn : Window → Window → Type 0
-GoesOn window next = (next ≡ window) ⊎ ((window_bytes ≤ window.moved) × (now : Instant) × (limit window ≤ spent window now) × (next ≡ fresh now))
+abbrev pub LeadsOn : Window → Window → Type 0
+LeadsOn window next = (next ≡ window) ⊎ ((window_bytes ≤ window.moved) × (now : Instant) × (limit window ≤ spent window now) × (next ≡ fresh now))
 
 -- a call moved so many bytes in the window that held then, or it failed
 abbrev pub Moves : {E : Type 0} → Result ℕ E → Window → Window → Type 0
-Moves (Ok count) before after = (window : Window) × GoesOn before window × (after ≡ after_bytes count window)
-Moves (Err e) before after = GoesOn before after
+Moves (Ok count) before after = (window : Window) × LeadsOn before window × (after ≡ after_bytes count window)
+Moves (Err e) before after = LeadsOn before after

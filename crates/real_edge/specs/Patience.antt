@@ -34,6 +34,6 @@ after_silence silent Server request = silent
 after_silence silent Surrogate request = Some (record { client = request.client; number = request.number })
 
 -- and after an answer
-abbrev pub after_answer : Option About → Peer → Option About
-after_answer silent Server = silent
-after_answer silent Surrogate = None
+abbrev pub silent_after_answer : Option About → Peer → Option About
+silent_after_answer silent Server = silent
+silent_after_answer silent Surrogate = None

@@ -1,6 +1,6 @@
 // One frame of a stream.
 ghost use Rattle.std.specs.Prelude.{◌≡◌, ◌+◌, ◌≤◌, ◌<◌, IfOk, IfSome, OnOk, length};
-ghost use Rattle.real_edge.specs.Frames.{frame_limit, behind, first_frame};
+ghost use Rattle.real_edge.specs.Frames.{frame_limit, announced_bytes, first_frame};
 ghost use Rattle.real_edge.specs.Inside.{ReadsBlock, ReadsUpTo};
 
 use std::alloc::Global;
@@ -43,7 +43,7 @@ fn read_up_to<S: Read>(stream: &mut S, most: usize, frame: &mut Vec<u8>) -> io::
 /// How many bytes the first four announce behind them: none where there are no four, or where the frame would be over the
 /// limit.
 fn bytes_behind(head: &[u8]) -> usize
-    ensures announced { result ≡ behind head.now }
+    ensures announced { result ≡ announced_bytes head.now }
     ensures fits { result + 4 ≤ frame_limit }
 {
     match head.first_chunk::<4>() {

@@ -6,7 +6,7 @@ ghost use Rattle.wire_frames.specs.Frame.{Spells};
 ghost use Rattle.world_rules.specs.World.{World};
 ghost use Rattle.world_rules.specs.Asking.{IsRequest, IsReplyTo, AsksOnce, IsDirect};
 ghost use Rattle.real_edge.specs.Pace.{HasWaited};
-ghost use Rattle.real_edge.specs.Patience.{patience, in_buffers, is_about, after_silence, after_answer};
+ghost use Rattle.real_edge.specs.Patience.{patience, in_buffers, is_about, after_silence, silent_after_answer};
 ghost use Rattle.real_edge.specs.Inside.{IsEchoTo};
 
 use crate::faults::count_fault;
@@ -168,7 +168,7 @@ fn after_silence(silent: Option<About>, to: Peer, request: Head) -> Option<About
 
 /// Of which entry it was silent, after an answer.
 fn after_answer(silent: Option<About>, to: Peer) -> Option<About>
-    ensures { result ≡ after_answer silent to }
+    ensures { result ≡ silent_after_answer silent to }
 {
     match to {
         Peer::Server => silent,

@@ -4,7 +4,7 @@ ghost use Rattle.std.specs.Duration.{as_nanos};
 ghost use Rattle.std.specs.Io.{ReadsAtMost, WritesAtMost};
 ghost use Rattle.std.specs.Io.KnownBytes.{Keeps, ReadConsumes, WriteAppends};
 ghost use Rattle.real_edge.specs.Pace.{window_bytes, silence, parting, fresh, of_request, waiting, spent, limit};
-ghost use Rattle.real_edge.specs.Pace.{after_bytes, StartsBy, GoesOn, Moves, Lasts, HasWaited};
+ghost use Rattle.real_edge.specs.Pace.{after_bytes, StartsBy, LeadsOn, Moves, Lasts, HasWaited};
 
 use std::io;
 use std::io::{ErrorKind, Read, Write};
@@ -196,7 +196,7 @@ impl<'a, S: Read + Write + OpenStream + Drop, C: Clock> Paced<'a, S, C> {
     /// The longest wait of the next call: what is left of the window.
     fn time_left(&mut self) -> io::Result<Duration>
         ensures left { IfOk result (λ left. Lasts self.new.window (as_nanos left)) }
-        ensures window { GoesOn self.old.window self.new.window }
+        ensures window { LeadsOn self.old.window self.new.window }
         ensures stream { self.new.stream ≡ self.old.stream }
     {
         let now = Instant::now(self.clock)?;
@@ -211,7 +211,7 @@ impl<'a, S: Read + Write + OpenStream + Drop, C: Clock> Paced<'a, S, C> {
 
     /// Gives the next read what is left of the window.
     fn limit_read(&mut self) -> io::Result<()>
-        ensures window { GoesOn self.old.window self.new.window }
+        ensures window { LeadsOn self.old.window self.new.window }
         ensures stream { self.new.stream ≡ self.old.stream }
     {
         let left = self.time_left()?;
@@ -220,7 +220,7 @@ impl<'a, S: Read + Write + OpenStream + Drop, C: Clock> Paced<'a, S, C> {
 
     /// Gives the next write what is left of the window.
     fn limit_write(&mut self) -> io::Result<()>
-        ensures window { GoesOn self.old.window self.new.window }
+        ensures window { LeadsOn self.old.window self.new.window }
         ensures stream { self.new.stream ≡ self.old.stream }
     {
         let left = self.time_left()?;

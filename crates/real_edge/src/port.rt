@@ -2,7 +2,7 @@
 ghost use Rattle.std.specs.Prelude.{◌≡◌, ◌-◌, ◌↔◌, None, Ok, Err, IfOk, OnOk, OnErr, IsErr};
 ghost use Rattle.std.specs.Io.KnownBytes.{Appends};
 ghost use Rattle.outside.specs.Outside.{Told, CountsFault};
-ghost use Rattle.outside.specs.Port.{AddsTalks, talks_begun, Answers};
+ghost use Rattle.outside.specs.Port.{AddsTalks, talks_begun, AnswersLast};
 ghost use Rattle.real_edge.specs.Pace.{StartsBy, of_request};
 ghost use Rattle.real_edge.specs.Port.{connections};
 
@@ -160,7 +160,7 @@ impl<'a, N: Net + Clock> Port for TcpPort<'a, N> {
 
     fn answer(&mut self, frame: &[u8]) -> Result<(), PortError>
         ensures left { self.new.left ≡ self.old.left }
-        ensures talks { Told None None (Answers frame.now result) }
+        ensures talks { Told None None (AnswersLast frame.now result) }
         ensures cause { CountsFault PortError.Failed self.old.faults self.new.faults result }
     {
         let sent = reply(self.talk.take(), frame);

@@ -11,7 +11,7 @@ use Rattle.wire_frames.specs.Reading.{frame_of}
 use Rattle.world_rules.specs.Served.{Served, state_after, taken_of, with_last}
 use Rattle.server_core.specs.Holding.{served}
 use Rattle.server_core.specs.Framing.{state_with, is_any, takes_read}
-use Rattle.server_core.specs.Inside.{last_of}
+use Rattle.server_core.specs.Inside.{last_of_store}
 use Rattle.server_core.specs.Laws.{TakenFramesChangeTheState}
 use Rattle.server_core.specs.Keeping.{holding_of, OneStateIsKept}
 use Rattle.server_core.proofs.Many.{IsIdle, IsTaken, idle_or_taken, raised}
@@ -25,16 +25,16 @@ apart : (m n : ℕ) → m ≡ n + 1 → not (m == n) ≡ true
 apart m n is = ap not (eq_fails m n (λ (e : m ≡ n). omega (arith, is, e)))
 
 -- the last number of a message's client differs exactly where its store was taken
-pub noted : (message : Message) (s after : Served) → after ≡ state_after message s → not (last_of message after == last_of message s) ≡ is_any (taken_of message s)
-noted message s after is = subst (λ (t : Served). not (last_of message t == last_of message s) ≡ is_any (taken_of message s)) (sym is) (by (idle_or_taken message s))
+pub noted : (message : Message) (s after : Served) → after ≡ state_after message s → not (last_of_store message after == last_of_store message s) ≡ is_any (taken_of message s)
+noted message s after is = subst (λ (t : Served). not (last_of_store message t == last_of_store message s) ≡ is_any (taken_of message s)) (sym is) (by (idle_or_taken message s))
   where
-    by : IsIdle message s ⊎ IsTaken message s → not (last_of message (state_after message s) == last_of message s) ≡ is_any (taken_of message s)
-    by (inl idle) = rw (idle.same, idle.nothing) (same (last_of message s))
+    by : IsIdle message s ⊎ IsTaken message s → not (last_of_store message (state_after message s) == last_of_store message s) ≡ is_any (taken_of message s)
+    by (inl idle) = rw (idle.same, idle.nothing) (same (last_of_store message s))
     by (inr taken) =
         let store = Store taken.client taken.number taken.effects taken.base in
-        let higher : last_of store (record { volume = taken.new; last = with_last s.last taken.client taken.number }) ≡ last_of store s + 1 = raised s.last taken.client taken.number ∙ taken.next in
-        let of_store : not (last_of store (record { volume = taken.new; last = with_last s.last taken.client taken.number }) == last_of store s) ≡ true = apart _ _ higher in
-        rw (taken.holds, taken.taken) (subst (λ (m : Message). not (last_of m (record { volume = taken.new; last = with_last s.last taken.client taken.number }) == last_of m s) ≡ true) (sym taken.is) of_store)
+        let higher : last_of_store store (record { volume = taken.new; last = with_last s.last taken.client taken.number }) ≡ last_of_store store s + 1 = raised s.last taken.client taken.number ∙ taken.next in
+        let of_store : not (last_of_store store (record { volume = taken.new; last = with_last s.last taken.client taken.number }) == last_of_store store s) ≡ true = apart _ _ higher in
+        rw (taken.holds, taken.taken) (subst (λ (m : Message). not (last_of_store m (record { volume = taken.new; last = with_last s.last taken.client taken.number }) == last_of_store m s) ≡ true) (sym taken.is) of_store)
 
 -- ---- frames
 

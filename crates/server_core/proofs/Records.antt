@@ -19,7 +19,7 @@ use Rattle.wire_frames.specs.declared.message.Message.TheVariants.{Store}
 use Rattle.world_rules.specs.Served.{Served, state_after, taken_of, with_last}
 use Rattle.server_core.specs.Holding.{Holding, last_number, served}
 use Rattle.server_core.specs.Framing.{is_any}
-use Rattle.server_core.specs.Inside.{record_of}
+use Rattle.server_core.specs.Inside.{record_of_store}
 use Rattle.server_core.specs.Keeping.{holding_of, IsKeptForServed, IsKeptWholeForServed, Leads, NoteLeads, WholeIsKept, RecordsLeadOn, TornRecordsAreDropped}
 use Rattle.server_core.proofs.Many.{IsIdle, IsTaken, idle_or_taken}
 use Rattle.server_core.proofs.Numbers.{served-raised}
@@ -94,14 +94,14 @@ store_leads client number effects base new s t valid next applies holds =
     }
 
 -- the record of a store that was taken
-pub taken_leads : (message : Message) (s t : Served) → IsValid message → t ≡ state_after message s → is_any (taken_of message s) ≡ true → NoteLeads (record_of message) s t
+pub taken_leads : (message : Message) (s t : Served) → IsValid message → t ≡ state_after message s → is_any (taken_of message s) ≡ true → NoteLeads (record_of_store message) s t
 taken_leads message s t valid after some = by (idle_or_taken message s)
   where
-    by : IsIdle message s ⊎ IsTaken message s → NoteLeads (record_of message) s t
+    by : IsIdle message s ⊎ IsTaken message s → NoteLeads (record_of_store message) s t
     by (inl idle) = absurd (true≢false (sym some ∙ ap is_any idle.nothing))
     by (inr taken) =
         let leads = store_leads taken.client taken.number taken.effects taken.base taken.new s t (subst IsValid taken.is valid) taken.next taken.applies (after ∙ taken.holds) in
-        subst (λ (m : Message). NoteLeads (record_of m) s t) (sym taken.is) leads
+        subst (λ (m : Message). NoteLeads (record_of_store m) s t) (sym taken.is) leads
 
 -- a message that is none changes nothing
 pub idle_leads : (message : Message) (s t : Served) → t ≡ state_after message s → is_any (taken_of message s) ≡ false → NoteLeads None s t
@@ -112,9 +112,9 @@ idle_leads message s t after none = by (idle_or_taken message s)
     by (inr taken) = absurd (true≢false (ap is_any (sym taken.taken) ∙ none))
 
 -- a taken one has a record
-pub taken_is_recorded : (message : Message) (s : Served) → is_any (taken_of message s) ≡ true → is_some (record_of message) ≡ true
+pub taken_is_recorded : (message : Message) (s : Served) → is_any (taken_of message s) ≡ true → is_some (record_of_store message) ≡ true
 taken_is_recorded message s some = by (idle_or_taken message s)
   where
-    by : IsIdle message s ⊎ IsTaken message s → is_some (record_of message) ≡ true
+    by : IsIdle message s ⊎ IsTaken message s → is_some (record_of_store message) ≡ true
     by (inl idle) = absurd (true≢false (sym some ∙ ap is_any idle.nothing))
-    by (inr taken) = ap (λ (m : Message). is_some (record_of m)) taken.is
+    by (inr taken) = ap (λ (m : Message). is_some (record_of_store m)) taken.is

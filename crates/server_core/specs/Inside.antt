@@ -29,9 +29,9 @@ abbrev pub EndsNext : ℕ → ℕ → List Effect → Served → Served → Mess
 EndsNext client number effects old new reply = EndsAs client number old new reply (apply_all 0 effects old.volume)
 
 -- the last number of the client of a store; 0 for any other message
-abbrev pub last_of : Message → Served → ℕ
-last_of (Store client number effects base) served = served.last client
-last_of _ served = 0
+abbrev pub last_of_store : Message → Served → ℕ
+last_of_store (Store client number effects base) served = served.last client
+last_of_store _ served = 0
 
 -- the bytes are the frame that accepts this store; of another message nothing is said
 abbrev pub IsAcceptanceOf : Message → List ℕ → Type 0
@@ -39,6 +39,6 @@ IsAcceptanceOf (Store client number effects base) bytes = bytes ≡ frame (Accep
 IsAcceptanceOf _ bytes = Unit {0}
 
 -- the record of a store: its client, its number and its effects; none of any other message
-abbrev pub record_of : Message → Option ServerRecord
-record_of (Store client number effects base) = Some (record { client = client; last = number; effects = effects })
-record_of _ = None
+abbrev pub record_of_store : Message → Option ServerRecord
+record_of_store (Store client number effects base) = Some (record { client = client; last = number; effects = effects })
+record_of_store _ = None

@@ -11,7 +11,7 @@ ghost use Rattle.world_rules.specs.Served.{IsServed, new_served, answer, state_a
 ghost use Rattle.server_core.specs.Holding.{Holding, served, is_acceptance};
 ghost use Rattle.server_core.specs.Keeping.{holding_of, IsKeptWholeForServed, NoteLeads};
 ghost use Rattle.server_core.specs.Framing.{frame_answer, frame_after, is_any, takes};
-ghost use Rattle.server_core.specs.Inside.{is_outdated, EndsNext, IsAcceptanceOf, last_of, record_of};
+ghost use Rattle.server_core.specs.Inside.{is_outdated, EndsNext, IsAcceptanceOf, last_of_store, record_of_store};
 ghost use Rattle.store_image.specs.declared.image.TheConstants.{MAX_SERVER_IMAGE};
 
 use std::alloc::{AllocError, Global};
@@ -201,7 +201,7 @@ impl Server {
     /// The last number of the client of a store; 0 for any other message.
     fn last_of(&self, message: &Message) -> u64
         requires valid { IsValid message.now }
-        ensures number { result ≡ last_of message.now (served self.now) }
+        ensures number { result ≡ last_of_store message.now (served self.now) }
         ensures legal { IsServed (served self.now) }
     {
         match message {
@@ -367,7 +367,7 @@ fn acceptance(alloc: Global, message: &Message) -> Result<Vec<u8>, AllocError>
 
 /// The record of a store; none of any other message.
 fn record_of(message: Message) -> Option<ServerRecord>
-    ensures { result ≡ record_of message }
+    ensures { result ≡ record_of_store message }
 {
     match message {
         Message::Store {

@@ -10,7 +10,7 @@ use Rattle.port_serving.specs.declared.serving.Came.TheVariants as came
 use Rattle.port_serving.specs.declared.serving.Taking.{Taking}
 use Rattle.port_serving.specs.declared.serving.Taking.TheVariants as taking
 use Rattle.port_serving.specs.declared.serving.Tally.{Tally}
-use Rattle.port_serving.specs.Serving.{Connection, Missed, Answered, exchanges, frames_taken, connection_of, Uses, IsAtHand, Takes, Replies, tallied}
+use Rattle.port_serving.specs.Serving.{Connection, Missed, Answered, exchanges, frames_taken, connection_of, Uses, IsAtHand, TakesConnection, Replies, tallied}
 use Rattle.port_serving.specs.Inside.{UsesSoFar}
 use Rattle.port_serving.proofs.Connections as ports
 use Rattle.world_rules.specs.Served.{Served}
@@ -50,8 +50,8 @@ serves_more xs ys s t u a b c first second = record {
 -- ---- one connection
 
 -- a frame that was taken is at hand
-pub is_at_hand : (how : Taking) (frame : Vec ℕ Global) (a b : PortTelling) → how ≡ taking.Taken frame → Takes how a b → IsAtHand (frame.items ∷ []) a b
-is_at_hand how frame a b is leads = subst (λ (t : Taking). Takes t a b) is leads
+pub is_at_hand : (how : Taking) (frame : Vec ℕ Global) (a b : PortTelling) → how ≡ taking.Taken frame → TakesConnection how a b → IsAtHand (frame.items ∷ []) a b
+is_at_hand how frame a b is leads = subst (λ (t : Taking). TakesConnection t a b) is leads
 
 module _ (j : Journal) (s : Served) (a b : ServerTelling) where
   -- nothing was kept

@@ -4,7 +4,7 @@ use Rattle.std.specs.List.{list_any}
 use Rattle.outside.specs.Outside.{Told, Adds, Rose, RisesWhere}
 use Rattle.outside.specs.Keeper.{Images, kept_under}
 use Rattle.outside.specs.Port.{PortTelling}
-use Rattle.port_serving.specs.Serving.{Connection, UsesAll, UsesFront, exchanges, frames_taken, line_of}
+use Rattle.port_serving.specs.Serving.{Connection, UsesAll, UsesFront, exchanges, frames_taken, served_line_of}
 use Rattle.program_words.specs.Status.{code}
 use Rattle.program_words.specs.declared.status.Status.TheVariants as statuses
 use Rattle.world_rules.specs.Served.{Served}
@@ -62,7 +62,7 @@ StopsBefore old new written now = (new ≡ old) × (now ≡ written)
 abbrev pub StopsInLine : ℕ → ServerTelling → ServerTelling → Option (List ℕ) → Option (List ℕ) → Type 0
 StopsInLine count old new written now =
     (first : Served) × (connections : List Connection) × (after : Served) × (bytes : ℕ)
-    × ServerIsServed count first connections after old new × Adds written now (take bytes (line_of connections))
+    × ServerIsServed count first connections after old new × Adds written now (take bytes (served_line_of connections))
 
 -- a connection was broken off, and nothing was written
 abbrev pub StopsInServing : ℕ → ServerTelling → ServerTelling → Option (List ℕ) → Option (List ℕ) → Type 0
@@ -73,7 +73,7 @@ StopsInServing count old new written now =
 -- what a run did by how it ended
 abbrev pub ServerRun : ℕ → ServerTelling → ServerTelling → Option (List ℕ) → Option (List ℕ) → Result (Unit {0}) Stopped → Type 0
 ServerRun count old new written now (Ok done) =
-    (first : Served) × (connections : List Connection) × (after : Served) × ServerIsServed count first connections after old new × Adds written now (line_of connections)
+    (first : Served) × (connections : List Connection) × (after : Served) × ServerIsServed count first connections after old new × Adds written now (served_line_of connections)
 ServerRun count old new written now (Err Sink) = StopsInLine count old new written now
 ServerRun count old new written now (Err Keeper) = StopsBefore old new written now ⊎ StopsInServing count old new written now
 ServerRun count old new written now (Err Image) = StopsBefore old new written now × OpensNone old.kept

@@ -13,7 +13,7 @@ use Rattle.byte_fields.specs.Numbers.{as_u32}
 use Rattle.byte_fields.proofs.Facts.{not_of}
 use Rattle.shell_lang.specs.declared.line.LineError.{LineError}
 use Rattle.shell_lang.specs.declared.line.LineError.TheVariants.{BadWord, OpenQuote}
-use Rattle.shell_lang.specs.Words.{pieces_from, pieces, inside_after, is_quote, bare_word, closed_word, word_of, words_from}
+use Rattle.shell_lang.specs.Words.{pieces_from, word_pieces, inside_after, is_quote, bare_word, closed_word, word_of, words_from}
 use Rattle.shell_lang.specs.Spelling.{Spelling, is_bare_byte, can_spell, spelled}
 use Rattle.shell_lang.specs.Reading.{ReadIsSpelled}
 
@@ -60,7 +60,7 @@ join-pieces inside (b ∷ bs) =
 -- ---- a piece is cut no further
 
 abbrev IsWhole : List ℕ → Type 0
-IsWhole piece = pieces piece ≡ piece ∷ []
+IsWhole piece = word_pieces piece ≡ piece ∷ []
 
 abbrev AreWhole : Bool → List (List ℕ) → Type 0
 AreWhole inside [] = ⊤
@@ -105,11 +105,11 @@ bare-bytes (b ∷ bs) h whole =
   where
     by : (space : Bool) → (b == 32) ≡ space → (quote : Bool) → is_quote b ≡ quote → not (is_quote b) ≡ true
         → (IsWhole bs → list_all is_bare_byte bs ≡ true) → list_all is_bare_byte (b ∷ bs) ≡ true
-    by true is quote q no_quote ih = let cut : [] ∷ pieces bs ≡ (b ∷ bs) ∷ [] = rw is at whole in absurd (cc)
+    by true is quote q no_quote ih = let cut : [] ∷ word_pieces bs ≡ (b ∷ bs) ∷ [] = rw is at whole in absurd (cc)
     by false is true q no_quote ih = absurd (cc)
     by false is false q no_quote ih =
-        let cut : onto_first b (pieces bs) ≡ (b ∷ bs) ∷ [] = rw (is, q) at whole in
-        rw (is, q) (ih (behind-first b bs (pieces bs) (has-first false bs) cut))
+        let cut : onto_first b (word_pieces bs) ≡ (b ∷ bs) ∷ [] = rw (is, q) at whole in
+        rw (is, q) (ih (behind-first b bs (word_pieces bs) (has-first false bs) cut))
 
 no-quote : (piece : List ℕ) → position is_quote piece ≡ None → list_all (λ b. not (is_quote b)) piece ≡ true
 no-quote piece none =
@@ -200,7 +200,7 @@ each i (piece ∷ more) words all read = by (word_of i piece) refl (words_from (
 
 pub read_is_spelled : ReadIsSpelled
 read_is_spelled line words read =
-    let found = each 0 (pieces line) words (all-whole false (pieces line) refl (whole false line)) read in
+    let found = each 0 (word_pieces line) words (all-whole false (word_pieces line) refl (whole false line)) read in
     record {
       spellings = found.spellings;
       can = found.can;

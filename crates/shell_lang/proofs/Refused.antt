@@ -9,7 +9,7 @@ use Rattle.byte_fields.specs.Numbers.{as_u32}
 use Rattle.byte_fields.proofs.Facts.{not_of}
 use Rattle.shell_lang.specs.declared.line.LineError.{LineError}
 use Rattle.shell_lang.specs.declared.line.LineError.TheVariants.{BadWord, OpenQuote, UnknownWord, WrongCount, Memory}
-use Rattle.shell_lang.specs.Words.{pieces_from, pieces, inside_after, is_quote, is_empty, bare_word, closed_word, word_of, words_from}
+use Rattle.shell_lang.specs.Words.{pieces_from, word_pieces, inside_after, is_quote, is_empty, bare_word, closed_word, word_of, words_from}
 use Rattle.shell_lang.specs.Words.{words_of, ◌>>=◌}
 use Rattle.shell_lang.specs.Spelling.{Spelling, has_no_quote, has_no_space, can_spell, spelled, spelled_line, words_spelled}
 use Rattle.shell_lang.specs.Refusing.{counted_on, FrontIsRead, OpenIsRefused, FollowedIsRefused, EndsWord, BareIsRefused}
@@ -102,31 +102,31 @@ before-one w (Err e) = refl
 
 front_from : (i : ℕ) (first : Spelling) (more : List Spelling) (rest : List ℕ)
     → list_all can_spell (first ∷ more) ≡ true
-    → words_from i (pieces (spelled_line (first ∷ more) ++ 32 ∷ rest))
-    ≡ before (words_spelled (first ∷ more)) (words_from (i + length (words_spelled (first ∷ more))) (pieces rest))
+    → words_from i (word_pieces (spelled_line (first ∷ more) ++ 32 ∷ rest))
+    ≡ before (words_spelled (first ∷ more)) (words_from (i + length (words_spelled (first ∷ more))) (word_pieces rest))
 front_from i first [] rest can =
     let one = first_so (can_spell first) true can in
-    ap (words_from i) (cut_spelled first (32 ∷ rest) (pieces rest) one refl)
-    ∙ ap (λ read. read >>= (λ word. words_from (i + 1) (pieces rest) >>= (λ words. Ok (word ∷ words)))) (read_spelled i first one)
-    ∙ before-one first.word (words_from (i + 1) (pieces rest))
+    ap (words_from i) (cut_spelled first (32 ∷ rest) (word_pieces rest) one refl)
+    ∙ ap (λ read. read >>= (λ word. words_from (i + 1) (word_pieces rest) >>= (λ words. Ok (word ∷ words)))) (read_spelled i first one)
+    ∙ before-one first.word (words_from (i + 1) (word_pieces rest))
 front_from i first (next ∷ more) rest can =
     let one = first_so (can_spell first) _ can in
     let here : i + 1 + length (words_spelled (next ∷ more)) ≡ i + length (words_spelled (first ∷ next ∷ more)) = omega arith in
-    ap (λ text. words_from i (pieces text)) (append_assoc (spelled first) (32 ∷ spelled_line (next ∷ more)) (32 ∷ rest))
+    ap (λ text. words_from i (word_pieces text)) (append_assoc (spelled first) (32 ∷ spelled_line (next ∷ more)) (32 ∷ rest))
     ∙ ap (words_from i) (cut_spelled first (32 ∷ spelled_line (next ∷ more) ++ 32 ∷ rest) _ one refl)
-    ∙ ap (λ read. read >>= (λ word. words_from (i + 1) (pieces (spelled_line (next ∷ more) ++ 32 ∷ rest)) >>= (λ words. Ok (word ∷ words))))
+    ∙ ap (λ read. read >>= (λ word. words_from (i + 1) (word_pieces (spelled_line (next ∷ more) ++ 32 ∷ rest)) >>= (λ words. Ok (word ∷ words))))
     (read_spelled i first one)
     ∙ ap (λ read. read >>= (λ words. Ok (first.word ∷ words))) (front_from (i + 1) next more rest (second_so (can_spell first) _ can))
     ∙ before-cons first.word (words_spelled (next ∷ more)) _
-    ∙ ap (λ n. before (words_spelled (first ∷ next ∷ more)) (words_from n (pieces rest))) here
+    ∙ ap (λ n. before (words_spelled (first ∷ next ∷ more)) (words_from n (word_pieces rest))) here
 
 pub front_is_read : FrontIsRead
 front_is_read first more rest can =
     let front = words_spelled (first ∷ more) in
     let from : 0 + length front ≡ length front + 0 = omega arith in
     front_from 0 first more rest can
-    ∙ ap (λ n. before front (words_from n (pieces rest))) from
-    ∙ ap (before front) (words_later (length front) 0 (pieces rest))
+    ∙ ap (λ n. before front (words_from n (word_pieces rest))) from
+    ∙ ap (before front) (words_later (length front) 0 (word_pieces rest))
     ∙ before-later front (words_of rest)
 
 -- ---- quotes
@@ -161,7 +161,7 @@ followed_is_refused word more b h other =
     (λ test. words_from 0
     (onto_first 39
     (onto_front word
-    (onto_first 39 (if test && true then [] ∷ pieces more else onto_first b (pieces_from (inside_after false b) more)))))) no_space
+    (onto_first 39 (if test && true then [] ∷ word_pieces more else onto_first b (pieces_from (inside_after false b) more)))))) no_space
     ∙ followed_cut word b (pieces_from (inside_after false b) more) h
 
 -- ---- bare words

@@ -10,7 +10,7 @@ use Rattle.byte_fields.specs.Numbers.{as_u32}
 use Rattle.byte_fields.proofs.Facts.{not_of}
 use Rattle.shell_lang.specs.declared.line.LineError.{LineError}
 use Rattle.shell_lang.specs.declared.line.LineError.TheVariants.{BadWord}
-use Rattle.shell_lang.specs.Words.{pieces_from, pieces, is_quote, is_empty, word_of, closed_word, words_from, words_of, ◌>>=◌}
+use Rattle.shell_lang.specs.Words.{pieces_from, word_pieces, is_quote, is_empty, word_of, closed_word, words_from, words_of, ◌>>=◌}
 use Rattle.shell_lang.specs.Spelling.{Spelling, is_bare_byte, has_no_quote, can_spell, spelled, spelled_line, words_spelled}
 use Rattle.shell_lang.specs.Spelling.{SpelledIsRead, HasOneReading}
 use Rattle.shell_lang.proofs.Pieces.{onto_front, onto_front-none}
@@ -53,11 +53,11 @@ quoted_front (b ∷ bs) rest h =
 
 -- a spelled word, before the end of the line or a space
 pub cut_spelled : (s : Spelling) (rest : List ℕ) (more : List (List ℕ)) → can_spell s ≡ true
-    → pieces rest ≡ [] ∷ more → pieces (spelled s ++ rest) ≡ spelled s ∷ more
+    → word_pieces rest ≡ [] ∷ more → word_pieces (spelled s ++ rest) ≡ spelled s ∷ more
 cut_spelled s rest more can end = by s.quoted s.word can
   where
     by : (quoted : Bool) (word : List ℕ) → can_spell (record { quoted = quoted; word = word }) ≡ true
-        → pieces (spelled (record { quoted = quoted; word = word }) ++ rest) ≡ spelled (record { quoted = quoted; word = word }) ∷ more
+        → word_pieces (spelled (record { quoted = quoted; word = word }) ++ rest) ≡ spelled (record { quoted = quoted; word = word }) ∷ more
     by false word can =
         bare_front word rest (second_so (not (is_empty word)) _ can) ∙ ap (onto_front word) end
         ∙ ap (λ piece. piece ∷ more) (append-nil word)
@@ -120,16 +120,16 @@ read_spelled i s can = by s.quoted s.word can
 -- ---- lines
 
 read_line_from : (i : ℕ) (first : Spelling) (more : List Spelling) → list_all can_spell (first ∷ more) ≡ true
-    → words_from i (pieces (spelled_line (first ∷ more))) ≡ Ok (words_spelled (first ∷ more))
+    → words_from i (word_pieces (spelled_line (first ∷ more))) ≡ Ok (words_spelled (first ∷ more))
 read_line_from i first [] can =
     let one = first_so (can_spell first) true can in
-    ap (λ text. words_from i (pieces text)) (sym (append-nil (spelled first)))
+    ap (λ text. words_from i (word_pieces text)) (sym (append-nil (spelled first)))
     ∙ ap (words_from i) (cut_spelled first [] [] one refl)
     ∙ ap (λ read. read >>= (λ word. Ok (word ∷ []))) (read_spelled i first one)
 read_line_from i first (next ∷ more) can =
     let one = first_so (can_spell first) _ can in
     ap (words_from i) (cut_spelled first (32 ∷ spelled_line (next ∷ more)) _ one refl)
-    ∙ ap (λ read. read >>= (λ word. words_from (i + 1) (pieces (spelled_line (next ∷ more))) >>= (λ words. Ok (word ∷ words))))
+    ∙ ap (λ read. read >>= (λ word. words_from (i + 1) (word_pieces (spelled_line (next ∷ more))) >>= (λ words. Ok (word ∷ words))))
     (read_spelled i first one)
     ∙ ap (λ read. read >>= (λ words. Ok (first.word ∷ words))) (read_line_from (i + 1) next more (second_so (can_spell first) _ can))
 

@@ -28,8 +28,8 @@ unfoldable pub number : ℕ → List ℕ
 number n = 32 ∷ decimal n
 
 -- a path behind a space
-unfoldable pub path : FilePath → List ℕ
-path p = 32 ∷ shown_path p
+unfoldable pub spaced_path : FilePath → List ℕ
+spaced_path p = 32 ∷ shown_path p
 
 -- ---- names and values of each kind of refusal
 
@@ -74,15 +74,15 @@ tree_fault_name trees.Memory = codes "Memory"
 
 abbrev pub tree_fault_values : TreeError → List ℕ
 tree_fault_values trees.RootFixed = []
-tree_fault_values (trees.NoParent p) = path p
-tree_fault_values (trees.Exists p) = path p
-tree_fault_values (trees.Missing p) = path p
-tree_fault_values (trees.IsFolder p) = path p
-tree_fault_values (trees.NotEmpty p child) = path p ++ path child
+tree_fault_values (trees.NoParent p) = spaced_path p
+tree_fault_values (trees.Exists p) = spaced_path p
+tree_fault_values (trees.Missing p) = spaced_path p
+tree_fault_values (trees.IsFolder p) = spaced_path p
+tree_fault_values (trees.NotEmpty p child) = spaced_path p ++ spaced_path child
 tree_fault_values (trees.RowsFull n) = number n
 tree_fault_values (trees.FileTooLarge n) = number n
 tree_fault_values (trees.TreeFull n) = number n
-tree_fault_values (trees.VersionTop p) = path p
+tree_fault_values (trees.VersionTop p) = spaced_path p
 tree_fault_values trees.Memory = []
 
 -- a refused effect of an entry is shown as the tree's refusal
@@ -128,7 +128,7 @@ job_fault_name (jobs.NoInput i) = codes "NoInput"
 job_fault_name jobs.Memory = codes "Memory"
 
 abbrev pub job_fault_values : JobError → List ℕ
-job_fault_values (jobs.NoFolder p) = path p
+job_fault_values (jobs.NoFolder p) = spaced_path p
 job_fault_values (jobs.NoInput i) = number i
 job_fault_values jobs.Memory = []
 
@@ -149,7 +149,7 @@ fault_values (faults.Tree refusal) = tree_fault_values refusal
 fault_values (faults.Log refusal) = log_fault_values refusal
 fault_values (faults.Capture refusal) = capture_fault_values refusal
 fault_values (faults.Job refusal) = job_fault_values refusal
-fault_values (faults.NotFolder p) = path p
+fault_values (faults.NotFolder p) = spaced_path p
 fault_values (faults.Pending n) = number n
 
 -- the words of a refusal by the tree, of one by the log, and of any

@@ -1,7 +1,7 @@
 -- The text of each answer.
 use Rattle.std.specs.Prelude.{◌≢◌, ⊤, ℕ, List, [], ◌∷◌, ◌++◌, length, codes, decimal, flat_map, if◌then◌else◌}
 use Rattle.file_paths.specs.Path.{path_text}
-use Rattle.shell_lang.specs.Faults.{number, path, tree_fault_text, fault_text, IsShown}
+use Rattle.shell_lang.specs.Faults.{number, spaced_path, tree_fault_text, fault_text, IsShown}
 use Rattle.tree_values.specs.declared.node.TreeError.TheVariants as trees
 use Rattle.shell_lang.specs.declared.answer.Child.{Child}
 use Rattle.shell_lang.specs.declared.answer.Answer.{Answer}
@@ -41,17 +41,17 @@ answer_values (answers.Ran seq status) = number seq ++ (codes " status" ++ numbe
 answer_values (answers.Nothing status) = number status
 answer_values answers.NotRun = []
 answer_values (answers.OddTree i) = number i
-answer_values (answers.Clash p) = path p
+answer_values (answers.Clash p) = spaced_path p
 answer_values (answers.Status acked pending) = number acked ++ (codes " pending" ++ number pending)
 answer_values (answers.Synced n) = number n
-answer_values (answers.Stale seq p theirs ours) = number seq ++ (path p ++ (number theirs ++ number ours))
+answer_values (answers.Stale seq p theirs ours) = number seq ++ (spaced_path p ++ (number theirs ++ number ours))
 answer_values (answers.Unfit seq index fault) = number seq ++ (number index ++ 32 ∷ tree_fault_text fault)
 answer_values (answers.Full seq index fault) = number seq ++ (number index ++ 32 ∷ tree_fault_text fault)
 answer_values (answers.Unanswered seq) = number seq
 answer_values (answers.Behind seq last) = number seq ++ number last
 answer_values (answers.Pulled n) = number n
 answer_values (answers.OtherLast last) = number last
-answer_values (answers.Older p theirs ours) = path p ++ (number theirs ++ number ours)
+answer_values (answers.Older p theirs ours) = spaced_path p ++ (number theirs ++ number ours)
 answer_values answers.PullUnanswered = []
 answer_values (answers.Refused fault) = 32 ∷ fault_text fault
 

@@ -9,9 +9,9 @@ use Rattle.shell_lang.specs.declared.line.LineError.TheVariants.{BadWord, OpenQu
 -- ---- answers
 
 -- what a call returned is what the definition says, unless memory ran out
-abbrev pub Gives : {A : Type 0} → Result A LineError → Result A LineError → Type 0
-Gives (Ok x) read = read ≡ Ok x
-Gives (Err e) read = e ≢ Memory → read ≡ Err e
+abbrev pub GivesLine : {A : Type 0} → Result A LineError → Result A LineError → Type 0
+GivesLine (Ok x) read = read ≡ Ok x
+GivesLine (Err e) read = e ≢ Memory → read ≡ Err e
 
 -- the next step, unless a word was refused
 infixl 10 ◌>>=◌
@@ -34,13 +34,13 @@ pieces_from inside [] = [] ∷ []
 pieces_from inside (b ∷ bs) =
     if (b == 32) && not inside then [] ∷ pieces_from inside bs else onto_first b (pieces_from (inside_after inside b) bs)
 
-abbrev pub pieces : List ℕ → List (List ℕ)
-pieces line = pieces_from false line
+abbrev pub word_pieces : List ℕ → List (List ℕ)
+word_pieces line = pieces_from false line
 
 -- where the first piece ends, if there is another
 abbrev pub EndsFirst : List ℕ → Option ℕ → Type 0
-EndsFirst text None = pieces text ≡ text ∷ []
-EndsFirst text (Some end) = pieces text ≡ take end text ∷ pieces (drop (end + 1) text)
+EndsFirst text None = word_pieces text ≡ text ∷ []
+EndsFirst text (Some end) = word_pieces text ≡ take end text ∷ word_pieces (drop (end + 1) text)
 
 -- ---- words
 
@@ -74,4 +74,4 @@ words_from i (piece ∷ more) = do
 
 -- the words of a line, or the first refusal from the left
 abbrev pub words_of : List ℕ → Result (List (List ℕ)) LineError
-words_of line = words_from 0 (pieces line)
+words_of line = words_from 0 (word_pieces line)

@@ -1,7 +1,7 @@
 //! What a line of words asks for.
 
 ghost use Rattle.std.specs.Prelude.{◌≡◌, IfOk};
-ghost use Rattle.shell_lang.specs.Words.{Gives};
+ghost use Rattle.shell_lang.specs.Words.{GivesLine};
 ghost use Rattle.shell_lang.specs.Commands.{command_word, command_of, line_of, line_of_words, read_line, put_content};
 
 use crate::line::{Line, LineError};
@@ -73,7 +73,7 @@ impl Command {
 /// The first word from the left that breaks the rule of words, then a first word that names no command, then a wrong
 /// number of words behind it; want of memory at any time.
 pub fn read_line(alloc: Global, line: &[u8]) -> Result<Line, LineError>
-    ensures { Gives result (read_line line.now) }
+    ensures { GivesLine result (read_line line.now) }
 {
     if line.is_empty() {
         return Ok(Line::Empty);
@@ -100,7 +100,7 @@ pub fn put_content(alloc: Global, text: &Content) -> Result<Content, AllocError>
 
 /// What these words ask for, the first of which names the command.
 fn line_of_words(alloc: Global, words: &[Content]) -> Result<Line, LineError>
-    ensures { Gives result (line_of_words words.now) }
+    ensures { GivesLine result (line_of_words words.now) }
 {
     let [first, rest @ ..] = words else {
         return Ok(Line::Empty);
@@ -123,7 +123,7 @@ fn command_of(word: &[u8]) -> Option<Command>
 
 /// What the command asks for with these words.
 fn line_of(alloc: Global, command: Command, words: &[Content]) -> Result<Line, LineError>
-    ensures { Gives result (line_of command words.now) }
+    ensures { GivesLine result (line_of command words.now) }
 {
     match (command, words) {
         (Command::Put, [path, text]) => Ok(Line::Put(path.copy()?, text.copy()?)),

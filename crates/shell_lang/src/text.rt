@@ -1,7 +1,7 @@
 //! The texts of answers.
 
 ghost use Rattle.std.specs.Prelude.{◌≡◌, ◌∷◌, ◌++◌, OnOk, IfOk, codes, flat_map};
-ghost use Rattle.shell_lang.specs.Faults.{number, path as path_value, tree_fault_text, fault_text};
+ghost use Rattle.shell_lang.specs.Faults.{number, spaced_path as path_value, tree_fault_text, fault_text};
 ghost use Rattle.shell_lang.specs.Texts.{answer_name, answer_values, answer_body, child_line, text_of, HasNoMemory};
 
 use crate::answer::{Answer, Child, Fault};

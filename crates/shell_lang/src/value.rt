@@ -1,7 +1,7 @@
 //! The values of answers, added to bytes.
 
 ghost use Rattle.std.specs.Prelude.{◌≡◌, ◌∷◌, ◌++◌, OnOk, decimal};
-ghost use Rattle.shell_lang.specs.Faults.{shown_path, number, path as path_value};
+ghost use Rattle.shell_lang.specs.Faults.{shown_path, number, spaced_path as path_value};
 
 use std::alloc::AllocError;
 use vol_tree::Path;

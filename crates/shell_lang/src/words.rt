@@ -1,7 +1,7 @@
 //! The words of a line.
 
 ghost use Rattle.std.specs.Prelude.{◌≡◌, ◌+◌, ◌^◌, ◌<◌, length, position, IfSome};
-ghost use Rattle.shell_lang.specs.Words.{Gives, EndsFirst, is_quote, bare_word, closed_word, word_of, words_of};
+ghost use Rattle.shell_lang.specs.Words.{GivesLine, EndsFirst, is_quote, bare_word, closed_word, word_of, words_of};
 
 use crate::line::LineError;
 use byte_fields::saturate_u32;
@@ -11,7 +11,7 @@ use vol_tree::{Content, List};
 /// The words of a line, from the left.
 #[tactic(auto, using(crate::proofs::Pieces::next_word, crate::proofs::Pieces::refused_word, crate::proofs::Pieces::last_word))]
 pub(crate) fn split_words(alloc: Global, line: &[u8]) -> Result<List<Content>, LineError>
-    ensures { Gives result (words_of line.now) }
+    ensures { GivesLine result (words_of line.now) }
 {
     let mut words = List::new(alloc);
     let mut rest = line;
@@ -44,7 +44,7 @@ fn first_end(text: &[u8]) -> Option<usize>
 
 /// Word `i`, which this piece of the line spells.
 fn read_word(alloc: Global, i: usize, piece: &[u8]) -> Result<Content, LineError>
-    ensures { Gives result (word_of i piece.now) }
+    ensures { GivesLine result (word_of i piece.now) }
 {
     match piece {
         [b'\'', inner @ ..] => read_quoted(alloc, i, inner),
@@ -54,7 +54,7 @@ fn read_word(alloc: Global, i: usize, piece: &[u8]) -> Result<Content, LineError
 
 /// Word `i`, from what stands behind its first quote.
 fn read_quoted(alloc: Global, i: usize, inner: &[u8]) -> Result<Content, LineError>
-    ensures { Gives result (closed_word i inner.now (position is_quote inner.now)) }
+    ensures { GivesLine result (closed_word i inner.now (position is_quote inner.now)) }
 {
     let Some(end) = first_quote(inner) else {
         return Err(LineError::OpenQuote);
@@ -67,7 +67,7 @@ fn read_quoted(alloc: Global, i: usize, inner: &[u8]) -> Result<Content, LineErr
 
 /// Word `i`, which begins with no quote.
 fn read_bare(alloc: Global, i: usize, piece: &[u8]) -> Result<Content, LineError>
-    ensures { Gives result (bare_word i piece.now) }
+    ensures { GivesLine result (bare_word i piece.now) }
 {
     if piece.is_empty() || first_quote(piece).is_some() {
         return Err(LineError::BadWord(saturate_u32(i)));

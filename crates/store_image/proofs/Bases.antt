@@ -10,7 +10,7 @@ use Rattle.tree_values.specs.declared.node.Base.{Base}
 use Rattle.tree_values.specs.Spelling.{base, bases, BaseFits}
 use Rattle.file_paths.proofs.Parts.{path_codec}
 use Rattle.file_paths.proofs.Order.{tied_path, path_tied}
-use Rattle.store_image.specs.Reading.{known_base_at, first_base_at, others_after, known_bases_at}
+use Rattle.store_image.specs.Reading.{known_base_at, first_kept_base_at, kept_bases_after, known_bases_at}
 
 abbrev pub made : FilePath → ℕ → Base
 made path version = record { path = path; version = version }
@@ -40,8 +40,8 @@ unfoldable pub IsFirst : List Base → Base → Type 0
 IsFirst [] b = ⊥
 IsFirst (known ∷ others) b = IsKnown known b
 
-pub first_base_codec : (known : List Base) → IsCodec (first_base_at known) base (IsFirst known)
-unfolding first_base_at IsFirst
+pub first_base_codec : (known : List Base) → IsCodec (first_kept_base_at known) base (IsFirst known)
+unfolding first_kept_base_at IsFirst
 first_base_codec [] = record {
   fault = λ bytes at place fits le e. here_fault bytes at place le (place_is (Base × ℕ) at place e);
   found = λ bytes at x next fits le e. absurd cc;
@@ -53,7 +53,7 @@ first_base_codec (known ∷ others) = known_base_codec known
 abbrev pub AreKnown : List Base → List Base → Type 0
 AreKnown known bs = (bs ≡ known) × AllByRecursion BaseFits bs
 
-known_found : (known bs : List Base) → length bs ≡ length known → EachFits IsFirst others_after known bs → AreKnown known bs
+known_found : (known bs : List Base) → length bs ≡ length known → EachFits IsFirst kept_bases_after known bs → AreKnown known bs
 unfolding IsFirst
 known_found [] [] len fits = (refl, tt)
 known_found [] (b ∷ bs) len fits = absurd (omega arith)
@@ -62,7 +62,7 @@ known_found (first ∷ others) (b ∷ bs) len fits =
     let rest = known_found others bs (omega arith) fits.1 in
     ((λ i. fits.0.1 i ∷ rest.0 i), (fits.0.0, rest.1))
 
-pub known_again : (bs : List Base) → AllByRecursion BaseFits bs → EachFits IsFirst others_after bs bs
+pub known_again : (bs : List Base) → AllByRecursion BaseFits bs → EachFits IsFirst kept_bases_after bs bs
 unfolding IsFirst
 known_again [] fits = tt
 known_again (b ∷ bs) fits = ((fits.0, refl), known_again bs fits.1)
@@ -70,8 +70,8 @@ known_again (b ∷ bs) fits = ((fits.0, refl), known_again bs fits.1)
 pub known_bases_codec : (known : List Base) → length known < 2 ^ 32 → IsCodec (known_bases_at known) bases (AreKnown known)
 unfolding known_bases_at
 known_bases_codec known lt =
-    codec_for (counted_codec length (ruled_codec (λ n. eqb n (length known)) u32_codec) (λ n _. each_codec first_base_at others_after base IsFirst first_base_codec n known) (λ n bs fits. fits.0))
+    codec_for (counted_codec length (ruled_codec (λ n. eqb n (length known)) u32_codec) (λ n _. each_codec first_kept_base_at kept_bases_after base IsFirst first_base_codec n known) (λ n bs fits. fits.0))
     (λ bs fits. known_found known bs (eqb-true (length bs) (length known) fits.0.1) fits.1.1)
     (λ bs fits.
     let len : length bs ≡ length known = ap length fits.0 in
-    ((rw len lt, eq-eqb (length bs) (length known) len), (refl, subst (λ (k : List Base). EachFits IsFirst others_after k bs) fits.0 (known_again bs fits.1))))
+    ((rw len lt, eq-eqb (length bs) (length known) len), (refl, subst (λ (k : List Base). EachFits IsFirst kept_bases_after k bs) fits.0 (known_again bs fits.1))))

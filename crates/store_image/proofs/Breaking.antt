@@ -30,7 +30,7 @@ use Rattle.store_image.specs.declared.image.ImageError.TheVariants.{BadImage}
 use Rattle.store_image.specs.Reading.{growing_effect_at, known_base_at, next_entry_at, entries_at, log_at, marked, client_mark, client_body_at, client_versions, client_at, numbers_at, server_mark, server_body_at, server_versions, server_at}
 use Rattle.store_image.specs.Spelling.{numbers}
 use Rattle.store_image.specs.Image.{kept_client_at, kept_server_at, image_of}
-use Rattle.store_image.specs.Broken.{BrokenEntries, BrokenImages}
+use Rattle.store_image.specs.Broken.{BrokenKeptEntries, BrokenImages}
 use Rattle.store_image.proofs.Entries.{made_log}
 use Rattle.store_image.proofs.Images.{client_made, number_codec, numbers_codec, server_made}
 use Rattle.store_image.proofs.Sizes.{numbers_size}
@@ -47,7 +47,7 @@ maker_refused : (log : Log) (text : List ℕ) (offset : ℕ) → IsRefused made_
 unfolding next_entry_at
 maker_refused log text offset refused bytes at next stands = rw (refused bytes at next stands) refl
 
-pub broken_entries : BrokenEntries
+pub broken_entries : BrokenKeptEntries
 unfolding growing_effect_at known_base_at
 broken_entries = record {
   effect_is_none = effect_is_none;

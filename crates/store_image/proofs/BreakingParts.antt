@@ -24,7 +24,7 @@ use Rattle.mod_log.proofs.Origins.{made_by_codec}
 use Rattle.mod_log.specs.Log.{Log, after, tree_of, IsLog}
 use Rattle.mod_log.proofs.Entries.{holds_trees}
 use Rattle.mod_log.proofs.BasesFit.{base_of-fits}
-use Rattle.store_image.specs.Reading.{Growing, growing_effect_at, grown, applied_effects_at, known_base_at, first_base_at, others_after, known_bases_at, next_entry_at}
+use Rattle.store_image.specs.Reading.{Growing, growing_effect_at, grown, applied_effects_at, known_base_at, first_kept_base_at, kept_bases_after, known_bases_at, next_entry_at}
 use Rattle.store_image.specs.Broken.{AreTaken, growing_behind}
 use Rattle.store_image.proofs.Growing.{GrowingFits, growing_codec, taken_again, EffectsApply, start_of_entry, applied_effects_codec}
 use Rattle.store_image.proofs.Bases.{IsFirst, first_base_codec}
@@ -62,12 +62,12 @@ effect_refused v before count text offset taken some few refused =
 
 -- ---- bases
 
-bases_read : (before more : List Base) → AllByRecursion BaseFits before → EachIsRead first_base_at others_after base (before ++ more) before
+bases_read : (before more : List Base) → AllByRecursion BaseFits before → EachIsRead first_kept_base_at kept_bases_after base (before ++ more) before
 unfolding IsFirst
 bases_read [] more fits = tt
 bases_read (b ∷ bs) more fits = (read_again (first_base_codec (b ∷ (bs ++ more))) b (fits.0, refl), bases_read bs more fits.1)
 
-bases_passed : (before more : List Base) → passed others_after (before ++ more) before ≡ more
+bases_passed : (before more : List Base) → passed kept_bases_after (before ++ more) before ≡ more
 bases_passed [] more = refl
 bases_passed (b ∷ bs) more = bases_passed bs more
 
@@ -75,22 +75,22 @@ front_fits : (before more : List Base) → AllByRecursion BaseFits (before ++ mo
 front_fits [] more fits = tt
 front_fits (b ∷ bs) more fits = (fits.0, front_fits bs more fits.1)
 
-first_is_known : (known : Base) (others : List Base) (text : List ℕ) (offset : ℕ) → IsRefused (known_base_at known) text offset → IsRefused (first_base_at (known ∷ others)) text offset
-unfolding first_base_at
+first_is_known : (known : Base) (others : List Base) (text : List ℕ) (offset : ℕ) → IsRefused (known_base_at known) text offset → IsRefused (first_kept_base_at (known ∷ others)) text offset
+unfolding first_kept_base_at
 first_is_known known others text offset refused = refused
 
 bases_count_refused : (known : List Base) (count : ℕ) → count < 2 ^ 32 → count ≢ length known → IsRefused (known_bases_at known) (digits w32 count) 0
 unfolding known_bases_at
-bases_count_refused known count small differ = count_refused (λ n. eqb n (length known)) (λ n. each_at first_base_at others_after n known) count small (ne_eqb count (length known) differ)
+bases_count_refused known count small differ = count_refused (λ n. eqb n (length known)) (λ n. each_at first_kept_base_at kept_bases_after n known) count small (ne_eqb count (length known) differ)
 
 base_refused : (before others : List Base) (known : Base) (text : List ℕ) (offset : ℕ) → AllByRecursion BaseFits (before ++ known ∷ others) → length (before ++ known ∷ others) < 2 ^ 32 → IsRefused (known_base_at known) text offset
     → IsRefused (known_bases_at (before ++ known ∷ others)) (digits w32 (length (before ++ known ∷ others)) ++ (flat_map base before ++ text)) (4 + (length (flat_map base before) + offset))
 unfolding known_bases_at
 base_refused before others known text offset fits small refused =
     let all = before ++ known ∷ others in
-    counted_refused (λ n. eqb n (length all)) (λ n. each_at first_base_at others_after n all) (length all) small (eq-eqb (length all) (length all) refl) (flat_map base before ++ text) (length (flat_map base before) + offset)
-    (items_refused first_base_at others_after base all before (length all) text offset (bases_read before (known ∷ others) (front_fits before (known ∷ others) fits)) (omega (arith, length-append before (known ∷ others)))
-    (subst (λ (left : List Base). IsRefused (first_base_at left) text offset) (sym (bases_passed before (known ∷ others))) (first_is_known known others text offset refused)))
+    counted_refused (λ n. eqb n (length all)) (λ n. each_at first_kept_base_at kept_bases_after n all) (length all) small (eq-eqb (length all) (length all) refl) (flat_map base before ++ text) (length (flat_map base before) + offset)
+    (items_refused first_kept_base_at kept_bases_after base all before (length all) text offset (bases_read before (known ∷ others) (front_fits before (known ∷ others) fits)) (omega (arith, length-append before (known ∷ others)))
+    (subst (λ (left : List Base). IsRefused (first_kept_base_at left) text offset) (sym (bases_passed before (known ∷ others))) (first_is_known known others text offset refused)))
 
 -- ---- in an entry
 

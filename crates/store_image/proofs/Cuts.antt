@@ -24,7 +24,7 @@ use Rattle.file_paths.proofs.Order.{path_tied}
 use Rattle.tree_laws.proofs.Parts.{rows_codec}
 use Rattle.tree_laws.proofs.CutParts.{effect_cut, rows_cut}
 use Rattle.mod_log.specs.Log.{Log, entry, tree_of, AreEntriesOf, IsLog, new_log_of}
-use Rattle.store_image.specs.Reading.{Growing, growing_effect_at, grown, applied_effects_at, known_base_at, first_base_at, others_after, known_bases_at, next_entry_at, with_entry, is_count, entries_at, log_at, marked, client_mark, server_mark, client_body_at, client_at, numbers_at, server_body_at, server_at}
+use Rattle.store_image.specs.Reading.{Growing, growing_effect_at, grown, applied_effects_at, known_base_at, first_kept_base_at, kept_bases_after, known_bases_at, next_entry_at, with_entry, is_count, entries_at, log_at, marked, client_mark, server_mark, client_body_at, client_at, numbers_at, server_body_at, server_at}
 use Rattle.store_image.specs.Spelling.{entries, log, client, ClientFits, numbers, server, ServerFits}
 use Rattle.mod_log.specs.Origin.{made_by}
 use Rattle.mod_log.specs.Fields.{made_by_fields, entry_fields}
@@ -59,18 +59,18 @@ known_base_cut known = record {
       (fits.0.0, path_tied known.path b.path (sym (ap (λ (x : Base). x.path) fits.1))) (fits.0.1, eq-eqb b.version known.version (ap (λ (x : Base). x.version) fits.1)) le lt;
 }
 
-first_base_cut : (known : List Base) → IsCut (first_base_at known) base base_fields (IsFirst known)
-unfolding first_base_at IsFirst
+first_base_cut : (known : List Base) → IsCut (first_kept_base_at known) base base_fields (IsFirst known)
+unfolding first_kept_base_at IsFirst
 first_base_cut [] = record { whole = λ b fits. absurd fits; cut = λ bytes at b next end stands fits le lt. absurd fits }
 first_base_cut (known ∷ others) = known_base_cut known
 
 known_bases_cut : (known : List Base) → length known < 2 ^ 32 → IsCut (known_bases_at known) bases bases_fields (AreKnown known)
 unfolding known_bases_at
 known_bases_cut known lt =
-    cut_for (counted_cut length (ruled_codec (λ n. eqb n (length known)) u32_codec) (ruled_cut u32_cut (λ n. eqb n (length known))) (λ n _. each_cut first_base_at others_after base base_fields IsFirst first_base_codec first_base_cut n known))
+    cut_for (counted_cut length (ruled_codec (λ n. eqb n (length known)) u32_codec) (ruled_cut u32_cut (λ n. eqb n (length known))) (λ n _. each_cut first_kept_base_at kept_bases_after base base_fields IsFirst first_base_codec first_base_cut n known))
     (λ bs fits.
     let len : length bs ≡ length known = ap length fits.0 in
-    ((rw len lt, eq-eqb (length bs) (length known) len), (refl, subst (λ (k : List Base). EachFits IsFirst others_after k bs) fits.0 (known_again bs fits.1))))
+    ((rw len lt, eq-eqb (length bs) (length known) len), (refl, subst (λ (k : List Base). EachFits IsFirst kept_bases_after k bs) fits.0 (known_again bs fits.1))))
 
 -- ---- entries
 

@@ -13,8 +13,8 @@ use Rattle.store_image.specs.declared.image.ImageError.{ImageError}
 use Rattle.store_image.specs.declared.image.ImageError.TheVariants.{Memory}
 use Rattle.store_image.specs.Reading.{client_mark, server_mark, client_at, server_at}
 use Rattle.store_image.specs.Spelling.{client, server}
-use Rattle.store_image.specs.Records.{behind, client_records, client_records_at, with_record, with_records, server_records, server_records_at, with_taken, with_all_taken}
-use Rattle.store_image.specs.Image.{kept_client_at, kept_server_at, client_of, server_of, GivesImage, IsKeptFor, IsKeptForServer}
+use Rattle.store_image.specs.Records.{behind_records, client_records, client_records_at, with_record, with_records, server_records, server_records_at, with_taken, with_all_taken}
+use Rattle.store_image.specs.Image.{kept_client_at, kept_server_at, kept_client_of, server_of, GivesImage, IsKeptFor, IsKeptForServer}
 use Rattle.store_image.proofs.Images.{client_made, client_codec, server_codec}
 use Rattle.store_image.proofs.Framing.{torn_alone, torn_behind}
 use Rattle.store_image.proofs.Notes.{notes_found, notes_again}
@@ -34,9 +34,9 @@ IsKept image bytes = IsKeptFor image.client image.log bytes
 client_found : (bytes : List ℕ) (x : ClientImage) (next : ℕ) → IsBytes bytes → kept_client_at bytes 0 ≡ Ok (x, next) → IsKept x bytes
 unfolding kept_client_at
 client_found bytes x torn fits e =
-    let b = bind_ok (client_at bytes 0) (λ image. behind client_records_at with_record image.0.log bytes image.1 >>= λ log. Ok (client_made image.0.client log.0, log.1)) (x, torn) e in
+    let b = bind_ok (client_at bytes 0) (λ image. behind_records client_records_at with_record image.0.log bytes image.1 >>= λ log. Ok (client_made image.0.client log.0, log.1)) (x, torn) e in
     let first = b.0.0 in
-    let c = bind_ok (behind client_records_at with_record first.log bytes b.0.1) (λ log. Ok (client_made first.client log.0, log.1)) (x, torn) b.2 in
+    let c = bind_ok (behind_records client_records_at with_record first.log bytes b.0.1) (λ log. Ok (client_made first.client log.0, log.1)) (x, torn) b.2 in
     let d = bind_ok (client_records_at first.log bytes b.0.1) (λ notes. Ok (with_records first.log notes.0, notes.1)) c.0 c.1 in
     let image = client_codec.found bytes 0 first b.0.1 fits (omega arith) b.1 in
     let w = records_found (length bytes) first.log bytes b.0.1 d.0.0 d.0.1 fits image.0.within (omega arith) d.1 in
@@ -72,14 +72,14 @@ client_read bytes x kept =
 client_apart : (bytes : List ℕ) (x : ClientImage) → IsKept x bytes → bytes_eq server_mark (take 4 bytes) ≡ false
 client_apart bytes x kept = rw (kept.parts, kept.whole.spelled) refl
 
-pub client_kept : (bytes : List ℕ) (r : Result ClientImage ImageError) → IsBytes bytes → GivesImage r (client_of bytes) → IfOk r (λ image. IsKeptFor image.client image.log bytes)
+pub client_kept : (bytes : List ℕ) (r : Result ClientImage ImageError) → IsBytes bytes → GivesImage r (kept_client_of bytes) → IfOk r (λ image. IsKeptFor image.client image.log bytes)
 client_kept bytes r are gives = read_kept kept_client_at server_mark client_found client_read client_apart bytes r are gives
 
-pub client_none : (bytes : List ℕ) (r : Result ClientImage ImageError) → GivesImage r (client_of bytes) → IfErr r (λ e. e ≢ Memory → (number : ℕ) (log : Log) → IsKeptFor number log bytes → ⊥)
+pub client_none : (bytes : List ℕ) (r : Result ClientImage ImageError) → GivesImage r (kept_client_of bytes) → IfErr r (λ e. e ≢ Memory → (number : ℕ) (log : Log) → IsKeptFor number log bytes → ⊥)
 client_none bytes (Ok image) gives = tt
 client_none bytes (Err e) gives = λ none number log kept. read_none kept_client_at server_mark client_found client_read client_apart bytes (Err e) gives none (client_made number log) kept
 
-pub client_again : (number : ℕ) (log : Log) (bytes : List ℕ) → IsKeptFor number log bytes → client_of bytes ≡ Ok (client_made number log)
+pub client_again : (number : ℕ) (log : Log) (bytes : List ℕ) → IsKeptFor number log bytes → kept_client_of bytes ≡ Ok (client_made number log)
 client_again number log bytes kept = image_again kept_client_at server_mark client_found client_read client_apart bytes (client_made number log) kept
 
 -- bytes are kept for one client
@@ -93,7 +93,7 @@ client_once number number' log log' bytes kept kept' =
 server_found : (bytes : List ℕ) (x : ServerImage) (next : ℕ) → IsBytes bytes → kept_server_at bytes 0 ≡ Ok (x, next) → IsKeptForServer x bytes
 unfolding kept_server_at
 server_found bytes x torn fits e =
-    let b = bind_ok (server_at bytes 0) (λ image. behind server_records_at with_taken image.0 bytes image.1) (x, torn) e in
+    let b = bind_ok (server_at bytes 0) (λ image. behind_records server_records_at with_taken image.0 bytes image.1) (x, torn) e in
     let first = b.0.0 in
     let d = bind_ok (server_records_at first bytes b.0.1) (λ notes. Ok (with_all_taken first notes.0, notes.1)) (x, torn) b.2 in
     let image = server_codec.found bytes 0 first b.0.1 fits (omega arith) b.1 in

@@ -14,7 +14,7 @@ use Rattle.tree_values.specs.Spelling.{BaseFits}
 use Rattle.mod_log.specs.Limits.{max_entries, max_log}
 use Rattle.mod_log.specs.declared.log.Entry.{Entry}
 use Rattle.mod_log.specs.Log.{Log, entry, after, tree_of, IsEntryOf, IsLog, logged}
-use Rattle.mod_log.specs.Append.{has_no_room, is_at_last, size_with}
+use Rattle.mod_log.specs.Append.{log_has_no_room, is_at_last, log_size_with}
 use Rattle.mod_log.proofs.Entries.{AreEntriesOf-push, acknowledged_is_log, after-tree}
 use Rattle.mod_log.proofs.Fitting.{AreEntriesOf-last}
 use Rattle.mod_log.proofs.BasesFit.{base_of-fits}
@@ -69,11 +69,11 @@ pub record Room (e : Entry) (l : Log) : Type 0 where
 
 pub room_found : (e : Entry) (l : Log) → has_room l (Logged e) ≡ true → Room e l
 room_found e l room =
-    let both = or_false_of (has_no_room e l) (is_at_last l) (not_of (has_no_room e l || is_at_last l) room) in
-    let tests = or_false_of (nat_le max_entries (length l.pending)) (nat_lt max_log (size_with e l)) both.0 in
+    let both = or_false_of (log_has_no_room e l) (is_at_last l) (not_of (log_has_no_room e l || is_at_last l) room) in
+    let tests = or_false_of (nat_le max_entries (length l.pending)) (nat_lt max_log (log_size_with e l)) both.0 in
     record {
       few = omega (arith, not_le_of max_entries (length l.pending) tests.0);
-      small = not_lt_of max_log (size_with e l) tests.1;
+      small = not_lt_of max_log (log_size_with e l) tests.1;
       last = eqb-false (l.acked + length l.pending) 18446744073709551615 both.1;
     }
 
@@ -84,9 +84,9 @@ pub room_again : (e : Entry) (l : Log) → IsLog (logged e l) → has_room l (Lo
 room_again e l is =
     let long = length-append l.pending (e ∷ []) in
     let few = le_fails max_entries (length l.pending) (omega (arith, long, is.few)) in
-    let small = lt_fails max_log (size_with e l) is.small in
-    let none : has_no_room e l ≡ false = rw (few, small) refl in
-    neither (has_no_room e l) (is_at_last l) none (eq_fails (l.acked + length l.pending) 18446744073709551615 (λ same. omega (arith, same, long, is.last)))
+    let small = lt_fails max_log (log_size_with e l) is.small in
+    let none : log_has_no_room e l ≡ false = rw (few, small) refl in
+    neither (log_has_no_room e l) (is_at_last l) none (eq_fails (l.acked + length l.pending) 18446744073709551615 (λ same. omega (arith, same, long, is.last)))
 
 pub note_found : (l : Log) (x : ClientRecord) → IsLog l → RecordFits l x → IsNoteOf l x
 note_found l (Logged e) is fits =

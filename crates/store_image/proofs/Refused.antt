@@ -13,7 +13,7 @@ use Rattle.store_image.specs.declared.image.ImageError.TheVariants.{BadImage}
 use Rattle.store_image.specs.Reading.{client_mark, server_mark, client_at, server_at}
 use Rattle.store_image.specs.Spelling.{client, ClientFits, server, ServerFits}
 use Rattle.store_image.specs.Fields.{client_fields, server_fields}
-use Rattle.store_image.specs.Image.{kept_client_at, kept_server_at, image_of, client_of, server_of}
+use Rattle.store_image.specs.Image.{kept_client_at, kept_server_at, image_of, kept_client_of, server_of}
 use Rattle.store_image.proofs.Cuts.{client_cut, server_cut}
 use Rattle.store_image.proofs.Sizes.{client_size, server_size}
 use Rattle.store_image.proofs.Whole.{whole_stands}
@@ -67,7 +67,7 @@ pub server_fails : (bytes : List ℕ) (at place : ℕ) → server_at bytes at �
 unfolding kept_server_at
 server_fails bytes at place e = rw e refl
 
-pub client_refused : (image : ClientImage) (end : ℕ) → ClientFits image → end < length (client image) → client_of (take end (client image)) ≡ Err (BadImage (start_of end (client_fields image)))
+pub client_refused : (image : ClientImage) (end : ℕ) → ClientFits image → end < length (client image) → kept_client_of (take end (client image)) ≡ Err (BadImage (start_of end (client_fields image)))
 client_refused image end fits lt = image_refused kept_client_at server_mark client_cut (λ bytes place. client_fails bytes 0 place) image end refl refl fits lt (omega (arith, client_size image fits))
 
 pub server_refused : (image : ServerImage) (end : ℕ) → ServerFits image → end < length (server image) → server_of (take end (server image)) ≡ Err (BadImage (start_of end (server_fields image)))

@@ -28,7 +28,7 @@ use Rattle.mod_log.specs.declared.origin.Origin.{Origin}
 use Rattle.mod_log.specs.Origin.{made_by, MadeByFits}
 use Rattle.mod_log.specs.Reading.{origin_at, made_by_kinds}
 use Rattle.mod_log.specs.Fields.{entry_fields}
-use Rattle.store_image.specs.Image.{client_of, server_of}
+use Rattle.store_image.specs.Image.{kept_client_of, server_of}
 
 -- effects that the tree takes one after the other
 pub record AreTaken (v : Volume) (es : List Effect) : Type 0 where
@@ -40,7 +40,7 @@ pub record AreTaken (v : Volume) (es : List Effect) : Type 0 where
 abbrev pub growing_behind : List Effect → Volume → Growing
 growing_behind es v = record { tree = changed_all es v; room = max_files - contents_size es }
 
-pub record BrokenEntries : Type 0 where
+pub record BrokenKeptEntries : Type 0 where
   -- an effect that does not apply: at its first byte
   pub effect_does_not_apply : (growing : Growing) (e : Effect) (refusal : TreeError) → EffectFits e → content_size e ≤ growing.room → apply e growing.tree ≡ Err refusal → IsRefused (growing_effect_at growing) (effect e) 0
   -- an effect that is refused before it is applied: in it
@@ -102,5 +102,5 @@ pub record BrokenImages : Type 0 where
   pub entries_are_refused : (client acked : ℕ) (base : Volume) (text : List ℕ) (offset : ℕ) → 1 ≤ client → client ≤ 64 → acked < 2 ^ 64 → IsTree base → IsRefused (entries_at (new_log_of acked base)) text offset
       → IsRefused client_at (client_mark ++ (1 ∷ client ∷ (digits w64 acked ++ (rows base ++ text)))) (14 + (length (rows base) + offset))
   -- bytes that begin with what is refused, and not as an image of the other kind, are refused there
-  pub client_is_refused : (text more : List ℕ) (offset : ℕ) → IsRefused client_at text offset → bytes_eq server_mark (take 4 (text ++ more)) ≡ false → client_of (text ++ more) ≡ Err (BadImage (as_u32 offset))
+  pub client_is_refused : (text more : List ℕ) (offset : ℕ) → IsRefused client_at text offset → bytes_eq server_mark (take 4 (text ++ more)) ≡ false → kept_client_of (text ++ more) ≡ Err (BadImage (as_u32 offset))
   pub server_is_refused : (text more : List ℕ) (offset : ℕ) → IsRefused server_at text offset → bytes_eq client_mark (take 4 (text ++ more)) ≡ false → server_of (text ++ more) ≡ Err (BadImage (as_u32 offset))

@@ -12,7 +12,7 @@ use Rattle.store_image.specs.declared.record.ClientRecord.{ClientRecord}
 use Rattle.store_image.specs.declared.record.ServerRecord.{ServerRecord}
 use Rattle.store_image.specs.Reading.{client_mark, server_mark, client_at, server_at}
 use Rattle.store_image.specs.Spelling.{client, ClientFits, server, ServerFits}
-use Rattle.store_image.specs.Records.{IsTorn, behind, client_records_at, client_records, with_record, with_records, AreNotes, server_records_at, server_records, with_taken, with_all_taken, AreTakenOf}
+use Rattle.store_image.specs.Records.{IsTorn, behind_records, client_records_at, client_records, with_record, with_records, AreNotes, server_records_at, server_records, with_taken, with_all_taken, AreTakenOf}
 
 -- what was read, or the first faulty field
 abbrev pub read_of : {A : Type 0} → Result (A × ℕ) ℕ → Result A ImageError
@@ -27,18 +27,18 @@ image_of other read bytes = if bytes_eq other (take 4 bytes) then Err WrongKind 
 unfoldable pub kept_client_at : Reader ClientImage
 kept_client_at bytes at = do
   image ← client_at bytes at
-  log ← behind client_records_at with_record image.0.log bytes image.1
+  log ← behind_records client_records_at with_record image.0.log bytes image.1
   Ok (record { client = image.0.client; log = log.0 }, log.1)
 
 -- a server's image and the records behind it: the server that they lead to, and the place where a torn tail begins
 unfoldable pub kept_server_at : Reader ServerImage
 kept_server_at bytes at = do
   image ← server_at bytes at
-  behind server_records_at with_taken image.0 bytes image.1
+  behind_records server_records_at with_taken image.0 bytes image.1
 
 -- the client that the bytes are kept for
-abbrev pub client_of : List ℕ → Result ClientImage ImageError
-client_of = image_of server_mark kept_client_at
+abbrev pub kept_client_of : List ℕ → Result ClientImage ImageError
+kept_client_of = image_of server_mark kept_client_at
 
 -- the server that the bytes are kept for
 abbrev pub server_of : List ℕ → Result ServerImage ImageError

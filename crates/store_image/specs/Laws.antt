@@ -11,11 +11,11 @@ use Rattle.store_image.specs.declared.record.ServerRecord.{ServerRecord}
 use Rattle.store_image.specs.Spelling.{client, ClientFits, server, ServerFits}
 use Rattle.store_image.specs.Fields.{client_fields, server_fields}
 use Rattle.store_image.specs.Records.{IsSpelled, client_record, client_records, with_record, with_records, IsNoteOf, AreNotes, server_record, server_records, with_taken, with_all_taken, IsTakenOf, AreTakenOf}
-use Rattle.store_image.specs.Image.{client_of, server_of, IsKeptWholeFor, IsKeptFor, IsKeptWholeForServer, IsKeptForServer}
+use Rattle.store_image.specs.Image.{kept_client_of, server_of, IsKeptWholeFor, IsKeptFor, IsKeptWholeForServer, IsKeptForServer}
 
 -- bytes that are kept for a client are read as this client
 abbrev pub WrittenClientsAreKept : Type 0
-WrittenClientsAreKept = (number : ℕ) (log : Log) (bytes : List ℕ) → IsKeptFor number log bytes → client_of bytes ≡ Ok (record { client = number; log = log })
+WrittenClientsAreKept = (number : ℕ) (log : Log) (bytes : List ℕ) → IsKeptFor number log bytes → kept_client_of bytes ≡ Ok (record { client = number; log = log })
 
 -- bytes that are kept for a server are read as this server
 abbrev pub WrittenServersAreKept : Type 0
@@ -32,7 +32,7 @@ BytesAreKeptForOneServer = (image image' : ServerImage) (bytes : List ℕ) → I
 -- a client's image that is cut short is refused at the field in which it ends
 abbrev pub CutClientImagesAreRefused : Type 0
 CutClientImagesAreRefused = (image : ClientImage) (end : ℕ) → ClientFits image → end < length (client image)
-    → client_of (take end (client image)) ≡ Err (BadImage (start_of end (client_fields image)))
+    → kept_client_of (take end (client image)) ≡ Err (BadImage (start_of end (client_fields image)))
 
 -- so is a server's
 abbrev pub CutServerImagesAreRefused : Type 0

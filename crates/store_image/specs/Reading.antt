@@ -50,20 +50,20 @@ known_base_at known bytes at = do
   Ok (record { path = path.0; version = version.0 }, version.1)
 
 -- the first of these
-unfoldable pub first_base_at : List Base → Reader Base
-first_base_at [] bytes at = Err at
-first_base_at (known ∷ others) bytes at = known_base_at known bytes at
+unfoldable pub first_kept_base_at : List Base → Reader Base
+first_kept_base_at [] bytes at = Err at
+first_kept_base_at (known ∷ others) bytes at = known_base_at known bytes at
 
 -- those that are left
-abbrev pub others_after : List Base → Base → List Base
-others_after [] base = []
-others_after (known ∷ others) base = others
+abbrev pub kept_bases_after : List Base → Base → List Base
+kept_bases_after [] base = []
+kept_bases_after (known ∷ others) base = others
 
 -- just these paths and versions, in their order
 unfoldable pub known_bases_at : List Base → Reader (List Base)
 known_bases_at known bytes at = do
   count ← ruled (λ n. n == length known) (number_at w32) bytes at
-  each_at first_base_at others_after count.0 known bytes count.1
+  each_at first_kept_base_at kept_bases_after count.0 known bytes count.1
 
 -- effects that apply to the log's tree, and the versions that this tree has: the next entry, which this made
 abbrev pub based_entry_at : Option Origin → Log → Reader Entry

@@ -9,7 +9,7 @@ use Rattle.tree_values.specs.Spelling.{effects, EffectsFit}
 use Rattle.tree_values.specs.declared.node.Effect.{Effect}
 use Rattle.mod_log.specs.Limits.{max_log}
 use Rattle.mod_log.specs.Log.{Log, entry, IsLog, logged, acknowledged}
-use Rattle.mod_log.specs.Append.{has_no_room, is_at_last}
+use Rattle.mod_log.specs.Append.{log_has_no_room, is_at_last}
 use Rattle.store_image.specs.Reading.{next_entry_at, applied_effects_at}
 use Rattle.store_image.specs.declared.image.ServerImage.{ServerImage}
 use Rattle.store_image.specs.declared.record.ClientRecord.{ClientRecord}
@@ -23,8 +23,8 @@ abbrev pub IsTorn : List ℕ → Type 0
 IsTorn tail = is_torn tail 0 ≡ true
 
 -- the state behind the records from the place on, and the place where a torn tail begins
-abbrev pub behind : {S A : Type 0} → (S → Reader (List A)) → (S → A → S) → S → Reader S
-behind records_at after state bytes at = do
+abbrev pub behind_records : {S A : Type 0} → (S → Reader (List A)) → (S → A → S) → S → Reader S
+behind_records records_at after state bytes at = do
   notes ← records_at state bytes at
   Ok (passed after state notes.0, notes.1)
 
@@ -76,7 +76,7 @@ client_kinds log = (1, one (next_entry_at log) Logged) ∷ (2, one (ruled (is_pe
 
 -- whether the log has room for what is logged, and a number
 abbrev pub has_room : Log → ClientRecord → Bool
-has_room log (Logged e) = not (has_no_room e log || is_at_last log)
+has_room log (Logged e) = not (log_has_no_room e log || is_at_last log)
 has_room log (Acked number) = true
 
 -- a record behind the number of its bytes; an entry for which the log has no room is a fault of that number

@@ -8,7 +8,7 @@ ghost use Rattle.tree_values.specs.Tree.{apply, changed};
 ghost use Rattle.tree_values.specs.Effects.{base_of as bases_of, changed_all};
 ghost use Rattle.mod_log.specs.Log.{IsLog, tree_of, logged};
 ghost use Rattle.mod_log.specs.Append.{next_entry};
-ghost use Rattle.store_image.specs.Reading.{growing_effect_at, grown, applied_effects_at, known_base_at, first_base_at, others_after, known_bases_at, based_entry_at, next_entry_at};
+ghost use Rattle.store_image.specs.Reading.{growing_effect_at, grown, applied_effects_at, known_base_at, first_kept_base_at, kept_bases_after, known_bases_at, based_entry_at, next_entry_at};
 ghost use Rattle.mod_log.specs.declared.origin.Origin.{Origin};
 
 use byte_fields::{TakeError, u32_at, u64_at};
@@ -128,7 +128,7 @@ fn behind_each(
     start: usize,
     bases: &[Base],
 ) -> Result<usize, TakeError>
-    ensures { Lends (λ next. (bases.now, next)) result (each_at first_base_at others_after (length bases.now) bases.now bytes.now start) }
+    ensures { Lends (λ next. (bases.now, next)) result (each_at first_kept_base_at kept_bases_after (length bases.now) bases.now bytes.now start) }
 {
     let mut at = start;
     for known in bases {

@@ -8,7 +8,7 @@ ghost use Rattle.mod_log.specs.Log.{tree_of};
 ghost use Rattle.store_image.specs.declared.record.ClientRecord.TheVariants as records;
 ghost use Rattle.store_image.specs.declared.image.ServerImage.{ServerImage};
 ghost use Rattle.store_image.specs.Reading.{next_entry_at};
-ghost use Rattle.store_image.specs.Records.{behind, is_pending, client_kinds, has_room, client_record_at, client_records_at, with_record, with_records, taken_at, server_kinds, with_taken};
+ghost use Rattle.store_image.specs.Records.{behind_records, is_pending, client_kinds, has_room, client_record_at, client_records_at, with_record, with_records, taken_at, server_kinds, with_taken};
 ghost use Rattle.store_image.specs.Inside.{record_of, Follows};
 
 use crate::entry::{applied_effects, next_effects};
@@ -177,7 +177,7 @@ pub(crate) fn log_behind(
     start: usize,
     first: Log,
 ) -> Result<(Log, usize), TakeError>
-    ensures { Gives result (behind client_records_at with_record first bytes.now start) }
+    ensures { Gives result (behind_records client_records_at with_record first bytes.now start) }
 {
     let mut log = first;
     let mut ahead = log.tree().copy()?;

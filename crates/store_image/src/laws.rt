@@ -5,7 +5,7 @@ ghost use Rattle.byte_fields.specs.Cuts.{IsCut};
 ghost use Rattle.store_image.specs.Reading.{client_at, server_at};
 ghost use Rattle.store_image.specs.Spelling.{client, ClientFits, server, ServerFits};
 ghost use Rattle.store_image.specs.Fields.{client_fields, server_fields};
-ghost use Rattle.store_image.specs.Broken.{BrokenEntries, BrokenEntryLists, BrokenImages};
+ghost use Rattle.store_image.specs.Broken.{BrokenKeptEntries, BrokenEntryLists, BrokenImages};
 ghost use Rattle.store_image.specs.Laws.{RecordsAreAppended, CutRecordsAreTorn, BytesAreKeptForOneClient, BytesAreKeptForOneServer, ImagesAreSmall, CutClientImagesAreRefused, CutServerImagesAreRefused, WrittenClientsAreKept, WrittenServersAreKept};
 
 /// States that each image has one spelling, and each spelling one image.
@@ -47,7 +47,7 @@ pub fn images_are_small()
 
 /// States that an image that breaks a rule is refused at the field of the rule.
 pub fn broken_images_name_the_field()
-    ensures entries { BrokenEntries }
+    ensures entries { BrokenKeptEntries }
     ensures lists { BrokenEntryLists }
     ensures images { BrokenImages }
 {}

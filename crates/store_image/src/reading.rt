@@ -9,7 +9,7 @@ ghost use Rattle.tree_values.specs.Reading.{rows_at};
 ghost use Rattle.mod_log.specs.Limits.{max_entries, max_log};
 ghost use Rattle.mod_log.specs.Log.{Log, new_log_of};
 ghost use Rattle.store_image.specs.Reading.{next_entry_at, with_entry, entries_at, log_at, client_body_at, client_at, server_body_at, server_at};
-ghost use Rattle.store_image.specs.Image.{read_of, kept_client_at, kept_server_at, client_of, server_of, GivesImage, IsKeptFor, IsKeptForServer};
+ghost use Rattle.store_image.specs.Image.{read_of, kept_client_at, kept_server_at, kept_client_of, server_of, GivesImage, IsKeptFor, IsKeptForServer};
 ghost use Rattle.store_image.specs.declared.image.ServerImage.{ServerImage};
 
 use crate::entry::{log_entry, next_effects};
@@ -232,7 +232,7 @@ fn read_of<T: Drop>(taken: Result<(T, usize), TakeError>) -> Result<T, ImageErro
 
 /// The first refusal that fits, or the client.
 fn client_of(alloc: Global, bytes: &[u8]) -> Result<ClientImage, ImageError>
-    ensures { GivesImage result (client_of bytes.now) }
+    ensures { GivesImage result (kept_client_of bytes.now) }
 {
     if begins_with(bytes, b"OSSI") {
         return Err(ImageError::WrongKind);
@@ -250,7 +250,7 @@ pub fn read_client(alloc: Global, bytes: &[u8]) -> Result<ClientImage, ImageErro
     // Bytes that are refused are kept for no client.
     ensures none { IfErr result (λ e. e ≢ ImageError.Memory → (number : ℕ) (log : Log) → IsKeptFor number log bytes.now → ⊥) }
     // Which refusal it is.
-    ensures exact { GivesImage result (client_of bytes.now) }
+    ensures exact { GivesImage result (kept_client_of bytes.now) }
 {
     client_of(alloc, bytes)
 }

@@ -31,7 +31,7 @@ use Rattle.world_rules.specs.Settling.{IsSettling, failures, settled, failed_ask
 use Rattle.world_rules.specs.Asking.{ask_of}
 use Rattle.world_rules.specs.declared.asking.Ask.{Ask}
 use Rattle.surrogate_core.specs.declared.step.Step.TheVariants as steps
-use Rattle.surrogate_core.specs.Handling.{job_print, Phase, Idle, Fetching, Holding, Reaction, answering, declining, prepared, job_for, held_by, unless_clash, unless_unfit, after_verdict, AfterJob, runs_of, Tries, closed, refusal_kind, HandlesCome, Round, IsRound, GoesOn}
+use Rattle.surrogate_core.specs.Handling.{job_print, Phase, Idle, Fetching, Holding, Reaction, answering, declining, prepared, job_for, held_by, unless_clash, unless_unfit, after_verdict, AfterJob, runs_of_job, Tries, closed, refusal_kind, HandlesCome, Round, IsRound, GoesOn}
 use Rattle.surrogate_core.specs.Laws.{IsTried, IsPulled, IsJudged, IsAgreed, HasCause, DeclinesHaveCauses}
 use Rattle.surrogate_core.specs.declared.step.Step.{Step}
 
@@ -110,7 +110,7 @@ module _ (sketched : SketchEntry) (copy : Volume) where
   tries_caused pulled client asks tried work runs reaction tried_is from tries =
       ⊎_elim (λ came. by pulled (job_for tried sketched) tries.ran refl from tries.runs_are came) (λ none. subst (Caused runs asks) (sym none) tt) tries.came
     where
-      by : (pulled : Bool) (job : Result Job Cause) (ran : Option Outcome) → job_for tried sketched ≡ job → (pulled ≡ true → IsPulled asks tried) → runs ≡ runs_of work job ran
+      by : (pulled : Bool) (job : Result Job Cause) (ran : Option Outcome) → job_for tried sketched ≡ job → (pulled ≡ true → IsPulled asks tried) → runs ≡ runs_of_job work job ran
           → AfterJob pulled tried client sketched job ran reaction → Caused runs asks reaction
       by pulled (Ok job) None e from are came = subst (Caused runs asks) (sym came) (are, (tried, job, tried_is, e))
       by pulled (Ok job) (Some outcome) e from are came =

@@ -31,7 +31,7 @@ use Rattle.world_rules.specs.declared.asking.Ask.{Ask}
 use Rattle.surrogate_core.specs.declared.step.Step.TheVariants as steps
 use Rattle.surrogate_core.specs.Handling.{Phase, Idle, Fetching, Holding, Reaction, answering, declining, job_for, held_by, unless_clash, unless_unfit, after_verdict, AfterJob, Tries, closed, refusal_kind, HandlesCome, Round, IsRound, GoesOn, Handled, Handling, BreaksHandling, copy_before}
 use Rattle.surrogate_core.specs.Serving.{MayAsk}
-use Rattle.surrogate_core.specs.Laws.{IsTried, EndsAs}
+use Rattle.surrogate_core.specs.Laws.{IsTried, EndsOperation}
 use Rattle.surrogate_core.specs.declared.step.Step.{Step}
 
 module _ (agreements_fill : AgreementsFill) (client : ℕ) (sketched : SketchEntry) (copy : Volume) where
@@ -47,7 +47,7 @@ module _ (agreements_fill : AgreementsFill) (client : ℕ) (sketched : SketchEnt
 
   -- what a step and the phase after it say
   abbrev pub IsOn : List Ask → Step → Phase → Volume → Type 0
-  IsOn asks (steps.Answer reply) Idle now = EndsAs client sketched copy asks now reply
+  IsOn asks (steps.Answer reply) Idle now = EndsOperation client sketched copy asks now reply
   IsOn asks (steps.Ask request) (Fetching c s) now = (c ≡ client) × (s ≡ sketched) × (now ≡ copy) × (request ≡ Pull client (sketched.seq - 1))
   IsOn asks (steps.Ask request) (Holding c n before) now = Asks asks c n before request now
   IsOn asks step phase now = ⊥
@@ -206,7 +206,7 @@ module _ (agreements_fill : AgreementsFill) (client : ℕ) (sketched : SketchEnt
       (tries_on false [] copy work handled.first_runs handled.first (inl refl) (λ e. refl) handled.begins) handled.goes_on)
 
   pub keeps_the_copy : (server work : List ℕ) (runs : List Run) (asks : List Ask) (reply : Message) (after : Volume)
-      → Handling server work copy client sketched runs asks reply after → EndsAs client sketched copy asks after reply
+      → Handling server work copy client sketched runs asks reply after → EndsOperation client sketched copy asks after reply
   keeps_the_copy server work runs asks reply after handling = handled_on server work runs asks (answering after reply) handling
 
   before_on : (asks : List Ask) (request : Message) (phase : Phase) (now : Volume) → IsOn asks (steps.Ask request) phase now → IsTried copy asks (copy_before (record { copy = now; phase = phase }))

@@ -23,8 +23,8 @@ use Rattle.world_rules.specs.Asking.{ask_of}
 use Rattle.world_rules.specs.declared.asking.Answer.{Answer}
 use Rattle.world_rules.specs.declared.asking.Ask.{Ask}
 use Rattle.surrogate_core.specs.declared.step.Step.TheVariants as steps
-use Rattle.surrogate_core.specs.Handling.{Phase, Idle, Fetching, Holding, Reaction, answering, declining, job_for, held_by, unless_clash, unless_unfit, after_verdict, AfterJob, runs_of, HandlesReply, HandlesCome, Round, IsRound, GoesOn}
-use Rattle.surrogate_core.specs.Laws.{EndsAs, AgreedTriesAskTheStore, AcceptedHandlingsAreDone}
+use Rattle.surrogate_core.specs.Handling.{Phase, Idle, Fetching, Holding, Reaction, answering, declining, job_for, held_by, unless_clash, unless_unfit, after_verdict, AfterJob, runs_of_job, HandlesReply, HandlesCome, Round, IsRound, GoesOn}
+use Rattle.surrogate_core.specs.Laws.{EndsOperation, AgreedTriesAskTheStore, AcceptedHandlingsAreDone}
 use Rattle.surrogate_core.proofs.Copies.{keeps_the_copy}
 use Rattle.surrogate_core.specs.declared.step.Step.{Step}
 
@@ -38,7 +38,7 @@ pub agreed_tries_ask : OneJudgement → AgreedTriesAskTheStore
 agreed_tries_ask one pulled tried new client sketched work run effects reaction tries judged free fits =
     ⊎_elim (λ came. by pulled (job_for tried sketched) tries.ran tries.runs_are came) (λ none. inr none) tries.came
   where
-    by : (pulled : Bool) (job : Result Job Cause) (ran : Option Outcome) → run ∷ [] ≡ runs_of work job ran → AfterJob pulled tried client sketched job ran reaction
+    by : (pulled : Bool) (job : Result Job Cause) (ran : Option Outcome) → run ∷ [] ≡ runs_of_job work job ran → AfterJob pulled tried client sketched job ran reaction
         → (reaction ≡ after_verdict tried client sketched (Ok (record { effects = effects; copy = new }))) ⊎ (reaction ≡ declining tried client sketched.seq NoMemory)
     by pulled (Ok job) (Some outcome) e came =
         let is_job : run.job ≡ job = ap (λ l. (first_run l run).job) e in
@@ -127,5 +127,5 @@ pub accepted_handlings : AgreementsFill → AcceptedHandlingsAreDone
 accepted_handlings agreements_fill server work copy after client sketched runs asks reply ask c n handling among e =
     let done = goes_done server work ask c n e handling.rounds handling.first (answering after reply) (subst (IsIn ask) handling.asks_are among) handling.goes_on in
     let is : reply ≡ Done done.1 done.2 = ap (λ r. answer_of r.step reply) done.3 in
-    let ends = subst (EndsAs client sketched copy asks after) is (keeps_the_copy agreements_fill client sketched copy server work runs asks reply after handling) in
+    let ends = subst (EndsOperation client sketched copy asks after) is (keeps_the_copy agreements_fill client sketched copy server work runs asks reply after handling) in
     is ∙ ap (λ a. Done a done.2) ends.0 ∙ ap (Done client) ends.1

@@ -16,7 +16,7 @@ use Rattle.world_rules.specs.World.{World, IsLicensed, IsFree}
 use Rattle.world_rules.specs.Asking.{ReplyStands, AnswerStands, AnswersStand}
 use Rattle.world_rules.proofs.Free.{moves_alone}
 use Rattle.surrogate_core.specs.Serving.{MayAsk}
-use Rattle.surrogate_core.specs.Laws.{EndsAs}
+use Rattle.surrogate_core.specs.Laws.{EndsOperation}
 use Rattle.surrogate_core.specs.Free.{HandlingsMoveAlone, RepliesAreFree}
 use Rattle.surrogate_core.proofs.Copies.{keeps_the_copy}
 use Rattle.surrogate_core.proofs.Valid.{pull_valid}
@@ -68,7 +68,7 @@ module _ (client : ℕ) (sketched : SketchEntry) where
   stands world ask (x ∷ asks) all (inr among) = stands world ask asks all.1 among
 
   ends_free : (world : World) → (client ≡ world.client → IsIn (Operate client sketched) world.packets) → (copy after : Volume) (asks : List Ask) (message : Message)
-      → AnswersStand world asks → IsValid message → EndsAs client sketched copy asks after message → IsFree world message
+      → AnswersStand world asks → IsValid message → EndsOperation client sketched copy asks after message → IsFree world message
   ends_free world operated copy after asks (Declined of number cause) stand valid ends =
       free_as client (Declined of number cause) world valid ends.0 (λ own. (ends.0 ∙ own, (sketched, there world operated own, ends.1))) (ℕ_discrete client world.client)
   ends_free world operated copy after asks (Done of number) stand valid ends =

@@ -17,7 +17,7 @@ use Rattle.wire_frames.specs.declared.message.Message.TheVariants.{Store, Operat
 use Rattle.wire_frames.specs.declared.cause.Cause.{Cause}
 use Rattle.wire_frames.specs.declared.message.Message.{Message}
 use Rattle.surrogate_core.specs.declared.step.Step.TheVariants as steps
-use Rattle.surrogate_core.specs.Handling.{job_print, Phase, Idle, Fetching, Holding, Reaction, Held, declining, prepared, job_for, held_by, after_verdict, AfterJob, runs_of, Tries, closed, refusal_kind, HandlesCome, Round, IsRound, GoesOn, answering}
+use Rattle.surrogate_core.specs.Handling.{job_print, Phase, Idle, Fetching, Holding, Reaction, Held, declining, prepared, job_for, held_by, after_verdict, AfterJob, runs_of_job, Tries, closed, refusal_kind, HandlesCome, Round, IsRound, GoesOn, answering}
 use Rattle.surrogate_core.specs.Laws.{IsOfJob, HandlingsRunOnce}
 use Rattle.surrogate_core.specs.declared.step.Step.{Step}
 
@@ -62,12 +62,12 @@ module _ (sketched : SketchEntry) (work : List ℕ) where
       ⊎_elim (λ came. by pulled (job_for tried sketched) tries.ran refl tries.runs_are came)
       (λ none. subst (Once runs) (sym none) (made (job_for tried sketched) tries.ran refl tries.runs_are)) tries.came
     where
-      made : (job : Result Job Cause) (ran : Option Outcome) → job_for tried sketched ≡ job → runs ≡ runs_of work job ran → IsOfJob sketched work runs
+      made : (job : Result Job Cause) (ran : Option Outcome) → job_for tried sketched ≡ job → runs ≡ runs_of_job work job ran → IsOfJob sketched work runs
       made (Ok job) None e are = none_run runs are
       made (Ok job) (Some outcome) e are = subst (IsOfJob sketched work) (sym are) (refl, printed tried job e)
       made (Err cause) ran e are = none_run runs are
 
-      by : (pulled : Bool) (job : Result Job Cause) (ran : Option Outcome) → job_for tried sketched ≡ job → runs ≡ runs_of work job ran
+      by : (pulled : Bool) (job : Result Job Cause) (ran : Option Outcome) → job_for tried sketched ≡ job → runs ≡ runs_of_job work job ran
           → AfterJob pulled tried client sketched job ran reaction → Once runs reaction
       by pulled (Ok job) None e are came = subst (Once runs) (sym came) (none_run runs are)
       by pulled (Ok job) (Some outcome) e are came =

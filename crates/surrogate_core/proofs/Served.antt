@@ -23,7 +23,7 @@ use Rattle.surrogate_core.specs.declared.step.Step.{Step as Turn}
 use Rattle.surrogate_core.specs.declared.step.Step.TheVariants as steps
 use Rattle.surrogate_core.specs.Handling.{Phase, Idle, Fetching, Holding, Machine, Reaction, idle, copy_before, Round, IsRound, GoesOn, Handled, Tries}
 use Rattle.surrogate_core.specs.Serving.{MayAsk, WorldWent, ServesTo, Serves, Steps, failed_step}
-use Rattle.surrogate_core.specs.Inside.{Awaits, Asked, Follows, Breaks, Serving, operation}
+use Rattle.surrogate_core.specs.Inside.{Awaits, Asked, Follows, Breaks, Serving, operation_in}
 use Rattle.surrogate_core.proofs.Copies.{IsOn, handled_on, may_ask_on}
 use Rattle.surrogate_core.proofs.Trying.{is_idle, runs_none}
 
@@ -206,7 +206,7 @@ module _ (server work : List ℕ) (copy : Volume) (client : ℕ) (sketched : Ske
 
 -- ---- any other message
 
-pub served_none : (server work : List ℕ) (copy : Volume) (request : Message) (runner : RunnerTelling) (link : LinkTelling) → operation request ≡ None
+pub served_none : (server work : List ℕ) (copy : Volume) (request : Message) (runner : RunnerTelling) (link : LinkTelling) → operation_in request ≡ None
     → Serves server work copy request (Ok (messages.Malformed 7 0)) copy runner runner link link
 served_none server work copy request runner link none = record {
   runs = [];
@@ -217,7 +217,7 @@ served_none server work copy request runner link none = record {
   went = told_start link.world (WorldWent request []) (went request none);
 }
   where
-    serves : (request : Message) → operation request ≡ None → ServesTo server work copy request [] [] (Ok (messages.Malformed 7 0)) copy
+    serves : (request : Message) → operation_in request ≡ None → ServesTo server work copy request [] [] (Ok (messages.Malformed 7 0)) copy
     serves (messages.Operate client sketched) none = absurd (cc)
     serves (messages.Store client number effects base) none = (refl, refl, refl, refl)
     serves (messages.Pull client number) none = (refl, refl, refl, refl)
@@ -231,7 +231,7 @@ served_none server work copy request runner link none = record {
     serves (messages.Full client number index fault) none = (refl, refl, refl, refl)
     serves (messages.Malformed code offset) none = (refl, refl, refl, refl)
 
-    went : (request : Message) → operation request ≡ None → (w : World) → WorldWent request [] w w
+    went : (request : Message) → operation_in request ≡ None → (w : World) → WorldWent request [] w w
     went (messages.Operate client sketched) none w = absurd (cc)
     went (messages.Store client number effects base) none w = refl
     went (messages.Pull client number) none w = refl

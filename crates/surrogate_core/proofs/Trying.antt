@@ -20,7 +20,7 @@ use Rattle.surrogate_core.specs.declared.step.Step.TheVariants as steps
 use Rattle.surrogate_core.specs.declared.machine.State.{State}
 use Rattle.surrogate_core.specs.declared.machine.State.TheVariants.{Idle as IsIdle}
 use Rattle.surrogate_core.specs.declared.replaying.Held.{Held}
-use Rattle.surrogate_core.specs.Handling.{Phase, Idle, Fetching, Holding, Machine, Reaction, idle, declining, job_for, after_verdict, held_by, AfterJob, runs_of, Tries, HandlesReply}
+use Rattle.surrogate_core.specs.Handling.{Phase, Idle, Fetching, Holding, Machine, Reaction, idle, declining, job_for, after_verdict, held_by, AfterJob, runs_of_job, Tries, HandlesReply}
 use Rattle.surrogate_core.specs.Serving.{Steps, telling, failed_step}
 use Rattle.surrogate_core.specs.Inside.{IsReplayed, IsConcluded, Starves, phase_of, reaction_of, snapshot_rows}
 
@@ -65,7 +65,7 @@ module _ (pulled : Bool) (copy : Volume) (client : ℕ) (sketched : SketchEntry)
       runs = [];
       does = record {
         ran = None;
-        runs_are = ap (λ (j : Result Job Cause). runs_of work j None) (sym is);
+        runs_are = ap (λ (j : Result Job Cause). runs_of_job work j None) (sym is);
         came = inl (subst (λ (j : Result Job Cause). AfterJob pulled copy client sketched j None reaction) (sym is) declines);
       };
       told = subst (λ (k : ℕ). HasRun [] k old new) (sym failed) told;
@@ -78,7 +78,7 @@ module _ (pulled : Bool) (copy : Volume) (client : ℕ) (sketched : SketchEntry)
       runs = record { work = work; job = job; outcome = outcome } ∷ [];
       does = record {
         ran = Some outcome;
-        runs_are = ap (λ (j : Result Job Cause). runs_of work j (Some outcome)) (sym is);
+        runs_are = ap (λ (j : Result Job Cause). runs_of_job work j (Some outcome)) (sym is);
         came = inl (subst (λ (j : Result Job Cause). AfterJob pulled copy client sketched j (Some outcome) (reaction_of step state now)) (sym is)
             (replayed.verdict, replayed.judged, by result replayed concluded));
       };
@@ -106,7 +106,7 @@ module _ (pulled : Bool) (copy : Volume) (client : ℕ) (sketched : SketchEntry)
     runs = [];
     does = record {
       ran = None;
-      runs_are = ap (λ (j : Result Job Cause). runs_of work j None) (sym is);
+      runs_are = ap (λ (j : Result Job Cause). runs_of_job work j None) (sym is);
       came = inl (subst (λ (j : Result Job Cause). AfterJob pulled copy client sketched j None reaction) (sym is) after);
     };
     told = subst (λ (k : ℕ). HasRun [] k runner runner) (sym failed) (runs_none runner);
@@ -115,9 +115,9 @@ module _ (pulled : Bool) (copy : Volume) (client : ℕ) (sketched : SketchEntry)
   pub starved_tries : (reaction : Reaction) (old new : RunnerTelling) → reaction ≡ declining copy client sketched.seq NoMemory → Starves work (job_for copy sketched) old new
       → Steps (Tries pulled copy client sketched work) reaction old new
   starved_tries reaction old new is starves = record {
-    runs = runs_of work (job_for copy sketched) starves.ran;
+    runs = runs_of_job work (job_for copy sketched) starves.ran;
     does = record { ran = starves.ran; runs_are = refl; came = inr is };
-    told = subst (λ (r : Reaction). HasRun (runs_of work (job_for copy sketched) starves.ran) (failed_step r.step) old new) (sym is) starves.told;
+    told = subst (λ (r : Reaction). HasRun (runs_of_job work (job_for copy sketched) starves.ran) (failed_step r.step) old new) (sym is) starves.told;
   }
 
 -- ---- the machine

@@ -145,14 +145,14 @@ AfterJob false copy client sketched (Err cause) ran reaction = reaction ≡ reco
   after = record { copy = copy; phase = Fetching client sketched };
 }
 
-abbrev pub runs_of : List ℕ → Result Job Cause → Option Outcome → List Run
-runs_of work (Ok job) (Some outcome) = record { work = work; job = job; outcome = outcome } ∷ []
-runs_of work job ran = []
+abbrev pub runs_of_job : List ℕ → Result Job Cause → Option Outcome → List Run
+runs_of_job work (Ok job) (Some outcome) = record { work = work; job = job; outcome = outcome } ∷ []
+runs_of_job work job ran = []
 
 -- The operation is tried on the copy, with these runs: as said above, or memory was wanted.
 pub record Tries (pulled : Bool) (copy : Volume) (client : ℕ) (sketched : SketchEntry) (work : List ℕ) (runs : List Run) (reaction : Reaction) : Type 0 where
   pub ran : Option Outcome
-  pub runs_are : runs ≡ runs_of work (job_for copy sketched) ran
+  pub runs_are : runs ≡ runs_of_job work (job_for copy sketched) ran
   pub came : AfterJob pulled copy client sketched (job_for copy sketched) ran reaction ⊎ (reaction ≡ declining copy client sketched.seq NoMemory)
 
 -- An operation is tried on the surrogate's copy; any other message is not for a surrogate.

@@ -26,7 +26,7 @@ use Rattle.surrogate_core.specs.declared.step.Step.TheVariants as steps
 use Rattle.surrogate_core.specs.declared.machine.State.{State}
 use Rattle.surrogate_core.specs.declared.machine.State.TheVariants.{Idle as IsIdle, Fetching as IsFetching, Holding as IsHolding}
 use Rattle.surrogate_core.specs.declared.replaying.Held.{Held}
-use Rattle.surrogate_core.specs.Handling.{Held as HeldEffects, Phase, Idle, Fetching, Holding, Reaction, Round, IsRound, Handled, held_by, runs_of}
+use Rattle.surrogate_core.specs.Handling.{Held as HeldEffects, Phase, Idle, Fetching, Holding, Reaction, Round, IsRound, Handled, held_by, runs_of_job}
 use Rattle.surrogate_core.specs.Serving.{MayAsk, failed_step}
 
 -- ---- the machine's fields
@@ -47,9 +47,9 @@ reaction_of step state copy = record { step = step; after = record { copy = copy
 
 -- ---- parts of messages
 
-abbrev pub operation : Message → Option (ℕ × SketchEntry)
-operation (Operate client sketched) = Some (client, sketched)
-operation message = None
+abbrev pub operation_in : Message → Option (ℕ × SketchEntry)
+operation_in (Operate client sketched) = Some (client, sketched)
+operation_in message = None
 
 abbrev pub snapshot_rows : Message → Option Volume
 snapshot_rows (Snapshot client number last rows) = Some rows
@@ -81,7 +81,7 @@ IsConcluded client sketched (Err cause) step state = (step ≡ steps.Answer (Dec
 -- memory was wanted before a run, or behind it
 pub record Starves (work : List ℕ) (job : Result Job Cause) (old new : RunnerTelling) : Type 0 where
   pub ran : Option Outcome
-  pub told : HasRun (runs_of work job ran) 0 old new
+  pub told : HasRun (runs_of_job work job ran) 0 old new
 
 -- ---- serving
 

@@ -64,14 +64,14 @@ pub record IsDoneBy (client : ℕ) (sketched : SketchEntry) (copy : Volume) (ask
   pub copy_is : apply_all 0 effects tried ≡ Ok after
 
 -- the answer is of the operation; a decline leaves the tried copy as it was, and Done leaves it with what was accepted
-abbrev pub EndsAs : ℕ → SketchEntry → Volume → List Ask → Volume → Message → Type 0
-EndsAs client sketched copy asks after (messages.Declined of number cause) = (of ≡ client) × (number ≡ sketched.seq) × IsTried copy asks after
-EndsAs client sketched copy asks after (messages.Done of number) = (of ≡ client) × (number ≡ sketched.seq) × IsDoneBy client sketched copy asks after
-EndsAs client sketched copy asks after reply = ⊥
+abbrev pub EndsOperation : ℕ → SketchEntry → Volume → List Ask → Volume → Message → Type 0
+EndsOperation client sketched copy asks after (messages.Declined of number cause) = (of ≡ client) × (number ≡ sketched.seq) × IsTried copy asks after
+EndsOperation client sketched copy asks after (messages.Done of number) = (of ≡ client) × (number ≡ sketched.seq) × IsDoneBy client sketched copy asks after
+EndsOperation client sketched copy asks after reply = ⊥
 
 abbrev pub HandlingsKeepTheCopy : Type 0
 HandlingsKeepTheCopy = (server work : List ℕ) (copy after : Volume) (client : ℕ) (sketched : SketchEntry) (runs : List Run) (asks : List Ask) (reply : Message)
-    → Handling server work copy client sketched runs asks reply after → EndsAs client sketched copy asks after reply
+    → Handling server work copy client sketched runs asks reply after → EndsOperation client sketched copy asks after reply
 
 -- also where memory was wanted
 abbrev pub BrokenHandlingsKeepTheCopy : Type 0

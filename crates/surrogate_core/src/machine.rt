@@ -14,7 +14,7 @@ ghost use Rattle.surrogate_core.specs.Handling.{Idle, Fetching, IsAsking, idle, 
 ghost use Rattle.surrogate_core.specs.Handling.{closed, refusal_kind, Tries, Operates, AfterJob, Expects, HandlesReply};
 ghost use Rattle.surrogate_core.specs.Handling.{IsSilenced, IsSent};
 ghost use Rattle.surrogate_core.specs.Serving.{Steps, telling, failed_cause, failed_step};
-ghost use Rattle.surrogate_core.specs.Inside.{IsSound, IsConcluded, Starves, reaction_of, operation, snapshot_rows};
+ghost use Rattle.surrogate_core.specs.Inside.{IsSound, IsConcluded, Starves, reaction_of, operation_in, snapshot_rows};
 
 use crate::replaying::{Held, prepare, replay};
 use crate::step::Step;
@@ -450,7 +450,7 @@ fn refusal_kind(reply: &Message) -> Option<u8>
 
 /// The client of an operation, and what it sends in place of an entry.
 pub(crate) fn operation(request: Message) -> Option<(u8, SketchEntry)>
-    ensures { result ≡ operation request }
+    ensures { result ≡ operation_in request }
 {
     match request {
         Message::Operate { client, entry } => Some((client, entry)),

@@ -5,7 +5,7 @@ use Rattle.outside.specs.Outside.{Adds, Rose, RisesWhere}
 use Rattle.outside.specs.Port.{PortTelling}
 use Rattle.program_words.specs.Status.{code}
 use Rattle.program_words.specs.declared.status.Status.TheVariants as statuses
-use Rattle.port_serving.specs.Serving.{Connection, exchanges, frames_taken, UsesAll, UsesFront, line_of}
+use Rattle.port_serving.specs.Serving.{Connection, exchanges, frames_taken, UsesAll, UsesFront, served_line_of}
 use Rattle.tree_values.specs.Tree.{Volume}
 use Rattle.surrogate_prog.specs.declared.run.Stopped.{Stopped}
 use Rattle.surrogate_prog.specs.declared.run.Stopped.TheVariants.{Sink, Memory}
@@ -53,7 +53,7 @@ pub record SurrogateIsBrokenOff (run : SurrogateInvocation) (connections : List 
 
 -- all connections were served, and a front of the last line was written
 abbrev pub SurrogateStopsInLine : SurrogateInvocation → SurrogateTelling → SurrogateTelling → Option (List ℕ) → Option (List ℕ) → Type 0
-SurrogateStopsInLine run old new written now = (connections : List Connection) × (did : Doings) × (bytes : ℕ) × SurrogateIsServed run connections did old new × Adds written now (take bytes (line_of connections))
+SurrogateStopsInLine run old new written now = (connections : List Connection) × (did : Doings) × (bytes : ℕ) × SurrogateIsServed run connections did old new × Adds written now (take bytes (served_line_of connections))
 
 -- a connection was broken off, and nothing was written
 abbrev pub SurrogateStopsInServing : SurrogateInvocation → SurrogateTelling → SurrogateTelling → Option (List ℕ) → Option (List ℕ) → Type 0
@@ -61,7 +61,7 @@ SurrogateStopsInServing run old new written now = (connections : List Connection
 
 -- what a run did by how it ended
 abbrev pub SurrogateRun : SurrogateInvocation → SurrogateTelling → SurrogateTelling → Option (List ℕ) → Option (List ℕ) → Result (Unit {0}) Stopped → Type 0
-SurrogateRun run old new written now (Ok done) = (connections : List Connection) × (did : Doings) × SurrogateIsServed run connections did old new × Adds written now (line_of connections)
+SurrogateRun run old new written now (Ok done) = (connections : List Connection) × (did : Doings) × SurrogateIsServed run connections did old new × Adds written now (served_line_of connections)
 SurrogateRun run old new written now (Err Sink) = SurrogateStopsInLine run old new written now
 SurrogateRun run old new written now (Err Memory) = SurrogateStopsInLine run old new written now ⊎ SurrogateStopsInServing run old new written now
 

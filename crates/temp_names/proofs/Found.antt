@@ -10,14 +10,14 @@ use Rattle.tree_values.specs.Tree.{is_root, is_folder_node}
 use Rattle.tree_values.specs.declared.node.Node.{Node}
 use Rattle.tree_values.specs.declared.node.Node.TheVariants.{Folder, File}
 use Rattle.cmd_capture.specs.declared.job.JobRow.{JobRow}
-use Rattle.cmd_capture.specs.Rows.{is_at, node_in}
+use Rattle.cmd_capture.specs.Rows.{is_job_row_at, node_in}
 use Rattle.mod_log.specs.declared.sketched.SketchEffect.{SketchEffect}
 use Rattle.mod_log.specs.declared.sketched.SketchEffect.TheVariants.{Make, Put, Remove, Move}
 use Rattle.sha2.specs.Sha256.{sha256}
 use Rattle.temp_names.specs.declared.candidate.Candidate.{Candidate}
 use Rattle.temp_names.specs.declared.pairs.Renamed.{Renamed}
 use Rattle.temp_names.specs.Candidates.{candidate, candidate_of_node, candidate_of_effect, with_candidate, in_path_order, client_candidates, replay_candidates}
-use Rattle.temp_names.specs.Rename.{new_path, row_under, kept_rows, renamed_rows}
+use Rattle.temp_names.specs.Rename.{new_path, row_under, unrenamed_rows, renamed_rows}
 use Rattle.temp_names.specs.Renaming.{new_clients}
 use Rattle.temp_names.specs.Laws.{RisesBy}
 use Rattle.temp_names.specs.Inside.{AreSorted, path_of_candidate, path_of_row, path_of_pair}
@@ -29,9 +29,9 @@ use Rattle.temp_names.proofs.Rising.{all_map, rises_filter, in_path_order_rises}
 found_same : (rows sorted : List JobRow) → AreSorted path_of_row rows sorted → (p : FilePath) → node_in sorted p ≡ node_in rows p
 found_same rows sorted are p =
     ap (option_map (λ (row : JobRow). row.node))
-    (first_passing (is_at p) sorted
+    (first_passing (is_job_row_at p) sorted
     ∙ ap (λ (ys : List JobRow). slice_get ys 0) (are.same (record { path = p; node = Folder }))
-    ∙ sym (first_passing (is_at p) rows))
+    ∙ sym (first_passing (is_job_row_at p) rows))
 
 node_same : (templates : List (List ℕ)) (job_rows job : List JobRow) → AreSorted path_of_row job_rows job → (path : FilePath) (node : Node)
     → candidate_of_node templates job path node ≡ candidate_of_node templates job_rows path node
@@ -110,7 +110,7 @@ new_path_same renaming sorted are p =
     ∙ ap (λ (ys : List Renamed). slice_get ys 0) (are.same (record { from = p; to = p }))
     ∙ sym (first_passing (λ r. is_same_path r.from p) renaming))
 
-pub kept_same_rows : (renaming sorted : List Renamed) (rows : List JobRow) → AreSorted path_of_pair renaming sorted → kept_rows sorted rows ≡ kept_rows renaming rows
+pub kept_same_rows : (renaming sorted : List Renamed) (rows : List JobRow) → AreSorted path_of_pair renaming sorted → unrenamed_rows sorted rows ≡ unrenamed_rows renaming rows
 kept_same_rows renaming sorted rows are = λ i. filter (λ row. is_none (new_path_same renaming sorted are row.path i)) rows
 
 pub renamed_same_rows : (renaming sorted : List Renamed) (rows : List JobRow) → AreSorted path_of_pair renaming sorted → renamed_rows sorted rows ≡ renamed_rows renaming rows

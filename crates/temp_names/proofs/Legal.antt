@@ -16,13 +16,13 @@ use Rattle.tree_values.specs.Tree.{is_root, is_folder_node}
 use Rattle.tree_values.specs.declared.node.Node.{Node}
 use Rattle.tree_values.specs.declared.node.Node.TheVariants.{Folder, File}
 use Rattle.cmd_capture.specs.declared.job.JobRow.{JobRow}
-use Rattle.cmd_capture.specs.Rows.{node_in, is_folder_in, AreInOrder, IsJobRow, AreJobRows}
+use Rattle.cmd_capture.specs.Rows.{node_in, is_folder_in, JobRowsAreInOrder, IsJobRow, AreJobRows}
 use Rattle.mod_log.specs.Sketched.{sketch_paths, sketches_touch}
 use Rattle.mod_log.specs.declared.sketched.SketchEffect.{SketchEffect}
 use Rattle.mod_log.specs.declared.sketched.SketchEffect.TheVariants.{Put}
 use Rattle.temp_names.specs.declared.pairs.Renamed.{Renamed}
 use Rattle.temp_names.specs.Renaming.{renaming}
-use Rattle.temp_names.specs.Rename.{new_path, row_under, kept_rows, renamed_rows, with_job_row, with_job_rows, rename}
+use Rattle.temp_names.specs.Rename.{new_path, row_under, unrenamed_rows, renamed_rows, with_job_row, with_job_rows, rename}
 use Rattle.temp_names.specs.Laws.{RisesBy, IsOfNewFiles, IsOfUnequal, IsWithinGroup, MovesContents, RenamingsMoveContents, RenamedRowsAreLegal}
 use Rattle.temp_names.proofs.Rising.{some_same, some_of, less_differs, all_filter, all_passing, all_in, all_map, all_both, holds_in, in_filter, in_found, one_item, rises_filter, rises_around, rows_rise}
 use Rattle.temp_names.proofs.Sides.{stands, row_there, in_front, in_back, row_of}
@@ -31,7 +31,7 @@ use Rattle.temp_names.proofs.Once.{one_to_one}
 
 -- ---- rows put at their places
 
-rise_order : (rows : List JobRow) → RisesBy (λ row. row.path) rows → AreInOrder rows
+rise_order : (rows : List JobRow) → RisesBy (λ row. row.path) rows → JobRowsAreInOrder rows
 rise_order [] up = tt
 rise_order (row ∷ rows) up = (up.0, rise_order rows up.1)
 
@@ -44,8 +44,8 @@ above a b not_below differ = by (path_cmp a b) refl
     by Equal e = absurd (differ (same_path a b e))
     by Greater e = paths_total.antisymm b a ∙ ap ordering_reverse e
 
-put_in_order : (new : JobRow) (rows : List JobRow) → AreInOrder rows → AllByRecursion (λ row. row.path ≡ new.path → ⊥) rows
-    → AreInOrder (with_job_row new rows)
+put_in_order : (new : JobRow) (rows : List JobRow) → JobRowsAreInOrder rows → AllByRecursion (λ row. row.path ≡ new.path → ⊥) rows
+    → JobRowsAreInOrder (with_job_row new rows)
 put_in_order new rows up apart =
     rise_order (with_job_row new rows)
     (rises_around (λ row. row.path) new _ _
@@ -147,8 +147,8 @@ all_in_rows (new ∷ more) rows row among = by (all_in_rows more (with_job_row n
 abbrev paths : List JobRow → List FilePath
 paths rows = map (λ row. row.path) rows
 
-more_in_order : (more rows : List JobRow) → AreInOrder rows → NoneTwice (paths more)
-    → ((x y : JobRow) → IsIn x more → IsIn y rows → x.path ≡ y.path → ⊥) → AreInOrder (with_job_rows more rows)
+more_in_order : (more rows : List JobRow) → JobRowsAreInOrder rows → NoneTwice (paths more)
+    → ((x y : JobRow) → IsIn x more → IsIn y rows → x.path ≡ y.path → ⊥) → JobRowsAreInOrder (with_job_rows more rows)
 unfolding with_job_rows
 more_in_order [] rows up once apart = up
 more_in_order (new ∷ more) rows up once apart =
@@ -189,7 +189,7 @@ under_parts row x (Some to) e =
     let same = some_same (row_under to row) x e in
     (ap some_of (ap (λ (y : JobRow). y.path) same), ap (λ (y : JobRow). y.node) same)
 
-module _ (pairs : List Renamed) (rows : List JobRow) (up : AreInOrder rows)
+module _ (pairs : List Renamed) (rows : List JobRow) (up : JobRowsAreInOrder rows)
     (froms : NoneTwice (map (λ pair. pair.from) pairs)) (tos : RisesBy (λ pair. pair.to) pairs)
     (files : AllByRecursion (λ pair. (content : List ℕ) × (node_in rows pair.from ≡ Some (File content))) pairs)
     (free : AllByRecursion (λ pair. node_in rows pair.to ≡ None) pairs) where
@@ -210,7 +210,7 @@ module _ (pairs : List Renamed) (rows : List JobRow) (up : AreInOrder rows)
       let b = new_found pairs q to f in
       sym a.2 ∙ ap (λ (r : Renamed). r.from) (one_item (λ (r : Renamed). r.to) pairs a.0 b.0 tos a.1 b.1 (a.3 ∙ sym b.3)) ∙ b.2
 
-  renamed_once : (xs : List JobRow) → AreInOrder xs → NoneTwice (paths (renamed_rows pairs xs))
+  renamed_once : (xs : List JobRow) → JobRowsAreInOrder xs → NoneTwice (paths (renamed_rows pairs xs))
   renamed_once [] in_order = tt
   renamed_once (row ∷ xs) in_order =
       elim (new_path pairs row.path) as (λ o. new_path pairs row.path ≡ o
@@ -231,10 +231,10 @@ module _ (pairs : List Renamed) (rows : List JobRow) (up : AreInOrder rows)
       let pair = new_found pairs path to e in
       subst (λ p. node_in rows p ≡ None) pair.3 (holds_in (λ r. node_in rows r.to ≡ None) pairs pair.0 free pair.1)
 
-  after_in_order : AreInOrder after
+  after_in_order : JobRowsAreInOrder after
   after_in_order =
-      more_in_order (renamed_rows pairs rows) (kept_rows pairs rows)
-      (rise_order (kept_rows pairs rows) (rises_filter (λ row. row.path) (λ row. is_none (new_path pairs row.path)) rows (rows_rise rows up)))
+      more_in_order (renamed_rows pairs rows) (unrenamed_rows pairs rows)
+      (rise_order (unrenamed_rows pairs rows) (rises_filter (λ row. row.path) (λ row. is_none (new_path pairs row.path)) rows (rows_rise rows up)))
       (renamed_once rows up)
       (λ x y in_x in_y same.
       let from = renamed_from rows x in_x in
@@ -254,9 +254,9 @@ module _ (pairs : List Renamed) (rows : List JobRow) (up : AreInOrder rows)
   none_is (Some x) e = absurd cc
 
   row_after : (x : JobRow) → IsIn x after → IsRenamedAt x.path x.node ⊎ IsKeptAt x.path x.node
-  row_after x among = by (all_in_rows (renamed_rows pairs rows) (kept_rows pairs rows) x among)
+  row_after x among = by (all_in_rows (renamed_rows pairs rows) (unrenamed_rows pairs rows) x among)
     where
-      by : IsIn x (renamed_rows pairs rows) ⊎ IsIn x (kept_rows pairs rows) → IsRenamedAt x.path x.node ⊎ IsKeptAt x.path x.node
+      by : IsIn x (renamed_rows pairs rows) ⊎ IsIn x (unrenamed_rows pairs rows) → IsRenamedAt x.path x.node ⊎ IsKeptAt x.path x.node
       by (inl renamed) =
           let from = renamed_from rows x renamed in
           let pair = new_found pairs from.0.path x.path from.2 in
@@ -268,14 +268,14 @@ module _ (pairs : List Renamed) (rows : List JobRow) (up : AreInOrder rows)
   kept_stands : (path : FilePath) (node : Node) → IsKeptAt path node → node_in after path ≡ Some node
   kept_stands path node kept =
       stands after (row_of path node) after_in_order
-      (rest_in (renamed_rows pairs rows) (kept_rows pairs rows) (row_of path node)
+      (rest_in (renamed_rows pairs rows) (unrenamed_rows pairs rows) (row_of path node)
       (in_filter (λ row. is_none (new_path pairs row.path)) rows (row_of path node) kept.1 (ap is_none kept.0)))
 
   moved_stands : (pair : Renamed) (node : Node) → IsIn pair pairs → node_in rows pair.from ≡ Some node → node_in after pair.to ≡ Some node
   moved_stands pair node among at_from =
       let goes : option_map (λ to. row_under to (row_of pair.from node)) (new_path pairs pair.from) ≡ Some (row_of pair.to node) = rw (new_is pairs pair froms among) refl in
       stands after (row_of pair.to node) after_in_order
-      (more_in (renamed_rows pairs rows) (kept_rows pairs rows) (row_of pair.to node)
+      (more_in (renamed_rows pairs rows) (unrenamed_rows pairs rows) (row_of pair.to node)
       (in_found (λ row. option_map (λ to. row_under to row) (new_path pairs row.path)) rows (row_of pair.from node) (row_of pair.to node)
       (row_there rows pair.from node at_from) goes))
 
@@ -384,7 +384,7 @@ module _ (pairs : List Renamed) (rows : List JobRow) (up : AreInOrder rows)
 
 -- ---- the laws
 
-module _ (templates : List (List ℕ)) (effects : List SketchEffect) (job_rows rows : List JobRow) (up : AreInOrder rows) where
+module _ (templates : List (List ℕ)) (effects : List SketchEffect) (job_rows rows : List JobRow) (up : JobRowsAreInOrder rows) where
   abbrev given : List Renamed
   given = renaming templates effects job_rows rows
 

@@ -3,7 +3,7 @@ use Rattle.std.proofs.Common.{◌≡◌, ℕ, ◌+◌, ◌<◌, ◌∙◌, Optio
 use Rattle.std.specs.List.{filter_map}
 use Rattle.std.specs.Option.{option_to_list}
 use Rattle.cmd_capture.specs.declared.job.JobRow.{JobRow}
-use Rattle.temp_names.specs.Rename.{new_path, row_under, kept_rows, renamed_rows, with_job_row, with_job_rows}
+use Rattle.temp_names.specs.Rename.{new_path, row_under, unrenamed_rows, renamed_rows, with_job_row, with_job_rows}
 use Rattle.temp_names.specs.declared.pairs.Renamed.{Renamed}
 use Rattle.std.proofs.lemmas.List.{take_more}
 use Rattle.std.proofs.lemmas.List.Elements.{filter_map-append, filter-append}
@@ -42,10 +42,10 @@ with_job_rows_none rows = refl
 
 -- one more row that keeps its path, or gets a new one
 module _ (renaming : List Renamed) (rows : List JobRow) (row : JobRow) where
-  pub kept_more : new_path renaming row.path ≡ None → kept_rows renaming (rows ++ row ∷ []) ≡ kept_rows renaming rows ++ row ∷ []
+  pub kept_more : new_path renaming row.path ≡ None → unrenamed_rows renaming (rows ++ row ∷ []) ≡ unrenamed_rows renaming rows ++ row ∷ []
   kept_more e = filter-append _ rows (row ∷ []) ∙ (rw e refl)
 
-  pub kept_same : (to : List (List ℕ)) → new_path renaming row.path ≡ Some to → kept_rows renaming (rows ++ row ∷ []) ≡ kept_rows renaming rows
+  pub kept_same : (to : List (List ℕ)) → new_path renaming row.path ≡ Some to → unrenamed_rows renaming (rows ++ row ∷ []) ≡ unrenamed_rows renaming rows
   kept_same to e = filter-append _ rows (row ∷ []) ∙ (rw e (append-nil _))
 
   pub renamed_more : (to : List (List ℕ)) → new_path renaming row.path ≡ Some to

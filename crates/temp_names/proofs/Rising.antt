@@ -11,7 +11,7 @@ use Rattle.file_paths.specs.Path.{FilePath, path_cmp}
 use Rattle.file_paths.proofs.Order.{paths_total, is_less, paths_differ}
 use Rattle.tree_values.specs.Lists.{IsIn, NoneTwice}
 use Rattle.cmd_capture.specs.declared.job.JobRow.{JobRow}
-use Rattle.cmd_capture.specs.Rows.{AreInOrder}
+use Rattle.cmd_capture.specs.Rows.{JobRowsAreInOrder}
 use Rattle.temp_names.specs.declared.candidate.Candidate.{Candidate}
 use Rattle.temp_names.specs.Candidates.{in_path_order}
 use Rattle.temp_names.specs.Laws.{RisesBy}
@@ -147,7 +147,7 @@ in_path_order_rises (c ∷ cs) =
     (rises_filter (λ d. d.path) _ (in_path_order cs) (in_path_order_rises cs))
     (rises_filter (λ d. d.path) _ (in_path_order cs) (in_path_order_rises cs))
 
-pub rows_rise : (rows : List JobRow) → AreInOrder rows → RisesBy (λ row. row.path) rows
+pub rows_rise : (rows : List JobRow) → JobRowsAreInOrder rows → RisesBy (λ row. row.path) rows
 rows_rise [] up = tt
 rows_rise (row ∷ rows) up = (up.0, rows_rise rows up.1)
 

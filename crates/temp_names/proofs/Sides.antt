@@ -13,7 +13,7 @@ use Rattle.tree_values.specs.Lists.{IsIn}
 use Rattle.tree_values.specs.declared.node.Node.{Node}
 use Rattle.tree_values.specs.declared.node.Node.TheVariants.{Folder, File}
 use Rattle.cmd_capture.specs.declared.job.JobRow.{JobRow}
-use Rattle.cmd_capture.specs.Rows.{node_in, is_at, is_folder_in, AreInOrder}
+use Rattle.cmd_capture.specs.Rows.{node_in, is_job_row_at, is_folder_in, JobRowsAreInOrder}
 use Rattle.mod_log.specs.declared.sketched.SketchEffect.{SketchEffect}
 use Rattle.mod_log.specs.declared.sketched.SketchEffect.TheVariants.{Make, Put, Remove, Move}
 use Rattle.temp_names.specs.declared.candidate.Candidate.{Candidate}
@@ -46,7 +46,7 @@ any_in path (d ∷ cs) c (inr among) same = or_true (has_path path d) _ (any_in 
 -- ---- rows
 
 -- a row in order is what stands at its path
-standing : (rows : List JobRow) → AreInOrder rows → AllByRecursion (λ row. node_in rows row.path ≡ Some row.node) rows
+standing : (rows : List JobRow) → JobRowsAreInOrder rows → AllByRecursion (λ row. node_in rows row.path ≡ Some row.node) rows
 standing [] up = tt
 standing (row ∷ rows) up = (
   rw (own_path row.path) refl,
@@ -54,7 +54,7 @@ standing (row ∷ rows) up = (
       (λ next so. rw (ap is_eq so.0) so.1) rows (all_both (λ next. path_cmp row.path next.path ≡ Less) (λ next. node_in rows next.path ≡ Some next.node) rows up.0 (standing rows up.1)),
 )
 
-pub stands : (rows : List JobRow) (row : JobRow) → AreInOrder rows → IsIn row rows → node_in rows row.path ≡ Some row.node
+pub stands : (rows : List JobRow) (row : JobRow) → JobRowsAreInOrder rows → IsIn row rows → node_in rows row.path ≡ Some row.node
 stands rows row up among = holds_in (λ r. node_in rows r.path ≡ Some r.node) rows row (standing rows up) among
 
 abbrev pub row_of : FilePath → Node → JobRow
@@ -63,7 +63,7 @@ row_of path node = record { path = path; node = node }
 pub row_there : (rows : List JobRow) (path : FilePath) (node : Node) → node_in rows path ≡ Some node → IsIn (row_of path node) rows
 row_there [] path node e = absurd (none-some node e)
 row_there (row ∷ rows) path node e =
-    elim (is_at path row) as (λ b. is_at path row ≡ b → option_map (λ r. r.node) (cond b (Some row) (find (is_at path) rows)) ≡ Some node
+    elim (is_job_row_at path row) as (λ b. is_job_row_at path row ≡ b → option_map (λ r. r.node) (cond b (Some row) (find (is_job_row_at path) rows)) ≡ Some node
     → IsIn (row_of path node) (row ∷ rows)) [
       | true ↦ λ so f. inl (λ i. row_of (sym (tied_path row.path path so) i) (sym (some_same row.node node f) i))
       | false ↦ λ so f. inr (row_there rows path node f)

@@ -7,7 +7,7 @@ use Rattle.file_paths.specs.Path.{FilePath, IsPath, path_cmp, folder_of, last_na
 use Rattle.tree_values.specs.Lists.{IsIn, NoneTwice}
 use Rattle.tree_values.specs.declared.node.Node.TheVariants.{File}
 use Rattle.cmd_capture.specs.declared.job.JobRow.{JobRow}
-use Rattle.cmd_capture.specs.Rows.{node_in, is_folder_in, AreInOrder, AreJobRows}
+use Rattle.cmd_capture.specs.Rows.{node_in, is_folder_in, JobRowsAreInOrder, AreJobRows}
 use Rattle.mod_log.specs.Sketched.{sketches_touch}
 use Rattle.mod_log.specs.declared.sketched.SketchEffect.{SketchEffect}
 use Rattle.mod_log.specs.declared.sketched.SketchEffect.TheVariants.{Put}
@@ -32,7 +32,7 @@ pub record IsOneToOne (pairs : List Renamed) : Type 0 where
   pub in_order : RisesBy (λ pair. pair.to) pairs
 
 abbrev pub RenamingsAreOneToOne : Type 0
-RenamingsAreOneToOne = (templates : List (List ℕ)) (effects : List SketchEffect) (job_rows rows : List JobRow) → AreInOrder rows
+RenamingsAreOneToOne = (templates : List (List ℕ)) (effects : List SketchEffect) (job_rows rows : List JobRow) → JobRowsAreInOrder rows
     → IsOneToOne (renaming templates effects job_rows rows)
 
 -- ---- only within a group
@@ -66,7 +66,7 @@ pub record IsOfNewFiles (effects : List SketchEffect) (job_rows rows : List JobR
   pub to_is : IsNewPut effects job_rows rows pair.to
 
 abbrev pub OnlyNewFilesAreRenamed : Type 0
-OnlyNewFilesAreRenamed = (templates : List (List ℕ)) (effects : List SketchEffect) (job_rows rows : List JobRow) → AreInOrder rows
+OnlyNewFilesAreRenamed = (templates : List (List ℕ)) (effects : List SketchEffect) (job_rows rows : List JobRow) → JobRowsAreInOrder rows
     → AllByRecursion (IsOfNewFiles effects job_rows rows) (renaming templates effects job_rows rows)
 
 -- ---- equal paths stay
@@ -77,7 +77,7 @@ pub record IsOfUnequal (effects : List SketchEffect) (job_rows rows : List JobRo
   pub to_is_no_file : IsNewFile job_rows rows pair.to → ⊥
 
 abbrev pub EqualPathsStay : Type 0
-EqualPathsStay = (templates : List (List ℕ)) (effects : List SketchEffect) (job_rows rows : List JobRow) → AreInOrder rows
+EqualPathsStay = (templates : List (List ℕ)) (effects : List SketchEffect) (job_rows rows : List JobRow) → JobRowsAreInOrder rows
     → AllByRecursion (IsOfUnequal effects job_rows rows) (renaming templates effects job_rows rows)
 
 -- ---- the renamed rows
@@ -90,7 +90,7 @@ pub record MovesContents (pairs : List Renamed) (before after : List JobRow) : T
       → node_in after path ≡ node_in before path
 
 abbrev pub RenamingsMoveContents : Type 0
-RenamingsMoveContents = (templates : List (List ℕ)) (effects : List SketchEffect) (job_rows rows : List JobRow) → AreInOrder rows
+RenamingsMoveContents = (templates : List (List ℕ)) (effects : List SketchEffect) (job_rows rows : List JobRow) → JobRowsAreInOrder rows
     → MovesContents (renaming templates effects job_rows rows) rows (rename (renaming templates effects job_rows rows) rows)
 
 -- rows of a job stay rows of one, where what the client put stands at paths

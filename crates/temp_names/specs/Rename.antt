@@ -13,8 +13,8 @@ new_path renaming path = option_map (λ r. r.to) (find (λ r. is_same_path r.fro
 abbrev pub row_under : FilePath → JobRow → JobRow
 row_under path row = record { path = path; node = row.node }
 
-abbrev pub kept_rows : List Renamed → List JobRow → List JobRow
-kept_rows renaming rows = filter (λ row. is_none (new_path renaming row.path)) rows
+abbrev pub unrenamed_rows : List Renamed → List JobRow → List JobRow
+unrenamed_rows renaming rows = filter (λ row. is_none (new_path renaming row.path)) rows
 
 abbrev pub renamed_rows : List Renamed → List JobRow → List JobRow
 renamed_rows renaming rows = filter_map (λ row. option_map (λ to. row_under to row) (new_path renaming row.path)) rows
@@ -30,4 +30,4 @@ with_job_rows (new ∷ more) rows = with_job_rows more (with_job_row new rows)
 
 -- each path that has a new one becomes it, and the rows are in path order again
 abbrev pub rename : List Renamed → List JobRow → List JobRow
-rename renaming rows = with_job_rows (renamed_rows renaming rows) (kept_rows renaming rows)
+rename renaming rows = with_job_rows (renamed_rows renaming rows) (unrenamed_rows renaming rows)

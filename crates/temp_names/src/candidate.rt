@@ -63,7 +63,7 @@ fn candidate_at(
 /// The row of a path.
 fn row_at<'a>(rows: &'a [JobRow], path: &Path) -> Option<&'a JobRow>
     requires { Rises path_of_row rows.now }
-    ensures { option_copied result ≡ find (at_paths.is_at path.now) rows.now }
+    ensures { option_copied result ≡ find (at_paths.is_job_row_at path.now) rows.now }
 {
     rows_at(rows, path).first()
 }

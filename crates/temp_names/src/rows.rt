@@ -68,7 +68,7 @@ fn parted(
     renaming: &[Renamed],
 ) -> Result<(Vec<JobRow>, Vec<JobRow>), AllocError>
     requires { Rises path_of_pair renaming.now }
-    ensures kept { IfOk result (λ parts. parts.0.items ≡ rules.kept_rows renaming.now rows.items) }
+    ensures kept { IfOk result (λ parts. parts.0.items ≡ rules.unrenamed_rows renaming.now rows.items) }
     ensures renamed { IfOk result (λ parts. parts.1.items ≡ rules.renamed_rows renaming.now rows.items) }
 {
     let mut kept = Vec::new(alloc);

@@ -39,7 +39,7 @@ use Rattle.wire_frames.specs.Operation.{sketch_effects_at, sketches_at, operatio
 use Rattle.wire_frames.proofs.OperationLaws.{sketched_effects_codec, both_of, operation_of}
 use Rattle.wire_frames.specs.Frame.{frame_version, kind, client_of, number_of, code_of, client_rule, number_rule, offset_rule, body, frame}
 use Rattle.wire_frames.specs.Reading.{store_at, operate_at, stale_at, unfit_at, full_at, snapshot_at, gap_at, declined_at, malformed_at, body_at, message_at, is_sized, frame_of}
-use Rattle.wire_frames.specs.Broken.{framed, IsRefusedAt, BrokenNumbers, BrokenBodies, LeftBytes}
+use Rattle.wire_frames.specs.Broken.{frame_with, IsRefusedAt, BrokenNumbers, BrokenBodies, LeftBytes}
 use Rattle.wire_frames.proofs.Messages.{tail, number_codec, refusal, message_again}
 use Rattle.wire_frames.proofs.Frames.{are_sized, kind_again}
 use Rattle.wire_frames.proofs.CutFrames.{fails_again}
@@ -48,10 +48,10 @@ use Rattle.wire_frames.proofs.CutFrames.{fails_again}
 
 -- what is refused behind the client is refused in the frame
 frame_refused : (k : Kind) (c n : ℕ) (behind : List ℕ) (offset place : ℕ) → client_rule k c ≡ true → 15 + length behind ≤ max_frame → IsRefused (message_at k c) (digits w64 n ++ behind) offset → 7 + offset ≡ place
-    → frame_of (framed k c n behind) ≡ Err (BadField place)
+    → frame_of (frame_with k c n behind) ≡ Err (BadField place)
 unfolding digits
 frame_refused k c n behind offset place takes short refused e =
-    let bytes : List ℕ = framed k c n behind in
+    let bytes : List ℕ = frame_with k c n behind in
     let tail : List ℕ = digits w64 n ++ behind in
     let told : List ℕ = frame_version ∷ code_of k ∷ c ∷ tail in
     let long : length bytes ≡ 15 + length behind = omega arith in
@@ -219,7 +219,7 @@ unfolding digits
 left_bytes m left valid some short =
     let told : List ℕ = frame_version ∷ code_of (kind m) ∷ client_of m ∷ digits w64 (number_of m) ++ (body m ++ left) in
     let front : List ℕ = digits w32 (length told) ++ (frame_version ∷ code_of (kind m) ∷ client_of m ∷ tail m) in
-    let bytes : List ℕ = framed (kind m) (client_of m) (number_of m) (body m ++ left) in
+    let bytes : List ℕ = frame_with (kind m) (client_of m) (number_of m) (body m ++ left) in
     let both : length (body m ++ left) ≡ length (body m) + length left = length-append (body m) left in
     let size : length (frame m) ≡ 15 + length (body m) = omega arith in
     let long : length bytes ≡ 15 + length (body m ++ left) = omega arith in

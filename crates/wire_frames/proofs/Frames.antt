@@ -16,7 +16,7 @@ use Rattle.wire_frames.specs.declared.message.Kind.TheVariants.{Store, Operate, 
 use Rattle.wire_frames.specs.declared.message.FrameError.{FrameError}
 use Rattle.wire_frames.specs.declared.message.FrameError.TheVariants.{BadLength, BadVersion, BadClient, Trailing}
 use Rattle.wire_frames.specs.Frame.{kind, client_of, code_of, client_rule, payload, frame, IsValid}
-use Rattle.wire_frames.specs.Reading.{message_at, kinds, kind_of, whole, of_kind, is_sized, frame_of, GivesFrame}
+use Rattle.wire_frames.specs.Reading.{message_at, kinds, kind_of, whole, message_of_kind, is_sized, frame_of, GivesFrame}
 use Rattle.wire_frames.proofs.Sizes.{frame_small, payload_small}
 use Rattle.wire_frames.proofs.Messages.{tail, message_found, message_again}
 
@@ -55,7 +55,7 @@ found_first test (x ∷ xs) k e =
 pub kind_found : (code : ℕ) (k : Kind) → kind_of code ≡ Some k → code_of k ≡ code
 kind_found code k e = eqb-true (code_of k) code (found_first (λ x. eqb (code_of x) code) kinds k e)
 
-kind_ok : (o : Option Kind) (bytes : List ℕ) (m : Message) → of_kind o bytes ≡ Ok m → (k : Kind) × (o ≡ Some k) × (client_rule k (get_or bytes 6 0) ≡ true) × (whole bytes (message_at k (get_or bytes 6 0) bytes 7) ≡ Ok m)
+kind_ok : (o : Option Kind) (bytes : List ℕ) (m : Message) → message_of_kind o bytes ≡ Ok m → (k : Kind) × (o ≡ Some k) × (client_rule k (get_or bytes 6 0) ≡ true) × (whole bytes (message_at k (get_or bytes 6 0) bytes 7) ≡ Ok m)
 kind_ok None bytes m e = absurd cc
 kind_ok (Some k) bytes m e = let p = past (client_rule k (get_or bytes 6 0)) (whole bytes (message_at k (get_or bytes 6 0) bytes 7)) BadClient m e in (k, refl, p.0, p.1)
 
@@ -80,9 +80,9 @@ header bytes low =
 pub frame_found : (bytes : List ℕ) (m : Message) → IsBytes bytes → frame_of bytes ≡ Ok m → IsValid m × (bytes ≡ frame m)
 unfolding frame_of digits
 frame_found bytes m fits e =
-    let p = past (is_sized bytes) (cond (eqb (get_or bytes 4 0) 1) (of_kind (kind_of (get_or bytes 5 0)) bytes) (Err BadVersion)) BadLength m e in
+    let p = past (is_sized bytes) (cond (eqb (get_or bytes 4 0) 1) (message_of_kind (kind_of (get_or bytes 5 0)) bytes) (Err BadVersion)) BadLength m e in
     let long = sized bytes p.0 in
-    let v = past (eqb (get_or bytes 4 0) 1) (of_kind (kind_of (get_or bytes 5 0)) bytes) BadVersion m p.1 in
+    let v = past (eqb (get_or bytes 4 0) 1) (message_of_kind (kind_of (get_or bytes 5 0)) bytes) BadVersion m p.1 in
     let version : get_or bytes 4 0 ≡ 1 = eqb-true _ _ v.0 in
     let k = kind_ok (kind_of (get_or bytes 5 0)) bytes m v.1 in
     let r = message_found k.0 (get_or bytes 6 0) k.2 bytes 7 m (length bytes) fits (omega (arith, long.low)) (whole_ok bytes (message_at k.0 (get_or bytes 6 0) bytes 7) m k.3) in

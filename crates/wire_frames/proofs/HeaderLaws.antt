@@ -10,7 +10,7 @@ use Rattle.wire_frames.specs.declared.message.Kind.{Kind}
 use Rattle.wire_frames.specs.declared.message.FrameError.{FrameError}
 use Rattle.wire_frames.specs.declared.message.FrameError.TheVariants.{BadLength, BadVersion, BadKind, BadClient, BadField, Trailing, Memory}
 use Rattle.wire_frames.specs.Frame.{kind, code_of, client_rule, payload, frame}
-use Rattle.wire_frames.specs.Reading.{message_at, kind_of, whole, of_kind, is_sized, frame_of}
+use Rattle.wire_frames.specs.Reading.{message_at, kind_of, whole, message_of_kind, is_sized, frame_of}
 use Rattle.wire_frames.specs.Laws.{LengthIsFirst, VersionIsSecond, KindIsThird, ClientIsFourth, FieldsAreBehindTheClient, MessagesStandBeforeWhatIsLeft}
 use Rattle.wire_frames.proofs.Messages.{message_found, message_fault}
 use Rattle.wire_frames.proofs.Frames.{sized, header, kind_found, kind_again}
@@ -62,7 +62,7 @@ says bytes x e = by (is_sized bytes) (eqb (get_or bytes 4 0) 1) (kind_of (get_or
     client k of false takes e = subst (Says bytes) (error_is BadClient x e) (k, of, takes)
 
     by : (s v : Bool) (o : Option Kind) → is_sized bytes ≡ s → eqb (get_or bytes 4 0) 1 ≡ v → kind_of (get_or bytes 5 0) ≡ o
-        → cond s (cond v (of_kind o bytes) (refused BadVersion)) (refused BadLength) ≡ refused x → Says bytes x
+        → cond s (cond v (message_of_kind o bytes) (refused BadVersion)) (refused BadLength) ≡ refused x → Says bytes x
     by false v o es ev eo e = subst (Says bytes) (error_is BadLength x e) es
     by true false o es ev eo e = subst (Says bytes) (error_is BadVersion x e) (es, ev)
     by true true None es ev eo e = subst (Says bytes) (error_is BadKind x e) (es, ev, eo)

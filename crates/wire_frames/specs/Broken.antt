@@ -30,20 +30,20 @@ use Rattle.wire_frames.specs.Frame.{frame_version, kind, client_of, number_of, c
 use Rattle.wire_frames.specs.Reading.{frame_of}
 
 -- a frame's length and header, and these bytes behind them
-abbrev pub framed : Kind → ℕ → ℕ → List ℕ → List ℕ
-framed kind client number behind =
+abbrev pub frame_with : Kind → ℕ → ℕ → List ℕ → List ℕ
+frame_with kind client number behind =
     let told = frame_version ∷ code_of kind ∷ client ∷ digits w64 number ++ behind in digits w32 (length told) ++ told
 
 -- A message of this kind and number whose body begins so is refused at this place of its frame, whatever follows. The
 -- body begins at byte 15.
 abbrev pub IsRefusedAt : Kind → ℕ → List ℕ → ℕ → Type 0
 IsRefusedAt kind number text place = (client : ℕ) (behind : List ℕ) → client_rule kind client ≡ true → number_rule kind number ≡ true → number < 2 ^ 64 → 15 + length (text ++ behind) ≤ max_frame
-    → frame_of (framed kind client number (text ++ behind)) ≡ Err (BadField place)
+    → frame_of (frame_with kind client number (text ++ behind)) ≡ Err (BadField place)
 
 -- a number that the kind does not have: at the number
 abbrev pub BrokenNumbers : Type 0
 BrokenNumbers = (kind : Kind) (client number : ℕ) (behind : List ℕ) → client_rule kind client ≡ true → number_rule kind number ≡ false → number < 2 ^ 64 → 15 + length behind ≤ max_frame
-    → frame_of (framed kind client number behind) ≡ Err (BadField 7)
+    → frame_of (frame_with kind client number behind) ≡ Err (BadField 7)
 
 pub record BrokenBodies : Type 0 where
   -- effects that are refused: in them
@@ -97,4 +97,4 @@ pub record BrokenCauses : Type 0 where
 -- bytes behind the last field of a valid message: at the first of them
 abbrev pub LeftBytes : Type 0
 LeftBytes = (m : Message) (left : List ℕ) → IsValid m → 1 ≤ length left → length (frame m) + length left ≤ max_frame
-    → frame_of (framed (kind m) (client_of m) (number_of m) (body m ++ left)) ≡ Err (Trailing (length (frame m)))
+    → frame_of (frame_with (kind m) (client_of m) (number_of m) (body m ++ left)) ≡ Err (Trailing (length (frame m)))

@@ -101,9 +101,9 @@ whole bytes (Ok x) = if x.1 == length bytes then Ok x.0 else Err (Trailing x.1)
 whole bytes (Err place) = Err (BadField place)
 
 -- a message of this kind, behind the client's number at byte 6
-abbrev pub of_kind : Option Kind → List ℕ → Result Message FrameError
-of_kind None bytes = Err BadKind
-of_kind (Some kind) bytes =
+abbrev pub message_of_kind : Option Kind → List ℕ → Result Message FrameError
+message_of_kind None bytes = Err BadKind
+message_of_kind (Some kind) bytes =
     let client = slice_index bytes 6 in
     if client_rule kind client then whole bytes (message_at kind client bytes 7) else Err BadClient
 
@@ -117,14 +117,14 @@ is_sized bytes =
 unfoldable pub frame_of : List ℕ → Result Message FrameError
 frame_of bytes =
     if is_sized bytes then
-    (if slice_index bytes 4 == frame_version then of_kind (kind_of (slice_index bytes 5)) bytes else Err BadVersion)
+    (if slice_index bytes 4 == frame_version then message_of_kind (kind_of (slice_index bytes 5)) bytes else Err BadVersion)
     else Err BadLength
 
 -- the refusal that an error names; want of memory is none
-abbrev pub refusal_of : FrameError → Option FrameError
-refusal_of Memory = None
-refusal_of e = Some e
+abbrev pub frame_refusal_of : FrameError → Option FrameError
+frame_refusal_of Memory = None
+frame_refusal_of e = Some e
 
 -- what a call returned is what the bytes come to, unless memory ran out
 abbrev pub GivesFrame : Result Message FrameError → Result Message FrameError → Type 0
-GivesFrame = Answers (λ m. m) refusal_of
+GivesFrame = Answers (λ m. m) frame_refusal_of

@@ -18,7 +18,7 @@ use Rattle.file_paths.proofs.Order.{same_place}
 use Rattle.file_paths.specs.declared.path.PathError.{PathError}
 use Rattle.file_paths.proofs.PathTexts.{path_of_text}
 use Rattle.cmd_capture.specs.Capture.{ok}
-use Rattle.cmd_capture.specs.Rows.{may_follow, read_row, read_rows, next_row, is_legal_at}
+use Rattle.cmd_capture.specs.Rows.{may_follow_rows, read_row, read_rows, next_row, is_legal_at}
 use Rattle.std.proofs.lemmas.Bool.Decides.{nat_tests}
 use Rattle.std.specs.Prelude.{nat_lt}
 use Rattle.file_paths.proofs.Loops.{filter_map_more}
@@ -32,9 +32,9 @@ next_is_read before raw row h = by (read_row raw) h
     kept true r h = h
     kept false r h = absurd (cc)
 
-    by : (o : Option JobRow) → option_and_then (λ row. cond (may_follow before row) (Some row) None) o ≡ Some row → o ≡ Some row
+    by : (o : Option JobRow) → option_and_then (λ row. cond (may_follow_rows before row) (Some row) None) o ≡ Some row → o ≡ Some row
     by None h = absurd (cc)
-    by (Some r) h = kept (may_follow before r) r h
+    by (Some r) h = kept (may_follow_rows before r) r h
 
 found_first : {X Y : Type 0} (h : X → Option Y) (x : X) (xs : List X) → filter_map h (x ∷ xs) ≡ option_to_list (h x) ++ filter_map h xs
 found_first {Y = Y} h x xs = by (h x) (filter_map h xs)
@@ -90,14 +90,14 @@ read_is_path raw row h = by (path_of raw.path) refl h
     by (Err refusal) e h = absurd (cc)
 
 -- the next row may stand behind the others
-pub next_may_follow : (before : List JobRow) (raw : RawRow) (row : JobRow) → next_row before raw ≡ Some row → may_follow before row ≡ true
+pub next_may_follow : (before : List JobRow) (raw : RawRow) (row : JobRow) → next_row before raw ≡ Some row → may_follow_rows before row ≡ true
 next_may_follow before raw row h = by (read_row raw) h
   where
-    kept : (b : Bool) (r : JobRow) → may_follow before r ≡ b → cond b (Some r) None ≡ Some row → may_follow before row ≡ true
-    kept true r e h = let same : r ≡ row = cc in ap (may_follow before) (sym same) ∙ e
+    kept : (b : Bool) (r : JobRow) → may_follow_rows before r ≡ b → cond b (Some r) None ≡ Some row → may_follow_rows before row ≡ true
+    kept true r e h = let same : r ≡ row = cc in ap (may_follow_rows before) (sym same) ∙ e
     kept false r e h = absurd (cc)
 
-    by : (o : Option JobRow) → option_and_then (λ row. cond (may_follow before row) (Some row) None) o ≡ Some row
-        → may_follow before row ≡ true
+    by : (o : Option JobRow) → option_and_then (λ row. cond (may_follow_rows before row) (Some row) None) o ≡ Some row
+        → may_follow_rows before row ≡ true
     by None h = absurd (cc)
-    by (Some r) h = kept (may_follow before r) r refl h
+    by (Some r) h = kept (may_follow_rows before r) r refl h

@@ -15,9 +15,9 @@ use Rattle.tree_values.specs.declared.node.Node.{Node}
 use Rattle.tree_values.specs.declared.node.Row.{Row}
 use Rattle.cmd_capture.specs.declared.command.Command.{Command}
 use Rattle.cmd_capture.specs.declared.job.JobRow.{JobRow}
-use Rattle.cmd_capture.specs.Rows.{node_in, is_folder_in, AreInOrder as JobsInOrder, IsJobRow, AreJobRows}
+use Rattle.cmd_capture.specs.Rows.{node_in, is_folder_in, JobRowsAreInOrder as JobsInOrder, IsJobRow, AreJobRows}
 use Rattle.cmd_capture.specs.Spelling.{RowFits, IsCommand, IsJob}
-use Rattle.work_area.specs.Jobs.{is_within, roots, is_related, is_of_job, job_row}
+use Rattle.work_area.specs.Jobs.{is_within, roots, is_related, is_of_job, job_row_of}
 use Rattle.work_area.specs.Laws.{JobsHaveJobRows}
 use Rattle.work_area.proofs.Holding.{made_there, job_nodes, rows_are}
 
@@ -82,22 +82,22 @@ of_job_up c p h = by (list_any (is_related p) (roots c)) refl h
 module _ (c : Command) where
   -- what holds of a row of the tree and its row of the job
   all_made : (P : Row → Type 0) (Q : JobRow → Type 0)
-      → ((row : Row) (r : JobRow) → P row → job_row c row ≡ Some r → Q r) → (rows : Volume) → AllByRecursion P rows
-      → AllByRecursion Q (filter_map (job_row c) rows)
+      → ((row : Row) (r : JobRow) → P row → job_row_of c row ≡ Some r → Q r) → (rows : Volume) → AllByRecursion P rows
+      → AllByRecursion Q (filter_map (job_row_of c) rows)
   all_made P Q each [] all = tt
-  all_made P Q each (row ∷ rows) all = by (job_row c row) refl (all_made P Q each rows all.1)
+  all_made P Q each (row ∷ rows) all = by (job_row_of c row) refl (all_made P Q each rows all.1)
     where
-      by : (o : Option JobRow) → job_row c row ≡ o → AllByRecursion Q (filter_map (job_row c) rows)
-          → AllByRecursion Q (cons_option o (filter_map (job_row c) rows))
+      by : (o : Option JobRow) → job_row_of c row ≡ o → AllByRecursion Q (filter_map (job_row_of c) rows)
+          → AllByRecursion Q (cons_option o (filter_map (job_row_of c) rows))
       by None e more = more
       by (Some r) e more = (each row r all.0 e, more)
 
-  in_order : (rows : Volume) → AreInOrder rows → JobsInOrder (filter_map (job_row c) rows)
+  in_order : (rows : Volume) → AreInOrder rows → JobsInOrder (filter_map (job_row_of c) rows)
   in_order [] order = tt
-  in_order (row ∷ rows) order = by (job_row c row) refl (in_order rows order.1)
+  in_order (row ∷ rows) order = by (job_row_of c row) refl (in_order rows order.1)
     where
-      by : (o : Option JobRow) → job_row c row ≡ o → JobsInOrder (filter_map (job_row c) rows)
-          → JobsInOrder (cons_option o (filter_map (job_row c) rows))
+      by : (o : Option JobRow) → job_row_of c row ≡ o → JobsInOrder (filter_map (job_row_of c) rows)
+          → JobsInOrder (cons_option o (filter_map (job_row_of c) rows))
       by None e more = more
       by (Some r) e more =
           let here = (made_there c row r e).0 in (
@@ -107,21 +107,21 @@ module _ (c : Command) where
             more,
           )
 
-  few : (rows : Volume) → length (filter_map (job_row c) rows) ≤ length rows
+  few : (rows : Volume) → length (filter_map (job_row_of c) rows) ≤ length rows
   few [] = omega arith
-  few (row ∷ rows) = by (job_row c row) (few rows)
+  few (row ∷ rows) = by (job_row_of c row) (few rows)
     where
-      by : (o : Option JobRow) → length (filter_map (job_row c) rows) ≤ length rows
-          → length (cons_option o (filter_map (job_row c) rows)) ≤ length (row ∷ rows)
+      by : (o : Option JobRow) → length (filter_map (job_row_of c) rows) ≤ length rows
+          → length (cons_option o (filter_map (job_row_of c) rows)) ≤ length (row ∷ rows)
       by None more = omega (arith, more)
       by (Some r) more = omega (arith, more)
 
-  is_job_row : (row : Row) (r : JobRow) → IsRow row → job_row c row ≡ Some r → IsJobRow r
+  is_job_row : (row : Row) (r : JobRow) → IsRow row → job_row_of c row ≡ Some r → IsJobRow r
   is_job_row row r is e =
       let there = (made_there c row r e).0 in
       record { is_path = subst (λ p. IsPath p) (sym there) is.is_path; below_root = ap is_root there ∙ is.below_root }
 
-  row_fits : (row : Row) (r : JobRow) → IsRow row → job_row c row ≡ Some r → RowFits r
+  row_fits : (row : Row) (r : JobRow) → IsRow row → job_row_of c row ≡ Some r → RowFits r
   row_fits row r is e =
       let there = made_there c row r e in
       record {
@@ -130,7 +130,7 @@ module _ (c : Command) where
         bytes = subst (λ n. IsBytes (file_bytes n)) there.1 is.bytes;
       }
 
-  pub job_rows_formed : (tree : Volume) → IsTree tree → AreJobRows (filter_map (job_row c) tree)
+  pub job_rows_formed : (tree : Volume) → IsTree tree → AreJobRows (filter_map (job_row_of c) tree)
   job_rows_formed tree is = record {
     in_order = in_order tree is.in_order;
     each = all_made IsRow IsJobRow is_job_row tree is.each;
@@ -138,20 +138,20 @@ module _ (c : Command) where
   }
     where
       by : (path : FilePath) (b : Bool) → is_of_job c path ≡ b
-          → is_some (node_in (filter_map (job_row c) tree) path) ≡ true
-          → is_folder_in (filter_map (job_row c) tree) (folder_of path) ≡ true
+          → is_some (node_in (filter_map (job_row_of c) tree) path) ≡ true
+          → is_folder_in (filter_map (job_row_of c) tree) (folder_of path) ≡ true
       by path false e some =
-          let none : node_in (filter_map (job_row c) tree) path ≡ None =
+          let none : node_in (filter_map (job_row_of c) tree) path ≡ None =
           job_nodes c tree is.in_order path ∙ ap (λ b. cond b (node_at tree path) None) e in
           absurd (true≢false (sym some ∙ ap is_some none))
       by path true e some =
-          let here : node_in (filter_map (job_row c) tree) path ≡ node_at tree path =
+          let here : node_in (filter_map (job_row_of c) tree) path ≡ node_at tree path =
           job_nodes c tree is.in_order path ∙ ap (λ b. cond b (node_at tree path) None) e in
-          let above : node_in (filter_map (job_row c) tree) (folder_of path) ≡ node_at tree (folder_of path) =
+          let above : node_in (filter_map (job_row_of c) tree) (folder_of path) ≡ node_at tree (folder_of path) =
           job_nodes c tree is.in_order (folder_of path) ∙ ap (λ b. cond b (node_at tree (folder_of path)) None) (of_job_up c path e) in
           ap (λ n. is_root (folder_of path) || is_folder_node n) above ∙ is.in_folders path (sym (ap is_some here) ∙ some)
 
-  pub job_fits : (tree : Volume) → IsTree tree → IsCommand c → IsJob (record { command = c; rows = filter_map (job_row c) tree })
+  pub job_fits : (tree : Volume) → IsTree tree → IsCommand c → IsJob (record { command = c; rows = filter_map (job_row_of c) tree })
   job_fits tree is fits = record {
     command_is = fits;
     rows = all_made IsRow RowFits row_fits tree is.each;

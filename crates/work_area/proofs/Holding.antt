@@ -22,14 +22,14 @@ use Rattle.file_paths.proofs.Refusals.{value_unrefused}
 use Rattle.cmd_capture.specs.declared.command.Command.{Command}
 use Rattle.cmd_capture.specs.declared.job.Job.{Job}
 use Rattle.cmd_capture.specs.declared.job.JobRow.{JobRow}
-use Rattle.cmd_capture.specs.Rows.{is_at, node_in}
-use Rattle.work_area.specs.Jobs.{is_of_job, job_row, refusals, job_of}
+use Rattle.cmd_capture.specs.Rows.{is_job_row_at, node_in}
+use Rattle.work_area.specs.Jobs.{is_of_job, job_row_of, job_refusals, job_of}
 use Rattle.work_area.specs.Laws.{JobsHoldTheTree}
 
 -- ---- one row
 
 -- a row of the job stands at the path of the tree's
-pub made_there : (c : Command) (row : Row) (r : JobRow) → job_row c row ≡ Some r → (r.path ≡ row.path) × (row.node ≡ Some r.node)
+pub made_there : (c : Command) (row : Row) (r : JobRow) → job_row_of c row ≡ Some r → (r.path ≡ row.path) × (row.node ≡ Some r.node)
 made_there c row r h = by (is_of_job c row.path) row.node refl h
   where
     by : (b : Bool) (o : Option Node) → row.node ≡ o
@@ -57,35 +57,35 @@ none_above p rows all = ap (option_and_then (λ row. row.node)) (find_none (λ r
 
 module _ (c : Command) where
   skipped : (row : Row) (rows : List JobRow) (path : FilePath) → is_same_path row.path path ≡ false
-      → node_in (cons_option (job_row c row) rows) path ≡ node_in rows path
-  skipped row rows path e = by (job_row c row) refl
+      → node_in (cons_option (job_row_of c row) rows) path ≡ node_in rows path
+  skipped row rows path e = by (job_row_of c row) refl
     where
-      by : (o : Option JobRow) → job_row c row ≡ o → node_in (cons_option o rows) path ≡ node_in rows path
+      by : (o : Option JobRow) → job_row_of c row ≡ o → node_in (cons_option o rows) path ≡ node_in rows path
       by None h = refl
       by (Some r) h =
-          let other : is_at path r ≡ false = ap (λ p. is_same_path p path) (made_there c row r h).0 ∙ e in
+          let other : is_job_row_at path r ≡ false = ap (λ p. is_same_path p path) (made_there c row r h).0 ∙ e in
           rw other refl
 
   -- the first row stands at the path
   first_there : (row : Row) (rows : Volume) (path : FilePath) → row.path ≡ path
       → AllByRecursion (λ next. path_cmp row.path next.path ≡ Less) rows
-      → node_in (filter_map (job_row c) rows) path ≡ cond (is_of_job c path) (node_at rows path) None
+      → node_in (filter_map (job_row_of c) rows) path ≡ cond (is_of_job c path) (node_at rows path) None
       → (b : Bool) (o : Option Node) → is_of_job c row.path ≡ b → row.node ≡ o
-      → node_in (cons_option (job_row c row) (filter_map (job_row c) rows)) path ≡ cond b o None
+      → node_in (cons_option (job_row_of c row) (filter_map (job_row_of c) rows)) path ≡ cond b o None
   first_there row rows path there above more true (Some n) eb eo =
-      let made : job_row c row ≡ Some (record { path = row.path; node = n }) = rw (eb, eo) refl in
+      let made : job_row_of c row ≡ Some (record { path = row.path; node = n }) = rw (eb, eo) refl in
       let here : is_same_path row.path path ≡ true = subst (λ q. is_same_path row.path q ≡ true) there (own_path row.path) in
       rw (made, here) refl
   first_there row rows path there above more true None eb eo =
-      let made : job_row c row ≡ None = rw (eb, eo) refl in
+      let made : job_row_of c row ≡ None = rw (eb, eo) refl in
       let none : node_at rows path ≡ None = subst (λ q. node_at rows q ≡ None) there (none_above row.path rows above) in
       rw made (more ∙ rw (← there, eb) (subst (λ q. node_at rows q ≡ None) (sym there) none))
   first_there row rows path there above more false o eb eo =
-      let made : job_row c row ≡ None = rw eb refl in
+      let made : job_row_of c row ≡ None = rw eb refl in
       rw made (more ∙ rw (← there, eb) refl)
 
   pub job_nodes : (rows : Volume) → AreInOrder rows → (path : FilePath)
-      → node_in (filter_map (job_row c) rows) path ≡ cond (is_of_job c path) (node_at rows path) None
+      → node_in (filter_map (job_row_of c) rows) path ≡ cond (is_of_job c path) (node_at rows path) None
   job_nodes [] order path = by (is_of_job c path)
     where
       by : (b : Bool) → node_in [] path ≡ cond b (node_at [] path) None
@@ -94,8 +94,8 @@ module _ (c : Command) where
   job_nodes (row ∷ rows) order path = by (is_same_path row.path path) refl (job_nodes rows order.1 path)
     where
       by : (t : Bool) → is_same_path row.path path ≡ t
-          → node_in (filter_map (job_row c) rows) path ≡ cond (is_of_job c path) (node_at rows path) None
-          → node_in (cons_option (job_row c row) (filter_map (job_row c) rows)) path
+          → node_in (filter_map (job_row_of c) rows) path ≡ cond (is_of_job c path) (node_at rows path) None
+          → node_in (cons_option (job_row_of c row) (filter_map (job_row_of c) rows)) path
           ≡ cond (is_of_job c path) (node_at (row ∷ rows) path) None
       by true e more =
           let there = tied_path row.path path e in
@@ -104,14 +104,14 @@ module _ (c : Command) where
           ∙ ap (λ n. cond (is_of_job c row.path) n None) (sym node) ∙ ap (λ p. cond (is_of_job c p) (node_at (row ∷ rows) path) None) there
       by false e more =
           let node : node_at (row ∷ rows) path ≡ node_at rows path = rw e refl in
-          skipped row (filter_map (job_row c) rows) path e ∙ more ∙ ap (λ n. cond (is_of_job c path) n None) (sym node)
+          skipped row (filter_map (job_row_of c) rows) path e ∙ more ∙ ap (λ n. cond (is_of_job c path) n None) (sym node)
 
 -- ---- the job
 
-pub rows_are : (tree : Volume) (command : Command) (j : Job) → job_of tree command ≡ Ok j → filter_map (job_row command) tree ≡ j.rows
+pub rows_are : (tree : Volume) (command : Command) (j : Job) → job_of tree command ≡ Ok j → filter_map (job_row_of command) tree ≡ j.rows
 rows_are tree command j h =
     ap (λ (k : Job). k.rows)
-    (sym (value_unrefused (refusals tree command) (record { command = command; rows = filter_map (job_row command) tree }) j h))
+    (sym (value_unrefused (job_refusals tree command) (record { command = command; rows = filter_map (job_row_of command) tree }) j h))
 
 pub hold : JobsHoldTheTree
 hold tree command j is h path =

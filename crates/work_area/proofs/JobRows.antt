@@ -11,7 +11,7 @@ use Rattle.tree_values.specs.declared.node.Node.{Node}
 use Rattle.byte_fields.proofs.Facts.{not_of}
 use Rattle.file_paths.proofs.Order.{is_less, same_place, tied_path}
 use Rattle.cmd_capture.specs.declared.job.JobRow.{JobRow}
-use Rattle.cmd_capture.specs.Rows.{is_at, node_in, is_folder_in, AreInOrder, IsJobRow, AreJobRows, may_follow}
+use Rattle.cmd_capture.specs.Rows.{is_job_row_at, node_in, is_folder_in, JobRowsAreInOrder, IsJobRow, AreJobRows, may_follow_rows}
 
 pub no_rows : AreJobRows []
 no_rows = record { in_order = tt; each = tt; in_folders = λ path some. absurd (true≢false (sym some)) }
@@ -20,8 +20,8 @@ pub all_push : {X : Type 0} (P : X → Type 0) (xs : List X) (x : X) → AllByRe
 all_push P [] x all one = (one, tt)
 all_push P (y ∷ ys) x all one = (all.0, all_push P ys x all.1 one)
 
-order_push : (rows : List JobRow) (row : JobRow) → AreInOrder rows
-    → list_all (λ before. is_lt (path_cmp before.path row.path)) rows ≡ true → AreInOrder (rows ++ row ∷ [])
+order_push : (rows : List JobRow) (row : JobRow) → JobRowsAreInOrder rows
+    → list_all (λ before. is_lt (path_cmp before.path row.path)) rows ≡ true → JobRowsAreInOrder (rows ++ row ∷ [])
 order_push [] row order above = (tt, tt)
 order_push (r ∷ rows) row order above = (
   all_push (λ next. path_cmp r.path next.path ≡ Less) rows row order.0
@@ -33,18 +33,18 @@ order_push (r ∷ rows) row order above = (
 -- what is found in the front is found
 found_front : (rows more : List JobRow) (path : FilePath) (n : Node) → node_in rows path ≡ Some n → node_in (rows ++ more) path ≡ Some n
 found_front [] more path n e = absurd cc
-found_front (r ∷ rows) more path n e = by (is_at path r) refl (found_front rows more path n)
+found_front (r ∷ rows) more path n e = by (is_job_row_at path r) refl (found_front rows more path n)
   where
-    by : (b : Bool) → is_at path r ≡ b → (node_in rows path ≡ Some n → node_in (rows ++ more) path ≡ Some n)
+    by : (b : Bool) → is_job_row_at path r ≡ b → (node_in rows path ≡ Some n → node_in (rows ++ more) path ≡ Some n)
         → node_in ((r ∷ rows) ++ more) path ≡ Some n
     by true h more' = let here : node_in (r ∷ rows) path ≡ Some r.node = rw h refl in rw h (sym here ∙ e)
     by false h more' = let there : node_in (r ∷ rows) path ≡ node_in rows path = rw h refl in rw h (more' (sym there ∙ e))
 
 found_back : (rows more : List JobRow) (path : FilePath) → node_in rows path ≡ None → node_in (rows ++ more) path ≡ node_in more path
 found_back [] more path e = refl
-found_back (r ∷ rows) more path e = by (is_at path r) refl (found_back rows more path)
+found_back (r ∷ rows) more path e = by (is_job_row_at path r) refl (found_back rows more path)
   where
-    by : (b : Bool) → is_at path r ≡ b
+    by : (b : Bool) → is_job_row_at path r ≡ b
         → (node_in rows path ≡ None → node_in (rows ++ more) path ≡ node_in more path)
         → node_in ((r ∷ rows) ++ more) path ≡ node_in more path
     by true h more' = let here : node_in (r ∷ rows) path ≡ Some r.node = rw h refl in absurd (true≢false (ap is_some (sym here ∙ e)))
@@ -60,7 +60,7 @@ folder_stays rows more path h = by (is_root path) (node_in rows path) refl refl 
     by false (Some n) er eo t = rw (er, found_front rows more path n eo) t
 
 pub one_more_row : (rows : List JobRow) (row : JobRow) → AreJobRows rows → IsPath row.path
-    → may_follow rows row ≡ true → AreJobRows (rows ++ row ∷ [])
+    → may_follow_rows rows row ≡ true → AreJobRows (rows ++ row ∷ [])
 one_more_row rows row are is may =
     let below = first_so (not (is_root row.path)) _ may in
     let rest = second_so (not (is_root row.path)) _ may in
@@ -72,7 +72,7 @@ one_more_row rows row are is may =
       in_folders = λ path some. by path (node_in rows path) refl some folder;
     }
   where
-    here : (path : FilePath) (b : Bool) → is_at path row ≡ b → is_some (node_in (row ∷ []) path) ≡ true
+    here : (path : FilePath) (b : Bool) → is_job_row_at path row ≡ b → is_some (node_in (row ∷ []) path) ≡ true
         → is_folder_in rows (folder_of row.path) ≡ true → is_folder_in (rows ++ row ∷ []) (folder_of path) ≡ true
     here path true h some folder =
         folder_stays rows (row ∷ []) (folder_of path)
@@ -84,25 +84,25 @@ one_more_row rows row are is may =
         → is_some (node_in (rows ++ row ∷ []) path) ≡ true → is_folder_in rows (folder_of row.path) ≡ true
         → is_folder_in (rows ++ row ∷ []) (folder_of path) ≡ true
     by path (Some n) e some folder = folder_stays rows (row ∷ []) (folder_of path) (are.in_folders path (ap is_some e))
-    by path None e some folder = here path (is_at path row) refl (sym (ap is_some (found_back rows (row ∷ []) path e)) ∙ some) folder
+    by path None e some folder = here path (is_job_row_at path row) refl (sym (ap is_some (found_back rows (row ∷ []) path e)) ∙ some) folder
 
 -- ---- no path is in two rows
 
 abbrev pub AreDistinct : List JobRow → Type 0
 AreDistinct [] = Unit {0}
-AreDistinct (row ∷ rows) = AllByRecursion (λ other. is_at row.path other ≡ false) rows × AreDistinct rows
+AreDistinct (row ∷ rows) = AllByRecursion (λ other. is_job_row_at row.path other ≡ false) rows × AreDistinct rows
 
-apart : (p : FilePath) (row : JobRow) (b : Bool) → is_at p row ≡ b → path_cmp p row.path ≡ Less → is_at p row ≡ false
+apart : (p : FilePath) (row : JobRow) (b : Bool) → is_job_row_at p row ≡ b → path_cmp p row.path ≡ Less → is_job_row_at p row ≡ false
 apart p row false e less = e
 apart p row true e less =
     let equal : path_cmp p row.path ≡ Equal = ap (path_cmp p) (tied_path row.path p e) ∙ same_place p in
     absurd (true≢false (ap is_lt (sym less ∙ equal)))
 
-pub are_distinct : (rows : List JobRow) → AreInOrder rows → AreDistinct rows
+pub are_distinct : (rows : List JobRow) → JobRowsAreInOrder rows → AreDistinct rows
 are_distinct [] order = tt
 are_distinct (row ∷ rows) order = (behind rows order.0, are_distinct rows order.1)
   where
     behind : (xs : List JobRow) → AllByRecursion (λ next. path_cmp row.path next.path ≡ Less) xs
-        → AllByRecursion (λ other. is_at row.path other ≡ false) xs
+        → AllByRecursion (λ other. is_job_row_at row.path other ≡ false) xs
     behind [] all = tt
-    behind (x ∷ xs) all = (apart row.path x (is_at row.path x) refl all.0, behind xs all.1)
+    behind (x ∷ xs) all = (apart row.path x (is_job_row_at row.path x) refl all.0, behind xs all.1)

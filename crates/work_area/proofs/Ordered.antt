@@ -11,7 +11,7 @@ use Rattle.tree_values.specs.declared.node.Node.{Node}
 use Rattle.tree_values.specs.declared.node.Effect.{Effect}
 use Rattle.tree_values.specs.declared.node.Effect.TheVariants.{Remove}
 use Rattle.cmd_capture.specs.declared.job.JobRow.{JobRow}
-use Rattle.cmd_capture.specs.Rows.{node_in, AreInOrder}
+use Rattle.cmd_capture.specs.Rows.{node_in, JobRowsAreInOrder}
 use Rattle.work_area.specs.Changes.{has_kind, has_content, is_gone, is_new, removal_of, makings_of, making}
 use Rattle.work_area.specs.Laws.{AreFalling, IsGone, IsNew, ChangesAreInOrder}
 use Rattle.work_area.proofs.JobRows.{are_distinct}
@@ -41,11 +41,11 @@ module _ (test : JobRow → Bool) where
       by true e more = (all.0 e, more)
       by false e more = more
 
-  order_kept : (rows : List JobRow) → AreInOrder rows → AreInOrder (filter test rows)
+  order_kept : (rows : List JobRow) → JobRowsAreInOrder rows → JobRowsAreInOrder (filter test rows)
   order_kept [] order = tt
   order_kept (row ∷ rows) order = by (test row) (order_kept rows order.1)
     where
-      by : (b : Bool) → AreInOrder (filter test rows) → AreInOrder (cond b (row ∷ filter test rows) (filter test rows))
+      by : (b : Bool) → JobRowsAreInOrder (filter test rows) → JobRowsAreInOrder (cond b (row ∷ filter test rows) (filter test rows))
       by true more = (all_kept (λ next. path_cmp row.path next.path ≡ Less) rows order.0, more)
       by false more = more
 
@@ -85,7 +85,7 @@ falls_on : (rows : List JobRow) (row : JobRow) → AreFalling (paths rows)
 falls_on [] row falls low = (tt, tt)
 falls_on (r ∷ rows) row falls low = (one_more (λ next. path_cmp next r.path ≡ Less) rows row falls.0 low.0, falls_on rows row falls.1 low.1)
 
-falling : (test : JobRow → Bool) (rows : List JobRow) → AreInOrder rows → AreFalling (paths (filter test (reverse rows)))
+falling : (test : JobRow → Bool) (rows : List JobRow) → JobRowsAreInOrder rows → AreFalling (paths (filter test (reverse rows)))
 falling test [] order = tt
 falling test (row ∷ rows) order =
     subst (λ (l : List JobRow). AreFalling (paths l))

@@ -23,7 +23,7 @@ use Rattle.tree_values.specs.declared.node.Row.{Row}
 use Rattle.tree_values.proofs.Places.{located}
 use Rattle.tree_values.proofs.RowsTaken.{last_tells}
 use Rattle.cmd_capture.specs.declared.job.JobRow.{JobRow}
-use Rattle.cmd_capture.specs.Rows.{is_at, AreInOrder as JobsInOrder}
+use Rattle.cmd_capture.specs.Rows.{is_job_row_at, JobRowsAreInOrder as JobsInOrder}
 
 -- ---- rows of a job as those of a volume
 
@@ -45,12 +45,12 @@ in_order : (rows : List JobRow) → JobsInOrder rows → AreInOrder (as_rows row
 in_order [] order = tt
 in_order (row ∷ rows) order = (all_mapped (λ next. path_cmp row.path next.path ≡ Less) rows order.0, in_order rows order.1)
 
-find_mapped : (path : FilePath) (rows : List JobRow) → row_at (as_rows rows) path ≡ option_map as_row (find (is_at path) rows)
+find_mapped : (path : FilePath) (rows : List JobRow) → row_at (as_rows rows) path ≡ option_map as_row (find (is_job_row_at path) rows)
 find_mapped path [] = refl
-find_mapped path (row ∷ rows) = by (is_at path row) (find_mapped path rows)
+find_mapped path (row ∷ rows) = by (is_job_row_at path row) (find_mapped path rows)
   where
-    by : (b : Bool) → row_at (as_rows rows) path ≡ option_map as_row (find (is_at path) rows)
-        → cond b (Some (as_row row)) (row_at (as_rows rows) path) ≡ option_map as_row (cond b (Some row) (find (is_at path) rows))
+    by : (b : Bool) → row_at (as_rows rows) path ≡ option_map as_row (find (is_job_row_at path) rows)
+        → cond b (Some (as_row row)) (row_at (as_rows rows) path) ≡ option_map as_row (cond b (Some row) (find (is_job_row_at path) rows))
     by true more = refl
     by false more = more
 
@@ -86,13 +86,13 @@ same_row (Some x) (Some y) e =
 
 pub searched : (rows : List JobRow) (path : FilePath) → JobsInOrder rows → (r : Result ℕ ℕ)
     → IsSearchInRange r (length rows) → IsBinarySearchResult (λ row. path_cmp row.path path) rows r
-    → IfOk r (λ i. find (is_at path) rows ≡ slice_get rows i) × IfErr r (λ i. find (is_at path) rows ≡ None)
+    → IfOk r (λ i. find (is_job_row_at path) rows ≡ slice_get rows i) × IfErr r (λ i. find (is_job_row_at path) rows ≡ None)
 searched rows path order (Ok i) within here =
     let all : i < length (as_rows rows) = omega (arith, within, length-map rows as_row) in
     let place =
     (located (as_rows rows) path (in_order rows order) (Ok i) all
     (λ d. subst (λ p. path_cmp p path ≡ Equal) (sym (path_there rows i d)) (here (there d)))).ok in
-    (same_row (find (is_at path) rows) (slice_get rows i) (sym (find_mapped path rows) ∙ place.row ∙ get_mapped rows i), tt)
+    (same_row (find (is_job_row_at path) rows) (slice_get rows i) (sym (find_mapped path rows) ∙ place.row ∙ get_mapped rows i), tt)
 searched rows path order (Err i) within parted =
     let all : i ≤ length (as_rows rows) = omega (arith, within, length-map rows as_row) in
     let place =
@@ -107,14 +107,14 @@ searched rows path order (Err i) within parted =
       (λ k d low high. subst (λ p. path_cmp p path ≡ Greater) (sym (path_there rows k d))
           (parts.1 k (there d) low (omega (arith, high, length-map rows as_row)))),
     ))).err in
-    (tt, same_row (find (is_at path) rows) None (sym (find_mapped path rows) ∙ place.row))
+    (tt, same_row (find (is_job_row_at path) rows) None (sym (find_mapped path rows) ∙ place.row))
 
-pub any_is_found : (job : List JobRow) (path : FilePath) → list_any (is_at path) job ≡ is_some (find (is_at path) job)
+pub any_is_found : (job : List JobRow) (path : FilePath) → list_any (is_job_row_at path) job ≡ is_some (find (is_job_row_at path) job)
 any_is_found [] path = refl
-any_is_found (row ∷ rows) path = by (is_at path row) (any_is_found rows path)
+any_is_found (row ∷ rows) path = by (is_job_row_at path row) (any_is_found rows path)
   where
-    by : (b : Bool) → list_any (is_at path) rows ≡ is_some (find (is_at path) rows)
-        → (b || list_any (is_at path) rows) ≡ is_some (cond b (Some row) (find (is_at path) rows))
+    by : (b : Bool) → list_any (is_job_row_at path) rows ≡ is_some (find (is_job_row_at path) rows)
+        → (b || list_any (is_job_row_at path) rows) ≡ is_some (cond b (Some row) (find (is_job_row_at path) rows))
     by true more = refl
     by false more = more
 
@@ -134,7 +134,7 @@ within_some (row ∷ rows) (suc i) lt = within_some rows i (omega (arith, lt))
 -- a search tells whether the path has a row
 pub search_tells : (rows : List JobRow) (path : FilePath) → JobsInOrder rows → (r : Result ℕ ℕ)
     → IsSearchInRange r (length rows) → IsBinarySearchResult (λ row. path_cmp row.path path) rows r
-    → is_ok r ≡ list_any (is_at path) rows
+    → is_ok r ≡ list_any (is_job_row_at path) rows
 search_tells rows path order (Ok i) within here =
     sym (any_is_found rows path ∙ ap is_some (searched rows path order (Ok i) within here).0 ∙ within_some rows i within)
 search_tells rows path order (Err i) within parted =

@@ -11,7 +11,7 @@ use Rattle.tree_values.specs.declared.node.Node.{Node}
 use Rattle.tree_values.specs.declared.node.Node.TheVariants.{Folder, File}
 use Rattle.tree_values.specs.declared.node.Effect.{Effect}
 use Rattle.cmd_capture.specs.declared.job.JobRow.{JobRow}
-use Rattle.cmd_capture.specs.Rows.{is_at, node_in}
+use Rattle.cmd_capture.specs.Rows.{is_job_row_at, node_in}
 use Rattle.cmd_capture.proofs.Captured.{none_passes}
 use Rattle.work_area.specs.Changes.{has_content, is_new, removal_of, makings_of, making, made, changes, has_row, is_taken}
 use Rattle.work_area.specs.Changes.{clashes}
@@ -44,10 +44,10 @@ each_row P test effect (row ∷ rows) all = by (test row) refl all (each_row P t
 at_the_path : (Q : FilePath → Node → Type 0) (rows : List JobRow) (path : FilePath) (n : Node)
     → AllByRecursion (λ row. Q row.path row.node) rows → node_in rows path ≡ Some n → Q path n
 at_the_path Q [] path n all h = absurd cc
-at_the_path Q (row ∷ rows) path n all h = by (is_at path row) refl h (at_the_path Q rows path n all.1)
+at_the_path Q (row ∷ rows) path n all h = by (is_job_row_at path row) refl h (at_the_path Q rows path n all.1)
   where
-    by : (b : Bool) → is_at path row ≡ b
-        → option_map (λ row. row.node) (cond b (Some row) (find (is_at path) rows)) ≡ Some n
+    by : (b : Bool) → is_job_row_at path row ≡ b
+        → option_map (λ row. row.node) (cond b (Some row) (find (is_job_row_at path) rows)) ≡ Some n
         → (node_in rows path ≡ Some n → Q path n) → Q path n
     by true e h more =
         let node : row.node ≡ n = cc in
@@ -55,7 +55,7 @@ at_the_path Q (row ∷ rows) path n all h = by (is_at path row) refl h (at_the_p
     by false e h more = more h
 
 no_row : (job : List JobRow) (path : FilePath) → has_row job path ≡ false → node_in job path ≡ None
-no_row job path h = by (find (is_at path) job) (sym (any_is_found job path) ∙ h)
+no_row job path h = by (find (is_job_row_at path) job) (sym (any_is_found job path) ∙ h)
   where
     by : (o : Option JobRow) → is_some o ≡ false → option_map (λ row. row.node) o ≡ None
     by None e = refl

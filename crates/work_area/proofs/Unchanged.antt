@@ -9,7 +9,7 @@ use Rattle.tree_values.specs.declared.node.Node.TheVariants.{Folder, File}
 use Rattle.tree_values.specs.declared.node.Effect.{Effect}
 use Rattle.tree_values.specs.declared.node.Effect.TheVariants.{Remove}
 use Rattle.cmd_capture.specs.declared.job.JobRow.{JobRow}
-use Rattle.cmd_capture.specs.Rows.{is_at, node_in}
+use Rattle.cmd_capture.specs.Rows.{is_job_row_at, node_in}
 use Rattle.work_area.specs.Changes.{has_kind, has_content, is_gone, is_new, removal_of, making_of, making, changes}
 use Rattle.file_paths.proofs.Order.{own_path, tied_path}
 use Rattle.work_area.proofs.JobRows.{AreDistinct}
@@ -32,7 +32,7 @@ all_reverse g (x ∷ xs) all =
     subst (AllByRecursion (λ row. g row ≡ false)) (sym (reverse-append (x ∷ []) xs))
     (all_append g (reverse xs) (x ∷ []) (all_reverse g xs all.1) (all.0, tt))
 
-at_itself : (row : JobRow) → is_at row.path row ≡ true
+at_itself : (row : JobRow) → is_job_row_at row.path row ≡ true
 at_itself row = own_path row.path
 
 -- each row has the node of its path
@@ -40,15 +40,15 @@ abbrev pub AreFound : List JobRow → List JobRow → Type 0
 AreFound all rows = AllByRecursion (λ row. node_in all row.path ≡ Some row.node) rows
 
 found_behind : (first : JobRow) (all rows : List JobRow)
-    → AllByRecursion (λ other. is_at first.path other ≡ false) rows → AreFound all rows
+    → AllByRecursion (λ other. is_job_row_at first.path other ≡ false) rows → AreFound all rows
     → AreFound (first ∷ all) rows
 found_behind first all [] apart found = tt
-found_behind first all (row ∷ rows) apart found = (by (is_at row.path first) refl, found_behind first all rows apart.1 found.1)
+found_behind first all (row ∷ rows) apart found = (by (is_job_row_at row.path first) refl, found_behind first all rows apart.1 found.1)
   where
-    by : (b : Bool) → is_at row.path first ≡ b → node_in (first ∷ all) row.path ≡ Some row.node
+    by : (b : Bool) → is_job_row_at row.path first ≡ b → node_in (first ∷ all) row.path ≡ Some row.node
     by false e = rw e found.0
     by true e =
-        absurd (true≢false (sym (subst (λ p. is_at p row ≡ true) (sym (tied_path first.path row.path e)) (own_path row.path)) ∙ apart.0))
+        absurd (true≢false (sym (subst (λ p. is_job_row_at p row ≡ true) (sym (tied_path first.path row.path e)) (own_path row.path)) ∙ apart.0))
 
 pub are_found : (rows : List JobRow) → AreDistinct rows → AreFound rows rows
 are_found [] distinct = tt

@@ -12,7 +12,7 @@ use Rattle.tree_values.specs.declared.node.Node.TheVariants.{Folder, File}
 use Rattle.tree_values.specs.declared.node.Effect.{Effect}
 use Rattle.tree_values.specs.declared.node.Effect.TheVariants.{Make, Put, Remove, Move}
 use Rattle.cmd_capture.specs.declared.job.JobRow.{JobRow}
-use Rattle.cmd_capture.specs.Rows.{is_at, node_in}
+use Rattle.cmd_capture.specs.Rows.{is_job_row_at, node_in}
 
 -- ---- the change list
 
@@ -76,7 +76,7 @@ first_path (Move from to) = from
 
 -- whether the job has a row at the path
 abbrev pub has_row : List JobRow → FilePath → Bool
-has_row job path = list_any (is_at path) job
+has_row job path = list_any (is_job_row_at path) job
 
 -- whether something stands at the path that the job has not
 abbrev pub is_taken : Volume → List JobRow → FilePath → Bool

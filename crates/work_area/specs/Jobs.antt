@@ -35,8 +35,8 @@ abbrev pub is_of_job : Command → FilePath → Bool
 is_of_job command path = list_any (is_related path) (roots command) || is_within command.cwd path
 
 -- the row of the job that a row of the tree makes
-abbrev pub job_row : Command → Row → Option JobRow
-job_row command row =
+abbrev pub job_row_of : Command → Row → Option JobRow
+job_row_of command row =
     if is_of_job command row.path
     then option_map (λ node. record { path = row.path; node = node }) row.node
     else None
@@ -45,8 +45,8 @@ job_row command row =
 abbrev pub is_missing : Volume → FilePath → Bool
 is_missing rows path = not (is_root path) && not (is_some (node_at rows path))
 
-abbrev pub refusals : Volume → Command → List (Option JobError)
-refusals rows command =
+abbrev pub job_refusals : Volume → Command → List (Option JobError)
+job_refusals rows command =
     when (not (is_folder rows command.cwd)) (NoFolder command.cwd)
     ∷ option_map (λ i. NoInput (as_u32 i)) (position (is_missing rows) command.inputs)
     ∷ []
@@ -54,4 +54,4 @@ refusals rows command =
 -- the job of the command, or the first refusal
 abbrev pub job_of : Volume → Command → Result Job JobError
 job_of rows command =
-    unless_refused (refusals rows command) (record { command = command; rows = filter_map (job_row command) rows })
+    unless_refused (job_refusals rows command) (record { command = command; rows = filter_map (job_row_of command) rows })

@@ -11,7 +11,7 @@ use Rattle.tree_values.specs.declared.node.Effect.TheVariants.{Remove}
 use Rattle.cmd_capture.specs.declared.command.Command.{Command}
 use Rattle.cmd_capture.specs.declared.job.Job.{Job}
 use Rattle.cmd_capture.specs.declared.job.JobRow.{JobRow}
-use Rattle.cmd_capture.specs.Rows.{AreInOrder, AreJobRows, node_in}
+use Rattle.cmd_capture.specs.Rows.{JobRowsAreInOrder, AreJobRows, node_in}
 use Rattle.work_area.specs.Jobs.{is_of_job, job_of}
 use Rattle.work_area.specs.Changes.{has_kind, has_content, changes, making, has_row, clash}
 
@@ -71,7 +71,7 @@ pub record RemovesAndMakes (before after : List JobRow) (effects : List Effect) 
   pub made : List JobRow
   pub parts : effects ≡ map Remove removed ++ map making made
   pub falls : AreFalling removed
-  pub rises : AreInOrder made
+  pub rises : JobRowsAreInOrder made
   pub gone : AllByRecursion (IsGone before after) removed
   pub new : AllByRecursion (IsNew before after) made
 

@@ -5,7 +5,7 @@ ghost use Rattle.std.specs.List.{list_any, filter_map, flat_map};
 ghost use Rattle.std.specs.Option.{option_copied};
 ghost use Rattle.tree_values.specs.Tree.{children};
 ghost use Rattle.file_paths.specs.Path.{path_cmp};
-ghost use Rattle.cmd_capture.specs.Rows.{is_at, AreInOrder, AreJobRows};
+ghost use Rattle.cmd_capture.specs.Rows.{is_job_row_at, JobRowsAreInOrder, AreJobRows};
 ghost use Rattle.work_area.specs.Changes as rules;
 ghost use Rattle.work_area.specs.Changes.{changes, clash};
 
@@ -40,7 +40,7 @@ fn has_content(node: &Node, other: Option<&Node>) -> bool
 
 /// Whether the path of the row has no node there, or one of the other kind.
 fn is_gone(after: &[JobRow], row: &JobRow) -> bool
-    requires { AreInOrder after.now }
+    requires { JobRowsAreInOrder after.now }
     ensures { result ≡ rules.is_gone after.now row.now }
 {
     !has_kind(&row.node, node_in(after, row.path.names()))
@@ -48,7 +48,7 @@ fn is_gone(after: &[JobRow], row: &JobRow) -> bool
 
 /// Whether the path of the row has no node there, one of the other kind, or a file with another content.
 fn is_new(before: &[JobRow], row: &JobRow) -> bool
-    requires { AreInOrder before.now }
+    requires { JobRowsAreInOrder before.now }
     ensures { result ≡ rules.is_new before.now row.now }
 {
     !has_content(&row.node, node_in(before, row.path.names()))
@@ -67,7 +67,7 @@ fn making(row: &JobRow) -> Result<Effect, AllocError>
 
 /// The removal of the row, where it is gone.
 fn removal(after: &[JobRow], row: &JobRow) -> Result<Option<Effect>, AllocError>
-    requires { AreInOrder after.now }
+    requires { JobRowsAreInOrder after.now }
     ensures { IfOk result (λ found. found ≡ rules.removal_of after.now row.now) }
 {
     if !is_gone(after, row) {
@@ -78,7 +78,7 @@ fn removal(after: &[JobRow], row: &JobRow) -> Result<Option<Effect>, AllocError>
 
 /// What makes the row, where it is new.
 fn new_making(before: &[JobRow], row: &JobRow) -> Result<Option<Effect>, AllocError>
-    requires { AreInOrder before.now }
+    requires { JobRowsAreInOrder before.now }
     ensures { IfOk result (λ found. found ≡ rules.making_of before.now row.now) }
 {
     if !is_new(before, row) {
@@ -93,7 +93,7 @@ fn push_removals(
     before: &[JobRow],
     after: &[JobRow],
 ) -> Result<(), AllocError>
-    requires { AreInOrder after.now }
+    requires { JobRowsAreInOrder after.now }
     ensures { OnOk result (effects.new ≡ effects.old ++ filter_map (rules.removal_of after.now) (reverse before.now)) }
 {
     let mut rest = before;
@@ -110,7 +110,7 @@ fn push_makings(
     before: &[JobRow],
     after: &[JobRow],
 ) -> Result<(), AllocError>
-    requires { AreInOrder before.now }
+    requires { JobRowsAreInOrder before.now }
     ensures { OnOk result (effects.new ≡ effects.old ++ flat_map (rules.makings_of before.now) after.now) }
 {
     for row in after {
@@ -134,7 +134,7 @@ pub fn changes(alloc: Global, before: &JobRows, after: &JobRows) -> Result<Effec
 /// Whether the job has a row at the path.
 #[tactic(auto, using(crate::proofs::Searching::any_is_found))]
 fn has_row(job: &Job, path: &Path) -> bool
-    requires { AreInOrder job.now.rows }
+    requires { JobRowsAreInOrder job.now.rows }
     ensures { result ≡ rules.has_row job.now.rows path.now }
 {
     row_of(job.rows.as_slice(), path.names()).is_some()
@@ -142,7 +142,7 @@ fn has_row(job: &Job, path: &Path) -> bool
 
 /// Whether something stands at the path that the job has not.
 fn is_taken(tree: &Tree, job: &Job, path: &Path) -> bool
-    requires { AreInOrder job.now.rows }
+    requires { JobRowsAreInOrder job.now.rows }
     ensures { result ≡ rules.is_taken tree.now job.now.rows path.now }
 {
     tree.get(path).is_some() && !has_row(job, path)
@@ -165,7 +165,7 @@ fn order_of_child(row: &JobRow, folder: &[Content], name: &Content) -> Ordering
 
 /// Whether the job has a row of this name in the folder.
 fn has_child(job: &Job, folder: &Path, name: &Content) -> bool
-    requires { AreInOrder job.now.rows }
+    requires { JobRowsAreInOrder job.now.rows }
     ensures { result ≡ rules.has_row job.now.rows (folder.now ++ name.now ∷ []) }
 {
     job.rows
@@ -177,7 +177,7 @@ fn has_child(job: &Job, folder: &Path, name: &Content) -> bool
 /// Whether something stands in the folder that the job has not.
 #[tactic(auto, using(crate::proofs::Names::none_left, crate::proofs::Names::found_here, crate::proofs::Names::none_here, crate::proofs::Names::all_seen, crate::proofs::Names::children_few))]
 fn has_foreign_child(tree: &Tree, job: &Job, folder: &Path) -> bool
-    requires { AreInOrder job.now.rows }
+    requires { JobRowsAreInOrder job.now.rows }
     ensures { result ≡ list_any (λ name. not (rules.has_row job.now.rows (folder.now ++ name ∷ []))) (children tree.now folder.now) }
 {
     for i in 0..tree.count() {
@@ -192,7 +192,7 @@ fn has_foreign_child(tree: &Tree, job: &Job, folder: &Path) -> bool
 }
 
 fn clashes(tree: &Tree, job: &Job, effect: &Effect) -> bool
-    requires { AreInOrder job.now.rows }
+    requires { JobRowsAreInOrder job.now.rows }
     ensures { result ≡ rules.clashes tree.now job.now.rows effect.now }
 {
     match effect {
@@ -204,7 +204,7 @@ fn clashes(tree: &Tree, job: &Job, effect: &Effect) -> bool
 }
 
 fn first_clash(tree: &Tree, job: &Job, effects: &[Effect]) -> Option<usize>
-    requires { AreInOrder job.now.rows }
+    requires { JobRowsAreInOrder job.now.rows }
     ensures { result ≡ position (rules.clashes tree.now job.now.rows) effects.now }
 {
     effects.iter().position(|effect| clashes(tree, job, effect))

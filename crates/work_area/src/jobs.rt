@@ -64,7 +64,7 @@ fn is_of_job(command: &Command, path: &Path) -> bool
 
 /// The row of the job that a row of the tree makes.
 fn job_row(command: &Command, row: &Row) -> Result<Option<JobRow>, AllocError>
-    ensures { IfOk result (λ made. made ≡ rules.job_row command.now row.now) }
+    ensures { IfOk result (λ made. made ≡ rules.job_row_of command.now row.now) }
 {
     match &row.node {
         Some(node) if is_of_job(command, &row.path) => Ok(Some(JobRow {
@@ -76,7 +76,7 @@ fn job_row(command: &Command, row: &Row) -> Result<Option<JobRow>, AllocError>
 }
 
 fn job_rows(alloc: Global, rows: &[Row], command: &Command) -> Result<JobRows, AllocError>
-    ensures { IfOk result (λ made. made ≡ filter_map (rules.job_row command.now) rows.now) }
+    ensures { IfOk result (λ made. made ≡ filter_map (rules.job_row_of command.now) rows.now) }
 {
     let mut made = JobRows::new(alloc);
     for row in rows {

@@ -8,7 +8,7 @@ ghost use Rattle.file_paths.specs.Path.{path_cmp};
 ghost use Rattle.work_area.specs.declared.rows.RowsFault.TheVariants.{Memory};
 ghost use Rattle.work_area.specs.Outcomes.{IsRowsFault};
 ghost use Rattle.cmd_capture.specs.Rows as rules;
-ghost use Rattle.cmd_capture.specs.Rows.{AreInOrder, AreLegal, AreJobRows, read_rows};
+ghost use Rattle.cmd_capture.specs.Rows.{JobRowsAreInOrder, AreLegal, AreJobRows, read_rows};
 
 use byte_fields::saturate_u32;
 use cmd_capture::{JobRow, JobRows, RawRow, RawRows};
@@ -45,8 +45,8 @@ fn order_of(row: &JobRow, path: &[Content]) -> Ordering
 
 /// The row of a path.
 pub(crate) fn row_of<'a>(rows: &'a [JobRow], path: &[Content]) -> Option<&'a JobRow>
-    requires { AreInOrder rows.now }
-    ensures { option_copied result ≡ find (rules.is_at path.now) rows.now }
+    requires { JobRowsAreInOrder rows.now }
+    ensures { option_copied result ≡ find (rules.is_job_row_at path.now) rows.now }
 {
     match rows.binary_search_by(|row| order_of(row, path)) {
         Ok(i) => rows.get(i),
@@ -56,7 +56,7 @@ pub(crate) fn row_of<'a>(rows: &'a [JobRow], path: &[Content]) -> Option<&'a Job
 
 /// The node of a path.
 pub(crate) fn node_in<'a>(rows: &'a [JobRow], path: &[Content]) -> Option<&'a Node>
-    requires { AreInOrder rows.now }
+    requires { JobRowsAreInOrder rows.now }
     ensures { option_copied result ≡ rules.node_in rows.now path.now }
 {
     let row = row_of(rows, path)?;
@@ -65,7 +65,7 @@ pub(crate) fn node_in<'a>(rows: &'a [JobRow], path: &[Content]) -> Option<&'a No
 
 /// Whether the path is a folder of the rows, as the root always is.
 fn is_folder_in(rows: &[JobRow], path: &[Content]) -> bool
-    requires { AreInOrder rows.now }
+    requires { JobRowsAreInOrder rows.now }
     ensures { result ≡ rules.is_folder_in rows.now path.now }
 {
     path.is_empty() || matches!(node_in(rows, path), Some(Node::Folder))
@@ -73,7 +73,7 @@ fn is_folder_in(rows: &[JobRow], path: &[Content]) -> bool
 
 /// Whether the path is above those of all rows, the last of which is above the others.
 fn is_above_all(rows: &[JobRow], path: &Path) -> bool
-    requires { AreInOrder rows.now }
+    requires { JobRowsAreInOrder rows.now }
     ensures { result ≡ list_all (λ before. is_lt (path_cmp before.path path.now)) rows.now }
 {
     match rows.last() {
@@ -84,8 +84,8 @@ fn is_above_all(rows: &[JobRow], path: &Path) -> bool
 
 /// Whether the row may stand behind these.
 fn may_follow(rows: &[JobRow], row: &JobRow) -> bool
-    requires { AreInOrder rows.now }
-    ensures { result ≡ rules.may_follow rows.now row.now }
+    requires { JobRowsAreInOrder rows.now }
+    ensures { result ≡ rules.may_follow_rows rows.now row.now }
 {
     !row.path.names().is_empty()
         && is_above_all(rows, &row.path)
@@ -108,7 +108,7 @@ fn read_row(alloc: Global, raw: &RawRow) -> Result<Option<JobRow>, AllocError>
 
 /// The row, where it may stand behind these.
 fn next_row(alloc: Global, rows: &[JobRow], raw: &RawRow) -> Result<Option<JobRow>, AllocError>
-    requires { AreInOrder rows.now }
+    requires { JobRowsAreInOrder rows.now }
     ensures { IfOk result (λ row. row ≡ rules.next_row rows.now raw.now) }
 {
     match read_row(alloc, raw)? {

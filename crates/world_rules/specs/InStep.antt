@@ -9,7 +9,7 @@ use Rattle.tree_values.specs.declared.node.Base.{Base}
 use Rattle.mod_log.specs.declared.log.Entry.{Entry}
 use Rattle.mod_log.specs.declared.sketching.SketchEntry.{SketchEntry}
 use Rattle.mod_log.specs.Log.{Log, tree_at, IsLog}
-use Rattle.mod_log.specs.Sketched.{IsSketchOf, Writes}
+use Rattle.mod_log.specs.Sketched.{IsSketchOf, WritesContent}
 use Rattle.rs_parity.specs.Sketches.{Distinct}
 use Rattle.wire_frames.specs.declared.message.Message.{Message}
 use Rattle.wire_frames.specs.declared.message.Message.TheVariants.{Store, Operate, Pull, Accepted, Stale, Unfit, Gap, Snapshot, Done, Declined, Full, Malformed}
@@ -72,11 +72,11 @@ pub record InStep (client : ℕ) (log : Log) (world : World) : Type 0 where
 
 -- one of the entries, which a command made, writes this content
 abbrev pub IsShippable : List Entry → List ℕ → Type 0
-IsShippable entries content = (entry : Entry) × IsIn entry entries × IsSome entry.origin × Writes entry.effects content
+IsShippable entries content = (entry : Entry) × IsIn entry entries × IsSome entry.origin × WritesContent entry.effects content
 
 -- a message carries this content as a store of the client
 abbrev pub CarriesContent : ℕ → Message → List ℕ → Type 0
-CarriesContent client (Store of number effects base) content = (of ≡ client) × Writes effects content
+CarriesContent client (Store of number effects base) content = (of ≡ client) × WritesContent effects content
 CarriesContent client _ content = ⊥
 
 -- this content stands in a store of the client among the packets

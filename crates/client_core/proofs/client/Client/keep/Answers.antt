@@ -1,7 +1,7 @@
 use Rattle.std.proofs.Common.{false, sym, subst}
 use Rattle.client_core.specs.Journal.{next_notes}
 use Rattle.client_core.specs.Keeping.{IsReady}
-use Rattle.client_core.specs.Inside.{IsCurrent}
+use Rattle.client_core.specs.Inside.{JournalIsCurrent}
 use Rattle.client_core.proofs.Journal.{may_keep, next_current, current_ready}
 use Rattle.client_core.proofs.client.Client.keep.Goals as goal
 
@@ -21,4 +21,4 @@ returns-clause-ready g c =
     let l = g.K.Keeper.images c.keep_log.new.keeper in
     let r = c.keep_log.result in
     current_ready name number log c.keep_log.new.journal l
-    (subst (IsCurrent l name number log) (sym c.keep_log.ensures.journal) (next_current name number log journal (next_notes journal false log) r i l c.keep_log.ensures.kept))
+    (subst (JournalIsCurrent l name number log) (sym c.keep_log.ensures.journal) (next_current name number log journal (next_notes journal false log) r i l c.keep_log.ensures.kept))

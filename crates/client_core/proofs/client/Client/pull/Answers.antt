@@ -5,7 +5,7 @@ use Rattle.client_core.specs.Client.{Client}
 use Rattle.client_core.specs.declared.pulling.PullEnd.{PullEnd}
 use Rattle.client_core.specs.declared.pulling.PullEnd.TheVariants.{KeepFault}
 use Rattle.mod_log.specs.Log.{Log}
-use Rattle.client_core.specs.Inside.{PullLeaves, IsCurrent}
+use Rattle.client_core.specs.Inside.{PullLeaves, JournalIsCurrent}
 use Rattle.client_core.specs.Pulling.{PullEnds}
 use Rattle.client_core.specs.Keeping.{IsKept, IsReady, KeepsNext, KeepsLog}
 use Rattle.client_core.specs.Causes.{HasPullCause, PullKeeps}
@@ -194,7 +194,7 @@ returns-clause-ready g c =
     let l = g.K.Keeper.images c.keep_log-kept.new.keeper in
     let told : Told i l (KeepsNext route.image client after None r) = subst (λ (n : List ℕ). Told i l (KeepsNext n client after None r)) c.bytes.ensures.value c.keep_log-kept.ensures.kept in
     current_ready route.image client after c.keep_log-kept.new.journal l
-    (subst (IsCurrent l route.image client after) (sym c.keep_log-kept.ensures.journal) (next_current route.image client after None None r i l told))
+    (subst (JournalIsCurrent l route.image client after) (sym c.keep_log-kept.ensures.journal) (next_current route.image client after None None r i l told))
 
 pub returns-in_default-clause-ready : goal.returns-in_default-clause-ready
 returns-in_default-clause-ready g c =

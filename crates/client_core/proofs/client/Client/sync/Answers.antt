@@ -9,7 +9,7 @@ use Rattle.client_core.specs.declared.syncing.SyncEnd.{SyncEnd}
 use Rattle.client_core.specs.declared.syncing.SyncEnd.TheVariants.{Synced, KeepFault, Memory}
 use Rattle.client_core.specs.Causes.{HasSyncCause, SyncKeeps, AcknowledgesSome}
 use Rattle.client_core.specs.Syncing.{IsFirst, acknowledged_first, end_by, Ships, unkept_end, SyncEnds}
-use Rattle.client_core.specs.Inside.{AskedFor, MayKeep, IsCurrent}
+use Rattle.client_core.specs.Inside.{AskedFor, MayKeep, JournalIsCurrent}
 use Rattle.client_core.specs.Journal.{next_notes}
 use Rattle.client_core.specs.Keeping.{IsKept, IsReady, KeepsNext, KeepsLog}
 use Rattle.client_core.specs.Goes.{Went}
@@ -473,7 +473,7 @@ loop-entry-preserved g c =
       some = some_more before mid next c.loop-entry.invariant.some (first_some mid.pending entry first) (sym is);
       keeps = subst (λ (log : Log). KeepsAcked before route.image client log i l) is
           (keeps_more route.image client before mid i j l c.loop-entry.invariant.keeps (first_some mid.pending entry first) (Ok c.in_default-keep_log.field-0) kept);
-      current = subst (IsCurrent l route.image client next) (sym c.in_default-keep_log.ensures.journal)
+      current = subst (JournalIsCurrent l route.image client next) (sym c.in_default-keep_log.ensures.journal)
           (next_current {E = KeepError} route.image client next journal (next_notes journal true next) (Ok c.in_default-keep_log.field-0) j l told);
       world = subst (λ (log : Log). WentSoFar client route before log i l t v) is
           (acked_more client route before mid entry c.in-Some.ensures.log first i j keeps t u v c.loop-entry.invariant.world on.0 on.2 goes done l (Ok c.in_default-keep_log.field-0) kept);
@@ -626,7 +626,7 @@ returns-in-Err-keep_log-clause-ready g c =
     subst (λ (n : List ℕ). Told j l (KeepsNext {E = KeepError} n client next (next_notes journal true next) (Err refused))) c.bytes-image.ensures.value c.in-Err-keep_log.ensures.kept in
     subst (λ (n : ℕ). IsReady l route.image (record { number = n; log = next; journal = c.keep_log.new.journal })) (sym c.loop-entry.invariant.number)
     (current_ready route.image client next c.keep_log.new.journal l
-    (subst (IsCurrent l route.image client next) (sym c.in-Err-keep_log.ensures.journal) (next_current {E = KeepError} route.image client next journal (next_notes journal true next) (Err refused) j l told)))
+    (subst (JournalIsCurrent l route.image client next) (sym c.in-Err-keep_log.ensures.journal) (next_current {E = KeepError} route.image client next journal (next_notes journal true next) (Err refused) j l told)))
 
 pub returns-clause-ready : goal.returns-clause-ready
 returns-clause-ready g c =

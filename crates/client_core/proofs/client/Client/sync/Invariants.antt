@@ -1,6 +1,6 @@
 use Rattle.std.proofs.Common.{◌≡◌, ◌≤◌, length}
 use Rattle.client_core.specs.Causes.{AcknowledgesSome}
-use Rattle.client_core.specs.Inside.{IsCurrent}
+use Rattle.client_core.specs.Inside.{JournalIsCurrent}
 use Rattle.client_core.proofs.Syncs.{WentSoFar, KeepsAcked}
 use Rattle.client_core.proofs.client.Client.sync.Given as goal
 
@@ -11,7 +11,7 @@ invariant-loop-entry g l = record {
   number : l.self-inside.number ≡ l.client;
   some : AcknowledgesSome l.initial.self-inside.log l.self-inside.log;
   keeps : KeepsAcked l.initial.self-inside.log l.route.image l.client l.self-inside.log (g.K.Keeper.images l.fn.keeper) (g.K.Keeper.images l.keeper);
-  current : IsCurrent (g.K.Keeper.images l.keeper) l.route.image l.client l.self-inside.log l.self-inside.journal;
+  current : JournalIsCurrent (g.K.Keeper.images l.keeper) l.route.image l.client l.self-inside.log l.self-inside.journal;
   world : WentSoFar l.client l.route l.initial.self-inside.log l.self-inside.log (g.K.Keeper.images l.fn.keeper) (g.K.Keeper.images l.keeper) (g.L.Link.tells l.fn.link) (g.L.Link.tells l.link);
 }
 

@@ -3,7 +3,7 @@ use Rattle.std.proofs.lemmas.Result.{err_from_is_err_and}
 use Rattle.file_paths.specs.Refusals.{unless_refused}
 use Rattle.tree_values.specs.Effects.{base_of}
 use Rattle.mod_log.specs.Log.{tree_of, entry}
-use Rattle.mod_log.specs.Append.{has_no_room}
+use Rattle.mod_log.specs.Append.{log_has_no_room}
 use Rattle.mod_log.specs.Inside.{entry_with, room_refusals}
 use Rattle.mod_log.proofs.Kept.{after_kept, refused_in_room}
 use Rattle.mod_log.proofs.log.Log.base_in_room.Goals as goal
@@ -32,4 +32,4 @@ pub returns-clause-room : goal.returns-clause-room
 returns-clause-room c =
     let tree = sym (after_kept c.self.inside.pending.items c.self.inside.tree c.self.invariant.kept) ∙ ap tree_of c.self.view_is in
     let base = c.in_ok-base.ensures ∙ ap (base_of c.args.effects.now) tree in
-    subst (λ b. has_no_room (entry_with c.args.origin.now c.args.effects.now b c.args.self.now) c.args.self.now ≡ false) base c.in_ok-size.ensures.room
+    subst (λ b. log_has_no_room (entry_with c.args.origin.now c.args.effects.now b c.args.self.now) c.args.self.now ≡ false) base c.in_ok-size.ensures.room

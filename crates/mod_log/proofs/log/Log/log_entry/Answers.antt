@@ -2,7 +2,7 @@ use Rattle.std.proofs.Common.{◌≡◌, ◌+◌, false, Ok, sym, ap, ◌∙◌,
 use Rattle.vol_tree.specs.Applying.{IsAllRefusal}
 use Rattle.mod_log.specs.declared.log.Pending.{Pending}
 use Rattle.mod_log.specs.Log.{tree_of, IsLog}
-use Rattle.mod_log.specs.Append.{has_no_room}
+use Rattle.mod_log.specs.Append.{log_has_no_room}
 use Rattle.mod_log.specs.Inside.{AreFields, log_of}
 use Rattle.mod_log.proofs.Appending.{effects_fit, some_effects}
 use Rattle.mod_log.proofs.Kept.{after_kept, logged_next, refused_as}
@@ -11,7 +11,7 @@ use Rattle.mod_log.proofs.log.Log.log_entry.Goals as goal
 pub returns-in-Err-clause-err : goal.returns-in-Err-clause-err
 returns-in-Err-clause-err c =
     let tree = sym (after_kept c.self.inside.pending.items c.self.inside.tree c.self.invariant.kept) ∙ ap tree_of c.self.view_is in
-    let room = subst (λ e. has_no_room e c.args.self.now ≡ false) c.requires.next c.requires.room in
+    let room = subst (λ e. log_has_no_room e c.args.self.now ≡ false) c.requires.next c.requires.room in
     λ no_memory.
     refused_as c.args.entry.origin c.args.entry.effects c.args.self.now c.in-Err.refusal c.from.result c.requires.small room c.requires.number
     (subst (λ t. IsAllRefusal c.args.entry.effects t c.in-Err.refusal) tree c.in-Err.ensures.err) c.from.ensures no_memory

@@ -1,9 +1,9 @@
 use Rattle.std.specs.Io.KnownBytes.{Keeps}
-use Rattle.real_edge.specs.Pace.{GoesOn}
+use Rattle.real_edge.specs.Pace.{LeadsOn}
 use Rattle.real_edge.proofs.pace.PacedRead.read.Given as goal
 
 abbrev pub invariant-loop : goal.invariant-loop
 invariant-loop g l = record {
   bytes : Keeps (g.S.Read.remaining l.fn.self.stream) (g.S.Read.remaining l.self.stream);
-  window : GoesOn l.fn.self.window l.self.window;
+  window : LeadsOn l.fn.self.window l.self.window;
 }
