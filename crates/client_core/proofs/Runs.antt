@@ -11,7 +11,7 @@ use Rattle.cmd_capture.specs.declared.runner.Run.{Run}
 use Rattle.cmd_capture.specs.declared.runner.RunError.{RunError}
 use Rattle.cmd_capture.specs.declared.runner.RunError.TheVariants as run_errors
 use Rattle.cmd_capture.specs.Spelling.{job as spelled_job}
-use Rattle.cmd_capture.specs.Runs.{AddsRun, RunnerTelling, HasRun}
+use Rattle.cmd_capture.specs.Runs.{AddsRun, RunnerTelling, HasRun, telling}
 use Rattle.work_area.specs.declared.jobs.JobError.{JobError}
 use Rattle.work_area.specs.declared.jobs.JobError.TheVariants as job_errors
 use Rattle.work_area.specs.declared.rows.RowsFault.{RowsFault}
@@ -33,7 +33,7 @@ use Rattle.client_core.specs.Keeping.{IsKept, IsReady, IsKeptReady}
 use Rattle.client_core.specs.Running.{changes_of, first_clash, origin_of, run_entry, run_logged, IsLoggable, RanEnd, ran_trace, RunTurn, BreaksRun, RunEnds, has_logged, RunsCommand}
 use Rattle.client_core.specs.Journal.{next_notes}
 use Rattle.client_core.specs.Inside.{JournalIsCurrent, ran, RanEnds, IsUnlogged, unrun_end, jobless_end, odd_end}
-use Rattle.client_core.specs.Goes.{Goes, telling}
+use Rattle.client_core.specs.Goes.{Goes}
 use Rattle.client_core.proofs.Going.{has_run_none, changed_so, goes_ran, goes_ran_logged}
 use Rattle.client_core.proofs.Counting.{unrisen}
 use Rattle.client_core.proofs.Journal.{IsOneAtMost, ready_current, logged_ready, same_one, logged_one}

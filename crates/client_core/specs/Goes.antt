@@ -3,7 +3,7 @@ use Rattle.std.specs.Prelude.{◌≡◌, ◌≢◌, ℕ, ◌≤◌, Bool, List, 
 use Rattle.outside.specs.Outside.{RoseBy}
 use Rattle.outside.specs.Keeper.{Images}
 use Rattle.cmd_capture.specs.declared.runner.Run.{Run}
-use Rattle.cmd_capture.specs.Runs.{RunnerTelling, HasRun}
+use Rattle.cmd_capture.specs.Runs.{RunnerTelling, HasRun, telling}
 use Rattle.tree_values.specs.Lists.{IsIn}
 use Rattle.mod_log.specs.Log.{Log}
 use Rattle.wire_frames.specs.declared.message.Message.{Message}
@@ -18,10 +18,6 @@ use Rattle.client_core.specs.declared.pulling.PullEnd.{PullEnd}
 use Rattle.client_core.specs.Trace.{Trace}
 use Rattle.client_core.specs.Keeping.{Keeping}
 use Rattle.client_core.specs.Honest.{IsTruePull}
-
--- what a runner tells: its runs, where it tells them, and how often it failed
-abbrev pub telling : Option (List Run) → ℕ → RunnerTelling
-telling runs faults = record { runs = runs; faults = faults }
 
 -- a runner that was given nothing to run
 abbrev pub no_runner : RunnerTelling

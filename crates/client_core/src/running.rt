@@ -11,7 +11,7 @@ ghost use Rattle.work_area.specs.Outcomes.{IsRowsFault};
 ghost use Rattle.mod_log.specs.Log.{IsLog, tree_of};
 ghost use Rattle.client_core.specs.Running.{RunsCommand, IsLoggable, changes_of, has_logged};
 ghost use Rattle.client_core.specs.Inside.{ran, RanEnds, IsToLog, IsUnlogged, unrun_end, jobless_end, odd_end};
-ghost use Rattle.client_core.specs.Goes.{telling};
+ghost use Rattle.cmd_capture.specs.Runs.{telling};
 ghost use Rattle.client_core.specs.Keeping.{IsReady};
 
 use crate::Client;

@@ -5,7 +5,7 @@ ghost use Rattle.outside.specs.Outside.{Told, RisesWhere, Rose};
 ghost use Rattle.mod_log.specs.Log.{Log};
 ghost use Rattle.world_rules.specs.Telling.{ToldWorlds};
 ghost use Rattle.client_core.specs.Keeping.{TellsKept, IsKeptOfNone};
-ghost use Rattle.client_core.specs.Goes.{telling};
+ghost use Rattle.cmd_capture.specs.Runs.{telling};
 ghost use Rattle.client_prog.specs.Words.{run_of};
 ghost use Rattle.client_prog.specs.Run.{is_status, route_of, IsInputRead};
 ghost use Rattle.client_prog.specs.Headline.{Ran};

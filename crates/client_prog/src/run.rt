@@ -17,7 +17,7 @@ ghost use Rattle.client_prog.specs.Run.{status_of, is_status, route_of, is_quit,
 ghost use Rattle.client_prog.specs.Run.{closing_line, closing_at, IsInputRead};
 ghost use Rattle.client_prog.specs.Headline.{Ran};
 ghost use Rattle.client_session.specs.Doing.{WentDoing, beside};
-ghost use Rattle.client_core.specs.Goes.{telling};
+ghost use Rattle.cmd_capture.specs.Runs.{telling};
 ghost use Rattle.client_prog.specs.InsideRun.{AnswersLines, HasUnfinished, TakesInput, AnswersInput, RunAnswers};
 
 use crate::input::{InputEnd, LineReader, MAX_INPUT};

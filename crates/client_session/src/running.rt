@@ -3,7 +3,7 @@ ghost use Rattle.std.specs.Prelude.{◌≡◌, ◌≤◌, Err, IfOk};
 ghost use Rattle.outside.specs.Outside.{CountsFault};
 ghost use Rattle.cmd_capture.specs.Spelling.{IsCommand};
 ghost use Rattle.client_core.specs.Keeping.{IsKeptReady};
-ghost use Rattle.client_core.specs.Goes.{telling};
+ghost use Rattle.cmd_capture.specs.Runs.{telling};
 ghost use Rattle.client_core.specs.Running.{has_logged};
 ghost use Rattle.client_session.specs.Session.{state_of, capture_answer, job_answer, run_answer};
 ghost use Rattle.client_session.specs.Inside.{RunsLine, RunsMade};

@@ -8,8 +8,7 @@ ghost use Rattle.client_session.specs.Session.{state_of, put_effect, make_effect
 ghost use Rattle.client_session.specs.Session.{with_folder, local_answer, word_answer, sync_answer, pull_answer};
 ghost use Rattle.client_session.specs.Session.{status_answer};
 ghost use Rattle.client_session.specs.Looking.{cat_answer, list_answer, enter_answer, folder_by};
-ghost use Rattle.cmd_capture.specs.Runs.{RunnerTelling};
-ghost use Rattle.client_core.specs.Goes.{telling};
+ghost use Rattle.cmd_capture.specs.Runs.{RunnerTelling, telling};
 ghost use Rattle.client_session.specs.Doing.{beside, WentDoing, LineEnds};
 ghost use Rattle.client_session.specs.Causes.{HasLineCause, asks_to_run, is_sync_fault, is_pull_fault, answer_or_fault};
 ghost use Rattle.client_session.specs.Inside.{IsAnswerOrMemory, LogsOrRefuses, LogsMade};

@@ -30,6 +30,10 @@ pub record RunnerTelling : Type 0 where
   pub runs : Option (List Run)
   pub faults : ℕ
 
+-- a runner that tells so
+abbrev pub telling : Option (List Run) → ℕ → RunnerTelling
+telling runs faults = record { runs = runs; faults = faults }
+
 -- Between two moments of a runner it made these runs, in order, and failed so often.
 pub record HasRun (runs : List Run) (failed : ℕ) (old new : RunnerTelling) : Type 0 where
   pub told : new.runs ≡ option_map (λ list. list ++ runs) old.runs

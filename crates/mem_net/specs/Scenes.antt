@@ -5,7 +5,7 @@ use Rattle.std.specs.declared.alloc.AllocError.{AllocError}
 use Rattle.outside.specs.Outside.{RoseBy}
 use Rattle.tree_values.specs.Tree.{Volume}
 use Rattle.cmd_capture.specs.declared.runner.Run.{Run}
-use Rattle.cmd_capture.specs.Runs.{RunnerTelling, HasRun}
+use Rattle.cmd_capture.specs.Runs.{RunnerTelling, HasRun, telling}
 use Rattle.wire_frames.specs.declared.message.Message.{Message}
 use Rattle.wire_frames.specs.Frame.{IsValid, Spells}
 use Rattle.world_rules.specs.declared.asking.Peer.{Peer}
@@ -18,7 +18,7 @@ use Rattle.world_rules.specs.declared.link.LinkError.TheVariants.{Failed as Link
 use Rattle.world_rules.specs.World.{World, MovedAlone, sent}
 use Rattle.world_rules.specs.Asking.{IsRequest}
 use Rattle.world_rules.specs.Settling.{failed_asks}
-use Rattle.surrogate_core.specs.Serving.{ServesTo, failures_told, telling}
+use Rattle.surrogate_core.specs.Serving.{ServesTo, failures_told}
 use Rattle.mem_net.specs.declared.fate.Fate.{Fate}
 use Rattle.mem_net.specs.declared.fate.Fate.TheVariants.{Pass, LoseRequest, LoseReply, Twice, Old, Late}
 use Rattle.mem_net.specs.declared.parts.Parts.{Parts}

@@ -9,7 +9,7 @@ use Rattle.cmd_capture.specs.declared.job.Outcome.{Outcome}
 use Rattle.cmd_capture.specs.declared.runner.Run.{Run}
 use Rattle.cmd_capture.specs.declared.runner.RunError.{RunError}
 use Rattle.cmd_capture.specs.declared.runner.RunError.TheVariants as run_errors
-use Rattle.cmd_capture.specs.Runs.{AddsRun, RunnerTelling, HasRun}
+use Rattle.cmd_capture.specs.Runs.{AddsRun, RunnerTelling, HasRun, telling}
 use Rattle.mod_log.specs.declared.sketching.SketchEntry.{SketchEntry}
 use Rattle.wire_frames.specs.declared.cause.Cause.{Cause}
 use Rattle.wire_frames.specs.declared.cause.Cause.TheVariants.{NotRun, NoMemory}
@@ -21,7 +21,7 @@ use Rattle.surrogate_core.specs.declared.machine.State.{State}
 use Rattle.surrogate_core.specs.declared.machine.State.TheVariants.{Idle as IsIdle}
 use Rattle.surrogate_core.specs.declared.replaying.Held.{Held}
 use Rattle.surrogate_core.specs.Handling.{Phase, Idle, Fetching, Holding, Machine, Reaction, idle, declining, job_for, after_verdict, held_by, AfterJob, runs_of_job, Tries, HandlesReply}
-use Rattle.surrogate_core.specs.Serving.{Steps, telling, failed_step}
+use Rattle.surrogate_core.specs.Serving.{Steps, failed_step}
 use Rattle.surrogate_core.specs.Inside.{IsReplayed, IsConcluded, Starves, phase_of, reaction_of, snapshot_rows}
 
 -- ---- what the runner tells

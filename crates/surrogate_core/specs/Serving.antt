@@ -35,10 +35,6 @@ abbrev pub failed_step : Step → ℕ
 failed_step (steps.Answer reply) = failed_runs reply
 failed_step (steps.Ask request) = 0
 
--- what a runner tells
-abbrev pub telling : Option (List Run) → ℕ → RunnerTelling
-telling runs faults = record { runs = runs; faults = faults }
-
 -- A step of the machine: what it did with some runs, and what the runner tells of it.
 pub record Steps (did : List Run → Reaction → Type 0) (reaction : Reaction) (old new : RunnerTelling) : Type 0 where
   pub runs : List Run

@@ -13,7 +13,8 @@ ghost use Rattle.surrogate_core.specs.declared.machine.State.TheVariants as stat
 ghost use Rattle.surrogate_core.specs.Handling.{Idle, Fetching, IsAsking, idle, copy_before, declining, job_for};
 ghost use Rattle.surrogate_core.specs.Handling.{closed, refusal_kind, Tries, Operates, AfterJob, Expects, HandlesReply};
 ghost use Rattle.surrogate_core.specs.Handling.{IsSilenced, IsSent};
-ghost use Rattle.surrogate_core.specs.Serving.{Steps, telling, failed_cause, failed_step};
+ghost use Rattle.cmd_capture.specs.Runs.{telling};
+ghost use Rattle.surrogate_core.specs.Serving.{Steps, failed_cause, failed_step};
 ghost use Rattle.surrogate_core.specs.Inside.{IsSound, IsConcluded, Starves, reaction_of, operation_in, snapshot_rows};
 
 use crate::replaying::{Held, prepare, replay};

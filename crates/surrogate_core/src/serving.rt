@@ -5,7 +5,8 @@ ghost use Rattle.wire_frames.specs.declared.message.Message.TheVariants.{Operate
 ghost use Rattle.world_rules.specs.Asking.{IsRequest};
 ghost use Rattle.surrogate_core.specs.declared.step.Step.TheVariants as steps;
 ghost use Rattle.surrogate_core.specs.Handling.{Idle, idle, copy_before, IsSent};
-ghost use Rattle.surrogate_core.specs.Serving.{telling, Serves};
+ghost use Rattle.cmd_capture.specs.Runs.{telling};
+ghost use Rattle.surrogate_core.specs.Serving.{Serves};
 ghost use Rattle.surrogate_core.specs.Inside.{Awaits, Follows, Breaks, asks_left};
 
 use crate::machine::{Surrogate, operation};

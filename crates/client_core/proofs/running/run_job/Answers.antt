@@ -2,7 +2,7 @@ use Rattle.std.proofs.Common.{sym, subst}
 use Rattle.client_core.specs.declared.running.RunEnd.{RunEnd}
 use Rattle.client_core.specs.Running.{RunsCommand}
 use Rattle.client_core.specs.Inside.{ran}
-use Rattle.client_core.specs.Goes.{telling}
+use Rattle.cmd_capture.specs.Runs.{telling}
 use Rattle.client_core.proofs.Runs.{given, given_faults, unrun}
 use Rattle.client_core.proofs.running.run_job.Goals as goal
 

@@ -4,7 +4,7 @@ use Rattle.outside.specs.Outside.{Adds}
 use Rattle.shell_lang.specs.Commands.{read_line}
 use Rattle.shell_lang.specs.declared.line.Line.{Line}
 use Rattle.shell_lang.specs.declared.line.LineError.{LineError}
-use Rattle.client_core.specs.Goes.{telling}
+use Rattle.cmd_capture.specs.Runs.{telling}
 use Rattle.client_session.specs.Session.{state_of}
 use Rattle.client_session.specs.Doing.{WentDoing, LineEnds, beside}
 use Rattle.client_session.proofs.Doing.{went_none, went_as}

@@ -1,7 +1,7 @@
 use Rattle.std.proofs.Common.{◌≡◌, ◌≤◌, ◌-◌, ℕ, List, [], ◌∷◌}
 use Rattle.shell_lang.specs.Lines.{parts}
 use Rattle.client_core.specs.Keeping.{IsKeptReady}
-use Rattle.client_core.specs.Goes.{telling}
+use Rattle.cmd_capture.specs.Runs.{telling}
 use Rattle.client_session.specs.Session.{state_of}
 use Rattle.client_session.specs.Doing.{beside}
 use Rattle.client_session.proofs.Doing.{WentKept}

@@ -1,6 +1,6 @@
 use Rattle.std.proofs.Common.{◌≡◌, ⊎_elim, ℕ, List, [], Ok, refl, ap, sym, subst}
 use Rattle.client_core.specs.Trace.{nothing}
-use Rattle.client_core.specs.Goes.{telling}
+use Rattle.cmd_capture.specs.Runs.{telling}
 use Rattle.client_session.specs.Session.{state_of}
 use Rattle.client_session.specs.Doing.{beside}
 use Rattle.client_session.proofs.Doing.{went_none}

@@ -3,7 +3,7 @@ use Rattle.std.proofs.lemmas.Bool.Decides.{nat_tests}
 use Rattle.std.proofs.lemmas.Result.{err_from_is_err_and}
 use Rattle.shell_lang.specs.Lines.{last_line}
 use Rattle.client_core.specs.Trace.{nothing}
-use Rattle.client_core.specs.Goes.{telling}
+use Rattle.cmd_capture.specs.Runs.{telling}
 use Rattle.client_session.specs.Session.{state_of}
 use Rattle.client_session.specs.Doing.{WentDoing, beside}
 use Rattle.client_session.proofs.Doing.{went_none}

@@ -14,7 +14,7 @@ use Rattle.client_prog.specs.Words.{Invocation}
 use Rattle.client_session.specs.Session.{Sitting, state_of, opened}
 use Rattle.client_prog.specs.Opening.{status_unopened}
 use Rattle.client_prog.specs.Run.{route_of, status_of, IsInputRead}
-use Rattle.client_core.specs.Goes.{telling}
+use Rattle.cmd_capture.specs.Runs.{telling}
 use Rattle.client_session.specs.Doing.{WentDoing, beside}
 use Rattle.client_prog.specs.InsideRun.{RunAnswers}
 use Rattle.client_prog.proofs.Counting.{source_status, sink_status, keeper_status, source_unopened, sink_unopened, keeper_unopened, rises, rose}

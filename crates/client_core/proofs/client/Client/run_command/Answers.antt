@@ -1,13 +1,12 @@
 use Rattle.std.proofs.Common.{◌≡◌, ◌≢◌, Err, sym, subst}
 use Rattle.tree_values.specs.Tree.{Volume}
-use Rattle.cmd_capture.specs.Runs.{RunnerTelling}
+use Rattle.cmd_capture.specs.Runs.{RunnerTelling, telling}
 use Rattle.work_area.specs.declared.jobs.JobError.TheVariants.{Memory}
 use Rattle.work_area.specs.Jobs.{job_of}
 use Rattle.mod_log.specs.Log.{tree_of}
 use Rattle.client_core.specs.Client.{Client}
 use Rattle.client_core.specs.declared.running.RunEnd.{RunEnd}
 use Rattle.client_core.specs.Running.{RunsCommand}
-use Rattle.client_core.specs.Goes.{telling}
 use Rattle.client_core.specs.Keeping.{IsReady}
 use Rattle.client_core.proofs.Runs.{jobless, ran_ready}
 use Rattle.client_core.proofs.client.Client.run_command.Goals as goal

@@ -8,7 +8,7 @@ use Rattle.mod_log.specs.Log.{tree_of}
 use Rattle.client_core.specs.Keeping.{IsKeptReady}
 use Rattle.client_session.specs.Session.{state_of, put_effect, make_effect, remove_effect, move_effect}
 use Rattle.client_session.specs.Looking.{list_answer}
-use Rattle.client_core.specs.Goes.{telling}
+use Rattle.cmd_capture.specs.Runs.{telling}
 use Rattle.client_session.specs.Doing.{beside, WentDoing, LineEnds}
 use Rattle.client_session.specs.Inside.{LogsOrRefuses}
 use Rattle.client_session.specs.Causes.{HasLineCause, asks_to_run}

@@ -2,7 +2,7 @@ use Rattle.std.proofs.Common.{◌≡◌, ◌≢◌, Ok, Err, ap, subst}
 use Rattle.file_paths.specs.Path.{FilePath}
 use Rattle.cmd_capture.specs.declared.capturing.CaptureError.TheVariants.{Memory}
 use Rattle.cmd_capture.specs.Capture.{capture}
-use Rattle.client_core.specs.Goes.{telling}
+use Rattle.cmd_capture.specs.Runs.{telling}
 use Rattle.client_session.specs.Session.{Sitting, state_of}
 use Rattle.client_session.proofs.Commanding.{capture_given}
 use Rattle.client_session.proofs.session.Session.run.Goals as goal

@@ -2,7 +2,7 @@ use Rattle.std.proofs.Common.{◌≡◌, ℕ, List, true, false, Ok, Err, refl, 
 use Rattle.outside.specs.Outside.{Told}
 use Rattle.outside.specs.declared.errors.KeepError.{KeepError}
 use Rattle.client_core.specs.Client.{Client}
-use Rattle.client_core.specs.Goes.{telling}
+use Rattle.cmd_capture.specs.Runs.{telling}
 use Rattle.client_core.specs.Running.{RunsCommand, has_logged}
 use Rattle.client_core.specs.Keeping.{IsKept, IsReady, IsKeptReady, KeepsNext, KeepsLog}
 use Rattle.client_core.specs.Journal.{next_notes}

@@ -7,7 +7,7 @@ use Rattle.world_rules.specs.declared.asking.Peer.{Peer}
 use Rattle.world_rules.specs.declared.asking.Peer.TheVariants.{Server}
 use Rattle.world_rules.specs.World.{IsForServer, sent}
 use Rattle.world_rules.specs.Asking.{AsksOnce, IsDirect, IsReplyTo}
-use Rattle.surrogate_core.specs.Serving.{telling}
+use Rattle.cmd_capture.specs.Runs.{telling}
 use Rattle.mem_net.specs.declared.fate.Fate.{Fate}
 use Rattle.mem_net.specs.Net.{Wire, world_of}
 use Rattle.mem_net.specs.Scenes.{scene_of, with_world, UnlessMemory, IsMet, OnMemory, IsHandledInPart, handlings, IsCutShort}

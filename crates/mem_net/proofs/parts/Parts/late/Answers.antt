@@ -4,7 +4,7 @@ use Rattle.wire_frames.specs.declared.message.Message.{Message}
 use Rattle.wire_frames.specs.Frame.{IsValid}
 use Rattle.world_rules.specs.declared.asking.Peer.TheVariants.{Surrogate}
 use Rattle.world_rules.specs.Asking.{IsRequest}
-use Rattle.surrogate_core.specs.Serving.{telling}
+use Rattle.cmd_capture.specs.Runs.{telling}
 use Rattle.mem_net.specs.Scenes.{scene_of}
 use Rattle.mem_net.specs.declared.fate.Fate.TheVariants.{Late}
 use Rattle.mem_net.proofs.Network.{got_in}

@@ -2,7 +2,7 @@ use Rattle.std.proofs.Common.{[], inl, inr, sym, subst}
 use Rattle.world_rules.specs.declared.asking.Peer.TheVariants.{Surrogate}
 use Rattle.world_rules.specs.World.{Is}
 use Rattle.world_rules.proofs.Asks.{moved_packets}
-use Rattle.surrogate_core.specs.Serving.{telling}
+use Rattle.cmd_capture.specs.Runs.{telling}
 use Rattle.mem_net.specs.declared.fate.Fate.{Fate}
 use Rattle.mem_net.specs.declared.fate.Fate.TheVariants.{LoseRequest, Old}
 use Rattle.mem_net.specs.Net.{world_of}

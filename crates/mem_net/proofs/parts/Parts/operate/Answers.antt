@@ -1,7 +1,7 @@
 use Rattle.std.proofs.Common.{inr, Ok, Err, subst}
 use Rattle.byte_fields.proofs.Fronts.{on_error}
 use Rattle.wire_frames.specs.declared.message.Message.{Message}
-use Rattle.surrogate_core.specs.Serving.{telling}
+use Rattle.cmd_capture.specs.Runs.{telling}
 use Rattle.mem_net.specs.Scenes.{scene_of, HasServed}
 use Rattle.mem_net.proofs.Handling.{joined_handled, joined_not, joined_goes, stays_as_it_is}
 use Rattle.mem_net.proofs.parts.Parts.operate.Goals as goal

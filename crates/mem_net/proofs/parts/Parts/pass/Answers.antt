@@ -1,5 +1,5 @@
 use Rattle.std.proofs.Common.{inl, inr}
-use Rattle.surrogate_core.specs.Serving.{telling}
+use Rattle.cmd_capture.specs.Runs.{telling}
 use Rattle.mem_net.specs.Scenes.{scene_of}
 use Rattle.mem_net.proofs.Meeting.{pass_met, pass_once, cut_passing}
 use Rattle.mem_net.proofs.parts.Parts.pass.Goals as goal

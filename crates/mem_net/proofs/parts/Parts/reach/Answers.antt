@@ -3,7 +3,7 @@ use Rattle.byte_fields.proofs.Fronts.{on_error}
 use Rattle.tree_values.specs.Lists.{IsIn}
 use Rattle.world_rules.specs.World.{Is}
 use Rattle.world_rules.proofs.Asks.{moved_packets}
-use Rattle.surrogate_core.specs.Serving.{telling}
+use Rattle.cmd_capture.specs.Runs.{telling}
 use Rattle.mem_net.specs.Net.{world_of}
 use Rattle.mem_net.specs.Scenes.{scene_of}
 use Rattle.mem_net.specs.Inside.{IsSent}

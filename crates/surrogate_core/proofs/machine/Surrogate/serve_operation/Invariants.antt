@@ -1,5 +1,5 @@
 use Rattle.surrogate_core.specs.Handling.{IsSent}
-use Rattle.surrogate_core.specs.Serving.{telling}
+use Rattle.cmd_capture.specs.Runs.{telling}
 use Rattle.surrogate_core.specs.Inside.{Serving, asks_left}
 use Rattle.surrogate_core.proofs.machine.Surrogate.serve_operation.Given as goal
 
