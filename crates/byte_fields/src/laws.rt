@@ -7,7 +7,8 @@ ghost use Rattle.byte_fields.specs.Codec.{IsCodec};
 ghost use Rattle.byte_fields.specs.Cuts.{IsCut};
 ghost use Rattle.byte_fields.specs.Records.{WholeRecordsAreRead, TornRecordsAreLeft, OnlyRecordsAreRead};
 ghost use Rattle.byte_fields.specs.Records.{FaultyRecordsAreRefused, LeftBytesAreRefused, OnlyFrontsAreTorn};
-ghost use Rattle.byte_fields.specs.Broken.{RulesAreOfTheirField, MeaningsAreOfTheirField, LaterFieldsAreRefusedLater, ItemsAreRefusedInTheirPlace};
+ghost use Rattle.byte_fields.specs.Broken.{RulesAreOfTheirField, MeaningsAreOfTheirField, LaterFieldsAreRefusedLater};
+ghost use Rattle.byte_fields.specs.Broken.{ItemsAreRefusedInTheirPlace};
 
 /// One spelling for each span and each number, and one value for each spelling.
 pub fn fields_are_spelled_once()

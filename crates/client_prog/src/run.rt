@@ -143,7 +143,8 @@ fn answer<O: Sink, K: Keeper, R: Runner, L: Link>(
 ) -> Result<bool, Stop>
     requires { IsKeptReady (K.images keeper.old) route.now.image session.old.client }
     ensures world { WentDoing route.now (AnswersLines route.now (state_of session.old) (line.now ∷ []) (O.written output.old)
-        (O.written output.new) result (state_of session.new)) (state_of session.old) (state_of session.new) (K.images keeper.old) (K.images keeper.new)
+        (O.written output.new) result (state_of session.new)) (state_of session.old) (state_of session.new) (K.images keeper.old)
+        (K.images keeper.new)
         (beside (L.tells link.old) (telling (R.runs runner.old) (R.faults runner.old)))
         (beside (L.tells link.new) (telling (R.runs runner.new) (R.faults runner.new))) }
     ensures quit { IfOk result (λ quit. quit ≡ quits line.now) }
@@ -174,7 +175,8 @@ fn answer_lines<O: Sink, K: Keeper, R: Runner, L: Link>(
 ) -> Result<bool, Stop>
     requires { IsKeptReady (K.images keeper.old) route.now.image session.old.client }
     ensures world { WentDoing route.now (AnswersLines route.now (state_of session.old) (up_to_quit (whole_lines reader.old.bytes))
-        (O.written output.old) (O.written output.new) result (state_of session.new)) (state_of session.old) (state_of session.new) (K.images keeper.old)
+        (O.written output.old) (O.written output.new) result (state_of session.new)) (state_of session.old) (state_of session.new)
+        (K.images keeper.old)
         (K.images keeper.new) (beside (L.tells link.old) (telling (R.runs runner.old) (R.faults runner.old)))
         (beside (L.tells link.new) (telling (R.runs runner.new) (R.faults runner.new))) }
     ensures quit { IfOk result (λ quit. quit ≡ has_quit (whole_lines reader.old.bytes)) }
@@ -208,8 +210,10 @@ fn answer_input<I: Source, O: Sink, K: Keeper, R: Runner, L: Link>(
     link: &mut L,
 ) -> Result<InputEnd, Stop>
     requires { IsKeptReady (K.images keeper.old) route.now.image session.old.client }
-    ensures world { WentDoing route.now (AnswersInput route.now (state_of session.old) (I.left input.old) (I.left input.new) (O.written output.old)
-        (O.written output.new) result (state_of session.new)) (state_of session.old) (state_of session.new) (K.images keeper.old) (K.images keeper.new)
+    ensures world { WentDoing route.now
+        (AnswersInput route.now (state_of session.old) (I.left input.old) (I.left input.new) (O.written output.old)
+        (O.written output.new) result (state_of session.new)) (state_of session.old) (state_of session.new) (K.images keeper.old)
+        (K.images keeper.new)
         (beside (L.tells link.old) (telling (R.runs runner.old) (R.faults runner.old)))
         (beside (L.tells link.new) (telling (R.runs runner.new) (R.faults runner.new))) }
     ensures input { TakesInput (I.left input.old) (I.left input.new) result }
@@ -262,7 +266,8 @@ fn answer_last<O: Sink, K: Keeper, R: Runner, L: Link>(
 ) -> Result<(), Stop>
     requires { IsKeptReady (K.images keeper.old) route.now.image session.old.client }
     ensures world { WentDoing route.now (AnswersLines route.now (state_of session.old) (last_at end reader.now.bytes) (O.written output.old)
-        (O.written output.new) result (state_of session.new)) (state_of session.old) (state_of session.new) (K.images keeper.old) (K.images keeper.new)
+        (O.written output.new) result (state_of session.new)) (state_of session.old) (state_of session.new) (K.images keeper.old)
+        (K.images keeper.new)
         (beside (L.tells link.old) (telling (R.runs runner.old) (R.faults runner.old)))
         (beside (L.tells link.new) (telling (R.runs runner.new) (R.faults runner.new))) }
     ensures kept { IfOk result (λ done. IsKeptReady (K.images keeper.new) route.now.image session.new.client) }
@@ -299,7 +304,8 @@ fn answer_unfinished<O: Sink, K: Keeper, R: Runner, L: Link>(
 ) -> Result<(), Stop>
     requires { IsKeptReady (K.images keeper.old) route.now.image session.old.client }
     ensures world { WentDoing route.now (AnswersLines route.now (state_of session.old) (last_line line.now) (O.written output.old)
-        (O.written output.new) result (state_of session.new)) (state_of session.old) (state_of session.new) (K.images keeper.old) (K.images keeper.new)
+        (O.written output.new) result (state_of session.new)) (state_of session.old) (state_of session.new) (K.images keeper.old)
+        (K.images keeper.new)
         (beside (L.tells link.old) (telling (R.runs runner.old) (R.faults runner.old)))
         (beside (L.tells link.new) (telling (R.runs runner.new) (R.faults runner.new))) }
     ensures kept { IfOk result (λ done. IsKeptReady (K.images keeper.new) route.now.image session.new.client) }
@@ -360,8 +366,10 @@ fn run<I: Source, O: Sink, K: Keeper, R: Runner, L: Link>(
     link: &mut L,
 ) -> Result<InputEnd, Stop>
     requires { IsKeptReady (K.images keeper.old) route.now.image session.old.client }
-    ensures world { WentDoing route.now (RunAnswers route.now (state_of session.old) (I.left input.old) (I.left input.new) (O.written output.old)
-        (O.written output.new) result (state_of session.new)) (state_of session.old) (state_of session.new) (K.images keeper.old) (K.images keeper.new)
+    ensures world { WentDoing route.now
+        (RunAnswers route.now (state_of session.old) (I.left input.old) (I.left input.new) (O.written output.old)
+        (O.written output.new) result (state_of session.new)) (state_of session.old) (state_of session.new) (K.images keeper.old)
+        (K.images keeper.new)
         (beside (L.tells link.old) (telling (R.runs runner.old) (R.faults runner.old)))
         (beside (L.tells link.new) (telling (R.runs runner.new) (R.faults runner.new))) }
     ensures input { TakesInput (I.left input.old) (I.left input.new) result }

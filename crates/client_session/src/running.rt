@@ -27,7 +27,8 @@ impl Session {
         runner: &mut R,
     ) -> Result<Option<Answer>, KeepError>
         requires { IsKeptReady (K.images keeper.old) route.now.image self.old.client }
-        ensures runs { RunsLine route.now words.now (state_of self.old) result (state_of self.new) (K.images keeper.old) (K.images keeper.new)
+        ensures runs { RunsLine route.now words.now (state_of self.old) result (state_of self.new) (K.images keeper.old)
+            (K.images keeper.new)
             (telling (R.runs runner.old) (R.faults runner.old)) (telling (R.runs runner.new) (R.faults runner.new)) }
         ensures kept { IfOk result (λ answer. IsKeptReady (K.images keeper.new) route.now.image self.new.client) }
         ensures later { R.faults runner.old ≤ R.faults runner.new }

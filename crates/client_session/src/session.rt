@@ -68,7 +68,8 @@ impl Session {
         runner: &mut R,
     ) -> Result<Option<Answer>, KeepError>
         requires { IsKeptReady (K.images keeper.old) route.now.image self.old.client }
-        ensures world { WentDoing route.now (LineEnds route.now (state_of self.old) line result (state_of self.new)) (state_of self.old) (state_of self.new) (K.images keeper.old)
+        ensures world { WentDoing route.now (LineEnds route.now (state_of self.old) line result (state_of self.new)) (state_of self.old)
+            (state_of self.new) (K.images keeper.old)
             (K.images keeper.new) (beside (L.tells link.old) (telling (R.runs runner.old) (R.faults runner.old)))
             (beside (L.tells link.new) (telling (R.runs runner.new) (R.faults runner.new))) }
         ensures cause { HasLineCause route.now (state_of self.old) line result (state_of self.new)
@@ -120,7 +121,8 @@ impl Session {
         keeper: &mut K,
     ) -> Result<Option<Answer>, KeepError>
         requires { IsKeptReady (K.images keeper.old) image.now self.old.client }
-        ensures logs { LogsOrRefuses image.now (put_effect self.old.folder path.now text) (state_of self.old) result (state_of self.new) (K.images keeper.old)
+        ensures logs { LogsOrRefuses image.now (put_effect self.old.folder path.now text) (state_of self.old) result (state_of self.new)
+            (K.images keeper.old)
             (K.images keeper.new) }
         ensures kept { IfOk result (λ answer. IsKeptReady (K.images keeper.new) image.now self.new.client) }
         ensures keeper { CountsFault KeepError.Failed (K.faults keeper.old) (K.faults keeper.new) result }
@@ -138,7 +140,8 @@ impl Session {
         keeper: &mut K,
     ) -> Result<Option<Answer>, KeepError>
         requires { IsKeptReady (K.images keeper.old) image.now self.old.client }
-        ensures logs { LogsOrRefuses image.now (make_effect self.old.folder path.now) (state_of self.old) result (state_of self.new) (K.images keeper.old)
+        ensures logs { LogsOrRefuses image.now (make_effect self.old.folder path.now) (state_of self.old) result (state_of self.new)
+            (K.images keeper.old)
             (K.images keeper.new) }
         ensures kept { IfOk result (λ answer. IsKeptReady (K.images keeper.new) image.now self.new.client) }
         ensures keeper { CountsFault KeepError.Failed (K.faults keeper.old) (K.faults keeper.new) result }
@@ -155,7 +158,8 @@ impl Session {
         keeper: &mut K,
     ) -> Result<Option<Answer>, KeepError>
         requires { IsKeptReady (K.images keeper.old) image.now self.old.client }
-        ensures logs { LogsOrRefuses image.now (remove_effect self.old.folder path.now) (state_of self.old) result (state_of self.new) (K.images keeper.old)
+        ensures logs { LogsOrRefuses image.now (remove_effect self.old.folder path.now) (state_of self.old) result (state_of self.new)
+            (K.images keeper.old)
             (K.images keeper.new) }
         ensures kept { IfOk result (λ answer. IsKeptReady (K.images keeper.new) image.now self.new.client) }
         ensures keeper { CountsFault KeepError.Failed (K.faults keeper.old) (K.faults keeper.new) result }
@@ -173,7 +177,8 @@ impl Session {
         keeper: &mut K,
     ) -> Result<Option<Answer>, KeepError>
         requires { IsKeptReady (K.images keeper.old) image.now self.old.client }
-        ensures logs { LogsOrRefuses image.now (move_effect self.old.folder from.now to.now) (state_of self.old) result (state_of self.new) (K.images keeper.old)
+        ensures logs { LogsOrRefuses image.now (move_effect self.old.folder from.now to.now) (state_of self.old) result
+            (state_of self.new) (K.images keeper.old)
             (K.images keeper.new) }
         ensures kept { IfOk result (λ answer. IsKeptReady (K.images keeper.new) image.now self.new.client) }
         ensures keeper { CountsFault KeepError.Failed (K.faults keeper.old) (K.faults keeper.new) result }
@@ -257,7 +262,8 @@ impl Session {
     ) -> Result<Option<Answer>, KeepError>
         requires { IsKeptReady (K.images keeper.old) route.now.image self.old.client }
         ensures world { (runner : RunnerTelling) → WentDoing route.now
-            (LineEnds route.now (state_of self.old) (Ok Line.Sync) result (state_of self.new)) (state_of self.old) (state_of self.new) (K.images keeper.old) (K.images keeper.new)
+            (LineEnds route.now (state_of self.old) (Ok Line.Sync) result (state_of self.new)) (state_of self.old) (state_of self.new)
+            (K.images keeper.old) (K.images keeper.new)
             (beside (L.tells link.old) runner) (beside (L.tells link.new) runner) }
         ensures cause { (runner : RunnerTelling) → HasLineCause route.now (state_of self.old) (Ok Line.Sync) result (state_of self.new)
             (beside (L.tells link.old) runner) (beside (L.tells link.new) runner) (K.faults keeper.old) (K.faults keeper.new) }
@@ -279,7 +285,8 @@ impl Session {
     ) -> Result<Option<Answer>, KeepError>
         requires { IsKeptReady (K.images keeper.old) route.now.image self.old.client }
         ensures world { (runner : RunnerTelling) → WentDoing route.now
-            (LineEnds route.now (state_of self.old) (Ok Line.Pull) result (state_of self.new)) (state_of self.old) (state_of self.new) (K.images keeper.old) (K.images keeper.new)
+            (LineEnds route.now (state_of self.old) (Ok Line.Pull) result (state_of self.new)) (state_of self.old) (state_of self.new)
+            (K.images keeper.old) (K.images keeper.new)
             (beside (L.tells link.old) runner) (beside (L.tells link.new) runner) }
         ensures cause { (runner : RunnerTelling) → HasLineCause route.now (state_of self.old) (Ok Line.Pull) result (state_of self.new)
             (beside (L.tells link.old) runner) (beside (L.tells link.new) runner) (K.faults keeper.old) (K.faults keeper.new) }

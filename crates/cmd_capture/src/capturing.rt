@@ -181,7 +181,8 @@ fn inputs_of(alloc: Global, cwd: &Path, options: &[Content]) -> Result<Paths, Ca
     ensures good { OnOk result (position (rules.holds_behind rules.in_mark (rules.is_bad_path cwd.now)) options.now ≡ None) }
     ensures paths { IfOk result (λ paths. paths ≡ filter_map (rules.input_of cwd.now) options.now) }
     ensures bad { IfErr result (λ e. e ≢ CaptureError.Memory
-        → rules.refusal_at CaptureError.BadInput (position (rules.holds_behind rules.in_mark (rules.is_bad_path cwd.now)) options.now) ≡ Some e) }
+        → rules.refusal_at CaptureError.BadInput
+        (position (rules.holds_behind rules.in_mark (rules.is_bad_path cwd.now)) options.now) ≡ Some e) }
 {
     let mut inputs = Paths::new(alloc);
     for (i, word) in options.iter().enumerate() {

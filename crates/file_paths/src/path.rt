@@ -1,16 +1,19 @@
 // Paths, which contracts see as the list of their names.
-ghost use Rattle.std.specs.Prelude.{◌≤◌, ◌≡◌, ◌≢◌, ℕ, ◌+◌, ◌-◌, List, [], ◌∷◌, ◌++◌, length, min, not, ◌==◌, IfOk, IfErr, OnOk, OnErr, IsTrue, position, map, slice_get};
+ghost use Rattle.std.specs.Prelude.{◌≤◌, ◌≡◌, ◌≢◌, ℕ, ◌+◌, ◌-◌, List, [], ◌∷◌, ◌++◌, length, min, not, ◌==◌, IfOk, IfErr, OnOk, OnErr};
+ghost use Rattle.std.specs.Prelude.{IsTrue, position, map, slice_get};
 ghost use Rattle.std.specs.List.{list_all, slice_split};
 ghost use Rattle.byte_fields.specs.Field.{IsFront};
 ghost use Rattle.file_paths.specs.Inside.{joined_size};
 ghost use Rattle.file_paths.specs.Limits.{max_text};
 ghost use Rattle.file_paths.specs.declared.path.PathError.TheVariants.{Memory};
-ghost use Rattle.file_paths.specs.Path.{IsPath, is_name as name_test, is_dots as dots_test, is_name_byte, path_of, resolved, text_before, path_text, parent, folder_of, last_name, path_cmp, partial_order_of_paths};
+ghost use Rattle.file_paths.specs.Path.{IsPath, is_name as name_test, is_dots as dots_test, is_name_byte, path_of, resolved};
+ghost use Rattle.file_paths.specs.Path.{text_before, path_text, parent, folder_of, last_name, path_cmp, partial_order_of_paths};
 ghost use Rattle.std.specs.Option.{option_copied};
 ghost use Rattle.std.specs.Str.{bytes_eq};
 ghost use Rattle.std.specs.Ordering.{nat_cmp, as_partial_cmp};
 ghost use Rattle.std.specs.Cmp.{partial_equiv_from_equiv};
-ghost use Rattle.std.specs.Cmp.Lexicographic.{pointwise, slice_cmp, nat_list_eq_equiv, nat_list_cmp_total, texts_ties, lists_equiv, lists_total, lists_ties};
+ghost use Rattle.std.specs.Cmp.Lexicographic.{pointwise, slice_cmp, nat_list_eq_equiv, nat_list_cmp_total, texts_ties, lists_equiv};
+ghost use Rattle.std.specs.Cmp.Lexicographic.{lists_total, lists_ties};
 ghost use Rattle.std.proofs.Common.{rules};
 
 use crate::Names;

@@ -247,7 +247,8 @@ impl<R: Runner> Parts<R> {
         ensures kept { Spends self.old.wires self.new.wires }
         ensures fates { TakesFates self.old.wires.fates self.new.wires.fates self.old.wires.troubles self.new.wires.troubles to result }
         ensures met { (request : Message) → Spells request frame.now
-            → UnlessMemory result (IsMet to address.now request (scene_of R.runs R.faults self.old) (scene_of R.runs R.faults self.new) result) }
+            → UnlessMemory result
+            (IsMet to address.now request (scene_of R.runs R.faults self.old) (scene_of R.runs R.faults self.new) result) }
         ensures cut { (request : Message) → Spells request frame.now
             → OnMemory result (IsCutShort to request (scene_of R.runs R.faults self.old) (scene_of R.runs R.faults self.new)) }
 

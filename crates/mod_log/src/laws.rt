@@ -1,7 +1,8 @@
 // What holds of logs and of sketched effects: functions that do nothing, whose contracts are laws.
 ghost use Rattle.mod_log.specs.Sketched.{SketchesAreFilled, FillingsAreEqual, FillingsTouchAlike, OneSketchList, OneSketchOf};
 ghost use Rattle.mod_log.specs.Spelling.{FillingsFit, SketchesOfEffectsFit};
-ghost use Rattle.mod_log.specs.Laws.{AppendingAddsAnEntry, EntriesThatFitAreAppended, AcknowledgingKeepsTheTree, PullingReplacesTheTree, TreesAreLogs, LogsHoldTrees, PendingEntriesFit};
+ghost use Rattle.mod_log.specs.Laws.{AppendingAddsAnEntry, EntriesThatFitAreAppended, AcknowledgingKeepsTheTree};
+ghost use Rattle.mod_log.specs.Laws.{PullingReplacesTheTree, TreesAreLogs, LogsHoldTrees, PendingEntriesFit};
 
 /// States what logging, acknowledging and pulling leave of a log and its tree, and that each pending entry has a
 /// spelling.

@@ -1,5 +1,6 @@
 // A client's log, which contracts see as the acknowledged number, the base tree and the pending entries.
-ghost use Rattle.std.specs.Prelude.{◌≡◌, ◌≢◌, ℕ, ◌+◌, ◌<◌, ◌≤◌, List, [], ◌∷◌, ◌++◌, length, false, ◌||◌, nat_le, nat_lt, Ok, Err, Some, IfSome, IfOk, IfErr, OnOk, OnErr, slice_get};
+ghost use Rattle.std.specs.Prelude.{◌≡◌, ◌≢◌, ℕ, ◌+◌, ◌<◌, ◌≤◌, List, [], ◌∷◌, ◌++◌, length, false, ◌||◌, nat_le, nat_lt, Ok, Err};
+ghost use Rattle.std.specs.Prelude.{Some, IfSome, IfOk, IfErr, OnOk, OnErr, slice_get};
 ghost use Rattle.std.specs.List.{sum_by};
 ghost use Rattle.std.specs.Option.{option_copied};
 ghost use Rattle.byte_fields.specs.Numbers.{as_u64};
@@ -291,7 +292,9 @@ impl Log {
         ensures size { IfOk result (λ size. size ≡ length (spelled (entry_with origin.now effects.now base.now self.now))) }
         ensures room { OnOk result (log_has_no_room (entry_with origin.now effects.now base.now self.now) self.now ≡ false) }
         ensures number { OnOk result (is_at_last self.now ≡ false) }
-        ensures err { IfErr result (λ e. e ≢ LogError.Memory → unless_refused (room_refusals (entry_with origin.now effects.now base.now self.now) self.now) self.now ≡ Err e) }
+        ensures err { IfErr result
+            (λ e. e ≢ LogError.Memory → unless_refused (room_refusals (entry_with origin.now effects.now base.now self.now) self.now)
+            self.now ≡ Err e) }
     {
         let pending = self.pending.len();
         let size = entry_size(self.tree.allocator(), origin, effects, base)?;
@@ -344,7 +347,8 @@ fn entry_of(pending: &[Pending], i: usize) -> Option<&Entry>
 
 fn check_size(effects: &Effects) -> Result<(), LogError>
     ensures ok { OnOk result (is_too_large effects.now ≡ false) }
-    ensures err { IfErr result (λ e. when (is_too_large effects.now) (EntryTooLarge (length effects.now) (as_u64 (contents_total effects.now))) ≡ Some e) }
+    ensures err { IfErr result
+        (λ e. when (is_too_large effects.now) (EntryTooLarge (length effects.now) (as_u64 (contents_total effects.now))) ≡ Some e) }
 {
     let count = effects.len();
     let bytes = contents_size(effects.as_slice());

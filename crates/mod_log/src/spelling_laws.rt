@@ -45,7 +45,8 @@ pub fn sketched_effects_are_spelled_once()
 /// States that, where the bytes end inside sketched effects, the field in which they end is the faulty one.
 pub fn sketched_effects_end_with_their_bytes()
     ensures effect { (room : ℕ) → IsCut (sketch_effect_at room) sketch_effect sketch_effect_fields (SketchEffectFitsIn room) }
-    ensures effects_within { (most room : ℕ) → most < 2 ^ 32 → IsCut (sketch_effects_within most room) sketch_effects sketch_effects_fields (SketchEffectsFitWithin most room) }
+    ensures effects_within { (most room : ℕ) → most < 2 ^ 32 → IsCut (sketch_effects_within most room) sketch_effects sketch_effects_fields
+        (SketchEffectsFitWithin most room) }
 {}
 
 /// States at which field sketched effects that break a rule are refused, whatever stands before and behind them.

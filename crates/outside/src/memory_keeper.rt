@@ -3,7 +3,8 @@ ghost use Rattle.std.specs.Option.{option_copied};
 ghost use Rattle.outside.specs.Outside.{Told, CountsFault};
 ghost use Rattle.outside.specs.Keeper.{IsPut, Loads, Saves, Appends, followed_by};
 ghost use Rattle.outside.specs.Memory.{after_call};
-ghost use Rattle.outside.specs.MemoryKeeper.{KeeperInMemory, has_name, images_of, fail_of, keeping_fails_now, has_failed, SavesAs, left_of, AppendsAs};
+ghost use Rattle.outside.specs.MemoryKeeper.{KeeperInMemory, has_name, images_of, fail_of, keeping_fails_now, has_failed, SavesAs};
+ghost use Rattle.outside.specs.MemoryKeeper.{left_of, AppendsAs};
 
 use crate::calls::Calls;
 use crate::{KeepError, Keeper};
@@ -94,7 +95,8 @@ impl Keeper for MemKeeper {
 
     /// Gives a copy of the image, but in the named calls.
     fn load(&mut self, name: &[u8]) -> Result<Option<Vec<u8>>, KeepError>
-        ensures images { Told (Some (images_of self.old.slots)) (Some (images_of self.new.slots)) (λ old new. Loads name.now result old new) }
+        ensures images { Told (Some (images_of self.old.slots)) (Some (images_of self.new.slots))
+            (λ old new. Loads name.now result old new) }
         ensures cause { CountsFault KeepError.Failed self.old.calls.faults self.new.calls.faults result }
 
         ensures exactly { IsErrOf result KeepError.Failed ↔ IsTrue (keeping_fails_now self.old) }
@@ -113,7 +115,8 @@ impl Keeper for MemKeeper {
 
     /// Keeps a copy of the image, but in the named calls.
     fn save(&mut self, name: &[u8], image: &[u8]) -> Result<(), KeepError>
-        ensures images { Told (Some (images_of self.old.slots)) (Some (images_of self.new.slots)) (λ old new. Saves name.now image.now result old new) }
+        ensures images { Told (Some (images_of self.old.slots)) (Some (images_of self.new.slots))
+            (λ old new. Saves name.now image.now result old new) }
         ensures cause { CountsFault KeepError.Failed self.old.calls.faults self.new.calls.faults result }
 
         ensures exactly { IsErrOf result KeepError.Failed → IsTrue (keeping_fails_now self.old) }
@@ -140,7 +143,8 @@ impl Keeper for MemKeeper {
 
     /// Puts a copy of the piece behind what is kept; in the named calls a copy of what they leave of it.
     fn append(&mut self, name: &[u8], piece: &[u8]) -> Result<(), KeepError>
-        ensures images { Told (Some (images_of self.old.slots)) (Some (images_of self.new.slots)) (λ old new. Appends name.now piece.now result old new) }
+        ensures images { Told (Some (images_of self.old.slots)) (Some (images_of self.new.slots))
+            (λ old new. Appends name.now piece.now result old new) }
         ensures cause { CountsFault KeepError.Failed self.old.calls.faults self.new.calls.faults result }
 
         ensures exactly { IsErrOf result KeepError.Failed → IsTrue (keeping_fails_now self.old) }
@@ -166,7 +170,9 @@ impl Keeper for MemKeeper {
 
 /// Keeps a copy of the piece under the name, behind what is kept there.
 fn add(slots: &mut Vec<Slot>, name: &[u8], piece: &[u8]) -> Result<(), AllocError>
-    ensures ok { OnOk result (IsPut name.now (followed_by piece.now (images_of slots.old.items name.now)) (images_of slots.old.items) (images_of slots.new.items)) }
+    ensures ok { OnOk result
+        (IsPut name.now (followed_by piece.now (images_of slots.old.items name.now)) (images_of slots.old.items)
+        (images_of slots.new.items)) }
     ensures err { OnErr result (slots.new.items ≡ slots.old.items) }
 {
     let whole = followed_by(slots, name, piece)?;

@@ -1,8 +1,10 @@
-ghost use Rattle.std.specs.Prelude.{◌≡◌, ◌<◌, ◌-◌, ◌↔◌, [], Some, None, Ok, ◌∷◌, ◌++◌, length, map, slice_get, option_map, IfOk, OnOk, OnErr, IsErrOf, IsTrue};
+ghost use Rattle.std.specs.Prelude.{◌≡◌, ◌<◌, ◌-◌, ◌↔◌, [], Some, None, Ok, ◌∷◌, ◌++◌, length, map, slice_get, option_map, IfOk, OnOk};
+ghost use Rattle.std.specs.Prelude.{OnErr, IsErrOf, IsTrue};
 ghost use Rattle.std.specs.Option.{option_copied};
 ghost use Rattle.outside.specs.Outside.{Told, CountsFault};
 ghost use Rattle.outside.specs.Port.{AddsTalks, talks_begun, AnswersLast};
-ghost use Rattle.outside.specs.MemoryPort.{PortInMemory, talks_of, reply_of, awaits_answer, take_fails, answer_fails, after_take, after_answer};
+ghost use Rattle.outside.specs.MemoryPort.{PortInMemory, talks_of, reply_of, awaits_answer, take_fails, answer_fails, after_take};
+ghost use Rattle.outside.specs.MemoryPort.{after_answer};
 
 use crate::calls::Calls;
 use crate::memory::is_named;
@@ -30,14 +32,16 @@ pub struct MemPort {
 impl Model for MemPort {
     ghost Value = { PortInMemory };
 
-    ghost view = { λ p. record { left = map (λ f. f.items) p.left.items; talks = talks_of p.talks.items; fails = p.fails.items; calls = p.calls } };
+    ghost view = { λ p. record
+        { left = map (λ f. f.items) p.left.items; talks = talks_of p.talks.items; fails = p.fails.items; calls = p.calls } };
 }
 
 impl MemPort {
     /// A port with a connection for each of these frames, in order, that fails in the named calls, counted from 0 over
     /// all its calls. A take with no connection left does not fail.
     pub fn new(alloc: Global, frames: Vec<Vec<u8>>, fails: Vec<u32>) -> MemPort
-        ensures { result ≡ record { left = map (λ f. f.items) frames.items; talks = []; fails = fails.items; calls = record { made = 0; faults = 0 } } }
+        ensures { result ≡ record
+            { left = map (λ f. f.items) frames.items; talks = []; fails = fails.items; calls = record { made = 0; faults = 0 } } }
     {
         MemPort {
             left: frames,

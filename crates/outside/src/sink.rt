@@ -30,7 +30,8 @@ pub trait Sink {
 /// Those of the sink. A front of the text may have been written then.
 pub fn write_all<O: Sink>(output: &mut O, text: &[u8]) -> Result<(), SinkError>
     ensures all { OnOk result (Adds (O.written output.old) (O.written output.new) text.now) }
-    ensures front { OnErr result ((count : ℕ) × (count ≤ length text.now) × Adds (O.written output.old) (O.written output.new) (take count text.now)) }
+    ensures front { OnErr result
+        ((count : ℕ) × (count ≤ length text.now) × Adds (O.written output.old) (O.written output.new) (take count text.now)) }
     ensures cause { CountsFault SinkError.Failed (O.faults output.old) (O.faults output.new) result }
 {
     let mut rest = text;

@@ -24,7 +24,9 @@ fn last_line(alloc: Global, tally: Tally) -> Result<String, AllocError>
 /// Those of the sink. A front of the line may have been written then.
 pub fn write_last<O: Sink>(alloc: Global, tally: Tally, output: &mut O) -> Result<(), SinkError>
     ensures all { OnOk result (Adds (O.written output.old) (O.written output.new) (served_line tally.frames tally.faults)) }
-    ensures front { OnErr result ((count : ℕ) × (count ≤ length (served_line tally.frames tally.faults)) × Adds (O.written output.old) (O.written output.new) (take count (served_line tally.frames tally.faults))) }
+    ensures front { OnErr result
+        ((count : ℕ) × (count ≤ length (served_line tally.frames tally.faults)) × Adds (O.written output.old) (O.written output.new)
+        (take count (served_line tally.frames tally.faults))) }
     ensures cause { CountsFault SinkError.Failed (O.faults output.old) (O.faults output.new) result }
 {
     let line = match last_line(alloc, tally) {

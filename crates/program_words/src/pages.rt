@@ -80,7 +80,9 @@ pub fn page_shown<R: Eprint, O: Sink>(
     output: &mut O,
 ) -> Option<ExitCode>
     ensures asked { result ≡ None ↔ page_asked (map string_bytes words.now) ≡ None }
-    ensures shows { IfSome result (λ exit. IfSome (page_asked (map string_bytes words.now)) (λ page. ShowsPage pages.now page (exit_status exit) (O.written output.old) (O.written output.new))) }
+    ensures shows { IfSome result
+        (λ exit. IfSome (page_asked (map string_bytes words.now))
+        (λ page. ShowsPage pages.now page (exit_status exit) (O.written output.old) (O.written output.new))) }
     ensures known { IfSome result (λ exit. (exit_status exit ≡ 0) ⊎ ((exit_status exit ≡ 4) ⊎ (exit_status exit ≡ 7))) }
     ensures cause { IfSome result (λ exit. RisesWhere (exit_status exit ≡ 4) (O.faults output.old) (O.faults output.new)) }
     ensures untouched { result ≡ None → (O.written output.new ≡ O.written output.old) × (O.faults output.new ≡ O.faults output.old) }

@@ -59,10 +59,14 @@ fn keep_record<K: Keeper>(
     keeper: &mut K,
 ) -> Result<Journal, KeepError>
     requires fits { EffectsFit note.effects }
-    ensures ok { (before : Served) → Leads note before (served server.now) → Journals journal before (kept_under name.now (K.images keeper.old))
-        → IfOk result (λ next. KeepsOn true journal next (served server.now) (kept_under name.now (K.images keeper.old)) (kept_under name.now (K.images keeper.new))) }
-    ensures err { (before : Served) → Leads note before (served server.now) → Journals journal before (kept_under name.now (K.images keeper.old))
-        → OnErr result (ServerMayKeep true journal before (served server.now) (kept_under name.now (K.images keeper.old)) (kept_under name.now (K.images keeper.new))) }
+    ensures ok { (before : Served) → Leads note before (served server.now)
+        → Journals journal before (kept_under name.now (K.images keeper.old))
+        → IfOk result (λ next. KeepsOn true journal next (served server.now) (kept_under name.now (K.images keeper.old))
+        (kept_under name.now (K.images keeper.new))) }
+    ensures err { (before : Served) → Leads note before (served server.now)
+        → Journals journal before (kept_under name.now (K.images keeper.old))
+        → OnErr result (ServerMayKeep true journal before (served server.now) (kept_under name.now (K.images keeper.old))
+        (kept_under name.now (K.images keeper.new))) }
     ensures cause { CountsFault KeepError.Failed (K.faults keeper.old) (K.faults keeper.new) result }
 {
     let piece = spelled(note)?;
@@ -89,10 +93,14 @@ pub(crate) fn keep<K: Keeper>(
     keeper: &mut K,
 ) -> Result<Journal, KeepError>
     requires fits { IfSome note (λ note. EffectsFit note.effects) }
-    ensures ok { (before : Served) → NoteLeads note before (served server.now) → Journals journal before (kept_under name.now (K.images keeper.old))
-        → IfOk result (λ next. KeepsOn (is_some note) journal next (served server.now) (kept_under name.now (K.images keeper.old)) (kept_under name.now (K.images keeper.new))) }
-    ensures err { (before : Served) → NoteLeads note before (served server.now) → Journals journal before (kept_under name.now (K.images keeper.old))
-        → OnErr result (ServerMayKeep (is_some note) journal before (served server.now) (kept_under name.now (K.images keeper.old)) (kept_under name.now (K.images keeper.new))) }
+    ensures ok { (before : Served) → NoteLeads note before (served server.now)
+        → Journals journal before (kept_under name.now (K.images keeper.old))
+        → IfOk result (λ next. KeepsOn (is_some note) journal next (served server.now) (kept_under name.now (K.images keeper.old))
+        (kept_under name.now (K.images keeper.new))) }
+    ensures err { (before : Served) → NoteLeads note before (served server.now)
+        → Journals journal before (kept_under name.now (K.images keeper.old))
+        → OnErr result (ServerMayKeep (is_some note) journal before (served server.now) (kept_under name.now (K.images keeper.old))
+        (kept_under name.now (K.images keeper.new))) }
     ensures cause { CountsFault KeepError.Failed (K.faults keeper.old) (K.faults keeper.new) result }
 {
     match note {

@@ -110,7 +110,8 @@ fn run<P: Port, K: Keeper, O: Sink>(
 ) -> Result<(), Stopped>
     requires { count ≤ 65536 }
     ensures turn { ServerRun count (server_telling (P.tells port.old) (kept_under name.now (K.images keeper.old)))
-        (server_telling (P.tells port.new) (kept_under name.now (K.images keeper.new))) (O.written output.old) (O.written output.new) result }
+        (server_telling (P.tells port.new) (kept_under name.now (K.images keeper.new))) (O.written output.old) (O.written output.new)
+        result }
     ensures sink { CountsFault Stopped.Sink (O.faults output.old) (O.faults output.new) result }
     ensures keeper { CountsFault Stopped.Keeper (K.faults keeper.old) (K.faults keeper.new) result }
 {

@@ -23,7 +23,8 @@ fn serve_next<P: Port, K: Keeper>(
     ensures ok { IfOk result (λ came. ServesNext came journal.old journal.new (served server.old) (served server.new)
         (server_telling (P.tells port.old) (kept_under name.now (K.images keeper.old)))
         (server_telling (P.tells port.new) (kept_under name.now (K.images keeper.new)))) }
-    ensures err { OnErr result (BreaksConnection journal.old (served server.old) (server_telling (P.tells port.old) (kept_under name.now (K.images keeper.old)))
+    ensures err { OnErr result
+        (BreaksConnection journal.old (served server.old) (server_telling (P.tells port.old) (kept_under name.now (K.images keeper.old)))
         (server_telling (P.tells port.new) (kept_under name.now (K.images keeper.new)))) }
     ensures cause { CountsFault KeepError.Failed (K.faults keeper.old) (K.faults keeper.new) result }
 {

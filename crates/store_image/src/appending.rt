@@ -25,7 +25,8 @@ pub(crate) fn room_for(entry: &Entry) -> usize {
 fn put_size(out: &mut Vec<u8>, place: usize)
     requires within { place + 4 ≤ length out.old.items }
     requires small { length out.old.items < place + 4 + 2 ^ 32 }
-    ensures { out.new.items ≡ take place out.old.items ++ (digits w32 (length out.old.items - place - 4) ++ drop (place + 4) out.old.items) }
+    ensures { out.new.items ≡ take place out.old.items
+        ++ (digits w32 (length out.old.items - place - 4) ++ drop (place + 4) out.old.items) }
 {
     let start = place + 4;
     let size = (out.len() - start) as u32;

@@ -8,7 +8,8 @@ ghost use Rattle.tree_values.specs.Tree.{apply, changed};
 ghost use Rattle.tree_values.specs.Effects.{base_of as bases_of, changed_all};
 ghost use Rattle.mod_log.specs.Log.{IsLog, tree_of, logged};
 ghost use Rattle.mod_log.specs.Append.{next_entry};
-ghost use Rattle.store_image.specs.Reading.{growing_effect_at, grown, applied_effects_at, known_base_at, first_kept_base_at, kept_bases_after, known_bases_at, based_entry_at, next_entry_at};
+ghost use Rattle.store_image.specs.Reading.{growing_effect_at, grown, applied_effects_at, known_base_at, first_kept_base_at};
+ghost use Rattle.store_image.specs.Reading.{kept_bases_after, known_bases_at, based_entry_at, next_entry_at};
 ghost use Rattle.mod_log.specs.declared.origin.Origin.{Origin};
 
 use byte_fields::{TakeError, u32_at, u64_at};
@@ -128,7 +129,8 @@ fn behind_each(
     start: usize,
     bases: &[Base],
 ) -> Result<usize, TakeError>
-    ensures { Lends (λ next. (bases.now, next)) result (each_at first_kept_base_at kept_bases_after (length bases.now) bases.now bytes.now start) }
+    ensures { Lends (λ next. (bases.now, next)) result
+        (each_at first_kept_base_at kept_bases_after (length bases.now) bases.now bytes.now start) }
 {
     let mut at = start;
     for known in bases {
@@ -158,7 +160,8 @@ fn behind_bases_of(
     log: &Log,
     effects: &Effects,
 ) -> Result<usize, TakeError>
-    ensures { Lends (λ next. (bases_of effects.now (tree_of log.now), next)) result (known_bases_at (bases_of effects.now (tree_of log.now)) bytes.now at) }
+    ensures { Lends (λ next. (bases_of effects.now (tree_of log.now), next)) result
+        (known_bases_at (bases_of effects.now (tree_of log.now)) bytes.now at) }
 {
     let bases = base_of(log.tree(), effects)?;
     let behind = behind_bases(alloc, bytes, at, &bases);
@@ -176,7 +179,8 @@ fn based_effects(
     ahead: &mut Tree,
 ) -> Result<(Effects, usize), TakeError>
     requires { ahead.old ≡ tree_of log.now }
-    ensures read { (origin : Option Origin) → Lends (λ x. (next_entry origin x.0 log.now, x.1)) result (based_entry_at origin log.now bytes.now at) }
+    ensures read { (origin : Option Origin) → Lends (λ x. (next_entry origin x.0 log.now, x.1)) result
+        (based_entry_at origin log.now bytes.now at) }
     ensures applied { IfOk result (λ x. ahead.new ≡ changed_all x.0 (tree_of log.now)) }
 {
     let (effects, middle) = applied_effects(alloc, bytes, at, ahead)?;

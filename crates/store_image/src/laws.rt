@@ -6,7 +6,9 @@ ghost use Rattle.store_image.specs.Reading.{client_at, server_at};
 ghost use Rattle.store_image.specs.Spelling.{client, ClientFits, server, ServerFits};
 ghost use Rattle.store_image.specs.Fields.{client_fields, server_fields};
 ghost use Rattle.store_image.specs.Broken.{BrokenKeptEntries, BrokenEntryLists, BrokenImages};
-ghost use Rattle.store_image.specs.Laws.{RecordsAreAppended, CutRecordsAreTorn, BytesAreKeptForOneClient, BytesAreKeptForOneServer, ImagesAreSmall, CutClientImagesAreRefused, CutServerImagesAreRefused, WrittenClientsAreKept, WrittenServersAreKept};
+ghost use Rattle.store_image.specs.Laws.{RecordsAreAppended, CutRecordsAreTorn, BytesAreKeptForOneClient, BytesAreKeptForOneServer};
+ghost use Rattle.store_image.specs.Laws.{ImagesAreSmall, CutClientImagesAreRefused, CutServerImagesAreRefused, WrittenClientsAreKept};
+ghost use Rattle.store_image.specs.Laws.{WrittenServersAreKept};
 
 /// States that each image has one spelling, and each spelling one image.
 pub fn images_are_spelled_once()

@@ -8,8 +8,10 @@ ghost use Rattle.tree_values.specs.Tree.{IsTree};
 ghost use Rattle.tree_values.specs.Reading.{rows_at};
 ghost use Rattle.mod_log.specs.Limits.{max_entries, max_log};
 ghost use Rattle.mod_log.specs.Log.{Log, new_log_of};
-ghost use Rattle.store_image.specs.Reading.{next_entry_at, with_entry, entries_at, log_at, client_body_at, client_at, server_body_at, server_at};
-ghost use Rattle.store_image.specs.Image.{read_of, kept_client_at, kept_server_at, kept_client_of, server_of, GivesImage, IsKeptFor, IsKeptForServer};
+ghost use Rattle.store_image.specs.Reading.{next_entry_at, with_entry, entries_at, log_at, client_body_at, client_at, server_body_at};
+ghost use Rattle.store_image.specs.Reading.{server_at};
+ghost use Rattle.store_image.specs.Image.{read_of, kept_client_at, kept_server_at, kept_client_of, server_of, GivesImage, IsKeptFor};
+ghost use Rattle.store_image.specs.Image.{IsKeptForServer};
 ghost use Rattle.store_image.specs.declared.image.ServerImage.{ServerImage};
 
 use crate::entry::{log_entry, next_effects};

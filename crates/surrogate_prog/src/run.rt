@@ -74,7 +74,9 @@ fn run<P: Port, R: Runner, L: Link, O: Sink>(
       server = words.now.server.now;
       work = words.now.work.now;
       count = words.now.count;
-    }) (surrogate_telling (P.tells port.old) (told (R.runs runner.old) (R.faults runner.old) (L.tells link.old))) (surrogate_telling (P.tells port.new) (told (R.runs runner.new) (R.faults runner.new) (L.tells link.new))) (O.written output.old) (O.written output.new) result }
+    }) (surrogate_telling (P.tells port.old) (told (R.runs runner.old) (R.faults runner.old) (L.tells link.old)))
+        (surrogate_telling (P.tells port.new) (told (R.runs runner.new) (R.faults runner.new) (L.tells link.new))) (O.written output.old)
+        (O.written output.new) result }
     ensures sink { CountsFault Stopped.Sink (O.faults output.old) (O.faults output.new) result }
 {
     let route = Route {

@@ -119,7 +119,9 @@ fn without_counterparts(
     sides: &Sides,
 ) -> Result<Vec<Candidate>, AllocError>
     requires { AreReady GroupAndPrint sides.now }
-    ensures { IfOk result (λ left. left.items ≡ filter (λ c. is_none (rules.counterpart GroupAndPrint sides.now.clients.items sides.now.replays.items c)) clients.now) }
+    ensures { IfOk result
+        (λ left. left.items ≡ filter (λ c. is_none (rules.counterpart GroupAndPrint sides.now.clients.items sides.now.replays.items c))
+        clients.now) }
 {
     let mut left = Vec::new(alloc);
     for c in clients {
@@ -142,7 +144,8 @@ fn copied(found: Option<&Candidate>) -> Result<Option<Candidate>, AllocError>
 /// The counterparts with equal prints.
 fn taken(alloc: Global, clients: &[Candidate], sides: &Sides) -> Result<Vec<Candidate>, AllocError>
     requires { AreReady GroupAndPrint sides.now }
-    ensures { IfOk result (λ found. found.items ≡ filter_map (rules.counterpart GroupAndPrint sides.now.clients.items sides.now.replays.items) clients.now) }
+    ensures { IfOk result
+        (λ found. found.items ≡ filter_map (rules.counterpart GroupAndPrint sides.now.clients.items sides.now.replays.items) clients.now) }
 {
     let mut found = Vec::new(alloc);
     for c in clients {
@@ -217,7 +220,8 @@ fn partnered(
 ) -> Result<Vec<Renamed>, AllocError>
     requires by_print { AreReady GroupAndPrint by_print.now }
     requires by_group { AreReady Group by_group.now }
-    ensures { IfOk result (λ found. found.items ≡ filter_map (λ c. option_map (rules.renamed c) (partner_of by_print.now by_group.now c)) clients.now) }
+    ensures { IfOk result
+        (λ found. found.items ≡ filter_map (λ c. option_map (rules.renamed c) (partner_of by_print.now by_group.now c)) clients.now) }
 {
     let mut found = Vec::new(alloc);
     for c in clients {

@@ -1,5 +1,10 @@
 // What holds of trees and effects: functions that do nothing, whose contracts are laws.
-ghost use Rattle.tree_laws.specs.Laws.{EffectsCountTouches, EffectsLeaveTheRest, MakingGivesAFolder, PuttingGivesAFile, RemovingLeavesNothing, MovingCarriesTheNode, TreesAreWhatTheyHold, ApplyingKeepsTrees, UndoingRestores, FoldersAloneHaveChildren, TheRootHasNoNode, ListsThatApplyChange, TheFirstRefusalStops, OnlyTheFirstRefusalStops, DistinctPathsDiffer, DistinctPathsAreTheSame, DistinctPathsKeepTheirOrder, BehindIsAnOrder, EffectsLeadForward, EffectsKeepBehind, SomePathIsAheadOrNone, NoneAheadIsTheSame, RefusedWhereAhead};
+ghost use Rattle.tree_laws.specs.Laws.{EffectsCountTouches, EffectsLeaveTheRest, MakingGivesAFolder, PuttingGivesAFile};
+ghost use Rattle.tree_laws.specs.Laws.{RemovingLeavesNothing, MovingCarriesTheNode, TreesAreWhatTheyHold, ApplyingKeepsTrees};
+ghost use Rattle.tree_laws.specs.Laws.{UndoingRestores, FoldersAloneHaveChildren, TheRootHasNoNode, ListsThatApplyChange};
+ghost use Rattle.tree_laws.specs.Laws.{TheFirstRefusalStops, OnlyTheFirstRefusalStops, DistinctPathsDiffer, DistinctPathsAreTheSame};
+ghost use Rattle.tree_laws.specs.Laws.{DistinctPathsKeepTheirOrder, BehindIsAnOrder, EffectsLeadForward, EffectsKeepBehind};
+ghost use Rattle.tree_laws.specs.Laws.{SomePathIsAheadOrNone, NoneAheadIsTheSame, RefusedWhereAhead};
 
 /// States what an applied effect does to each path, touched or not.
 pub fn effects_change_what_they_touch()

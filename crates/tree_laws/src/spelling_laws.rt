@@ -13,7 +13,8 @@ ghost use Rattle.tree_values.specs.Spelling.{effect, effects, bases, rows, Effec
 ghost use Rattle.file_paths.specs.Fields.{path_fields, content_fields};
 ghost use Rattle.tree_values.specs.Fields.{effect_fields, effects_fields, bases_fields, rows_fields};
 ghost use Rattle.file_paths.specs.Broken.{BrokenTexts, BrokenLengths};
-ghost use Rattle.tree_laws.specs.Broken.{BrokenEffects, BrokenEffectLists, BrokenBases, BrokenRows, BrokenRowLists, all_faults, BrokenFaults};
+ghost use Rattle.tree_laws.specs.Broken.{BrokenEffects, BrokenEffectLists, BrokenBases, BrokenRows, BrokenRowLists, all_faults};
+ghost use Rattle.tree_laws.specs.Broken.{BrokenFaults};
 ghost use Rattle.file_paths.specs.Reading.{path_at, content_at};
 ghost use Rattle.tree_values.specs.Fault.{tree_fault, fault_fields, FaultFits, FaultFitsOf, fault_at, fault_of};
 ghost use Rattle.tree_values.specs.Reading.{effect_at, effects_within, effects_at, bases_at, rows_at};

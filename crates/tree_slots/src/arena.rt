@@ -1,13 +1,17 @@
 // The slots of a tree, which contracts see as the list of their rows.
-ghost use Rattle.std.specs.Prelude.{◌≡◌, ◌≢◌, ℕ, ◌+◌, ◌*◌, ◌<◌, ◌≤◌, List, [], ◌∷◌, ◌++◌, length, vec_capacity, Some, None, IfOk, IfErr, OnOk, OnErr, slice_index, slice_get, IsTrue, is_some, false};
+ghost use Rattle.std.specs.Prelude.{◌≡◌, ◌≢◌, ℕ, ◌+◌, ◌*◌, ◌<◌, ◌≤◌, List, [], ◌∷◌, ◌++◌, length, vec_capacity, Some, None, IfOk};
+ghost use Rattle.std.specs.Prelude.{IfErr, OnOk, OnErr, slice_index, slice_get, IsTrue, is_some, false};
 ghost use Rattle.std.specs.Option.{option_copied, option_to_list};
-ghost use Rattle.tree_values.specs.Tree.{row_at, version_at, node_at, node_size, is_root, is_at_top, touched, kept_row, restored, with_row, children};
+ghost use Rattle.tree_values.specs.Tree.{row_at, version_at, node_at, node_size, is_root, is_at_top, touched, kept_row, restored};
+ghost use Rattle.tree_values.specs.Tree.{with_row, children};
 ghost use Rattle.std.specs.List.{insert, remove, flat_map, AllByRecursion};
 ghost use Rattle.byte_fields.specs.Field.{IsFront};
 ghost use Rattle.file_paths.specs.Path.{FilePath, IsPath};
 ghost use Rattle.file_paths.specs.Limits.{max_file};
 ghost use Rattle.tree_values.specs.Spelling.{row as spelled_row};
-ghost use Rattle.tree_slots.specs.Arena.{Place, Places, rows_of, rows_from, IsArena, IsPool, AreUsed, SlotsLeadToRows, own_row, written, Pads, Grows, IsEntered, place, slot_of, AreAscending, AreLinked, IsFound, IsMissing, standing as standing_names};
+ghost use Rattle.tree_slots.specs.Arena.{Place, Places, rows_of, rows_from, IsArena, IsPool, AreUsed, SlotsLeadToRows, own_row};
+ghost use Rattle.tree_slots.specs.Arena.{written, Pads, Grows, IsEntered, place, slot_of, AreAscending, AreLinked, IsFound, IsMissing};
+ghost use Rattle.tree_slots.specs.Arena.{standing as standing_names};
 
 use file_paths::{Content, Names, Path, TryCopy};
 use std::alloc::{AllocError, Global};
@@ -87,7 +91,14 @@ impl Slot {
     /// Adds a slot before index `k` of the children.
     fn link(&mut self, k: usize, j: u32) -> Result<(), AllocError>
         requires { k ≤ length self.old.children }
-        ensures ok { OnOk result (self.new ≡ record { name = self.old.name; version = self.old.version; node = self.old.node; children = insert self.old.children k j }) }
+        ensures ok { OnOk result
+            (self.new ≡ record {
+              name = self.old.name;
+              version = self.old.version;
+              node = self.old.node;
+              children = insert
+                  self.old.children k j;
+            }) }
         ensures room { OnOk result (length self.old.children < 65535) }
         ensures err { OnErr result (self.new ≡ self.old) }
     {
@@ -101,7 +112,8 @@ impl Slot {
     /// Takes away index `k` of the children.
     fn unlink(&mut self, k: usize)
         requires { k < length self.old.children }
-        ensures { self.new ≡ record { name = self.old.name; version = self.old.version; node = self.old.node; children = remove self.old.children k } }
+        ensures { self.new ≡ record
+            { name = self.old.name; version = self.old.version; node = self.old.node; children = remove self.old.children k } }
     {
         let _ = self.children.remove(k);
     }
@@ -540,7 +552,8 @@ fn enter(
     requires pool { IsPool slots.old.items free.old.items (vec_capacity free.old) }
     requires at { at < length slots.old.items }
     requires reached { (path : FilePath) × (slot_of slots.old.items 0 path ≡ Some at) }
-    ensures ok { IfOk result (λ j. (path : FilePath) → slot_of slots.old.items 0 path ≡ Some at → IsPath (path ++ name.now ∷ []) → IsEntered slots.old.items slots.new.items (path ++ name.now ∷ []) j) }
+    ensures ok { IfOk result (λ j. (path : FilePath) → slot_of slots.old.items 0 path ≡ Some at → IsPath (path ++ name.now ∷ [])
+        → IsEntered slots.old.items slots.new.items (path ++ name.now ∷ []) j) }
     ensures used { IfOk result (λ j. AreUsed slots.old.items (Some at) → AreUsed slots.new.items (Some j)) }
     ensures pool { IsPool slots.new.items free.new.items (vec_capacity free.new) }
     ensures err { OnErr result (Pads slots.old.items slots.new.items) }
@@ -687,8 +700,10 @@ fn spell_rows(
 /// Appends the spelling of the row of a slot, if it stands for one.
 fn spell_own_row(slots: &[Slot], path: &Path, i: u32, out: &mut Vec<u8>) -> Result<(), AllocError>
     requires { AllByRecursion (λ row. node_size row.node ≤ max_file) (option_to_list (own_row path.now (place slots.now i))) }
-    ensures ok { OnOk result (out.new.items ≡ out.old.items ++ flat_map spelled_row (option_to_list (own_row path.now (place slots.now i)))) }
-    ensures err { OnErr result (IsFront out.old.items out.new.items (flat_map spelled_row (option_to_list (own_row path.now (place slots.now i))))) }
+    ensures ok { OnOk result
+        (out.new.items ≡ out.old.items ++ flat_map spelled_row (option_to_list (own_row path.now (place slots.now i)))) }
+    ensures err { OnErr result
+        (IsFront out.old.items out.new.items (flat_map spelled_row (option_to_list (own_row path.now (place slots.now i))))) }
 {
     let version = version_of(slots, i);
     if version > 0 {

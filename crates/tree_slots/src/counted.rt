@@ -1,7 +1,9 @@
 // Rows in an arena, with their number and the bytes of their files.
-ghost use Rattle.std.specs.Prelude.{◌≡◌, ◌≢◌, ℕ, ◌+◌, ◌-◌, ◌^◌, ◌<◌, ◌≤◌, List, [], length, Some, None, IfOk, OnOk, OnErr, IsTrue, is_some, false, slice_get};
+ghost use Rattle.std.specs.Prelude.{◌≡◌, ◌≢◌, ℕ, ◌+◌, ◌-◌, ◌^◌, ◌<◌, ◌≤◌, List, [], length, Some, None, IfOk, OnOk, OnErr, IsTrue};
+ghost use Rattle.std.specs.Prelude.{is_some, false, slice_get};
 ghost use Rattle.std.specs.Option.{option_copied};
-ghost use Rattle.tree_values.specs.Tree.{AreInOrder, row_at, version_at, node_at, node_size, total_size, is_root, is_at_top, touched, kept_row, restored, with_row, IsTree};
+ghost use Rattle.tree_values.specs.Tree.{AreInOrder, row_at, version_at, node_at, node_size, total_size, is_root, is_at_top, touched};
+ghost use Rattle.tree_values.specs.Tree.{kept_row, restored, with_row, IsTree};
 ghost use Rattle.tree_slots.specs.Arena.{IsCounted, new_rows as counted_new};
 
 use crate::arena::Arena;

@@ -182,8 +182,10 @@ pub fn spell_row(
     out: &mut Vec<u8>,
 ) -> Result<(), AllocError>
     requires { node_size (option_copied node) ≤ max_file }
-    ensures ok { OnOk result (out.new.items ≡ out.old.items ++ row (record { path = path.now; version = version; node = option_copied node.entry })) }
-    ensures err { OnErr result (IsFront out.old.items out.new.items (row (record { path = path.now; version = version; node = option_copied node.entry }))) }
+    ensures ok { OnOk result
+        (out.new.items ≡ out.old.items ++ row (record { path = path.now; version = version; node = option_copied node.entry })) }
+    ensures err { OnErr result
+        (IsFront out.old.items out.new.items (row (record { path = path.now; version = version; node = option_copied node.entry }))) }
 {
     Path::spell(path, out)?;
     put_u64(out, version)?;

@@ -4,7 +4,9 @@ ghost use Rattle.std.specs.Prelude.{◌≡◌, length, ◌≤◌, ◌<◌, ◌^�
 ghost use Rattle.byte_fields.specs.Field.{Gives, each_at};
 ghost use Rattle.tree_values.specs.Tree.{IsTree, total_size};
 ghost use Rattle.file_paths.specs.Reading.{path_at, content_at};
-ghost use Rattle.tree_values.specs.Reading.{effect_at, make_at, put_at, remove_at, move_at, room_after, effects_at, effects_within, base_at, first_base_at, others_after, bases_at, may_stand, standing_at, file_at, room_beside, next_row_at, with_next, rows_at};
+ghost use Rattle.tree_values.specs.Reading.{effect_at, make_at, put_at, remove_at, move_at, room_after, effects_at, effects_within};
+ghost use Rattle.tree_values.specs.Reading.{base_at, first_base_at, others_after, bases_at, may_stand, standing_at, file_at};
+ghost use Rattle.tree_values.specs.Reading.{room_beside, next_row_at, with_next, rows_at};
 
 use crate::limits::{MAX_EFFECTS, MAX_FILES};
 use crate::lists::{Bases, Effects};

@@ -1,9 +1,11 @@
 //! The volume tree, which contracts see as the list of its rows in the order of their paths.
-ghost use Rattle.std.specs.Prelude.{◌≡◌, ◌≢◌, ◌+◌, ◌*◌, ◌<◌, ◌≤◌, List, [], ◌∷◌, ◌++◌, length, Some, None, IfOk, IfErr, OnOk, OnErr, is_some, option_map, slice_get, IfSome, find, ◌-◌, Ok, Err};
+ghost use Rattle.std.specs.Prelude.{◌≡◌, ◌≢◌, ◌+◌, ◌*◌, ◌<◌, ◌≤◌, List, [], ◌∷◌, ◌++◌, length, Some, None, IfOk, IfErr, OnOk, OnErr};
+ghost use Rattle.std.specs.Prelude.{is_some, option_map, slice_get, IfSome, find, ◌-◌, Ok, Err};
 ghost use Rattle.std.specs.Option.{option_copied, option_to_list};
 ghost use Rattle.tree_values.specs.declared.node.TreeError.TheVariants.{Memory};
 ghost use Rattle.tree_values.specs.declared.node.Row.{Row};
-ghost use Rattle.tree_values.specs.Tree.{IsTree, version_at, node_at, is_folder, apply, touched, undone, CanUndo, changed, kept_rows, has_no_room, is_child, total_size, node_size, children, IsRowsRefusal, IsLegalEffect};
+ghost use Rattle.tree_values.specs.Tree.{IsTree, version_at, node_at, is_folder, apply, touched, undone, CanUndo, changed, kept_rows};
+ghost use Rattle.tree_values.specs.Tree.{has_no_room, is_child, total_size, node_size, children, IsRowsRefusal, IsLegalEffect};
 ghost use Rattle.byte_fields.specs.Codec.{IsBytes};
 ghost use Rattle.byte_fields.specs.Field.{IsFront};
 ghost use Rattle.file_paths.specs.Path.{IsPath};
@@ -448,7 +450,8 @@ fn size_of_others(rows: &Counted, path: &[Content]) -> u64
 /// The name of the first that stands in this folder.
 fn first_child<'a>(rows: &'a Counted, folder: &[Content]) -> Option<&'a Content>
     requires { IsTree rows.now }
-    ensures refusal { option_map (λ child. TreeError.NotEmpty folder.now child.path) (find (is_child folder.now) rows.now) ≡ option_map (λ name. TreeError.NotEmpty folder.now (folder.now ++ name ∷ [])) (option_copied result) }
+    ensures refusal { option_map (λ child. TreeError.NotEmpty folder.now child.path) (find (is_child folder.now) rows.now) ≡ option_map
+        (λ name. TreeError.NotEmpty folder.now (folder.now ++ name ∷ [])) (option_copied result) }
     ensures path { IfSome (option_copied result) (λ name. IsPath (folder.now ++ name ∷ [])) }
 {
     rows.arena().child(folder, 0)

@@ -10,7 +10,9 @@ ghost use Rattle.wire_frames.specs.Fault.{UnfitFits, FullFits, unfit_numbers, fu
 ghost use Rattle.wire_frames.specs.Frame.{frame, IsValid};
 ghost use Rattle.wire_frames.specs.Cause.{cause, CauseFits, cause_at};
 ghost use Rattle.wire_frames.specs.Broken.{BrokenNumbers, BrokenBodies, BrokenCauses, LeftBytes};
-ghost use Rattle.wire_frames.specs.Laws.{FilledStoresAreValid, SketchedStoresAreValid, LengthIsFirst, VersionIsSecond, KindIsThird, ClientIsFourth, FieldsAreBehindTheClient, MessagesStandBeforeWhatIsLeft, CutFramesNameTheField, KindsDecideReplies};
+ghost use Rattle.wire_frames.specs.Laws.{FilledStoresAreValid, SketchedStoresAreValid, LengthIsFirst, VersionIsSecond, KindIsThird};
+ghost use Rattle.wire_frames.specs.Laws.{ClientIsFourth, FieldsAreBehindTheClient, MessagesStandBeforeWhatIsLeft};
+ghost use Rattle.wire_frames.specs.Laws.{CutFramesNameTheField, KindsDecideReplies};
 
 /// States that, whatever follows it, a frame is the frame of one message, that no frame is longer than the most, and
 /// that frames are bytes.

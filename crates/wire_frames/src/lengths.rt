@@ -48,7 +48,8 @@ pub fn store_size(effects: &Effects, base: &Bases) -> u64
 pub fn operation_size(alloc: Global, entry: &Entry) -> Result<u64, AllocError>
     requires made { IsSome entry.now.origin }
     requires sizes { AllByRecursion (λ effect. content_size effect ≤ max_file) entry.now.effects }
-    ensures { IfOk result (λ size. (client : ℕ) (sketched : SketchEntry) → IsSketchOf entry.now sketched → size ≡ as_u64 (length (frame (Operate client sketched)))) }
+    ensures { IfOk result (λ size. (client : ℕ) (sketched : SketchEntry) → IsSketchOf entry.now sketched
+        → size ≡ as_u64 (length (frame (Operate client sketched)))) }
 {
     let origin = match &entry.origin {
         Some(origin) => origin_size(alloc, origin)?,

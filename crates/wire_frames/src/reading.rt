@@ -4,7 +4,8 @@ ghost use Rattle.std.specs.Prelude.{◌≡◌, Ok, IfOk};
 ghost use Rattle.byte_fields.specs.Field.{Gives};
 ghost use Rattle.wire_frames.specs.declared.message.Message.{Message};
 ghost use Rattle.wire_frames.specs.Frame.{frame, IsValid, client_rule};
-ghost use Rattle.wire_frames.specs.Reading.{store_at, operate_at, stale_at, unfit_at, gap_at, full_at, snapshot_at, declined_at, malformed_at, body_at, message_at, is_sized, frame_of, GivesFrame};
+ghost use Rattle.wire_frames.specs.Reading.{store_at, operate_at, stale_at, unfit_at, gap_at, full_at, snapshot_at, declined_at};
+ghost use Rattle.wire_frames.specs.Reading.{malformed_at, body_at, message_at, is_sized, frame_of, GivesFrame};
 
 use crate::cause::Cause;
 use crate::faults::{FULL_NUMBERS, UNFIT_NUMBERS};
