@@ -34,7 +34,8 @@ use Rattle.mem_net.specs.Scenes.{Scene, server_address, work_folder, HasServed, 
 use Rattle.mem_net.specs.Inside.{MovedFree, GoesFree}
 use Rattle.mem_net.proofs.Taking.{take_front}
 use Rattle.mem_net.proofs.Network.{free_then}
-use Rattle.mem_net.proofs.Spent.{asks_kept, moved_asks, moved_as, one_made}
+use Rattle.mem_net.proofs.Spent.{asks_kept, moved_asks, one_made}
+use Rattle.world_rules.proofs.Allowing.{moved_as}
 
 -- ---- asks that are forgotten
 

@@ -12,7 +12,7 @@ use Rattle.world_rules.specs.declared.asking.Ask.{Ask}
 use Rattle.world_rules.specs.declared.asking.Answer.TheVariants.{Reply, Failed, Memory}
 use Rattle.world_rules.specs.declared.link.LinkError.{LinkError}
 use Rattle.world_rules.specs.declared.link.LinkError.TheVariants.{Failed as LinkFailed, Memory as LinkMemory}
-use Rattle.world_rules.specs.World.{World, Step, Send, Deliver, Other, Relay, happens, happen, IsAllowed, AreAllowed, Is, MovedBy, Moved}
+use Rattle.world_rules.specs.World.{World, Step, happens, happen, Is, MovedBy, Moved}
 use Rattle.world_rules.specs.Asking.{ask_of, AsksOnce, IsDirect}
 use Rattle.world_rules.proofs.Asks.{moved_by_then}
 use Rattle.world_rules.proofs.Runs.{asked_by_step}
@@ -20,6 +20,7 @@ use Rattle.mem_net.specs.declared.fate.Fate.{Fate}
 use Rattle.mem_net.specs.Net.{Wire, world_of}
 use Rattle.mem_net.specs.Fates.{decides, is_trouble, deciding, left_after, one_more, troubles_after, IsEndOf}
 use Rattle.mem_net.specs.Spending.{IsAny, AreGiven, AreQuiet, Takes, Spends, quiet_front, quiet_behind}
+use Rattle.world_rules.proofs.Allowing.{moved_as}
 
 -- ---- the asks that moves note
 
@@ -33,20 +34,6 @@ moved_asks P made a b moves = ap (λ (w : World). w.asks) moves.result ∙ ap (�
 -- asks that two moves between the same worlds note are the same
 pub one_made : (P Q : Message → Type 0) (made asks : List Ask) (a b : World) → MovedBy P made a b → MovedBy Q asks a b → made ≡ asks
 one_made P Q made asks a b first second = append_cancel_left a.asks made asks (sym (moved_asks P made a b first) ∙ moved_asks Q asks a b second)
-
--- what one may send another may, too
-allowed_as : (P Q : Message → Type 0) → ((x : Message) → P x → Q x) → (step : Step) (world : World) → IsAllowed P world step → IsAllowed Q world step
-allowed_as P Q also (Send x) world may = also x may
-allowed_as P Q also (Deliver x joins) world may = may
-allowed_as P Q also (Other x) world may = may
-allowed_as P Q also (Relay x) world may = may
-
-all_allowed_as : (P Q : Message → Type 0) → ((x : Message) → P x → Q x) → (steps : List Step) (world : World) → AreAllowed P world steps → AreAllowed Q world steps
-all_allowed_as P Q also [] world may = tt
-all_allowed_as P Q also (step ∷ steps) world may = (allowed_as P Q also step world may.0, all_allowed_as P Q also steps (happens step world) may.1)
-
-pub moved_as : (P Q : Message → Type 0) → ((x : Message) → P x → Q x) → (made : List Ask) (old new : World) → MovedBy P made old new → MovedBy Q made old new
-moved_as P Q also made old new moved = record { steps = moved.steps; allowed = all_allowed_as P Q also moved.steps old moved.allowed; result = moved.result }
 
 -- ---- the fates up to the one that decides
 

@@ -15,18 +15,18 @@ use Rattle.tree_values.specs.declared.node.Base.{Base}
 use Rattle.tree_values.proofs.Distinct.{in_distinct}
 use Rattle.tree_values.proofs.Undoing.{find_among}
 
-version-small : (rows : Volume) (path : FilePath) → IsTree rows → version_at rows path < 2 ^ 64
+pub version-small : (rows : Volume) (path : FilePath) → IsTree rows → version_at rows path < 2 ^ 64
 version-small rows path tree = by (row_at rows path) refl
   where
     by : (found : Option Row) → row_at rows path ≡ found → unwrap_or (option_map (λ row. row.version) found) 0 < 2 ^ 64
     by None e = omega arith
     by (Some row) e = (find_among IsRow (is_at path) rows row tree.each e).version_fits
 
-all_paths : (xs ys : List FilePath) → AllByRecursion IsPath xs → AllByRecursion IsPath ys → AllByRecursion IsPath (xs ++ ys)
+pub all_paths : (xs ys : List FilePath) → AllByRecursion IsPath xs → AllByRecursion IsPath ys → AllByRecursion IsPath (xs ++ ys)
 all_paths [] ys all more = more
 all_paths (x ∷ xs) ys all more = (all.0, all_paths xs ys all.1 more)
 
-touched-legal : (effect : Effect) → IsLegalEffect effect → AllByRecursion IsPath (touched_paths effect)
+pub touched-legal : (effect : Effect) → IsLegalEffect effect → AllByRecursion IsPath (touched_paths effect)
 touched-legal (Make p) legal = (legal, tt)
 touched-legal (Put p content) legal = (legal.0, tt)
 touched-legal (Remove p) legal = (legal, tt)
@@ -36,12 +36,12 @@ touched_all-legal : (effects : List Effect) → AllByRecursion EffectFits effect
 touched_all-legal [] fits = tt
 touched_all-legal (effect ∷ effects) fits = all_paths (touched_paths effect) (touched_all effects) (touched-legal effect fits.0.0) (touched_all-legal effects fits.1)
 
-path_of_all : (paths : List FilePath) (path : FilePath) → AllByRecursion IsPath paths → IsIn path paths → IsPath path
+pub path_of_all : (paths : List FilePath) (path : FilePath) → AllByRecursion IsPath paths → IsIn path paths → IsPath path
 path_of_all [] path all among = absurd among
 path_of_all (first ∷ paths) path all (inl is) = subst IsPath (sym is) all.0
 path_of_all (first ∷ paths) path all (inr among) = path_of_all paths path all.1 among
 
-all_of_each : (paths : List FilePath) → ((path : FilePath) → IsIn path paths → IsPath path) → AllByRecursion IsPath paths
+pub all_of_each : (paths : List FilePath) → ((path : FilePath) → IsIn path paths → IsPath path) → AllByRecursion IsPath paths
 all_of_each [] each = tt
 all_of_each (path ∷ paths) each = (each path (inl refl), all_of_each paths (λ other among. each other (inr among)))
 

@@ -1,7 +1,6 @@
 -- What an outcome and an entry agree on fills the entry's sketches.
-use Rattle.std.proofs.Common.{◌≡◌, ℕ, Bool, true, false, ◌&&◌, ◌==◌, List, [], ◌∷◌, length, refl, sym, ◌∙◌, ap, subst, arith}
+use Rattle.std.proofs.Common.{◌≡◌, ℕ, Bool, true, false, ◌==◌, List, [], ◌∷◌, length, refl, sym, ◌∙◌, ap, subst, arith}
 use Rattle.std.specs.Str.{bytes_eq}
-use Rattle.std.proofs.lemmas.Bool.Decides.{nat_tests}
 use Rattle.std.proofs.lemmas.Slice.Eq.{bytes_eq-Decides}
 use Rattle.sha2.specs.Sha256.{sha256}
 use Rattle.byte_fields.specs.Codec.{IsBytes}
@@ -12,13 +11,7 @@ use Rattle.mod_log.specs.declared.sketched.SketchEffect.{SketchEffect}
 use Rattle.mod_log.specs.declared.sketched.SketchEffect.TheVariants as of_sketch
 use Rattle.replay_judge.specs.Agreement.{is_sketched, StandsFor, Agrees}
 use Rattle.replay_judge.specs.Laws.{AgreementsFill}
-
-both : (a b : Bool) → (a && b) ≡ true → (a ≡ true) × (b ≡ true)
-both true b h = (refl, h)
-both false b h = absurd (cc h)
-
-same_number : (n m : ℕ) → (n == m) ≡ true → n ≡ m
-same_number n m e = grind (arith, nat_tests)
+use Rattle.byte_fields.proofs.Facts.{eq_of, and_of}
 
 -- bytes that have the sketch's length and print
 abbrev HasPrint : Sketch → List ℕ → Type 0
@@ -26,8 +19,8 @@ HasPrint sketch x = (length x ≡ sketch.len) × (sha256 x ≡ sketch.print) × 
 
 stands : (b : Bool) (sketch : Sketch) (content x : List ℕ) → is_sketched sketch content ≡ b → StandsFor b sketch content x → HasPrint sketch x
 stands true sketch content x e is =
-    let each = both (length content == sketch.len) (bytes_eq (sha256 content) sketch.print) e in
-    (ap length is.1 ∙ same_number (length content) sketch.len each.0, ap sha256 is.1 ∙ (bytes_eq-Decides (sha256 content) sketch.print).0 each.1, is.0)
+    let each = and_of (length content == sketch.len) (bytes_eq (sha256 content) sketch.print) e in
+    (ap length is.1 ∙ eq_of (length content) sketch.len each.0, ap sha256 is.1 ∙ (bytes_eq-Decides (sha256 content) sketch.print).0 each.1, is.0)
 stands false sketch content x e is = (is.1.len, is.2, is.0)
 
 place : (s : SketchEffect) (e a : Effect) → Agrees s e a → Fills s a

@@ -34,18 +34,12 @@ use Rattle.surrogate_core.specs.declared.step.Step.TheVariants as steps
 use Rattle.surrogate_core.specs.Handling.{job_print, Phase, Idle, Fetching, Holding, Reaction, answering, declining, prepared, job_for, held_by, unless_clash, unless_unfit, after_verdict, AfterJob, runs_of_job, Tries, closed, refusal_kind, HandlesCome, Round, IsRound, GoesOn}
 use Rattle.surrogate_core.specs.Laws.{IsTried, IsPulled, IsJudged, IsAgreed, HasCause, DeclinesHaveCauses}
 use Rattle.surrogate_core.specs.declared.step.Step.{Step}
-
-in_right : (x : Ask) (xs ys : List Ask) → IsIn x ys → IsIn x (xs ++ ys)
-in_right x [] ys among = among
-in_right x (y ∷ xs) ys among = inr (in_right x xs ys among)
-
-failed_append : (xs ys : List Ask) → failed_asks (xs ++ ys) ≡ failed_asks xs + failed_asks ys
-failed_append [] ys = omega arith
-failed_append (x ∷ xs) ys = let rest = failed_append xs ys in omega arith
+use Rattle.world_rules.proofs.Settled.{failed-append}
+use Rattle.vol_tree.proofs.Behind.{IsIn-right}
 
 eight_behind : (server : List ℕ) (request : Message) (asks made : List Ask) → made ≡ failures Server server request 8 → 8 ≤ failed_asks (asks ++ made)
 eight_behind server request asks made is =
-    let sum = failed_append asks made in
+    let sum = failed-append asks made in
     let eight : failed_asks made ≡ 8 = ap failed_asks is in
     omega arith
 
@@ -133,7 +127,7 @@ module _ (sketched : SketchEntry) (copy : Volume) where
         k,
         n,
         last,
-        in_right _ asks made (subst (IsIn _) (sym settles.4) (in_right _ (failures Server server request settles.0) _ (inl refl))),
+        IsIn-right _ asks made (subst (IsIn _) (sym settles.4) (IsIn-right _ (failures Server server request settles.0) _ (inl refl))),
         refl,
       ) in
       let tries : Tries true rows c sketched work more reaction ⊎ ((reaction ≡ declining now c sketched.seq NoMemory) × (more ≡ [])) =
@@ -156,7 +150,7 @@ module _ (sketched : SketchEntry) (copy : Volume) where
       → (kind : Option ℕ) → refusal_kind reply ≡ kind → Caused runs (asks ++ made) (closed now c n before kind)
   closed_caused server asks made runs failed c n now before request reply is None e = tt
   closed_caused server asks made runs failed c n now before request reply is (Some kind) e =
-      (ask_of Server server request (Reply reply), reply, in_right _ asks made (subst (IsIn _) (sym is) (in_right _ (failures Server server request failed) _ (inl refl))), refl, e)
+      (ask_of Server server request (Reply reply), reply, IsIn-right _ asks made (subst (IsIn _) (sym is) (IsIn-right _ (failures Server server request failed) _ (inl refl))), refl, e)
 
   stored : (server work : List ℕ) (asks made : List Ask) (c n : ℕ) (now before : Volume) (request : Message) (came : Option Message) (runs more : List Run) (reaction : Reaction)
       → IsSettling Server server request came made

@@ -13,7 +13,7 @@ use Rattle.wire_frames.specs.declared.message.Message.{Message}
 use Rattle.wire_frames.specs.declared.message.Message.TheVariants as messages
 use Rattle.wire_frames.specs.declared.message.Message.TheVariants.{Store, Operate, Pull}
 use Rattle.world_rules.specs.declared.asking.Ask.{Ask}
-use Rattle.world_rules.specs.World.{World, Step, Send, Deliver, Other, Relay, happens, IsAllowed, AreAllowed, MovedBy, Is}
+use Rattle.world_rules.specs.World.{World, MovedBy, Is}
 use Rattle.world_rules.specs.Asking.{AnswersStand}
 use Rattle.world_rules.specs.Settling.{failed_asks}
 use Rattle.world_rules.specs.Telling.{LinkTelling, ToldWorlds, HadTroubles}
@@ -26,6 +26,7 @@ use Rattle.surrogate_core.specs.Serving.{MayAsk, WorldWent, ServesTo, Serves, St
 use Rattle.surrogate_core.specs.Inside.{Awaits, Asked, Follows, Breaks, Serving, operation_in}
 use Rattle.surrogate_core.proofs.Copies.{IsOn, handled_on, may_ask_on}
 use Rattle.surrogate_core.proofs.Trying.{is_idle, runs_none}
+use Rattle.world_rules.proofs.Allowing.{moved_as}
 
 -- ---- runs after runs
 
@@ -40,19 +41,6 @@ runs_then first more many a b c one two = record {
     by (Some list) = ap Some (append_assoc list first more)
 
 -- ---- moves after moves
-
-allowed_as : (P Q : Message → Type 0) → ((m : Message) → P m → Q m) → (step : Step) (world : World) → IsAllowed P world step → IsAllowed Q world step
-allowed_as P Q also (Send m) world may = also m may
-allowed_as P Q also (Deliver m joins) world may = may
-allowed_as P Q also (Other m) world may = may
-allowed_as P Q also (Relay m) world may = may
-
-all_allowed_as : (P Q : Message → Type 0) → ((m : Message) → P m → Q m) → (steps : List Step) (world : World) → AreAllowed P world steps → AreAllowed Q world steps
-all_allowed_as P Q also [] world may = tt
-all_allowed_as P Q also (step ∷ steps) world may = (allowed_as P Q also step world may.0, all_allowed_as P Q also steps (happens step world) may.1)
-
-moved_as : (P Q : Message → Type 0) → ((m : Message) → P m → Q m) → (made : List Ask) (old new : World) → MovedBy P made old new → MovedBy Q made old new
-moved_as P Q also made old new moved = record { steps = moved.steps; allowed = all_allowed_as P Q also moved.steps old moved.allowed; result = moved.result }
 
 abbrev Went : (Message → Type 0) → List Ask → World → World → Type 0
 Went P asks old new = MovedBy P asks old new × AnswersStand new asks

@@ -1,14 +1,13 @@
 -- What handlings did outside, one after the other.
-use Rattle.std.proofs.Common.{◌≡◌, ◌≢◌, ◌⊎◌, inl, inr, ℕ, ◌+◌, List, [], ◌∷◌, ◌++◌, Option, None, Some, option_map, Result, Ok, Err, refl, sym, ◌∙◌, ap, subst, arith, append_assoc}
+use Rattle.std.proofs.Common.{◌≡◌, ◌≢◌, inl, inr, ℕ, ◌+◌, List, [], ◌∷◌, ◌++◌, Option, None, Some, option_map, Result, Ok, Err, refl, sym, ◌∙◌, ap, subst, arith, append_assoc}
 use Rattle.std.proofs.lemmas.List.{append-nil}
 use Rattle.std.specs.Prelude.{IfOk, OnErr, Vec}
 use Rattle.std.specs.declared.alloc.Global.{Global}
 use Rattle.std.specs.declared.alloc.AllocError.{AllocError}
-use Rattle.outside.specs.Outside.{Told, raised, RoseBy}
+use Rattle.outside.specs.Outside.{RoseBy}
 use Rattle.tree_values.specs.Lists.{IsIn}
 use Rattle.tree_values.specs.Tree.{Volume}
 use Rattle.cmd_capture.specs.declared.runner.Run.{Run}
-use Rattle.cmd_capture.specs.Runs.{RunnerTelling, HasRun}
 use Rattle.wire_frames.specs.declared.message.FrameError.{FrameError}
 use Rattle.wire_frames.specs.declared.message.FrameError.TheVariants as refusals
 use Rattle.wire_frames.specs.declared.message.Message.{Message}
@@ -17,26 +16,18 @@ use Rattle.wire_frames.specs.Frame.{IsValid, frame}
 use Rattle.wire_frames.specs.Malformed.{refusal_code, refusal_offset}
 use Rattle.wire_frames.specs.Reading.{frame_of, GivesFrame}
 use Rattle.world_rules.specs.declared.asking.Ask.{Ask}
-use Rattle.world_rules.specs.World.{World, Step, Send, Deliver, Other, Relay, happens, AreAllowed, IsAllowed, MovedBy}
+use Rattle.world_rules.specs.World.{World, MovedBy}
 use Rattle.world_rules.specs.Asking.{AnswersStand}
-use Rattle.world_rules.specs.Settling.{failed_asks, one_if_failed}
+use Rattle.world_rules.specs.Settling.{failed_asks}
 use Rattle.world_rules.proofs.Asks.{moved_by_then, moved_by_none, moved_packets, told_then, told_start, told_as, answers_append, answers_stay}
-use Rattle.surrogate_core.specs.Serving.{MayAsk, ServesTo, Serves, WorldWent, failed_runs, failures_told}
-use Rattle.surrogate_prog.specs.Serving.{Doings, did_nothing, and_then, ServesRead, ServesFrame, ServesFrames, ServesPart, BreaksServing, AnyAsks, Outside, Did}
+use Rattle.surrogate_core.specs.Serving.{MayAsk, ServesTo, Serves, WorldWent, failures_told}
+use Rattle.surrogate_prog.specs.Serving.{Doings, did_nothing, and_then, ServesRead, BreaksServing, AnyAsks, Outside, Did}
 use Rattle.surrogate_prog.specs.Inside.{IsMessageHandled, BreaksHandled, RepliesTo, BreaksReply}
+use Rattle.world_rules.proofs.Settled.{failed-append}
+use Rattle.port_serving.proofs.Connections.{raised_more}
+use Rattle.world_rules.proofs.Allowing.{all_allowed_as}
 
 -- ---- who may send
-
--- what one may send another may, too
-allowed_as : (P Q : Message → Type 0) → ((message : Message) → P message → Q message) → (step : Step) (world : World) → IsAllowed P world step → IsAllowed Q world step
-allowed_as P Q too (Send message) world may = too message may
-allowed_as P Q too (Deliver message joins) world may = may
-allowed_as P Q too (Other message) world may = may
-allowed_as P Q too (Relay message) world may = may
-
-all_allowed_as : (P Q : Message → Type 0) → ((message : Message) → P message → Q message) → (steps : List Step) (world : World) → AreAllowed P world steps → AreAllowed Q world steps
-all_allowed_as P Q too [] world may = tt
-all_allowed_as P Q too (step ∷ steps) world may = (allowed_as P Q too step world may.0, all_allowed_as P Q too steps (happens step world) may.1)
 
 moved_as : (P Q : Message → Type 0) (made : List Ask) (old new : World) → ((message : Message) → P message → Q message) → MovedBy P made old new → MovedBy Q made old new
 moved_as P Q made old new too moved = record { steps = moved.steps; allowed = all_allowed_as P Q too moved.steps old moved.allowed; result = moved.result }
@@ -58,15 +49,8 @@ asks_last xs ys message asks = (asks.0, asks.1, asks.2, among_last asks.0 xs ys 
 
 -- ---- counts
 
-pub failed_more : (xs ys : List Ask) → failed_asks (xs ++ ys) ≡ failed_asks xs + failed_asks ys
-failed_more [] ys = omega arith
-failed_more (ask ∷ xs) ys = ap (λ (n : ℕ). one_if_failed ask.answer + n) (failed_more xs ys) ∙ omega arith
-
 rose_more : (m n a b c : ℕ) → RoseBy m a b → RoseBy n b c → RoseBy (m + n) a c
 rose_more m n a b c first second = omega arith
-
-raised_more : (m n a b c : ℕ) → b ≡ raised m a → c ≡ raised n b → c ≡ raised (m + n) a
-raised_more m n a b c first second = omega arith
 
 runs_more : (a b c : Option (List Run)) (xs ys : List Run) → b ≡ option_map (λ list. list ++ xs) a → c ≡ option_map (λ list. list ++ ys) b → c ≡ option_map (λ list. list ++ (xs ++ ys)) a
 runs_more None b c xs ys first second = second ∙ ap (option_map (λ (list : List Run). list ++ ys)) first
@@ -92,7 +76,7 @@ did_more xs ys first more a b c one two = record {
     counted = raised_more first.failed more.failed a.runner.faults b.runner.faults c.runner.faults one.has_run.counted two.has_run.counted;
   };
   had_troubles =
-      subst (λ (n : ℕ). RoseBy n a.link.troubles c.link.troubles) (sym (failed_more first.asks more.asks))
+      subst (λ (n : ℕ). RoseBy n a.link.troubles c.link.troubles) (sym (failed-append first.asks more.asks))
       (rose_more (failed_asks first.asks) (failed_asks more.asks) a.link.troubles b.link.troubles c.link.troubles one.had_troubles two.had_troubles);
   went =
       told_then a.link.world b.link.world c.link.world (λ before after. MovedBy (AnyAsks xs) first.asks before after × AnswersStand after first.asks)

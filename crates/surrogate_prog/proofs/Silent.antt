@@ -22,7 +22,7 @@ use Rattle.surrogate_core.proofs.Copies.{keeps_the_copy}
 use Rattle.surrogate_core.proofs.Causes.{declines_have_causes}
 use Rattle.surrogate_prog.specs.Serving.{Doings, ServesRead}
 use Rattle.surrogate_prog.specs.Laws.{silent_cause, is_silent, SilentServersFailedEight}
-use Rattle.surrogate_prog.proofs.Doing.{failed_more}
+use Rattle.world_rules.proofs.Settled.{failed-append}
 
 silent_of : (cause : Cause) → silent_cause cause ≡ true → cause ≡ causes.NoServer
 silent_of causes.NoServer is = refl
@@ -76,6 +76,6 @@ silent_servers_failed_eight server work copy after (pair ∷ pairs) did serves =
       (one.spells, more.1),
       subst (λ (d : Doings). 8 * count_by is_silent (one.reply ∷ more.0) ≤ failed_asks d.asks) (sym serves.5)
           (subst (λ (n : ℕ). 8 * n ≤ failed_asks (serves.0.asks ++ serves.1.asks)) (sym (counted one.reply more.0))
-          (subst (λ (n : ℕ). 8 * (cond (is_silent one.reply) 1 0 + count_by is_silent more.0) ≤ n) (sym (failed_more serves.0.asks serves.1.asks))
+          (subst (λ (n : ℕ). 8 * (cond (is_silent one.reply) 1 0 + count_by is_silent more.0) ≤ n) (sym (failed-append serves.0.asks serves.1.asks))
           (enough (is_silent one.reply) (count_by is_silent more.0) (failed_asks serves.0.asks) (failed_asks serves.1.asks) eight more.2))),
     )

@@ -1,10 +1,9 @@
 -- Candidates that are alike stand side by side where they are sorted.
-use Rattle.std.proofs.Common.{◌≡◌, ℕ, Bool, true, false, ◌&&◌, ◌==◌, List, [], ◌∷◌, refl, sym, true≢false, filter, arith}
+use Rattle.std.proofs.Common.{◌≡◌, Bool, true, false, ◌==◌, List, [], ◌∷◌, refl, sym, true≢false, filter, arith}
 use Rattle.std.specs.Str.{bytes_eq}
 use Rattle.std.specs.Ordering.{ordering_then}
 use Rattle.std.specs.declared.cmp.Ordering.{Ordering}
 use Rattle.std.specs.declared.cmp.Ordering.TheVariants.{Less, Equal, Greater}
-use Rattle.std.proofs.lemmas.Bool.Decides.{nat_tests}
 use Rattle.std.proofs.lemmas.Slice.Eq.{bytes_eq-Decides}
 use Rattle.std.proofs.lemmas.List.Elements.{filter_agree}
 use Rattle.file_paths.specs.Path.{is_same_path, folder_of}
@@ -14,6 +13,7 @@ use Rattle.temp_names.specs.declared.candidate.Likeness.{Likeness}
 use Rattle.temp_names.specs.declared.candidate.Likeness.TheVariants.{Group, GroupAndPrint}
 use Rattle.temp_names.specs.Renaming.{is_same_group, is_alike}
 use Rattle.temp_names.specs.Inside.{is_tied, class_of}
+use Rattle.byte_fields.proofs.Facts.{eq_holds, eq_of, and_holds, and_of}
 
 pub then_equal : (o r : Ordering) → ordering_then (ordering_then o Equal) r ≡ ordering_then o r
 then_equal Less r = refl
@@ -27,45 +27,31 @@ one_test true false to from = absurd (true≢false (sym (to refl)))
 one_test false true to from = absurd (true≢false (sym (from refl)))
 one_test false false to from = refl
 
-both_of : (a b : Bool) → (a && b) ≡ true → (a ≡ true) × (b ≡ true)
-both_of true b e = (refl, e)
-both_of false b e = absurd (true≢false (sym e))
-
-and_of : (a b : Bool) → a ≡ true → b ≡ true → (a && b) ≡ true
-and_of true b one other = other
-and_of false b one other = absurd (true≢false (sym one))
-
-equal_number : (n m : ℕ) → (n == m) ≡ true → n ≡ m
-equal_number n m e = grind (arith, nat_tests)
-
-number_equals : (n m : ℕ) → n ≡ m → (n == m) ≡ true
-number_equals n m e = grind (arith, nat_tests)
-
 same_class : (l : Likeness) (c d : Candidate) → class_of l d ≡ class_of l c → is_alike l c d ≡ true
 same_class Group c d e =
     let templates : c.template ≡ d.template = cc in
     let folders : folder_of c.path ≡ folder_of d.path = cc in
-    and_of (c.template == d.template) (is_same_path (folder_of c.path) (folder_of d.path))
-    (number_equals c.template d.template templates) (path_tied (folder_of c.path) (folder_of d.path) folders)
+    and_holds (c.template == d.template) (is_same_path (folder_of c.path) (folder_of d.path))
+    (eq_holds c.template d.template templates) (path_tied (folder_of c.path) (folder_of d.path) folders)
 same_class GroupAndPrint c d e =
     let templates : c.template ≡ d.template = cc in
     let prints : c.print ≡ d.print = cc in
     let folders : folder_of c.path ≡ folder_of d.path = cc in
-    and_of (is_same_group c d) (bytes_eq c.print d.print)
-    (and_of (c.template == d.template) (is_same_path (folder_of c.path) (folder_of d.path))
-    (number_equals c.template d.template templates) (path_tied (folder_of c.path) (folder_of d.path) folders))
+    and_holds (is_same_group c d) (bytes_eq c.print d.print)
+    (and_holds (c.template == d.template) (is_same_path (folder_of c.path) (folder_of d.path))
+    (eq_holds c.template d.template templates) (path_tied (folder_of c.path) (folder_of d.path) folders))
     ((bytes_eq-Decides c.print d.print).1 prints)
 
 class_same : (l : Likeness) (c d : Candidate) → is_alike l c d ≡ true → class_of l d ≡ class_of l c
 class_same Group c d e =
-    let each = both_of (c.template == d.template) (is_same_path (folder_of c.path) (folder_of d.path)) e in
-    let templates : d.template ≡ c.template = sym (equal_number c.template d.template each.0) in
+    let each = and_of (c.template == d.template) (is_same_path (folder_of c.path) (folder_of d.path)) e in
+    let templates : d.template ≡ c.template = sym (eq_of c.template d.template each.0) in
     let folders : folder_of d.path ≡ folder_of c.path = sym (tied_path (folder_of c.path) (folder_of d.path) each.1) in
     λ i. (templates i ∷ []) ∷ folders i
 class_same GroupAndPrint c d e =
-    let outer = both_of (is_same_group c d) (bytes_eq c.print d.print) e in
-    let each = both_of (c.template == d.template) (is_same_path (folder_of c.path) (folder_of d.path)) outer.0 in
-    let templates : d.template ≡ c.template = sym (equal_number c.template d.template each.0) in
+    let outer = and_of (is_same_group c d) (bytes_eq c.print d.print) e in
+    let each = and_of (c.template == d.template) (is_same_path (folder_of c.path) (folder_of d.path)) outer.0 in
+    let templates : d.template ≡ c.template = sym (eq_of c.template d.template each.0) in
     let folders : folder_of d.path ≡ folder_of c.path = sym (tied_path (folder_of c.path) (folder_of d.path) each.1) in
     let prints : d.print ≡ c.print = sym ((bytes_eq-Decides c.print d.print).0 outer.1) in
     λ i. (templates i ∷ []) ∷ prints i ∷ folders i

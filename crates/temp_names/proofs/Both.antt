@@ -19,6 +19,7 @@ use Rattle.temp_names.specs.Inside.{AreSorted, AreSidesOf, partner_of, class_of,
 use Rattle.temp_names.proofs.Sorting.{count_both, count_of_front}
 use Rattle.temp_names.proofs.Alike.{alike_filter}
 use Rattle.temp_names.proofs.Rising.{rises_filter}
+use Rattle.byte_fields.proofs.Facts.{eq_holds, eq_fails}
 
 -- ---- places
 
@@ -120,22 +121,16 @@ without_same these others sorted are =
 
 -- ---- places in groups
 
-by_number : (n m : ℕ) → n ≡ m → (n == m) ≡ true
-by_number n m e = grind (arith, nat_tests)
-
-apart_numbers : (n m : ℕ) → (n ≡ m → ⊥) → (n == m) ≡ false
-apart_numbers n m differ = grind (arith, nat_tests)
-
 pub by_place_equal : (cs rs : List Candidate) (c : Candidate) → length (filter (is_alike Group c) cs) ≡ length (filter (is_alike Group c) rs)
     → counterpart Group cs rs c ≡ by_place cs rs c
 by_place_equal cs rs c same =
     ap (λ b. cond b (counterpart Group cs rs c) None)
-    (sym (by_number (count_by (is_same_group c) cs) (count_by (is_same_group c) rs)
+    (sym (eq_holds (count_by (is_same_group c) cs) (count_by (is_same_group c) rs)
     (sym (length-filter (is_same_group c) cs) ∙ same ∙ length-filter (is_same_group c) rs)))
 
 pub by_place_other : (cs rs : List Candidate) (c : Candidate) → (length (filter (is_alike Group c) cs) ≡ length (filter (is_alike Group c) rs) → ⊥)
     → ◌≡◌ {A = Option Candidate} None (by_place cs rs c)
 by_place_other cs rs c differ =
     ap (λ b. cond b (counterpart Group cs rs c) None)
-    (sym (apart_numbers (count_by (is_same_group c) cs) (count_by (is_same_group c) rs)
+    (sym (eq_fails (count_by (is_same_group c) cs) (count_by (is_same_group c) rs)
     (λ same. differ (length-filter (is_same_group c) cs ∙ same ∙ sym (length-filter (is_same_group c) rs)))))

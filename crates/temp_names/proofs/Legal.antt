@@ -25,9 +25,10 @@ use Rattle.temp_names.specs.Renaming.{renaming}
 use Rattle.temp_names.specs.Rename.{new_path, row_under, unrenamed_rows, renamed_rows, with_job_row, with_job_rows, rename}
 use Rattle.temp_names.specs.Laws.{RisesBy, IsOfNewFiles, IsOfUnequal, IsWithinGroup, MovesContents, RenamingsMoveContents, RenamedRowsAreLegal}
 use Rattle.temp_names.proofs.Rising.{some_same, some_of, less_differs, all_filter, all_passing, all_in, all_map, all_both, holds_in, in_filter, in_found, one_item, rises_filter, rises_around, rows_rise}
-use Rattle.temp_names.proofs.Sides.{stands, row_there, in_front, in_back, row_of}
+use Rattle.temp_names.proofs.Sides.{stands, row_there, row_of}
 use Rattle.temp_names.proofs.Paired.{within_groups, only_new, equal_stay}
 use Rattle.temp_names.proofs.Once.{one_to_one}
+use Rattle.vol_tree.proofs.Behind.{IsIn-left, IsIn-right}
 
 -- ---- rows put at their places
 
@@ -109,15 +110,15 @@ put_in new rows row among = by (in_either row _ _ among)
     by (inr (inr high)) = inr (filter_in _ rows row high).0
 
 new_in : (new : JobRow) (rows : List JobRow) → IsIn new (with_job_row new rows)
-new_in new rows = in_back new (filter (λ x. is_lt (path_cmp x.path new.path)) rows) _ (inl refl)
+new_in new rows = IsIn-right new (filter (λ x. is_lt (path_cmp x.path new.path)) rows) _ (inl refl)
 
 old_in : (new : JobRow) (rows : List JobRow) (row : JobRow) → IsIn row rows → IsIn row (with_job_row new rows)
 old_in new rows row among = by (is_lt (path_cmp row.path new.path)) refl
   where
     by : (b : Bool) → is_lt (path_cmp row.path new.path) ≡ b → IsIn row (with_job_row new rows)
-    by true e = in_front row _ _ (in_filter (λ x. is_lt (path_cmp x.path new.path)) rows row among e)
+    by true e = IsIn-left row _ _ (in_filter (λ x. is_lt (path_cmp x.path new.path)) rows row among e)
     by false e =
-        in_back row (filter (λ x. is_lt (path_cmp x.path new.path)) rows) _
+        IsIn-right row (filter (λ x. is_lt (path_cmp x.path new.path)) rows) _
         (inr (in_filter (λ x. not (is_lt (path_cmp x.path new.path))) rows row among (ap not e)))
 
 rest_in : (more rows : List JobRow) (row : JobRow) → IsIn row rows → IsIn row (with_job_rows more rows)
@@ -416,7 +417,7 @@ module _ (templates : List (List ℕ)) (effects : List SketchEffect) (job_rows r
       (subst (λ e. IsIn path (sketch_paths e)) same (inl refl))
     where
       front_all : (xs ys : List FilePath) → AllByRecursion IsPath (xs ++ ys) → (p : FilePath) → IsIn p xs → IsPath p
-      front_all xs ys all p here = holds_in IsPath (xs ++ ys) p all (in_front p xs ys here)
+      front_all xs ys all p here = holds_in IsPath (xs ++ ys) p all (IsIn-left p xs ys here)
   put_path (effect ∷ more) fit path sketch (inr among) =
       put_path more (back_all (sketch_paths effect) _ (subst (AllByRecursion IsPath) (flat_map-cons sketch_paths effect more) fit)) path sketch among
     where

@@ -1,5 +1,5 @@
 -- What is known of the candidates of either side, and which paths are candidates.
-use Rattle.std.proofs.Common.{◌≡◌, ◌∙◌, ℕ, true, false, ◌||◌, List, [], ◌∷◌, ◌++◌, filter, Option, Some, None, is_some, option_map, find, inl, inr, refl, sym, ap, subst, cond}
+use Rattle.std.proofs.Common.{◌≡◌, ◌∙◌, ℕ, true, false, ◌||◌, List, [], ◌∷◌, filter, Option, Some, None, is_some, option_map, find, inl, inr, refl, sym, ap, subst, cond}
 use Rattle.std.specs.List.{AllByRecursion, list_any}
 use Rattle.std.proofs.lemmas.Option.{none-some}
 use Rattle.std.specs.declared.cmp.Ordering.{Ordering}
@@ -22,21 +22,13 @@ use Rattle.temp_names.specs.Candidates.{candidate, candidate_of_node, candidate_
 use Rattle.temp_names.specs.Renaming.{has_path}
 use Rattle.temp_names.specs.Laws.{IsNewFile, IsNewPut}
 use Rattle.temp_names.proofs.Rising.{some_same, all_append, all_filter, all_map, all_both, all_found, all_in, holds_in, in_filter, in_found}
+use Rattle.vol_tree.proofs.Behind.{IsIn-left, IsIn-right}
 
 -- ---- lists
 
 pub none_of : {X : Type 0} (o : Option X) → is_some o ≡ false → o ≡ None
 none_of None e = refl
 none_of (Some x) e = absurd cc
-
-pub in_front : {X : Type 0} (x : X) (xs ys : List X) → IsIn x xs → IsIn x (xs ++ ys)
-in_front x [] ys among = absurd among
-in_front x (z ∷ xs) ys (inl same) = inl same
-in_front x (z ∷ xs) ys (inr among) = inr (in_front x xs ys among)
-
-pub in_back : {X : Type 0} (x : X) (xs ys : List X) → IsIn x ys → IsIn x (xs ++ ys)
-in_back x [] ys among = among
-in_back x (z ∷ xs) ys among = inr (in_back x xs ys among)
 
 pub any_in : (path : FilePath) (cs : List Candidate) (c : Candidate) → IsIn c cs → c.path ≡ path → list_any (has_path path) cs ≡ true
 any_in path [] c among same = absurd among
@@ -162,11 +154,11 @@ module _ (templates : List (List ℕ)) (effects : List SketchEffect) (job_rows r
   kept_or_tied new cs c among = by (path_cmp c.path new.path) refl
     where
       by : (o : Ordering) → path_cmp c.path new.path ≡ o → Has c.path (with_candidate new cs)
-      by Less e = (c, in_front c _ _ (in_filter (λ d. is_lt (path_cmp d.path new.path)) cs c among (ap is_lt e)), refl)
-      by Equal e = (new, in_back new (filter (λ d. is_lt (path_cmp d.path new.path)) cs) _ (inl refl), sym (same_path c.path new.path e))
+      by Less e = (c, IsIn-left c _ _ (in_filter (λ d. is_lt (path_cmp d.path new.path)) cs c among (ap is_lt e)), refl)
+      by Equal e = (new, IsIn-right new (filter (λ d. is_lt (path_cmp d.path new.path)) cs) _ (inl refl), sym (same_path c.path new.path e))
       by Greater e = (
         c,
-        in_back c (filter (λ d. is_lt (path_cmp d.path new.path)) cs) _
+        IsIn-right c (filter (λ d. is_lt (path_cmp d.path new.path)) cs) _
             (inr (in_filter (λ d. is_gt (path_cmp d.path new.path)) cs c among (ap is_gt e))),
         refl,
       )
@@ -174,7 +166,7 @@ module _ (templates : List (List ℕ)) (effects : List SketchEffect) (job_rows r
   ordered_has : (cs : List Candidate) (c : Candidate) → IsIn c cs → Has c.path (in_path_order cs)
   ordered_has [] c among = absurd among
   ordered_has (d ∷ cs) c (inl same) =
-      (d, in_back d (filter (λ x. is_lt (path_cmp x.path d.path)) (in_path_order cs)) _ (inl refl), ap (λ (x : Candidate). x.path) (sym same))
+      (d, IsIn-right d (filter (λ x. is_lt (path_cmp x.path d.path)) (in_path_order cs)) _ (inl refl), ap (λ (x : Candidate). x.path) (sym same))
   ordered_has (d ∷ cs) c (inr among) =
       let there = ordered_has cs c among in
       let kept = kept_or_tied d (in_path_order cs) there.0 there.1 in

@@ -15,7 +15,7 @@ use Rattle.tree_values.specs.Spelling.{bases, EffectsFit, AreBasesOf}
 use Rattle.tree_values.specs.Reading.{bases_at}
 use Rattle.tree_laws.proofs.Parts.{bases_codec}
 
-distinct_length : (ps : List FilePath) → length (distinct ps) ≤ length ps
+pub distinct_length : (ps : List FilePath) → length (distinct ps) ≤ length ps
 distinct_length [] = omega arith
 distinct_length (p ∷ ps) = omega (arith, filter_length (λ other. not (is_same_path other p)) (distinct ps), distinct_length ps)
 

@@ -1,14 +1,13 @@
 -- The laws of operations: one spelling for each, where bytes end inside one, and that their spellings are bytes.
-use Rattle.std.proofs.Common.{◌≡◌, ℕ, ◌*◌, ◌^◌, ◌<◌, ◌≤◌, not, List, [], ◌∷◌, ◌++◌, length, Ok, refl, ap, subst, arith, lit<, length-append}
+use Rattle.std.proofs.Common.{◌≡◌, ℕ, ◌*◌, ◌^◌, ◌<◌, ◌≤◌, List, [], ◌∷◌, ◌++◌, length, Ok, refl, ap, subst, arith, lit<, length-append}
 use Rattle.std.specs.List.{flat_map}
 use Rattle.std.proofs.lemmas.List.{length-map}
 use Rattle.std.proofs.lemmas.List.Concat.{flat_map-cons}
 use Rattle.byte_fields.specs.Codec.{Stands, IsBytes, IsCodec}
 use Rattle.byte_fields.specs.Cuts.{IsCut}
-use Rattle.byte_fields.proofs.Facts.{filter_length, bytes_appended}
+use Rattle.byte_fields.proofs.Facts.{bytes_appended}
 use Rattle.byte_fields.proofs.Codec.{found2, again2, fault2}
 use Rattle.byte_fields.proofs.Cutting.{sum_both, two_cut}
-use Rattle.file_paths.specs.Path.{FilePath, is_same_path}
 use Rattle.tree_values.specs.Limits.{max_files, max_effects}
 use Rattle.tree_values.specs.declared.node.Base.{Base}
 use Rattle.tree_values.specs.Effects.{distinct}
@@ -31,12 +30,9 @@ use Rattle.mod_log.proofs.Codec.{sketch_effects_codec}
 use Rattle.mod_log.proofs.Cut.{sketch_effects_cut}
 use Rattle.mod_log.proofs.SpelledBytes.{origin_is_bytes, sketch_effects_are_bytes}
 use Rattle.wire_frames.specs.Operation.{operation, operation_fields, OperationFits, sketch_effects_at, sketches_at, operation_at}
+use Rattle.tree_laws.proofs.Few.{distinct_length}
 
 -- ---- the paths that sketched effects touch are few
-
-distinct_length : (ps : List FilePath) → length (distinct ps) ≤ length ps
-distinct_length [] = omega arith
-distinct_length (p ∷ ps) = omega (arith, filter_length (λ other. not (is_same_path other p)) (distinct ps), distinct_length ps)
 
 touches_length : (e : SketchEffect) → length (sketch_paths e) ≤ 2
 touches_length (Make p) = omega arith

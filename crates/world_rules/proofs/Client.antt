@@ -15,8 +15,8 @@ use Rattle.mod_log.specs.Log.{Log, entry as spelled, after, tree_at, IsLog, logg
 use Rattle.wire_frames.specs.declared.message.Message.{Message}
 use Rattle.wire_frames.specs.declared.message.Message.TheVariants.{Store, Operate, Pull, Accepted, Stale, Unfit, Gap, Snapshot, Done, Declined, Full, Malformed}
 use Rattle.world_rules.specs.InStep.{IsTakenUpTo, IsSendable, IsPendingAt, IsSketchPending, IsFitting}
-use Rattle.world_rules.proofs.Replies.{legal_effects}
 use Rattle.world_rules.proofs.Steps.{Agree, tree_at-acked, tree_at-next}
+use Rattle.mod_log.proofs.Entries.{legal_each}
 
 -- ---- an entry is logged
 
@@ -74,7 +74,7 @@ module _ (acked : ℕ) (tree : Volume) (entry : Entry) (entries : List Entry) wh
 
   IsLog-settled : IsLog before → IsLog settled
   IsLog-settled is = record {
-    base_is = applied_all-tree entry.effects 0 tree _ is.base_is (legal_effects entry.effects is.entries.0.fits.each) is.entries.0.applies;
+    base_is = applied_all-tree entry.effects 0 tree _ is.base_is (legal_each entry.effects is.entries.0.fits.each) is.entries.0.applies;
     entries = is.entries.1;
     few = omega (arith, is.few);
     small = omega (arith, is.small, length-append (spelled entry) (flat_map spelled entries));

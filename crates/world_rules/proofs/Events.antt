@@ -23,10 +23,12 @@ use Rattle.world_rules.specs.InStep.{IsFitting, InStep, MaySend, HasNoCollision}
 use Rattle.world_rules.specs.Run.{own, OthersSpare, taken_by}
 use Rattle.world_rules.specs.declared.asking.Ask.{Ask}
 use Rattle.world_rules.proofs.Asks.{IsIn-push}
-use Rattle.world_rules.proofs.Replies.{legal_effects, answer-valid, state_after-legal}
+use Rattle.world_rules.proofs.Replies.{answer-valid, state_after-legal}
 use Rattle.world_rules.proofs.Steps.{Agree, joined, grown, Judged, own_store, TakesFirst, last_after, volume_after}
 use Rattle.world_rules.proofs.Sending.{sent_valid}
 use Rattle.world_rules.proofs.Relaying.{relay_fits}
+use Rattle.byte_fields.proofs.Facts.{eq_itself}
+use Rattle.mod_log.proofs.Entries.{legal_each}
 
 -- ---- in step, and what log and world agree on
 
@@ -57,14 +59,11 @@ in_step client log world about own_number valid served_is now = record {
 
 -- ---- the served state after a verdict
 
-test_same : (n : ℕ) → (n == n) ≡ true
-test_same n = grind (arith, nat_tests)
-
 test_other : (m n : ℕ) → m ≢ n → (m == n) ≡ false
 test_other m n differ = grind (arith, nat_tests)
 
 raised-own : (client number : ℕ) (last : ℕ → ℕ) → with_last last client number client ≡ number
-raised-own client number last = ap (λ b. if b then number else last client) (test_same client)
+raised-own client number last = ap (λ b. if b then number else last client) (eq_itself client)
 
 raised-other : (of client number : ℕ) (last : ℕ → ℕ) → of ≢ client → with_last last of number client ≡ last client
 raised-other of client number last differ = ap (λ b. if b then number else last client) (test_other client of (λ e. differ (sym e)))
@@ -133,7 +132,7 @@ own-own client number effects base Repeated = refl
 own-own client number effects base Early = refl
 own-own client number effects base (Outdated conflict) = refl
 own-own client number effects base (Refused cause) = refl
-own-own client number effects base (Taken volume) = ap (λ b. if b then entry_stored client number effects base ∷ [] else []) (test_same client)
+own-own client number effects base (Taken volume) = ap (λ b. if b then entry_stored client number effects base ∷ [] else []) (eq_itself client)
 
 own-other : (client of number : ℕ) (effects : List Effect) (base : List Base) → of ≢ client → (judgement : Verdict) → own client (taken_if judgement (entry_stored of number effects base)) ≡ []
 own-other client of number effects base differ Repeated = refl
@@ -217,7 +216,7 @@ module _ (client : ℕ) (log : Log) (served : Served) (packets : List Message) (
       (λ path spared e. e)
 
   message_answered : (message : Message) → IsForServer message → IsValid message → IsIn message packets → Answered client log packets served (state_after message served) (taken_of message served) (answer message served)
-  message_answered (Store of number effects base) for valid among = store_answered of number effects base (legal_effects effects valid.body_fits.0.each) among
+  message_answered (Store of number effects base) for valid among = store_answered of number effects base (legal_each effects valid.body_fits.0.each) among
   message_answered (Pull of number) for valid among = pull_answered of number among
   message_answered _ for valid among = absurd for
 

@@ -1,4 +1,5 @@
 pub mod Asks
+pub mod Allowing
 pub mod Settled
 pub mod Replies
 pub mod Steps

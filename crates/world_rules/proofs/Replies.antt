@@ -1,5 +1,5 @@
 -- What a server answers to a valid store or pull is valid, and what it holds then is legal.
-use Rattle.std.proofs.Common.{◌≡◌, ◌⊎◌, inl, inr, ⊎_elim, ℕ, ◌+◌, ◌-◌, ◌<◌, ◌≤◌, Bool, true, false, not, cond, List, [], ◌∷◌, length, find, Option, Some, None, option_map, unwrap_or, Result, Ok, Err, refl, sym, ap, ◌∙◌, subst, arith}
+use Rattle.std.proofs.Common.{◌≡◌, ◌⊎◌, inl, inr, ⊎_elim, ℕ, ◌+◌, ◌-◌, ◌<◌, ◌≤◌, Bool, true, false, not, cond, List, [], ◌∷◌, length, find, Option, Some, None, option_map, Result, Ok, Err, refl, sym, ap, ◌∙◌, subst, arith}
 use Rattle.std.specs.Prelude.{◌==◌, ◌^◌, nat_lt, nat_le, ◌&&◌, if◌then◌else◌}
 use Rattle.std.specs.List.{AllByRecursion}
 use Rattle.std.proofs.lemmas.Bool.Decides.{nat_tests}
@@ -11,9 +11,8 @@ use Rattle.tree_values.specs.declared.node.Effect.{Effect}
 use Rattle.tree_values.specs.declared.node.Effect.TheVariants.{Make, Put, Remove, Move}
 use Rattle.tree_values.specs.declared.node.TreeError.{TreeError}
 use Rattle.tree_values.specs.declared.node.TreeError.TheVariants.{NotEmpty}
-use Rattle.tree_values.specs.Tree.{Volume, IsRow, IsTree, row_at, version_at, is_child, refusals, apply, changed, IsLegalEffect}
+use Rattle.tree_values.specs.Tree.{Volume, IsRow, IsTree, version_at, is_child, refusals, apply, changed, IsLegalEffect}
 use Rattle.tree_values.specs.Effects.{apply_all, unless_refused_at, Conflict, first_conflict}
-use Rattle.tree_values.specs.Inside.{is_at}
 use Rattle.tree_values.specs.Spelling.{EffectFits, BaseFits}
 use Rattle.file_paths.proofs.PathLemmas.{front_is_path}
 use Rattle.tree_values.proofs.Undoing.{find_among}
@@ -24,6 +23,8 @@ use Rattle.wire_frames.specs.declared.message.Message.{Message}
 use Rattle.wire_frames.specs.declared.message.Message.TheVariants.{Store, Pull, Unfit, Full}
 use Rattle.world_rules.specs.Served.{Served, IsServed, with_last, judged, is_want_of_room, refusal, reply, served_after, answer, state_after}
 use Rattle.world_rules.specs.World.{IsForServer}
+use Rattle.mod_log.proofs.BasesFit.{version-small}
+use Rattle.mod_log.proofs.Entries.{legal_each}
 
 -- ---- what a refused effect names
 
@@ -159,13 +160,6 @@ refused_all-told (effect ∷ later) at rows cause fits tree e = by (apply effect
 
 -- ---- what a base and a tree hold
 
-pub version-small : (rows : Volume) (path : FilePath) → IsTree rows → version_at rows path < 2 ^ 64
-version-small rows path tree = by (row_at rows path) refl
-  where
-    by : (found : Option Row) → row_at rows path ≡ found → unwrap_or (option_map (λ row. row.version) found) 0 < 2 ^ 64
-    by None e = omega arith
-    by (Some row) e = (find_among IsRow (is_at path) rows row tree.each e).version_fits
-
 -- what a Stale tells
 abbrev pub ConflictFits : Conflict → Type 0
 ConflictFits c = IsPath c.path × (c.theirs < 2 ^ 64) × (c.ours < 2 ^ 64) × (not (c.ours == c.theirs) ≡ true)
@@ -226,10 +220,6 @@ answer-valid _ s valid served for_server = absurd for_server
 
 -- ---- the state after
 
-pub legal_effects : (effects : List Effect) → AllByRecursion EffectFits effects → AllByRecursion IsLegalEffect effects
-legal_effects [] fits = tt
-legal_effects (effect ∷ effects) fits = (fits.0.0, legal_effects effects fits.1)
-
 with_last-small : (last : ℕ → ℕ) (client number other : ℕ) → last other < 2 ^ 64 → number < 2 ^ 64 → with_last last client number other < 2 ^ 64
 with_last-small last client number other old new = by (other == client)
   where
@@ -269,7 +259,7 @@ store-client client number effects base valid = (client_low client valid.client_
 
 -- each effect of a valid store has legal paths
 pub store-effects : (client number : ℕ) (effects : List Effect) (base : List Base) → IsValid (Store client number effects base) → AllByRecursion IsLegalEffect effects
-store-effects client number effects base valid = legal_effects effects valid.body_fits.0.each
+store-effects client number effects base valid = legal_each effects valid.body_fits.0.each
 
 store-keeps : (client number : ℕ) (effects : List Effect) (base : List Base) (s : Served) → IsValid (Store client number effects base) → IsServed s → IsServed (state_after (Store client number effects base) s)
 store-keeps client number effects base s valid served =
@@ -283,7 +273,7 @@ store-keeps client number effects base s valid served =
     by false false None (Err cause) is_applied = served
     by false false None (Ok volume) is_applied =
         let client_is = store-client client number effects base valid in
-        let tree = applied_all-tree effects 0 s.volume volume served.tree (legal_effects effects valid.body_fits.0.each) is_applied in
+        let tree = applied_all-tree effects 0 s.volume volume served.tree (legal_each effects valid.body_fits.0.each) is_applied in
         raised-legal client number volume s client_is.0 client_is.1 valid.number_small tree served
 
 -- a valid message leaves what a server holds legal

@@ -22,11 +22,11 @@ use Rattle.world_rules.specs.Asking.{AnswersStand}
 use Rattle.world_rules.specs.InStep.{InStep, MaySend, IsAcceptance, HasNoCollision}
 use Rattle.world_rules.specs.Run.{State, kept_at, restarted, AreInStep, MaySendKept, Move, Network, Notes, Logs, Acknowledges, Pulls, Saves, moved, IsPossible, AllPossible, moved_by, entry_in, entries_in, ask_in, asks_in, taken_by, taken_in_move, taken_in, own, numbered, entries_between, AreAllOf, OthersSpare, IsSameAt, Runs}
 use Rattle.world_rules.proofs.Asks.{in_either, asked_among, noted-none, noted-noted, answers_stay, answers_append}
-use Rattle.world_rules.proofs.Replies.{legal_effects}
 use Rattle.world_rules.proofs.Steps.{Agree, tree_at-acked, TakesFirst}
 use Rattle.world_rules.proofs.Client.{logged_agree, tree_at-logged, acknowledged-next, acknowledged_agree, is_next, tree_at-acknowledged, pulled_agree, IsLog-new, new_behind}
 use Rattle.world_rules.proofs.Events.{agree, in_step, steps_on, noted_in_step}
 use Rattle.world_rules.proofs.Colliding.{packets_stay, IsApart, AreApart, apart_here, apart_next, apart_in_memory, kept_apart, both_apart, run_apart, run_both_apart, kept_none}
+use Rattle.mod_log.proofs.Entries.{legal_each}
 
 -- ---- the client's moves on a log in step
 
@@ -401,7 +401,7 @@ after-tree : (k number : ℕ) (entries : List Entry) (volume : Volume) → IsTre
 after-tree zero number entries volume tree are = tree
 after-tree (suc k) number [] volume tree are = tree
 after-tree (suc k) number (entry ∷ entries) volume tree are =
-    after-tree k (number + 1) entries (changed_all entry.effects volume) (applied_all-tree entry.effects 0 volume _ tree (legal_effects entry.effects are.0.fits.each) are.0.applies) are.1
+    after-tree k (number + 1) entries (changed_all entry.effects volume) (applied_all-tree entry.effects 0 volume _ tree (legal_each entry.effects are.0.fits.each) are.0.applies) are.1
 
 pub tree_at-tree : (number : ℕ) (log : Log) → IsLog log → IsTree (tree_at number log)
 tree_at-tree number log is = after-tree (number - log.acked) (log.acked + 1) log.pending log.base is.base_is is.entries

@@ -1,17 +1,15 @@
 -- What a client may send is valid.
-use Rattle.std.proofs.Common.{◌≡◌, inl, inr, ℕ, ◌+◌, ◌≤◌, true, List, [], ◌∷◌, ◌++◌, length, map, refl, sym, ap, subst, arith}
+use Rattle.std.proofs.Common.{◌≡◌, inl, inr, ℕ, ◌+◌, ◌≤◌, true, List, [], ◌∷◌, length, map, refl, sym, ap, subst, arith}
 use Rattle.std.specs.Prelude.{Bool, nat_le, ◌&&◌}
 use Rattle.std.specs.List.{AllByRecursion}
 use Rattle.std.proofs.lemmas.Bool.Decides.{nat_tests}
 use Rattle.file_paths.specs.Path.{FilePath, IsPath}
-use Rattle.tree_values.specs.Effects.{touched_all, distinct, base_of, changed_all}
+use Rattle.tree_values.specs.Effects.{touched_all, distinct, changed_all}
 use Rattle.tree_values.specs.Tree.{Volume, version_at, IsTree, IsLegalEffect, touched_paths}
 use Rattle.tree_values.specs.Lists.{IsIn}
-use Rattle.tree_values.specs.Spelling.{BaseFits, EffectsFit, AreBasesOf}
+use Rattle.tree_values.specs.Spelling.{BaseFits, AreBasesOf}
 use Rattle.tree_values.specs.declared.node.Effect.{Effect}
-use Rattle.tree_values.specs.declared.node.Effect.TheVariants.{Make, Put, Remove, Move}
 use Rattle.tree_values.specs.declared.node.Base.{Base}
-use Rattle.tree_values.proofs.Distinct.{in_distinct}
 use Rattle.vol_tree.proofs.Behind.{applied_all-tree}
 use Rattle.mod_log.specs.declared.log.Entry.{Entry}
 use Rattle.mod_log.specs.declared.sketching.SketchEntry.{SketchEntry}
@@ -23,32 +21,15 @@ use Rattle.wire_frames.specs.declared.message.Message.TheVariants.{Store, Operat
 use Rattle.wire_frames.specs.Frame.{IsValid}
 use Rattle.wire_frames.proofs.Standing.{sketched_stores}
 use Rattle.world_rules.specs.InStep.{MaySend}
-use Rattle.world_rules.proofs.Replies.{legal_effects, version-small}
+use Rattle.mod_log.proofs.BasesFit.{version-small, all_paths, touched-legal}
+use Rattle.mod_log.proofs.EntriesFit.{base_of-is}
+use Rattle.mod_log.proofs.Entries.{legal_each}
 
 -- ---- the base list of legal effects
-
-all_paths : (xs ys : List FilePath) → AllByRecursion IsPath xs → AllByRecursion IsPath ys → AllByRecursion IsPath (xs ++ ys)
-all_paths [] ys all more = more
-all_paths (x ∷ xs) ys all more = (all.0, all_paths xs ys all.1 more)
-
-touched-legal : (effect : Effect) → IsLegalEffect effect → AllByRecursion IsPath (touched_paths effect)
-touched-legal (Make p) legal = (legal, tt)
-touched-legal (Put p content) legal = (legal.0, tt)
-touched-legal (Remove p) legal = (legal, tt)
-touched-legal (Move p q) legal = (legal.0, (legal.1, tt))
 
 touched_all-legal : (effects : List Effect) → AllByRecursion IsLegalEffect effects → AllByRecursion IsPath (touched_all effects)
 touched_all-legal [] legal = tt
 touched_all-legal (effect ∷ effects) legal = all_paths (touched_paths effect) (touched_all effects) (touched-legal effect legal.0) (touched_all-legal effects legal.1)
-
-path_of_all : (paths : List FilePath) (path : FilePath) → AllByRecursion IsPath paths → IsIn path paths → IsPath path
-path_of_all [] path all among = absurd among
-path_of_all (first ∷ paths) path all (inl is) = subst IsPath (sym is) all.0
-path_of_all (first ∷ paths) path all (inr among) = path_of_all paths path all.1 among
-
-all_of_each : (paths : List FilePath) → ((path : FilePath) → IsIn path paths → IsPath path) → AllByRecursion IsPath paths
-all_of_each [] each = tt
-all_of_each (path ∷ paths) each = (each path (inl refl), all_of_each paths (λ other among. each other (inr among)))
 
 -- the versions of these paths
 abbrev bases_at : List FilePath → Volume → List Base
@@ -61,13 +42,6 @@ paths_of_bases (path ∷ paths) rows = ap (λ rest. path ∷ rest) (paths_of_bas
 bases_fit : (paths : List FilePath) (rows : Volume) → IsTree rows → AllByRecursion IsPath paths → AllByRecursion BaseFits (bases_at paths rows)
 bases_fit [] rows tree all = tt
 bases_fit (path ∷ paths) rows tree all = ((all.0, version-small rows path tree), bases_fit paths rows tree all.1)
-
-base_of-fits : (effects : List Effect) (rows : Volume) → EffectsFit effects → IsTree rows → AreBasesOf (distinct (touched_all effects)) (base_of effects rows)
-base_of-fits effects rows fits tree =
-    let legal = touched_all-legal effects (legal_effects effects fits.each) in
-    let paths = distinct (touched_all effects) in
-    let all = all_of_each paths (λ path among. path_of_all (touched_all effects) path legal (in_distinct (touched_all effects) path among)) in
-    (paths_of_bases paths rows, bases_fit paths rows tree all)
 
 -- ---- the messages
 
@@ -83,7 +57,7 @@ module _ (client : ℕ) (low : 1 ≤ client) (high : client ≤ 64) where
     client_fits = client_ok client low high;
     number_fits = number_ok number some;
     number_small = omega (arith, small);
-    body_fits = (is.fits, subst (AreBasesOf (distinct (touched_all entry.effects))) (sym is.based) (base_of-fits entry.effects tree is.fits tree_is));
+    body_fits = (is.fits, subst (AreBasesOf (distinct (touched_all entry.effects))) (sym is.based) (base_of-is entry.effects tree is.fits tree_is));
   }
 
   -- of each of the entries
@@ -95,7 +69,7 @@ module _ (client : ℕ) (low : 1 ≤ client) (high : client ≤ 64) where
       subst (λ (e : Entry). IsValid (Store client e.seq e.effects e.base)) (sym is) (subst (λ (n : ℕ). IsValid (Store client n first.effects first.base)) (sym are.0.numbered) valid)
   stores_valid number tree (first ∷ entries) entry some small tree_is are (inr among) =
       stores_valid (number + 1) (changed_all first.effects tree) entries entry (omega arith) (omega (arith, small))
-      (applied_all-tree first.effects 0 tree (changed_all first.effects tree) tree_is (legal_effects first.effects are.0.fits.each) are.0.applies) are.1 among
+      (applied_all-tree first.effects 0 tree (changed_all first.effects tree) tree_is (legal_each first.effects are.0.fits.each) are.0.applies) are.1 among
 
   pub pending_valid : (log : Log) (entry : Entry) → IsLog log → IsIn entry log.pending → IsValid (Store client entry.seq entry.effects entry.base)
   pending_valid log entry log_is among = stores_valid (log.acked + 1) log.base log.pending entry (omega arith) (omega (arith, log_is.last)) log_is.base_is log_is.entries among

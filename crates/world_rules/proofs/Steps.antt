@@ -2,7 +2,6 @@
 use Rattle.std.proofs.Common.{◌≡◌, ◌⊎◌, inl, inr, ⊎_elim, ℕ, ◌+◌, ◌-◌, ◌<◌, ◌≤◌, Bool, true, false, List, [], ◌∷◌, ◌++◌, take, Result, Ok, Err, refl, sym, ◌∙◌, ap, subst, arith}
 use Rattle.std.specs.Prelude.{Option, Some, None, nat_lt, nat_le, if◌then◌else◌}
 use Rattle.std.specs.List.{AllByRecursion}
-use Rattle.std.proofs.lemmas.Bool.Decides.{nat_tests}
 use Rattle.file_paths.specs.Path.{FilePath}
 use Rattle.tree_values.specs.Effects.{changed_all, apply_all, base_of, Conflict, first_conflict}
 use Rattle.tree_values.specs.Tree.{Volume, version_at, IsTree, IsLegalEffect}
@@ -20,7 +19,8 @@ use Rattle.wire_frames.specs.Frame.{client_of}
 use Rattle.world_rules.specs.Served.{TakenEntry, entry_stored, Verdict, Taken, judged, is_want_of_room, reply, taken_if}
 use Rattle.world_rules.specs.InStep.{IsTakenUpTo, IsSendable, IsPendingAt, IsFitting}
 use Rattle.world_rules.proofs.Asks.{IsIn-push}
-use Rattle.world_rules.proofs.Replies.{legal_effects}
+use Rattle.byte_fields.proofs.Facts.{lt_of, le_of, not_le_of}
+use Rattle.mod_log.proofs.Entries.{legal_each}
 
 -- what a log, the number last taken of its client, the served volume and the packets agree on
 pub record Agree (client : ℕ) (log : Log) (last : ℕ) (volume : Volume) (packets : List Message) : Type 0 where
@@ -125,15 +125,6 @@ module _ (client : ℕ) (acked : ℕ) (tree : Volume) (entry : Entry) (entries :
 
 -- ---- what the tests of the server say
 
-pub le_if : (m n : ℕ) → nat_le m n ≡ true → m ≤ n
-le_if m n e = grind (arith, nat_tests)
-
-pub gt_if : (m n : ℕ) → nat_le m n ≡ false → n < m
-gt_if m n e = grind (arith, nat_tests)
-
-pub lt_if : (m n : ℕ) → nat_lt m n ≡ true → m < n
-lt_if m n e = grind (arith, nat_tests)
-
 -- ---- a delivery
 
 abbrev pub last_after : ℕ → ℕ → Verdict → ℕ
@@ -189,12 +180,12 @@ module _ (client : ℕ) (acked : ℕ) (tree : Volume) where
         → nat_le number last ≡ repeated → nat_lt (last + 1) number ≡ beyond → first_conflict base volume ≡ conflict → apply_all 0 effects volume ≡ applied
         → Agree client (log_with pending) last volume packets → IsFitting (log_with pending) last volume (Store client number effects base)
         → Judged client (log_with pending) last volume packets number (entry_stored client number effects base) (judged repeated beyond conflict applied)
-    own_store pending true beyond conflict applied a b c d now fits = record { state = now; fits = le_if number last a; taken = inl (refl, refl); same = λ path e. e }
-    own_store pending false true conflict applied a b c d now fits = absurd (omega (arith, lt_if (last + 1) number b, fits.0.at_most_next, now.not_lower))
-    own_store [] false false conflict applied a b c d now fits = absurd (fits.1 (gt_if number last a)).1
+    own_store pending true beyond conflict applied a b c d now fits = record { state = now; fits = le_of number last a; taken = inl (refl, refl); same = λ path e. e }
+    own_store pending false true conflict applied a b c d now fits = absurd (omega (arith, lt_of (last + 1) number b, fits.0.at_most_next, now.not_lower))
+    own_store [] false false conflict applied a b c d now fits = absurd (fits.1 (not_le_of number last a)).1
     own_store (entry ∷ entries) false false (Some conflict) applied a b c d now fits =
-        let is = of_first entry entries number effects base now.log_is (omega (arith, gt_if number last a, fits.0.at_most_next, now.not_lower)) (fits.1 (gt_if number last a)) in
-        let same : last ≡ acked = omega (arith, gt_if number last a, fits.0.at_most_next, now.not_lower) in
+        let is = of_first entry entries number effects base now.log_is (omega (arith, not_le_of number last a, fits.0.at_most_next, now.not_lower)) (fits.1 (not_le_of number last a)) in
+        let same : last ≡ acked = omega (arith, not_le_of number last a, fits.0.at_most_next, now.not_lower) in
         let behind = subst (λ t. IsBehind t volume) (tree_at-acked (log_with (entry ∷ entries)) last same) now.behind in
         let found : first_conflict (base_of entry.effects tree) volume ≡ Some conflict = ap (λ k. first_conflict k volume) (sym (is.1 ∙ now.log_is.entries.0.based)) ∙ c in
         let lt = ahead_at_conflict tree volume entry.effects conflict behind found in
@@ -205,8 +196,8 @@ module _ (client : ℕ) (acked : ℕ) (tree : Volume) where
           same = λ path e. e;
         }
     own_store (entry ∷ entries) false false None (Err cause) a b c d now fits =
-        let is = of_first entry entries number effects base now.log_is (omega (arith, gt_if number last a, fits.0.at_most_next, now.not_lower)) (fits.1 (gt_if number last a)) in
-        let same : last ≡ acked = omega (arith, gt_if number last a, fits.0.at_most_next, now.not_lower) in
+        let is = of_first entry entries number effects base now.log_is (omega (arith, not_le_of number last a, fits.0.at_most_next, now.not_lower)) (fits.1 (not_le_of number last a)) in
+        let same : last ≡ acked = omega (arith, not_le_of number last a, fits.0.at_most_next, now.not_lower) in
         let at_base = tree_at-acked (log_with (entry ∷ entries)) last same in
         let behind = subst (λ t. IsBehind t volume) at_base now.behind in
         let refused : apply_all 0 entry.effects volume ≡ Err cause = ap (λ k. apply_all 0 k volume) (sym is.0) ∙ d in
@@ -218,13 +209,13 @@ module _ (client : ℕ) (acked : ℕ) (tree : Volume) where
           same = λ path e. e;
         }
     own_store (entry ∷ entries) false false None (Ok after) a b c d now fits =
-        let is = of_first entry entries number effects base now.log_is (omega (arith, gt_if number last a, fits.0.at_most_next, now.not_lower)) (fits.1 (gt_if number last a)) in
-        let same : last ≡ acked = omega (arith, gt_if number last a, fits.0.at_most_next, now.not_lower) in
-        let next : number ≡ acked + 1 = omega (arith, gt_if number last a, fits.0.at_most_next, now.not_lower) in
+        let is = of_first entry entries number effects base now.log_is (omega (arith, not_le_of number last a, fits.0.at_most_next, now.not_lower)) (fits.1 (not_le_of number last a)) in
+        let same : last ≡ acked = omega (arith, not_le_of number last a, fits.0.at_most_next, now.not_lower) in
+        let next : number ≡ acked + 1 = omega (arith, not_le_of number last a, fits.0.at_most_next, now.not_lower) in
         let agrees : first_conflict entry.base volume ≡ None = ap (λ k. first_conflict k volume) (sym is.1) ∙ c in
         let before = subst (λ n. Agree client (log_with (entry ∷ entries)) n volume packets) same now in
         let is_after : changed_all entry.effects volume ≡ after = ap (λ k. changed_all k volume) (sym is.0) ∙ sym (applied-changes effects 0 volume after d) in
-        let legal = subst (AllByRecursion IsLegalEffect) (sym is.0) (legal_effects entry.effects now.log_is.entries.0.fits.each) in
+        let legal = subst (AllByRecursion IsLegalEffect) (sym is.0) (legal_each entry.effects now.log_is.entries.0.fits.each) in
         let tree_after = subst IsTree (sym is_after) (applied_all-tree effects 0 volume after now.tree legal d) in
         let taken = taken_first client acked tree entry entries volume packets tree_after agrees before in
         let at_after = subst (λ v. Agree client (log_with (entry ∷ entries)) (acked + 1) v packets) is_after taken in
