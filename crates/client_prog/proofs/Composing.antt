@@ -38,7 +38,7 @@ use Rattle.client_core.proofs.Pulls.{none_pending}
 use Rattle.shell_lang.specs.declared.line.Line.{Line}
 use Rattle.shell_lang.specs.declared.line.Line.TheVariants as lines
 use Rattle.shell_lang.specs.declared.line.LineError.{LineError}
-use Rattle.shell_lang.specs.declared.answer.Answer.{Answer}
+use Rattle.shell_lang.specs.declared.answer.LineAnswer.{LineAnswer}
 use Rattle.client_prog.specs.declared.input.InputEnd.{InputEnd}
 use Rattle.client_prog.specs.declared.run.Stop.{Stop}
 use Rattle.client_prog.specs.declared.run.Stop.TheVariants as stops
@@ -164,11 +164,11 @@ module _ (before after : SessionState) (trace : Trace) where
       inr (ap (λ (t : Trace). t.changes) turn.2, omega (arith, ap last_number same, length-append before.client.log.pending (entry ∷ [])))
   local_knows effect (Err refusal) turn = still before.client.log after.client.log trace.changes turn.1 (ap (λ (t : Trace). t.changes) turn.2)
 
-  log_knows : (named : Result Effect PathError) (answer : Option Answer) → LogTurn named before answer after trace → LineKnows
+  log_knows : (named : Result Effect PathError) (answer : Option LineAnswer) → LogTurn named before answer after trace → LineKnows
   log_knows (Ok effect) answer turn = local_knows effect turn.0 turn.1
   log_knows (Err refusal) answer turn = untouched turn.1 turn.2
 
-  command_knows : (route : Route) (made : Result Command CaptureError) (answer : Option Answer) → CommandTurn route made before answer after trace → LineKnows
+  command_knows : (route : Route) (made : Result Command CaptureError) (answer : Option LineAnswer) → CommandTurn route made before answer after trace → LineKnows
   command_knows route (Ok command) answer turn = run_knows route.work command before.client.log turn.0 after.client.log trace turn.1
   command_knows route (Err refusal) answer turn = untouched turn.1 turn.2
 
@@ -177,7 +177,7 @@ module _ (before after : SessionState) (trace : Trace) where
       still before.client.log after.client.log trace.changes breaks.1 (⊎_elim (λ none. ap (λ (t : Trace). t.changes) none) (λ given. ap (λ (t : Trace). t.changes) given.2) breaks.0)
   command_breaks route (Err refusal) breaks = absurd breaks
 
-  line_knows : (route : Route) (line : Result Line LineError) (answer : Option Answer) → LineTurn route before line answer after trace → LineKnows
+  line_knows : (route : Route) (line : Result Line LineError) (answer : Option LineAnswer) → LineTurn route before line answer after trace → LineKnows
   line_knows route (Err refusal) answer turn = untouched turn.1 turn.2
   line_knows route (Ok lines.Empty) answer turn = untouched turn.1 turn.2
   line_knows route (Ok (lines.Put word text)) answer turn = log_knows (put_effect before.folder word text) answer turn
@@ -226,18 +226,18 @@ module _ (route : Route) (before after : SessionState) (kept : Log) where
   all_kept : kept ≡ after.client.log → LacksAtMostOne
   all_kept is = omega (arith, ap last_number is)
 
-  chain_kept : (asked : List (Result Line LineError)) (answers : List (Option Answer)) (trace : Trace) → BreaksChain route before asked answers after kept trace → LacksAtMostOne
+  chain_kept : (asked : List (Result Line LineError)) (answers : List (Option LineAnswer)) (trace : Trace) → BreaksChain route before asked answers after kept trace → LacksAtMostOne
   chain_kept asked answers trace breaks =
       let middle : SessionState = breaks.2 in
       let broken : Trace = breaks.4 in
       kept_but_one middle.client.log after.client.log kept broken.changes (broken_knows middle after broken route breaks.1 breaks.7) breaks.8
 
-  handled_kept : (stop : Stop) (handled : List (List ℕ)) (answers : List (Option Answer)) (trace : Trace) → Handles stop route before handled answers after kept trace → LacksAtMostOne
+  handled_kept : (stop : Stop) (handled : List (List ℕ)) (answers : List (Option LineAnswer)) (trace : Trace) → Handles stop route before handled answers after kept trace → LacksAtMostOne
   handled_kept stops.Sink handled answers trace all = all_kept all.1
   handled_kept stops.Keeper handled answers trace some = ⊎_elim (λ all. all_kept all.1) (λ breaks. chain_kept (asked_for handled) answers trace breaks) some
   handled_kept stops.Memory handled answers trace some = ⊎_elim (λ all. all_kept all.1) (λ breaks. chain_kept (asked_for handled) answers trace breaks) some
 
-  run_kept : (left rest o n : Option (List ℕ)) (answers : List (Option Answer)) (ended : Result InputEnd Stop) (trace : Trace) → WholeRun route before left rest answers o n ended after kept trace → LacksAtMostOne
+  run_kept : (left rest o n : Option (List ℕ)) (answers : List (Option LineAnswer)) (ended : Result InputEnd Stop) (trace : Trace) → WholeRun route before left rest answers o n ended after kept trace → LacksAtMostOne
   run_kept left rest o n answers (Ok end) trace turn = all_kept turn.3.1
   run_kept left rest o n answers (Err stop) trace turn =
       ⊎_elim (λ did. handled_kept stop did.0 answers trace did.4) (λ closing. all_kept closing.1.3.1) turn.3

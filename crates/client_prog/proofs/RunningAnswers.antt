@@ -18,8 +18,8 @@ use Rattle.client_core.specs.declared.route.Route.{Route}
 use Rattle.client_core.specs.Trace.{Trace, nothing}
 use Rattle.shell_lang.specs.declared.line.Line.{Line}
 use Rattle.shell_lang.specs.declared.line.LineError.{LineError}
-use Rattle.shell_lang.specs.declared.answer.Answer.{Answer}
-use Rattle.shell_lang.specs.declared.answer.Answer.TheVariants.{Behind}
+use Rattle.shell_lang.specs.declared.answer.LineAnswer.{LineAnswer}
+use Rattle.shell_lang.specs.declared.answer.LineAnswer.TheVariants.{Behind}
 use Rattle.client_session.specs.Session.{SessionState, Chain, BreaksChain, LeavesPending, is_unrun}
 use Rattle.client_session.proofs.Counted.{unrun_lines_are_counted}
 use Rattle.client_session.proofs.Pulls.{IsRefusedPull, IsOfPull, session_pulls}
@@ -32,12 +32,12 @@ use Rattle.client_prog.specs.Run.{asked_for, HandlesAll, Handles, WholeRun}
 -- ---- the session behind the answers
 
 -- these are the answers of a session, whose asks are the first of these
-abbrev SessionAnswers : Route → SessionState → List (Option Answer) → Trace → Type 0
+abbrev SessionAnswers : Route → SessionState → List (Option LineAnswer) → Trace → Type 0
 SessionAnswers route before answers trace =
     (asked : List (Result Line LineError)) × (after : SessionState) × (earlier later : Trace) × Chain route before asked answers after earlier × (trace.asks ≡ earlier.asks ++ later.asks)
     × (trace.missed ≡ earlier.missed + later.missed) × (trace.pulls ≡ earlier.pulls ++ later.pulls)
 
-module _ (route : Route) (before after : SessionState) (kept : Log) (answers : List (Option Answer)) (trace : Trace) where
+module _ (route : Route) (before after : SessionState) (kept : Log) (answers : List (Option LineAnswer)) (trace : Trace) where
   all_handled : (lines : List (List ℕ)) → HandlesAll route before lines answers after kept trace → SessionAnswers route before answers trace
   all_handled lines all = (asked_for lines, after, trace, nothing, all.0, sym (append-nil trace.asks), omega arith, sym (append-nil trace.pulls))
 
@@ -61,13 +61,13 @@ module _ (route : Route) (before after : SessionState) (kept : Log) (answers : L
 
   -- a pull that is answered so is told
   pub pull_of_run : (left rest o n : Option (List ℕ)) (ended : Result InputEnd Stop) → WholeRun route before left rest answers o n ended after kept trace
-      → (answer : Option Answer) → IsIn answer answers → IsRefusedPull answer → IsOfPull answer trace
+      → (answer : Option LineAnswer) → IsIn answer answers → IsRefusedPull answer → IsOfPull answer trace
   pull_of_run left rest o n ended turn answer among refused =
       let session = session_of left rest o n ended turn in
       let told = session_pulls route before session.0 answers session.1 session.2 session.4 answer among refused in
       (told.0, subst (IsIn told.0) (sym session.7) (IsIn-left told.0 session.2.pulls session.3.pulls told.1), told.2)
 
-pub unrun_rose : (answers : List (Option Answer)) (trace : Trace) (old new : RunnerTelling) → count_by is_unrun answers ≤ trace.missed → HasRun trace.runs trace.missed old new → RoseBy (count_by is_unrun answers) old.faults new.faults
+pub unrun_rose : (answers : List (Option LineAnswer)) (trace : Trace) (old new : RunnerTelling) → count_by is_unrun answers ≤ trace.missed → HasRun trace.runs trace.missed old new → RoseBy (count_by is_unrun answers) old.faults new.faults
 unrun_rose answers trace old new few ran = omega (arith, few, ran.counted)
 
 -- ---- the replies
@@ -85,7 +85,7 @@ pub none_failed : (failed before now : ℕ) → RoseBy failed before now → (Ro
 none_failed zero before now rose calm = refl
 none_failed (suc failed) before now rose calm = absurd (calm (omega (arith, rose)))
 
-module _ (client : ℕ) (route : Route) (before after : SessionState) (kept : Log) (answers : List (Option Answer)) (trace : Trace) (left rest o n : Option (List ℕ)) (ended : Result InputEnd Stop) (log : Log) (world : World)
+module _ (client : ℕ) (route : Route) (before after : SessionState) (kept : Log) (answers : List (Option LineAnswer)) (trace : Trace) (left rest o n : Option (List ℕ)) (ended : Result InputEnd Stop) (log : Log) (world : World)
     (number : before.client.number ≡ client) (now : InStep client log world) (stand : AnswersStand world trace.asks) (turn : WholeRun route before left rest answers o n ended after kept trace) where
   pub unbehind : (seq last : ℕ) → IsIn (Some (Behind seq last)) answers → ⊥
   unbehind seq last among =
@@ -94,7 +94,7 @@ module _ (client : ℕ) (route : Route) (before after : SessionState) (kept : Lo
       never_behind world.packets client (gapless client log world now) route before session.0 answers session.1 session.2 session.4 number (stand_parts world.packets session.2.asks session.3.asks all).0
       (Some (Behind seq last)) among (seq, last, refl)
 
-  pub synced : (from : ℕ) → Unrefused client from world.packets → IsPast from before.client.log → failed_asks trace.asks ≡ 0 → (answer : Option Answer) → IsIn answer answers → LeavesPending answer → ⊥
+  pub synced : (from : ℕ) → Unrefused client from world.packets → IsPast from before.client.log → failed_asks trace.asks ≡ 0 → (answer : Option LineAnswer) → IsIn answer answers → LeavesPending answer → ⊥
   synced from none past calm answer among leaves =
       let session = session_of route before after kept answers trace left rest o n ended turn in
       let all : Stand world.packets (session.2.asks ++ session.3.asks) = subst (Stand world.packets) session.5 (stands world trace.asks stand) in

@@ -3,7 +3,7 @@ use Rattle.std.proofs.Common.{inl, inr, ⊎_elim, ℕ, List, [], Option, Result,
 use Rattle.mod_log.specs.Log.{Log}
 use Rattle.client_core.specs.declared.route.Route.{Route}
 use Rattle.client_core.specs.Trace.{Trace}
-use Rattle.shell_lang.specs.declared.answer.Answer.{Answer}
+use Rattle.shell_lang.specs.declared.answer.LineAnswer.{LineAnswer}
 use Rattle.client_session.specs.Session.{SessionState, opened}
 use Rattle.client_session.proofs.Contents.{WriteWhatIsLeft, chain_written, broken_chain_written, distinct_left}
 use Rattle.client_prog.specs.declared.input.InputEnd.{InputEnd}
@@ -12,7 +12,7 @@ use Rattle.client_prog.specs.declared.run.Stop.TheVariants.{Sink, Keeper, Memory
 use Rattle.client_prog.specs.Run.{asked_for, HandlesAll, Handles, WholeRun}
 use Rattle.client_prog.specs.Contents.{DistinctContentsNeverCollide, DistinctContentsLeave}
 
-module _ (route : Route) (before after : SessionState) (kept : Log) (answers : List (Option Answer)) (trace : Trace) where
+module _ (route : Route) (before after : SessionState) (kept : Log) (answers : List (Option LineAnswer)) (trace : Trace) where
   all_written : (lines : List (List ℕ)) → HandlesAll route before lines answers after kept trace → WriteWhatIsLeft trace
   all_written lines all = chain_written route before (asked_for lines) answers after trace all.0
 

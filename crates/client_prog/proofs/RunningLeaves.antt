@@ -19,8 +19,8 @@ use Rattle.client_core.specs.Trace.{Trace}
 use Rattle.client_core.specs.Keeping.{IsKept}
 use Rattle.client_core.specs.Goes.{Goes, stand}
 use Rattle.client_core.proofs.Going.{goes_none}
-use Rattle.shell_lang.specs.declared.answer.Answer.{Answer}
-use Rattle.shell_lang.specs.declared.answer.Answer.TheVariants.{OtherLast, Older}
+use Rattle.shell_lang.specs.declared.answer.LineAnswer.{LineAnswer}
+use Rattle.shell_lang.specs.declared.answer.LineAnswer.TheVariants.{OtherLast, Older}
 use Rattle.client_session.specs.Session.{SessionState, opened}
 use Rattle.client_prog.specs.Run.{status_of, Handles, WholeRun}
 use Rattle.client_prog.specs.InsideRun.{RunAnswers}
@@ -53,12 +53,12 @@ module _ (client : ℕ) (ships : Bool) (entries : List Entry) (asks : List Ask) 
 -- ---- what is kept at the end
 
 module _ (route : Route) (before after : SessionState) (left rest o n : Option (List ℕ)) (kept : Log) where
-  kept_handled : (stop : Stop) (lines : List (List ℕ)) (answers : List (Option Answer)) (trace : Trace) → status_of (Err stop) ≢ 5 → status_of (Err stop) ≢ 7 → Handles stop route before lines answers after kept trace → kept ≡ after.client.log
+  kept_handled : (stop : Stop) (lines : List (List ℕ)) (answers : List (Option LineAnswer)) (trace : Trace) → status_of (Err stop) ≢ 5 → status_of (Err stop) ≢ 7 → Handles stop route before lines answers after kept trace → kept ≡ after.client.log
   kept_handled Sink lines answers trace other more handled = handled.1
   kept_handled Keeper lines answers trace other more handled = absurd (other refl)
   kept_handled Memory lines answers trace other more handled = absurd (more refl)
 
-  kept_at_end : (ended : Result InputEnd Stop) (answers : List (Option Answer)) (trace : Trace) → status_of ended ≢ 5 → status_of ended ≢ 7 → WholeRun route before left rest answers o n ended after kept trace → kept ≡ after.client.log
+  kept_at_end : (ended : Result InputEnd Stop) (answers : List (Option LineAnswer)) (trace : Trace) → status_of ended ≢ 5 → status_of ended ≢ 7 → WholeRun route before left rest answers o n ended after kept trace → kept ≡ after.client.log
   kept_at_end (Ok end) answers trace other more turn = turn.3.1
   kept_at_end (Err stop) answers trace other more turn =
       ⊎_elim (λ stops. kept_handled stop stops.0 answers trace other more stops.4) (λ closing. closing.1.3.1) turn.3

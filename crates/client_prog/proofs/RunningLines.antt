@@ -15,7 +15,7 @@ use Rattle.client_core.proofs.Going.{followed-nothing, followed-assoc}
 use Rattle.shell_lang.specs.Commands.{read_line}
 use Rattle.shell_lang.specs.declared.line.Line.{Line}
 use Rattle.shell_lang.specs.declared.line.LineError.{LineError}
-use Rattle.shell_lang.specs.declared.answer.Answer.{Answer}
+use Rattle.shell_lang.specs.declared.answer.LineAnswer.{LineAnswer}
 use Rattle.client_prog.specs.declared.run.Stop.{Stop}
 use Rattle.client_prog.specs.declared.run.Stop.TheVariants.{Sink, Keeper, Memory}
 use Rattle.client_session.specs.Session.{SessionState, LineTurn, Chain, Broken, BreaksChain, IsText, AreTexts}
@@ -38,7 +38,7 @@ pub cut_front : (e : SinkError) (text : List ℕ) (o n : Option (List ℕ)) → 
 cut_front sinks.Failed text o n cut = cut
 cut_front sinks.Memory text o n cut = cut
 
-texts_then : (xs ys : List (Option Answer)) (s t : List ℕ) → AreTexts xs s → AreTexts ys t → AreTexts (xs ++ ys) (s ++ t)
+texts_then : (xs ys : List (Option LineAnswer)) (s t : List ℕ) → AreTexts xs s → AreTexts ys t → AreTexts (xs ++ ys) (s ++ t)
 texts_then [] ys s t first second = subst (AreTexts ys) (sym (ap (λ (u : List ℕ). u ++ t) first)) second
 texts_then (x ∷ xs) ys s t first second =
     (first.0, first.1 ++ t, first.2, texts_then xs ys first.1 t first.3 second, ap (λ (u : List ℕ). u ++ t) first.4 ∙ append_assoc first.0 first.1 t)
@@ -50,9 +50,9 @@ nothing-followed trace =
     λ i. record { asks = trace.asks; runs = trace.runs; missed = missed i; entries = trace.entries; changes = trace.changes; pulls = trace.pulls }
 
 module _ (route : Route) where
-  pub chain_then : (a b c : SessionState) (ls ms : List (Result Line LineError)) (s t : List (Option Answer)) (p q : Trace) → Chain route a ls s b p → Chain route b ms t c q → Chain route a (ls ++ ms) (s ++ t) c (followed p q)
+  pub chain_then : (a b c : SessionState) (ls ms : List (Result Line LineError)) (s t : List (Option LineAnswer)) (p q : Trace) → Chain route a ls s b p → Chain route b ms t c q → Chain route a (ls ++ ms) (s ++ t) c (followed p q)
   chain_then a b c [] ms s t p q first second =
-      subst (λ (x : List (Option Answer)). Chain route a ms x c (followed p q)) (sym (ap (λ (x : List (Option Answer)). x ++ t) first.0))
+      subst (λ (x : List (Option LineAnswer)). Chain route a ms x c (followed p q)) (sym (ap (λ (x : List (Option LineAnswer)). x ++ t) first.0))
       (subst (λ (r : Trace). Chain route a ms t c r) (sym (ap (λ (r : Trace). followed r q) first.2 ∙ nothing-followed q))
       (subst (λ (x : SessionState). Chain route x ms t c q) first.1 second))
   chain_then a b c (l ∷ ls) ms s t p q first second = (
@@ -63,16 +63,16 @@ module _ (route : Route) where
     first.4 ++ t,
     first.5,
     chain_then first.0 b c ls ms first.4 t first.2 q first.6 second,
-    ap (λ (x : List (Option Answer)). x ++ t) first.7,
+    ap (λ (x : List (Option LineAnswer)). x ++ t) first.7,
     ap (λ (r : Trace). followed r q) first.8 ∙ followed-assoc first.1 first.2 q,
   )
 
-  pub asked_then : (a b c : SessionState) (ls ms : List (List ℕ)) (s t : List (Option Answer)) (p q : Trace) → Chain route a (asked_for ls) s b p → Chain route b (asked_for ms) t c q
+  pub asked_then : (a b c : SessionState) (ls ms : List (List ℕ)) (s t : List (Option LineAnswer)) (p q : Trace) → Chain route a (asked_for ls) s b p → Chain route b (asked_for ms) t c q
       → Chain route a (asked_for (ls ++ ms)) (s ++ t) c (followed p q)
   asked_then a b c ls ms s t p q first second =
       subst (λ (xs : List (Result Line LineError)). Chain route a xs (s ++ t) c (followed p q)) (sym (map-append read_line ls ms)) (chain_then a b c (asked_for ls) (asked_for ms) s t p q first second)
 
-  breaks_then : (a b c : SessionState) (k : Log) (ls ms : List (List ℕ)) (s t : List (Option Answer)) (p q : Trace) → Chain route a (asked_for ls) s b p → BreaksChain route b (asked_for ms) t c k q
+  breaks_then : (a b c : SessionState) (k : Log) (ls ms : List (List ℕ)) (s t : List (Option LineAnswer)) (p q : Trace) → Chain route a (asked_for ls) s b p → BreaksChain route b (asked_for ms) t c k q
       → BreaksChain route a (asked_for (ls ++ ms)) (s ++ t) c k (followed p q)
   breaks_then a b c k ls ms s t p q first second = (
     asked_for ls ++ second.0,
@@ -87,10 +87,10 @@ module _ (route : Route) where
     ap (followed p) second.9 ∙ sym (followed-assoc p second.3 second.4),
   )
 
-  all_then : (a b c : SessionState) (k : Log) (ls ms : List (List ℕ)) (s t : List (Option Answer)) (p q : Trace) → Chain route a (asked_for ls) s b p → HandlesAll route b ms t c k q → HandlesAll route a (ls ++ ms) (s ++ t) c k (followed p q)
+  all_then : (a b c : SessionState) (k : Log) (ls ms : List (List ℕ)) (s t : List (Option LineAnswer)) (p q : Trace) → Chain route a (asked_for ls) s b p → HandlesAll route b ms t c k q → HandlesAll route a (ls ++ ms) (s ++ t) c k (followed p q)
   all_then a b c k ls ms s t p q first second = (asked_then a b c ls ms s t p q first second.0, second.1)
 
-  handles_then : (stop : Stop) (a b c : SessionState) (k : Log) (ls ms : List (List ℕ)) (s t : List (Option Answer)) (p q : Trace) → Chain route a (asked_for ls) s b p → Handles stop route b ms t c k q
+  handles_then : (stop : Stop) (a b c : SessionState) (k : Log) (ls ms : List (List ℕ)) (s t : List (Option LineAnswer)) (p q : Trace) → Chain route a (asked_for ls) s b p → Handles stop route b ms t c k q
       → Handles stop route a (ls ++ ms) (s ++ t) c k (followed p q)
   handles_then Sink a b c k ls ms s t p q first second = all_then a b c k ls ms s t p q first second
   handles_then Keeper a b c k ls ms s t p q first (inl second) = inl (all_then a b c k ls ms s t p q first second)
@@ -98,13 +98,13 @@ module _ (route : Route) where
   handles_then Memory a b c k ls ms s t p q first (inl second) = inl (all_then a b c k ls ms s t p q first second)
   handles_then Memory a b c k ls ms s t p q first (inr second) = inr (breaks_then a b c k ls ms s t p q first second)
 
-  handled_whole : (stop : Stop) (a b : SessionState) (k : Log) (ls : List (List ℕ)) (s : List (Option Answer)) (p : Trace) → Chain route a (asked_for ls) s b p → k ≡ b.client.log → Handles stop route a ls s b k p
+  handled_whole : (stop : Stop) (a b : SessionState) (k : Log) (ls : List (List ℕ)) (s : List (Option LineAnswer)) (p : Trace) → Chain route a (asked_for ls) s b p → k ≡ b.client.log → Handles stop route a ls s b k p
   handled_whole Sink a b k ls s p chain is = (chain, is)
   handled_whole Keeper a b k ls s p chain is = inl (chain, is)
   handled_whole Memory a b k ls s p chain is = inl (chain, is)
 
   -- lines that were answered, and then a stop in the next ones
-  stops_then : (stop : Stop) (a b c : SessionState) (k : Log) (ls ms : List (List ℕ)) (o m n : Option (List ℕ)) (x y : List (Option Answer)) (s : List ℕ) (p q : Trace) → Chain route a (asked_for ls) x b p
+  stops_then : (stop : Stop) (a b c : SessionState) (k : Log) (ls ms : List (List ℕ)) (o m n : Option (List ℕ)) (x y : List (Option LineAnswer)) (s : List ℕ) (p q : Trace) → Chain route a (asked_for ls) x b p
       → AreTexts x s → Adds o m s → StopsIn stop route b ms y m n c k q → StopsIn stop route a (ls ++ ms) (x ++ y) o n c k (followed p q)
   stops_then stop a b c k ls ms o m n x y s p q first shown adds second = (
     ls ++ second.0,
@@ -147,10 +147,10 @@ module _ (route : Route) where
 
   -- ---- one line
 
-  one_turn : (a b : SessionState) (line : List ℕ) (answer : Option Answer) (p : Trace) → LineTurn route a (read_line line) answer b p → Chain route a (asked_for (line ∷ [])) (answer ∷ []) b p
+  one_turn : (a b : SessionState) (line : List ℕ) (answer : Option LineAnswer) (p : Trace) → LineTurn route a (read_line line) answer b p → Chain route a (asked_for (line ∷ [])) (answer ∷ []) b p
   one_turn a b line answer p turn = (b, p, nothing, answer, [], turn, (refl, refl, refl), refl, followed-nothing p)
 
-  one_text : (answer : Option Answer) (text : List ℕ) → IsText answer text → AreTexts (answer ∷ []) text
+  one_text : (answer : Option LineAnswer) (text : List ℕ) → IsText answer text → AreTexts (answer ∷ []) text
   one_text answer text shown = (text, [], shown, refl, sym (append-nil text))
 
   -- it could not be read
@@ -167,16 +167,16 @@ module _ (route : Route) where
   line_broken a b k line o keepers.Memory p broken behind = ([], (line ∷ [], [], [], refl, inr (one_broken a b k line p broken behind), refl, (0, adds_nothing o)))
 
   -- its answer has no text
-  pub line_untold : (a b : SessionState) (k : Log) (line : List ℕ) (o : Option (List ℕ)) (answer : Option Answer) (p : Trace) → LineEnds route a (read_line line) (Ok answer) b k p → IsLastOrBefore a.client.log p.changes k
+  pub line_untold : (a b : SessionState) (k : Log) (line : List ℕ) (o : Option (List ℕ)) (answer : Option LineAnswer) (p : Trace) → LineEnds route a (read_line line) (Ok answer) b k p → IsLastOrBefore a.client.log p.changes k
       → FrontAnswered Memory route a (line ∷ []) o o b k p
   line_untold a b k line o answer p turn behind = ([], (line ∷ [], [], [], refl, inr (one_broken a b k line p (inr (inl (answer, turn.0))) behind), refl, (0, adds_nothing o)))
 
-  pub line_answered : (a b : SessionState) (k : Log) (line : List ℕ) (o n : Option (List ℕ)) (answer : Option Answer) (text : List ℕ) (p : Trace) → LineEnds route a (read_line line) (Ok answer) b k p
+  pub line_answered : (a b : SessionState) (k : Log) (line : List ℕ) (o n : Option (List ℕ)) (answer : Option LineAnswer) (text : List ℕ) (p : Trace) → LineEnds route a (read_line line) (Ok answer) b k p
       → IsText answer text → Adds o n text → AllAnswered route a (line ∷ []) o n b p
   line_answered a b k line o n answer text p turn shown adds = (answer ∷ [], text, one_turn a b line answer p turn.0, one_text answer text shown, adds)
 
   -- its answer was cut off
-  pub line_cut : (stop : Stop) (a b : SessionState) (k : Log) (line : List ℕ) (o n : Option (List ℕ)) (answer : Option Answer) (text : List ℕ) (p : Trace)
+  pub line_cut : (stop : Stop) (a b : SessionState) (k : Log) (line : List ℕ) (o n : Option (List ℕ)) (answer : Option LineAnswer) (text : List ℕ) (p : Trace)
       → LineEnds route a (read_line line) (Ok answer) b k p → IsText answer text → WritesFront stop text o n → FrontAnswered stop route a (line ∷ []) o n b k p
   line_cut stop a b k line o n answer text p turn shown writes = (
     answer ∷ [],

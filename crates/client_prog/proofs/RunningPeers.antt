@@ -5,7 +5,7 @@ use Rattle.mod_log.specs.Log.{Log}
 use Rattle.world_rules.specs.declared.asking.Ask.{Ask}
 use Rattle.client_core.specs.declared.route.Route.{Route}
 use Rattle.client_core.specs.Trace.{Trace}
-use Rattle.shell_lang.specs.declared.answer.Answer.{Answer}
+use Rattle.shell_lang.specs.declared.answer.LineAnswer.{LineAnswer}
 use Rattle.client_session.specs.Session.{SessionState}
 use Rattle.client_session.specs.Laws.{IsOfRoute}
 use Rattle.client_session.proofs.Peers.{asks_are_of_the_route, broken_sessions_ask_the_route}
@@ -14,7 +14,7 @@ use Rattle.client_prog.specs.declared.run.Stop.{Stop}
 use Rattle.client_prog.specs.declared.run.Stop.TheVariants.{Sink, Keeper, Memory}
 use Rattle.client_prog.specs.Run.{asked_for, HandlesAll, Handles, WholeRun}
 
-module _ (route : Route) (before after : SessionState) (kept : Log) (answers : List (Option Answer)) (trace : Trace) (ask : Ask) (among : IsIn ask trace.asks) where
+module _ (route : Route) (before after : SessionState) (kept : Log) (answers : List (Option LineAnswer)) (trace : Trace) (ask : Ask) (among : IsIn ask trace.asks) where
   all_peers : (lines : List (List ℕ)) → HandlesAll route before lines answers after kept trace → IsOfRoute route ask
   all_peers lines all = asks_are_of_the_route route before (asked_for lines) answers after trace ask all.0 among
 

@@ -21,8 +21,8 @@ use Rattle.client_prog.specs.declared.run.Stop.{Stop}
 use Rattle.client_core.specs.declared.route.Route.{Route}
 use Rattle.client_core.specs.Trace.{last_log}
 use Rattle.client_core.specs.Goes.{Goes}
-use Rattle.shell_lang.specs.declared.answer.Answer.{Answer}
-use Rattle.shell_lang.specs.declared.answer.Answer.TheVariants.{Behind, OtherLast, Older}
+use Rattle.shell_lang.specs.declared.answer.LineAnswer.{LineAnswer}
+use Rattle.shell_lang.specs.declared.answer.LineAnswer.TheVariants.{Behind, OtherLast, Older}
 use Rattle.client_session.specs.Session.{SessionState, opened, LeavesPending, is_unrun}
 use Rattle.client_session.specs.Laws.{IsOfRoute}
 use Rattle.client_prog.specs.Run.{WholeRun, status_of}
@@ -70,7 +70,7 @@ pub record Ran (client : ℕ) (route : Route) (start : Log) (around around_now :
   pub ended : Result InputEnd Stop
   pub status_is : status ≡ status_of ended
   -- what was answered to the lines, in order
-  pub answers : List (Option Answer)
+  pub answers : List (Option LineAnswer)
   pub after : SessionState
   -- what is kept at the end: the keeper's bytes are kept for it, and are as before where nothing was changed
   pub kept : Log
@@ -99,4 +99,4 @@ pub record Ran (client : ℕ) (route : Route) (start : Log) (around around_now :
       → (path : FilePath) (theirs ours : ℕ) → IsIn (Some (Older path theirs ours)) answers → ⊥
   -- where the client's tree was served, nobody else wrote, and the link had no trouble, every sync came through
   pub calm : (begun : InStep client start old) (distinct : HasNoCollision client (start.pending ++ goes.trace.entries) new.packets) → old.served.volume ≡ tree_at (last_taken client old) start → AreAllOf client (leaves begun distinct).taken
-      → (Rose around.troubles around_now.troubles → ⊥) → (answer : Option Answer) → IsIn answer answers → LeavesPending answer → ⊥
+      → (Rose around.troubles around_now.troubles → ⊥) → (answer : Option LineAnswer) → IsIn answer answers → LeavesPending answer → ⊥

@@ -8,18 +8,18 @@ use Rattle.shell_lang.specs.Lines.{parts, unfinished, IsCutUpTo}
 use Rattle.client_prog.specs.declared.input.InputEnd.{InputEnd}
 use Rattle.client_prog.specs.declared.run.Stop.{Stop}
 use Rattle.client_prog.specs.Input.{Reading, HasRead}
-use Rattle.shell_lang.specs.declared.answer.Answer.{Answer}
+use Rattle.shell_lang.specs.declared.answer.LineAnswer.{LineAnswer}
 use Rattle.client_session.specs.Session.{SessionState, Chain, AreTexts}
 use Rattle.client_prog.specs.Run.{HasLines, StopsIn, WholeRun, asked_for, has_quit}
 
 -- the lines were answered, one after the other
 abbrev pub AllAnswered : Route → SessionState → List (List ℕ) → Option (List ℕ) → Option (List ℕ) → SessionState → Trace → Type 0
 AllAnswered route before lines old new after trace =
-    (answers : List (Option Answer)) × (text : List ℕ) × Chain route before (asked_for lines) answers after trace × AreTexts answers text × Adds old new text
+    (answers : List (Option LineAnswer)) × (text : List ℕ) × Chain route before (asked_for lines) answers after trace × AreTexts answers text × Adds old new text
 
 -- a front of them was answered
 abbrev pub FrontAnswered : Stop → Route → SessionState → List (List ℕ) → Option (List ℕ) → Option (List ℕ) → SessionState → Log → Trace → Type 0
-FrontAnswered stop route before lines old new after kept trace = (answers : List (Option Answer)) × StopsIn stop route before lines answers old new after kept trace
+FrontAnswered stop route before lines old new after kept trace = (answers : List (Option LineAnswer)) × StopsIn stop route before lines answers old new after kept trace
 
 -- all lines were answered, and the client is kept; or a front of them was
 abbrev pub AnswersLines : {T : Type 0} → Route → SessionState → List (List ℕ) → Option (List ℕ) → Option (List ℕ) → Result T Stop → SessionState → Log → Trace → Type 0
@@ -65,4 +65,4 @@ AnswersInput route before left rest old new (Err stop) after kept trace =
 
 -- a run, whatever was answered
 abbrev pub RunAnswers : Route → SessionState → Option (List ℕ) → Option (List ℕ) → Option (List ℕ) → Option (List ℕ) → Result InputEnd Stop → SessionState → Log → Trace → Type 0
-RunAnswers route before left rest old new ended after kept trace = (answers : List (Option Answer)) × WholeRun route before left rest answers old new ended after kept trace
+RunAnswers route before left rest old new ended after kept trace = (answers : List (Option LineAnswer)) × WholeRun route before left rest answers old new ended after kept trace

@@ -22,7 +22,7 @@ use Rattle.client_prog.specs.declared.run.Stop.{Stop}
 use Rattle.client_prog.specs.declared.run.Stop.TheVariants.{Sink, Keeper, Memory}
 use Rattle.client_prog.specs.Input.{EndsAt, within_limit, lines_at}
 use Rattle.client_prog.specs.Words.{Invocation}
-use Rattle.shell_lang.specs.declared.answer.Answer.{Answer}
+use Rattle.shell_lang.specs.declared.answer.LineAnswer.{LineAnswer}
 use Rattle.client_session.specs.Session.{SessionState, Chain, BreaksChain, AreTexts, status_answer}
 
 -- where the client's image, peers and commands are, by the words of a run
@@ -103,11 +103,11 @@ closing_at Failed state = []
 closing_at TooLong state = []
 
 -- Each line was handled, one after the other, and the client is kept.
-abbrev pub HandlesAll : Route → SessionState → List (List ℕ) → List (Option Answer) → SessionState → Log → Trace → Type 0
+abbrev pub HandlesAll : Route → SessionState → List (List ℕ) → List (Option LineAnswer) → SessionState → Log → Trace → Type 0
 HandlesAll route before lines answers after kept trace = Chain route before (asked_for lines) answers after trace × (kept ≡ after.client.log)
 
 -- The lines were handled; want of memory or a refused keeping may have broken off the last one.
-abbrev pub Handles : Stop → Route → SessionState → List (List ℕ) → List (Option Answer) → SessionState → Log → Trace → Type 0
+abbrev pub Handles : Stop → Route → SessionState → List (List ℕ) → List (Option LineAnswer) → SessionState → Log → Trace → Type 0
 Handles Sink route before lines answers after kept trace = HandlesAll route before lines answers after kept trace
 Handles stop route before lines answers after kept trace =
     HandlesAll route before lines answers after kept trace ⊎ BreaksChain route before (asked_for lines) answers after kept trace
@@ -118,20 +118,20 @@ WritesFront Keeper text old new = Adds old new text
 WritesFront stop text old new = (count : ℕ) × Adds old new (take count text)
 
 -- A front of the lines was handled, and a front of their answers' texts was written.
-abbrev pub StopsIn : Stop → Route → SessionState → List (List ℕ) → List (Option Answer) → Option (List ℕ) → Option (List ℕ) → SessionState → Log → Trace → Type 0
+abbrev pub StopsIn : Stop → Route → SessionState → List (List ℕ) → List (Option LineAnswer) → Option (List ℕ) → Option (List ℕ) → SessionState → Log → Trace → Type 0
 StopsIn stop route before lines answers old new after kept trace =
     (handled behind : List (List ℕ)) × (text : List ℕ)
     × (lines ≡ handled ++ behind) × Handles stop route before handled answers after kept trace × AreTexts answers text × WritesFront stop text old new
 
 -- All lines were handled, their answers' texts were written, and a front of the closing line.
-abbrev pub StopsAtClosing : Stop → Route → SessionState → List (List ℕ) → List (Option Answer) → Option (List ℕ) → Option (List ℕ) → SessionState → Log → Trace → Type 0
+abbrev pub StopsAtClosing : Stop → Route → SessionState → List (List ℕ) → List (Option LineAnswer) → Option (List ℕ) → Option (List ℕ) → SessionState → Log → Trace → Type 0
 StopsAtClosing stop route before lines answers old new after kept trace =
     (text : List ℕ) × (count : ℕ) × (stop ≢ Keeper) × HandlesAll route before lines answers after kept trace × AreTexts answers text
     × Adds old new (text ++ take count (closing_line after))
 
 -- What a run did by how it ended. Where its input came to an end: all the lines that count were handled, the client is kept, and
 -- the texts of what was answered to each were written, and the closing line where one is due. Where it was stopped: a front of them.
-abbrev pub WholeRun : Route → SessionState → Option (List ℕ) → Option (List ℕ) → List (Option Answer) → Option (List ℕ) → Option (List ℕ) → Result InputEnd Stop → SessionState → Log → Trace → Type 0
+abbrev pub WholeRun : Route → SessionState → Option (List ℕ) → Option (List ℕ) → List (Option LineAnswer) → Option (List ℕ) → Option (List ℕ) → Result InputEnd Stop → SessionState → Log → Trace → Type 0
 WholeRun route before left rest answers old new (Ok ended) after kept trace =
     (lines : List (List ℕ)) × (text : List ℕ) × HasLines left rest lines ended
     × HandlesAll route before lines answers after kept trace × AreTexts answers text × Adds old new (text ++ closing_at ended after)

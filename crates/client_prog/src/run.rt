@@ -27,7 +27,7 @@ use client_core::Route;
 use client_session::Session;
 use cmd_capture::Runner;
 use outside::{KeepError, Keeper, Sink, SinkError, Source, write_all};
-use shell_lang::{Answer, Line, LineError, has_no_memory, read_line, text_of};
+use shell_lang::{Line, LineAnswer, LineError, has_no_memory, read_line, text_of};
 use std::alloc::{AllocError, Global};
 use vol_tree::Content;
 use world_rules::Link;
@@ -115,7 +115,7 @@ fn is_quit(asked: &Result<Line, LineError>) -> bool
 }
 
 /// The text of an answer, and none where there is no answer. An answer that is want of memory has no text.
-fn text(alloc: Global, answer: Option<Answer>) -> Result<Vec<u8>, AllocError>
+fn text(alloc: Global, answer: Option<LineAnswer>) -> Result<Vec<u8>, AllocError>
     ensures { IfOk result (λ text. IsText answer text.items) }
 {
     let Some(answer) = answer else {

@@ -49,7 +49,7 @@ use Rattle.client_core.proofs.Runs.{ran_alone}
 use Rattle.shell_lang.specs.declared.line.Line.{Line}
 use Rattle.shell_lang.specs.declared.line.Line.TheVariants as lines
 use Rattle.shell_lang.specs.declared.line.LineError.{LineError}
-use Rattle.shell_lang.specs.declared.answer.Answer.{Answer}
+use Rattle.shell_lang.specs.declared.answer.LineAnswer.{LineAnswer}
 use Rattle.client_session.specs.Session.{SessionState, with_log, put_effect, make_effect, remove_effect, move_effect, sync_answer, pull_answer, local_answer, run_answer, is_unrun, LogTurn, CommandTurn, LineTurn, Chain}
 use Rattle.client_session.specs.Laws.{AsksAndRunsMakeSessions}
 use Rattle.client_session.proofs.Counted.{local_other}
@@ -403,10 +403,10 @@ all_but_first (run ∷ more) = more
 -- ---- a line
 
 -- the same answer, state and trace, and the same asks and runs behind it
-abbrev Same : Option Answer → Option Answer → SessionState → SessionState → Trace → Trace → List Ask → List Ask → List Run → List Run → Type 0
+abbrev Same : Option LineAnswer → Option LineAnswer → SessionState → SessionState → Trace → Trace → List Ask → List Ask → List Run → List Run → Type 0
 Same x y a b p q m n g h = (x ≡ y) × (a ≡ b) × (p ≡ q) × (m ≡ n) × (g ≡ h)
 
-module _ (before a b : SessionState) (x y : Option Answer) (p q : Trace) (m n : List Ask) (g h : List Run) (is : p.asks ++ m ≡ q.asks ++ n) (ran : p.runs ++ g ≡ q.runs ++ h) where
+module _ (before a b : SessionState) (x y : Option LineAnswer) (p q : Trace) (m n : List Ask) (g h : List Run) (is : p.asks ++ m ≡ q.asks ++ n) (ran : p.runs ++ g ≡ q.runs ++ h) where
   -- of lines with these runs
   behind_runs : (rs : List Run) → p.runs ≡ rs → q.runs ≡ rs → g ≡ h
   behind_runs rs left right = same_behind rs (sym (ap (λ (l : List Run). l ++ g) left) ∙ ran ∙ ap (λ (l : List Run). l ++ h) right)
@@ -419,7 +419,7 @@ module _ (before a b : SessionState) (x y : Option Answer) (p q : Trace) (m n : 
   behind_asks left right = sym (ap (λ (l : List Ask). l ++ m) left) ∙ is ∙ ap (λ (l : List Ask). l ++ n) right
 
   -- lines that ask nothing and run nothing
-  quiet : (told : Option Answer) (s : SessionState) (t : Trace) → t.asks ≡ [] → t.runs ≡ [] → x ≡ told → a ≡ s → p ≡ t → y ≡ told → b ≡ s → q ≡ t → Same x y a b p q m n g h
+  quiet : (told : Option LineAnswer) (s : SessionState) (t : Trace) → t.asks ≡ [] → t.runs ≡ [] → x ≡ told → a ≡ s → p ≡ t → y ≡ told → b ≡ s → q ≡ t → Same x y a b p q m n g h
   quiet told s t none still xs ks ps ys bs qs = (
     xs ∙ sym ys,
     ks ∙ sym bs,
@@ -521,10 +521,10 @@ abbrev but_first : List Bool → List Bool
 but_first [] = []
 but_first (b ∷ bs) = bs
 
-first_unrun : (x y : Option Answer) (xs ys : List (Option Answer)) → map is_unrun (x ∷ xs) ≡ map is_unrun (y ∷ ys) → (is_unrun x ≡ is_unrun y) × (map is_unrun xs ≡ map is_unrun ys)
+first_unrun : (x y : Option LineAnswer) (xs ys : List (Option LineAnswer)) → map is_unrun (x ∷ xs) ≡ map is_unrun (y ∷ ys) → (is_unrun x ≡ is_unrun y) × (map is_unrun xs ≡ map is_unrun ys)
 first_unrun x y xs ys same = (ap first_is same, ap but_first same)
 
-same_chain : (route : Route) (before : SessionState) (asked : List (Result Line LineError)) (xs ys : List (Option Answer)) (a b : SessionState) (p q : Trace) (m n : List Ask) (g h : List Run) → Chain route before asked xs a p
+same_chain : (route : Route) (before : SessionState) (asked : List (Result Line LineError)) (xs ys : List (Option LineAnswer)) (a b : SessionState) (p q : Trace) (m n : List Ask) (g h : List Run) → Chain route before asked xs a p
     → Chain route before asked ys b q → p.asks ++ m ≡ q.asks ++ n → p.runs ++ g ≡ q.runs ++ h → map is_unrun xs ≡ map is_unrun ys → (xs ≡ ys) × (a ≡ b) × (p ≡ q) × (m ≡ n) × (g ≡ h)
 same_chain route before [] xs ys a b p q m n g h s t is ran same = (
   s.0 ∙ sym t.0,
@@ -542,7 +542,7 @@ same_chain route before (line ∷ asked) xs ys a b p q m n g h s t is ran same =
     let one = same_line before s.0 t.0 s.3 t.3 s.1 t.1 (s.2.asks ++ m) (t.2.asks ++ n) (s.2.runs ++ g) (t.2.runs ++ h) whole all route line unrun.0 s.5 t.5 in
     let later = subst (λ (z : SessionState). Chain route z asked t.4 b t.2) (sym one.1) t.6 in
     let rest = same_chain route s.0 asked s.4 t.4 a b s.2 t.2 m n g h s.6 later one.3 one.4 unrun.1 in (
-      s.7 ∙ ap (λ (x : Option Answer). x ∷ s.4) one.0 ∙ ap (λ (l : List (Option Answer)). t.3 ∷ l) rest.0 ∙ sym t.7,
+      s.7 ∙ ap (λ (x : Option LineAnswer). x ∷ s.4) one.0 ∙ ap (λ (l : List (Option LineAnswer)). t.3 ∷ l) rest.0 ∙ sym t.7,
       rest.1,
       s.8 ∙ ap (λ (r : Trace). followed r s.2) one.2 ∙ ap (followed t.1) rest.2 ∙ sym t.8,
       rest.3,

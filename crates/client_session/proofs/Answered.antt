@@ -42,8 +42,8 @@ use Rattle.client_core.specs.Syncing.{store_of, IsFirst, Ships, end_by, EndsSync
 use Rattle.shell_lang.specs.declared.line.Line.{Line}
 use Rattle.shell_lang.specs.declared.line.Line.TheVariants as lines
 use Rattle.shell_lang.specs.declared.line.LineError.{LineError}
-use Rattle.shell_lang.specs.declared.answer.Answer.{Answer}
-use Rattle.shell_lang.specs.declared.answer.Answer.TheVariants as answers
+use Rattle.shell_lang.specs.declared.answer.LineAnswer.{LineAnswer}
+use Rattle.shell_lang.specs.declared.answer.LineAnswer.TheVariants as answers
 use Rattle.client_session.specs.Session.{SessionState, put_effect, make_effect, remove_effect, move_effect, sync_answer, pull_answer, local_answer, word_answer, capture_answer, job_answer, run_answer, status_answer, LogTurn, CommandTurn, LineTurn, Chain, LeavesPending}
 use Rattle.client_session.specs.Looking.{found_at, shown, listed, entered, about, cat_answer, list_answer, enter_answer}
 use Rattle.client_session.specs.Laws.{IsChange, ChangesLeadTo}
@@ -52,7 +52,7 @@ use Rattle.client_session.proofs.Changing.{line_leads, line_number}
 -- ---- only a sync is answered so
 
 -- what reads the tree is not
-abbrev NotPending : Answer → Type 0
+abbrev NotPending : LineAnswer → Type 0
 NotPending answer = LeavesPending (Some answer) → ⊥
 
 shown_quiet : (path : FilePath) (found : Option Node) → NotPending (shown path found)
@@ -70,7 +70,7 @@ entered_quiet path None leaves = leaves
 entered_quiet path (Some nodes.Folder) leaves = leaves
 entered_quiet path (Some (nodes.File content)) leaves = leaves
 
-about_quiet : (found : Result FilePath PathError) (answer : FilePath → Answer) → ((path : FilePath) → NotPending (answer path)) → NotPending (about found answer)
+about_quiet : (found : Result FilePath PathError) (answer : FilePath → LineAnswer) → ((path : FilePath) → NotPending (answer path)) → NotPending (about found answer)
 about_quiet (Ok path) answer quiet leaves = quiet path leaves
 about_quiet (Err refusal) answer quiet leaves = leaves
 
@@ -127,12 +127,12 @@ run_quiet (runs.Clash path) leaves = leaves
 run_quiet (runs.Refused refusal) leaves = local_quiet (Err refusal) leaves
 run_quiet runs.Memory leaves = leaves
 
-module _ (route : Route) (before after : SessionState) (trace : Trace) (answer : Option Answer) (leaves : LeavesPending answer) where
+module _ (route : Route) (before after : SessionState) (trace : Trace) (answer : Option LineAnswer) (leaves : LeavesPending answer) where
   abbrev WasSync : Type 0
   WasSync = (end : SyncEnd) × SyncTurn before.client.number route before.client.log end after.client.log trace × (answer ≡ sync_answer end)
 
   -- it is not, where it is answered so
-  not_so : (told : Option Answer) → answer ≡ told → (LeavesPending told → ⊥) → WasSync
+  not_so : (told : Option LineAnswer) → answer ≡ told → (LeavesPending told → ⊥) → WasSync
   not_so told is quiet = absurd (quiet (subst LeavesPending is leaves))
 
   log_quiet : (named : Result Effect PathError) → LogTurn named before answer after trace → WasSync
@@ -167,10 +167,10 @@ module _ (route : Route) (before after : SessionState) (trace : Trace) (answer :
 -- ---- from line to line
 
 -- What holds of the state before a line and of its asks, and goes on to the next line, excludes an answer at each line.
-pub walk : (route : Route) (P : Option Answer → Type 0) (I : SessionState → Type 0) (Q : List Ask → Type 0) → ((xs ys : List Ask) → Q (xs ++ ys) → Q xs × Q ys)
-    → ((a b : SessionState) (trace : Trace) (line : Result Line LineError) (x : Option Answer) → LineTurn route a line x b trace → I a → Q trace.asks → I b × (P x → ⊥))
-    → (before : SessionState) (asked : List (Result Line LineError)) (answers : List (Option Answer)) (after : SessionState) (trace : Trace) → Chain route before asked answers after trace → I before → Q trace.asks
-    → (x : Option Answer) → IsIn x answers → P x → ⊥
+pub walk : (route : Route) (P : Option LineAnswer → Type 0) (I : SessionState → Type 0) (Q : List Ask → Type 0) → ((xs ys : List Ask) → Q (xs ++ ys) → Q xs × Q ys)
+    → ((a b : SessionState) (trace : Trace) (line : Result Line LineError) (x : Option LineAnswer) → LineTurn route a line x b trace → I a → Q trace.asks → I b × (P x → ⊥))
+    → (before : SessionState) (asked : List (Result Line LineError)) (answers : List (Option LineAnswer)) (after : SessionState) (trace : Trace) → Chain route before asked answers after trace → I before → Q trace.asks
+    → (x : Option LineAnswer) → IsIn x answers → P x → ⊥
 walk route P I Q parts turns before [] answers after trace chain begun asks x among so = subst (IsIn x) chain.0 among
 walk route P I Q parts turns before (line ∷ asked) answers after trace chain begun asks x among so =
     let both = parts chain.1.asks chain.2.asks (subst Q (ap (λ (t : Trace). t.asks) chain.8) asks) in
@@ -283,10 +283,10 @@ module _ (packets : List Message) (client : ℕ) (gapless : Gapless client packe
   unbehind after syncs.KeepFault asks stand ended seq last is = absurd (cc (is))
   unbehind after syncs.Memory asks stand ended seq last is = absurd (cc (is))
 
-  abbrev IsBehind : Option Answer → Type 0
+  abbrev IsBehind : Option LineAnswer → Type 0
   IsBehind x = (seq : ℕ) × (last : ℕ) × (x ≡ Some (answers.Behind seq last))
 
-  behind_turn : (a b : SessionState) (trace : Trace) (line : Result Line LineError) (x : Option Answer) → LineTurn route a line x b trace → a.client.number ≡ client → Stand packets trace.asks
+  behind_turn : (a b : SessionState) (trace : Trace) (line : Result Line LineError) (x : Option LineAnswer) → LineTurn route a line x b trace → a.client.number ≡ client → Stand packets trace.asks
       → (b.client.number ≡ client) × (IsBehind x → ⊥)
   behind_turn a b trace line x turn number stand = (
     line_number a b trace route line x turn ∙ number,
@@ -298,8 +298,8 @@ module _ (packets : List Message) (client : ℕ) (gapless : Gapless client packe
   )
 
   -- no sync of a session is answered `behind`
-  pub never_behind : (before : SessionState) (asked : List (Result Line LineError)) (answers : List (Option Answer)) (after : SessionState) (trace : Trace) → Chain route before asked answers after trace
-      → before.client.number ≡ client → Stand packets trace.asks → (x : Option Answer) → IsIn x answers → IsBehind x → ⊥
+  pub never_behind : (before : SessionState) (asked : List (Result Line LineError)) (answers : List (Option LineAnswer)) (after : SessionState) (trace : Trace) → Chain route before asked answers after trace
+      → before.client.number ≡ client → Stand packets trace.asks → (x : Option LineAnswer) → IsIn x answers → IsBehind x → ⊥
   never_behind before asked answers after trace chain number stand x among so =
       walk route IsBehind (λ s. s.client.number ≡ client) (Stand packets) (stand_parts packets) behind_turn before asked answers after trace chain number stand x among so
 
@@ -364,7 +364,7 @@ module _ (packets : List Message) (client from : ℕ) (gapless : Gapless client 
   ends_synced after end asks past calm (inr ended) =
       absurd (shipped packets client route after ended.entry asks calm.0 from ended.came end gapless none (first_past from after ended.entry past ended.first) calm.1 ended.ships ended.end_is)
 
-  calm_turn : (a b : SessionState) (trace : Trace) (line : Result Line LineError) (x : Option Answer) → LineTurn route a line x b trace → (a.client.number ≡ client) × IsPast from a.client.log → AreCalm trace.asks
+  calm_turn : (a b : SessionState) (trace : Trace) (line : Result Line LineError) (x : Option LineAnswer) → LineTurn route a line x b trace → (a.client.number ≡ client) × IsPast from a.client.log → AreCalm trace.asks
       → ((b.client.number ≡ client) × IsPast from b.client.log) × (LeavesPending x → ⊥)
   calm_turn a b trace line x turn begun calm =
       let past : IsPast from b.client.log = changes_past from a.client.log trace.changes b.client.log (line_leads a b trace route line x turn) begun.1 in (
@@ -378,7 +378,7 @@ module _ (packets : List Message) (client from : ℕ) (gapless : Gapless client 
       )
 
   -- no sync of a session leaves an entry pending
-  pub all_synced : (before : SessionState) (asked : List (Result Line LineError)) (answers : List (Option Answer)) (after : SessionState) (trace : Trace) → Chain route before asked answers after trace
-      → before.client.number ≡ client → IsPast from before.client.log → Stand packets trace.asks → failed_asks trace.asks ≡ 0 → (x : Option Answer) → IsIn x answers → LeavesPending x → ⊥
+  pub all_synced : (before : SessionState) (asked : List (Result Line LineError)) (answers : List (Option LineAnswer)) (after : SessionState) (trace : Trace) → Chain route before asked answers after trace
+      → before.client.number ≡ client → IsPast from before.client.log → Stand packets trace.asks → failed_asks trace.asks ≡ 0 → (x : Option LineAnswer) → IsIn x answers → LeavesPending x → ⊥
   all_synced before asked answers after trace chain number past stand calm x among leaves =
       walk route LeavesPending (λ s. (s.client.number ≡ client) × IsPast from s.client.log) AreCalm calm_parts calm_turn before asked answers after trace chain (number, past) (stand, calm) x among leaves

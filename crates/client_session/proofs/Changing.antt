@@ -24,7 +24,7 @@ use Rattle.client_core.proofs.Locals.{appended-is}
 use Rattle.shell_lang.specs.declared.line.Line.{Line}
 use Rattle.shell_lang.specs.declared.line.Line.TheVariants as lines
 use Rattle.shell_lang.specs.declared.line.LineError.{LineError}
-use Rattle.shell_lang.specs.declared.answer.Answer.{Answer}
+use Rattle.shell_lang.specs.declared.answer.LineAnswer.{LineAnswer}
 use Rattle.client_session.specs.Session.{SessionState, with_log, put_effect, make_effect, remove_effect, move_effect, LogTurn, CommandTurn, LineTurn}
 use Rattle.client_session.specs.Laws.{ChangesLeadTo, SessionsChangeSo}
 
@@ -96,15 +96,15 @@ module _ (before after : SessionState) (trace : Trace) where
       (inl (entry, refl, sym (appended-is None (effect ∷ []) before.client.log after.client.log turn.0)), refl)
   local_leads effect (Err refusal) turn = still before.client.log after.client.log trace turn.1 turn.2
 
-  log_leads : (named : Result Effect PathError) (answer : Option Answer) → LogTurn named before answer after trace → LineLeads
+  log_leads : (named : Result Effect PathError) (answer : Option LineAnswer) → LogTurn named before answer after trace → LineLeads
   log_leads (Ok effect) answer turn = local_leads effect turn.0 turn.1
   log_leads (Err refusal) answer turn = untouched turn.1 turn.2
 
-  command_leads : (route : Route) (made : Result Command CaptureError) (answer : Option Answer) → CommandTurn route made before answer after trace → LineLeads
+  command_leads : (route : Route) (made : Result Command CaptureError) (answer : Option LineAnswer) → CommandTurn route made before answer after trace → LineLeads
   command_leads route (Ok command) answer turn = run_leads route.work command before.client.log turn.0 after.client.log trace turn.1
   command_leads route (Err refusal) answer turn = untouched turn.1 turn.2
 
-  pub line_leads : (route : Route) (line : Result Line LineError) (answer : Option Answer) → LineTurn route before line answer after trace → LineLeads
+  pub line_leads : (route : Route) (line : Result Line LineError) (answer : Option LineAnswer) → LineTurn route before line answer after trace → LineLeads
   line_leads route (Err refusal) answer turn = untouched turn.1 turn.2
   line_leads route (Ok lines.Empty) answer turn = untouched turn.1 turn.2
   line_leads route (Ok (lines.Put word text)) answer turn = log_leads (put_effect before.folder word text) answer turn
@@ -128,15 +128,15 @@ with_number : (before : SessionState) (log : Log) (after : SessionState) → aft
 with_number before log after is = ap (λ (s : SessionState). s.client.number) is
 
 module _ (before after : SessionState) (trace : Trace) where
-  log_number : (named : Result Effect PathError) (answer : Option Answer) → LogTurn named before answer after trace → after.client.number ≡ before.client.number
+  log_number : (named : Result Effect PathError) (answer : Option LineAnswer) → LogTurn named before answer after trace → after.client.number ≡ before.client.number
   log_number (Ok effect) answer turn = with_number before after.client.log after turn.2
   log_number (Err refusal) answer turn = ap (λ (s : SessionState). s.client.number) turn.1
 
-  command_number : (route : Route) (made : Result Command CaptureError) (answer : Option Answer) → CommandTurn route made before answer after trace → after.client.number ≡ before.client.number
+  command_number : (route : Route) (made : Result Command CaptureError) (answer : Option LineAnswer) → CommandTurn route made before answer after trace → after.client.number ≡ before.client.number
   command_number route (Ok command) answer turn = with_number before after.client.log after turn.2
   command_number route (Err refusal) answer turn = ap (λ (s : SessionState). s.client.number) turn.1
 
-  pub line_number : (route : Route) (line : Result Line LineError) (answer : Option Answer) → LineTurn route before line answer after trace → after.client.number ≡ before.client.number
+  pub line_number : (route : Route) (line : Result Line LineError) (answer : Option LineAnswer) → LineTurn route before line answer after trace → after.client.number ≡ before.client.number
   line_number route (Err refusal) answer turn = ap (λ (s : SessionState). s.client.number) turn.1
   line_number route (Ok lines.Empty) answer turn = ap (λ (s : SessionState). s.client.number) turn.1
   line_number route (Ok (lines.Put word text)) answer turn = log_number (put_effect before.folder word text) answer turn

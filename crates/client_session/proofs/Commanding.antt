@@ -23,7 +23,7 @@ use Rattle.client_core.specs.Goes.{Goes}
 use Rattle.client_core.proofs.Going.{changed_so, goes_as, goes_saved}
 use Rattle.client_core.proofs.Runs.{run_goes}
 use Rattle.shell_lang.specs.declared.line.Line.TheVariants.{Run as RunLine}
-use Rattle.shell_lang.specs.declared.answer.Answer.{Answer}
+use Rattle.shell_lang.specs.declared.answer.LineAnswer.{LineAnswer}
 use Rattle.client_session.specs.Session.{SessionState, CommandTurn, LineTurn, BreaksCommand, Broken, capture_answer, run_answer}
 use Rattle.client_session.specs.Doing.{beside, Does, WentDoing, LineEnds}
 use Rattle.client_session.specs.Inside.{IsAnswerOrMemory, RunsLine, RunsMade}
@@ -32,7 +32,7 @@ use Rattle.client_session.proofs.Turning.{a_world, same_but_log}
 
 -- ---- over a link
 
-module _ (route : Route) (words : List (List ℕ)) (before after : SessionState) (r : Result (Option Answer) KeepError) (i j : Option Images) (p q : RunnerTelling) (runs : RunsLine route words before r after i j p q) (t : LinkTelling) where
+module _ (route : Route) (words : List (List ℕ)) (before after : SessionState) (r : Result (Option LineAnswer) KeepError) (i j : Option Images) (p q : RunnerTelling) (runs : RunsLine route words before r after i j p q) (t : LinkTelling) where
   pub run_went : WentDoing route (LineEnds route before (Ok (RunLine words)) r after) before after i j (beside t p) (beside t q)
   run_went = told_start t.world (λ x y. (kept : Log) × Does (is_some route.surrogate) route.image (LineEnds route before (Ok (RunLine words)) r after kept) before after kept i j (beside t p) (beside t q) x y) (runs t)
 
@@ -42,16 +42,16 @@ module _ (route : Route) (words : List (List ℕ)) (before after : SessionState)
 -- ---- words that make no command
 
 module _ (route : Route) (words : List (List ℕ)) (before : SessionState) (i : Option Images) (keeps : IsKept i route.image before.client.number before.client.log) (p : RunnerTelling) where
-  named_refusal : (refusal : CaptureError) (answer : Answer) → capture_answer refusal ≡ Some answer → refusal ≢ captures.Memory
+  named_refusal : (refusal : CaptureError) (answer : LineAnswer) → capture_answer refusal ≡ Some answer → refusal ≢ captures.Memory
   named_refusal refusal answer is memory = absurd (cc (ap capture_answer memory, is))
 
-  pub capture_given : (refusal : CaptureError) (told : Option Answer) (r : Result (Option Answer) KeepError) → (refusal ≢ captures.Memory → capture words before.folder ≡ Err refusal) → told ≡ capture_answer refusal
+  pub capture_given : (refusal : CaptureError) (told : Option LineAnswer) (r : Result (Option LineAnswer) KeepError) → (refusal ≢ captures.Memory → capture words before.folder ≡ Err refusal) → told ≡ capture_answer refusal
       → IsAnswerOrMemory told r → RunsLine route words before r before i i p p
   capture_given refusal (Some answer) (Ok given) refused shown gave = λ link world.
       let is : capture words before.folder ≡ Err refusal = refused (named_refusal refusal answer (sym shown)) in
       let turn : LineTurn route before (Ok (RunLine words)) (Some answer) before nothing =
       subst (λ (c : Result Command CaptureError). CommandTurn route c before (Some answer) before nothing) (sym is) (shown, refl, refl) in
-      subst (λ (a : Option Answer). (kept : Log) × Does (is_some route.surrogate) route.image (LineEnds route before (Ok (RunLine words)) (Ok a) before kept) before before kept i i (beside link p) (beside link p) world world) (sym gave)
+      subst (λ (a : Option LineAnswer). (kept : Log) × Does (is_some route.surrogate) route.image (LineEnds route before (Ok (RunLine words)) (Ok a) before kept) before before kept i i (beside link p) (beside link p) world world) (sym gave)
       (before.client.log, does_none (is_some route.surrogate) route.image (LineEnds route before (Ok (RunLine words)) (Ok (Some answer)) before before.client.log) before i (beside link p) world keeps (turn, refl))
   capture_given refusal None (Err keepers.Memory) refused shown gave = λ link world.
       (before.client.log, does_none (is_some route.surrogate) route.image (LineEnds route before (Ok (RunLine words)) (Err keepers.Memory) before before.client.log) before i (beside link p) world keeps (inl (refl, refl)))
@@ -62,7 +62,7 @@ module _ (route : Route) (words : List (List ℕ)) (before : SessionState) (i : 
 -- ---- a command
 
 -- what holds whatever is answered
-pub whatever : (r : Result (Option Answer) KeepError) (K : Type 0) → K → IfOk r (λ answer. K)
+pub whatever : (r : Result (Option LineAnswer) KeepError) (K : Type 0) → K → IfOk r (λ answer. K)
 whatever (Ok answer) K is = is
 whatever (Err e) K is = tt
 
@@ -93,7 +93,7 @@ module _ (route : Route) (command : Command) (before after : SessionState) (numb
   abbrev Ends : Trace → Type 0
   Ends = RunEnds route.work command before.client.log end after.client.log
 
-  answered_turn : (words : List (List ℕ)) → capture words before.folder ≡ Ok command → (answer : Answer) → run_answer end ≡ Some answer → (trace : Trace) → Ends trace → LineTurn route before (Ok (RunLine words)) (Some answer) after trace
+  answered_turn : (words : List (List ℕ)) → capture words before.folder ≡ Ok command → (answer : LineAnswer) → run_answer end ≡ Some answer → (trace : Trace) → Ends trace → LineTurn route before (Ok (RunLine words)) (Some answer) after trace
   answered_turn words made answer told trace (inl turn) =
       subst (λ (c : Result Command CaptureError). CommandTurn route c before (Some answer) after trace) (sym made) (end, turn, same_but_log before after number folder, sym told)
   answered_turn words made answer told trace (inr broken) = absurd (cc (ap run_answer broken.0, told))
@@ -109,9 +109,9 @@ module _ (route : Route) (command : Command) (before after : SessionState) (numb
     went t w = run_goes route.image before.client.number (is_some route.surrogate) route.work command before.client.log i keeps p q t w end after.client.log did is_log
 
     -- the log is as before
-    pub run_given : (told : Option Answer) (r : Result (Option Answer) KeepError) → told ≡ run_answer end → IsAnswerOrMemory told r → after.client.log ≡ before.client.log → RunsMade route command before r after i i p q
+    pub run_given : (told : Option LineAnswer) (r : Result (Option LineAnswer) KeepError) → told ≡ run_answer end → IsAnswerOrMemory told r → after.client.log ≡ before.client.log → RunsMade route command before r after i i p q
     run_given (Some answer) (Ok given) shown gave same = λ words made link world.
-        subst (λ (a : Option Answer). (kept : Log) × Does (is_some route.surrogate) route.image (LineEnds route before (Ok (RunLine words)) (Ok a) after kept) before after kept i i (beside link p) (beside link q) world world) (sym gave) (
+        subst (λ (a : Option LineAnswer). (kept : Log) × Does (is_some route.surrogate) route.image (LineEnds route before (Ok (RunLine words)) (Ok a) after kept) before after kept i i (beside link p) (beside link q) world world) (sym gave) (
           before.client.log,
           record {
             number = number;
@@ -140,11 +140,11 @@ module _ (route : Route) (command : Command) (before after : SessionState) (numb
           goes_saved route.image before.client.number (is_some route.surrogate) Ends before.client.log after.client.log before.client.log i i j p q t t w w r goes
           (logged_changes route.work command before.client.log end after.client.log goes.trace logged goes.turn) save
 
-      pub run_kept : (done : Unit {0}) (told : Option Answer) (r : Result (Option Answer) KeepError) → told ≡ run_answer end → IsAnswerOrMemory told r
+      pub run_kept : (done : Unit {0}) (told : Option LineAnswer) (r : Result (Option LineAnswer) KeepError) → told ≡ run_answer end → IsAnswerOrMemory told r
           → Told i j (KeepsLog {E = KeepError} route.image before.client.number after.client.log (Ok done)) → RunsMade route command before r after i j p q
       run_kept done (Some answer) (Ok given) shown gave save = λ words made link world.
           let all = saved (Ok done) save link.troubles world in
-          subst (λ (a : Option Answer). (kept : Log) × Does (is_some route.surrogate) route.image (LineEnds route before (Ok (RunLine words)) (Ok a) after kept) before after kept i j (beside link p) (beside link q) world world) (sym gave) (
+          subst (λ (a : Option LineAnswer). (kept : Log) × Does (is_some route.surrogate) route.image (LineEnds route before (Ok (RunLine words)) (Ok a) after kept) before after kept i j (beside link p) (beside link q) world world) (sym gave) (
             all.0,
             record {
               number = number;

@@ -44,7 +44,7 @@ use Rattle.client_core.specs.Pulling.{pull_change, PullsSnapshot, PullTurn}
 use Rattle.shell_lang.specs.declared.line.Line.{Line}
 use Rattle.shell_lang.specs.declared.line.Line.TheVariants as lines
 use Rattle.shell_lang.specs.declared.line.LineError.{LineError}
-use Rattle.shell_lang.specs.declared.answer.Answer.{Answer}
+use Rattle.shell_lang.specs.declared.answer.LineAnswer.{LineAnswer}
 use Rattle.client_session.specs.Session.{SessionState, put_effect, make_effect, remove_effect, move_effect, LogTurn, CommandTurn, LineTurn, Chain, BreaksCommand, BreaksOff, Broken, BreaksChain}
 use Rattle.client_session.specs.Contents.{IsOfRuns, IsOfTheRun, HasContent, IsOfPackets, DistinctContentsDoNotCollide, BrokenSessionsDoNotCollide}
 
@@ -201,15 +201,15 @@ untold : (trace : Trace) → trace ≡ nothing → WriteWhatIsLeft trace
 untold trace none = none_written trace (ap (λ (t : Trace). t.entries) none)
 
 module _ (before after : SessionState) (trace : Trace) where
-  log_written : (named : Result Effect PathError) (answer : Option Answer) → LogTurn named before answer after trace → WriteWhatIsLeft trace
+  log_written : (named : Result Effect PathError) (answer : Option LineAnswer) → LogTurn named before answer after trace → WriteWhatIsLeft trace
   log_written (Ok effect) answer turn = local_written effect before.client.log turn.0 after.client.log trace turn.1
   log_written (Err refusal) answer turn = untold trace turn.2
 
-  command_written : (route : Route) (captured : Result Command CaptureError) (answer : Option Answer) → CommandTurn route captured before answer after trace → WriteWhatIsLeft trace
+  command_written : (route : Route) (captured : Result Command CaptureError) (answer : Option LineAnswer) → CommandTurn route captured before answer after trace → WriteWhatIsLeft trace
   command_written route (Ok command) answer turn = run_written route.work command before.client.log turn.0 after.client.log trace turn.1
   command_written route (Err refusal) answer turn = untold trace turn.2
 
-  line_written : (route : Route) (line : Result Line LineError) (answer : Option Answer) → LineTurn route before line answer after trace → WriteWhatIsLeft trace
+  line_written : (route : Route) (line : Result Line LineError) (answer : Option LineAnswer) → LineTurn route before line answer after trace → WriteWhatIsLeft trace
   line_written route (Err refusal) answer turn = untold trace turn.2
   line_written route (Ok lines.Empty) answer turn = untold trace turn.2
   line_written route (Ok (lines.Put word text)) answer turn = log_written (put_effect before.folder word text) answer turn
@@ -248,14 +248,14 @@ module _ (before after : SessionState) (trace : Trace) where
 
 -- ---- a session
 
-pub chain_written : (route : Route) (before : SessionState) (asked : List (Result Line LineError)) (answers : List (Option Answer)) (after : SessionState) (trace : Trace)
+pub chain_written : (route : Route) (before : SessionState) (asked : List (Result Line LineError)) (answers : List (Option LineAnswer)) (after : SessionState) (trace : Trace)
     → Chain route before asked answers after trace → WriteWhatIsLeft trace
 chain_written route before [] answers after trace chain = untold trace chain.2
 chain_written route before (line ∷ more) answers after trace chain =
     written_as (followed chain.1 chain.2) trace chain.8
     (written_then chain.1 chain.2 (line_written before chain.0 chain.1 route line chain.3 chain.5) (chain_written route chain.0 more chain.4 after chain.2 chain.6))
 
-pub broken_chain_written : (route : Route) (before : SessionState) (asked : List (Result Line LineError)) (answers : List (Option Answer)) (after : SessionState) (kept : Log) (trace : Trace)
+pub broken_chain_written : (route : Route) (before : SessionState) (asked : List (Result Line LineError)) (answers : List (Option LineAnswer)) (after : SessionState) (kept : Log) (trace : Trace)
     → BreaksChain route before asked answers after kept trace → WriteWhatIsLeft trace
 broken_chain_written route before asked answers after kept trace chain =
     written_as (followed chain.3 chain.4) trace chain.9

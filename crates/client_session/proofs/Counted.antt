@@ -35,7 +35,7 @@ use Rattle.client_core.specs.Pulling.{pull_change, PullsSnapshot, PullTurn}
 use Rattle.shell_lang.specs.declared.line.Line.{Line}
 use Rattle.shell_lang.specs.declared.line.Line.TheVariants as lines
 use Rattle.shell_lang.specs.declared.line.LineError.{LineError}
-use Rattle.shell_lang.specs.declared.answer.Answer.{Answer}
+use Rattle.shell_lang.specs.declared.answer.LineAnswer.{LineAnswer}
 use Rattle.client_session.specs.Session.{SessionState, is_unrun, put_effect, make_effect, remove_effect, move_effect, sync_answer, pull_answer, local_answer, word_answer, capture_answer, job_answer, run_answer, LogTurn, CommandTurn, LineTurn}
 use Rattle.client_session.specs.Causes.{asks_to_run}
 use Rattle.client_session.specs.Looking.{found_at, shown, listed, entered, about, list_answer}
@@ -88,7 +88,7 @@ module _ (client : ℕ) (route : Route) (before after : Log) (trace : Trace) whe
 
 -- ---- answers that are not `not run`
 
-abbrev IsOther : Option Answer → Type 0
+abbrev IsOther : Option LineAnswer → Type 0
 IsOther answer = is_unrun answer ≡ false
 
 shown_other : (path : FilePath) (found : Option Node) → IsOther (Some (shown path found))
@@ -106,7 +106,7 @@ entered_other path None = refl
 entered_other path (Some nodes.Folder) = refl
 entered_other path (Some (nodes.File content)) = refl
 
-about_other : (found : Result FilePath PathError) (answer : FilePath → Answer) → ((path : FilePath) → IsOther (Some (answer path))) → IsOther (Some (about found answer))
+about_other : (found : Result FilePath PathError) (answer : FilePath → LineAnswer) → ((path : FilePath) → IsOther (Some (answer path))) → IsOther (Some (about found answer))
 about_other (Ok path) answer other = other path
 about_other (Err refusal) answer other = refl
 
@@ -166,32 +166,32 @@ job_other jobs.Memory = refl
 -- ---- a line
 
 -- it has one run at most, which fails where it is answered `not run`
-pub record Counts (most : ℕ) (answer : Option Answer) (trace : Trace) : Type 0 where
+pub record Counts (most : ℕ) (answer : Option LineAnswer) (trace : Trace) : Type 0 where
   pub once : length trace.runs + trace.missed ≤ most
   pub unrun : cond (is_unrun answer) 1 0 ≡ trace.missed
 
 -- without a run
-quiet_counts : (answer told : Option Answer) (trace : Trace) → answer ≡ told → IsOther told → RunsNothing trace → Counts 0 answer trace
+quiet_counts : (answer told : Option LineAnswer) (trace : Trace) → answer ≡ told → IsOther told → RunsNothing trace → Counts 0 answer trace
 quiet_counts answer told trace is other none = record {
   once = omega (arith, ap length none.0, none.1);
-  unrun = ap (λ (x : Option Answer). cond (is_unrun x) 1 0) is ∙ ap (λ (b : Bool). cond b 1 0) other ∙ sym none.1;
+  unrun = ap (λ (x : Option LineAnswer). cond (is_unrun x) 1 0) is ∙ ap (λ (b : Bool). cond b 1 0) other ∙ sym none.1;
 }
 
 -- with one
-one_counts : (answer told : Option Answer) (trace : Trace) (run : Run) → answer ≡ told → IsOther told → trace.runs ≡ run ∷ [] → trace.missed ≡ 0 → Counts 1 answer trace
+one_counts : (answer told : Option LineAnswer) (trace : Trace) (run : Run) → answer ≡ told → IsOther told → trace.runs ≡ run ∷ [] → trace.missed ≡ 0 → Counts 1 answer trace
 one_counts answer told trace run is other runs missed = record {
   once = omega (arith, ap length runs, missed);
-  unrun = ap (λ (x : Option Answer). cond (is_unrun x) 1 0) is ∙ ap (λ (b : Bool). cond b 1 0) other ∙ sym missed;
+  unrun = ap (λ (x : Option LineAnswer). cond (is_unrun x) 1 0) is ∙ ap (λ (b : Bool). cond b 1 0) other ∙ sym missed;
 }
 
-at_most_one : (answer : Option Answer) (trace : Trace) → Counts 0 answer trace → Counts 1 answer trace
+at_most_one : (answer : Option LineAnswer) (trace : Trace) → Counts 0 answer trace → Counts 1 answer trace
 at_most_one answer trace counts = record { once = omega (arith, counts.once); unrun = counts.unrun }
 
-run_counts : (work : List ℕ) (command : Command) (before : Log) (end : RunEnd) (after : Log) (trace : Trace) (answer : Option Answer) → RunTurn work command before end after trace → answer ≡ run_answer end → Counts 1 answer trace
+run_counts : (work : List ℕ) (command : Command) (before : Log) (end : RunEnd) (after : Log) (trace : Trace) (answer : Option LineAnswer) → RunTurn work command before end after trace → answer ≡ run_answer end → Counts 1 answer trace
 run_counts work command before (ends.NoJob fault) after trace answer turn is = at_most_one answer trace (quiet_counts answer (job_answer fault) trace is (job_other fault) (as_nothing trace turn.2))
 run_counts work command before ends.NotRun after trace answer turn is = record {
   once = omega (arith, ap (λ (t : Trace). length t.runs + t.missed) turn.2);
-  unrun = ap (λ (x : Option Answer). cond (is_unrun x) 1 0) is ∙ sym (ap (λ (t : Trace). t.missed) turn.2);
+  unrun = ap (λ (x : Option LineAnswer). cond (is_unrun x) 1 0) is ∙ sym (ap (λ (t : Trace). t.missed) turn.2);
 }
 run_counts work command before (ends.Logged seq status) after trace answer turn is =
     one_counts answer (run_answer (ends.Logged seq status)) trace turn.0 is refl (ap (λ (t : Trace). t.runs) turn.3) (ap (λ (t : Trace). t.missed) turn.3)
@@ -205,7 +205,7 @@ run_counts work command before (ends.Refused refusal) after trace answer turn is
     one_counts answer (local_answer (Err refusal)) trace turn.0 is (local_other (Err refusal)) (ap (λ (t : Trace). t.runs) turn.3) (ap (λ (t : Trace). t.missed) turn.3)
 run_counts work command before ends.Memory after trace answer turn is = absurd turn.2
 
-module _ (route : Route) (before after : SessionState) (trace : Trace) (answer : Option Answer) where
+module _ (route : Route) (before after : SessionState) (trace : Trace) (answer : Option LineAnswer) where
   log_counts : (named : Result Effect PathError) → LogTurn named before answer after trace → Counts 0 answer trace
   log_counts (Ok effect) turn = quiet_counts answer (local_answer turn.0) trace turn.3 (local_other turn.0) (local_quiet effect turn.0 before.client.log after.client.log trace turn.1)
   log_counts (Err refusal) turn = quiet_counts answer (word_answer refusal) trace turn.0 (word_other refusal) (as_nothing trace turn.2)

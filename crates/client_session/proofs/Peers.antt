@@ -32,7 +32,7 @@ use Rattle.client_core.specs.Pulling.{pull_of, pull_change, PullsSnapshot, PullT
 use Rattle.shell_lang.specs.declared.line.Line.{Line}
 use Rattle.shell_lang.specs.declared.line.Line.TheVariants as lines
 use Rattle.shell_lang.specs.declared.line.LineError.{LineError}
-use Rattle.shell_lang.specs.declared.answer.Answer.{Answer}
+use Rattle.shell_lang.specs.declared.answer.LineAnswer.{LineAnswer}
 use Rattle.client_session.specs.Session.{SessionState, put_effect, make_effect, remove_effect, move_effect, LogTurn, CommandTurn, LineTurn, BreaksCommand, BreaksOff, Broken}
 use Rattle.client_session.specs.Laws.{IsOfRoute, AsksAreOfTheRoute, BrokenSessionsAskTheRoute}
 
@@ -179,15 +179,15 @@ module _ (route : Route) where
     local_asked effect (Ok number) turn = none_asked trace.asks (ap (λ (t : Trace). t.asks) turn.2)
     local_asked effect (Err refusal) turn = none_asked trace.asks (ap (λ (t : Trace). t.asks) turn.2)
 
-    log_asked : (named : Result Effect _) (answer : Option Answer) → LogTurn named before answer after trace → AsksTheRoute
+    log_asked : (named : Result Effect _) (answer : Option LineAnswer) → LogTurn named before answer after trace → AsksTheRoute
     log_asked (Ok effect) answer turn = local_asked effect turn.0 turn.1
     log_asked (Err refusal) answer turn = untouched turn.2
 
-    command_asked : (made : Result Command CaptureError) (answer : Option Answer) → CommandTurn route made before answer after trace → AsksTheRoute
+    command_asked : (made : Result Command CaptureError) (answer : Option LineAnswer) → CommandTurn route made before answer after trace → AsksTheRoute
     command_asked (Ok command) answer turn = run_asked command turn.0 turn.1
     command_asked (Err refusal) answer turn = untouched turn.2
 
-    line_asked : (line : Result Line LineError) (answer : Option Answer) → LineTurn route before line answer after trace → AsksTheRoute
+    line_asked : (line : Result Line LineError) (answer : Option LineAnswer) → LineTurn route before line answer after trace → AsksTheRoute
     line_asked (Err refusal) answer turn = untouched turn.2
     line_asked (Ok lines.Empty) answer turn = untouched turn.2
     line_asked (Ok (lines.Put word text)) answer turn = log_asked (put_effect before.folder word text) answer turn

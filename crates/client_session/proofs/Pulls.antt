@@ -31,25 +31,25 @@ use Rattle.client_core.specs.Honest.{IsNotOtherLast, IsNotOlder}
 use Rattle.shell_lang.specs.declared.line.Line.{Line}
 use Rattle.shell_lang.specs.declared.line.Line.TheVariants as lines
 use Rattle.shell_lang.specs.declared.line.LineError.{LineError}
-use Rattle.shell_lang.specs.declared.answer.Answer.{Answer}
-use Rattle.shell_lang.specs.declared.answer.Answer.TheVariants as answers
+use Rattle.shell_lang.specs.declared.answer.LineAnswer.{LineAnswer}
+use Rattle.shell_lang.specs.declared.answer.LineAnswer.TheVariants as answers
 use Rattle.client_session.specs.Session.{SessionState, put_effect, make_effect, remove_effect, move_effect, sync_answer, pull_answer, local_answer, word_answer, capture_answer, job_answer, run_answer, status_answer, LogTurn, CommandTurn, LineTurn, Chain}
 use Rattle.client_session.specs.Looking.{found_at, shown, listed, entered, about, cat_answer, list_answer, enter_answer}
 
 -- a pull is answered so that took no rows for what the server told
-abbrev pub IsRefusedPull : Option Answer → Type 0
+abbrev pub IsRefusedPull : Option LineAnswer → Type 0
 IsRefusedPull (Some (answers.OtherLast last)) = Unit {0}
 IsRefusedPull (Some (answers.Older path theirs ours)) = Unit {0}
 IsRefusedPull answer = ⊥
 
 -- it is the answer of a pull that is told
-abbrev pub IsOfPull : Option Answer → Trace → Type 0
+abbrev pub IsOfPull : Option LineAnswer → Trace → Type 0
 IsOfPull answer trace = (end : PullEnd) × IsIn end trace.pulls × (answer ≡ pull_answer end)
 
 -- ---- only a pull is answered so
 
 -- what reads the tree is not
-abbrev NoPull : Answer → Type 0
+abbrev NoPull : LineAnswer → Type 0
 NoPull answer = IsRefusedPull (Some answer) → ⊥
 
 shown_other : (path : FilePath) (found : Option Node) → NoPull (shown path found)
@@ -67,7 +67,7 @@ entered_other path None refused = refused
 entered_other path (Some nodes.Folder) refused = refused
 entered_other path (Some (nodes.File content)) refused = refused
 
-about_other : (found : Result FilePath PathError) (answer : FilePath → Answer) → ((path : FilePath) → NoPull (answer path)) → NoPull (about found answer)
+about_other : (found : Result FilePath PathError) (answer : FilePath → LineAnswer) → ((path : FilePath) → NoPull (answer path)) → NoPull (about found answer)
 about_other (Ok path) answer other refused = other path refused
 about_other (Err refusal) answer other refused = refused
 
@@ -135,9 +135,9 @@ pull_told client route before pulls.Unanswered after trace turn refused = absurd
 pull_told client route before pulls.KeepFault after trace turn refused = absurd refused
 pull_told client route before pulls.Memory after trace turn refused = absurd refused
 
-module _ (route : Route) (before after : SessionState) (trace : Trace) (answer : Option Answer) (refused : IsRefusedPull answer) where
+module _ (route : Route) (before after : SessionState) (trace : Trace) (answer : Option LineAnswer) (refused : IsRefusedPull answer) where
   -- it is of no other line
-  not_so : (told : Option Answer) → answer ≡ told → (IsRefusedPull told → ⊥) → IsOfPull answer trace
+  not_so : (told : Option LineAnswer) → answer ≡ told → (IsRefusedPull told → ⊥) → IsOfPull answer trace
   not_so told is other = absurd (other (subst IsRefusedPull is refused))
 
   log_other : (named : Result Effect PathError) → LogTurn named before answer after trace → IsOfPull answer trace
@@ -175,8 +175,8 @@ module _ (route : Route) (before after : SessionState) (trace : Trace) (answer :
 
 -- ---- in a session
 
-pub session_pulls : (route : Route) (before : SessionState) (asked : List (Result Line LineError)) (answers : List (Option Answer)) (after : SessionState) (trace : Trace) → Chain route before asked answers after trace
-    → (x : Option Answer) → IsIn x answers → IsRefusedPull x → IsOfPull x trace
+pub session_pulls : (route : Route) (before : SessionState) (asked : List (Result Line LineError)) (answers : List (Option LineAnswer)) (after : SessionState) (trace : Trace) → Chain route before asked answers after trace
+    → (x : Option LineAnswer) → IsIn x answers → IsRefusedPull x → IsOfPull x trace
 session_pulls route before [] answers after trace chain x among refused = absurd (subst (IsIn x) chain.0 among)
 session_pulls route before (line ∷ asked) answers after trace chain x among refused =
     ⊎_elim

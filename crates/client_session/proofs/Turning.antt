@@ -36,8 +36,8 @@ use Rattle.client_core.proofs.Locals.{local_goes}
 use Rattle.shell_lang.specs.declared.line.Line.{Line}
 use Rattle.shell_lang.specs.declared.line.Line.TheVariants.{Enter, Status, Sync, Pull}
 use Rattle.shell_lang.specs.declared.line.LineError.{LineError}
-use Rattle.shell_lang.specs.declared.answer.Answer.{Answer}
-use Rattle.shell_lang.specs.declared.answer.Answer.TheVariants as answers
+use Rattle.shell_lang.specs.declared.answer.LineAnswer.{LineAnswer}
+use Rattle.shell_lang.specs.declared.answer.LineAnswer.TheVariants as answers
 use Rattle.client_session.specs.Session.{SessionState, ClientState, Sitting, state_of, with_log, with_folder, LogTurn, LineTurn, local_answer, word_answer, status_answer, sync_answer, pull_answer}
 use Rattle.client_session.specs.Looking.{enter_answer, folder_by}
 use Rattle.client_session.specs.Doing.{Telling, beside, Does, WentDoing, LineEnds}
@@ -47,7 +47,7 @@ use Rattle.client_session.proofs.Doing.{does_none, does_as}
 
 -- what a line that asks nothing of the server does in any world, with a surrogate or without, where the keeper's images were these and
 -- are those now
-abbrev pub Quietly : List ℕ → SessionState → Result Line LineError → Result (Option Answer) KeepError → SessionState → Option Images → Option Images → Type 0
+abbrev pub Quietly : List ℕ → SessionState → Result Line LineError → Result (Option LineAnswer) KeepError → SessionState → Option Images → Option Images → Type 0
 Quietly name before line result after images now =
     (ships : Bool) (route : Route) (told : Telling) (world : World) → (kept : Log) × Does ships name (LineEnds route before line result after kept) before after kept images now told told world world
 
@@ -67,7 +67,7 @@ pub kept_still : (name : List ℕ) (client now : Client) (i : Option Images) →
 kept_still name client now i number log keeps ready =
     (subst (λ (n : ℕ). IsKept i name n now.log) (sym number) (subst (IsKept i name client.number) (sym log) keeps), ready)
 
-pub err_seen : (r : Result (Option Answer) KeepError) (now before : Sitting) → OnErr r (now ≡ before) → OnErr r (state_of now ≡ state_of before)
+pub err_seen : (r : Result (Option LineAnswer) KeepError) (now before : Sitting) → OnErr r (now ≡ before) → OnErr r (state_of now ≡ state_of before)
 err_seen (Ok answer) now before same = tt
 err_seen (Err e) now before same = ap state_of same
 
@@ -87,18 +87,18 @@ a_world = record { client = 1; opening = new_served; taken = []; served = new_se
 
 module _ (route : Route) (i : Option Images) where
   -- over each link it does the same
-  pub quietly_told : (before : SessionState) (line : Result Line LineError) (r : Result (Option Answer) KeepError) (after : SessionState) (j : Option Images) → Quietly route.image before line r after i j → (t : Telling)
+  pub quietly_told : (before : SessionState) (line : Result Line LineError) (r : Result (Option LineAnswer) KeepError) (after : SessionState) (j : Option Images) → Quietly route.image before line r after i j → (t : Telling)
       → WentDoing route (LineEnds route before line r after) before after i j t t
   quietly_told before line r after j quiet t =
       told_start t.link.world (λ x y. (kept : Log) × Does (is_some route.surrogate) route.image (LineEnds route before line r after kept) before after kept i j t t x y) (quiet (is_some route.surrogate) route t)
 
   -- and so it has its turn over any link
-  pub quietly_caused : (before : SessionState) (line : Result Line LineError) (r : Result (Option Answer) KeepError) (after : SessionState) (j : Option Images) → Quietly route.image before line r after i j → (t : Telling)
+  pub quietly_caused : (before : SessionState) (line : Result Line LineError) (r : Result (Option LineAnswer) KeepError) (after : SessionState) (j : Option Images) → Quietly route.image before line r after i j → (t : Telling)
       → (kept : Log) × (trace : Trace) × LineEnds route before line r after kept trace × HasRun trace.runs trace.missed t.runner t.runner
   quietly_caused before line r after j quiet t = let here = quiet (is_some route.surrogate) route t a_world in (here.0, here.1.goes.trace, here.1.goes.turn, here.1.goes.has_run)
 
   -- as what the line reads as
-  pub line_world : (before : SessionState) (read line : Result Line LineError) (r : Result (Option Answer) KeepError) (after : SessionState) (j : Option Images) (t : Telling) → read ≡ line
+  pub line_world : (before : SessionState) (read line : Result Line LineError) (r : Result (Option LineAnswer) KeepError) (after : SessionState) (j : Option Images) (t : Telling) → read ≡ line
       → Quietly route.image before line r after i j → WentDoing route (LineEnds route before read r after) before after i j t t
   line_world before read line r after j t is quiet =
       subst (λ (l : Result Line LineError). WentDoing route (LineEnds route before l r after) before after i j t t) (sym is) (quietly_told before line r after j quiet t)
@@ -106,7 +106,7 @@ module _ (route : Route) (i : Option Images) where
 module _ (name : List ℕ) (i : Option Images) where
   module _ (before : SessionState) (keeps : IsKept i name before.client.number before.client.log) where
     -- a line that does nothing but answer
-    pub tells_quietly : (line : Result Line LineError) (answer : Option Answer) → ((route : Route) → LineTurn route before line answer before nothing) → Quietly name before line (Ok answer) before i i
+    pub tells_quietly : (line : Result Line LineError) (answer : Option LineAnswer) → ((route : Route) → LineTurn route before line answer before nothing) → Quietly name before line (Ok answer) before i i
     tells_quietly line answer turn = λ ships route t w. (before.client.log, does_none ships name (LineEnds route before line (Ok answer) before before.client.log) before i t w keeps (turn route, refl))
 
     pub silent_quietly : (line : Result Line LineError) → ((route : Route) → LineTurn route before line None before nothing) → Quietly name before line (Ok None) before i i
@@ -117,13 +117,13 @@ module _ (name : List ℕ) (i : Option Images) where
     breaks_quietly line e = λ ships route t w. (before.client.log, does_none ships name (LineEnds route before line (Err e) before before.client.log) before i t w keeps (inl (refl, refl)))
 
     -- a line that does nothing but answer, unless memory is wanted
-    pub told_quietly : (line : Result Line LineError) (answer : Option Answer) (r : Result (Option Answer) KeepError) → ((route : Route) → LineTurn route before line answer before nothing)
+    pub told_quietly : (line : Result Line LineError) (answer : Option LineAnswer) (r : Result (Option LineAnswer) KeepError) → ((route : Route) → LineTurn route before line answer before nothing)
         → IfOk r (λ given. given ≡ answer) → Quietly name before line r before i i
-    told_quietly line answer (Ok given) turn is = subst (λ (a : Option Answer). Quietly name before line (Ok a) before i i) (sym is) (tells_quietly line answer turn)
+    told_quietly line answer (Ok given) turn is = subst (λ (a : Option LineAnswer). Quietly name before line (Ok a) before i i) (sym is) (tells_quietly line answer turn)
     told_quietly line answer (Err e) turn is = breaks_quietly line e
 
     -- a line that enters a folder
-    pub enter_quietly : (after : SessionState) (word : List ℕ) (r : Result (Option Answer) KeepError)
+    pub enter_quietly : (after : SessionState) (word : List ℕ) (r : Result (Option LineAnswer) KeepError)
         → IfOk r (λ given. given ≡ Some (enter_answer (tree_of before.client.log) before.folder word))
         → IfOk r (λ given. after ≡ with_folder before (folder_by (enter_answer (tree_of before.client.log) before.folder word) before.folder))
         → OnErr r (after ≡ before) → Quietly name before (Ok (Enter word)) r after i i
@@ -140,7 +140,7 @@ module _ (name : List ℕ) (i : Option Images) where
     enter_quietly after word (Err e) is entered same = subst (λ (s : SessionState). Quietly name before (Ok (Enter word)) (Err e) s i i) (sym same) (breaks_quietly (Ok (Enter word)) e)
 
     -- the line of status
-    pub status_quietly : (answer : Answer) → answer ≡ status_answer before → Quietly name before (Ok Status) (Ok (Some answer)) before i i
+    pub status_quietly : (answer : LineAnswer) → answer ≡ status_answer before → Quietly name before (Ok Status) (Ok (Some answer)) before i i
     status_quietly answer is = told_quietly (Ok Status) (Some (status_answer before)) (Ok (Some answer)) (λ route. (refl, refl, refl)) (ap Some is)
 
     -- ---- a line that logs nothing
@@ -150,19 +150,19 @@ module _ (name : List ℕ) (i : Option Images) where
     unlogged named e = λ ships t w. (before.client.log, does_none ships name (LogEnds named before (Err e) before before.client.log) before i t w keeps (inl (refl, refl)))
 
     -- the refusal of a path word
-    refused_word : (refusal : PathError) (answer : Answer) → word_answer refusal ≡ Some answer → LogsOrRefuses name (Err refusal) before (Ok (Some answer)) before i i
+    refused_word : (refusal : PathError) (answer : LineAnswer) → word_answer refusal ≡ Some answer → LogsOrRefuses name (Err refusal) before (Ok (Some answer)) before i i
     refused_word refusal answer is = λ ships t w. (before.client.log, does_none ships name (LogEnds (Err refusal) before (Ok (Some answer)) before before.client.log) before i t w keeps ((sym is, refl, refl), refl))
 
-    no_memory_word : (refusal : PathError) (answer : Answer) → word_answer refusal ≡ Some answer → refusal ≢ paths.Memory
+    no_memory_word : (refusal : PathError) (answer : LineAnswer) → word_answer refusal ≡ Some answer → refusal ≢ paths.Memory
     no_memory_word refusal answer is memory = absurd (cc (ap word_answer memory, is))
 
-    pub word_given : (made : Result Effect PathError) (refusal : PathError) (told : Option Answer) (r : Result (Option Answer) KeepError) → made ≡ Err refusal → told ≡ word_answer refusal
+    pub word_given : (made : Result Effect PathError) (refusal : PathError) (told : Option LineAnswer) (r : Result (Option LineAnswer) KeepError) → made ≡ Err refusal → told ≡ word_answer refusal
         → IsAnswerOrMemory told r → LogsMade name made before r before i i
     word_given made refusal (Some answer) (Ok given) is shown gave = λ named gives.
         let word : word_answer refusal ≡ Some answer = sym shown in
         let is_named : named ≡ Err refusal = subst (λ (m : Result Effect PathError). GivesEffect m named) is gives (no_memory_word refusal answer word) in
         subst (λ (n : Result Effect PathError). LogsOrRefuses name n before (Ok given) before i i) (sym is_named)
-        (subst (λ (a : Option Answer). LogsOrRefuses name (Err refusal) before (Ok a) before i i) (sym gave) (refused_word refusal answer word))
+        (subst (λ (a : Option LineAnswer). LogsOrRefuses name (Err refusal) before (Ok a) before i i) (sym gave) (refused_word refusal answer word))
     word_given made refusal None (Err keepers.Memory) is shown gave = λ named gives. unlogged named keepers.Memory
     word_given made refusal None (Err keepers.Failed) is shown gave = absurd gave
     word_given made refusal (Some answer) (Err e) is shown gave = absurd gave
@@ -171,18 +171,18 @@ module _ (name : List ℕ) (i : Option Images) where
     -- ---- a line that logs
 
     module _ (effect : Effect) (after : SessionState) (number : after.client.number ≡ before.client.number) (folder : after.folder ≡ before.folder) where
-      refused_turn : (refusal : LogError) (answer : Answer) → Some answer ≡ local_answer (Err refusal) → (trace : Trace) → LocalEnds effect before.client.log (Err refusal) after.client.log trace → LogTurn (Ok effect) before (Some answer) after trace
+      refused_turn : (refusal : LogError) (answer : LineAnswer) → Some answer ≡ local_answer (Err refusal) → (trace : Trace) → LocalEnds effect before.client.log (Err refusal) after.client.log trace → LogTurn (Ok effect) before (Some answer) after trace
       refused_turn refusal answer shown trace (inl turn) = (Err refusal, turn, same_but_log before after number folder, shown)
       refused_turn refusal answer shown trace (inr memory) = absurd (cc (ap local_answer memory.0, shown))
 
       -- the log refused the effect
-      pub refusal_given : (made : Result Effect PathError) (refusal : LogError) (told : Option Answer) (r : Result (Option Answer) KeepError) → made ≡ Ok effect → told ≡ local_answer (Err refusal) → IsAnswerOrMemory told r
+      pub refusal_given : (made : Result Effect PathError) (refusal : LogError) (told : Option LineAnswer) (r : Result (Option LineAnswer) KeepError) → made ≡ Ok effect → told ≡ local_answer (Err refusal) → IsAnswerOrMemory told r
           → (refusal ≢ logs.Memory → appended None (effect ∷ []) before.client.log ≡ Err refusal) → after.client ≡ before.client → IsLog after.client.log → LogsMade name made before r after i i
       refusal_given made refusal (Some answer) (Ok given) is shown gave err same is_log = λ named gives.
           let is_named : named ≡ Ok effect = subst (λ (m : Result Effect PathError). GivesEffect m named) is gives in
           let log_same : after.client.log ≡ before.client.log = ap (λ (c : ClientState). c.log) same in
           subst (λ (n : Result Effect PathError). LogsOrRefuses name n before (Ok given) after i i) (sym is_named)
-          (subst (λ (a : Option Answer). LogsOrRefuses name (Ok effect) before (Ok a) after i i) (sym gave)
+          (subst (λ (a : Option LineAnswer). LogsOrRefuses name (Ok effect) before (Ok a) after i i) (sym gave)
           (λ ships t w. (
             before.client.log,
             record {
@@ -245,8 +245,8 @@ module _ (name : List ℕ) (i : Option Images) where
             ))
 
   -- in every world, as its line
-  pub logs_quietly : (named : Result Effect PathError) (before : SessionState) (line : Result Line LineError) (r : Result (Option Answer) KeepError) (after : SessionState) (j : Option Images)
-      → ((route : Route) (answer : Option Answer) (trace : Trace) → LogTurn named before answer after trace → LineTurn route before line answer after trace)
+  pub logs_quietly : (named : Result Effect PathError) (before : SessionState) (line : Result Line LineError) (r : Result (Option LineAnswer) KeepError) (after : SessionState) (j : Option Images)
+      → ((route : Route) (answer : Option LineAnswer) (trace : Trace) → LogTurn named before answer after trace → LineTurn route before line answer after trace)
       → LogsOrRefuses name named before r after i j → Quietly name before line r after i j
   logs_quietly named before line (Ok answer) after j to logs = λ ships route t w.
       let done = logs ships t w in (
@@ -281,10 +281,10 @@ broken_silent syncs.Memory is = refl
 
 module _ (route : Route) (before after : SessionState) (k : Log) (i j : Option Images) (t u : LinkTelling) (x y : World) (number : after.client.number ≡ before.client.number) (folder : after.folder ≡ before.folder) (end : SyncEnd)
     (goes : Goes before.client.number (is_some route.surrogate) route.image (SyncEnds before.client.number route before.client.log end after.client.log k) before.client.log after.client.log k i j no_runner no_runner t.troubles u.troubles x y) (runner : RunnerTelling) where
-  abbrev Did : Result (Option Answer) KeepError → Type 0
+  abbrev Did : Result (Option LineAnswer) KeepError → Type 0
   Did r = (kept : Log) × Does (is_some route.surrogate) route.image (LineEnds route before (Ok Sync) r after kept) before after kept i j (beside t runner) (beside u runner) x y
 
-  sync_as : (r : Result (Option Answer) KeepError) → ((trace : Trace) → SyncEnds before.client.number route before.client.log end after.client.log k trace → LineEnds route before (Ok Sync) r after k trace) → Did r
+  sync_as : (r : Result (Option LineAnswer) KeepError) → ((trace : Trace) → SyncEnds before.client.number route before.client.log end after.client.log k trace → LineEnds route before (Ok Sync) r after k trace) → Did r
   sync_as r to = (
     k,
     record {
@@ -294,7 +294,7 @@ module _ (route : Route) (before after : SessionState) (k : Log) (i j : Option I
     },
   )
 
-  told_turn : (answer : Answer) → sync_answer end ≡ Some answer → (trace : Trace) → SyncEnds before.client.number route before.client.log end after.client.log k trace → LineEnds route before (Ok Sync) (Ok (Some answer)) after k trace
+  told_turn : (answer : LineAnswer) → sync_answer end ≡ Some answer → (trace : Trace) → SyncEnds before.client.number route before.client.log end after.client.log k trace → LineEnds route before (Ok Sync) (Ok (Some answer)) after k trace
   told_turn answer is trace (inl turn) = ((end, turn.0, same_but_log before after number folder, sym is), turn.1)
   told_turn answer is trace (inr broken) = absurd (cc (broken_silent end broken.0, is))
 
@@ -302,17 +302,17 @@ module _ (route : Route) (before after : SessionState) (k : Log) (i j : Option I
   broken_turn e trace (inl turn) = inr (inl (sync_answer end, (end, turn.0, same_but_log before after number folder, refl)))
   broken_turn e trace (inr broken) = inr (inr (broken.1, same_but_log before after number folder))
 
-  sync_answered : (fault : Bool) (told : Option Answer) → told ≡ sync_answer end → Did (answer_or_fault fault told)
+  sync_answered : (fault : Bool) (told : Option LineAnswer) → told ≡ sync_answer end → Did (answer_or_fault fault told)
   sync_answered true told shown = sync_as (Err keepers.Failed) (broken_turn keepers.Failed)
   sync_answered false None shown = sync_as (Err keepers.Memory) (broken_turn keepers.Memory)
   sync_answered false (Some answer) shown = sync_as (Ok (Some answer)) (told_turn answer (sym shown))
 
-  sync_given : (fault : Bool) (told : Option Answer) (r : Result (Option Answer) KeepError) → told ≡ sync_answer end → r ≡ answer_or_fault fault told → Did r
+  sync_given : (fault : Bool) (told : Option LineAnswer) (r : Result (Option LineAnswer) KeepError) → told ≡ sync_answer end → r ≡ answer_or_fault fault told → Did r
   sync_given fault told r shown is = subst Did (sym is) (sync_answered fault told shown)
 
 -- over a link
 pub sync_went : (route : Route) (before after : SessionState) (i j : Option Images) (t u : LinkTelling) (number : after.client.number ≡ before.client.number) (folder : after.folder ≡ before.folder) (end : SyncEnd)
-    (fault : Bool) (told : Option Answer) (r : Result (Option Answer) KeepError) → told ≡ sync_answer end → r ≡ answer_or_fault fault told
+    (fault : Bool) (told : Option LineAnswer) (r : Result (Option LineAnswer) KeepError) → told ≡ sync_answer end → r ≡ answer_or_fault fault told
     → Went before.client.number (is_some route.surrogate) route.image (SyncEnds before.client.number route before.client.log end after.client.log) before.client.log after.client.log i j t u
     → (runner : RunnerTelling) → WentDoing route (LineEnds route before (Ok Sync) r after) before after i j (beside t runner) (beside u runner)
 sync_went route before after i j t u number folder end fault told r shown is went runner =
@@ -321,13 +321,13 @@ sync_went route before after i j t u number folder end fault told r shown is wen
     (λ x y did. sync_given route before after did.0 i j t u x y number folder end did.1 runner fault told r shown is)
 
 pub sync_cause : (route : Route) (before after : SessionState) (t u : LinkTelling) (p q : ℕ) (number : after.client.number ≡ before.client.number) (folder : after.folder ≡ before.folder)
-    → AcknowledgesSome before.client.log after.client.log → (end : SyncEnd) (fault : Bool) (told : Option Answer) (r : Result (Option Answer) KeepError) → told ≡ sync_answer end → fault ≡ is_sync_fault end
+    → AcknowledgesSome before.client.log after.client.log → (end : SyncEnd) (fault : Bool) (told : Option LineAnswer) (r : Result (Option LineAnswer) KeepError) → told ≡ sync_answer end → fault ≡ is_sync_fault end
     → r ≡ answer_or_fault fault told → HasSyncCause end after.client.log t.troubles u.troubles p q → ((runner : RunnerTelling) → HasLineCause route before (Ok Sync) r after (beside t runner) (beside u runner) p q)
 sync_cause route before after t u p q number folder some end fault told r shown faulty is cause runner =
     (same_but_log before after number folder, some, (end, is ∙ ap (λ (b : Bool). answer_or_fault b told) faulty ∙ ap (answer_or_fault (is_sync_fault end)) shown, cause))
 
 -- the keeper's faults are counted by the answer as by the end
-pub sync_counts : (p q : ℕ) (end : SyncEnd) (fault : Bool) (told : Option Answer) (r : Result (Option Answer) KeepError) → told ≡ sync_answer end → fault ≡ is_sync_fault end → r ≡ answer_or_fault fault told
+pub sync_counts : (p q : ℕ) (end : SyncEnd) (fault : Bool) (told : Option LineAnswer) (r : Result (Option LineAnswer) KeepError) → told ≡ sync_answer end → fault ≡ is_sync_fault end → r ≡ answer_or_fault fault told
     → RisesWhere (end ≡ syncs.KeepFault) p q → CountsFault keepers.Failed p q r
 sync_counts p q end fault told r shown faulty is rises =
     subst (CountsFault keepers.Failed p q) (sym (is ∙ ap (λ (b : Bool). answer_or_fault b told) faulty ∙ ap (answer_or_fault (is_sync_fault end)) shown)) (by end rises)
@@ -342,7 +342,7 @@ sync_counts p q end fault told r shown faulty is rises =
     by (syncs.Unanswered n) rises = record { later = rises.later; once = λ is. absurd (cc (is)); never = λ no. rises.never (λ is. absurd (cc (is))) }
     by (syncs.Behind n last) rises = record { later = rises.later; once = λ is. absurd (cc (is)); never = λ no. rises.never (λ is. absurd (cc (is))) }
 
-unbroken : (end : SyncEnd) (answer : Answer) → sync_answer end ≡ Some answer → is_broken_sync end ≡ false
+unbroken : (end : SyncEnd) (answer : LineAnswer) → sync_answer end ≡ Some answer → is_broken_sync end ≡ false
 unbroken (syncs.Synced seq) answer is = refl
 unbroken (syncs.Stale seq path theirs ours) answer is = refl
 unbroken (syncs.Unfit seq index fault) answer is = refl
@@ -353,12 +353,12 @@ unbroken syncs.KeepFault answer is = absurd (cc)
 unbroken syncs.Memory answer is = absurd (cc)
 
 -- a sync that is answered leaves its log kept
-pub sync_kept : (name : List ℕ) (client : ℕ) (before after : Log) (end : SyncEnd) (i j : Option Images) (fault : Bool) (told : Option Answer) (r : Result (Option Answer) KeepError) → told ≡ sync_answer end
+pub sync_kept : (name : List ℕ) (client : ℕ) (before after : Log) (end : SyncEnd) (i j : Option Images) (fault : Bool) (told : Option LineAnswer) (r : Result (Option LineAnswer) KeepError) → told ≡ sync_answer end
     → r ≡ answer_or_fault fault told → SyncKeeps name client before end after i j → IfOk r (λ answer. IsKept j name client after)
 sync_kept name client before after end i j fault told r shown is keeps =
-    subst (λ (a : Result (Option Answer) KeepError). IfOk a (λ answer. IsKept j name client after)) (sym is) (by fault told shown)
+    subst (λ (a : Result (Option LineAnswer) KeepError). IfOk a (λ answer. IsKept j name client after)) (sym is) (by fault told shown)
   where
-    by : (fault : Bool) (told : Option Answer) → told ≡ sync_answer end → IfOk (answer_or_fault fault told) (λ answer. IsKept j name client after)
+    by : (fault : Bool) (told : Option LineAnswer) → told ≡ sync_answer end → IfOk (answer_or_fault fault told) (λ answer. IsKept j name client after)
     by true told shown = tt
     by false None shown = tt
     by false (Some answer) shown =
@@ -377,10 +377,10 @@ broken_unsaid pulls.Memory is = refl
 
 module _ (route : Route) (before after : SessionState) (k : Log) (i j : Option Images) (t u : LinkTelling) (x y : World) (number : after.client.number ≡ before.client.number) (folder : after.folder ≡ before.folder) (end : PullEnd)
     (goes : Goes before.client.number (is_some route.surrogate) route.image (PullEnds before.client.number route before.client.log end after.client.log k) before.client.log after.client.log k i j no_runner no_runner t.troubles u.troubles x y) (runner : RunnerTelling) where
-  abbrev Pulls_so : Result (Option Answer) KeepError → Type 0
+  abbrev Pulls_so : Result (Option LineAnswer) KeepError → Type 0
   Pulls_so r = (kept : Log) × Does (is_some route.surrogate) route.image (LineEnds route before (Ok Pull) r after kept) before after kept i j (beside t runner) (beside u runner) x y
 
-  pull_as : (r : Result (Option Answer) KeepError) → ((trace : Trace) → PullEnds before.client.number route before.client.log end after.client.log k trace → LineEnds route before (Ok Pull) r after k trace) → Pulls_so r
+  pull_as : (r : Result (Option LineAnswer) KeepError) → ((trace : Trace) → PullEnds before.client.number route before.client.log end after.client.log k trace → LineEnds route before (Ok Pull) r after k trace) → Pulls_so r
   pull_as r to = (
     k,
     record {
@@ -390,7 +390,7 @@ module _ (route : Route) (before after : SessionState) (k : Log) (i j : Option I
     },
   )
 
-  pull_told : (answer : Answer) → pull_answer end ≡ Some answer → (trace : Trace) → PullEnds before.client.number route before.client.log end after.client.log k trace → LineEnds route before (Ok Pull) (Ok (Some answer)) after k trace
+  pull_told : (answer : LineAnswer) → pull_answer end ≡ Some answer → (trace : Trace) → PullEnds before.client.number route before.client.log end after.client.log k trace → LineEnds route before (Ok Pull) (Ok (Some answer)) after k trace
   pull_told answer is trace (inl turn) = ((end, turn.0, same_but_log before after number folder, sym is), turn.1)
   pull_told answer is trace (inr broken) = absurd (cc (broken_unsaid end broken.0, is))
 
@@ -398,17 +398,17 @@ module _ (route : Route) (before after : SessionState) (k : Log) (i j : Option I
   pull_broken e trace (inl turn) = inr (inl (pull_answer end, (end, turn.0, same_but_log before after number folder, refl)))
   pull_broken e trace (inr broken) = inr (inr (broken.1, same_but_log before after number folder))
 
-  pull_answered : (fault : Bool) (told : Option Answer) → told ≡ pull_answer end → Pulls_so (answer_or_fault fault told)
+  pull_answered : (fault : Bool) (told : Option LineAnswer) → told ≡ pull_answer end → Pulls_so (answer_or_fault fault told)
   pull_answered true told shown = pull_as (Err keepers.Failed) (pull_broken keepers.Failed)
   pull_answered false None shown = pull_as (Err keepers.Memory) (pull_broken keepers.Memory)
   pull_answered false (Some answer) shown = pull_as (Ok (Some answer)) (pull_told answer (sym shown))
 
-  pull_given : (fault : Bool) (told : Option Answer) (r : Result (Option Answer) KeepError) → told ≡ pull_answer end → r ≡ answer_or_fault fault told → Pulls_so r
+  pull_given : (fault : Bool) (told : Option LineAnswer) (r : Result (Option LineAnswer) KeepError) → told ≡ pull_answer end → r ≡ answer_or_fault fault told → Pulls_so r
   pull_given fault told r shown is = subst Pulls_so (sym is) (pull_answered fault told shown)
 
 -- over a link
 pub pull_went : (route : Route) (before after : SessionState) (i j : Option Images) (t u : LinkTelling) (number : after.client.number ≡ before.client.number) (folder : after.folder ≡ before.folder) (end : PullEnd)
-    (fault : Bool) (told : Option Answer) (r : Result (Option Answer) KeepError) → told ≡ pull_answer end → r ≡ answer_or_fault fault told
+    (fault : Bool) (told : Option LineAnswer) (r : Result (Option LineAnswer) KeepError) → told ≡ pull_answer end → r ≡ answer_or_fault fault told
     → Went before.client.number (is_some route.surrogate) route.image (PullEnds before.client.number route before.client.log end after.client.log) before.client.log after.client.log i j t u
     → (runner : RunnerTelling) → WentDoing route (LineEnds route before (Ok Pull) r after) before after i j (beside t runner) (beside u runner)
 pull_went route before after i j t u number folder end fault told r shown is went runner =
@@ -417,12 +417,12 @@ pull_went route before after i j t u number folder end fault told r shown is wen
     (λ x y did. pull_given route before after did.0 i j t u x y number folder end did.1 runner fault told r shown is)
 
 pub pull_cause : (route : Route) (before after : SessionState) (t u : LinkTelling) (p q : ℕ) (number : after.client.number ≡ before.client.number) (folder : after.folder ≡ before.folder)
-    → (end : PullEnd) (fault : Bool) (told : Option Answer) (r : Result (Option Answer) KeepError) → told ≡ pull_answer end → fault ≡ is_pull_fault end
+    → (end : PullEnd) (fault : Bool) (told : Option LineAnswer) (r : Result (Option LineAnswer) KeepError) → told ≡ pull_answer end → fault ≡ is_pull_fault end
     → r ≡ answer_or_fault fault told → HasPullCause end before.client.log after.client.log t.troubles u.troubles p q → ((runner : RunnerTelling) → HasLineCause route before (Ok Pull) r after (beside t runner) (beside u runner) p q)
 pull_cause route before after t u p q number folder end fault told r shown faulty is cause runner =
     (same_but_log before after number folder, (end, is ∙ ap (λ (b : Bool). answer_or_fault b told) faulty ∙ ap (answer_or_fault (is_pull_fault end)) shown, cause))
 
-pub pull_counts : (p q : ℕ) (end : PullEnd) (fault : Bool) (told : Option Answer) (r : Result (Option Answer) KeepError) → told ≡ pull_answer end → fault ≡ is_pull_fault end → r ≡ answer_or_fault fault told
+pub pull_counts : (p q : ℕ) (end : PullEnd) (fault : Bool) (told : Option LineAnswer) (r : Result (Option LineAnswer) KeepError) → told ≡ pull_answer end → fault ≡ is_pull_fault end → r ≡ answer_or_fault fault told
     → RisesWhere (end ≡ pulls.KeepFault) p q → CountsFault keepers.Failed p q r
 pull_counts p q end fault told r shown faulty is rises =
     subst (CountsFault keepers.Failed p q) (sym (is ∙ ap (λ (b : Bool). answer_or_fault b told) faulty ∙ ap (answer_or_fault (is_pull_fault end)) shown)) (by end rises)
@@ -436,7 +436,7 @@ pull_counts p q end fault told r shown faulty is rises =
     by (pulls.Older path theirs ours) rises = record { later = rises.later; once = λ is. absurd (cc (is)); never = λ no. rises.never (λ is. absurd (cc (is))) }
     by pulls.Unanswered rises = record { later = rises.later; once = λ is. absurd (cc (is)); never = λ no. rises.never (λ is. absurd (cc (is))) }
 
-unbroken_pull : (end : PullEnd) (answer : Answer) → pull_answer end ≡ Some answer → is_broken_pull end ≡ false
+unbroken_pull : (end : PullEnd) (answer : LineAnswer) → pull_answer end ≡ Some answer → is_broken_pull end ≡ false
 unbroken_pull (pulls.Pulled count) answer is = refl
 unbroken_pull (pulls.Pending count) answer is = refl
 unbroken_pull (pulls.OtherLast last acked) answer is = refl
@@ -446,12 +446,12 @@ unbroken_pull pulls.KeepFault answer is = absurd (cc)
 unbroken_pull pulls.Memory answer is = absurd (cc)
 
 -- a pull that is answered leaves its log kept
-pub pull_kept : (name : List ℕ) (client : ℕ) (before after : Log) (end : PullEnd) (i j : Option Images) (fault : Bool) (told : Option Answer) (r : Result (Option Answer) KeepError) → told ≡ pull_answer end
+pub pull_kept : (name : List ℕ) (client : ℕ) (before after : Log) (end : PullEnd) (i j : Option Images) (fault : Bool) (told : Option LineAnswer) (r : Result (Option LineAnswer) KeepError) → told ≡ pull_answer end
     → r ≡ answer_or_fault fault told → PullKeeps name client before end after i j → IfOk r (λ answer. IsKept j name client after)
 pull_kept name client before after end i j fault told r shown is keeps =
-    subst (λ (a : Result (Option Answer) KeepError). IfOk a (λ answer. IsKept j name client after)) (sym is) (by fault told shown)
+    subst (λ (a : Result (Option LineAnswer) KeepError). IfOk a (λ answer. IsKept j name client after)) (sym is) (by fault told shown)
   where
-    by : (fault : Bool) (told : Option Answer) → told ≡ pull_answer end → IfOk (answer_or_fault fault told) (λ answer. IsKept j name client after)
+    by : (fault : Bool) (told : Option LineAnswer) → told ≡ pull_answer end → IfOk (answer_or_fault fault told) (λ answer. IsKept j name client after)
     by true told shown = tt
     by false None shown = tt
     by false (Some answer) shown =

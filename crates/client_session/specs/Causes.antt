@@ -14,7 +14,7 @@ use Rattle.client_core.specs.Causes.{HasSyncCause, HasPullCause, AcknowledgesSom
 use Rattle.shell_lang.specs.declared.line.Line.{Line}
 use Rattle.shell_lang.specs.declared.line.Line.TheVariants.{Run, Sync, Pull}
 use Rattle.shell_lang.specs.declared.line.LineError.{LineError}
-use Rattle.shell_lang.specs.declared.answer.Answer.{Answer}
+use Rattle.shell_lang.specs.declared.answer.LineAnswer.{LineAnswer}
 use Rattle.client_session.specs.Session.{SessionState, with_log, sync_answer, pull_answer}
 use Rattle.client_session.specs.Doing.{Telling, LineEnds}
 
@@ -29,7 +29,7 @@ is_pull_fault pulls.KeepFault = true
 is_pull_fault end = false
 
 -- an answer that is there, unless a keeping failed; where there is none, memory was wanted
-abbrev pub answer_or_fault : Bool → Option Answer → Result (Option Answer) KeepError
+abbrev pub answer_or_fault : Bool → Option LineAnswer → Result (Option LineAnswer) KeepError
 answer_or_fault true answer = Err keepers.Failed
 answer_or_fault false None = Err keepers.Memory
 answer_or_fault false (Some answer) = Ok (Some answer)
@@ -42,7 +42,7 @@ asks_to_run line = false
 -- A sync acknowledges some entries and a pull may replace the base, and nothing else of the session changes; each ends with a cause,
 -- and is answered so. Every other line has its turn, or was broken off; what its runs were, the runner tells, and its faults rose
 -- where a line was answered `not run`.
-abbrev pub HasLineCause : Route → SessionState → Result Line LineError → Result (Option Answer) KeepError → SessionState → Telling → Telling → ℕ → ℕ → Type 0
+abbrev pub HasLineCause : Route → SessionState → Result Line LineError → Result (Option LineAnswer) KeepError → SessionState → Telling → Telling → ℕ → ℕ → Type 0
 HasLineCause route before (Ok Sync) result after old new faults faults_now =
     (after ≡ with_log before after.client.log) × AcknowledgesSome before.client.log after.client.log
     × ((end : SyncEnd) × (result ≡ answer_or_fault (is_sync_fault end) (sync_answer end)) × HasSyncCause end after.client.log old.link.troubles new.link.troubles faults faults_now)

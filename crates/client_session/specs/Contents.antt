@@ -18,7 +18,7 @@ use Rattle.shell_lang.specs.Commands.{put_content}
 use Rattle.shell_lang.specs.declared.line.Line.{Line}
 use Rattle.shell_lang.specs.declared.line.Line.TheVariants.{Put}
 use Rattle.shell_lang.specs.declared.line.LineError.{LineError}
-use Rattle.shell_lang.specs.declared.answer.Answer.{Answer}
+use Rattle.shell_lang.specs.declared.answer.LineAnswer.{LineAnswer}
 use Rattle.client_session.specs.Session.{SessionState, Chain, BreaksChain}
 
 -- one of the entries writes this content
@@ -50,14 +50,14 @@ IsOfPackets packets content = (message : Message) × IsIn message packets × Has
 -- Where a content of a session and one of the packets that have one print are equal, no content that the client may ship as an operation
 -- is taken for another. For an entry of a command that was not pending before writes only what its run left.
 abbrev pub DistinctContentsDoNotCollide : Type 0
-DistinctContentsDoNotCollide = (client : ℕ) (route : Route) (before : SessionState) (lines : List (Result Line LineError)) (answers : List (Option Answer)) (after : SessionState) (trace : Trace) (packets : List Message)
+DistinctContentsDoNotCollide = (client : ℕ) (route : Route) (before : SessionState) (lines : List (Result Line LineError)) (answers : List (Option LineAnswer)) (after : SessionState) (trace : Trace) (packets : List Message)
     → Chain route before lines answers after trace
     → Distinct (IsOfTheRun before.client.log.pending lines trace.runs) (IsOfPackets packets)
     → HasNoCollision client (before.client.log.pending ++ trace.entries) packets
 
 -- And so it is of a session whose last line was broken off.
 abbrev pub BrokenSessionsDoNotCollide : Type 0
-BrokenSessionsDoNotCollide = (client : ℕ) (route : Route) (before : SessionState) (lines : List (Result Line LineError)) (answers : List (Option Answer)) (after : SessionState) (kept : Log) (trace : Trace) (packets : List Message)
+BrokenSessionsDoNotCollide = (client : ℕ) (route : Route) (before : SessionState) (lines : List (Result Line LineError)) (answers : List (Option LineAnswer)) (after : SessionState) (kept : Log) (trace : Trace) (packets : List Message)
     → BreaksChain route before lines answers after kept trace
     → Distinct (IsOfTheRun before.client.log.pending lines trace.runs) (IsOfPackets packets)
     → HasNoCollision client (before.client.log.pending ++ trace.entries) packets

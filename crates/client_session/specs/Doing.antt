@@ -11,7 +11,7 @@ use Rattle.cmd_capture.specs.Runs.{RunnerTelling}
 use Rattle.client_core.specs.Goes.{Goes}
 use Rattle.shell_lang.specs.declared.line.Line.{Line}
 use Rattle.shell_lang.specs.declared.line.LineError.{LineError}
-use Rattle.shell_lang.specs.declared.answer.Answer.{Answer}
+use Rattle.shell_lang.specs.declared.answer.LineAnswer.{LineAnswer}
 use Rattle.client_session.specs.Session.{SessionState, LineTurn, Broken}
 
 -- what the link and the runner of a session tell at one moment
@@ -35,6 +35,6 @@ WentDoing route turns before after images images_now old new =
     ToldWorlds old.link new.link (λ v w. (kept : Log) × Does (is_some route.surrogate) route.image (turns kept) before after kept images images_now old new v w)
 
 -- a line that was answered and after which the log is kept, or one that was broken off
-abbrev pub LineEnds : Route → SessionState → Result Line LineError → Result (Option Answer) KeepError → SessionState → Log → Trace → Type 0
+abbrev pub LineEnds : Route → SessionState → Result Line LineError → Result (Option LineAnswer) KeepError → SessionState → Log → Trace → Type 0
 LineEnds route before line (Ok answer) after kept trace = LineTurn route before line answer after trace × (kept ≡ after.client.log)
 LineEnds route before line (Err error) after kept trace = Broken route before line after trace

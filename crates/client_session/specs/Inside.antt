@@ -15,12 +15,12 @@ use Rattle.client_core.specs.declared.route.Route.{Route}
 use Rattle.cmd_capture.specs.Runs.{RunnerTelling}
 use Rattle.client_core.specs.Trace.{Trace, nothing}
 use Rattle.shell_lang.specs.declared.line.Line.TheVariants.{Run as RunLine}
-use Rattle.shell_lang.specs.declared.answer.Answer.{Answer}
+use Rattle.shell_lang.specs.declared.answer.LineAnswer.{LineAnswer}
 use Rattle.client_session.specs.Session.{SessionState, LogTurn}
 use Rattle.client_session.specs.Doing.{Telling, beside, Does, LineEnds}
 
 -- an answer is given where there is one, and else memory was wanted
-abbrev pub IsAnswerOrMemory : Option Answer → Result (Option Answer) KeepError → Type 0
+abbrev pub IsAnswerOrMemory : Option LineAnswer → Result (Option LineAnswer) KeepError → Type 0
 IsAnswerOrMemory (Some answer) (Ok given) = given ≡ Some answer
 IsAnswerOrMemory None (Err keepers.Memory) = ⊤
 IsAnswerOrMemory answer result = ⊥
@@ -32,28 +32,28 @@ GivesEffect (Err error) named = error ≢ Memory → named ≡ Err error
 
 -- A named effect has its turn, and the log is kept. Or memory was wanted before it did anything, or it had its turn and the log was
 -- not surely kept.
-abbrev pub LogEnds : Result Effect PathError → SessionState → Result (Option Answer) KeepError → SessionState → Log → Trace → Type 0
+abbrev pub LogEnds : Result Effect PathError → SessionState → Result (Option LineAnswer) KeepError → SessionState → Log → Trace → Type 0
 LogEnds named before (Ok answer) after kept trace = LogTurn named before answer after trace × (kept ≡ after.client.log)
 LogEnds named before (Err error) after kept trace =
-    ((after ≡ before) × (trace ≡ nothing)) ⊎ ((answer : Option Answer) × LogTurn named before answer after trace)
+    ((after ≡ before) × (trace ≡ nothing)) ⊎ ((answer : Option LineAnswer) × LogTurn named before answer after trace)
 
 -- what it does in any world, with a surrogate or without, where the keeper's images were these and are those now
-abbrev pub LogsOrRefuses : List ℕ → Result Effect PathError → SessionState → Result (Option Answer) KeepError → SessionState → Option Images → Option Images → Type 0
+abbrev pub LogsOrRefuses : List ℕ → Result Effect PathError → SessionState → Result (Option LineAnswer) KeepError → SessionState → Option Images → Option Images → Type 0
 LogsOrRefuses name named before result after images now =
     (ships : Bool) (told : Telling) (world : World) → (kept : Log) × Does ships name (LogEnds named before result after kept) before after kept images now told told world world
 
 -- the same of an effect that was made, whatever it was made of
-abbrev pub LogsMade : List ℕ → Result Effect PathError → SessionState → Result (Option Answer) KeepError → SessionState → Option Images → Option Images → Type 0
+abbrev pub LogsMade : List ℕ → Result Effect PathError → SessionState → Result (Option LineAnswer) KeepError → SessionState → Option Images → Option Images → Type 0
 LogsMade name made before result after images now = (named : Result Effect PathError) → GivesEffect made named → LogsOrRefuses name named before result after images now
 
 -- What a command of a line does in any world, where the keeper's images and what the runner tells were these and are those now: the
 -- line has its turn, or is broken off.
-abbrev pub RunsLine : Route → List (List ℕ) → SessionState → Result (Option Answer) KeepError → SessionState → Option Images → Option Images → RunnerTelling → RunnerTelling → Type 0
+abbrev pub RunsLine : Route → List (List ℕ) → SessionState → Result (Option LineAnswer) KeepError → SessionState → Option Images → Option Images → RunnerTelling → RunnerTelling → Type 0
 RunsLine route words before result after images now runner ran =
     (link : LinkTelling) (world : World)
     → (kept : Log) × Does (is_some route.surrogate) route.image (LineEnds route before (Ok (RunLine words)) result after kept) before after kept images now (beside link runner) (beside link ran) world world
 
 -- the same of a command, whatever words made it
-abbrev pub RunsMade : Route → Command → SessionState → Result (Option Answer) KeepError → SessionState → Option Images → Option Images → RunnerTelling → RunnerTelling → Type 0
+abbrev pub RunsMade : Route → Command → SessionState → Result (Option LineAnswer) KeepError → SessionState → Option Images → Option Images → RunnerTelling → RunnerTelling → Type 0
 RunsMade route command before result after images now runner ran =
     (words : List (List ℕ)) → capture words before.folder ≡ Ok command → RunsLine route words before result after images now runner ran

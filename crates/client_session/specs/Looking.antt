@@ -7,8 +7,8 @@ use Rattle.tree_values.specs.declared.node.Node.{Node}
 use Rattle.tree_values.specs.declared.node.Node.TheVariants.{Folder, File}
 use Rattle.tree_values.specs.declared.node.TreeError.TheVariants.{Missing, IsFolder}
 use Rattle.shell_lang.specs.declared.answer.Child.{Child}
-use Rattle.shell_lang.specs.declared.answer.Answer.{Answer}
-use Rattle.shell_lang.specs.declared.answer.Answer.TheVariants.{Text, Listing, At, Refused}
+use Rattle.shell_lang.specs.declared.answer.LineAnswer.{LineAnswer}
+use Rattle.shell_lang.specs.declared.answer.LineAnswer.TheVariants.{Text, Listing, At, Refused}
 use Rattle.shell_lang.specs.declared.answer.Fault.TheVariants as faults
 
 -- what is found at a path; at the root a folder
@@ -17,11 +17,11 @@ found_at tree [] = Some Folder
 found_at tree (name ∷ names) = node_at tree (name ∷ names)
 
 -- nothing stands at the path
-abbrev pub missing : FilePath → Answer
+abbrev pub missing : FilePath → LineAnswer
 missing path = Refused (faults.Tree (Missing path))
 
 -- the content of a file
-abbrev pub shown : FilePath → Option Node → Answer
+abbrev pub shown : FilePath → Option Node → LineAnswer
 shown path None = missing path
 shown path (Some Folder) = Refused (faults.Tree (IsFolder path))
 shown path (Some (File content)) = Text content
@@ -31,36 +31,36 @@ abbrev pub child_at : Volume → FilePath → List ℕ → Child
 child_at tree folder name = record { name = name; folder = is_folder tree (folder ++ name ∷ []) }
 
 -- what stands in a folder, in the order of the names
-abbrev pub listed : Volume → FilePath → Option Node → Answer
+abbrev pub listed : Volume → FilePath → Option Node → LineAnswer
 listed tree path None = missing path
 listed tree path (Some Folder) = Listing (map (child_at tree path) (children tree path))
 listed tree path (Some (File content)) = Refused (faults.NotFolder path)
 
 -- the folder that is entered
-abbrev pub entered : FilePath → Option Node → Answer
+abbrev pub entered : FilePath → Option Node → LineAnswer
 entered path None = missing path
 entered path (Some Folder) = At path
 entered path (Some (File content)) = Refused (faults.NotFolder path)
 
 -- the answer about the path that a word names, or the refusal of the word
-abbrev pub about : Result FilePath PathError → (FilePath → Answer) → Answer
+abbrev pub about : Result FilePath PathError → (FilePath → LineAnswer) → LineAnswer
 about (Ok path) answer = answer path
 about (Err refusal) answer = Refused (faults.Path refusal)
 
 -- `cat` of a word in the current folder
-abbrev pub cat_answer : Volume → FilePath → List ℕ → Answer
+abbrev pub cat_answer : Volume → FilePath → List ℕ → LineAnswer
 cat_answer tree folder word = about (resolved folder word) (λ path. shown path (found_at tree path))
 
 -- `ls` of a word in the current folder, or of the current folder itself
-abbrev pub list_answer : Volume → FilePath → Option (List ℕ) → Answer
+abbrev pub list_answer : Volume → FilePath → Option (List ℕ) → LineAnswer
 list_answer tree folder None = listed tree folder (found_at tree folder)
 list_answer tree folder (Some word) = about (resolved folder word) (λ path. listed tree path (found_at tree path))
 
 -- `cd` to a word in the current folder
-abbrev pub enter_answer : Volume → FilePath → List ℕ → Answer
+abbrev pub enter_answer : Volume → FilePath → List ℕ → LineAnswer
 enter_answer tree folder word = about (resolved folder word) (λ path. entered path (found_at tree path))
 
 -- the current folder behind an answer: another one exactly where the answer says at which
-abbrev pub folder_by : Answer → FilePath → FilePath
+abbrev pub folder_by : LineAnswer → FilePath → FilePath
 folder_by (At path) folder = path
 folder_by answer folder = folder

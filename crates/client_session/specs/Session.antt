@@ -32,8 +32,8 @@ use Rattle.shell_lang.specs.Texts.{text_of, HasNoMemory}
 use Rattle.shell_lang.specs.declared.line.Line.{Line}
 use Rattle.shell_lang.specs.declared.line.Line.TheVariants.{Empty, Put, Make, Remove, Move, Cat, List as Ls, Enter, Run as RunLine, Status, Sync, Pull, Quit}
 use Rattle.shell_lang.specs.declared.line.LineError.{LineError}
-use Rattle.shell_lang.specs.declared.answer.Answer.{Answer}
-use Rattle.shell_lang.specs.declared.answer.Answer.TheVariants as answers
+use Rattle.shell_lang.specs.declared.answer.LineAnswer.{LineAnswer}
+use Rattle.shell_lang.specs.declared.answer.LineAnswer.TheVariants as answers
 use Rattle.shell_lang.specs.declared.answer.Fault.TheVariants as faults
 use Rattle.client_session.specs.Looking.{cat_answer, list_answer, enter_answer, folder_by}
 
@@ -97,7 +97,7 @@ move_effect folder from to = from_two (resolved folder from) (resolved folder to
 -- ---- turns
 
 -- how a sync is answered; one that was broken off has no answer
-abbrev pub sync_answer : SyncEnd → Option Answer
+abbrev pub sync_answer : SyncEnd → Option LineAnswer
 sync_answer (ends.Synced seq) = Some (answers.Synced seq)
 sync_answer (ends.Stale seq path theirs ours) = Some (answers.Stale seq path theirs ours)
 sync_answer (ends.Unfit seq index fault) = Some (answers.Unfit seq index fault)
@@ -108,7 +108,7 @@ sync_answer ends.KeepFault = None
 sync_answer ends.Memory = None
 
 -- how a pull is answered: one that waits for pending entries is refused; one that was broken off has no answer
-abbrev pub pull_answer : PullEnd → Option Answer
+abbrev pub pull_answer : PullEnd → Option LineAnswer
 pull_answer (pulls.Pulled count) = Some (answers.Pulled count)
 pull_answer (pulls.Pending count) = Some (answers.Refused (faults.Pending count))
 pull_answer (pulls.OtherLast last acked) = Some (answers.OtherLast last)
@@ -118,28 +118,28 @@ pull_answer pulls.KeepFault = None
 pull_answer pulls.Memory = None
 
 -- how one effect is answered: by the number of its entry, or by the refusal; want of memory has no answer
-abbrev pub local_answer : Result ℕ LogError → Option Answer
+abbrev pub local_answer : Result ℕ LogError → Option LineAnswer
 local_answer (Ok seq) = Some (answers.Logged seq)
 local_answer (Err logs.Memory) = None
 local_answer (Err refusal) = Some (answers.Refused (faults.Log refusal))
 
 -- how the refusal of a path word is answered
-abbrev pub word_answer : PathError → Option Answer
+abbrev pub word_answer : PathError → Option LineAnswer
 word_answer paths.Memory = None
 word_answer refusal = Some (answers.Refused (faults.Path refusal))
 
 -- how words that make no command are answered
-abbrev pub capture_answer : CaptureError → Option Answer
+abbrev pub capture_answer : CaptureError → Option LineAnswer
 capture_answer captures.Memory = None
 capture_answer refusal = Some (answers.Refused (faults.Capture refusal))
 
 -- how a command without a job is answered
-abbrev pub job_answer : JobError → Option Answer
+abbrev pub job_answer : JobError → Option LineAnswer
 job_answer jobs.Memory = None
 job_answer refusal = Some (answers.Refused (faults.Job refusal))
 
 -- how a run is answered; want of memory has no answer
-abbrev pub run_answer : RunEnd → Option Answer
+abbrev pub run_answer : RunEnd → Option LineAnswer
 run_answer (runs.Logged seq status) = Some (answers.Ran seq status)
 run_answer (runs.Nothing status) = Some (answers.Nothing status)
 run_answer (runs.NoJob refusal) = job_answer refusal
@@ -150,37 +150,37 @@ run_answer (runs.Refused refusal) = local_answer (Err refusal)
 run_answer runs.Memory = None
 
 -- the acknowledged number, and how many entries are pending
-abbrev pub status_answer : SessionState → Answer
+abbrev pub status_answer : SessionState → LineAnswer
 status_answer state = answers.Status state.client.log.acked (length state.client.log.pending)
 
 -- it is answered so, and nothing else is done
-abbrev pub Tells : Answer → SessionState → Option Answer → SessionState → Trace → Type 0
+abbrev pub Tells : LineAnswer → SessionState → Option LineAnswer → SessionState → Trace → Type 0
 Tells told before answer after trace = (answer ≡ Some told) × (after ≡ before) × (trace ≡ nothing)
 
 -- it has no answer, and nothing is done
-abbrev pub IsSilent : SessionState → Option Answer → SessionState → Trace → Type 0
+abbrev pub IsSilent : SessionState → Option LineAnswer → SessionState → Trace → Type 0
 IsSilent before answer after trace = (answer ≡ None) × (after ≡ before) × (trace ≡ nothing)
 
 -- an effect is logged or refused, or a path word was
-abbrev pub LogTurn : Result Effect PathError → SessionState → Option Answer → SessionState → Trace → Type 0
+abbrev pub LogTurn : Result Effect PathError → SessionState → Option LineAnswer → SessionState → Trace → Type 0
 LogTurn (Ok effect) before answer after trace =
     (result : Result ℕ LogError) × LocalTurn effect before.client.log result after.client.log trace
     × (after ≡ with_log before after.client.log) × (answer ≡ local_answer result)
 LogTurn (Err refusal) before answer after trace = (answer ≡ word_answer refusal) × (after ≡ before) × (trace ≡ nothing)
 
 -- the current folder is another one, or the word is refused
-abbrev pub EnterTurn : Answer → SessionState → Option Answer → SessionState → Trace → Type 0
+abbrev pub EnterTurn : LineAnswer → SessionState → Option LineAnswer → SessionState → Trace → Type 0
 EnterTurn told before answer after trace = (answer ≡ Some told) × (after ≡ with_folder before (folder_by told before.folder)) × (trace ≡ nothing)
 
 -- a command is run once at most, and what it changed is logged or refused; or the words make none
-abbrev pub CommandTurn : Route → Result Command CaptureError → SessionState → Option Answer → SessionState → Trace → Type 0
+abbrev pub CommandTurn : Route → Result Command CaptureError → SessionState → Option LineAnswer → SessionState → Trace → Type 0
 CommandTurn route (Ok command) before answer after trace =
     (end : RunEnd) × RunTurn route.work command before.client.log end after.client.log trace
     × (after ≡ with_log before after.client.log) × (answer ≡ run_answer end)
 CommandTurn route (Err refusal) before answer after trace = (answer ≡ capture_answer refusal) × (after ≡ before) × (trace ≡ nothing)
 
 -- What a line comes to, by what it reads as: the state before it, its answer, the state after it, and what was done.
-abbrev pub LineTurn : Route → SessionState → Result Line LineError → Option Answer → SessionState → Trace → Type 0
+abbrev pub LineTurn : Route → SessionState → Result Line LineError → Option LineAnswer → SessionState → Trace → Type 0
 LineTurn route before (Err refusal) answer after trace = Tells (answers.Refused (faults.Line refusal)) before answer after trace
 LineTurn route before (Ok Empty) answer after trace = IsSilent before answer after trace
 LineTurn route before (Ok (Put word text)) answer after trace = LogTurn (put_effect before.folder word text) before answer after trace
@@ -201,28 +201,28 @@ LineTurn route before (Ok Pull) answer after trace =
 LineTurn route before (Ok Quit) answer after trace = IsSilent before answer after trace
 
 -- the turns of lines, one after the other, and what was answered to each
-abbrev pub Chain : Route → SessionState → List (Result Line LineError) → List (Option Answer) → SessionState → Trace → Type 0
+abbrev pub Chain : Route → SessionState → List (Result Line LineError) → List (Option LineAnswer) → SessionState → Trace → Type 0
 Chain route before [] answers after trace = (answers ≡ []) × (after ≡ before) × (trace ≡ nothing)
 Chain route before (line ∷ lines) answers after trace =
-    (middle : SessionState) × (first rest : Trace) × (answer : Option Answer) × (more : List (Option Answer)) × LineTurn route before line answer middle first
+    (middle : SessionState) × (first rest : Trace) × (answer : Option LineAnswer) × (more : List (Option LineAnswer)) × LineTurn route before line answer middle first
     × Chain route middle lines more after rest × (answers ≡ answer ∷ more) × (trace ≡ followed first rest)
 
 -- ---- what is shown of answers
 
 -- the text of an answer, which no want of memory is
-abbrev pub IsText : Option Answer → List ℕ → Type 0
+abbrev pub IsText : Option LineAnswer → List ℕ → Type 0
 IsText None text = text ≡ []
 IsText (Some answer) text = HasNoMemory answer × (text ≡ text_of answer)
 
 -- the texts of answers, one after the other
-abbrev pub AreTexts : List (Option Answer) → List ℕ → Type 0
+abbrev pub AreTexts : List (Option LineAnswer) → List ℕ → Type 0
 AreTexts [] text = text ≡ []
 AreTexts (answer ∷ answers) text = (first rest : List ℕ) × IsText answer first × AreTexts answers rest × (text ≡ first ++ rest)
 
 -- ---- syncs that do not come through
 
 -- a sync that leaves entries pending is answered so
-abbrev pub LeavesPending : Option Answer → Type 0
+abbrev pub LeavesPending : Option LineAnswer → Type 0
 LeavesPending (Some (answers.Stale seq path theirs ours)) = Unit {0}
 LeavesPending (Some (answers.Unfit seq index fault)) = Unit {0}
 LeavesPending (Some (answers.Full seq index fault)) = Unit {0}
@@ -233,7 +233,7 @@ LeavesPending answer = ⊥
 -- ---- lines that are not run
 
 -- whether a line is answered `not run`
-abbrev pub is_unrun : Option Answer → Bool
+abbrev pub is_unrun : Option LineAnswer → Bool
 is_unrun (Some answers.NotRun) = true
 is_unrun answer = false
 
@@ -255,12 +255,12 @@ BreaksOff route before line after trace = ⊥
 abbrev pub Broken : Route → SessionState → Result Line LineError → SessionState → Trace → Type 0
 Broken route before line after trace =
     ((after ≡ before) × (trace ≡ nothing))
-    ⊎ (((answer : Option Answer) × LineTurn route before line answer after trace)
+    ⊎ (((answer : Option LineAnswer) × LineTurn route before line answer after trace)
     ⊎ (BreaksOff route before line after.client.log trace × (after ≡ with_log before after.client.log)))
 
 -- The turns of some lines, the last of which is broken off, and what was answered to those before it. What is kept is the log after
 -- the last change of this line, or the one before that change: all that was answered is kept.
-abbrev pub BreaksChain : Route → SessionState → List (Result Line LineError) → List (Option Answer) → SessionState → Log → Trace → Type 0
+abbrev pub BreaksChain : Route → SessionState → List (Result Line LineError) → List (Option LineAnswer) → SessionState → Log → Trace → Type 0
 BreaksChain route before lines answers after kept trace =
     (handled : List (Result Line LineError)) × (last : Result Line LineError) × (middle : SessionState) × (earlier broken : Trace) × (lines ≡ handled ++ last ∷ [])
     × Chain route before handled answers middle earlier × Broken route middle last after broken × IsLastOrBefore middle.client.log broken.changes kept

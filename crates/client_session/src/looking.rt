@@ -5,7 +5,7 @@ ghost use Rattle.file_paths.specs.Path.{IsPath};
 ghost use Rattle.tree_values.specs.Tree.{is_folder, children};
 ghost use Rattle.client_session.specs.Looking.{found_at, shown, child_at, listed, entered, cat_answer, list_answer, enter_answer};
 
-use shell_lang::{Answer, Child, Children, Fault};
+use shell_lang::{Child, Children, Fault, LineAnswer};
 use std::alloc::{AllocError, Global};
 use vol_tree::{Content, Node, Path, PathError, Tree, TreeError, TryCopy};
 
@@ -15,13 +15,13 @@ pub(crate) fn cat(
     tree: &Tree,
     folder: &Path,
     word: &Content,
-) -> Result<Answer, AllocError>
+) -> Result<LineAnswer, AllocError>
     ensures { IfOk result (λ answer. answer ≡ cat_answer tree.now folder.now word.now) }
 {
     match Path::resolve(alloc, folder, word.bytes()) {
         Ok(path) => shown(tree, path),
         Err(PathError::Memory) => Err(AllocError),
-        Err(refusal) => Ok(Answer::Refused(Fault::Path(refusal))),
+        Err(refusal) => Ok(LineAnswer::Refused(Fault::Path(refusal))),
     }
 }
 
@@ -31,7 +31,7 @@ pub(crate) fn list(
     tree: &Tree,
     folder: &Path,
     word: Option<&Content>,
-) -> Result<Answer, AllocError>
+) -> Result<LineAnswer, AllocError>
     ensures { IfOk result (λ answer. answer ≡ list_answer tree.now folder.now (option_copied word.entry)) }
 {
     let Some(word) = word else {
@@ -40,7 +40,7 @@ pub(crate) fn list(
     match Path::resolve(alloc, folder, word.bytes()) {
         Ok(path) => listed(alloc, tree, path),
         Err(PathError::Memory) => Err(AllocError),
-        Err(refusal) => Ok(Answer::Refused(Fault::Path(refusal))),
+        Err(refusal) => Ok(LineAnswer::Refused(Fault::Path(refusal))),
     }
 }
 
@@ -50,58 +50,58 @@ pub(crate) fn enter(
     tree: &Tree,
     folder: &Path,
     word: &Content,
-) -> Result<Answer, AllocError>
+) -> Result<LineAnswer, AllocError>
     ensures { IfOk result (λ answer. answer ≡ enter_answer tree.now folder.now word.now) }
 {
     match Path::resolve(alloc, folder, word.bytes()) {
         Ok(path) => Ok(entered(tree, path)),
         Err(PathError::Memory) => Err(AllocError),
-        Err(refusal) => Ok(Answer::Refused(Fault::Path(refusal))),
+        Err(refusal) => Ok(LineAnswer::Refused(Fault::Path(refusal))),
     }
 }
 
 /// The content of a file.
-fn shown(tree: &Tree, path: Path) -> Result<Answer, AllocError>
+fn shown(tree: &Tree, path: Path) -> Result<LineAnswer, AllocError>
     ensures { IfOk result (λ answer. answer ≡ shown path (found_at tree.now path)) }
 {
     if tree.is_folder(&path) {
-        return Ok(Answer::Refused(Fault::Tree(TreeError::IsFolder(path))));
+        return Ok(LineAnswer::Refused(Fault::Tree(TreeError::IsFolder(path))));
     }
     match tree.get(&path) {
-        Some(Node::File(content)) => Ok(Answer::Text(content.copy()?)),
-        _ => Ok(Answer::Refused(Fault::Tree(TreeError::Missing(path)))),
+        Some(Node::File(content)) => Ok(LineAnswer::Text(content.copy()?)),
+        _ => Ok(LineAnswer::Refused(Fault::Tree(TreeError::Missing(path)))),
     }
 }
 
 /// What stands in a folder.
-fn listed(alloc: Global, tree: &Tree, path: Path) -> Result<Answer, AllocError>
+fn listed(alloc: Global, tree: &Tree, path: Path) -> Result<LineAnswer, AllocError>
     ensures { IfOk result (λ answer. answer ≡ listed tree.now path (found_at tree.now path)) }
 {
     if tree.is_folder(&path) {
-        return Ok(Answer::Listing(children_of(alloc, tree, &path)?));
+        return Ok(LineAnswer::Listing(children_of(alloc, tree, &path)?));
     }
     Ok(no_folder(tree, path))
 }
 
 /// The folder that is entered.
-fn entered(tree: &Tree, path: Path) -> Answer
+fn entered(tree: &Tree, path: Path) -> LineAnswer
     ensures { result ≡ entered path (found_at tree.now path) }
 {
     if tree.is_folder(&path) {
-        return Answer::At(path);
+        return LineAnswer::At(path);
     }
     no_folder(tree, path)
 }
 
 /// Why no folder is at a path.
-fn no_folder(tree: &Tree, path: Path) -> Answer
+fn no_folder(tree: &Tree, path: Path) -> LineAnswer
     requires { is_folder tree.now path ≡ false }
     ensures listed { result ≡ listed tree.now path (found_at tree.now path) }
     ensures entered { result ≡ entered path (found_at tree.now path) }
 {
     match tree.get(&path) {
-        Some(_) => Answer::Refused(Fault::NotFolder(path)),
-        None => Answer::Refused(Fault::Tree(TreeError::Missing(path))),
+        Some(_) => LineAnswer::Refused(Fault::NotFolder(path)),
+        None => LineAnswer::Refused(Fault::Tree(TreeError::Missing(path))),
     }
 }
 

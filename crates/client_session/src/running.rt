@@ -12,7 +12,7 @@ use crate::session::{Session, given, local_refusal};
 use client_core::{Route, RunEnd};
 use cmd_capture::{CaptureError, Command, Runner, Words, capture};
 use outside::{KeepError, Keeper};
-use shell_lang::{Answer, Fault};
+use shell_lang::{Fault, LineAnswer};
 use std::alloc::Global;
 use work_area::JobError;
 
@@ -25,7 +25,7 @@ impl Session {
         route: &Route,
         keeper: &mut K,
         runner: &mut R,
-    ) -> Result<Option<Answer>, KeepError>
+    ) -> Result<Option<LineAnswer>, KeepError>
         requires { IsKeptReady (K.images keeper.old) route.now.image self.old.client }
         ensures runs { RunsLine route.now words.now (state_of self.old) result (state_of self.new) (K.images keeper.old)
             (K.images keeper.new)
@@ -47,7 +47,7 @@ impl Session {
         route: &Route,
         keeper: &mut K,
         runner: &mut R,
-    ) -> Result<Option<Answer>, KeepError>
+    ) -> Result<Option<LineAnswer>, KeepError>
         requires command { IsCommand command }
         requires kept { IsKeptReady (K.images keeper.old) route.now.image self.old.client }
         ensures runs { RunsMade route.now command (state_of self.old) result (state_of self.new) (K.images keeper.old) (K.images keeper.new)
@@ -76,36 +76,36 @@ fn has_logged(end: &RunEnd) -> bool
 }
 
 /// How words that make no command are answered; want of memory has no answer.
-fn capture_answer(refusal: CaptureError) -> Option<Answer>
+fn capture_answer(refusal: CaptureError) -> Option<LineAnswer>
     ensures { result ≡ capture_answer refusal }
 {
     match refusal {
         CaptureError::Memory => None,
-        refusal => Some(Answer::Refused(Fault::Capture(refusal))),
+        refusal => Some(LineAnswer::Refused(Fault::Capture(refusal))),
     }
 }
 
 /// How a command without a job is answered; want of memory has no answer.
-fn job_answer(refusal: JobError) -> Option<Answer>
+fn job_answer(refusal: JobError) -> Option<LineAnswer>
     ensures { result ≡ job_answer refusal }
 {
     match refusal {
         JobError::Memory => None,
-        refusal => Some(Answer::Refused(Fault::Job(refusal))),
+        refusal => Some(LineAnswer::Refused(Fault::Job(refusal))),
     }
 }
 
 /// How a run is answered; want of memory has no answer.
-fn run_answer(end: RunEnd) -> Option<Answer>
+fn run_answer(end: RunEnd) -> Option<LineAnswer>
     ensures { result ≡ run_answer end }
 {
     match end {
-        RunEnd::Logged { seq, status } => Some(Answer::Ran { seq, status }),
-        RunEnd::Nothing { status } => Some(Answer::Nothing { status }),
+        RunEnd::Logged { seq, status } => Some(LineAnswer::Ran { seq, status }),
+        RunEnd::Nothing { status } => Some(LineAnswer::Nothing { status }),
         RunEnd::NoJob(refusal) => job_answer(refusal),
-        RunEnd::NotRun => Some(Answer::NotRun),
-        RunEnd::OddTree(i) => Some(Answer::OddTree(i)),
-        RunEnd::Clash(path) => Some(Answer::Clash(path)),
+        RunEnd::NotRun => Some(LineAnswer::NotRun),
+        RunEnd::OddTree(i) => Some(LineAnswer::OddTree(i)),
+        RunEnd::Clash(path) => Some(LineAnswer::Clash(path)),
         RunEnd::Refused(refusal) => local_refusal(refusal),
         RunEnd::Memory => None,
     }

@@ -19,7 +19,7 @@ use client_core::{Client, PullEnd, Route, SyncEnd};
 use cmd_capture::Runner;
 use mod_log::LogError;
 use outside::{KeepError, Keeper};
-use shell_lang::{Answer, Fault, Line, LineError};
+use shell_lang::{Fault, Line, LineAnswer, LineError};
 use std::alloc::Global;
 use std::marker::Model;
 use vol_tree::{Content, Effect, Path, PathError, TryCopy};
@@ -66,7 +66,7 @@ impl Session {
         link: &mut L,
         keeper: &mut K,
         runner: &mut R,
-    ) -> Result<Option<Answer>, KeepError>
+    ) -> Result<Option<LineAnswer>, KeepError>
         requires { IsKeptReady (K.images keeper.old) route.now.image self.old.client }
         ensures world { WentDoing route.now (LineEnds route.now (state_of self.old) line result (state_of self.new)) (state_of self.old)
             (state_of self.new) (K.images keeper.old)
@@ -84,7 +84,7 @@ impl Session {
     {
         let image = route.image.bytes();
         match line {
-            Err(refusal) => Ok(Some(Answer::Refused(Fault::Line(refusal)))),
+            Err(refusal) => Ok(Some(LineAnswer::Refused(Fault::Line(refusal)))),
             Ok(Line::Empty) => Ok(None),
             Ok(Line::Quit) => Ok(None),
             Ok(Line::Put(path, text)) => self.put(alloc, &path, text, image, keeper),
@@ -102,11 +102,11 @@ impl Session {
     }
 
     /// The acknowledged number, and how many entries are pending.
-    pub fn status(&self) -> Answer
+    pub fn status(&self) -> LineAnswer
         ensures { result ≡ status_answer (state_of self.now) }
     {
         let log = self.client.log();
-        Answer::Status {
+        LineAnswer::Status {
             acked: log.acked(),
             pending: log.pending(),
         }
@@ -119,7 +119,7 @@ impl Session {
         text: Content,
         image: &[u8],
         keeper: &mut K,
-    ) -> Result<Option<Answer>, KeepError>
+    ) -> Result<Option<LineAnswer>, KeepError>
         requires { IsKeptReady (K.images keeper.old) image.now self.old.client }
         ensures logs { LogsOrRefuses image.now (put_effect self.old.folder path.now text) (state_of self.old) result (state_of self.new)
             (K.images keeper.old)
@@ -138,7 +138,7 @@ impl Session {
         path: &Content,
         image: &[u8],
         keeper: &mut K,
-    ) -> Result<Option<Answer>, KeepError>
+    ) -> Result<Option<LineAnswer>, KeepError>
         requires { IsKeptReady (K.images keeper.old) image.now self.old.client }
         ensures logs { LogsOrRefuses image.now (make_effect self.old.folder path.now) (state_of self.old) result (state_of self.new)
             (K.images keeper.old)
@@ -156,7 +156,7 @@ impl Session {
         path: &Content,
         image: &[u8],
         keeper: &mut K,
-    ) -> Result<Option<Answer>, KeepError>
+    ) -> Result<Option<LineAnswer>, KeepError>
         requires { IsKeptReady (K.images keeper.old) image.now self.old.client }
         ensures logs { LogsOrRefuses image.now (remove_effect self.old.folder path.now) (state_of self.old) result (state_of self.new)
             (K.images keeper.old)
@@ -175,7 +175,7 @@ impl Session {
         to: &Content,
         image: &[u8],
         keeper: &mut K,
-    ) -> Result<Option<Answer>, KeepError>
+    ) -> Result<Option<LineAnswer>, KeepError>
         requires { IsKeptReady (K.images keeper.old) image.now self.old.client }
         ensures logs { LogsOrRefuses image.now (move_effect self.old.folder from.now to.now) (state_of self.old) result
             (state_of self.new) (K.images keeper.old)
@@ -193,7 +193,7 @@ impl Session {
         made: Result<Effect, PathError>,
         image: &[u8],
         keeper: &mut K,
-    ) -> Result<Option<Answer>, KeepError>
+    ) -> Result<Option<LineAnswer>, KeepError>
         requires { IsKeptReady (K.images keeper.old) image.now self.old.client }
         ensures logs { LogsMade image.now made (state_of self.old) result (state_of self.new) (K.images keeper.old) (K.images keeper.new) }
         ensures kept { IfOk result (λ answer. IsKeptReady (K.images keeper.new) image.now self.new.client) }
@@ -210,10 +210,10 @@ impl Session {
         if let Err(refused) = self.client.keep(image, keeper) {
             return Err(refused);
         }
-        Ok(Some(Answer::Logged { seq }))
+        Ok(Some(LineAnswer::Logged { seq }))
     }
 
-    fn cat(&self, alloc: Global, path: &Content) -> Result<Option<Answer>, KeepError>
+    fn cat(&self, alloc: Global, path: &Content) -> Result<Option<LineAnswer>, KeepError>
         ensures answer { IfOk result (λ answer. answer ≡ Some (cat_answer (tree_of self.now.client.log) self.now.folder path.now)) }
         ensures memory { result ≢ Err KeepError.Failed }
     {
@@ -221,7 +221,7 @@ impl Session {
         Ok(Some(cat(alloc, tree, &self.folder, path)?))
     }
 
-    fn list(&self, alloc: Global, path: Option<&Content>) -> Result<Option<Answer>, KeepError>
+    fn list(&self, alloc: Global, path: Option<&Content>) -> Result<Option<LineAnswer>, KeepError>
         ensures answer { IfOk result (λ answer. answer ≡ Some (list_answer (tree_of self.now.client.log) self.now.folder
             (option_copied path.entry))) }
         ensures memory { result ≢ Err KeepError.Failed }
@@ -231,7 +231,7 @@ impl Session {
     }
 
     /// Answers `cd`, and makes the folder at which the answer says to be the current one.
-    fn enter(&mut self, alloc: Global, path: &Content) -> Result<Option<Answer>, KeepError>
+    fn enter(&mut self, alloc: Global, path: &Content) -> Result<Option<LineAnswer>, KeepError>
         ensures ok { IfOk result (λ answer. answer ≡ Some (enter_answer (tree_of self.old.client.log) self.old.folder path.now)) }
         ensures folder { IfOk result (λ answer. state_of self.new ≡ with_folder (state_of self.old)
             (folder_by (enter_answer (tree_of self.old.client.log) self.old.folder path.now) self.old.folder)) }
@@ -241,7 +241,7 @@ impl Session {
     {
         let tree = self.client.log().tree();
         let answer = enter(alloc, tree, &self.folder, path)?;
-        if let Answer::At(entered) = &answer {
+        if let LineAnswer::At(entered) = &answer {
             match entered.copy() {
                 Ok(folder) => self.folder = folder,
                 Err(refused) => {
@@ -259,7 +259,7 @@ impl Session {
         route: &Route,
         link: &mut L,
         keeper: &mut K,
-    ) -> Result<Option<Answer>, KeepError>
+    ) -> Result<Option<LineAnswer>, KeepError>
         requires { IsKeptReady (K.images keeper.old) route.now.image self.old.client }
         ensures world { (runner : RunnerTelling) → WentDoing route.now
             (LineEnds route.now (state_of self.old) (Ok Line.Sync) result (state_of self.new)) (state_of self.old) (state_of self.new)
@@ -282,7 +282,7 @@ impl Session {
         route: &Route,
         link: &mut L,
         keeper: &mut K,
-    ) -> Result<Option<Answer>, KeepError>
+    ) -> Result<Option<LineAnswer>, KeepError>
         requires { IsKeptReady (K.images keeper.old) route.now.image self.old.client }
         ensures world { (runner : RunnerTelling) → WentDoing route.now
             (LineEnds route.now (state_of self.old) (Ok Line.Pull) result (state_of self.new)) (state_of self.old) (state_of self.new)
@@ -301,7 +301,7 @@ impl Session {
 }
 
 /// An answer that is there; where there is none, memory was wanted.
-pub(crate) fn given(answer: Option<Answer>) -> Result<Option<Answer>, KeepError>
+pub(crate) fn given(answer: Option<LineAnswer>) -> Result<Option<LineAnswer>, KeepError>
     ensures { IsAnswerOrMemory answer result }
 {
     match answer {
@@ -325,7 +325,7 @@ fn is_pull_fault(end: &PullEnd) -> bool
 }
 
 /// An answer that is there, unless a keeping failed; where there is none, memory was wanted.
-fn answered(fault: bool, answer: Option<Answer>) -> Result<Option<Answer>, KeepError>
+fn answered(fault: bool, answer: Option<LineAnswer>) -> Result<Option<LineAnswer>, KeepError>
     ensures { result ≡ answer_or_fault fault answer }
 {
     if fault {
@@ -339,60 +339,60 @@ fn answered(fault: bool, answer: Option<Answer>) -> Result<Option<Answer>, KeepE
 }
 
 /// How an effect is answered that the log refused; want of memory has no answer.
-pub(crate) fn local_refusal(refusal: LogError) -> Option<Answer>
+pub(crate) fn local_refusal(refusal: LogError) -> Option<LineAnswer>
     ensures { result ≡ local_answer (Err refusal) }
 {
     match refusal {
         LogError::Memory => None,
-        refusal => Some(Answer::Refused(Fault::Log(refusal))),
+        refusal => Some(LineAnswer::Refused(Fault::Log(refusal))),
     }
 }
 
 /// How the refusal of a path word is answered; want of memory has no answer.
-fn word_answer(refusal: PathError) -> Option<Answer>
+fn word_answer(refusal: PathError) -> Option<LineAnswer>
     ensures { result ≡ word_answer refusal }
 {
     match refusal {
         PathError::Memory => None,
-        refusal => Some(Answer::Refused(Fault::Path(refusal))),
+        refusal => Some(LineAnswer::Refused(Fault::Path(refusal))),
     }
 }
 
 /// How the end of a sync is answered; one that was broken off has no answer.
-fn sync_answer(end: SyncEnd) -> Option<Answer>
+fn sync_answer(end: SyncEnd) -> Option<LineAnswer>
     ensures { result ≡ sync_answer end }
 {
     match end {
-        SyncEnd::Synced(seq) => Some(Answer::Synced(seq)),
+        SyncEnd::Synced(seq) => Some(LineAnswer::Synced(seq)),
         SyncEnd::Stale {
             seq,
             path,
             theirs,
             ours,
-        } => Some(Answer::Stale {
+        } => Some(LineAnswer::Stale {
             seq,
             path,
             theirs,
             ours,
         }),
-        SyncEnd::Unfit { seq, index, fault } => Some(Answer::Unfit { seq, index, fault }),
-        SyncEnd::Full { seq, index, fault } => Some(Answer::Full { seq, index, fault }),
-        SyncEnd::Unanswered { seq } => Some(Answer::Unanswered { seq }),
-        SyncEnd::Behind { seq, last } => Some(Answer::Behind { seq, last }),
+        SyncEnd::Unfit { seq, index, fault } => Some(LineAnswer::Unfit { seq, index, fault }),
+        SyncEnd::Full { seq, index, fault } => Some(LineAnswer::Full { seq, index, fault }),
+        SyncEnd::Unanswered { seq } => Some(LineAnswer::Unanswered { seq }),
+        SyncEnd::Behind { seq, last } => Some(LineAnswer::Behind { seq, last }),
         SyncEnd::KeepFault | SyncEnd::Memory => None,
     }
 }
 
 /// How the end of a pull is answered; one that was broken off has no answer.
-fn pull_answer(end: PullEnd) -> Option<Answer>
+fn pull_answer(end: PullEnd) -> Option<LineAnswer>
     ensures { result ≡ pull_answer end }
 {
     match end {
-        PullEnd::Pulled(count) => Some(Answer::Pulled(count)),
-        PullEnd::Pending(count) => Some(Answer::Refused(Fault::Pending(count))),
-        PullEnd::OtherLast { last, .. } => Some(Answer::OtherLast(last)),
-        PullEnd::Older { path, theirs, ours } => Some(Answer::Older { path, theirs, ours }),
-        PullEnd::Unanswered => Some(Answer::PullUnanswered),
+        PullEnd::Pulled(count) => Some(LineAnswer::Pulled(count)),
+        PullEnd::Pending(count) => Some(LineAnswer::Refused(Fault::Pending(count))),
+        PullEnd::OtherLast { last, .. } => Some(LineAnswer::OtherLast(last)),
+        PullEnd::Older { path, theirs, ours } => Some(LineAnswer::Older { path, theirs, ours }),
+        PullEnd::Unanswered => Some(LineAnswer::PullUnanswered),
         PullEnd::KeepFault | PullEnd::Memory => None,
     }
 }

@@ -4,11 +4,11 @@ use Rattle.file_paths.specs.Path.{path_text}
 use Rattle.shell_lang.specs.Faults.{number, spaced_path, tree_fault_text, fault_text, IsShown}
 use Rattle.tree_values.specs.declared.node.TreeError.TheVariants as trees
 use Rattle.shell_lang.specs.declared.answer.Child.{Child}
-use Rattle.shell_lang.specs.declared.answer.Answer.{Answer}
-use Rattle.shell_lang.specs.declared.answer.Answer.TheVariants as answers
+use Rattle.shell_lang.specs.declared.answer.LineAnswer.{LineAnswer}
+use Rattle.shell_lang.specs.declared.answer.LineAnswer.TheVariants as answers
 
 -- the words that an answer begins with
-abbrev pub answer_name : Answer → List ℕ
+abbrev pub answer_name : LineAnswer → List ℕ
 answer_name (answers.Logged seq) = codes "logged"
 answer_name (answers.Text content) = []
 answer_name (answers.Listing children) = []
@@ -32,7 +32,7 @@ answer_name answers.PullUnanswered = codes "unanswered"
 answer_name (answers.Refused fault) = codes "refused"
 
 -- what follows in the same line
-abbrev pub answer_values : Answer → List ℕ
+abbrev pub answer_values : LineAnswer → List ℕ
 answer_values (answers.Logged seq) = number seq
 answer_values (answers.Text content) = decimal (length content)
 answer_values (answers.Listing children) = decimal (length children)
@@ -60,17 +60,17 @@ abbrev pub child_line : Child → List ℕ
 child_line child = (if child.folder then 100 else 102) ∷ 32 ∷ child.name ++ 10 ∷ []
 
 -- what follows the first line: a content gets no line end behind it
-abbrev pub answer_body : Answer → List ℕ
+abbrev pub answer_body : LineAnswer → List ℕ
 answer_body (answers.Text content) = content
 answer_body (answers.Listing children) = flat_map child_line children
 answer_body answer = []
 
 -- a first line, and what follows it
-abbrev pub text_of : Answer → List ℕ
+abbrev pub text_of : LineAnswer → List ℕ
 text_of answer = answer_name answer ++ (answer_values answer ++ 10 ∷ answer_body answer)
 
 -- no refusal in the answer is want of memory
-abbrev pub HasNoMemory : Answer → Type 0
+abbrev pub HasNoMemory : LineAnswer → Type 0
 HasNoMemory (answers.Unfit seq index fault) = fault ≢ trees.Memory
 HasNoMemory (answers.Full seq index fault) = fault ≢ trees.Memory
 HasNoMemory (answers.Refused fault) = IsShown fault

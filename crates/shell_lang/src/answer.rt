@@ -50,7 +50,7 @@ pub enum Fault {
 
 /// What a line is answered.
 #[derive(Debug, Drop)]
-pub enum Answer {
+pub enum LineAnswer {
     /// The line made the entry with this number.
     Logged {
         seq: u64,
@@ -128,15 +128,15 @@ pub enum Answer {
 }
 
 /// Whether no refusal in the answer is want of memory.
-pub fn has_no_memory(answer: &Answer) -> bool
+pub fn has_no_memory(answer: &LineAnswer) -> bool
     ensures yes { OnTrue result (HasNoMemory answer.now) }
     ensures no { OnFalse result (HasNoMemory answer.now → ⊥) }
 {
     match answer {
-        Answer::Unfit { fault, .. } | Answer::Full { fault, .. } => {
+        LineAnswer::Unfit { fault, .. } | LineAnswer::Full { fault, .. } => {
             !matches!(fault, TreeError::Memory)
         }
-        Answer::Refused(fault) => is_shown(fault),
+        LineAnswer::Refused(fault) => is_shown(fault),
         _ => true,
     }
 }

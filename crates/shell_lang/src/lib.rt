@@ -11,7 +11,7 @@ mod text;
 mod value;
 mod words;
 
-pub use answer::{Answer, Child, Children, Fault, has_no_memory};
+pub use answer::{Child, Children, Fault, LineAnswer, has_no_memory};
 pub use command::{put_content, read_line};
 pub use fault_text::put_fault_text;
 pub use laws::{

@@ -122,7 +122,7 @@ fn refusal_of(alloc: Global, line: &[u8]) -> Result<Vec<u8>, Fail> {
         }
         Err(LineError::Memory) => Ok(b"memory".to_vec(alloc)?),
         Err(fault) => {
-            let refused = Answer::Refused(Fault::Line(fault));
+            let refused = LineAnswer::Refused(Fault::Line(fault));
             let text = text_of(alloc, &refused);
             drop(refused);
             Ok(text?)
@@ -131,7 +131,7 @@ fn refusal_of(alloc: Global, line: &[u8]) -> Result<Vec<u8>, Fail> {
 }
 
 /// Whether the answer has this text.
-fn is_printed(alloc: Global, answer: Answer, text: &[u8]) -> Result<bool, Fail> {
+fn is_printed(alloc: Global, answer: LineAnswer, text: &[u8]) -> Result<bool, Fail> {
     if !has_no_memory(&answer) {
         drop(answer);
         return Ok(false);
@@ -143,7 +143,7 @@ fn is_printed(alloc: Global, answer: Answer, text: &[u8]) -> Result<bool, Fail> 
 
 /// Whether the fault is printed so behind `refused`.
 fn is_refused(alloc: Global, fault: Fault, text: &[u8]) -> Result<bool, Fail> {
-    is_printed(alloc, Answer::Refused(fault), text)
+    is_printed(alloc, LineAnswer::Refused(fault), text)
 }
 
 /// The path d/x.
@@ -154,11 +154,11 @@ fn path(alloc: Global) -> Result<Path, PathError> {
 #[test]
 fn counts_are_printed(rt: HostRuntime) -> Result<(), Fail> {
     let alloc = rt.alloc();
-    assert!(rt; is_printed(alloc, Answer::Logged { seq: 1 }, b"logged 1\n")?);
+    assert!(rt; is_printed(alloc, LineAnswer::Logged { seq: 1 }, b"logged 1\n")?);
     assert!(rt;
         is_printed(
             alloc,
-            Answer::Status {
+            LineAnswer::Status {
                 acked: 7,
                 pending: 2
             },
@@ -168,22 +168,28 @@ fn counts_are_printed(rt: HostRuntime) -> Result<(), Fail> {
     assert!(rt;
         is_printed(
             alloc,
-            Answer::Synced(18_446_744_073_709_551_615),
+            LineAnswer::Synced(18_446_744_073_709_551_615),
             b"synced 18446744073709551615\n"
         )?
     );
-    assert!(rt; is_printed(alloc, Answer::Unanswered { seq: 6 }, b"unanswered 6\n")?);
-    assert!(rt; is_printed(alloc, Answer::Behind { seq: 6, last: 3 }, b"behind 6 3\n")?);
-    assert!(rt; is_printed(alloc, Answer::Pulled(12), b"pulled 12\n")?);
-    assert!(rt; is_printed(alloc, Answer::OtherLast(8), b"other last 8\n")?);
-    assert!(rt; is_printed(alloc, Answer::PullUnanswered, b"unanswered\n")?);
+    assert!(rt; is_printed(alloc, LineAnswer::Unanswered { seq: 6 }, b"unanswered 6\n")?);
+    assert!(rt;
+        is_printed(
+            alloc,
+            LineAnswer::Behind { seq: 6, last: 3 },
+            b"behind 6 3\n"
+        )?
+    );
+    assert!(rt; is_printed(alloc, LineAnswer::Pulled(12), b"pulled 12\n")?);
+    assert!(rt; is_printed(alloc, LineAnswer::OtherLast(8), b"other last 8\n")?);
+    assert!(rt; is_printed(alloc, LineAnswer::PullUnanswered, b"unanswered\n")?);
     Ok(())
 }
 
 /// Whether the content `hi` is printed with its length.
 fn a_content_is_printed(alloc: Global) -> Result<bool, Fail> {
     let content = Content::of(alloc, b"hi")?;
-    is_printed(alloc, Answer::Text(content), b"2\nhi")
+    is_printed(alloc, LineAnswer::Text(content), b"2\nhi")
 }
 
 /// Whether a folder and a file are listed.
@@ -193,7 +199,7 @@ fn children_are_printed(alloc: Global) -> Result<bool, Fail> {
         let name = Content::of(alloc, b"hi")?;
         children.push(Child { name, folder })?;
     }
-    is_printed(alloc, Answer::Listing(children), b"2\nd hi\nf hi\n")
+    is_printed(alloc, LineAnswer::Listing(children), b"2\nd hi\nf hi\n")
 }
 
 /// Whether a path that rests on another version is printed with both.
@@ -202,7 +208,7 @@ fn versions_are_printed(alloc: Global) -> Result<bool, Fail> {
     let (seq, theirs, ours) = (3, 2, 1);
     is_printed(
         alloc,
-        Answer::Stale {
+        LineAnswer::Stale {
             seq,
             path,
             theirs,
@@ -218,7 +224,7 @@ fn older_versions_are_printed(alloc: Global) -> Result<bool, Fail> {
     let (theirs, ours) = (1, 2);
     is_printed(
         alloc,
-        Answer::Older { path, theirs, ours },
+        LineAnswer::Older { path, theirs, ours },
         b"older d/x 1 2\n",
     )
 }
@@ -229,7 +235,7 @@ fn a_full_volume_is_printed(alloc: Global) -> Result<bool, Fail> {
     let (seq, index) = (5, 9);
     is_printed(
         alloc,
-        Answer::Full { seq, index, fault },
+        LineAnswer::Full { seq, index, fault },
         b"full 5 9 NotEmpty / d/x\n",
     )
 }
@@ -239,12 +245,12 @@ fn answers_are_printed(rt: HostRuntime) -> Result<(), Fail> {
     let alloc = rt.alloc();
     assert!(rt; a_content_is_printed(alloc)?);
     assert!(rt; children_are_printed(alloc)?);
-    assert!(rt; is_printed(alloc, Answer::At(Path::root(alloc)), b"at /\n")?);
-    assert!(rt; is_printed(alloc, Answer::At(path(alloc)?), b"at /d/x\n")?);
+    assert!(rt; is_printed(alloc, LineAnswer::At(Path::root(alloc)), b"at /\n")?);
+    assert!(rt; is_printed(alloc, LineAnswer::At(path(alloc)?), b"at /d/x\n")?);
     assert!(rt; versions_are_printed(alloc)?);
     assert!(rt; older_versions_are_printed(alloc)?);
     assert!(rt; a_full_volume_is_printed(alloc)?);
-    let unfit = Answer::Unfit {
+    let unfit = LineAnswer::Unfit {
         seq: 4,
         index: 0,
         fault: TreeError::FileTooLarge(8_388_609),
@@ -257,17 +263,23 @@ fn answers_are_printed(rt: HostRuntime) -> Result<(), Fail> {
 fn runs_are_printed(rt: HostRuntime) -> Result<(), Fail> {
     let alloc = rt.alloc();
     let (seq, status) = (7, 255);
-    assert!(rt; is_printed(alloc, Answer::Ran { seq, status }, b"logged 7 status 255\n")?);
     assert!(rt;
         is_printed(
             alloc,
-            Answer::Nothing { status: 1 },
+            LineAnswer::Ran { seq, status },
+            b"logged 7 status 255\n"
+        )?
+    );
+    assert!(rt;
+        is_printed(
+            alloc,
+            LineAnswer::Nothing { status: 1 },
             b"nothing logged status 1\n"
         )?
     );
-    assert!(rt; is_printed(alloc, Answer::NotRun, b"not run\n")?);
-    assert!(rt; is_printed(alloc, Answer::OddTree(3), b"odd tree 3\n")?);
-    assert!(rt; is_printed(alloc, Answer::Clash(path(alloc)?), b"clash d/x\n")?);
+    assert!(rt; is_printed(alloc, LineAnswer::NotRun, b"not run\n")?);
+    assert!(rt; is_printed(alloc, LineAnswer::OddTree(3), b"odd tree 3\n")?);
+    assert!(rt; is_printed(alloc, LineAnswer::Clash(path(alloc)?), b"clash d/x\n")?);
     Ok(())
 }
 

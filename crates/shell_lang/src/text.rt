@@ -4,7 +4,7 @@ ghost use Rattle.std.specs.Prelude.{◌≡◌, ◌∷◌, ◌++◌, OnOk, IfOk, 
 ghost use Rattle.shell_lang.specs.Faults.{number, spaced_path as path_value, tree_fault_text, fault_text};
 ghost use Rattle.shell_lang.specs.Texts.{answer_name, answer_values, answer_body, child_line, text_of, HasNoMemory};
 
-use crate::answer::{Answer, Child, Fault};
+use crate::answer::{Child, Fault, LineAnswer};
 use crate::fault_text::{put_fault_text, put_tree_fault};
 use crate::value::{put_decimal, put_number, put_path};
 use std::alloc::{AllocError, Global};
@@ -16,7 +16,7 @@ use vol_tree::{Path, TreeError};
 ///
 /// Want of memory.
 #[tactic(auto, using(std::proofs::Common::append_assoc))]
-pub fn text_of(alloc: Global, answer: &Answer) -> Result<Vec<u8>, AllocError>
+pub fn text_of(alloc: Global, answer: &LineAnswer) -> Result<Vec<u8>, AllocError>
     requires { HasNoMemory answer.now }
     ensures { IfOk result (λ text. text.items ≡ text_of answer.now) }
 {
@@ -28,55 +28,55 @@ pub fn text_of(alloc: Global, answer: &Answer) -> Result<Vec<u8>, AllocError>
 }
 
 /// The words that an answer begins with.
-fn answer_name(answer: &Answer) -> &'static [u8]
+fn answer_name(answer: &LineAnswer) -> &'static [u8]
     ensures { result.now ≡ answer_name answer.now }
 {
     match answer {
-        Answer::Text(_) | Answer::Listing(_) => b"",
-        Answer::Logged { .. } | Answer::Ran { .. } => b"logged",
-        Answer::At(_) => b"at /",
-        Answer::Nothing { .. } => b"nothing logged status",
-        Answer::NotRun => b"not run",
-        Answer::OddTree(_) => b"odd tree",
-        Answer::Clash(_) => b"clash",
-        Answer::Status { .. } => b"acknowledged",
-        Answer::Synced(_) => b"synced",
-        Answer::Stale { .. } => b"stale",
-        Answer::Unfit { .. } => b"unfit",
-        Answer::Full { .. } => b"full",
-        Answer::Unanswered { .. } | Answer::PullUnanswered => b"unanswered",
-        Answer::Behind { .. } => b"behind",
-        Answer::Pulled(_) => b"pulled",
-        Answer::OtherLast(_) => b"other last",
-        Answer::Older { .. } => b"older",
-        Answer::Refused(_) => b"refused",
+        LineAnswer::Text(_) | LineAnswer::Listing(_) => b"",
+        LineAnswer::Logged { .. } | LineAnswer::Ran { .. } => b"logged",
+        LineAnswer::At(_) => b"at /",
+        LineAnswer::Nothing { .. } => b"nothing logged status",
+        LineAnswer::NotRun => b"not run",
+        LineAnswer::OddTree(_) => b"odd tree",
+        LineAnswer::Clash(_) => b"clash",
+        LineAnswer::Status { .. } => b"acknowledged",
+        LineAnswer::Synced(_) => b"synced",
+        LineAnswer::Stale { .. } => b"stale",
+        LineAnswer::Unfit { .. } => b"unfit",
+        LineAnswer::Full { .. } => b"full",
+        LineAnswer::Unanswered { .. } | LineAnswer::PullUnanswered => b"unanswered",
+        LineAnswer::Behind { .. } => b"behind",
+        LineAnswer::Pulled(_) => b"pulled",
+        LineAnswer::OtherLast(_) => b"other last",
+        LineAnswer::Older { .. } => b"older",
+        LineAnswer::Refused(_) => b"refused",
     }
 }
 
 /// What follows in the same line.
 #[tactic(auto, using(std::proofs::Common::append_assoc))]
-fn put_values(out: &mut Vec<u8>, answer: &Answer) -> Result<(), AllocError>
+fn put_values(out: &mut Vec<u8>, answer: &LineAnswer) -> Result<(), AllocError>
     ensures { OnOk result (out.new.items ≡ out.old.items ++ answer_values answer.now) }
 {
     match answer {
-        Answer::Text(content) => put_decimal(out, content.bytes().len() as u64)?,
-        Answer::Listing(children) => put_decimal(out, children.len() as u64)?,
-        Answer::At(path) => out.extend_from_slice(path.text()?.bytes())?,
-        Answer::Logged { seq: n }
-        | Answer::Unanswered { seq: n }
-        | Answer::Synced(n)
-        | Answer::OtherLast(n) => put_number(out, *n)?,
-        Answer::Ran { seq, status } => put_ran(out, *seq, *status)?,
-        Answer::Nothing { status } => put_number(out, u64::from(*status))?,
-        Answer::Pulled(n) | Answer::OddTree(n) => put_number(out, u64::from(*n))?,
-        Answer::Clash(path) => put_path(out, path)?,
-        Answer::NotRun | Answer::PullUnanswered => {}
-        Answer::Status { acked, pending } => put_status(out, *acked, *pending)?,
-        Answer::Behind { seq, last } => {
+        LineAnswer::Text(content) => put_decimal(out, content.bytes().len() as u64)?,
+        LineAnswer::Listing(children) => put_decimal(out, children.len() as u64)?,
+        LineAnswer::At(path) => out.extend_from_slice(path.text()?.bytes())?,
+        LineAnswer::Logged { seq: n }
+        | LineAnswer::Unanswered { seq: n }
+        | LineAnswer::Synced(n)
+        | LineAnswer::OtherLast(n) => put_number(out, *n)?,
+        LineAnswer::Ran { seq, status } => put_ran(out, *seq, *status)?,
+        LineAnswer::Nothing { status } => put_number(out, u64::from(*status))?,
+        LineAnswer::Pulled(n) | LineAnswer::OddTree(n) => put_number(out, u64::from(*n))?,
+        LineAnswer::Clash(path) => put_path(out, path)?,
+        LineAnswer::NotRun | LineAnswer::PullUnanswered => {}
+        LineAnswer::Status { acked, pending } => put_status(out, *acked, *pending)?,
+        LineAnswer::Behind { seq, last } => {
             put_number(out, *seq)?;
             put_number(out, *last)?;
         }
-        Answer::Stale {
+        LineAnswer::Stale {
             seq,
             path,
             theirs,
@@ -85,11 +85,11 @@ fn put_values(out: &mut Vec<u8>, answer: &Answer) -> Result<(), AllocError>
             put_number(out, *seq)?;
             put_versions(out, path, *theirs, *ours)?;
         }
-        Answer::Older { path, theirs, ours } => put_versions(out, path, *theirs, *ours)?,
-        Answer::Unfit { seq, index, fault } | Answer::Full { seq, index, fault } => {
+        LineAnswer::Older { path, theirs, ours } => put_versions(out, path, *theirs, *ours)?,
+        LineAnswer::Unfit { seq, index, fault } | LineAnswer::Full { seq, index, fault } => {
             put_refused_effect(out, *seq, *index, fault)?
         }
-        Answer::Refused(fault) => put_fault(out, fault)?,
+        LineAnswer::Refused(fault) => put_fault(out, fault)?,
     }
     Ok(())
 }
@@ -155,12 +155,12 @@ fn put_fault(out: &mut Vec<u8>, fault: &Fault) -> Result<(), AllocError>
 }
 
 /// What follows the first line.
-fn put_body(out: &mut Vec<u8>, answer: &Answer) -> Result<(), AllocError>
+fn put_body(out: &mut Vec<u8>, answer: &LineAnswer) -> Result<(), AllocError>
     ensures { OnOk result (out.new.items ≡ out.old.items ++ answer_body answer.now) }
 {
     match answer {
-        Answer::Text(content) => out.extend_from_slice(content.bytes())?,
-        Answer::Listing(children) => put_children(out, children.as_slice())?,
+        LineAnswer::Text(content) => out.extend_from_slice(content.bytes())?,
+        LineAnswer::Listing(children) => put_children(out, children.as_slice())?,
         _ => {}
     }
     Ok(())

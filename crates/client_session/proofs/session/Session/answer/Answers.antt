@@ -2,7 +2,7 @@ use Rattle.std.proofs.Common.{◌≡◌, ℕ, List, Option, None, Some, Result, 
 use Rattle.shell_lang.specs.declared.line.Line.{Line}
 use Rattle.shell_lang.specs.declared.line.Line.TheVariants.{Empty, Put, Make, Remove, Move, Cat, List as Ls, Enter, Status, Quit}
 use Rattle.shell_lang.specs.declared.line.LineError.{LineError}
-use Rattle.shell_lang.specs.declared.answer.Answer.TheVariants.{Refused}
+use Rattle.shell_lang.specs.declared.answer.LineAnswer.TheVariants.{Refused}
 use Rattle.shell_lang.specs.declared.answer.Fault.TheVariants as faults
 use Rattle.mod_log.specs.Log.{tree_of}
 use Rattle.client_core.specs.Keeping.{IsKeptReady}

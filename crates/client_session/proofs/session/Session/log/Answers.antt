@@ -5,7 +5,7 @@ use Rattle.client_core.specs.Keeping.{IsKept, IsKeptReady, KeepsLog}
 use Rattle.client_core.specs.Journal.{next_notes}
 use Rattle.client_core.proofs.Journal.{next_keeps}
 use Rattle.client_core.proofs.Locals.{local_one}
-use Rattle.shell_lang.specs.declared.answer.Answer.TheVariants.{Logged}
+use Rattle.shell_lang.specs.declared.answer.LineAnswer.TheVariants.{Logged}
 use Rattle.client_session.specs.Session.{SessionState, Sitting, seen, state_of}
 use Rattle.client_session.specs.Inside.{LogsMade}
 use Rattle.client_session.proofs.Turning.{word_given, refusal_given, logged_kept, logged_unkept, kept_ok, kept_still, seen_same}
