@@ -38,7 +38,7 @@ pub fn put_number(out: &mut Vec<u8>, n: u64) -> Result<(), AllocError>
 /// # Errors
 ///
 /// Want of memory; a part may have been added then.
-#[tactic(auto, using(std::proofs::Common::append_assoc), unfolding(crate::specs::Faults::path))]
+#[tactic(auto, using(std::proofs::Common::append_assoc), unfolding(crate::specs::Faults::spaced_path))]
 pub fn put_path(out: &mut Vec<u8>, path: &Path) -> Result<(), AllocError>
     ensures { OnOk result (out.new.items ≡ out.old.items ++ path_value path.now) }
 {
