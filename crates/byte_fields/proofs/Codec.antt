@@ -590,7 +590,7 @@ tagged_again0 kinds kind byte made bytes at next e stands =
 
 -- ---- one spelling for each value, one value for each spelling, and none the front of another
 
-stands_at_front : (text rest : List ℕ) → Stands (text ++ rest) 0 text (length text)
+pub stands_at_front : (text rest : List ℕ) → Stands (text ++ rest) 0 text (length text)
 stands_at_front text rest = record {
   here = ap (λ (x : List ℕ). text ++ x) (sym (drop_at text rest (length text) refl));
   next_is = omega arith;

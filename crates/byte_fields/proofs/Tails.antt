@@ -173,7 +173,7 @@ module _ {S A : Type 0} (item : S → Reader A) (after : S → A → S) (spellin
 
 -- ---- what is read stands there
 
-if_ok : {B : Type 0} (torn : Bool) (r r' : Result B ℕ) (y : B) → cond torn r r' ≡ Ok y → ((torn ≡ true) × (r ≡ Ok y)) ⊎ ((torn ≡ false) × (r' ≡ Ok y))
+pub if_ok : {B : Type 0} (torn : Bool) (r r' : Result B ℕ) (y : B) → cond torn r r' ≡ Ok y → ((torn ≡ true) × (r ≡ Ok y)) ⊎ ((torn ≡ false) × (r' ≡ Ok y))
 if_ok true r r' y e = inl (refl, e)
 if_ok false r r' y e = inr (refl, e)
 

@@ -46,14 +46,14 @@ take_within zero xs ys le = refl
 take_within (suc n) [] ys le = absurd (omega arith)
 take_within (suc n) (x ∷ xs) ys le = ap (λ (rest : List ℕ). x ∷ rest) (take_within n xs ys (omega arith))
 
-take_past : (n : ℕ) (xs ys : List ℕ) → length xs ≤ n → take n (xs ++ ys) ≡ xs ++ take (n - length xs) ys
+pub take_past : (n : ℕ) (xs ys : List ℕ) → length xs ≤ n → take n (xs ++ ys) ≡ xs ++ take (n - length xs) ys
 take_past n [] ys le = let same : n ≡ n - 0 = omega arith in ap (λ (k : ℕ). take k ys) same
 take_past zero (x ∷ xs) ys le = absurd (omega arith)
 take_past (suc n) (x ∷ xs) ys le =
     let same : n - length xs ≡ suc n - suc (length xs) = omega arith in
     ap (λ (rest : List ℕ). x ∷ rest) (take_past n xs ys (omega arith) ∙ ap (λ (k : ℕ). xs ++ take k ys) same)
 
-take_none : (n : ℕ) → take {A = ℕ} n [] ≡ []
+pub take_none : (n : ℕ) → take {A = ℕ} n [] ≡ []
 take_none zero = refl
 take_none (suc n) = refl
 

@@ -84,7 +84,7 @@ module _ {A : Type 0} (mark : List ℕ) (four : length mark ≡ 4) (read : Reade
       refused_there (marked mark read) (mark ++ text) (length mark + offset) (4 + offset) (omega (arith, four))
       (later_refused (ruled (bytes_eq mark) (span_at 4)) (λ _. read) mark text mark offset (read_again (ruled_codec (bytes_eq mark) (span_codec 4)) mark (four, (bytes_eq-Decides mark mark).1 refl)) refused)
 
-wrong_client : (client : ℕ) → (client ≡ 0) ⊎ (64 < client) → (leb 1 client && leb client 64) ≡ false
+pub wrong_client : (client : ℕ) → (client ≡ 0) ⊎ (64 < client) → (leb 1 client && leb client 64) ≡ false
 wrong_client client (inl e) = rw e refl
 wrong_client client (inr lt) = second_fails (leb 1 client) (leb client 64) (le_fails client 64 lt)
 
@@ -129,7 +129,7 @@ server_rows last text offset count fit refused =
     (first_refused rows_at (λ v bytes at. Ok (server_made last v, at)) text offset refused))))
 
 -- what begins with a refused text is refused where this is
-whole_refused : {A : Type 0} (other : List ℕ) (read : Reader A) (text more : List ℕ) (offset : ℕ) → IsRefused read text offset → bytes_eq other (take 4 (text ++ more)) ≡ false → image_of other read (text ++ more) ≡ Err (BadImage (as_u32 offset))
+pub whole_refused : {A : Type 0} (other : List ℕ) (read : Reader A) (text more : List ℕ) (offset : ℕ) → IsRefused read text offset → bytes_eq other (take 4 (text ++ more)) ≡ false → image_of other read (text ++ more) ≡ Err (BadImage (as_u32 offset))
 whole_refused other read text more offset refused apart =
     let stands : Stands (text ++ more) 0 text (length text) = record { here = ap (λ (rest : List ℕ). text ++ rest) (sym (drop_front text more)); next_is = omega arith; within = omega (arith, length-append text more) } in
     let place : 0 + offset ≡ offset = omega arith in

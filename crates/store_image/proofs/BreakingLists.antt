@@ -55,7 +55,7 @@ more_items {S} {A} item after (suc few) (suc many) state bytes at place le e =
 
 -- ---- entries
 
-first_fails : (a b : Bool) → a ≡ false → (a && b) ≡ false
+pub first_fails : (a b : Bool) → a ≡ false → (a && b) ≡ false
 first_fails true b e = absurd (true≢false e)
 first_fails false b e = refl
 

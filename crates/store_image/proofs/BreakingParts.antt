@@ -47,11 +47,11 @@ wrong_effects count (inr lt) = second_fails (leb 1 count) (leb count 4096) (le_f
 right_effects : (count : ℕ) → 1 ≤ count → count ≤ 4096 → (leb 1 count && leb count 4096) ≡ true
 right_effects count some few = rw (le-leb 1 count some, le-leb count 4096 few) refl
 
-effects_count_refused : (v : Volume) (count : ℕ) → count < 2 ^ 32 → (count ≡ 0) ⊎ (4096 < count) → IsRefused (applied_effects_at v) (digits w32 count) 0
+pub effects_count_refused : (v : Volume) (count : ℕ) → count < 2 ^ 32 → (count ≡ 0) ⊎ (4096 < count) → IsRefused (applied_effects_at v) (digits w32 count) 0
 unfolding applied_effects_at
 effects_count_refused v count small wrong = count_refused (λ n. leb 1 n && leb n 4096) (λ n. each_at growing_effect_at grown n (start_of_entry v)) count small (wrong_effects count wrong)
 
-effect_refused : (v : Volume) (before : List Effect) (count : ℕ) (text : List ℕ) (offset : ℕ) → AreTaken v before → length before < count → count ≤ 4096 → IsRefused (growing_effect_at (growing_behind before v)) text offset
+pub effect_refused : (v : Volume) (before : List Effect) (count : ℕ) (text : List ℕ) (offset : ℕ) → AreTaken v before → length before < count → count ≤ 4096 → IsRefused (growing_effect_at (growing_behind before v)) text offset
     → IsRefused (applied_effects_at v) (digits w32 count ++ (flat_map effect before ++ text)) (4 + (length (flat_map effect before) + offset))
 unfolding applied_effects_at
 effect_refused v before count text offset taken some few refused =
@@ -93,6 +93,10 @@ base_refused before others known text offset fits small refused =
     (subst (λ (left : List Base). IsRefused (first_kept_base_at left) text offset) (sym (bases_passed before (known ∷ others))) (first_is_known known others text offset refused)))
 
 -- ---- in an entry
+
+-- all entries of a log lead to a tree
+pub whole_tree : (log : Log) → IsLog log → IsTree (tree_of log)
+whole_tree log is = subst (λ (es : List Entry). IsTree (after es log.base)) (take_all (length log.pending) log.pending (omega arith)) (holds_trees log (length log.pending) is)
 
 applied_effects : (v : Volume) (es : List Effect) → AreTaken v es → 1 ≤ length es → length es ≤ 4096 → EffectsApply v es
 applied_effects v es taken some few = record { fits = record { some = some; few = few; each = taken.each; all_contents = taken.small }; applies = taken.applies }
@@ -143,9 +147,6 @@ base_is_refused log o es before others known text offset is made taken some few 
     behind_effects log o es (digits w32 (length (before ++ known ∷ others)) ++ (flat_map base before ++ text)) (4 + (length (flat_map base before) + offset)) made apply
     (subst (λ (bs : List Base). IsRefused (known_bases_at bs) (digits w32 (length (before ++ known ∷ others)) ++ (flat_map base before ++ text)) (4 + (length (flat_map base before) + offset))) (sym are)
     (base_refused before others known text offset fits small refused))
-  where
-    whole_tree : (log : Log) → IsLog log → IsTree (tree_of log)
-    whole_tree log is = subst (λ (es : List _). IsTree (after es log.base)) (take_all (length log.pending) log.pending (omega arith)) (holds_trees log (length log.pending) is)
 
 -- ---- before a value is tried
 

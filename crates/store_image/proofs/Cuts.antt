@@ -41,7 +41,7 @@ growing_cut : (growing : Growing) → IsCut (growing_effect_at growing) effect e
 unfolding growing_effect_at
 growing_cut growing = ruled_cut (effect_cut growing.room) (λ e. is_ok (apply e growing.tree))
 
-applied_effects_cut : (v : Volume) → IsCut (applied_effects_at v) effects effects_fields (EffectsApply v)
+pub applied_effects_cut : (v : Volume) → IsCut (applied_effects_at v) effects effects_fields (EffectsApply v)
 unfolding applied_effects_at
 applied_effects_cut v =
     cut_for (counted_cut length (ruled_codec (λ n. leb 1 n && leb n 4096) u32_codec) (ruled_cut u32_cut (λ n. leb 1 n && leb n 4096)) (λ n _. each_cut growing_effect_at grown effect effect_fields GrowingFits growing_codec growing_cut n (start_of_entry v)))
@@ -146,7 +146,7 @@ marked_cut {A} {read} {s} {f} mark four cut = record {
       subst (λ (size : ℕ). marked mark read (take end bytes) at ≡ Err (at + start_of (end - at) (size ∷ f x))) four step;
 }
 
-version_cut : {A : Type 0} {read : Reader A} {s f : A → List ℕ} {F : A → Type 0} → (version : ℕ) → version < 2 ^ 8 → IsCut read s f F → IsCut (tagged_at ((version, read) ∷ [])) (λ x. version ∷ s x) (λ x. 1 ∷ f x) F
+pub version_cut : {A : Type 0} {read : Reader A} {s f : A → List ℕ} {F : A → Type 0} → (version : ℕ) → version < 2 ^ 8 → IsCut read s f F → IsCut (tagged_at ((version, read) ∷ [])) (λ x. version ∷ s x) (λ x. 1 ∷ f x) F
 version_cut {A} {read} {s} {f} version byte cut = record {
   whole = λ x fits. omega (arith, sum_more 1 (f x), cut.whole x fits);
   cut = λ bytes at x next end stands fits le lt.
@@ -156,7 +156,7 @@ version_cut {A} {read} {s} {f} version byte cut = record {
 
 -- ---- images
 
-number_cut : IsCut (ruled (λ n. leb 1 n && leb n 64) (number_at w8)) (λ n. n ∷ []) (λ n. 1 ∷ []) (λ n. (n < 2 ^ 8) × ((leb 1 n && leb n 64) ≡ true))
+pub number_cut : IsCut (ruled (λ n. leb 1 n && leb n 64) (number_at w8)) (λ n. n ∷ []) (λ n. 1 ∷ []) (λ n. (n < 2 ^ 8) × ((leb 1 n && leb n 64) ≡ true))
 number_cut = ruled_cut u8_cut (λ n. leb 1 n && leb n 64)
 
 client_body_cut : IsCut client_body_at (λ image. image.client ∷ log image.log) (λ image. 1 ∷ log_fields image.log) ClientFits

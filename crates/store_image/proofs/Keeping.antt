@@ -1,11 +1,10 @@
 -- What bytes that were read, or refused, are kept for.
-use Rattle.std.proofs.Common.{◌≡◌, ◌≢◌, ℕ, ◌+◌, false, List, ◌++◌, length, drop, take, Result, Ok, Err, refl, sym, ap, subst, ◌∙◌, arith, length-append}
-use Rattle.std.proofs.lemmas.List.{drop_at}
+use Rattle.std.proofs.Common.{◌≡◌, ◌≢◌, ℕ, ◌+◌, false, List, ◌++◌, length, drop, take, Result, Ok, Err, refl, sym, ap, subst, ◌∙◌, arith}
 use Rattle.std.specs.Prelude.{IfOk, IfErr}
 use Rattle.std.specs.Str.{bytes_eq}
 use Rattle.byte_fields.specs.Field.{◌>>=◌}
 use Rattle.byte_fields.specs.Codec.{Stands, IsBytes}
-use Rattle.byte_fields.proofs.Codec.{bind_ok, ok_is, stands_both, stands_first, stands_second}
+use Rattle.byte_fields.proofs.Codec.{bind_ok, ok_is, stands_both, stands_first, stands_second, stands_at_front}
 use Rattle.mod_log.specs.Log.{Log}
 use Rattle.store_image.specs.declared.image.ClientImage.{ClientImage}
 use Rattle.store_image.specs.declared.image.ServerImage.{ServerImage}
@@ -21,10 +20,6 @@ use Rattle.store_image.proofs.Notes.{notes_found, notes_again}
 use Rattle.store_image.proofs.Records.{records_found, records_again}
 use Rattle.store_image.proofs.Taken.{taken_found, taken_again}
 use Rattle.store_image.proofs.Whole.{image_again, read_kept, read_none, kept_once}
-
--- a text stands at the front of bytes
-front_stands : (front tail : List ℕ) → Stands (front ++ tail) 0 front (length front)
-front_stands front tail = record { here = ap (λ (rest : List ℕ). front ++ rest) (sym (drop_at front tail (length front) refl)); next_is = omega arith; within = omega (arith, length-append front tail) }
 
 -- ---- a client
 
@@ -59,7 +54,7 @@ client_read bytes x kept =
     let image = client_made x.client w.first in
     let text = client image in
     let records = client_records w.notes in
-    let all = subst (λ (f : List ℕ). Stands (f ++ kept.tail) 0 f (length f)) w.spelled (front_stands kept.front kept.tail) in
+    let all = subst (λ (f : List ℕ). Stands (f ++ kept.tail) 0 f (length f)) w.spelled (stands_at_front kept.front kept.tail) in
     let bytes_are : bytes ≡ (text ++ records) ++ kept.tail = kept.parts ∙ ap (λ (f : List ℕ). f ++ kept.tail) w.spelled in
     let first = stands_first ((text ++ records) ++ kept.tail) 0 text records (length (text ++ records)) all in
     let second = stands_second ((text ++ records) ++ kept.tail) 0 text records (length (text ++ records)) all in
@@ -114,7 +109,7 @@ server_read bytes x kept =
     let w = kept.whole in
     let text = server w.first in
     let records = server_records w.notes in
-    let all = subst (λ (f : List ℕ). Stands (f ++ kept.tail) 0 f (length f)) w.spelled (front_stands kept.front kept.tail) in
+    let all = subst (λ (f : List ℕ). Stands (f ++ kept.tail) 0 f (length f)) w.spelled (stands_at_front kept.front kept.tail) in
     let bytes_are : bytes ≡ (text ++ records) ++ kept.tail = kept.parts ∙ ap (λ (f : List ℕ). f ++ kept.tail) w.spelled in
     let first = stands_first ((text ++ records) ++ kept.tail) 0 text records (length (text ++ records)) all in
     let second = stands_second ((text ++ records) ++ kept.tail) 0 text records (length (text ++ records)) all in

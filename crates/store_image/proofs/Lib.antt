@@ -17,3 +17,6 @@ pub mod Refused
 pub mod BreakingParts
 pub mod Breaking
 pub mod BreakingLists
+pub mod BreakingFrames
+pub mod BreakingRecords
+pub mod BreakingTaken

@@ -24,7 +24,7 @@ use Rattle.store_image.specs.declared.record.ClientRecord.TheVariants.{Logged, A
 use Rattle.store_image.specs.declared.journal.Note.{Note}
 use Rattle.store_image.specs.declared.journal.Note.TheVariants as notes
 use Rattle.store_image.specs.Records.{client_note, client_record, client_kinds, client_record_at, is_pending, has_room, with_record, with_records, IsSpelled, IsNoteOf, AreNotes}
-use Rattle.store_image.specs.Inside.{record_of, Follows}
+use Rattle.store_image.specs.Inside.{record_of, TakesNote}
 use Rattle.store_image.proofs.Entries.{NextFits, next_entry_codec}
 use Rattle.store_image.proofs.Framing.{framed_codec}
 
@@ -147,7 +147,7 @@ note_spelled l (Logged e) note = ((AreEntriesOf-last (l.acked + 1) l.base l.pend
 note_spelled l (Acked n) note = tt
 
 -- what was read of a record follows
-pub follows : (l : Log) (note : Note) → NoteFits l (record_of note l) → Follows l note
+pub follows : (l : Log) (note : Note) → NoteFits l (record_of note l) → TakesNote l note
 follows l (notes.Logged origin effects) fits = fits.is
 follows l (notes.Acked n) fits =
     let both = and_of (nat_lt l.acked n) (nat_le n (l.acked + length l.pending)) fits.1 in

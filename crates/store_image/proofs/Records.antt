@@ -1,5 +1,5 @@
 -- The laws of a client's records up to a torn tail.
-use Rattle.std.proofs.Common.{◌≡◌, ◌⊎◌, ℕ, zero, suc, ◌-◌, ◌+◌, ◌<◌, ◌≤◌, Bool, true, false, cond, List, [], ◌∷◌, ◌++◌, length, Result, Ok, Err, refl, sym, ap, subst, ◌∙◌, append_assoc, arith, inl, inr, length-append, append-nil}
+use Rattle.std.proofs.Common.{◌≡◌, ℕ, zero, suc, ◌-◌, ◌+◌, ◌<◌, ◌≤◌, true, false, List, [], ◌∷◌, ◌++◌, length, Result, Ok, Err, refl, sym, ap, subst, ◌∙◌, append_assoc, arith, inl, inr, length-append, append-nil}
 use Rattle.std.specs.Int.{w32}
 use Rattle.std.proofs.lemmas.List.Concat.{flat_map-cons}
 use Rattle.byte_fields.specs.declared.error.TakeError.{TakeError}
@@ -9,7 +9,7 @@ use Rattle.byte_fields.specs.Codec.{Stands, IsBytes}
 use Rattle.byte_fields.specs.Records.{is_torn}
 use Rattle.byte_fields.proofs.Codec.{bind_ok, ok_is, stands_none, stands_both, stands_first, stands_second}
 use Rattle.byte_fields.proofs.Facts.{four_bytes}
-use Rattle.byte_fields.proofs.Tails.{end_is_torn, whole_is_not_torn}
+use Rattle.byte_fields.proofs.Tails.{end_is_torn, whole_is_not_torn, if_ok}
 use Rattle.byte_fields.proofs.Loop.{with_front, passed_one}
 use Rattle.mod_log.specs.Log.{Log}
 use Rattle.store_image.specs.declared.record.ClientRecord.{ClientRecord}
@@ -24,11 +24,7 @@ pub record Whole (log : Log) (bytes : List ℕ) (at : ℕ) (notes : List ClientR
   pub each : EachFits RecordFits with_record log notes
   pub is : is_torn bytes torn ≡ true
 
-if_ok : {B : Type 0} (torn : Bool) (r r' : Result B ℕ) (y : B) → cond torn r r' ≡ Ok y → ((torn ≡ true) × (r ≡ Ok y)) ⊎ ((torn ≡ false) × (r' ≡ Ok y))
-if_ok true r r' y e = inl (refl, e)
-if_ok false r r' y e = inr (refl, e)
-
-record_length : (note : ClientRecord) → length (client_record note) ≡ 4 + length (client_note note)
+pub record_length : (note : ClientRecord) → length (client_record note) ≡ 4 + length (client_note note)
 record_length note = omega (arith, length-append (digits w32 (length (client_note note))) (client_note note), four_bytes (length (client_note note)))
 
 pub records_found : (most : ℕ) (log : Log) (bytes : List ℕ) (at : ℕ) (notes : List ClientRecord) (torn : ℕ) → IsBytes bytes → at ≤ length bytes → length bytes ≤ at + most → client_records_within most log bytes at ≡ Ok (notes, torn) → Whole log bytes at notes torn
@@ -64,7 +60,7 @@ records_read (x ∷ xs) (suc most) log bytes at torn le w =
     rw (whole, one, rest) refl
 
 -- each record takes a byte and more
-more_than_records : (notes : List ClientRecord) → length notes ≤ length (client_records notes)
+pub more_than_records : (notes : List ClientRecord) → length notes ≤ length (client_records notes)
 more_than_records [] = omega arith
 more_than_records (x ∷ xs) = omega (arith, more_than_records xs, ap length (flat_map-cons client_record x xs), length-append (client_record x) (client_records xs), record_length x)
 

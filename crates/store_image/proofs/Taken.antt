@@ -19,13 +19,13 @@ use Rattle.store_image.proofs.Images.{number_codec, version_codec}
 
 -- ---- one record
 
-later_codec : (image : ServerImage) (number : ℕ) → IsCodec (ruled (λ n. nat_lt (last_of image number) n) (number_at w64)) (digits w64) (λ n. (n < 2 ^ 64) × (nat_lt (last_of image number) n ≡ true))
+pub later_codec : (image : ServerImage) (number : ℕ) → IsCodec (ruled (λ n. nat_lt (last_of image number) n) (number_at w64)) (digits w64) (λ n. (n < 2 ^ 64) × (nat_lt (last_of image number) n ≡ true))
 later_codec image number = ruled_codec (λ n. nat_lt (last_of image number) n) u64_codec
 
-abbrev body : ServerRecord → List ℕ
+abbrev pub body : ServerRecord → List ℕ
 body note = note.client ∷ (digits w64 note.last ++ effects note.effects)
 
-taken_codec : (image : ServerImage) → IsCodec (taken_at image) body (IsTakenOf image)
+pub taken_codec : (image : ServerImage) → IsCodec (taken_at image) body (IsTakenOf image)
 unfolding taken_at
 taken_codec image = record {
   fault = fault3 number_codec (λ number _. later_codec image number) (λ _ _ _ _. applied_effects_codec image.tree) made_taken;
@@ -65,7 +65,7 @@ are_taken : (image : ServerImage) (xs : List ServerRecord) → EachFits TakenFit
 are_taken image [] fits = tt
 are_taken image (x ∷ xs) fits = (fits.0.0, are_taken (with_taken image x) xs fits.1)
 
-are_framed : (image : ServerImage) (xs : List ServerRecord) → AreTakenOf image xs → EachIsFramed (λ i. tagged_at (server_kinds i)) with_taken server_note image xs
+pub are_framed : (image : ServerImage) (xs : List ServerRecord) → AreTakenOf image xs → EachIsFramed (λ i. tagged_at (server_kinds i)) with_taken server_note image xs
 are_framed image [] are = tt
 are_framed image (x ∷ xs) are = ((read_again (taken_note_codec image) x are.0, taken_small image x are.0), are_framed (with_taken image x) xs are.1)
 

@@ -14,6 +14,6 @@ record_of (Logged origin effects) log = records.Logged (next_entry origin effect
 record_of (Acked number) log = records.Acked number
 
 -- the log takes the note, if it has room
-abbrev pub Follows : Log → Note → Type 0
-Follows log (Logged origin effects) = IsEntryOf (log.acked + length log.pending + 1) (tree_of log) (next_entry origin effects log)
-Follows log (Acked number) = IsNoteOf log (records.Acked number)
+abbrev pub TakesNote : Log → Note → Type 0
+TakesNote log (Logged origin effects) = IsEntryOf (log.acked + length log.pending + 1) (tree_of log) (next_entry origin effects log)
+TakesNote log (Acked number) = IsNoteOf log (records.Acked number)

@@ -5,4 +5,5 @@ pub mod Records
 pub mod Image
 pub mod Laws
 pub mod Broken
+pub mod BrokenRecords
 pub mod Inside

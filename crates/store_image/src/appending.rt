@@ -13,11 +13,15 @@ use mod_log::{Entry, bases_size, effects_size};
 use std::alloc::{AllocError, Global};
 use vol_tree::Effects;
 
+/// How many bytes are asked for beside an entry's effects and bases: for its counts, for what made it and for a record's head, and
+/// so many that a block which was given back is not found too short by a little.
+const ENTRY_ROOM: u64 = 4_096;
+
 /// The bytes to ask for before an entry is spelled, so that a large one is not moved while it grows.
 pub(crate) fn room_for(entry: &Entry) -> usize {
     let effects = effects_size(entry.effects.as_slice());
     let bases = bases_size(entry.base.as_slice());
-    effects.saturating_add(bases).saturating_add(64) as usize
+    effects.saturating_add(bases).saturating_add(ENTRY_ROOM) as usize
 }
 
 /// Puts the number of the bytes behind it into the four at the place.
@@ -80,7 +84,7 @@ pub fn put_taken(
     ensures { OnOk result (out.new.items ≡ out.old.items ++ server_record (made_taken client last effects.now)) }
 {
     let size = 14 + effects_size(effects.as_slice()) as u32;
-    out.reserve(size as usize)?;
+    out.reserve((size as usize).saturating_add(4))?;
     put_u32(out, size)?;
     out.push(3)?;
     out.push(client)?;

@@ -10,7 +10,7 @@ ghost use Rattle.store_image.specs.declared.image.ServerImage.{ServerImage};
 ghost use Rattle.store_image.specs.Reading.{next_entry_at};
 ghost use Rattle.store_image.specs.Records.{behind_records, is_pending, client_kinds, has_room, client_record_at, client_records_at};
 ghost use Rattle.store_image.specs.Records.{with_record, with_records, taken_at, server_kinds, with_taken};
-ghost use Rattle.store_image.specs.Inside.{record_of, Follows};
+ghost use Rattle.store_image.specs.Inside.{record_of, TakesNote};
 
 use crate::entry::{applied_effects, next_effects};
 use crate::image::ServerImage;
@@ -117,7 +117,7 @@ fn fault_of(refusal: LogError, at: usize) -> TakeError
 
 /// The log takes what a record at the place tells.
 fn take_note(log: &mut Log, note: Note, at: usize) -> Result<(), TakeError>
-    requires { Follows log.old note }
+    requires { TakesNote log.old note }
     ensures ok { OnOk result
         ((has_room log.old (record_of note log.old) ≡ true) × (log.new ≡ with_record log.old (record_of note log.old))) }
     ensures err { IfErr result (λ e. IfSome (place_of e) (λ place. (place ≡ at) × (has_room log.old (record_of note log.old) ≡ false))) }

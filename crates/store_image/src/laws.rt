@@ -6,6 +6,7 @@ ghost use Rattle.store_image.specs.Reading.{client_at, server_at};
 ghost use Rattle.store_image.specs.Spelling.{client, ClientFits, server, ServerFits};
 ghost use Rattle.store_image.specs.Fields.{client_fields, server_fields};
 ghost use Rattle.store_image.specs.Broken.{BrokenKeptEntries, BrokenEntryLists, BrokenImages};
+ghost use Rattle.store_image.specs.BrokenRecords.{BrokenClientRecords, BrokenServerRecords};
 ghost use Rattle.store_image.specs.Laws.{RecordsAreAppended, CutRecordsAreTorn, BytesAreKeptForOneClient, BytesAreKeptForOneServer};
 ghost use Rattle.store_image.specs.Laws.{ImagesAreSmall, CutClientImagesAreRefused, CutServerImagesAreRefused, WrittenClientsAreKept};
 ghost use Rattle.store_image.specs.Laws.{WrittenServersAreKept};
@@ -52,4 +53,10 @@ pub fn broken_images_name_the_field()
     ensures entries { BrokenKeptEntries }
     ensures lists { BrokenEntryLists }
     ensures images { BrokenImages }
+{}
+
+/// States that a record that breaks a rule is refused at the field of the rule, behind whatever is kept whole.
+pub fn broken_records_name_the_field()
+    ensures clients { BrokenClientRecords }
+    ensures servers { BrokenServerRecords }
 {}

@@ -17,8 +17,9 @@ pub use image::{
     ServerImage,
 };
 pub use laws::{
-    broken_images_name_the_field, cut_images_name_the_field, cut_records_are_torn,
-    images_are_small, images_are_spelled_once, kept_states_are_read, records_are_appended,
+    broken_images_name_the_field, broken_records_name_the_field, cut_images_name_the_field,
+    cut_records_are_torn, images_are_small, images_are_spelled_once, kept_states_are_read,
+    records_are_appended,
 };
 pub use reading::{read_client, read_server};
 pub use record::{ClientRecord, ServerRecord};
