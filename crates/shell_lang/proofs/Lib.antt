@@ -2,5 +2,6 @@ pub mod Cutting
 pub mod Pieces
 pub mod Read
 pub mod Refused
+pub mod Searching
 pub mod Spelled
 pub mod Splitting

@@ -28,6 +28,10 @@ is_quote b = b == 39
 abbrev pub inside_after : Bool → ℕ → Bool
 inside_after inside b = if is_quote b then not inside else inside
 
+-- whether the byte ends a piece, or opens or closes quotes
+abbrev pub is_mark : Bool → ℕ → Bool
+is_mark inside b = is_quote b || ((b == 32) && not inside)
+
 -- the text cut at each space outside quotes, where its front stands inside quotes or not
 abbrev pub pieces_from : Bool → List ℕ → List (List ℕ)
 pieces_from inside [] = [] ∷ []

@@ -1,28 +1,32 @@
 //! The bytes of an input, cut into lines.
 
-ghost use Rattle.std.specs.Prelude.{◌≡◌, ◌≤◌, ◌+◌, [], ◌++◌, drop, length, position, OnOk, OnErr};
-ghost use Rattle.std.specs.Option.{option_copied};
+ghost use Rattle.std.specs.Prelude.{◌≡◌, ◌≤◌, ◌<◌, ◌+◌, ◌^◌, [], ◌++◌, drop, length, position, OnOk, OnErr};
+ghost use Rattle.std.specs.Option.{option_copied, option_map};
 ghost use Rattle.shell_lang.specs.Lines.{is_line_end, FirstLine, Buffered};
 
+use memchr::memchr;
 use std::alloc::{AllocError, Global};
 use std::marker::Model;
 
-/// The bytes of an input that no line was cut from yet, behind those of cut lines that are kept until the next piece.
+/// The bytes of an input that no line was cut from yet, behind those of cut lines that are kept until the next piece; and
+/// the place of the first line end among them, so that no byte is searched twice.
 #[derive(Debug, Drop)]
 pub struct LineBuffer {
     bytes: Vec<u8>,
     start: usize,
+    end: Option<usize>,
 }
 
 impl Model for LineBuffer {
-    ghost use Rattle.std.specs.Prelude.{◌≤◌, drop, length};
-    ghost use Rattle.shell_lang.specs.Lines.{Buffered};
+    ghost use Rattle.std.specs.Prelude.{◌≡◌, ◌≤◌, drop, length, position};
+    ghost use Rattle.shell_lang.specs.Lines.{is_line_end, Buffered};
 
     ghost Value = { Buffered };
 
     ghost view = { λ buffer. record { bytes = drop buffer.start buffer.bytes.items; passed = buffer.start } };
 
-    ghost invariant = { λ buffer. buffer.start ≤ length buffer.bytes.items };
+    ghost invariant = { λ buffer. (buffer.start ≤ length buffer.bytes.items)
+        × (buffer.end ≡ position is_line_end (drop buffer.start buffer.bytes.items)) };
 }
 
 impl LineBuffer {
@@ -33,6 +37,7 @@ impl LineBuffer {
         LineBuffer {
             bytes: Vec::new(alloc),
             start: 0,
+            end: None,
         }
     }
 
@@ -47,7 +52,12 @@ impl LineBuffer {
         ensures passed { self.new.passed ≡ 0 }
     {
         self.compact();
-        self.bytes.extend_from_slice(piece)
+        let count = self.bytes.len();
+        self.bytes.extend_from_slice(piece)?;
+        if self.end.is_none() {
+            self.end = line_end_behind(count, piece);
+        }
+        Ok(())
     }
 
     /// Gives back the room of the lines that were cut.
@@ -64,7 +74,7 @@ impl LineBuffer {
         ensures { FirstLine self.now.bytes (option_copied result) }
     {
         let bytes = self.bytes();
-        match first_line_end(bytes) {
+        match self.end {
             Some(end) => Some(&bytes[..end]),
             None => None,
         }
@@ -76,6 +86,7 @@ impl LineBuffer {
         ensures { self.new ≡ record { bytes = drop count self.old.bytes; passed = self.old.passed + count } }
     {
         self.start += count;
+        self.end = first_line_end(&self.bytes[self.start..]);
     }
 
     /// Lends the bytes. Once no line is left, they are what stands behind the last line end.
@@ -86,9 +97,20 @@ impl LineBuffer {
     }
 }
 
+/// The place of the first line end of a piece behind so many bytes that have none.
+fn line_end_behind(count: usize, piece: &[u8]) -> Option<usize>
+    requires { count + length piece.now < 2 ^ 64 }
+    ensures { result ≡ option_map (λ end. count + end) (position is_line_end piece.now) }
+{
+    match first_line_end(piece) {
+        Some(end) => Some(count + end),
+        None => None,
+    }
+}
+
 /// The place of the first line end.
 fn first_line_end(bytes: &[u8]) -> Option<usize>
     ensures { result ≡ position is_line_end bytes.now }
 {
-    bytes.iter().position(|b| *b == b'\n')
+    memchr(b'\n', bytes)
 }

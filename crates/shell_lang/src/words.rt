@@ -1,10 +1,12 @@
 //! The words of a line.
 
-ghost use Rattle.std.specs.Prelude.{◌≡◌, ◌+◌, ◌^◌, ◌<◌, length, position, IfSome};
-ghost use Rattle.shell_lang.specs.Words.{GivesLine, EndsFirst, is_quote, bare_word, closed_word, word_of, words_of};
+ghost use Rattle.std.specs.Prelude.{◌≡◌, ◌≤◌, ◌+◌, ◌^◌, ◌<◌, drop, length, position, IfSome};
+ghost use Rattle.std.specs.Option.{option_map};
+ghost use Rattle.shell_lang.specs.Words.{GivesLine, EndsFirst, is_quote, is_mark, bare_word, closed_word, word_of, words_of};
 
 use crate::line::LineError;
 use byte_fields::saturate_u32;
+use memchr::{memchr, memchr2};
 use std::alloc::Global;
 use vol_tree::{Content, List};
 
@@ -24,22 +26,44 @@ pub(crate) fn split_words(alloc: Global, line: &[u8]) -> Result<List<Content>, L
 }
 
 /// The place of the first space outside quotes.
-#[tactic(auto, using(crate::proofs::Pieces::one_more_byte, crate::proofs::Pieces::first_piece, crate::proofs::Pieces::only_piece))]
+#[tactic(auto)]
 fn first_end(text: &[u8]) -> Option<usize>
     ensures within { IfSome result (λ end. end < length text.now) }
     ensures fits { IfSome result (λ end. end + 1 < 2 ^ 64) }
     ensures ends { EndsFirst text.now result }
 {
     let mut inside = false;
-    for (i, b) in text.iter().enumerate() {
-        if *b == b' ' && !inside {
-            return Some(i);
+    let mut at = 0;
+    while let Some(mark) = next_mark(text, at, inside) {
+        if text[mark] == b' ' {
+            return Some(mark);
         }
-        if *b == b'\'' {
-            inside = !inside;
-        }
+        inside = !inside;
+        at = mark + 1;
     }
     None
+}
+
+/// The next place of a quote, and of a space where it is outside quotes.
+fn next_mark(text: &[u8], at: usize, inside: bool) -> Option<usize>
+    requires { at ≤ length text.now }
+    ensures { result ≡ option_map (λ i. at + i) (position (is_mark inside) (drop at text.now)) }
+{
+    match first_mark(&text[at..], inside) {
+        Some(i) => Some(at + i),
+        None => None,
+    }
+}
+
+/// The first place of a quote, and of a space where it is outside quotes.
+fn first_mark(text: &[u8], inside: bool) -> Option<usize>
+    ensures { result ≡ position (is_mark inside) text.now }
+{
+    if inside {
+        memchr(b'\'', text)
+    } else {
+        memchr2(b'\'', b' ', text)
+    }
 }
 
 /// Word `i`, which this piece of the line spells.
@@ -79,5 +103,5 @@ fn read_bare(alloc: Global, i: usize, piece: &[u8]) -> Result<Content, LineError
 fn first_quote(text: &[u8]) -> Option<usize>
     ensures { result ≡ position is_quote text.now }
 {
-    text.iter().position(|b| *b == b'\'')
+    memchr(b'\'', text)
 }
