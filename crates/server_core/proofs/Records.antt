@@ -1,6 +1,6 @@
 -- Records behind what is kept of a server.
-use Rattle.std.proofs.Common.{◌≡◌, ◌≤◌, ◌<◌, ◌+◌, ◌-◌, ◌⊎◌, inl, inr, ℕ, Bool, true, false, List, [], ◌∷◌, ◌++◌, length, take, set, None, Ok, refl, sym, ◌∙◌, ap, subst, arith, true≢false}
-use Rattle.std.specs.Prelude.{is_some, nat_le}
+use Rattle.std.proofs.Common.{◌≡◌, ◌≤◌, ◌<◌, ◌+◌, ◌-◌, ◌⊎◌, inl, inr, ℕ, Bool, true, false, List, [], ◌∷◌, ◌++◌, length, map, take, set, None, Ok, refl, sym, ◌∙◌, ap, subst, arith, true≢false}
+use Rattle.std.specs.Prelude.{is_some, nat_le, option_to_list}
 use Rattle.std.proofs.lemmas.List.{length-set}
 use Rattle.byte_fields.proofs.Facts.{and_of, le_of}
 use Rattle.tree_values.specs.Tree.{Volume}
@@ -20,7 +20,7 @@ use Rattle.world_rules.specs.Served.{Served, state_after, taken_of, with_last}
 use Rattle.server_core.specs.Holding.{Holding, last_number, served}
 use Rattle.server_core.specs.Framing.{is_any}
 use Rattle.server_core.specs.Inside.{record_of_store}
-use Rattle.server_core.specs.Keeping.{holding_of, IsKeptForServed, IsKeptWholeForServed, Leads, NoteLeads, WholeIsKept, RecordsLeadOn, TornRecordsAreDropped}
+use Rattle.server_core.specs.Keeping.{holding_of, IsKeptForServed, IsKeptWholeForServed, Leads, NoteLeads, record_of_taken, WholeIsKept, RecordsLeadOn, TornRecordsAreDropped}
 use Rattle.server_core.proofs.Many.{IsIdle, IsTaken, idle_or_taken}
 use Rattle.server_core.proofs.Numbers.{served-raised}
 
@@ -118,3 +118,19 @@ taken_is_recorded message s some = by (idle_or_taken message s)
     by : IsIdle message s ⊎ IsTaken message s → is_some (record_of_store message) ≡ true
     by (inl idle) = absurd (true≢false (sym some ∙ ap is_any idle.nothing))
     by (inr taken) = ap (λ (m : Message). is_some (record_of_store m)) taken.is
+
+-- it is that of its entry
+pub taken_is_noted : (message : Message) (s : Served) → is_any (taken_of message s) ≡ true → option_to_list (record_of_store message) ≡ map record_of_taken (taken_of message s)
+taken_is_noted message s some = by (idle_or_taken message s)
+  where
+    by : IsIdle message s ⊎ IsTaken message s → option_to_list (record_of_store message) ≡ map record_of_taken (taken_of message s)
+    by (inl idle) = absurd (true≢false (sym some ∙ ap is_any idle.nothing))
+    by (inr taken) = ap (λ (m : Message). option_to_list (record_of_store m)) taken.is ∙ sym (ap (map record_of_taken) taken.taken)
+
+-- of one that is not taken there is no entry
+pub idle_is_not_noted : (message : Message) (s : Served) → is_any (taken_of message s) ≡ false → [] ≡ map record_of_taken (taken_of message s)
+idle_is_not_noted message s none = by (idle_or_taken message s)
+  where
+    by : IsIdle message s ⊎ IsTaken message s → [] ≡ map record_of_taken (taken_of message s)
+    by (inl idle) = sym (ap (map record_of_taken) idle.nothing)
+    by (inr taken) = absurd (true≢false (ap is_any (sym taken.taken) ∙ none))

@@ -1,14 +1,17 @@
 -- What images and records keep of a server.
-use Rattle.std.specs.Prelude.{◌≡◌, ℕ, ◌≤◌, ◌<◌, ◌^◌, List, ◌++◌, length, take, Option, Some, None, Ok}
+use Rattle.std.specs.Prelude.{◌≡◌, ℕ, ◌≤◌, ◌<◌, ◌^◌, List, ◌++◌, length, map, take, Option, Some, None, Ok}
 use Rattle.tree_values.specs.Effects.{apply_all}
 use Rattle.tree_values.specs.Spelling.{EffectsFit}
 use Rattle.wire_frames.specs.Limits.{max_client}
 use Rattle.store_image.specs.declared.image.ServerImage.{ServerImage}
 use Rattle.store_image.specs.declared.record.ServerRecord.{ServerRecord}
 use Rattle.store_image.specs.Records.{server_record}
+use Rattle.store_image.specs.Spelling.{server}
 use Rattle.store_image.specs.Image.{IsKeptForServer, IsKeptWholeForServer}
-use Rattle.world_rules.specs.Served.{Served, new_served, with_last}
+use Rattle.world_rules.specs.Served.{Served, TakenEntry, new_served, with_last}
 use Rattle.server_core.specs.Holding.{Holding, served}
+use Rattle.server_core.specs.Framing.{messages_of}
+use Rattle.server_core.specs.Laws.{taken_among}
 
 -- the image of what a server holds
 abbrev pub server_image : Holding → ServerImage
@@ -28,6 +31,13 @@ pub record IsKeptForServed (state : Served) (bytes : List ℕ) : Type 0 where
 pub record IsKeptWholeForServed (state : Served) (bytes : List ℕ) : Type 0 where
   pub image : ServerImage
   pub kept : IsKeptWholeForServer image bytes
+  pub serves : served (holding_of image) ≡ state
+
+-- the same, and no record stands behind the image
+pub record IsImageForServed (state : Served) (bytes : List ℕ) : Type 0 where
+  pub image : ServerImage
+  pub kept : IsKeptWholeForServer image bytes
+  pub spelled : bytes ≡ server image
   pub serves : served (holding_of image) ≡ state
 
 -- what is kept under a name is kept for a server that serves so; nothing is kept for a new server
@@ -54,6 +64,14 @@ pub record Leads (note : ServerRecord) (before after : Served) : Type 0 where
 abbrev pub NoteLeads : Option ServerRecord → Served → Served → Type 0
 NoteLeads None before after = after ≡ before
 NoteLeads (Some note) before after = Leads note before after
+
+-- the record of an entry that was taken: whose it is, its number and its effects
+abbrev pub record_of_taken : TakenEntry → ServerRecord
+record_of_taken entry = record { client = entry.client; last = entry.number; effects = entry.effects }
+
+-- the records of the entries that are taken of these frames, in order
+abbrev pub records_taken : List (List ℕ) → Served → List ServerRecord
+records_taken frames state = map record_of_taken (taken_among (messages_of frames) state)
 
 -- what is kept whole is kept
 abbrev pub WholeIsKept : Type 0

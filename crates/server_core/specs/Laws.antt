@@ -1,6 +1,6 @@
 -- What a server answers to a store, case by case, and what becomes of stores that come in any order and any number of times.
 use Rattle.std.specs.Prelude.{◌≡◌, ℕ, ◌+◌, ◌<◌, ◌≤◌, true, false, Ok, Err, List, [], ◌∷◌, ◌++◌, length, map}
-use Rattle.std.specs.Prelude.{count_by}
+use Rattle.std.specs.Prelude.{count_by, if◌then◌else◌}
 use Rattle.std.specs.List.{AllByRecursion, flat_map, range_with_len}
 use Rattle.file_paths.specs.Path.{FilePath, is_same_path}
 use Rattle.tree_values.specs.declared.node.Base.{Base}
@@ -139,6 +139,11 @@ abbrev pub TakenFramesChangeTheState : Type 0
 TakenFramesChangeTheState = (bytes : List ℕ) (served : Served)
     → (takes bytes served ≡ true → (client : ℕ) × ((frame_after bytes served).last client ≡ served.last client + 1))
     × (takes bytes served ≡ false → frame_after bytes served ≡ served)
+
+-- one entry is taken of a frame that changes what is served, and none of any other
+abbrev pub OneEntryIsTaken : Type 0
+OneEntryIsTaken = (bytes : List ℕ) (served : Served)
+    → length (taken_among (messages_of (bytes ∷ [])) served) ≡ (if takes bytes served then 1 else 0)
 
 -- frames do what their messages do; bytes that are refused change nothing
 abbrev pub FramesActAsTheirMessages : Type 0

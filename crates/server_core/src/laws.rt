@@ -3,7 +3,7 @@ ghost use Rattle.server_core.specs.Laws.{RepeatsChangeNothing, GapsChangeNothing
 ghost use Rattle.server_core.specs.Laws.{FullStoresChangeNothing, UnfitStoresChangeNothing, OtherStoresAreTaken};
 ghost use Rattle.server_core.specs.Laws.{PullsTellTheRows, OthersAreMalformed, StoresAreTakenInOrder, VersionsCountTouches};
 ghost use Rattle.server_core.specs.Laws.{TakenEntriesTellTheState, FramesActAsTheirMessages, FramesAreAnswered, OtherBytesAreMalformed};
-ghost use Rattle.server_core.specs.Laws.{TakenFramesChangeTheState};
+ghost use Rattle.server_core.specs.Laws.{TakenFramesChangeTheState, OneEntryIsTaken};
 ghost use Rattle.server_core.specs.Keeping.{OneStateIsKept, RecordsLeadOn, TornRecordsAreDropped, WholeIsKept};
 
 /// States the answer to a message and what is held then, case by case.
@@ -29,11 +29,12 @@ pub fn stores_are_taken_once()
     ensures frames { FramesActAsTheirMessages }
 {}
 
-/// States how frames are answered, those that spell a message and those that do not.
+/// States how frames are answered, those that spell a message and those that do not, and what is taken of them.
 pub fn frames_are_answered()
     ensures spelled { FramesAreAnswered }
     ensures others { OtherBytesAreMalformed }
     ensures taken { TakenFramesChangeTheState }
+    ensures entry { OneEntryIsTaken }
 {}
 
 /// States that what is kept is kept for one served state.

@@ -1,5 +1,6 @@
 // What a server holds, and how it answers.
-ghost use Rattle.std.specs.Prelude.{◌≡◌, ◌≢◌, ◌≤◌, ◌<◌, ◌+◌, ◌-◌, ◌^◌, false, find, length, option_map, replicate, is_some};
+ghost use Rattle.std.specs.Prelude.{◌≡◌, ◌≢◌, ◌≤◌, ◌<◌, ◌+◌, ◌-◌, ◌^◌, false, [], ◌∷◌, find, length, map, replicate};
+ghost use Rattle.std.specs.Prelude.{option_map, option_to_list, is_some};
 ghost use Rattle.std.specs.Prelude.{Some, None, Ok, Err, IfOk, OnOk, OnErr};
 ghost use Rattle.std.specs.Option.{option_copied};
 ghost use Rattle.tree_values.specs.Effects.{first_conflict as conflict_in, apply_all as applied_all};
@@ -9,7 +10,7 @@ ghost use Rattle.wire_frames.specs.declared.message.TheConstants.{CLIENTS};
 ghost use Rattle.wire_frames.specs.Frame.{IsValid, frame};
 ghost use Rattle.world_rules.specs.Served.{IsServed, new_served, answer, state_after, taken_of, refusal as refusal_of, with_last};
 ghost use Rattle.server_core.specs.Holding.{Holding, served, is_acceptance};
-ghost use Rattle.server_core.specs.Keeping.{holding_of, IsKeptWholeForServed, NoteLeads};
+ghost use Rattle.server_core.specs.Keeping.{holding_of, IsKeptWholeForServed, IsImageForServed, NoteLeads, record_of_taken, records_taken};
 ghost use Rattle.server_core.specs.Framing.{frame_answer, frame_after, is_any, takes};
 ghost use Rattle.server_core.specs.Inside.{is_outdated, EndsNext, IsAcceptanceOf, last_of_store, record_of_store};
 ghost use Rattle.store_image.specs.declared.image.TheConstants.{MAX_SERVER_IMAGE};
@@ -64,6 +65,7 @@ impl Server {
     /// The bytes of the image that keeps the server.
     pub fn image(&self) -> Result<Vec<u8>, AllocError>
         ensures kept { IfOk result (λ bytes. IsKeptWholeForServed (served self.now) bytes.items) }
+        ensures image { IfOk result (λ bytes. IsImageForServed (served self.now) bytes.items) }
         ensures small { IfOk result (λ bytes. length bytes.items ≤ MAX_SERVER_IMAGE) }
     {
         write_server(&self.last, &self.tree)
@@ -145,6 +147,7 @@ impl Server {
     ) -> Result<(Vec<u8>, Option<ServerRecord>), AllocError>
         ensures ok { IfOk result (λ noted. noted.0.items ≡ frame_answer bytes.now (served self.old)) }
         ensures taken { IfOk result (λ noted. is_some noted.1 ≡ takes bytes.now (served self.old)) }
+        ensures entry { IfOk result (λ noted. option_to_list noted.1 ≡ records_taken (bytes.now ∷ []) (served self.old)) }
         ensures leads { IfOk result (λ noted. NoteLeads noted.1 (served self.old) (served self.new)) }
         ensures state { OnOk result (served self.new ≡ frame_after bytes.now (served self.old)) }
         ensures err { OnErr result (self.new ≡ self.old) }
@@ -166,6 +169,7 @@ impl Server {
         requires valid { IsValid message }
         ensures ok { IfOk result (λ noted. noted.0.items ≡ frame (answer message (served self.old))) }
         ensures taken { IfOk result (λ noted. is_some noted.1 ≡ is_any (taken_of message (served self.old))) }
+        ensures entry { IfOk result (λ noted. option_to_list noted.1 ≡ map record_of_taken (taken_of message (served self.old))) }
         ensures leads { IfOk result (λ noted. NoteLeads noted.1 (served self.old) (served self.new)) }
         ensures state { OnOk result (served self.new ≡ state_after message (served self.old)) }
         ensures err { OnErr result (self.new ≡ self.old) }

@@ -1,20 +1,20 @@
 -- What a run keeps by its journal.
-use Rattle.std.proofs.Common.{◌≡◌, ◌≤◌, ◌<◌, ◌+◌, ◌⊎◌, inl, inr, ℕ, Bool, true, false, ◌||◌, List, ◌++◌, length, take, Option, None, Some, refl, sym, ◌∙◌, ap, subst, arith}
+use Rattle.std.proofs.Common.{◌≡◌, ◌≤◌, ◌<◌, ◌+◌, ◌⊎◌, inl, inr, ℕ, Bool, true, false, ◌||◌, List, [], ◌++◌, length, take, Option, None, Some, refl, sym, ◌∙◌, ap, subst, arith}
 use Rattle.std.specs.Prelude.{nat_le, if◌then◌else◌, IfSome}
 use Rattle.std.proofs.lemmas.Bool.{cases_lt, leb-true}
-use Rattle.std.proofs.lemmas.List.{length-append, length-take-le, take_all}
+use Rattle.std.proofs.lemmas.List.{append-nil, length-append, length-take-le, take_all}
 use Rattle.outside.specs.Outside.{Told}
 use Rattle.outside.specs.Keeper.{Images, IsPut, followed_by, kept_under}
 use Rattle.store_image.specs.declared.image.TheConstants.{MAX_SERVER_IMAGE, MAX_RECORDS}
 use Rattle.store_image.specs.declared.record.ServerRecord.{ServerRecord}
 use Rattle.store_image.specs.Records.{server_record}
 use Rattle.world_rules.specs.Served.{Served}
-use Rattle.server_core.specs.Keeping.{IsKeptWholeForServed, Leads}
+use Rattle.server_core.specs.Keeping.{IsKeptWholeForServed, IsImageForServed, Leads}
 use Rattle.server_core.proofs.Records.{whole_is_kept, records_lead_on, torn_records_are_dropped}
 use Rattle.server_prog.specs.declared.journal.Journal.{Journal}
 use Rattle.server_prog.specs.declared.journal.Journal.TheVariants.{Unsaved, Saved}
-use Rattle.server_prog.specs.Serving.{IsKeptNow, KeptAs}
-use Rattle.server_prog.specs.Inside.{is_saved, room_for, IsJournaled, Journals, KeepsOn, ServerMayKeep}
+use Rattle.server_prog.specs.Serving.{IsKeptNow, KeptAs, IsImageWithRecords}
+use Rattle.server_prog.specs.Inside.{is_saved, room_for, IsJournaled, Journals, PutsRecord, Puts, KeepsOn, ServerMayKeep}
 use Rattle.server_prog.proofs.Kept.{Kept, told_with}
 
 -- ---- what stands
@@ -50,13 +50,22 @@ tells_now None (Some n) P told = absurd (cc told)
 tells_now (Some o) None P told = absurd told
 tells_now (Some o) (Some n) P told = told
 
--- so many bytes of records stand there now
-kept_on : (j : Journal) (records : ℕ) (after : Served) (a b : Kept) → Told a b (λ o n. IsJournaled records after n) → KeepsOn true j (Saved records) after a b
-kept_on j records after a b told = record {
+-- the record was kept, and so many bytes of records stand there now
+abbrev IsPutOn : Journal → ServerRecord → ℕ → Served → Option (List ℕ) → Option (List ℕ) → Type 0
+IsPutOn j note records after o n = IsJournaled records after n × Puts (Some note) j (Saved records) after o n
+
+kept_on : (j : Journal) (note : ServerRecord) (records : ℕ) (after : Served) (a b : Kept) → Told a b (IsPutOn j note records after) → KeepsOn (Some note) j (Saved records) after a b
+kept_on j note records after a b told = record {
   saved = sym (or_true (is_saved j));
-  journals = tells_now a b (IsJournaled records after) told;
-  kept = told_with a b (λ o n. IsJournaled records after n) (KeptAs true after) (λ o n is. now_kept records after n is) told;
+  journals = tells_now a b (IsJournaled records after) (told_with a b (IsPutOn j note records after) (λ o n. IsJournaled records after n) (λ o n is. is.0) told);
+  kept = told_with a b (IsPutOn j note records after) (KeptAs true after) (λ o n is. now_kept records after n is.0) told;
+  puts = told_with a b (IsPutOn j note records after) (Puts (Some note) j (Saved records) after) (λ o n is. is.1) told;
 }
+
+-- without a record all is as before
+pub puts_none : (j : Journal) (s : Served) (k : Kept) → Told k k (Puts None j j s)
+puts_none j s None = refl
+puts_none j s (Some now) = (refl, refl)
 
 -- what it may be where the keeping is refused
 abbrev OldOrNew : Journal → Served → Served → Option (List ℕ) → Option (List ℕ) → Type 0
@@ -71,12 +80,24 @@ stands j before after name o n journals same = inl (subst (λ (i : Images). Kept
 
 -- ---- a save
 
-module _ (name image : List ℕ) (j : Journal) (before after : Served) (old new : Option Images) (whole : IsKeptWholeForServed after image) (small : length image ≤ MAX_SERVER_IMAGE) (journals : Journals j before (kept_under name old)) where
-  put_journaled : (o n : Images) → IsPut name image o n → IsJournaled 0 after (n name)
-  put_journaled o n put = record { bytes = image; here = put.here; whole = whole; few = omega arith; small = omega (arith, small) }
+-- an image is kept whole
+whole_of : (s : Served) (bytes : List ℕ) → IsImageForServed s bytes → IsKeptWholeForServed s bytes
+whole_of s bytes is = record { image = is.image; kept = is.kept; serves = is.serves }
 
-  pub saved : Told old new (λ o n. IsPut name image o n) → KeepsOn true j (Saved 0) after (kept_under name old) (kept_under name new)
-  saved told = kept_on j 0 after (kept_under name old) (kept_under name new) (under old new name (Journals j before) (λ o n. IsPut name image o n) (λ o n. IsJournaled 0 after n) (λ o n _ put. put_journaled o n put) journals told)
+module _ (name image : List ℕ) (j : Journal) (before after : Served) (old new : Option Images) (is : IsImageForServed after image) (small : length image ≤ MAX_SERVER_IMAGE) (journals : Journals j before (kept_under name old)) where
+  put_journaled : (o n : Images) → IsPut name image o n → IsJournaled 0 after (n name)
+  put_journaled o n put = record { bytes = image; here = put.here; whole = whole_of after image is; few = omega arith; small = omega (arith, small) }
+
+  module _ (note : ServerRecord) (none : room_for j (length (server_record note)) ≡ None) where
+    put_alone : (o n : Images) → IsPut name image o n → Puts (Some note) j (Saved 0) after (o name) (n name)
+    put_alone o n put =
+        let alone : IsImageWithRecords after [] (n name) = record { image = image; kept = is; here = put.here ∙ ap Some (sym (append-nil image)) } in
+        subst (λ (r : Option ℕ). PutsRecord r note (Saved 0) after (o name) (n name)) (sym none) (refl, alone)
+
+    pub saved : Told old new (λ o n. IsPut name image o n) → KeepsOn (Some note) j (Saved 0) after (kept_under name old) (kept_under name new)
+    saved told =
+        kept_on j note 0 after (kept_under name old) (kept_under name new)
+        (under old new name (Journals j before) (λ o n. IsPut name image o n) (IsPutOn j note 0 after) (λ o n _ put. (put_journaled o n put, put_alone o n put)) journals told)
 
   pub not_saved : Told old new (λ o n. (n ≡ o) ⊎ IsPut name image o n) → ServerMayKeep true j before after (kept_under name old) (kept_under name new)
   not_saved told = under old new name (Journals j before) (λ o n. (n ≡ o) ⊎ IsPut name image o n) (OldOrNew j before after) by journals told
@@ -124,11 +145,12 @@ module _ (name : List ℕ) (note : ServerRecord) (records total : ℕ) (before a
         omega (arith, all, part, short, is.small, total_is, few);
   }
 
-  pub appended : (old new : Option Images) → Journals (Saved records) before (kept_under name old) → Told old new (λ o n. IsPut name (followed_by piece (o name)) o n)
-      → KeepsOn true (Saved records) (Saved total) after (kept_under name old) (kept_under name new)
-  appended old new journals told =
-      kept_on (Saved records) total after (kept_under name old) (kept_under name new)
-      (under old new name (Journals (Saved records) before) (λ o n. IsPut name (followed_by piece (o name)) o n) (λ o n. IsJournaled total after n) (λ o n is put. with_record o n is put.here) journals told)
+  pub appended : (old new : Option Images) → room_for (Saved records) (length piece) ≡ Some total → Journals (Saved records) before (kept_under name old) → Told old new (λ o n. IsPut name (followed_by piece (o name)) o n)
+      → KeepsOn (Some note) (Saved records) (Saved total) after (kept_under name old) (kept_under name new)
+  appended old new some journals told =
+      kept_on (Saved records) note total after (kept_under name old) (kept_under name new)
+      (under old new name (Journals (Saved records) before) (λ o n. IsPut name (followed_by piece (o name)) o n) (IsPutOn (Saved records) note total after)
+      (λ o n is put. (with_record o n is put.here, subst (λ (r : Option ℕ). PutsRecord r note (Saved total) after (o name) (n name)) (sym some) (refl, put.here))) journals told)
 
   pub not_appended : (old new : Option Images) → Journals (Saved records) before (kept_under name old) → Told old new (λ o n. (n ≡ o) ⊎ ((count : ℕ) × IsPut name (followed_by (take count piece) (o name)) o n))
       → ServerMayKeep true (Saved records) before after (kept_under name old) (kept_under name new)
@@ -148,6 +170,10 @@ module _ (name : List ℕ) (note : ServerRecord) (records total : ℕ) (before a
 -- ---- the calls that keep a record
 
 module _ (name : List ℕ) (j : Journal) (note : ServerRecord) (before after : Served) (old new : Option Images) (leads : Leads note before after) (journals : Journals j before (kept_under name old)) where
+  -- the record has so many bytes
+  sized : (items : List ℕ) (size : ℕ) → items ≡ server_record note → size ≡ length items → room_for j (length (server_record note)) ≡ room_for j size
+  sized items size spelled size_is = ap (room_for j) (sym (size_is ∙ ap length spelled))
+
   module _ (items piece : List ℕ) (size total : ℕ) (same : piece ≡ items) (spelled : items ≡ server_record note) (size_is : size ≡ length items) (fits : Some total ≡ room_for j size) where
     abbrev Placed : Type 0
     Placed = (records : ℕ) × (j ≡ Saved records) × (total ≡ records + size) × (total ≤ MAX_RECORDS)
@@ -161,11 +187,14 @@ module _ (name : List ℕ) (j : Journal) (note : ServerRecord) (before after : S
     of_saved : Journals (Saved placed.0) before (kept_under name old)
     of_saved = subst (λ (k : Journal). Journals k before (kept_under name old)) placed.1 journals
 
-    pub record_kept : Told old new (λ o n. IsPut name (followed_by piece (o name)) o n) → KeepsOn true j (Saved total) after (kept_under name old) (kept_under name new)
+    some_is : room_for (Saved placed.0) (length (server_record note)) ≡ Some total
+    some_is = subst (λ (k : Journal). room_for k (length (server_record note)) ≡ Some total) placed.1 (sized items size spelled size_is ∙ sym fits)
+
+    pub record_kept : Told old new (λ o n. IsPut name (followed_by piece (o name)) o n) → KeepsOn (Some note) j (Saved total) after (kept_under name old) (kept_under name new)
     record_kept told =
         let is : Told old new (λ o n. IsPut name (followed_by (server_record note) (o name)) o n) = subst (λ (p : List ℕ). Told old new (λ o n. IsPut name (followed_by p (o name)) o n)) (same ∙ spelled) told in
-        subst (λ (k : Journal). KeepsOn true k (Saved total) after (kept_under name old) (kept_under name new)) (sym placed.1)
-        (appended name note placed.0 total before after leads total_is placed.3 old new of_saved is)
+        subst (λ (k : Journal). KeepsOn (Some note) k (Saved total) after (kept_under name old) (kept_under name new)) (sym placed.1)
+        (appended name note placed.0 total before after leads total_is placed.3 old new some_is of_saved is)
 
     pub record_refused : Told old new (λ o n. (n ≡ o) ⊎ ((count : ℕ) × IsPut name (followed_by (take count piece) (o name)) o n)) → ServerMayKeep true j before after (kept_under name old) (kept_under name new)
     record_refused told =
@@ -174,15 +203,16 @@ module _ (name : List ℕ) (j : Journal) (note : ServerRecord) (before after : S
         subst (λ (k : Journal). ServerMayKeep true k before after (kept_under name old) (kept_under name new)) (sym placed.1)
         (not_appended name note placed.0 total before after leads total_is placed.3 old new of_saved is)
 
-  module _ (items image : List ℕ) (same : image ≡ items) (whole : IsKeptWholeForServed after items) (small : length items ≤ MAX_SERVER_IMAGE) where
-    whole_image : IsKeptWholeForServed after image
-    whole_image = subst (IsKeptWholeForServed after) (sym same) whole
+  module _ (items image : List ℕ) (same : image ≡ items) (is : IsImageForServed after items) (small : length items ≤ MAX_SERVER_IMAGE) where
+    is_image : IsImageForServed after image
+    is_image = subst (IsImageForServed after) (sym same) is
 
     small_image : length image ≤ MAX_SERVER_IMAGE
     small_image = subst (λ (i : List ℕ). length i ≤ MAX_SERVER_IMAGE) (sym same) small
 
-    pub image_kept : Told old new (λ o n. IsPut name image o n) → KeepsOn true j (Saved 0) after (kept_under name old) (kept_under name new)
-    image_kept told = saved name image j before after old new whole_image small_image journals told
+    pub image_kept : (piece : List ℕ) (size : ℕ) → piece ≡ server_record note → size ≡ length piece → None ≡ room_for j size → Told old new (λ o n. IsPut name image o n)
+        → KeepsOn (Some note) j (Saved 0) after (kept_under name old) (kept_under name new)
+    image_kept piece size spelled size_is none told = saved name image j before after old new is_image small_image journals note (sized piece size spelled size_is ∙ sym none) told
 
     pub image_refused : Told old new (λ o n. (n ≡ o) ⊎ IsPut name image o n) → ServerMayKeep true j before after (kept_under name old) (kept_under name new)
-    image_refused told = not_saved name image j before after old new whole_image small_image journals told
+    image_refused told = not_saved name image j before after old new is_image small_image journals told

@@ -1,7 +1,7 @@
 -- Connections that are served one after the other.
-use Rattle.std.proofs.Common.{◌≡◌, ◌≤◌, ◌<◌, ◌⊎◌, inl, inr, ℕ, ◌+◌, Bool, ◌||◌, List, [], ◌∷◌, ◌++◌, map, None, Some, refl, sym, ◌∙◌, ap, subst}
+use Rattle.std.proofs.Common.{◌≡◌, ◌≤◌, ◌<◌, ◌⊎◌, inl, inr, ℕ, ◌+◌, Bool, false, ◌||◌, List, [], ◌∷◌, ◌++◌, map, None, Some, refl, sym, ◌∙◌, ap, subst}
 use Rattle.std.proofs.lemmas.List.{append-nil}
-use Rattle.std.specs.Prelude.{Vec}
+use Rattle.std.specs.Prelude.{Vec, Option, is_some, option_to_list}
 use Rattle.std.specs.declared.alloc.Global.{Global}
 use Rattle.outside.specs.Outside.{Told}
 use Rattle.outside.specs.Port.{PortTelling}
@@ -13,13 +13,17 @@ use Rattle.port_serving.specs.declared.serving.Tally.{Tally}
 use Rattle.port_serving.specs.Serving.{Connection, Missed, Answered, exchanges, frames_taken, connection_of, Uses, IsAtHand, TakesConnection, Replies, tallied}
 use Rattle.port_serving.specs.Inside.{UsesSoFar}
 use Rattle.port_serving.proofs.Connections as ports
+use Rattle.store_image.specs.declared.record.ServerRecord.{ServerRecord}
 use Rattle.world_rules.specs.Served.{Served}
-use Rattle.server_core.specs.Framing.{frame_answer, frame_after, frames_after, takes, change}
+use Rattle.server_core.specs.Framing.{frame_answer, frame_after, frames_after, takes, change, messages_of}
+use Rattle.server_core.specs.Keeping.{records_taken}
+use Rattle.server_core.specs.Laws.{taken_among}
 use Rattle.server_prog.specs.declared.journal.Journal.{Journal}
 use Rattle.server_prog.specs.declared.journal.Journal.TheVariants.{Unsaved}
-use Rattle.server_prog.specs.Serving.{ServedBy, KeptAs, IsKeptAfter, PerhapsKept, ServesConnections, ServerTelling}
-use Rattle.server_prog.specs.Inside.{is_saved, Journals, KeepsOn, ServerMayKeep, ServesNext, BreaksConnection, ServesSoFar, ServesAll, ServesFront}
-use Rattle.server_prog.proofs.Appending.{still}
+use Rattle.server_prog.specs.Serving.{ServedBy, KeptAs, IsKeptAfter, PerhapsKept, IsRecordedAfter, ServesConnections, ServerTelling}
+use Rattle.server_prog.specs.Inside.{is_saved, Journals, Puts, KeepsOn, ServerMayKeep, IsJournalOf, ServesNext, BreaksConnection, ServesSoFar, ServesAll, ServesFront}
+use Rattle.server_prog.proofs.Appending.{still, puts_none}
+use Rattle.server_prog.proofs.Recording.{counted_none, counted_frames, recorded}
 use Rattle.server_prog.proofs.Kept.{Kept, kept_same, told_then, told_with, or_false, change-append, kept_more, perhaps_more, kept_one, perhaps_one}
 
 -- ---- replies in a row
@@ -58,6 +62,9 @@ module _ (j : Journal) (s : Served) (a b : ServerTelling) where
   stays : Journals j s a.kept → b.kept ≡ a.kept → Journals j s b.kept
   stays journals same = subst (Journals j s) (sym same) journals
 
+  puts_nothing : b.kept ≡ a.kept → Told a.kept b.kept (Puts None j j s)
+  puts_nothing same = subst (λ (k : Kept). Told a.kept k (Puts None j j s)) (sym same) (puts_none j s a.kept)
+
   pub none_left : Journals j s a.kept → b.port.left ≡ 0 → Uses [] a.port b.port → b.kept ≡ a.kept → ServesNext came.NoConnection j j s s a b
   none_left journals left uses same = record {
     frame = [];
@@ -67,6 +74,9 @@ module _ (j : Journal) (s : Served) (a b : ServerTelling) where
     none = λ _. left;
     journals = stays journals same;
     saved = sym (or_false (is_saved j));
+    note = None;
+    noted = refl;
+    puts = puts_nothing same;
   }
 
   pub was_missed : Journals j s a.kept → Uses (Missed ∷ []) a.port b.port → b.kept ≡ a.kept → ServesNext came.Missed j j s s a b
@@ -78,6 +88,9 @@ module _ (j : Journal) (s : Served) (a b : ServerTelling) where
     none = λ is. absurd (cc is);
     journals = stays journals same;
     saved = sym (or_false (is_saved j));
+    note = None;
+    noted = refl;
+    puts = puts_nothing same;
   }
 
   -- no frame was taken
@@ -99,22 +112,23 @@ module _ (j : Journal) (s : Served) (a b : ServerTelling) where
         (told_with a.kept a.kept (KeptAs (is_saved j) s) (λ o n. KeptAs (is_saved j) s o n ⊎ IsKeptAfter (frame ∷ []) s o n) (λ o n k. inl k) (still j s a.kept journals));
   }
 
-  module _ (changed : Bool) (frame : List ℕ) (t : Served) (is : changed ≡ takes frame s) (after : t ≡ frame_after frame s) where
+  module _ (note : Option ServerRecord) (frame : List ℕ) (t : Served) (is : is_some note ≡ takes frame s) (after : t ≡ frame_after frame s) where
     -- its change was not kept
-    pub breaks_unkept : IsAtHand (frame ∷ []) a.port b.port → ServerMayKeep changed j s t a.kept b.kept → BreaksConnection j s a b
-    breaks_unkept at_hand may = record { frames = frame ∷ []; at_hand = at_hand; kept = perhaps_one changed (is_saved j) frame s t a.kept b.kept is after may }
+    pub breaks_unkept : IsAtHand (frame ∷ []) a.port b.port → ServerMayKeep (is_some note) j s t a.kept b.kept → BreaksConnection j s a b
+    breaks_unkept at_hand may = record { frames = frame ∷ []; at_hand = at_hand; kept = perhaps_one (is_some note) (is_saved j) frame s t a.kept b.kept is after may }
 
     -- it was not answered
-    pub breaks_unanswered : (next : Journal) → IsAtHand (frame ∷ []) a.port b.port → KeepsOn changed j next t a.kept b.kept → BreaksConnection j s a b
+    pub breaks_unanswered : (next : Journal) → IsAtHand (frame ∷ []) a.port b.port → KeepsOn note j next t a.kept b.kept → BreaksConnection j s a b
     breaks_unanswered next at_hand keeps =
-        breaks_unkept at_hand (told_with a.kept b.kept (KeptAs changed t) (λ o n. KeptAs (is_saved j) s o n ⊎ KeptAs changed t o n) (λ o n k. inr k) keeps.kept)
+        breaks_unkept at_hand (told_with a.kept b.kept (KeptAs (is_some note) t) (λ o n. KeptAs (is_saved j) s o n ⊎ KeptAs (is_some note) t o n) (λ o n k. inr k) keeps.kept)
 
     -- it was answered, or the port failed to
-    pub was_served : (how : Came) (reply : List ℕ) (next : Journal) → Replies how frame reply a.port b.port → reply ≡ frame_answer frame s → KeepsOn changed j next t a.kept b.kept → ServesNext how j next s t a b
-    was_served how reply next replies answers keeps = by how replies.is replies.uses
+    pub was_served : (how : Came) (reply : List ℕ) (next : Journal) → Replies how frame reply a.port b.port → reply ≡ frame_answer frame s → option_to_list note ≡ records_taken (frame ∷ []) s → KeepsOn note j next t a.kept b.kept
+        → ServesNext how j next s t a b
+    was_served how reply next replies answers noted keeps = by how replies.is replies.uses
       where
         one : ServesConnections (Answered frame reply ∷ []) s t a.kept b.kept
-        one = record { replies = (answers, after); kept = kept_one changed frame s t a.kept b.kept is keeps.kept }
+        one = record { replies = (answers, after); kept = kept_one (is_some note) frame s t a.kept b.kept is keeps.kept }
 
         saved : is_saved next ≡ (is_saved j || change (frame ∷ []) s)
         saved = keeps.saved ∙ ap (λ c. is_saved j || c) (is ∙ sym (or_false (takes frame s)))
@@ -124,8 +138,30 @@ module _ (j : Journal) (s : Served) (a b : ServerTelling) where
         by came.NoConnection (inr is) uses = absurd (cc is)
         by came.Missed (inl is) uses = absurd (cc is)
         by came.Missed (inr is) uses = absurd (cc is)
-        by came.Unanswered is uses = record { frame = frame; reply = reply; uses = uses; serves = record { replies = one.replies; kept = one.kept }; none = λ is. absurd (cc is); journals = keeps.journals; saved = saved }
-        by came.Answered is uses = record { frame = frame; reply = reply; uses = uses; serves = one; none = λ is. absurd (cc is); journals = keeps.journals; saved = saved }
+        by came.Unanswered is uses = record {
+          frame = frame;
+          reply = reply;
+          uses = uses;
+          serves = record { replies = one.replies; kept = one.kept };
+          none = λ is. absurd (cc is);
+          journals = keeps.journals;
+          saved = saved;
+          note = note;
+          noted = noted;
+          puts = keeps.puts;
+        }
+        by came.Answered is uses = record {
+          frame = frame;
+          reply = reply;
+          uses = uses;
+          serves = one;
+          none = λ is. absurd (cc is);
+          journals = keeps.journals;
+          saved = saved;
+          note = note;
+          noted = noted;
+          puts = keeps.puts;
+        }
 
 -- ---- so far
 
@@ -137,6 +173,7 @@ so_far_begins tally s a none = record {
   serves = serves_none s a.kept;
   journals = tt;
   saved = refl;
+  counted = counted_none a.kept s;
 }
 
 -- one more take
@@ -155,6 +192,9 @@ so_far_next takes tally new how j k s t u a b c other is before one =
       saved =
           one.saved ∙ ap (λ p. p || change (frames_taken last) t) before.saved ∙ sym more
           ∙ ap (λ fs. change fs s) (sym (ports.frames_taken-append before.connections last));
+      counted =
+          subst (λ (fs : List (List ℕ)). Told a.kept c.kept (IsJournalOf k (taken_among (messages_of fs) s) s)) (sym (ports.frames_taken-append before.connections last))
+          (counted_frames j k xs (frames_taken last) one.note s t u a.kept b.kept c.kept state (holds last t u one.serves.replies) one.noted before.counted one.puts);
     }
 
 -- no connection is left
@@ -170,6 +210,10 @@ all_came count takes tally how j k s t u a b c few is before one =
       serves =
           subst (λ (xs : List Connection). ServesConnections xs s u a.kept c.kept) (append-nil before.connections)
           (serves_more before.connections [] s t u a.kept b.kept c.kept before.serves serves);
+      recorded =
+          let fs = frames_taken before.connections in
+          told_then a.kept b.kept c.kept (IsRecordedAfter fs s) (KeptAs false u) (IsRecordedAfter fs s) (λ x y z is same. subst (λ (w : Option (List ℕ)). IsRecordedAfter fs s x w) (sym same) is)
+          (recorded j fs s a.kept b.kept before.counted) serves.kept;
     }
 
 -- all takes were made
@@ -179,6 +223,7 @@ all_made count takes tally j s t a b full before = record {
   port = ports.all_made count takes tally before.connections a.port b.port full before.port;
   counts = before.port.counts;
   serves = before.serves;
+  recorded = recorded j (frames_taken before.connections) s a.kept b.kept before.counted;
 }
 
 -- the next take was broken off

@@ -12,11 +12,12 @@ use Rattle.server_core.specs.Framing.{change}
 use Rattle.server_core.specs.Keeping.{KeepsServed}
 use Rattle.server_prog.specs.declared.run.Stopped.{Stopped}
 use Rattle.server_prog.specs.declared.run.Stopped.TheVariants.{Sink, Keeper, Image, Memory}
-use Rattle.server_prog.specs.Serving.{KeptAs, IsKeptAfter, PerhapsKept, ServerTelling}
+use Rattle.server_prog.specs.Serving.{KeptAs, IsKeptAfter, PerhapsKept, IsRecordedAfter, ServerTelling}
 use Rattle.server_prog.specs.Run.{server_status_of, Opens, ServerIsServed, IsBrokenOff, ServerRun}
-use Rattle.server_prog.specs.Laws.{IsNothingTaken, IsKeptBefore, KeptImagesAreServed}
+use Rattle.server_prog.specs.Laws.{IsWhole, IsNothingTaken, IsKeptBefore, KeptImagesAreServed, LaterChangesAreRecords}
 use Rattle.server_prog.proofs.Connections.{holds}
 use Rattle.server_prog.proofs.Kept.{Kept}
+use Rattle.server_prog.proofs.Totals.{five, six, seven}
 
 -- what is told of a keeper that tells
 told : (P : Option (List ℕ) → Option (List ℕ) → Type 0) (a b : Kept) (o n : Option (List ℕ)) → a ≡ Some o → b ≡ Some n → Told a b P → P o n
@@ -70,6 +71,26 @@ module _ (count status : ℕ) (old new : ServerTelling) (written now : Option (L
   at_end (Err Memory) is (inl before) = before_serving (inr (inr is)) before.0
   at_end (Err Memory) is (inr (inl line)) = served line.0 line.1 line.2 line.4
   at_end (Err Memory) is (inr (inr broken)) = broken_off broken.0 broken.1 broken.2 (inr is) broken.3
+
+  -- serving came to its end
+  abbrev Recorded : Type 0
+  Recorded = (first : Served) × KeepsServed o first × IsRecordedAfter taken first o n
+
+  recorded : (first : Served) (connections : List Connection) (after : Served) → ServerIsServed count first connections after old new → Recorded
+  recorded first connections after is =
+      let same = all_taken count connections old.port new.port is.port talks has in
+      let records = told (IsRecordedAfter (frames_taken connections) first) old.kept new.kept o n old_is new_is is.recorded in
+      (first, opened first is.opens, subst (λ (fs : List (List ℕ)). IsRecordedAfter fs first o n) same records)
+
+  whole : (ended : Result (Unit {0}) Stopped) → status ≡ server_status_of ended → ServerRun count old new written now ended → IsWhole status → Recorded
+  whole (Ok done) is turn ends = recorded turn.0 turn.1 turn.2 turn.3
+  whole (Err Sink) is turn ends = recorded turn.0 turn.1 turn.2 turn.4
+  whole (Err Keeper) is turn ends = absurd (five status is ends)
+  whole (Err Image) is turn ends = absurd (six status is ends)
+  whole (Err Memory) is turn ends = absurd (seven status is ends)
+
+pub later_changes_are_records : LaterChangesAreRecords
+later_changes_are_records count status old new written now talks o n ran has old_is new_is ends = whole count status old new written now talks o n has old_is new_is ran.0 ran.1 ran.2 ends
 
 pub kept_images_are_served : KeptImagesAreServed
 kept_images_are_served count status old new written now talks o n ran has old_is new_is = at_end count status old new written now talks o n has old_is new_is ran.0 ran.1 ran.2

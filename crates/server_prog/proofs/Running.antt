@@ -23,7 +23,7 @@ module _ (count : ℕ) (first : Served) (old new : ServerTelling) (written now :
         ap (λ (n : ℕ). served_line n tally.faults) all.counts.frames ∙ ap (λ (n : ℕ). served_line (length (frames_taken all.connections)) n) all.counts.faults
 
     is_served : ServerIsServed count first all.connections after old new
-    is_served = record { opens = opens; port = all.port; serves = all.serves }
+    is_served = record { opens = opens; port = all.port; serves = all.serves; recorded = all.recorded }
 
     stops_in_line : ((bytes : ℕ) × (bytes ≤ length (served_line tally.frames tally.faults)) × Adds written now (take bytes (served_line tally.frames tally.faults))) → StopsInLine count old new written now
     stops_in_line front = (first, all.connections, after, front.0, is_served, subst (λ (l : List ℕ). Adds written now (take front.0 l)) line_is front.2)

@@ -10,15 +10,15 @@ use Rattle.server_prog.specs.Run.{server_status_of, ServerRun}
 use Rattle.server_prog.specs.Laws.{IsWhole, FallsAreBounded, FramesAreCounted}
 
 -- a run that ended with 5, 6 or 7 ended neither with 0 nor with 4
-five : (status : ℕ) → status ≡ 5 → IsWhole status → ⊥
+pub five : (status : ℕ) → status ≡ 5 → IsWhole status → ⊥
 five status is (inl zero) = omega arith
 five status is (inr four) = omega arith
 
-six : (status : ℕ) → status ≡ 6 → IsWhole status → ⊥
+pub six : (status : ℕ) → status ≡ 6 → IsWhole status → ⊥
 six status is (inl zero) = omega arith
 six status is (inr four) = omega arith
 
-seven : (status : ℕ) → status ≡ 7 → IsWhole status → ⊥
+pub seven : (status : ℕ) → status ≡ 7 → IsWhole status → ⊥
 seven status is (inl zero) = omega arith
 seven status is (inr four) = omega arith
 

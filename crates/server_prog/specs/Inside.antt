@@ -1,5 +1,6 @@
 -- Words that only contracts below the whole run cite.
-use Rattle.std.specs.Prelude.{◌≡◌, ◌≤◌, ◌⊎◌, ℕ, ◌+◌, nat_le, Bool, true, false, ◌||◌, List, length, Option, None, Some, IfSome, if◌then◌else◌}
+use Rattle.std.specs.Prelude.{◌≡◌, ◌≤◌, ◌⊎◌, ℕ, ◌+◌, nat_le, Bool, true, false, ◌||◌, List, [], ◌∷◌, length, map, if◌then◌else◌}
+use Rattle.std.specs.Prelude.{Option, None, Some, IfSome, is_some, option_to_list}
 use Rattle.outside.specs.Outside.{Told}
 use Rattle.outside.specs.declared.errors.SinkError.{SinkError}
 use Rattle.outside.specs.declared.errors.SinkError.TheVariants as sinks
@@ -11,14 +12,19 @@ use Rattle.port_serving.specs.declared.serving.Tally.{Tally}
 use Rattle.port_serving.specs.Serving.{Connection, connection_of, exchanges, frames_taken, Uses, IsAtHand, UsesAll, UsesFront, Counts}
 use Rattle.port_serving.specs.Inside.{UsesSoFar}
 use Rattle.store_image.specs.declared.image.TheConstants.{MAX_SERVER_IMAGE, MAX_RECORDS}
-use Rattle.world_rules.specs.Served.{Served}
-use Rattle.server_core.specs.Framing.{change}
-use Rattle.server_core.specs.Keeping.{IsKeptWholeForServed}
+use Rattle.store_image.specs.declared.record.ServerRecord.{ServerRecord}
+use Rattle.store_image.specs.Records.{server_record, server_records}
+use Rattle.outside.specs.Keeper.{followed_by}
+use Rattle.world_rules.specs.Served.{Served, TakenEntry, as_store, state_after}
+use Rattle.server_core.specs.Framing.{change, messages_of}
+use Rattle.server_core.specs.Keeping.{IsKeptWholeForServed, record_of_taken, records_taken}
+use Rattle.server_core.specs.Laws.{taken_among}
 use Rattle.server_prog.specs.declared.journal.Journal.{Journal}
 use Rattle.server_prog.specs.declared.journal.Journal.TheVariants as journals
 use Rattle.server_prog.specs.declared.run.Stopped.{Stopped}
 use Rattle.server_prog.specs.declared.run.Stopped.TheVariants as stops
-use Rattle.server_prog.specs.Serving.{KeptAs, IsKeptAfter, PerhapsKept, ServedBy, ServesConnections, ServerTelling}
+use Rattle.server_prog.specs.Serving.{KeptAs, IsKeptAfter, PerhapsKept, IsImageWithRecords, IsRecordedAfter}
+use Rattle.server_prog.specs.Serving.{ServedBy, ServesConnections, ServerTelling}
 
 -- ---- what this run has kept
 
@@ -45,11 +51,32 @@ abbrev pub Journals : Journal → Served → Option (Option (List ℕ)) → Type
 Journals journals.Unsaved state kept = Unit {0}
 Journals (journals.Saved records) state kept = IfSome kept (IsJournaled records state)
 
+-- the record stands behind what was kept, where there is room for it, and else an image for the state after it is kept
+abbrev pub PutsRecord : Option ℕ → ServerRecord → Journal → Served → Option (List ℕ) → Option (List ℕ) → Type 0
+PutsRecord (Some total) note next after old new = (next ≡ journals.Saved total) × (new ≡ Some (followed_by (server_record note) old))
+PutsRecord None note next after old new = (next ≡ journals.Saved 0) × IsImageWithRecords after [] new
+
+-- the same where there is a record; else all is as before
+abbrev pub Puts : Option ServerRecord → Journal → Journal → Served → Option (List ℕ) → Option (List ℕ) → Type 0
+Puts None journal next after old new = (next ≡ journal) × (new ≡ old)
+Puts (Some note) journal next after old new = PutsRecord (room_for journal (length (server_record note))) note next after old new
+
 -- what changed was kept, where anything did, and the journal goes on with it
-pub record KeepsOn (changed : Bool) (journal next : Journal) (after : Served) (old new : Option (Option (List ℕ))) : Type 0 where
-  pub saved : is_saved next ≡ (is_saved journal || changed)
+pub record KeepsOn (note : Option ServerRecord) (journal next : Journal) (after : Served)
+    (old new : Option (Option (List ℕ))) : Type 0 where
+  pub saved : is_saved next ≡ (is_saved journal || is_some note)
   pub journals : Journals next after new
-  pub kept : Told old new (KeptAs changed after)
+  pub kept : Told old new (KeptAs (is_some note) after)
+  pub puts : Told old new (Puts note journal next after)
+
+-- the journal of these entries, which were taken from this state on: nothing was saved without one; else it counts the bytes of
+-- the records behind an image for the state after the first one, where a run appends so many
+abbrev pub IsJournalOf : Journal → List TakenEntry → Served → Option (List ℕ) → Option (List ℕ) → Type 0
+IsJournalOf journal [] before old new = (journal ≡ journals.Unsaved) × (new ≡ old)
+IsJournalOf journal (first ∷ later) before old new =
+    length (server_records (map record_of_taken later)) ≤ MAX_RECORDS
+    → (journal ≡ journals.Saved (length (server_records (map record_of_taken later))))
+    × IsImageWithRecords (state_after (as_store first) before) (map record_of_taken later) new
 
 -- its keeping was refused: what is kept has the change or not
 abbrev pub ServerMayKeep : Bool → Journal → Served → Served → Option (Option (List ℕ)) → Option (Option (List ℕ)) → Type 0
@@ -66,6 +93,9 @@ pub record ServesNext (how : Came) (journal next : Journal) (before after : Serv
   pub none : how ≡ came.NoConnection → new.port.left ≡ 0
   pub journals : Journals next after new.kept
   pub saved : is_saved next ≡ (is_saved journal || change (frames_taken (connection_of how frame reply)) before)
+  pub note : Option ServerRecord
+  pub noted : option_to_list note ≡ records_taken (frames_taken (connection_of how frame reply)) before
+  pub puts : Told old.kept new.kept (Puts note journal next after)
 
 -- want of memory, or a fault of the keeper, broke off the connection at hand
 pub record BreaksConnection (journal : Journal) (before : Served) (old new : ServerTelling) : Type 0 where
@@ -80,6 +110,7 @@ pub record ServesSoFar (made : ℕ) (tally : Tally) (journal : Journal) (before 
   pub serves : ServesConnections connections before after old.kept new.kept
   pub journals : Journals journal after new.kept
   pub saved : is_saved journal ≡ change (frames_taken connections) before
+  pub counted : Told old.kept new.kept (IsJournalOf journal (taken_among (messages_of (frames_taken connections)) before) before)
 
 -- at the end of the takes, or of the connections
 pub record ServesAll (count : ℕ) (tally : Tally) (before after : Served) (old new : ServerTelling) : Type 0 where
@@ -87,6 +118,7 @@ pub record ServesAll (count : ℕ) (tally : Tally) (before after : Served) (old 
   pub port : UsesAll count connections old.port new.port
   pub counts : Counts connections tally
   pub serves : ServesConnections connections before after old.kept new.kept
+  pub recorded : Told old.kept new.kept (IsRecordedAfter (frames_taken connections) before)
 
 -- broken off for want of memory, or by a fault of the keeper
 pub record ServesFront (count : ℕ) (before : Served) (old new : ServerTelling) : Type 0 where

@@ -4,7 +4,7 @@ use Rattle.outside.specs.Port.{Talk}
 use Rattle.port_serving.specs.Laws.{frames_of, HasFallen, HasTalks, IsTold}
 use Rattle.world_rules.specs.Served.{Served}
 use Rattle.server_core.specs.Keeping.{KeepsServed}
-use Rattle.server_prog.specs.Serving.{IsKeptAfter, ServerTelling}
+use Rattle.server_prog.specs.Serving.{IsKeptAfter, IsRecordedAfter, ServerTelling}
 use Rattle.server_prog.specs.Run.{ServerRan}
 
 -- serving came to its end
@@ -39,3 +39,12 @@ abbrev pub KeptImagesAreServed : Type 0
 KeptImagesAreServed = (count status : ℕ) (old new : ServerTelling) (written now : Option (List ℕ)) (talks : List Talk) (o n : Option (List ℕ))
     → ServerRan count status old new written now → HasTalks talks old.port new.port → old.kept ≡ Some o → new.kept ≡ Some n
     → IsNothingTaken status (frames_of talks) o n ⊎ ((first : Served) × KeepsServed o first × (IsKeptAfter (frames_of talks) first o n ⊎ IsKeptBefore status (frames_of talks) first o n))
+
+-- Where serving came to its end, what is kept is an image for the state after the first of the taken frames that changed it,
+-- and behind it one record of each later one, in order, where these have at most as many bytes as a run appends. It is as
+-- before where none of them changed the state.
+abbrev pub LaterChangesAreRecords : Type 0
+LaterChangesAreRecords = (count status : ℕ) (old new : ServerTelling) (written now : Option (List ℕ)) (talks : List Talk)
+    → (o n : Option (List ℕ))
+    → ServerRan count status old new written now → HasTalks talks old.port new.port → old.kept ≡ Some o → new.kept ≡ Some n
+    → IsWhole status → (first : Served) × KeepsServed o first × IsRecordedAfter (frames_of talks) first o n

@@ -12,7 +12,7 @@ use Rattle.server_core.specs.Keeping.{KeepsServed}
 use Rattle.server_prog.specs.declared.run.Stopped.{Stopped}
 use Rattle.server_prog.specs.declared.run.Stopped.TheVariants.{Sink, Keeper, Image, Memory}
 use Rattle.server_prog.specs.Words.{server_run_of}
-use Rattle.server_prog.specs.Serving.{PerhapsKept, ServedBy, ServesConnections, ServerTelling, server_telling}
+use Rattle.server_prog.specs.Serving.{PerhapsKept, IsRecordedAfter, ServedBy, ServesConnections, ServerTelling, server_telling}
 
 -- the status of a run that ended so: with its last line, or stopped before
 abbrev pub server_status_of : Result (Unit {0}) Stopped → ℕ
@@ -39,11 +39,13 @@ Opens kept first = IfSome kept (λ image. KeepsServed image first)
 abbrev pub OpensNone : Option (Option (List ℕ)) → Type 0
 OpensNone kept = IfSome kept (λ image. (state : Served) → KeepsServed image state → ⊥)
 
--- serving came to its end: as many connections were used up as the words say, or none is left
+-- serving came to its end: as many connections were used up as the words say, or none is left; the first change is kept by an
+-- image, and each later one by its record
 pub record ServerIsServed (count : ℕ) (first : Served) (connections : List Connection) (after : Served) (old new : ServerTelling) : Type 0 where
   pub opens : Opens old.kept first
   pub port : UsesAll count connections old.port new.port
   pub serves : ServesConnections connections first after old.kept new.kept
+  pub recorded : Told old.kept new.kept (IsRecordedAfter (frames_taken connections) first)
 
 -- serving was broken off at a connection for want of memory, or by a fault of the keeper: its frame, where it was taken, is not
 -- answered, and what is kept has its change or not

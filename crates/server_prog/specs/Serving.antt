@@ -1,12 +1,15 @@
 -- What a server does with the frames that it takes, and what is kept of it.
-use Rattle.std.specs.Prelude.{◌≡◌, ◌≤◌, ◌⊎◌, ℕ, ◌+◌, Bool, true, false, List, [], ◌∷◌, ◌++◌, length, Option, Some}
+use Rattle.std.specs.Prelude.{◌≡◌, ◌≤◌, ◌⊎◌, ℕ, ◌+◌, Bool, true, false, List, [], ◌∷◌, ◌++◌, length, map, Option, Some}
 use Rattle.outside.specs.Outside.{Told}
 use Rattle.outside.specs.Port.{PortTelling}
 use Rattle.port_serving.specs.Serving.{Connection, exchanges, frames_taken}
 use Rattle.store_image.specs.declared.image.TheConstants.{MAX_SERVER_IMAGE, MAX_RECORDS}
-use Rattle.world_rules.specs.Served.{Served}
-use Rattle.server_core.specs.Framing.{frame_answer, frame_after, frames_after, change}
-use Rattle.server_core.specs.Keeping.{IsKeptForServed}
+use Rattle.store_image.specs.declared.record.ServerRecord.{ServerRecord}
+use Rattle.store_image.specs.Records.{server_records}
+use Rattle.world_rules.specs.Served.{Served, TakenEntry, as_store, state_after}
+use Rattle.server_core.specs.Framing.{frame_answer, frame_after, frames_after, change, messages_of}
+use Rattle.server_core.specs.Keeping.{IsKeptForServed, IsImageForServed, record_of_taken}
+use Rattle.server_core.specs.Laws.{taken_among}
 
 -- each frame is replied to as the definition says, of the state that the frames before it left
 abbrev pub ServedBy : List (List ℕ × List ℕ) → Served → Served → Type 0
@@ -34,6 +37,25 @@ IsKeptAfter frames before old new = KeptAs (change frames before) (frames_after 
 -- what is kept is that of the frames that were served, or of them and those at hand
 abbrev pub PerhapsKept : List (List ℕ) → List (List ℕ) → Served → Option (List ℕ) → Option (List ℕ) → Type 0
 PerhapsKept frames at_hand before old new = IsKeptAfter frames before old new ⊎ IsKeptAfter (frames ++ at_hand) before old new
+
+-- under the server's name stand an image for the state and behind it these records, in order, and nothing else
+pub record IsImageWithRecords (state : Served) (notes : List ServerRecord) (now : Option (List ℕ)) : Type 0 where
+  pub image : List ℕ
+  pub kept : IsImageForServed state image
+  pub here : now ≡ Some (image ++ server_records notes)
+
+-- what is kept under the server's name once these entries were taken, from this state on: without an entry what was kept before;
+-- else an image for the state after the first one and the record of each later one, in order, where these records together have
+-- at most as many bytes as a run appends
+abbrev pub IsKeptOfTaken : List TakenEntry → Served → Option (List ℕ) → Option (List ℕ) → Type 0
+IsKeptOfTaken [] before old new = new ≡ old
+IsKeptOfTaken (first ∷ later) before old new =
+    length (server_records (map record_of_taken later)) ≤ MAX_RECORDS
+    → IsImageWithRecords (state_after (as_store first) before) (map record_of_taken later) new
+
+-- the same of the entries that are taken of these frames: one of each frame that changes the state
+abbrev pub IsRecordedAfter : List (List ℕ) → Served → Option (List ℕ) → Option (List ℕ) → Type 0
+IsRecordedAfter frames before old new = IsKeptOfTaken (taken_among (messages_of frames) before) before old new
 
 -- a server that held one state replied to the frames of these connections, and holds the other state now; what is kept under
 -- its name, where the keeper tells it, became this

@@ -1,5 +1,5 @@
 // What a run keeps of the server: a save first, and then a record for each store that is taken.
-ghost use Rattle.std.specs.Prelude.{◌≡◌, true, is_some, IfOk, IfSome, OnErr};
+ghost use Rattle.std.specs.Prelude.{◌≡◌, true, Some, is_some, IfOk, IfSome, OnErr};
 ghost use Rattle.outside.specs.Outside.{CountsFault};
 ghost use Rattle.outside.specs.Keeper.{kept_under};
 ghost use Rattle.tree_values.specs.Spelling.{EffectsFit};
@@ -61,7 +61,7 @@ fn keep_record<K: Keeper>(
     requires fits { EffectsFit note.effects }
     ensures ok { (before : Served) → Leads note before (served server.now)
         → Journals journal before (kept_under name.now (K.images keeper.old))
-        → IfOk result (λ next. KeepsOn true journal next (served server.now) (kept_under name.now (K.images keeper.old))
+        → IfOk result (λ next. KeepsOn (Some note) journal next (served server.now) (kept_under name.now (K.images keeper.old))
         (kept_under name.now (K.images keeper.new))) }
     ensures err { (before : Served) → Leads note before (served server.now)
         → Journals journal before (kept_under name.now (K.images keeper.old))
@@ -95,7 +95,7 @@ pub(crate) fn keep<K: Keeper>(
     requires fits { IfSome note (λ note. EffectsFit note.effects) }
     ensures ok { (before : Served) → NoteLeads note before (served server.now)
         → Journals journal before (kept_under name.now (K.images keeper.old))
-        → IfOk result (λ next. KeepsOn (is_some note) journal next (served server.now) (kept_under name.now (K.images keeper.old))
+        → IfOk result (λ next. KeepsOn note journal next (served server.now) (kept_under name.now (K.images keeper.old))
         (kept_under name.now (K.images keeper.new))) }
     ensures err { (before : Served) → NoteLeads note before (served server.now)
         → Journals journal before (kept_under name.now (K.images keeper.old))

@@ -123,7 +123,8 @@ fn run<P: Port, K: Keeper, O: Sink>(
 
 /// Runs the server on its words: takes frames from a port, and answers each by the server that is kept under the image's name,
 /// or a new one, before it takes the next one. Where a frame changes what the server holds, that change is kept before the frame
-/// is answered. A fault of the port ends one connection alone. It gives a status.
+/// is answered: the first one by an image, each later one by its record behind it, as long as the records are few. A fault of
+/// the port ends one connection alone. It gives a status.
 pub fn server_run<P: Port, O: Sink, K: Keeper>(
     alloc: Global,
     words: &[String],

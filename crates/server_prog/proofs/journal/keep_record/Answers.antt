@@ -29,10 +29,12 @@ returns-in_err-append-in-Some-clause-err g c = λ before leads journals.
 -- the image was saved
 pub returns-in_ok-save-in-None-clause-ok : goal.returns-in_ok-save-in-None-clause-ok
 returns-in_ok-save-in-None-clause-ok g c = λ before leads journals.
+    let size : c.len.result ≡ length c.in_ok-piece.piece.items = omega (arith, c.len.ensures, c.in_ok-piece.piece.ok) in
     image_kept c.args.name.now c.args.journal c.args.note before (served c.args.server.now) (g.K.Keeper.images c.args.keeper.now) (g.K.Keeper.images c.save.new.self) leads journals
-    c.in_ok-image-in-None.image.items c.deref-in-None.result.now c.deref-in-None.ensures.value c.in_ok-image-in-None.ensures.kept c.in_ok-image-in-None.ensures.small c.in_ok-save-in-None.ensures.images
+    c.in_ok-image-in-None.image.items c.deref-in-None.result.now c.deref-in-None.ensures.value c.in_ok-image-in-None.ensures.image c.in_ok-image-in-None.ensures.small
+    c.in_ok-piece.piece.items c.len.result c.in_ok-piece.ensures size c.in-None.ensures c.in_ok-save-in-None.ensures.images
 
 pub returns-in_err-save-in-None-clause-err : goal.returns-in_err-save-in-None-clause-err
 returns-in_err-save-in-None-clause-err g c = λ before leads journals. on_err _ _ _ _
     (image_refused c.args.name.now c.args.journal c.args.note before (served c.args.server.now) (g.K.Keeper.images c.args.keeper.now) (g.K.Keeper.images c.save.new.self) leads journals
-    c.in_ok-image-in-None.image.items c.deref-in-None.result.now c.deref-in-None.ensures.value c.in_ok-image-in-None.ensures.kept c.in_ok-image-in-None.ensures.small c.in_err-save-in-None.ensures.images)
+    c.in_ok-image-in-None.image.items c.deref-in-None.result.now c.deref-in-None.ensures.value c.in_ok-image-in-None.ensures.image c.in_ok-image-in-None.ensures.small c.in_err-save-in-None.ensures.images)

@@ -28,4 +28,4 @@ returns-in_err-answer_frame-clause-err g c =
     let taken : is_some c.in_ok-reply.note ≡ takes frame before = c.in_ok-reply.ensures.taken ∙ ap (λ f. takes f before) c.deref.ensures.value in
     let state : after ≡ frame_after frame before = c.in_ok-reply.ensures.state ∙ ap (λ f. frame_after f before) c.deref.ensures.value in
     let keeps = c.in_ok-journal.ensures.ok before c.in_ok-reply.ensures.leads c.requires.journals in
-    on_err _ _ _ _ (breaks_unanswered c.args.journal.now before old new (is_some c.in_ok-reply.note) frame after taken state c.in_ok-journal.field-0 left keeps)
+    on_err _ _ _ _ (breaks_unanswered c.args.journal.now before old new c.in_ok-reply.note frame after taken state c.in_ok-journal.field-0 left keeps)
