@@ -19,7 +19,7 @@ one_behind zero (entry ∷ entries) = refl
 one_behind (suc k) [] = refl
 one_behind (suc k) (entry ∷ entries) = one_behind k entries
 
-some_left : (entries : List Entry) → entries ≢ [] → 1 ≤ length entries
+pub some_left : (entries : List Entry) → entries ≢ [] → 1 ≤ length entries
 some_left [] some = absurd (some refl)
 some_left (entry ∷ entries) some = omega arith
 

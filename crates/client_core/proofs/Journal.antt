@@ -211,7 +211,7 @@ module _ (name : List ℕ) (number : ℕ) (log : Log) where
     some_of (entry ∷ entries) some = omega arith
 
     -- the number of the first pending entry, where the log was kept before it was acknowledged
-    acked_note : (j : Journal) → j.last ≡ last_logged log → notes_since j true (acknowledged_first log) ≡ Acked (log.acked + 1) ∷ []
+    pub acked_note : (j : Journal) → j.last ≡ last_logged log → notes_since j true (acknowledged_first log) ≡ Acked (log.acked + 1) ∷ []
     acked_note j is =
         let m = log.acked + 1 - log.acked in
         let left = length-drop m log.pending in

@@ -5,6 +5,8 @@ pub mod Going
 pub mod Journal
 pub mod Licensing
 pub mod Locals
+pub mod Noted
+pub mod Noting
 pub mod Olders
 pub mod Putting
 pub mod Pulls

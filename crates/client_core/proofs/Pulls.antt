@@ -359,3 +359,9 @@ unpulled (ends.Pending count) other = tt
 unpulled ends.Unanswered other = tt
 unpulled ends.KeepFault other = tt
 unpulled ends.Memory other = tt
+
+-- a pull that took rows ends as such, or was broken off
+pub kept_pulled : (count : ℕ) (r : Result (Unit {0}) KeepError) → is_broken_pull (pulled_end count r) ≡ false → ((n : ℕ) → pulled_end count r ≢ ends.Pulled n) → ⊥
+kept_pulled count (Ok done) whole other = other count refl
+kept_pulled count (Err keepers.Failed) whole other = absurd (cc)
+kept_pulled count (Err keepers.Memory) whole other = absurd (cc)

@@ -1,5 +1,5 @@
 -- What running a command makes of the client and the world.
-use Rattle.std.proofs.Common.{Bool, false, ◌≡◌, ◌≢◌, ◌⊎◌, inl, inr, ℕ, ◌+◌, length, List, [], ◌∷◌, ◌++◌, Option, Some, None, option_map, Ok, Err, refl, sym, ◌∙◌, ap, subst, arith}
+use Rattle.std.proofs.Common.{Bool, true, false, ◌≡◌, ◌≢◌, ◌⊎◌, inl, inr, ℕ, ◌+◌, length, List, [], ◌∷◌, ◌++◌, Option, Some, None, option_map, Ok, Err, refl, sym, ◌∙◌, ap, subst, arith}
 use Rattle.outside.specs.Outside.{Told, RisesWhere, CountsFault}
 use Rattle.sha2.specs.Sha256.{sha256}
 use Rattle.outside.specs.Keeper.{Images}
@@ -147,6 +147,21 @@ module _ (command : Command) (before after : Log) where
   runs_log work (ends.Clash path) trace (inl turn) = ran_logs turn.0 (ends.Clash path) turn.2
   runs_log work (ends.Refused refusal) trace (inl turn) = ran_logs turn.0 (ends.Refused refusal) turn.2
   runs_log work ends.Memory trace (inl turn) = ran_logs turn.0 ends.Memory turn.2
+
+  -- it has where the run is logged
+  pub ran_logged : (work : List ℕ) (end : RunEnd) (p q : RunnerTelling) → RunsCommand work command before end after p q → has_logged end ≡ true → (e : Entry) × (after ≡ logged e before)
+  ran_logged work (ends.Logged seq status) p q did some = by did.trace did.turn
+    where
+      by : (trace : Trace) → RunEnds work command before (ends.Logged seq status) after trace → (e : Entry) × (after ≡ logged e before)
+      by trace (inl turn) = (run_entry command turn.0 before, sym (appended-is (Some (origin_of command turn.0)) (changes_of turn.0) before after turn.2.1))
+      by trace (inr broken) = absurd (cc (broken.0))
+  ran_logged work (ends.Nothing status) p q did some = absurd (cc (some))
+  ran_logged work (ends.NoJob fault) p q did some = absurd (cc (some))
+  ran_logged work ends.NotRun p q did some = absurd (cc (some))
+  ran_logged work (ends.OddTree i) p q did some = absurd (cc (some))
+  ran_logged work (ends.Clash path) p q did some = absurd (cc (some))
+  ran_logged work (ends.Refused refusal) p q did some = absurd (cc (some))
+  ran_logged work ends.Memory p q did some = absurd (cc (some))
 
   -- so a client that might go on under a name still may
   pub ran_ready : (work : List ℕ) (end : RunEnd) (p q : RunnerTelling) → RunsCommand work command before end after p q → (name : List ℕ) (number : ℕ) (journal : Option Journal) (i : Option Images)

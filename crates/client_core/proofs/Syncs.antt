@@ -78,6 +78,10 @@ pub unkept_cause : (e : KeepError) (after : Log) (t v p m q : ℕ) → p ≤ m �
 unkept_cause keepers.Failed after t v p m q later rose = omega (arith, later, rose refl)
 unkept_cause keepers.Memory after t v p m q later rose = tt
 
+pub unkept_broken : (e : KeepError) → is_broken_sync (unkept_end e) ≡ false → ⊥
+unkept_broken keepers.Failed whole = absurd (cc)
+unkept_broken keepers.Memory whole = absurd (cc)
+
 -- ---- what is kept in a sync
 
 module _ (before : Log) where

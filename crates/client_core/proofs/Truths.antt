@@ -49,7 +49,7 @@ no_more client pending entries world none apart =
 both_no : (xs ys : List Entry) → xs ≡ [] → ys ≡ [] → xs ++ ys ≡ []
 both_no xs ys none is = ap (λ (es : List Entry). es ++ ys) none ∙ is
 
-acknowledges_none : (client : ℕ) (route : Route) (count : ℕ) (before after : Log) (trace : Trace) → Acknowledges client route count before after trace → trace.entries ≡ []
+pub acknowledges_none : (client : ℕ) (route : Route) (count : ℕ) (before after : Log) (trace : Trace) → Acknowledges client route count before after trace → trace.entries ≡ []
 acknowledges_none client route zero before after trace so = ap (λ (n : Trace). n.entries) so.1
 acknowledges_none client route (suc count) before after trace so =
     ap (λ (n : Trace). n.entries) so.6 ∙ both_no so.1.entries [] (acknowledges_none client route count before so.0 so.1 so.3) refl

@@ -2,7 +2,6 @@
 use Rattle.std.specs.Prelude.{◌≡◌, ◌≢◌, ℕ, ◌≤◌, Bool, List, [], ◌++◌, Option, Some}
 use Rattle.outside.specs.Outside.{RoseBy}
 use Rattle.outside.specs.Keeper.{Images}
-use Rattle.cmd_capture.specs.declared.runner.Run.{Run}
 use Rattle.cmd_capture.specs.Runs.{RunnerTelling, HasRun, telling}
 use Rattle.tree_values.specs.Lists.{IsIn}
 use Rattle.mod_log.specs.Log.{Log}

@@ -8,6 +8,7 @@ pub mod Keeping
 pub mod Laws
 pub mod Licence
 pub mod Logging
+pub mod Noting
 pub mod Pulling
 pub mod Running
 pub mod Syncing

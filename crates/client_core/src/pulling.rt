@@ -1,5 +1,5 @@
 // Pulling the server's rows.
-ghost use Rattle.std.specs.Prelude.{◌≡◌, ◌≢◌, ◌⊎◌, ℕ, ◌≤◌, [], is_some, Option, IfOk, IfSome};
+ghost use Rattle.std.specs.Prelude.{◌≡◌, ◌≢◌, ◌⊎◌, ℕ, ◌≤◌, false, [], is_some, Option, IfOk, IfSome};
 ghost use Rattle.std.specs.Option.{option_copied};
 ghost use Rattle.outside.specs.Outside.{RisesWhere};
 ghost use Rattle.outside.specs.Keeper.{Images};
@@ -8,7 +8,7 @@ ghost use Rattle.wire_frames.specs.Frame.{IsValid};
 ghost use Rattle.world_rules.specs.declared.asking.Peer.TheVariants.{Server};
 ghost use Rattle.world_rules.specs.Telling.{ToldWorlds, IsCalm};
 ghost use Rattle.world_rules.specs.Settling.{Settled, IsFreshReply};
-ghost use Rattle.client_core.specs.Pulling.{PullAsks, PullEnds, pulled_end};
+ghost use Rattle.client_core.specs.Pulling.{PullAsks, PullEnds, pulled_end, is_broken_pull};
 ghost use Rattle.client_core.specs.Goes.{Goes, Went, no_runner};
 ghost use Rattle.client_core.specs.Causes.{HasPullCause, PullKeeps};
 ghost use Rattle.client_core.specs.Keeping.{IsKept, IsReady, IsKeptReady};
@@ -73,6 +73,9 @@ impl Client {
         // what is kept is the client, or, where the pull was broken off, perhaps the client before it
         ensures keeps { PullKeeps route.now.image self.old.number self.old.log result self.new.log
             (K.images keeper.old) (K.images keeper.new) }
+        // where it took no rows, the client and what is kept are as before
+        ensures unchanged { is_broken_pull result ≡ false → ((count : ℕ) → result ≢ PullEnd.Pulled count)
+            → (self.new ≡ self.old) × (K.images keeper.new ≡ K.images keeper.old) }
         // where entries are pending, nothing is asked
         ensures waits { self.old.log.pending ≢ [] → link.new ≡ link.old }
         // to a client in step the server has no other last number

@@ -1,11 +1,12 @@
 // Shipping the pending entries, one after the other.
-ghost use Rattle.std.specs.Prelude.{◌≡◌, ◌⊎◌, ◌≤◌, [], is_some};
+ghost use Rattle.std.specs.Prelude.{◌≡◌, ◌⊎◌, ◌≤◌, false, [], is_some};
 ghost use Rattle.outside.specs.Outside.{Rose, RisesWhere};
 ghost use Rattle.world_rules.specs.Telling.{IsCalm};
-ghost use Rattle.client_core.specs.Syncing.{end_by, SyncEnds, unkept_end};
+ghost use Rattle.client_core.specs.Syncing.{end_by, SyncEnds, unkept_end, is_broken_sync};
 ghost use Rattle.client_core.specs.Goes.{Went};
 ghost use Rattle.client_core.specs.Causes.{HasSyncCause, AcknowledgesSome, SyncKeeps};
 ghost use Rattle.client_core.specs.Keeping.{IsReady, IsKeptReady};
+ghost use Rattle.client_core.specs.Noting.{KeepsChanges};
 ghost use Rattle.client_core.specs.Honest.{FromInStepApart, IsTrueSync, IsComplete};
 
 use crate::keeping::keep_log;
@@ -92,6 +93,9 @@ impl Client {
         // and where nothing is pending at the end and no keeping failed, that is how it ends, but for want of memory
         ensures settled { self.new.log.pending ≡ [] → (Rose (K.faults keeper.old) (K.faults keeper.new) → ⊥)
             → (result ≡ SyncEnd.Synced self.new.log.acked) ⊎ (result ≡ SyncEnd.Memory) }
+        // where it was not broken off, each acknowledgement was kept by itself
+        ensures records { is_broken_sync result ≡ false
+            → KeepsChanges route.now.image self.old self.new (K.images keeper.old) (K.images keeper.new) }
         ensures ready { IsReady (K.images keeper.new) route.now.image self.new }
         ensures number { self.new.number ≡ self.old.number }
         ensures later { (L.tells link.old).troubles ≤ (L.tells link.new).troubles }

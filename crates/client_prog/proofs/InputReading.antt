@@ -9,10 +9,7 @@ use Rattle.client_prog.specs.declared.input.TheConstants.{MAX_INPUT}
 use Rattle.client_prog.specs.Input.{last_at, Reading, IsAtEnd, EndsAt, ReadsPiece, within_limit, lines_at, HasRead}
 use Rattle.shell_lang.specs.Lines.{parts, whole_lines, unfinished, lines_of, last_line}
 use Rattle.shell_lang.proofs.Cutting.{piece_added, all_lines_taken}
-
-take_nothing : (n : ℕ) → take {A = ℕ} n [] ≡ []
-take_nothing zero = refl
-take_nothing (suc n) = refl
+use Rattle.store_image.proofs.Appended.{take_none, take_past}
 
 -- nothing was read
 pub no_piece : (left rest : Option (List ℕ)) (reading : Reading) (end : InputEnd) → Takes left rest [] → EndsAt rest reading.count end → ReadsPiece left rest reading reading (Some end)
@@ -20,7 +17,7 @@ no_piece left rest reading end taken ended = record {
   piece = [];
   taken = taken;
   count = omega arith;
-  bytes = sym (append-nil reading.bytes) ∙ ap (λ (l : List ℕ). reading.bytes ++ l) (sym (take_nothing (MAX_INPUT - reading.count)));
+  bytes = sym (append-nil reading.bytes) ∙ ap (λ (l : List ℕ). reading.bytes ++ l) (sym (take_none (MAX_INPUT - reading.count)));
   ended = ended;
 }
 
@@ -46,15 +43,8 @@ has_read_none left reading is = record {
   input = [];
   taken = takes_nothing left;
   count = ap (λ (r : Reading). r.count) is;
-  cut = ap parts (take_nothing MAX_INPUT) ∙ ap parts (sym (ap (λ (r : Reading). r.bytes) is));
+  cut = ap parts (take_none MAX_INPUT) ∙ ap parts (sym (ap (λ (r : Reading). r.bytes) is));
 }
-
--- a list in two parts, cut behind the first
-pub take-append-over : (n : ℕ) (xs ys : List ℕ) → length xs ≤ n → take n (xs ++ ys) ≡ xs ++ take (n - length xs) ys
-take-append-over n [] ys fits = ap (λ (k : ℕ). take k ys) (omega arith)
-take-append-over zero (x ∷ xs) ys fits = absurd (omega arith)
-take-append-over (suc n) (x ∷ xs) ys fits =
-    ap (λ (l : List ℕ). x ∷ l) (take-append-over n xs ys (omega arith) ∙ ap (λ (k : ℕ). xs ++ take k ys) (omega arith))
 
 -- one more piece was read
 pub has_read_piece : (left mid rest : Option (List ℕ)) (old new : Reading) (behind : List (List ℕ)) (end : Option InputEnd)
@@ -63,7 +53,7 @@ has_read_piece left mid rest old new behind end before few reads =
     let short : length before.input ≤ MAX_INPUT = omega (arith, before.count) in
     let whole : within_limit before.input ≡ before.input = take_all MAX_INPUT before.input short in
     let piece : within_limit (before.input ++ reads.piece) ≡ before.input ++ take (MAX_INPUT - old.count) reads.piece =
-    take-append-over MAX_INPUT before.input reads.piece short ∙ ap (λ (k : ℕ). before.input ++ take (MAX_INPUT - k) reads.piece) (sym before.count) in
+    take_past MAX_INPUT before.input reads.piece short ∙ ap (λ (k : ℕ). before.input ++ take (MAX_INPUT - k) reads.piece) (sym before.count) in
     record {
       input = before.input ++ reads.piece;
       taken = takes_then left mid rest before.input reads.piece before.taken reads.taken;

@@ -11,3 +11,4 @@ pub mod RunningLines
 pub mod RunningOpened
 pub mod RunningPeers
 pub mod RunningPieces
+pub mod RunningRecords

@@ -4,18 +4,13 @@ use Rattle.client_core.specs.declared.route.Route.{Route}
 use Rattle.mod_log.specs.Log.{Log}
 use Rattle.client_core.specs.Trace.{Trace, nothing, followed}
 use Rattle.shell_lang.specs.Lines.{parts, but_last, whole_lines, unfinished, last_line, BeginsWithLine, IsCutUpTo}
-use Rattle.shell_lang.proofs.Cutting.{parts_are, line_taken, all_lines_taken}
+use Rattle.shell_lang.proofs.Cutting.{parts_are, line_taken, all_lines_taken, but_last-append}
 use Rattle.client_prog.specs.declared.run.Stop.{Stop}
 use Rattle.client_session.specs.Session.{SessionState}
 use Rattle.client_prog.specs.Run.{quits, has_quit, up_to_quit}
 use Rattle.client_prog.specs.InsideRun.{AllAnswered, FrontAnswered, CutsFront, AnswersFront}
 use Rattle.client_prog.proofs.Quitting.{no_quit_then, one_line, up_to_line, quit_at, quit_behind, quit_in_front, all_lines}
 use Rattle.client_prog.proofs.RunningLines.{answers_nothing, answers_then, then_stops, stops_sooner}
-
-but_last-append : (lines : List (List ℕ)) (last : List ℕ) → but_last (lines ++ last ∷ []) ≡ lines
-but_last-append [] last = refl
-but_last-append (line ∷ []) last = refl
-but_last-append (line ∷ next ∷ more) last = ap (λ rest. line ∷ rest) (but_last-append (next ∷ more) last)
 
 -- the whole lines are those behind, and then those of the bytes that are left
 pub cut_whole : (text bytes : List ℕ) (behind : List (List ℕ)) → IsCutUpTo text behind bytes → whole_lines text ≡ behind ++ whole_lines bytes

@@ -1,5 +1,7 @@
 -- What a run of a client leaves.
-use Rattle.std.proofs.Common.{◌≡◌, ◌≢◌, ⊎_elim, ℕ, Bool, false, List, ◌++◌, Option, Some, None, is_some, Result, Ok, Err, refl, ◌∙◌, subst}
+use Rattle.std.proofs.Common.{◌≡◌, ◌≢◌, ⊎_elim, ℕ, Bool, false, List, ◌++◌, Option, Some, None, is_some, Result, Ok, Err, IfOk, refl, ◌∙◌, subst}
+use Rattle.outside.specs.Outside.{Told}
+use Rattle.outside.specs.Keeper.{Images}
 use Rattle.mod_log.specs.declared.log.Entry.{Entry}
 use Rattle.mod_log.specs.Log.{Log}
 use Rattle.world_rules.specs.declared.asking.Ask.{Ask}
@@ -18,6 +20,7 @@ use Rattle.client_core.specs.declared.route.Route.{Route}
 use Rattle.client_core.specs.Trace.{Trace}
 use Rattle.client_core.specs.Keeping.{IsKept}
 use Rattle.client_core.specs.Goes.{Goes, stand}
+use Rattle.client_core.specs.Noting.{AreRecorded, ReplacesNone}
 use Rattle.client_core.proofs.Going.{goes_none}
 use Rattle.shell_lang.specs.declared.answer.LineAnswer.{LineAnswer}
 use Rattle.shell_lang.specs.declared.answer.LineAnswer.TheVariants.{OtherLast, Older}
@@ -63,45 +66,58 @@ module _ (route : Route) (before after : SessionState) (left rest o n : Option (
   kept_at_end (Err stop) answers trace other more turn =
       ⊎_elim (λ stops. kept_handled stop stops.0 answers trace other more stops.4) (λ closing. closing.1.3.1) turn.3
 
+-- what a run answers, and what it keeps record by record where it is not stopped
+abbrev pub RunRecords : Route → SessionState → Option (List ℕ) → Option (List ℕ) → Option (List ℕ) → Option (List ℕ) → Result InputEnd Stop → SessionState → Option Images → Option Images → Log → Trace → Type 0
+RunRecords route before left rest o n ended after i j kept trace =
+    RunAnswers route before left rest o n ended after kept trace
+    × IfOk ended (λ end. ReplacesNone trace → Told i j (λ images now. AreRecorded before.client.number trace.changes (images route.image) (now route.image)))
+
+recorded : (ended : Result InputEnd Stop) (status : ℕ) (K : Type 0) → status ≡ status_of ended → IfOk ended (λ end. K) → status ≢ 4 → status ≢ 5 → status ≢ 7 → K
+recorded (Ok end) status K is kept sink keeper memory = kept
+recorded (Err Sink) status K is kept sink keeper memory = absurd (sink is)
+recorded (Err Keeper) status K is kept sink keeper memory = absurd (keeper is)
+recorded (Err Memory) status K is kept sink keeper memory = absurd (memory is)
+
 -- a run that goes so, from a log that is kept on
 module _ (client : ℕ) (route : Route) (start : Log) (around around_now : Around) where
   pub ran : (ended : Result InputEnd Stop) (after : SessionState) (kept : Log) (status : ℕ) (x y : World) → status ≡ status_of ended
-      → Goes client (is_some route.surrogate) route.image (RunAnswers route (opened client start) around.left around_now.left around.written around_now.written ended after kept) start after.client.log kept around.images around_now.images
+      → Goes client (is_some route.surrogate) route.image (RunRecords route (opened client start) around.left around_now.left around.written around_now.written ended after around.images around_now.images kept) start after.client.log kept around.images around_now.images
       around.runner around_now.runner around.troubles around_now.troubles x y → Ran client route start around around_now status x y
   unfolding leaves
   ran ended after kept status x y is goes =
-      let answers = goes.turn.0 in
+      let answers = goes.turn.0.0 in
       record {
         ended = ended;
         status_is = is;
         answers = answers;
         after = after;
         kept = kept;
-        goes = record { trace = goes.trace; turn = goes.turn.1; runs = goes.runs; keeping = goes.keeping; has_run = goes.has_run; rose = goes.rose; true_pulls = goes.true_pulls };
+        goes = record { trace = goes.trace; turn = goes.turn.0.1; runs = goes.runs; keeping = goes.keeping; has_run = goes.has_run; rose = goes.rose; true_pulls = goes.true_pulls };
         kept_last = λ other more.
-            kept_at_end route (opened client start) after around.left around_now.left around.written around_now.written kept ended answers goes.trace (λ five. absurd (other (is ∙ five))) (λ seven. absurd (more (is ∙ seven))) goes.turn.1
+            kept_at_end route (opened client start) after around.left around_now.left around.written around_now.written kept ended answers goes.trace (λ five. absurd (other (is ∙ five))) (λ seven. absurd (more (is ∙ seven))) goes.turn.0.1
             ∙ goes.keeping.last;
+        records = recorded ended status (ReplacesNone goes.trace → Told around.images around_now.images (λ images now. AreRecorded client goes.trace.changes (images route.image) (now route.image))) is goes.turn.1;
         unrun = unrun_rose answers goes.trace around.runner around_now.runner
-            (few_unrun route (opened client start) after kept answers goes.trace around.left around_now.left around.written around_now.written ended goes.turn.1) goes.has_run;
+            (few_unrun route (opened client start) after kept answers goes.trace around.left around_now.left around.written around_now.written ended goes.turn.0.1) goes.has_run;
         asked = run_asked client (is_some route.surrogate) goes.trace.entries goes.trace.asks (kept_at start x) (stand after.client.log kept y) goes.runs;
         peers = λ ask among.
-            run_peers route (opened client start) after kept answers goes.trace ask among around.left around_now.left around.written around_now.written ended goes.turn.1;
+            run_peers route (opened client start) after kept answers goes.trace ask among around.left around_now.left around.written around_now.written ended goes.turn.0.1;
         unoperated = λ none now sketched among. operated_before client goes.trace.entries goes.trace.asks (kept_at start x) (stand after.client.log kept y) sketched now.about (by_stores none goes.runs) among;
         apart = λ none now unsent.
             never_collides client goes.trace.entries goes.trace.asks (kept_at start x) (stand after.client.log kept y) (start.pending ++ goes.trace.entries) now.about unsent (by_stores none goes.runs);
         leaves = λ now apart. leaves client (is_some route.surrogate) goes.trace.entries goes.trace.asks start after.client.log kept x y now goes.runs apart;
         honest = λ now apart.
             unbehind client route (opened client start) after kept answers goes.trace around.left around_now.left around.written around_now.written ended after.client.log y refl (at_end goes.runs now apart)
-            (run_answers client (is_some route.surrogate) goes.trace.entries goes.trace.asks (kept_at start x) (stand after.client.log kept y) goes.runs) goes.turn.1;
+            (run_answers client (is_some route.surrogate) goes.trace.entries goes.trace.asks (kept_at start x) (stand after.client.log kept y) goes.runs) goes.turn.0.1;
         same_last = λ now apart last among.
-            let told = pull_of_run route (opened client start) after kept answers goes.trace around.left around_now.left around.written around_now.written ended goes.turn.1 (Some (OtherLast last)) among tt in
+            let told = pull_of_run route (opened client start) after kept answers goes.trace around.left around_now.left around.written around_now.written ended goes.turn.0.1 (Some (OtherLast last)) among tt in
             answers_no_other told.0 last told.2 (goes.true_pulls now apart told.0 told.1).0;
         fresh = λ now apart quiet path theirs ours among.
-            let told = pull_of_run route (opened client start) after kept answers goes.trace around.left around_now.left around.written around_now.written ended goes.turn.1 (Some (Older path theirs ours)) among tt in
+            let told = pull_of_run route (opened client start) after kept answers goes.trace around.left around_now.left around.written around_now.written ended goes.turn.0.1 (Some (Older path theirs ours)) among tt in
             answers_no_older told.0 path theirs ours told.2 ((goes.true_pulls now apart told.0 told.1).1 quiet);
         calm = λ now apart same own_only quiet.
             synced client route (opened client start) after kept answers goes.trace around.left around_now.left around.written around_now.written ended after.client.log y refl (at_end goes.runs now apart)
-            (run_answers client (is_some route.surrogate) goes.trace.entries goes.trace.asks (kept_at start x) (stand after.client.log kept y) goes.runs) goes.turn.1 start.acked
+            (run_answers client (is_some route.surrogate) goes.trace.entries goes.trace.asks (kept_at start x) (stand after.client.log kept y) goes.runs) goes.turn.0.1 start.acked
             (lone_unrefused client (is_some route.surrogate) goes.trace.entries goes.trace.asks (kept_at start x) (stand after.client.log kept y) now goes.runs own_only same apart)
             (log_past start now.log_is) (none_failed (failed_asks goes.trace.asks) around.troubles around_now.troubles goes.rose quiet);
       }
@@ -119,5 +135,5 @@ pub nothing_ran : (client : ℕ) (route : Route) (start : Log) (around : Around)
 nothing_ran client route start around stop status x keeps is =
     let first = opened client start in
     ran client route start around around (Err stop) first start status x x is
-    (goes_none route.image client (is_some route.surrogate) (RunAnswers route first around.left around.left around.written around.written (Err stop) first start) start around.images around.runner around.troubles x keeps
-    (run_nothing stop route first around.left around.written))
+    (goes_none route.image client (is_some route.surrogate) (RunRecords route first around.left around.left around.written around.written (Err stop) first around.images around.images start) start around.images around.runner around.troubles x keeps
+    (run_nothing stop route first around.left around.written, tt))

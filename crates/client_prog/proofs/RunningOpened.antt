@@ -1,5 +1,5 @@
 -- A run that begins with what is kept of its client, and one that has no client to begin with.
-use Rattle.std.proofs.Common.{◌≡◌, ◌⊎◌, inl, inr, ℕ, ◌≤◌, List, [], length, Option, Some, None, is_some, Result, Ok, Err, refl, sym, subst, arith}
+use Rattle.std.proofs.Common.{◌≡◌, ◌⊎◌, inl, inr, ℕ, ◌≤◌, List, [], length, Option, Some, None, is_some, Result, Ok, Err, IfOk, refl, sym, subst, arith}
 use Rattle.std.specs.Prelude.{IfSome}
 use Rattle.outside.specs.Outside.{Told, Rose}
 use Rattle.outside.specs.Keeper.{Images}
@@ -8,6 +8,7 @@ use Rattle.world_rules.specs.Telling.{ToldWorlds}
 use Rattle.world_rules.proofs.Asks.{told_start, told_as}
 use Rattle.client_core.specs.Client.{Client}
 use Rattle.client_core.specs.Keeping.{IsKept, TellsKept, IsKeptOfNone}
+use Rattle.client_core.specs.Noting.{AreRecorded, ReplacesNone}
 use Rattle.client_prog.specs.declared.input.InputEnd.{InputEnd}
 use Rattle.client_prog.specs.declared.input.InputEnd.TheVariants.{Read, Failed, TooLong}
 use Rattle.client_prog.specs.declared.input.TheConstants.{MAX_INPUT}
@@ -16,14 +17,16 @@ use Rattle.client_prog.specs.declared.run.Stop.TheVariants as stops
 use Rattle.client_prog.specs.declared.opening.Unopened.{Unopened}
 use Rattle.client_prog.specs.declared.opening.Unopened.TheVariants.{Keeper, Image, Memory}
 use Rattle.client_prog.specs.Words.{Invocation}
-use Rattle.client_session.specs.Session.{SessionState, opened}
+use Rattle.client_session.specs.Session.{Sitting, state_of, opened}
 use Rattle.client_session.specs.Doing.{Telling, Does, WentDoing}
+use Rattle.client_session.proofs.Doing.{went_as}
 use Rattle.client_prog.specs.Opening.{status_unopened}
 use Rattle.client_prog.specs.Run.{status_of, route_of, IsInputRead}
-use Rattle.client_prog.specs.InsideRun.{RunAnswers}
+use Rattle.client_prog.specs.InsideRun.{NotesChanges, WentNoting, RunAnswers}
 use Rattle.client_prog.specs.Headline.{Around, Ran}
 use Rattle.client_prog.proofs.RunningEnds.{EndsWell}
-use Rattle.client_prog.proofs.RunningLeaves.{ran, nothing_ran}
+use Rattle.client_prog.proofs.RunningLeaves.{RunRecords, ran, nothing_ran}
+use Rattle.client_prog.proofs.RunningRecords.{notes_recorded}
 
 -- ---- what is told to be kept is kept
 
@@ -83,18 +86,31 @@ abbrev pub RanFrom : Option Images → Option Images → Option (List ℕ) → O
 RanFrom i j left rest o n status t u run =
     (start : Log) → TellsKept i run.image run.client start → ToldWorlds t.link u.link (Ran run.client (route_of run) start (around left o i t) (around rest n j u) status)
 
-pub opened_ran : (run : Invocation) (client : Client) (i j : Option Images) (left rest o n : Option (List ℕ)) (ended : Result InputEnd Stop) (after : SessionState) (status : ℕ) (t u : Telling)
-    → client.number ≡ run.client → ((start : Log) → TellsKept i run.image run.client start → client.log ≡ start) → status ≡ status_of ended
-    → WentDoing (route_of run) (RunAnswers (route_of run) (opened client.number client.log) left rest o n ended after) (opened client.number client.log) after i j t u
+kept_so : {T E : Type 0} (r : Result T E) (P K : Type 0) → (P → K) → IfOk r (λ done. P) → IfOk r (λ done. K)
+kept_so (Ok done) P K to is = to is
+kept_so (Err e) P K to is = tt
+
+pub opened_ran : (run : Invocation) (client : Client) (i j : Option Images) (left rest o n : Option (List ℕ)) (ended : Result InputEnd Stop) (after : Sitting) (status : ℕ) (t u : Telling)
+    → client.number ≡ run.client → client.journal ≡ None → ((start : Log) → TellsKept i run.image run.client start → client.log ≡ start) → status ≡ status_of ended
+    → WentNoting (route_of run) ended (RunAnswers (route_of run) (opened client.number client.log) left rest o n ended (state_of after)) (record { client = client; folder = [] }) after i j t u
     → RanFrom i j left rest o n status t u run
-opened_ran run client i j left rest o n ended after status t u number only is went = λ start told.
+opened_ran run client i j left rest o n ended after status t u number new only is went = λ start told.
     let route = route_of run in
-    let goes : WentDoing route (RunAnswers route (opened run.client start) left rest o n ended after) (opened run.client start) after i j t u =
-    subst (λ (log : Log). WentDoing route (RunAnswers route (opened run.client log) left rest o n ended after) (opened run.client log) after i j t u) (only start told)
-    (subst (λ (m : ℕ). WentDoing route (RunAnswers route (opened m client.log) left rest o n ended after) (opened m client.log) after i j t u) number went) in
-    told_as t.link.world u.link.world (λ x y. (kept : Log) × Does (is_some route.surrogate) route.image (RunAnswers route (opened run.client start) left rest o n ended after kept) (opened run.client start) after kept i j t u x y)
+    let now = state_of after in
+    let all : WentDoing route (RunRecords route (opened client.number client.log) left rest o n ended now i j) (opened client.number client.log) now i j t u =
+    went_as route (λ k trace. RunAnswers route (opened client.number client.log) left rest o n ended now k trace × IfOk ended (λ done. NotesChanges route.image client after.client i j trace))
+    (RunRecords route (opened client.number client.log) left rest o n ended now i j) (opened client.number client.log) now i j t u went
+    (λ k trace both behind. (
+      both.0,
+      kept_so ended (NotesChanges route.image client after.client i j trace) (ReplacesNone trace → Told i j (λ images later. AreRecorded client.number trace.changes (images route.image) (later route.image)))
+          (λ noted. notes_recorded route.image client after.client i j trace new noted) both.1,
+    )) in
+    let goes : WentDoing route (RunRecords route (opened run.client start) left rest o n ended now i j) (opened run.client start) now i j t u =
+    subst (λ (log : Log). WentDoing route (RunRecords route (opened run.client log) left rest o n ended now i j) (opened run.client log) now i j t u) (only start told)
+    (subst (λ (m : ℕ). WentDoing route (RunRecords route (opened m client.log) left rest o n ended now i j) (opened m client.log) now i j t u) number all) in
+    told_as t.link.world u.link.world (λ x y. (kept : Log) × Does (is_some route.surrogate) route.image (RunRecords route (opened run.client start) left rest o n ended now i j kept) (opened run.client start) now kept i j t u x y)
     (Ran run.client route start (around left o i t) (around rest n j u) status) goes
-    (λ x y did. ran run.client route start (around left o i t) (around rest n j u) ended after did.0 status x y is did.1.goes)
+    (λ x y did. ran run.client route start (around left o i t) (around rest n j u) ended now did.0 status x y is did.1.goes)
 
 stopped_ran : (stop : Stop) (run : Invocation) (i : Option Images) (left o : Option (List ℕ)) (status : ℕ) (t : Telling) → status ≡ status_of (Err stop) → RanFrom i i left left o o status t t run
 stopped_ran stop run i left o status t is = λ start told.

@@ -1,7 +1,7 @@
 -- What a whole run of a client leaves at the server and under its name, whatever the network lost, repeated or reordered.
 use Rattle.std.specs.Prelude.{◌≡◌, ◌≢◌, ℕ, ◌+◌, ◌-◌, ◌≤◌, List, ◌++◌, length, drop, Option, None, Some, is_some, Result}
 use Rattle.std.specs.List.{count_by}
-use Rattle.outside.specs.Outside.{RoseBy, Rose}
+use Rattle.outside.specs.Outside.{Told, RoseBy, Rose}
 use Rattle.outside.specs.Keeper.{Images}
 use Rattle.file_paths.specs.Path.{FilePath}
 use Rattle.tree_values.specs.Tree.{version_at}
@@ -20,6 +20,7 @@ use Rattle.client_prog.specs.declared.input.InputEnd.{InputEnd}
 use Rattle.client_prog.specs.declared.run.Stop.{Stop}
 use Rattle.client_core.specs.declared.route.Route.{Route}
 use Rattle.client_core.specs.Trace.{last_log}
+use Rattle.client_core.specs.Noting.{AreRecorded, ReplacesNone}
 use Rattle.client_core.specs.Goes.{Goes}
 use Rattle.shell_lang.specs.declared.answer.LineAnswer.{LineAnswer}
 use Rattle.shell_lang.specs.declared.answer.LineAnswer.TheVariants.{Behind, OtherLast, Older}
@@ -78,6 +79,10 @@ pub record Ran (client : ℕ) (route : Route) (start : Log) (around around_now :
       start after.client.log kept around.images around_now.images around.runner around_now.runner around.troubles around_now.troubles old new
   -- it is the client's log after the last change, but where a keeping was refused or memory ran out, perhaps the one before that change
   pub kept_last : status ≢ 5 → status ≢ 7 → kept ≡ last_log start goes.trace.changes
+  -- at status 0, 3 or 8, where no pull of it replaced the base, its changes are kept one by one: the first by an image, and each later
+  -- one by a record behind it, as long as these records have no more bytes than they may
+  pub records : status ≢ 4 → status ≢ 5 → status ≢ 7 → ReplacesNone goes.trace
+      → Told around.images around_now.images (λ images now. AreRecorded client goes.trace.changes (images route.image) (now route.image))
   -- at most as many lines were answered `not run` as the runner failed in the run
   pub unrun : RoseBy (count_by is_unrun answers) around.runner.faults around_now.runner.faults
   -- the world notes just the asks of the session

@@ -1,16 +1,31 @@
 -- Words that only contracts below the whole run cite, of its input and of its lines.
-use Rattle.std.specs.Prelude.{◌≡◌, ℕ, false, List, [], ◌∷◌, Option, Result, Ok, Err}
-use Rattle.outside.specs.Outside.{Adds}
+use Rattle.std.specs.Prelude.{◌≡◌, ℕ, false, List, [], ◌∷◌, Option, Result, Ok, Err, IfOk}
+use Rattle.outside.specs.Outside.{Told, Adds}
+use Rattle.outside.specs.Keeper.{Images}
 use Rattle.mod_log.specs.Log.{Log}
+use Rattle.store_image.specs.declared.record.ClientRecord.{ClientRecord}
 use Rattle.client_core.specs.declared.route.Route.{Route}
+use Rattle.client_core.specs.Client.{Client}
 use Rattle.client_core.specs.Trace.{Trace}
+use Rattle.client_core.specs.Noting.{logs_behind, ReplacesNone, KeepsRecords}
 use Rattle.shell_lang.specs.Lines.{parts, unfinished, IsCutUpTo}
 use Rattle.client_prog.specs.declared.input.InputEnd.{InputEnd}
 use Rattle.client_prog.specs.declared.run.Stop.{Stop}
 use Rattle.client_prog.specs.Input.{Reading, HasRead}
 use Rattle.shell_lang.specs.declared.answer.LineAnswer.{LineAnswer}
-use Rattle.client_session.specs.Session.{SessionState, Chain, AreTexts}
+use Rattle.client_session.specs.Session.{SessionState, Sitting, state_of, Chain, AreTexts}
+use Rattle.client_session.specs.Doing.{Telling, WentDoing}
 use Rattle.client_prog.specs.Run.{HasLines, StopsIn, WholeRun, asked_for, has_quit}
+
+-- where no pull replaced the base, the changes were kept record by record
+abbrev pub NotesChanges : List ℕ → Client → Client → Option Images → Option Images → Trace → Type 0
+NotesChanges name before after images now trace =
+    ReplacesNone trace → Told images now (λ old new. (notes : List ClientRecord) × (trace.changes ≡ logs_behind before.log notes) × KeepsRecords name before after notes old new)
+
+-- over a link that tells its world, a session did what these turns say, and where it was not stopped, its changes were so kept
+abbrev pub WentNoting : {T E : Type 0} → Route → Result T E → (Log → Trace → Type 0) → Sitting → Sitting → Option Images → Option Images → Telling → Telling → Type 0
+WentNoting route result turns before after images now told later =
+    WentDoing route (λ kept trace. turns kept trace × IfOk result (λ done. NotesChanges route.image before.client after.client images now trace)) (state_of before) (state_of after) images now told later
 
 -- the lines were answered, one after the other
 abbrev pub AllAnswered : Route → SessionState → List (List ℕ) → Option (List ℕ) → Option (List ℕ) → SessionState → Trace → Type 0

@@ -16,9 +16,9 @@ ghost use Rattle.client_prog.specs.Opening.{status_unopened};
 ghost use Rattle.client_prog.specs.Run.{status_of, is_status, route_of, is_quit, quits, has_quit, up_to_quit, end_of};
 ghost use Rattle.client_prog.specs.Run.{closing_line, closing_at, IsInputRead};
 ghost use Rattle.client_prog.specs.Headline.{Ran};
-ghost use Rattle.client_session.specs.Doing.{WentDoing, beside};
+ghost use Rattle.client_session.specs.Doing.{beside};
 ghost use Rattle.cmd_capture.specs.Runs.{telling};
-ghost use Rattle.client_prog.specs.InsideRun.{AnswersLines, HasUnfinished, TakesInput, AnswersInput, RunAnswers};
+ghost use Rattle.client_prog.specs.InsideRun.{WentNoting, AnswersLines, HasUnfinished, TakesInput, AnswersInput, RunAnswers};
 
 use crate::input::{InputEnd, LineReader, MAX_INPUT};
 use crate::opening::{Unopened, open};
@@ -142,8 +142,8 @@ fn answer<O: Sink, K: Keeper, R: Runner, L: Link>(
     link: &mut L,
 ) -> Result<bool, Stop>
     requires { IsKeptReady (K.images keeper.old) route.now.image session.old.client }
-    ensures world { WentDoing route.now (AnswersLines route.now (state_of session.old) (line.now ∷ []) (O.written output.old)
-        (O.written output.new) result (state_of session.new)) (state_of session.old) (state_of session.new) (K.images keeper.old)
+    ensures world { WentNoting route.now result (AnswersLines route.now (state_of session.old) (line.now ∷ []) (O.written output.old)
+        (O.written output.new) result (state_of session.new)) session.old session.new (K.images keeper.old)
         (K.images keeper.new)
         (beside (L.tells link.old) (telling (R.runs runner.old) (R.faults runner.old)))
         (beside (L.tells link.new) (telling (R.runs runner.new) (R.faults runner.new))) }
@@ -174,9 +174,8 @@ fn answer_lines<O: Sink, K: Keeper, R: Runner, L: Link>(
     link: &mut L,
 ) -> Result<bool, Stop>
     requires { IsKeptReady (K.images keeper.old) route.now.image session.old.client }
-    ensures world { WentDoing route.now (AnswersLines route.now (state_of session.old) (up_to_quit (whole_lines reader.old.bytes))
-        (O.written output.old) (O.written output.new) result (state_of session.new)) (state_of session.old) (state_of session.new)
-        (K.images keeper.old)
+    ensures world { WentNoting route.now result (AnswersLines route.now (state_of session.old) (up_to_quit (whole_lines reader.old.bytes))
+        (O.written output.old) (O.written output.new) result (state_of session.new)) session.old session.new (K.images keeper.old)
         (K.images keeper.new) (beside (L.tells link.old) (telling (R.runs runner.old) (R.faults runner.old)))
         (beside (L.tells link.new) (telling (R.runs runner.new) (R.faults runner.new))) }
     ensures quit { IfOk result (λ quit. quit ≡ has_quit (whole_lines reader.old.bytes)) }
@@ -210,9 +209,9 @@ fn answer_input<I: Source, O: Sink, K: Keeper, R: Runner, L: Link>(
     link: &mut L,
 ) -> Result<InputEnd, Stop>
     requires { IsKeptReady (K.images keeper.old) route.now.image session.old.client }
-    ensures world { WentDoing route.now
+    ensures world { WentNoting route.now result
         (AnswersInput route.now (state_of session.old) (I.left input.old) (I.left input.new) (O.written output.old)
-        (O.written output.new) result (state_of session.new)) (state_of session.old) (state_of session.new) (K.images keeper.old)
+        (O.written output.new) result (state_of session.new)) session.old session.new (K.images keeper.old)
         (K.images keeper.new)
         (beside (L.tells link.old) (telling (R.runs runner.old) (R.faults runner.old)))
         (beside (L.tells link.new) (telling (R.runs runner.new) (R.faults runner.new))) }
@@ -265,8 +264,9 @@ fn answer_last<O: Sink, K: Keeper, R: Runner, L: Link>(
     link: &mut L,
 ) -> Result<(), Stop>
     requires { IsKeptReady (K.images keeper.old) route.now.image session.old.client }
-    ensures world { WentDoing route.now (AnswersLines route.now (state_of session.old) (last_at end reader.now.bytes) (O.written output.old)
-        (O.written output.new) result (state_of session.new)) (state_of session.old) (state_of session.new) (K.images keeper.old)
+    ensures world { WentNoting route.now result
+        (AnswersLines route.now (state_of session.old) (last_at end reader.now.bytes) (O.written output.old)
+        (O.written output.new) result (state_of session.new)) session.old session.new (K.images keeper.old)
         (K.images keeper.new)
         (beside (L.tells link.old) (telling (R.runs runner.old) (R.faults runner.old)))
         (beside (L.tells link.new) (telling (R.runs runner.new) (R.faults runner.new))) }
@@ -303,8 +303,8 @@ fn answer_unfinished<O: Sink, K: Keeper, R: Runner, L: Link>(
     link: &mut L,
 ) -> Result<(), Stop>
     requires { IsKeptReady (K.images keeper.old) route.now.image session.old.client }
-    ensures world { WentDoing route.now (AnswersLines route.now (state_of session.old) (last_line line.now) (O.written output.old)
-        (O.written output.new) result (state_of session.new)) (state_of session.old) (state_of session.new) (K.images keeper.old)
+    ensures world { WentNoting route.now result (AnswersLines route.now (state_of session.old) (last_line line.now) (O.written output.old)
+        (O.written output.new) result (state_of session.new)) session.old session.new (K.images keeper.old)
         (K.images keeper.new)
         (beside (L.tells link.old) (telling (R.runs runner.old) (R.faults runner.old)))
         (beside (L.tells link.new) (telling (R.runs runner.new) (R.faults runner.new))) }
@@ -366,9 +366,9 @@ fn run<I: Source, O: Sink, K: Keeper, R: Runner, L: Link>(
     link: &mut L,
 ) -> Result<InputEnd, Stop>
     requires { IsKeptReady (K.images keeper.old) route.now.image session.old.client }
-    ensures world { WentDoing route.now
+    ensures world { WentNoting route.now result
         (RunAnswers route.now (state_of session.old) (I.left input.old) (I.left input.new) (O.written output.old)
-        (O.written output.new) result (state_of session.new)) (state_of session.old) (state_of session.new) (K.images keeper.old)
+        (O.written output.new) result (state_of session.new)) session.old session.new (K.images keeper.old)
         (K.images keeper.new)
         (beside (L.tells link.old) (telling (R.runs runner.old) (R.faults runner.old)))
         (beside (L.tells link.new) (telling (R.runs runner.new) (R.faults runner.new))) }

@@ -1,5 +1,5 @@
 -- What the entries of a session write.
-use Rattle.std.proofs.Common.{◌≡◌, inl, inr, ⊎_elim, ℕ, zero, suc, Bool, true, false, true≢false, List, [], ◌∷◌, ◌++◌, Option, Some, None, IsSome, Result, Ok, Err, refl, sym, ◌∙◌, ap, subst}
+use Rattle.std.proofs.Common.{◌≡◌, inl, inr, ⊎_elim, ℕ, Bool, true, false, true≢false, List, [], ◌∷◌, ◌++◌, Option, Some, None, IsSome, Result, Ok, Err, refl, sym, ◌∙◌, ap, subst}
 use Rattle.std.proofs.lemmas.List.{append-nil}
 use Rattle.std.proofs.lemmas.List.Concat.{flat_map-cons}
 use Rattle.std.specs.Prelude.{option_map, reverse, if◌then◌else◌}
@@ -39,7 +39,6 @@ use Rattle.client_core.specs.declared.running.RunEnd.TheVariants as runs
 use Rattle.client_core.specs.Running.{changes_of, run_entry, RunTurn}
 use Rattle.client_core.specs.Trace.{Trace, nothing, followed, asking, logging, running}
 use Rattle.client_core.specs.Logging.{local_entry, LocalTurn}
-use Rattle.client_core.specs.Syncing.{Acknowledges}
 use Rattle.client_core.specs.Pulling.{pull_change, PullsSnapshot, PullTurn}
 use Rattle.shell_lang.specs.declared.line.Line.{Line}
 use Rattle.shell_lang.specs.declared.line.Line.TheVariants as lines
@@ -47,6 +46,7 @@ use Rattle.shell_lang.specs.declared.line.LineError.{LineError}
 use Rattle.shell_lang.specs.declared.answer.LineAnswer.{LineAnswer}
 use Rattle.client_session.specs.Session.{SessionState, put_effect, make_effect, remove_effect, move_effect, LogTurn, CommandTurn, LineTurn, Chain, BreaksCommand, BreaksOff, Broken, BreaksChain}
 use Rattle.client_session.specs.Contents.{IsOfRuns, IsOfTheRun, HasContent, IsOfPackets, DistinctContentsDoNotCollide, BrokenSessionsDoNotCollide}
+use Rattle.client_core.proofs.Truths.{acknowledges_none}
 
 -- ---- lists that are made of others
 
@@ -138,11 +138,6 @@ written_then earlier later first second entry content among made writes =
     (in_either entry earlier.entries later.entries among)
 
 -- ---- a sync and a pull log nothing
-
-acknowledges_none : (client : ℕ) (route : Route) (count : ℕ) (before after : Log) (trace : Trace) → Acknowledges client route count before after trace → trace.entries ≡ []
-acknowledges_none client route zero before after trace turn = ap (λ (t : Trace). t.entries) turn.1
-acknowledges_none client route (suc count) before after trace turn =
-    ap (λ (t : Trace). t.entries) turn.6 ∙ append-nil turn.1.entries ∙ acknowledges_none client route count before turn.0 turn.1 turn.3
 
 asked_none : (earlier trace : Trace) (last : List Ask) → earlier.entries ≡ [] → trace ≡ followed earlier (asking last) → trace.entries ≡ []
 asked_none earlier trace last none is = ap (λ (t : Trace). t.entries) is ∙ append-nil earlier.entries ∙ none

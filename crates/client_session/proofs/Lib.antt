@@ -8,5 +8,6 @@ pub mod Doing
 pub mod Found
 pub mod Peers
 pub mod Pulls
+pub mod Recorded
 pub mod Settlings
 pub mod Turning

@@ -342,7 +342,7 @@ sync_counts p q end fault told r shown faulty is rises =
     by (syncs.Unanswered n) rises = record { later = rises.later; once = λ is. absurd (cc (is)); never = λ no. rises.never (λ is. absurd (cc (is))) }
     by (syncs.Behind n last) rises = record { later = rises.later; once = λ is. absurd (cc (is)); never = λ no. rises.never (λ is. absurd (cc (is))) }
 
-unbroken : (end : SyncEnd) (answer : LineAnswer) → sync_answer end ≡ Some answer → is_broken_sync end ≡ false
+pub unbroken : (end : SyncEnd) (answer : LineAnswer) → sync_answer end ≡ Some answer → is_broken_sync end ≡ false
 unbroken (syncs.Synced seq) answer is = refl
 unbroken (syncs.Stale seq path theirs ours) answer is = refl
 unbroken (syncs.Unfit seq index fault) answer is = refl
@@ -436,7 +436,7 @@ pull_counts p q end fault told r shown faulty is rises =
     by (pulls.Older path theirs ours) rises = record { later = rises.later; once = λ is. absurd (cc (is)); never = λ no. rises.never (λ is. absurd (cc (is))) }
     by pulls.Unanswered rises = record { later = rises.later; once = λ is. absurd (cc (is)); never = λ no. rises.never (λ is. absurd (cc (is))) }
 
-unbroken_pull : (end : PullEnd) (answer : LineAnswer) → pull_answer end ≡ Some answer → is_broken_pull end ≡ false
+pub unbroken_pull : (end : PullEnd) (answer : LineAnswer) → pull_answer end ≡ Some answer → is_broken_pull end ≡ false
 unbroken_pull (pulls.Pulled count) answer is = refl
 unbroken_pull (pulls.Pending count) answer is = refl
 unbroken_pull (pulls.OtherLast last acked) answer is = refl

@@ -230,6 +230,13 @@ LeavesPending (Some (answers.Unanswered seq)) = Unit {0}
 LeavesPending (Some (answers.Behind seq last)) = Unit {0}
 LeavesPending answer = ⊥
 
+-- ---- pulls that replace the base
+
+-- whether a line that is answered so replaced the base
+abbrev pub has_pulled : Result Line LineError → Option LineAnswer → Bool
+has_pulled (Ok Pull) (Some (answers.Pulled count)) = true
+has_pulled line answer = false
+
 -- ---- lines that are not run
 
 -- whether a line is answered `not run`

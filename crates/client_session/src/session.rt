@@ -4,9 +4,10 @@ ghost use Rattle.std.specs.Option.{option_copied};
 ghost use Rattle.outside.specs.Outside.{CountsFault};
 ghost use Rattle.mod_log.specs.Log.{tree_of};
 ghost use Rattle.client_core.specs.Keeping.{IsKeptReady};
+ghost use Rattle.client_core.specs.Noting.{KeepsChanges};
 ghost use Rattle.client_session.specs.Session.{state_of, put_effect, make_effect, remove_effect, move_effect};
 ghost use Rattle.client_session.specs.Session.{with_folder, local_answer, word_answer, sync_answer, pull_answer};
-ghost use Rattle.client_session.specs.Session.{status_answer};
+ghost use Rattle.client_session.specs.Session.{status_answer, has_pulled};
 ghost use Rattle.client_session.specs.Looking.{cat_answer, list_answer, enter_answer, folder_by};
 ghost use Rattle.cmd_capture.specs.Runs.{RunnerTelling, telling};
 ghost use Rattle.client_session.specs.Doing.{beside, WentDoing, LineEnds};
@@ -76,6 +77,9 @@ impl Session {
             (beside (L.tells link.old) (telling (R.runs runner.old) (R.faults runner.old)))
             (beside (L.tells link.new) (telling (R.runs runner.new) (R.faults runner.new))) (K.faults keeper.old) (K.faults keeper.new) }
         ensures kept { IfOk result (λ answer. IsKeptReady (K.images keeper.new) route.now.image self.new.client) }
+        // each change was kept by itself, but for a pull that replaced the base
+        ensures records { IfOk result (λ answer. has_pulled line answer ≡ false
+            → KeepsChanges route.now.image self.old.client self.new.client (K.images keeper.old) (K.images keeper.new)) }
         ensures later { (L.tells link.old).troubles ≤ (L.tells link.new).troubles }
         ensures runner_later { R.faults runner.old ≤ R.faults runner.new }
         ensures runner { asks_to_run line ≡ false → telling (R.runs runner.new) (R.faults runner.new) ≡ telling (R.runs runner.old)
@@ -125,6 +129,8 @@ impl Session {
             (K.images keeper.old)
             (K.images keeper.new) }
         ensures kept { IfOk result (λ answer. IsKeptReady (K.images keeper.new) image.now self.new.client) }
+        ensures records { IfOk result (λ answer. KeepsChanges image.now self.old.client self.new.client
+            (K.images keeper.old) (K.images keeper.new)) }
         ensures keeper { CountsFault KeepError.Failed (K.faults keeper.old) (K.faults keeper.new) result }
     {
         let made = put_effect(alloc, &self.folder, path, &text);
@@ -144,6 +150,8 @@ impl Session {
             (K.images keeper.old)
             (K.images keeper.new) }
         ensures kept { IfOk result (λ answer. IsKeptReady (K.images keeper.new) image.now self.new.client) }
+        ensures records { IfOk result (λ answer. KeepsChanges image.now self.old.client self.new.client
+            (K.images keeper.old) (K.images keeper.new)) }
         ensures keeper { CountsFault KeepError.Failed (K.faults keeper.old) (K.faults keeper.new) result }
     {
         let made = make_effect(alloc, &self.folder, path);
@@ -162,6 +170,8 @@ impl Session {
             (K.images keeper.old)
             (K.images keeper.new) }
         ensures kept { IfOk result (λ answer. IsKeptReady (K.images keeper.new) image.now self.new.client) }
+        ensures records { IfOk result (λ answer. KeepsChanges image.now self.old.client self.new.client
+            (K.images keeper.old) (K.images keeper.new)) }
         ensures keeper { CountsFault KeepError.Failed (K.faults keeper.old) (K.faults keeper.new) result }
     {
         let made = remove_effect(alloc, &self.folder, path);
@@ -181,6 +191,8 @@ impl Session {
             (state_of self.new) (K.images keeper.old)
             (K.images keeper.new) }
         ensures kept { IfOk result (λ answer. IsKeptReady (K.images keeper.new) image.now self.new.client) }
+        ensures records { IfOk result (λ answer. KeepsChanges image.now self.old.client self.new.client
+            (K.images keeper.old) (K.images keeper.new)) }
         ensures keeper { CountsFault KeepError.Failed (K.faults keeper.old) (K.faults keeper.new) result }
     {
         let made = move_effect(alloc, &self.folder, from, to);
@@ -197,6 +209,8 @@ impl Session {
         requires { IsKeptReady (K.images keeper.old) image.now self.old.client }
         ensures logs { LogsMade image.now made (state_of self.old) result (state_of self.new) (K.images keeper.old) (K.images keeper.new) }
         ensures kept { IfOk result (λ answer. IsKeptReady (K.images keeper.new) image.now self.new.client) }
+        ensures records { IfOk result (λ answer. KeepsChanges image.now self.old.client self.new.client
+            (K.images keeper.old) (K.images keeper.new)) }
         ensures keeper { CountsFault KeepError.Failed (K.faults keeper.old) (K.faults keeper.new) result }
     {
         let effect = match made {
@@ -268,6 +282,8 @@ impl Session {
         ensures cause { (runner : RunnerTelling) → HasLineCause route.now (state_of self.old) (Ok Line.Sync) result (state_of self.new)
             (beside (L.tells link.old) runner) (beside (L.tells link.new) runner) (K.faults keeper.old) (K.faults keeper.new) }
         ensures kept { IfOk result (λ answer. IsKeptReady (K.images keeper.new) route.now.image self.new.client) }
+        ensures records { IfOk result (λ answer. KeepsChanges route.now.image self.old.client self.new.client
+            (K.images keeper.old) (K.images keeper.new)) }
         ensures later { (L.tells link.old).troubles ≤ (L.tells link.new).troubles }
         ensures keeper { CountsFault KeepError.Failed (K.faults keeper.old) (K.faults keeper.new) result }
     {
@@ -291,6 +307,8 @@ impl Session {
         ensures cause { (runner : RunnerTelling) → HasLineCause route.now (state_of self.old) (Ok Line.Pull) result (state_of self.new)
             (beside (L.tells link.old) runner) (beside (L.tells link.new) runner) (K.faults keeper.old) (K.faults keeper.new) }
         ensures kept { IfOk result (λ answer. IsKeptReady (K.images keeper.new) route.now.image self.new.client) }
+        ensures records { IfOk result (λ answer. has_pulled (Ok Line.Pull) answer ≡ false
+            → KeepsChanges route.now.image self.old.client self.new.client (K.images keeper.old) (K.images keeper.new)) }
         ensures later { (L.tells link.old).troubles ≤ (L.tells link.new).troubles }
         ensures keeper { CountsFault KeepError.Failed (K.faults keeper.old) (K.faults keeper.new) result }
     {

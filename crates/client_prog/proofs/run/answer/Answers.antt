@@ -1,19 +1,20 @@
-use Rattle.std.proofs.Common.{◌≤◌, ℕ, Bool, List, ◌∷◌, [], length, take, Result, Ok, Err, subst}
+use Rattle.std.proofs.Common.{◌≡◌, ◌≤◌, ℕ, Bool, false, List, ◌∷◌, [], length, take, Result, Ok, Err, subst}
 use Rattle.std.proofs.lemmas.Result.{err_from_is_err_and}
 use Rattle.outside.specs.Outside.{Adds}
 use Rattle.shell_lang.specs.Commands.{read_line}
 use Rattle.shell_lang.specs.declared.line.Line.{Line}
 use Rattle.shell_lang.specs.declared.line.LineError.{LineError}
 use Rattle.cmd_capture.specs.Runs.{telling}
-use Rattle.client_session.specs.Session.{state_of}
+use Rattle.client_session.specs.Session.{state_of, has_pulled}
 use Rattle.client_session.specs.Doing.{WentDoing, LineEnds, beside}
-use Rattle.client_session.proofs.Doing.{went_none, went_as}
+use Rattle.client_core.specs.Noting.{KeepsChanges}
 use Rattle.client_prog.specs.declared.run.Stop.TheVariants.{Memory}
 use Rattle.client_prog.specs.declared.run.Stop.TheVariants as stops
 use Rattle.client_prog.specs.Run.{stop_by, stop_of, WritesFront}
 use Rattle.client_prog.specs.InsideRun.{AnswersLines}
 use Rattle.client_prog.proofs.Counting.{keeper_fault, sink_fault, wanted_fault, not_keeper}
 use Rattle.client_prog.proofs.RunningLines.{line_unread, line_broken, line_untold, line_answered, line_cut, cut_front}
+use Rattle.client_prog.proofs.RunningRecords.{notes_line, done_none, stopped_as, ended_as}
 use Rattle.client_prog.proofs.run.answer.Goals as goal
 
 pub returns-in_err-asked-clause-world : goal.returns-in_err-asked-clause-world
@@ -23,7 +24,7 @@ returns-in_err-asked-clause-world g c =
     let a = state_of c.args.session.now in
     let line = c.args.line.now in
     let o = g.O.Sink.written c.args.output.now in
-    rw (p.1, p.2) (went_none r (AnswersLines {T = Bool} r a (line ∷ []) o o (Err Memory) a) a (g.K.Keeper.images c.args.keeper.now) (beside (g.L.Link.tells c.args.link.now) (telling (g.R.Runner.runs c.args.runner.now) (g.R.Runner.faults c.args.runner.now))) c.requires.0 (line_unread r a line o))
+    rw (p.1, p.2) (done_none r {U = Bool} (Err Memory) (AnswersLines {T = Bool} r a (line ∷ []) o o (Err Memory) a) c.args.session.now (g.K.Keeper.images c.args.keeper.now) (beside (g.L.Link.tells c.args.link.now) (telling (g.R.Runner.runs c.args.runner.now) (g.R.Runner.faults c.args.runner.now))) c.requires.0 (line_unread r a line o))
 
 pub returns-in_err-answer-clause-world : goal.returns-in_err-answer-clause-world
 returns-in_err-answer-clause-world g c =
@@ -40,7 +41,7 @@ returns-in_err-answer-clause-world g c =
     let e = c.in_err-answer.field-0.0 in
     let turn : WentDoing r (LineEnds r a (read_line line) (Err e) b) a b i j t u =
     subst (λ (l : Result Line LineError). WentDoing r (LineEnds r a l (Err e) b) a b i j t u) c.in_ok-asked.ensures c.in_err-answer.ensures.world in
-    rw (p.1, p.2) (went_as r (LineEnds r a (read_line line) (Err e) b) (AnswersLines {T = Bool} r a (line ∷ []) o o (Err (stop_by e)) b) a b i j t u turn
+    rw (p.1, p.2) (stopped_as r Bool (stop_by e) (LineEnds r a (read_line line) (Err e) b) (AnswersLines {T = Bool} r a (line ∷ []) o o (Err (stop_by e)) b) c.args.session.now c.answer.new.self i j t u turn
     (λ k trace broken behind. line_broken r a b k line o e trace broken behind))
 
 pub returns-in_err-text-clause-world : goal.returns-in_err-text-clause-world
@@ -58,7 +59,7 @@ returns-in_err-text-clause-world g c =
     let answer = c.in_ok-answer.answer in
     let turn : WentDoing r (LineEnds r a (read_line line) (Ok answer) b) a b i j t u =
     subst (λ (l : Result Line LineError). WentDoing r (LineEnds r a l (Ok answer) b) a b i j t u) c.in_ok-asked.ensures c.in_ok-answer.ensures.world in
-    rw (p.1, p.2) (went_as r (LineEnds r a (read_line line) (Ok answer) b) (AnswersLines {T = Bool} r a (line ∷ []) o o (Err Memory) b) a b i j t u turn
+    rw (p.1, p.2) (stopped_as r Bool Memory (LineEnds r a (read_line line) (Ok answer) b) (AnswersLines {T = Bool} r a (line ∷ []) o o (Err Memory) b) c.args.session.now c.answer.new.self i j t u turn
     (λ k trace turned behind. line_untold r a b k line o answer trace turned behind))
 
 pub returns-clause-world : goal.returns-clause-world
@@ -76,10 +77,12 @@ returns-clause-world g c =
     let answer = c.in_ok-answer.answer in
     let text = c.in_ok-text.text in
     let adds : Adds o n text.items = subst (λ (l : List ℕ). Adds o n l) c.deref.ensures.value c.in_ok-write_all.ensures.all in
+    let kept : has_pulled (read_line line) answer ≡ false → KeepsChanges r.image c.args.session.now.client c.answer.new.self.client i j =
+    subst (λ (l : Result Line LineError). has_pulled l answer ≡ false → KeepsChanges r.image c.args.session.now.client c.answer.new.self.client i j) c.in_ok-asked.ensures c.in_ok-answer.ensures.records in
     let turn : WentDoing r (LineEnds r a (read_line line) (Ok answer) b) a b i j t u =
     subst (λ (l : Result Line LineError). WentDoing r (LineEnds r a l (Ok answer) b) a b i j t u) c.in_ok-asked.ensures c.in_ok-answer.ensures.world in
-    went_as r (LineEnds r a (read_line line) (Ok answer) b) (AnswersLines r a (line ∷ []) o n (Ok c.is_quit-quit.result) b) a b i j t u turn
-    (λ k trace turned behind. (line_answered r a b k line o n answer text.items trace turned c.in_ok-text.ensures adds, turned.1))
+    ended_as r c.is_quit-quit.result (LineEnds r a (read_line line) (Ok answer) b) (AnswersLines r a (line ∷ []) o n (Ok c.is_quit-quit.result) b) c.args.session.now c.answer.new.self i j t u turn
+    (λ k trace turned. ((line_answered r a b k line o n answer text.items trace turned c.in_ok-text.ensures adds, turned.1), notes_line r.image r c.args.session.now c.answer.new.self (read_line line) answer i j trace turned.0 kept))
 
 pub returns-in_err-write_all-clause-world : goal.returns-in_err-write_all-clause-world
 returns-in_err-write_all-clause-world g c =
@@ -102,7 +105,7 @@ returns-in_err-write_all-clause-world g c =
     let writes : WritesFront (stop_of refused) text.items o n = cut_front refused text.items o n (cut.0, cut.2) in
     let turn : WentDoing r (LineEnds r a (read_line line) (Ok answer) b) a b i j t u =
     subst (λ (l : Result Line LineError). WentDoing r (LineEnds r a l (Ok answer) b) a b i j t u) c.in_ok-asked.ensures c.in_ok-answer.ensures.world in
-    rw (p.1, p.2) (went_as r (LineEnds r a (read_line line) (Ok answer) b) (AnswersLines {T = Bool} r a (line ∷ []) o n (Err (stop_of refused)) b) a b i j t u turn
+    rw (p.1, p.2) (stopped_as r Bool (stop_of refused) (LineEnds r a (read_line line) (Ok answer) b) (AnswersLines {T = Bool} r a (line ∷ []) o n (Err (stop_of refused)) b) c.args.session.now c.answer.new.self i j t u turn
     (λ k trace turned behind. line_cut r (stop_of refused) a b k line o n answer text.items trace turned c.in_ok-text.ensures writes))
 
 -- ---- the faults of the sink and of the keeper

@@ -4,9 +4,9 @@ use Rattle.shell_lang.specs.Lines.{whole_lines, parts}
 use Rattle.cmd_capture.specs.Runs.{telling}
 use Rattle.client_session.specs.Session.{state_of}
 use Rattle.client_session.specs.Doing.{beside}
-use Rattle.client_session.proofs.Doing.{WentKept, kept_none, kept_as, kept_then, kept_next}
 use Rattle.client_prog.specs.declared.input.InputEnd.TheVariants.{Read, Failed}
 use Rattle.client_prog.specs.declared.input.InputEnd.{InputEnd}
+use Rattle.client_prog.specs.declared.run.Stop.{Stop}
 use Rattle.client_prog.specs.declared.run.Stop.TheVariants.{Memory}
 use Rattle.client_prog.specs.declared.run.Stop.TheVariants as stops
 use Rattle.client_prog.specs.Input.{last_at, Reading, EndsAt, GoesOnOrEnds}
@@ -14,6 +14,7 @@ use Rattle.client_prog.specs.Run.{has_quit, up_to_quit}
 use Rattle.client_prog.specs.InsideRun.{AnswersLines, AnswersSoFar, AnswersInput, HasUnfinished}
 use Rattle.client_prog.proofs.Counting.{no_fault, same_fault, wanted_fault}
 use Rattle.client_prog.proofs.RunningPieces.{reads_none, reads_more, failed_in, quits_in, stops_in, lost_in, all_in, ends_at, so_far_none, so_far_more, so_far_failed, so_far_quits, so_far_stops, so_far_lost, all_answered, all_stops}
+use Rattle.client_prog.proofs.RunningRecords.{KeptNoting, noting_none, noting_as, noting_then, noting_next, noting_stops}
 use Rattle.client_prog.proofs.run.answer_input.Goals as goal
 
 pub loop-reader-init : goal.loop-reader-init
@@ -33,7 +34,7 @@ loop-reader-init g c =
       sink_same = refl;
       keeper_same = refl;
       kept = c.requires;
-      world = kept_none r (AnswersSoFar r a left left reader o o a) a (g.K.Keeper.images c.args.keeper.now) (beside (g.L.Link.tells c.args.link.now) (telling (g.R.Runner.runs c.args.runner.now) (g.R.Runner.faults c.args.runner.now))) c.requires.0 (so_far_none r a left o reader c.new-reader.ensures);
+      world = noting_none r (AnswersSoFar r a left left reader o o a) c.args.session.now (g.K.Keeper.images c.args.keeper.now) (beside (g.L.Link.tells c.args.link.now) (telling (g.R.Runner.runs c.args.runner.now) (g.R.Runner.faults c.args.runner.now))) c.requires.0 (so_far_none r a left o reader c.new-reader.ensures);
     }
 
 pub returns-in_err-end-clause-world : goal.returns-in_err-end-clause-world
@@ -49,7 +50,7 @@ returns-in_err-end-clause-world g c =
     let rest = g.I.Source.left c.read_piece.new.input in
     let old = c.loop-reader.reader in
     let lost = c.in_err-end.ensures.err in
-    rw (x.1, x.2) (kept_as r (AnswersSoFar r a left mid old o m b) (AnswersInput r a left rest o m (Err Memory) b) a b (g.K.Keeper.images c.args.keeper.now) (g.K.Keeper.images c.loop-reader.keeper)
+    rw (x.1, x.2) (noting_as r {U = InputEnd} (Err Memory) (AnswersSoFar r a left mid old o m b) (AnswersInput r a left rest o m (Err Memory) b) c.args.session.now c.loop-reader.session (g.K.Keeper.images c.args.keeper.now) (g.K.Keeper.images c.loop-reader.keeper)
     (beside (g.L.Link.tells c.args.link.now) (telling (g.R.Runner.runs c.args.runner.now) (g.R.Runner.faults c.args.runner.now))) (beside (g.L.Link.tells c.loop-reader.link) (telling (g.R.Runner.runs c.loop-reader.runner) (g.R.Runner.faults c.loop-reader.runner))) c.loop-reader.invariant.world
     (λ p so_far. so_far_lost r a left o mid rest old lost.0 b m p c.loop-reader.invariant.few lost.1 lost.2 so_far))
 
@@ -76,7 +77,7 @@ returns-in-Some-Failed-clause-world g c =
     let failed : c.in-Some-Failed.field-0 ≡ Failed = rw c.in-Some-Failed.is at c.in-Some-Failed.field-0-is in
     let ended : c.in_ok-end.end ≡ Some Failed = c.in-Some-Failed.is ∙ ap (λ (e : InputEnd). Some e) failed in
     let same : new ≡ old = c.in_ok-end.ensures.failed (ap Ok ended) in
-    kept_as r (AnswersSoFar r a left mid old o m b) (AnswersInput r a left rest o m (Ok Failed) b) a b (g.K.Keeper.images c.args.keeper.now) (g.K.Keeper.images c.loop-reader.keeper)
+    noting_as r {E = Stop} (Ok Failed) (AnswersSoFar r a left mid old o m b) (AnswersInput r a left rest o m (Ok Failed) b) c.args.session.now c.loop-reader.session (g.K.Keeper.images c.args.keeper.now) (g.K.Keeper.images c.loop-reader.keeper)
     (beside (g.L.Link.tells c.args.link.now) (telling (g.R.Runner.runs c.args.runner.now) (g.R.Runner.faults c.args.runner.now))) (beside (g.L.Link.tells c.loop-reader.link) (telling (g.R.Runner.runs c.loop-reader.runner) (g.R.Runner.faults c.loop-reader.runner))) c.loop-reader.invariant.world
     (λ p so_far. so_far_failed r a left o mid rest old new c.in_ok-end.end b m p c.loop-reader.invariant.few c.in_ok-end.ensures.ok ended same c.loop-reader.invariant.no_line so_far)
 
@@ -111,7 +112,7 @@ returns-then-quit-clause-world g c =
     let old = c.loop-reader.reader in
     let new = c.read_piece.new.self in
     let quit : has_quit (whole_lines new.bytes) ≡ true = sym c.in_ok-quit.ensures.quit ∙ c.if-quit.true in
-    kept_next r (AnswersSoFar r a left mid old o m b) (AnswersLines r b (up_to_quit (whole_lines new.bytes)) m n (Ok c.in_ok-quit.quit) d) (AnswersInput r a left rest o n (Ok Read) d) a b d i j l t u v
+    noting_next r c.in_ok-quit.quit Read (AnswersSoFar r a left mid old o m b) (AnswersLines r b (up_to_quit (whole_lines new.bytes)) m n (Ok c.in_ok-quit.quit) d) (AnswersInput r a left rest o n (Ok Read) d) c.args.session.now c.loop-reader.session c.answer_lines.new.session i j l t u v
     c.loop-reader.invariant.world c.in_ok-quit.ensures.world
     (λ k p q first last. so_far_quits r a left o mid rest old new c.in_ok-end.end b d k m n p q c.loop-reader.invariant.few c.in_ok-end.ensures.ok quit first last.0 last.1)
 
@@ -143,7 +144,7 @@ returns-in_err-quit-clause-world g c =
     let old = c.loop-reader.reader in
     let new = c.read_piece.new.self in
     let stop = c.in_err-quit.field-0.0 in
-    rw (x.1, x.2) (kept_next r (AnswersSoFar r a left mid old o m b) (AnswersLines {T = Bool} r b (up_to_quit (whole_lines new.bytes)) m n (Err stop) d) (AnswersInput r a left rest o n (Err stop) d) a b d i j l t u v
+    rw (x.1, x.2) (noting_stops r {U = Bool} InputEnd (Err stop) stop (AnswersSoFar r a left mid old o m b) (AnswersLines {T = Bool} r b (up_to_quit (whole_lines new.bytes)) m n (Err stop) d) (AnswersInput r a left rest o n (Err stop) d) c.args.session.now c.loop-reader.session c.answer_lines.new.session i j l t u v
     c.loop-reader.invariant.world c.in_err-quit.ensures.world
     (λ h p q first last. so_far_stops r a left o mid rest old new c.in_ok-end.end stop b d h m n p q c.loop-reader.invariant.few c.in_ok-end.ensures.ok first last))
 
@@ -186,11 +187,11 @@ returns-in_err-answer_last-clause-world g c =
     let left_is : HasUnfinished new final = c.in_ok-quit.ensures.left c.if-quit.false in
     let none : has_quit (whole_lines new.bytes) ≡ false = sym c.in_ok-quit.ensures.quit ∙ c.if-quit.false in
     let ends : EndsAt rest final.count end = ends_at rest old.count new final c.in_ok-end.end end c.in-Some.is left_is c.in_ok-end.ensures.ok.ended in
-    let so_far : WentKept r (AnswersSoFar r a left rest final o n d) a d i l t v =
-    (kept_then r (AnswersSoFar r a left mid old o m b) (AnswersSoFar r a left rest final o n d) (AnswersLines r b (up_to_quit (whole_lines new.bytes)) m n (Ok c.in_ok-quit.quit) d) a b d i j l t u v
+    let so_far : KeptNoting r (AnswersSoFar r a left rest final o n d) c.args.session.now c.answer_lines.new.session i l t v =
+    (noting_then r c.in_ok-quit.quit (AnswersSoFar r a left mid old o m b) (AnswersSoFar r a left rest final o n d) (AnswersLines r b (up_to_quit (whole_lines new.bytes)) m n (Ok c.in_ok-quit.quit) d) c.args.session.now c.loop-reader.session c.answer_lines.new.session i j l t u v
     c.loop-reader.invariant.world c.in_ok-quit.ensures.world (λ k trace turn. turn.1)
     (λ p q first last. so_far_more r a left o mid rest old new final c.in_ok-end.end b d m n p q c.loop-reader.invariant.few c.in_ok-end.ensures.ok left_is none first last.0)) in
-    rw (x.1, x.2) (kept_next r (AnswersSoFar r a left rest final o n d) (AnswersLines {T = Unit {0}} r d (last_at end final.bytes) n k (Err stop) e) (AnswersInput r a left rest o k (Err stop) e) a d e i l h t v w
+    rw (x.1, x.2) (noting_stops r {U = Unit {0}} InputEnd (Err stop) stop (AnswersSoFar r a left rest final o n d) (AnswersLines {T = Unit {0}} r d (last_at end final.bytes) n k (Err stop) e) (AnswersInput r a left rest o k (Err stop) e) c.args.session.now c.answer_lines.new.session c.answer_last.new.session i l h t v w
     so_far c.in_err-answer_last.ensures.world
     (λ f p q first last. all_stops r a left o rest final end stop d e f n k p q left_is.no_line ends first last))
 
@@ -232,11 +233,11 @@ returns-in-Some-clause-world g c =
     let left_is : HasUnfinished new final = c.in_ok-quit.ensures.left c.if-quit.false in
     let none : has_quit (whole_lines new.bytes) ≡ false = sym c.in_ok-quit.ensures.quit ∙ c.if-quit.false in
     let ends : EndsAt rest final.count end = ends_at rest old.count new final c.in_ok-end.end end c.in-Some.is left_is c.in_ok-end.ensures.ok.ended in
-    let so_far : WentKept r (AnswersSoFar r a left rest final o n d) a d i l t v =
-    (kept_then r (AnswersSoFar r a left mid old o m b) (AnswersSoFar r a left rest final o n d) (AnswersLines r b (up_to_quit (whole_lines new.bytes)) m n (Ok c.in_ok-quit.quit) d) a b d i j l t u v
+    let so_far : KeptNoting r (AnswersSoFar r a left rest final o n d) c.args.session.now c.answer_lines.new.session i l t v =
+    (noting_then r c.in_ok-quit.quit (AnswersSoFar r a left mid old o m b) (AnswersSoFar r a left rest final o n d) (AnswersLines r b (up_to_quit (whole_lines new.bytes)) m n (Ok c.in_ok-quit.quit) d) c.args.session.now c.loop-reader.session c.answer_lines.new.session i j l t u v
     c.loop-reader.invariant.world c.in_ok-quit.ensures.world (λ k trace turn. turn.1)
     (λ p q first last. so_far_more r a left o mid rest old new final c.in_ok-end.end b d m n p q c.loop-reader.invariant.few c.in_ok-end.ensures.ok left_is none first last.0)) in
-    kept_next r (AnswersSoFar r a left rest final o n d) (AnswersLines r d (last_at end final.bytes) n k (Ok done) e) (AnswersInput r a left rest o k (Ok end) e) a d e i l h t v w
+    noting_next r done end (AnswersSoFar r a left rest final o n d) (AnswersLines r d (last_at end final.bytes) n k (Ok done) e) (AnswersInput r a left rest o k (Ok end) e) c.args.session.now c.answer_lines.new.session c.answer_last.new.session i l h t v w
     so_far c.in_ok-answer_last.ensures.world
     (λ f p q first last. all_answered r a left o rest final end d e f n k p q left_is.no_line ends first last.0 last.1)
 
@@ -294,7 +295,7 @@ loop-reader-preserved g c =
       keeper_same = c.in_ok-quit.ensures.keeper.never (λ is. absurd (cc (is))) ∙ c.loop-reader.invariant.keeper_same;
       kept = c.in_ok-quit.ensures.kept;
       world =
-          kept_then r (AnswersSoFar r a left mid old o m b) (AnswersSoFar r a left rest final o n d) (AnswersLines r b (up_to_quit (whole_lines new.bytes)) m n (Ok c.in_ok-quit.quit) d) a b d i j l t u v
+          noting_then r c.in_ok-quit.quit (AnswersSoFar r a left mid old o m b) (AnswersSoFar r a left rest final o n d) (AnswersLines r b (up_to_quit (whole_lines new.bytes)) m n (Ok c.in_ok-quit.quit) d) c.args.session.now c.loop-reader.session c.answer_lines.new.session i j l t u v
           c.loop-reader.invariant.world c.in_ok-quit.ensures.world (λ k trace turn. turn.1)
           (λ p q first last. so_far_more r a left o mid rest old new final c.in_ok-end.end b d m n p q c.loop-reader.invariant.few c.in_ok-end.ensures.ok left_is none first last.0);
     }

@@ -3,11 +3,12 @@ use Rattle.client_core.specs.Trace.{nothing}
 use Rattle.cmd_capture.specs.Runs.{telling}
 use Rattle.client_session.specs.Session.{state_of}
 use Rattle.client_session.specs.Doing.{beside}
-use Rattle.client_session.proofs.Doing.{went_none}
 use Rattle.client_prog.specs.declared.input.InputEnd.{InputEnd}
+use Rattle.client_prog.specs.declared.run.Stop.{Stop}
 use Rattle.client_prog.specs.Input.{last_at}
 use Rattle.client_prog.specs.InsideRun.{AllAnswered, AnswersLines}
 use Rattle.client_prog.proofs.RunningLines.{answers_nothing}
+use Rattle.client_prog.proofs.RunningRecords.{done_none}
 use Rattle.client_prog.proofs.run.answer_last.Goals as goal
 
 pub returns-in-Failed-clause-world : goal.returns-in-Failed-clause-world
@@ -18,5 +19,5 @@ returns-in-Failed-clause-world g c =
     let bytes = c.args.reader.now.bytes in
     let none : last_at c.args.end bytes ≡ [] =
     ⊎_elim (λ is. ap (λ (e : InputEnd). last_at e bytes) is) (λ is. ap (λ (e : InputEnd). last_at e bytes) is) c.in-Failed.is in
-    went_none r (AnswersLines {T = Unit {0}} r a (last_at c.args.end bytes) o o (Ok tt) a) a (g.K.Keeper.images c.args.keeper.now) (beside (g.L.Link.tells c.args.link.now) (telling (g.R.Runner.runs c.args.runner.now) (g.R.Runner.faults c.args.runner.now))) c.requires.0
+    done_none r {E = Stop} (Ok (tt {0})) (AnswersLines {T = Unit {0}} r a (last_at c.args.end bytes) o o (Ok tt) a) c.args.session.now (g.K.Keeper.images c.args.keeper.now) (beside (g.L.Link.tells c.args.link.now) (telling (g.R.Runner.runs c.args.runner.now) (g.R.Runner.faults c.args.runner.now))) c.requires.0
     (subst (λ (ls : List (List ℕ)). AllAnswered r a ls o o a nothing) (sym none) (answers_nothing r a o), refl)

@@ -5,13 +5,14 @@ use Rattle.shell_lang.proofs.Cutting.{all_lines_taken}
 use Rattle.cmd_capture.specs.Runs.{telling}
 use Rattle.client_session.specs.Session.{state_of}
 use Rattle.client_session.specs.Doing.{beside}
-use Rattle.client_session.proofs.Doing.{kept_none, kept_as, kept_then, kept_next}
+use Rattle.client_prog.specs.declared.run.Stop.{Stop}
 use Rattle.client_prog.specs.declared.run.Stop.TheVariants as stops
 use Rattle.client_prog.specs.Input.{Reading}
 use Rattle.client_prog.specs.Run.{quits, up_to_quit}
 use Rattle.client_prog.specs.InsideRun.{AnswersLines, AnswersFront}
 use Rattle.client_prog.proofs.Counting.{no_fault, same_fault}
 use Rattle.client_prog.proofs.RunningInput.{line_cut, one_quits, no_line_quits, front_none, front_line, front_quits, front_stops, front_done}
+use Rattle.client_prog.proofs.RunningRecords.{noting_none, noting_as, noting_then, noting_next, noting_stops}
 use Rattle.client_prog.proofs.run.answer_lines.Goals as goal
 
 pub loop-line-init : goal.loop-line-init
@@ -28,7 +29,7 @@ loop-line-init g c =
       sink_same = refl;
       keeper_same = refl;
       kept = c.requires;
-      world = kept_none r (AnswersFront r a bytes bytes o o a) a (g.K.Keeper.images c.args.keeper.now) (beside (g.L.Link.tells c.args.link.now) (telling (g.R.Runner.runs c.args.runner.now) (g.R.Runner.faults c.args.runner.now))) c.requires.0 (front_none r a bytes o);
+      world = noting_none r (AnswersFront r a bytes bytes o o a) c.args.session.now (g.K.Keeper.images c.args.keeper.now) (beside (g.L.Link.tells c.args.link.now) (telling (g.R.Runner.runs c.args.runner.now) (g.R.Runner.faults c.args.runner.now))) c.requires.0 (front_none r a bytes o);
     }
 
 pub loop-line-preserved : goal.loop-line-preserved
@@ -63,7 +64,7 @@ loop-line-preserved g c =
       sink_same = c.in_ok-quit.ensures.cause.never (λ is. absurd (cc (is))) ∙ c.loop-line.invariant.sink_same;
       keeper_same = c.in_ok-quit.ensures.keeper.never (λ is. absurd (cc (is))) ∙ c.loop-line.invariant.keeper_same;
       kept = c.in_ok-quit.ensures.kept;
-      world = kept_then r (AnswersFront r a bytes left o m b) (AnswersFront r a bytes behind o n d) (AnswersLines r b (line ∷ []) m n (Ok done) d) a b d i j l t u v
+      world = noting_then r done (AnswersFront r a bytes left o m b) (AnswersFront r a bytes behind o n d) (AnswersLines r b (line ∷ []) m n (Ok done) d) c.args.session.now c.loop-line.session c.answer.new.session i j l t u v
           c.loop-line.invariant.world c.in_ok-quit.ensures.world (λ k trace turn. turn.1)
           (λ p q first last. front_line r a bytes o left behind line b d m n p q begins is goes_on first last.0);
     }
@@ -89,7 +90,7 @@ returns-then-quit-clause-world g c =
     let begins : BeginsWithLine left line = c.in-Some.ensures in
     let quit : quits line ≡ true = sym c.in_ok-quit.ensures.quit ∙ c.if-quit.true in
     let done = c.in_ok-quit.quit in
-    kept_next r (AnswersFront r a bytes left o m b) (AnswersLines r b (line ∷ []) m n (Ok done) d) (AnswersLines r a (up_to_quit (whole_lines bytes)) o n (Ok true) d) a b d i j l t u v
+    noting_next r done true (AnswersFront r a bytes left o m b) (AnswersLines r b (line ∷ []) m n (Ok done) d) (AnswersLines r a (up_to_quit (whole_lines bytes)) o n (Ok true) d) c.args.session.now c.loop-line.session c.answer.new.session i j l t u v
     c.loop-line.invariant.world c.in_ok-quit.ensures.world
     (λ k p q first last. (front_quits r a bytes o left line b d m n p q begins quit first last.0, last.1))
 
@@ -119,7 +120,7 @@ returns-in_err-quit-clause-world g c =
     let line = c.in-Some.line.now in
     let stop = c.in_err-quit.field-0.0 in
     let begins : BeginsWithLine left line = c.in-Some.ensures in
-    rw (e.1, e.2) (kept_next r (AnswersFront r a bytes left o m b) (AnswersLines {T = Bool} r b (line ∷ []) m n (Err stop) d) (AnswersLines {T = Bool} r a (up_to_quit (whole_lines bytes)) o n (Err stop) d) a b d i j l t u v
+    rw (e.1, e.2) (noting_stops r {U = Bool} Bool (Err stop) stop (AnswersFront r a bytes left o m b) (AnswersLines {T = Bool} r b (line ∷ []) m n (Err stop) d) (AnswersLines {T = Bool} r a (up_to_quit (whole_lines bytes)) o n (Err stop) d) c.args.session.now c.loop-line.session c.answer.new.session i j l t u v
     c.loop-line.invariant.world c.in_err-quit.ensures.world
     (λ k p q first last. front_stops r a bytes o stop left line b d k m n p q begins first last))
 
@@ -133,7 +134,7 @@ returns-clause-world g c =
     let bytes = c.args.reader.now.bytes in
     let left = c.loop-line.reader.bytes in
     let none : parts left ≡ left ∷ [] = c.in_default.ensures in
-    kept_as r (AnswersFront r a bytes left o m b) (AnswersLines r a (up_to_quit (whole_lines bytes)) o m (Ok false) b) a b (g.K.Keeper.images c.args.keeper.now) (g.K.Keeper.images c.loop-line.keeper)
+    noting_as r {E = Stop} (Ok false) (AnswersFront r a bytes left o m b) (AnswersLines r a (up_to_quit (whole_lines bytes)) o m (Ok false) b) c.args.session.now c.loop-line.session (g.K.Keeper.images c.args.keeper.now) (g.K.Keeper.images c.loop-line.keeper)
     (beside (g.L.Link.tells c.args.link.now) (telling (g.R.Runner.runs c.args.runner.now) (g.R.Runner.faults c.args.runner.now))) (beside (g.L.Link.tells c.loop-line.link) (telling (g.R.Runner.runs c.loop-line.runner) (g.R.Runner.faults c.loop-line.runner))) c.loop-line.invariant.world
     (λ p front. (front_done r a bytes o left b m p none front, refl))
 

@@ -1,4 +1,4 @@
-use Rattle.std.proofs.Common.{◌≡◌, ◌⊎◌, ℕ, List, Option, Err, sym, ◌∙◌, ap, subst, arith}
+use Rattle.std.proofs.Common.{◌≡◌, ◌⊎◌, ℕ, List, [], Option, Err, sym, ◌∙◌, ap, subst, arith}
 use Rattle.std.specs.Prelude.{IfSome}
 use Rattle.std.specs.Option.{option_copied}
 use Rattle.outside.specs.Outside.{Told}
@@ -15,8 +15,8 @@ use Rattle.client_session.specs.Session.{Sitting, state_of, opened}
 use Rattle.client_prog.specs.Opening.{status_unopened}
 use Rattle.client_prog.specs.Run.{route_of, status_of, IsInputRead}
 use Rattle.cmd_capture.specs.Runs.{telling}
-use Rattle.client_session.specs.Doing.{WentDoing, beside}
-use Rattle.client_prog.specs.InsideRun.{RunAnswers}
+use Rattle.client_session.specs.Doing.{beside}
+use Rattle.client_prog.specs.InsideRun.{WentNoting, RunAnswers}
 use Rattle.client_prog.proofs.Counting.{source_status, sink_status, keeper_status, source_unopened, sink_unopened, keeper_unopened, rises, rose}
 use Rattle.client_prog.proofs.RunningEnds.{is_read, ends_well}
 use Rattle.client_prog.proofs.RunningOpened.{not_six, image_is, is_unopened, none_read, RanFrom, opened_ran, wanted_ran, unopened_ran, EndsWellFrom, opened_well, wanted_well, unopened_well, opened_of_none}
@@ -67,13 +67,14 @@ returns-in-Ok-open-clause-session g c =
     let n = g.O.Sink.written c.run-ended.new.output in
     let j = g.K.Keeper.images c.run-ended.new.keeper in
     let u = beside (g.L.Link.tells c.run-ended.new.link) (telling (g.R.Runner.runs c.run-ended.new.runner) (g.R.Runner.faults c.run-ended.new.runner)) in
-    let after = state_of c.run-ended.new.session in
-    let went : WentDoing (route_of run) (RunAnswers (route_of run) (opened client.number client.log) left rest o n ended after) (opened client.number client.log) after i j t u =
-    subst (λ (s : Sitting). WentDoing (route_of run) (RunAnswers (route_of run) (state_of s) left rest o n ended after) (state_of s) after i j t u) c.new-session.ensures
-    (subst (λ (r : Route). WentDoing r (RunAnswers r (state_of c.new-session.result) left rest o n ended after) (state_of c.new-session.result) after i j t u) c.in-Ok.ensures
-    (subst (λ (told : Option Images). WentDoing c.in-Ok.route (RunAnswers c.in-Ok.route (state_of c.new-session.result) left rest o n ended after) (state_of c.new-session.result) after told j t u) c.in-Ok-open.ensures.same c.run-ended.ensures.world)) in
+    let after = c.run-ended.new.session in
+    let now = state_of after in
+    let went : WentNoting (route_of run) ended (RunAnswers (route_of run) (opened client.number client.log) left rest o n ended now) (record { client = client; folder = [] }) after i j t u =
+    subst (λ (s : Sitting). WentNoting (route_of run) ended (RunAnswers (route_of run) (state_of s) left rest o n ended now) s after i j t u) c.new-session.ensures
+    (subst (λ (r : Route). WentNoting r ended (RunAnswers r (state_of c.new-session.result) left rest o n ended now) c.new-session.result after i j t u) c.in-Ok.ensures
+    (subst (λ (told : Option Images). WentNoting c.in-Ok.route ended (RunAnswers c.in-Ok.route (state_of c.new-session.result) left rest o n ended now) c.new-session.result after told j t u) c.in-Ok-open.ensures.same c.run-ended.ensures.world)) in
     subst (λ (f : Option Invocation). IfSome f (RanFrom i j left rest o n status t u)) (sym c.in-Some.ensures.form)
-    (opened_ran run client i j left rest o n ended after status t u c.in-Ok-open.ensures.number
+    (opened_ran run client i j left rest o n ended after status t u c.in-Ok-open.ensures.number c.in-Ok-open.ensures.journal
     (λ start told. c.in-Ok-open.ensures.only start (subst (λ (m : List ℕ). TellsKept i m run.client start) (sym at) told)) is went)
 
 pub returns-in-Ok-open-clause-image : goal.returns-in-Ok-open-clause-image

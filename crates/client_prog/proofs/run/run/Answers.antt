@@ -3,10 +3,11 @@ use Rattle.std.proofs.lemmas.Result.{err_from_is_err_and}
 use Rattle.cmd_capture.specs.Runs.{telling}
 use Rattle.client_session.specs.Session.{state_of}
 use Rattle.client_session.specs.Doing.{beside}
-use Rattle.client_session.proofs.Doing.{went_as}
+use Rattle.client_prog.specs.declared.input.InputEnd.{InputEnd}
 use Rattle.client_prog.specs.declared.run.Stop.TheVariants.{Keeper}
 use Rattle.client_prog.specs.InsideRun.{AnswersInput, RunAnswers}
 use Rattle.client_prog.proofs.RunningEnds.{run_stops, run_ends, run_closing}
+use Rattle.client_prog.proofs.RunningRecords.{stops_as, ends_as}
 use Rattle.client_prog.proofs.run.run.Goals as goal
 
 pub returns-in_err-end-clause-world : goal.returns-in_err-end-clause-world
@@ -24,8 +25,8 @@ returns-in_err-end-clause-world g c =
     let left = g.I.Source.left c.args.input.now in
     let rest = g.I.Source.left c.answer_input.new.input in
     let stop = c.in_err-end.field-0.0 in
-    rw (x.1, x.2) (went_as r (AnswersInput r a left rest o n (Err stop) b) (RunAnswers r a left rest o n (Err stop) b) a b i j t u c.in_err-end.ensures.world
-    (λ k p turn behind. run_stops r a left rest o stop n b k p turn))
+    rw (x.1, x.2) (stops_as r {U = InputEnd} InputEnd (Err stop) stop (AnswersInput r a left rest o n (Err stop) b) (RunAnswers r a left rest o n (Err stop) b) c.args.session.now c.answer_input.new.session i j t u c.in_err-end.ensures.world
+    (λ k p turn. run_stops r a left rest o stop n b k p turn))
 
 pub returns-clause-world : goal.returns-clause-world
 returns-clause-world g c =
@@ -42,8 +43,8 @@ returns-clause-world g c =
     let left = g.I.Source.left c.args.input.now in
     let rest = g.I.Source.left c.answer_input.new.input in
     let end = c.in_ok-end.end in
-    went_as r (AnswersInput r a left rest o m (Ok end) b) (RunAnswers r a left rest o n (Ok end) b) a b i j t u c.in_ok-end.ensures.world
-    (λ k p turn behind. run_ends r a left rest o end m n b k p turn c.in_ok-close.ensures.all)
+    ends_as r end end (AnswersInput r a left rest o m (Ok end) b) (RunAnswers r a left rest o n (Ok end) b) c.args.session.now c.answer_input.new.session i j t u c.in_ok-end.ensures.world
+    (λ k p turn. run_ends r a left rest o end m n b k p turn c.in_ok-close.ensures.all)
 
 pub returns-in_err-close-clause-world : goal.returns-in_err-close-clause-world
 returns-in_err-close-clause-world g c =
@@ -64,5 +65,5 @@ returns-in_err-close-clause-world g c =
     let stop = c.in_err-close.field-0.0 in
     let front = c.in_err-close.ensures.front in
     let other : stop ≢ Keeper = λ is. c.in_err-close.ensures.keeper (ap Err is) in
-    rw (x.1, x.2) (went_as r (AnswersInput r a left rest o m (Ok end) b) (RunAnswers r a left rest o n (Err stop) b) a b i j t u c.in_ok-end.ensures.world
-    (λ k p turn behind. run_closing r a left rest o end stop front.1.0 m n b k p front.0 other turn front.1.1))
+    rw (x.1, x.2) (stops_as r InputEnd (Ok end) stop (AnswersInput r a left rest o m (Ok end) b) (RunAnswers r a left rest o n (Err stop) b) c.args.session.now c.answer_input.new.session i j t u c.in_ok-end.ensures.world
+    (λ k p turn. run_closing r a left rest o end stop front.1.0 m n b k p front.0 other turn front.1.1))

@@ -1,19 +1,19 @@
-use Rattle.std.proofs.Common.{is_some, None, ◌≡◌, ℕ, List, refl, sym, subst}
+use Rattle.std.proofs.Common.{is_some, None, false, ◌≡◌, ◌≢◌, ◌∙◌, ℕ, List, refl, sym, subst}
 use Rattle.outside.specs.Outside.{Told, RisesWhere}
 use Rattle.world_rules.specs.Telling.{LinkTelling}
 use Rattle.client_core.specs.Client.{Client}
 use Rattle.client_core.specs.declared.pulling.PullEnd.{PullEnd}
-use Rattle.client_core.specs.declared.pulling.PullEnd.TheVariants.{KeepFault}
+use Rattle.client_core.specs.declared.pulling.PullEnd.TheVariants.{Pulled, KeepFault}
 use Rattle.mod_log.specs.Log.{Log}
 use Rattle.client_core.specs.Inside.{PullLeaves, JournalIsCurrent}
-use Rattle.client_core.specs.Pulling.{PullEnds}
+use Rattle.client_core.specs.Pulling.{PullEnds, is_broken_pull}
 use Rattle.client_core.specs.Keeping.{IsKept, IsReady, KeepsNext, KeepsLog}
 use Rattle.client_core.specs.Causes.{HasPullCause, PullKeeps}
 use Rattle.client_core.specs.Goes.{Went}
 use Rattle.client_core.specs.Honest.{FromInStep, IsNotOlder}
 use Rattle.client_core.proofs.Journal.{current_ready, none_added, next_keeps, next_current}
 use Rattle.client_core.proofs.Counting.{rose_once, unrisen, pulled_rises}
-use Rattle.client_core.proofs.Pulls.{pulled_went, unpulled_went, pull_keeps, pull_keeps_same, pulled_cause, older_never, unpulled, leaves_same}
+use Rattle.client_core.proofs.Pulls.{pulled_went, unpulled_went, pull_keeps, pull_keeps_same, pulled_cause, older_never, unpulled, leaves_same, kept_pulled}
 use Rattle.client_core.proofs.Truths.{pull_not_other}
 use Rattle.client_core.proofs.client.Client.pull.Goals as goal
 
@@ -205,3 +205,18 @@ returns-in_default-clause-ready g c =
     let end = c.pull_log.result in
     let ready : IsReady i route.image (record { number = client; log = before; journal = c.self.inside.journal }) = subst (IsReady i route.image) (sym c.self.view_is) c.requires.1 in
     subst (λ (log : Log). IsReady i route.image (record { number = client; log = log; journal = c.self.inside.journal })) (sym (leaves_same before c.pull_log.new.log end (unpulled end c.in_default.not-Pulled) c.pull_log.ensures.leaves)) ready
+
+-- ---- what is as before
+
+pub returns-clause-unchanged : goal.returns-clause-unchanged
+returns-clause-unchanged g c = λ whole other.
+    absurd (kept_pulled c.in-Pulled.count c.keep_log-kept.result (subst (λ (e : PullEnd). is_broken_pull e ≡ false) c.pulled_end.ensures whole)
+    (subst (λ (e : PullEnd). (count : ℕ) → e ≢ Pulled count) c.pulled_end.ensures other))
+
+pub returns-in_default-clause-unchanged : goal.returns-in_default-clause-unchanged
+returns-in_default-clause-unchanged g c = λ whole other.
+    let same = leaves_same c.self.inside.log c.pull_log.new.log c.pull_log.result (unpulled c.pull_log.result c.in_default.not-Pulled) c.pull_log.ensures.leaves in
+    let before : Client = record { number = c.self.inside.number; log = c.self.inside.log; journal = c.self.inside.journal } in
+    let after : Client = record { number = c.self.inside.number; log = c.pull_log.new.log; journal = c.self.inside.journal } in
+    let stays : after ≡ before = λ k. record { number = c.self.inside.number; log = same k; journal = c.self.inside.journal } in
+    (stays ∙ c.self.view_is, refl)

@@ -1,4 +1,4 @@
-use Rattle.std.proofs.Common.{is_some, true, ◌≡◌, ◌∙◌, ℕ, List, Ok, Err, Some, None, Option, refl, ap, sym, subst, arith}
+use Rattle.std.proofs.Common.{is_some, true, false, ◌≡◌, ◌∙◌, ℕ, List, Ok, Err, Some, None, Option, refl, ap, sym, subst, arith}
 use Rattle.outside.specs.Outside.{Told, RisesWhere}
 use Rattle.outside.specs.declared.errors.KeepError.{KeepError}
 use Rattle.mod_log.specs.Log.{Log, acknowledged}
@@ -8,16 +8,19 @@ use Rattle.client_core.specs.Client.{Client}
 use Rattle.client_core.specs.declared.syncing.SyncEnd.{SyncEnd}
 use Rattle.client_core.specs.declared.syncing.SyncEnd.TheVariants.{Synced, KeepFault, Memory}
 use Rattle.client_core.specs.Causes.{HasSyncCause, SyncKeeps, AcknowledgesSome}
-use Rattle.client_core.specs.Syncing.{IsFirst, acknowledged_first, end_by, Ships, unkept_end, SyncEnds}
+use Rattle.client_core.specs.Syncing.{IsFirst, acknowledged_first, end_by, Ships, unkept_end, is_broken_sync, SyncEnds}
 use Rattle.client_core.specs.Inside.{AskedFor, MayKeep, JournalIsCurrent}
-use Rattle.client_core.specs.Journal.{next_notes}
+use Rattle.client_core.specs.declared.keeping.Journal.{Journal}
+use Rattle.client_core.specs.Journal.{next_notes, journal_after}
+use Rattle.client_core.specs.Noting.{KeepsChanges}
 use Rattle.client_core.specs.Keeping.{IsKept, IsReady, KeepsNext, KeepsLog}
 use Rattle.client_core.specs.Goes.{Went}
 use Rattle.client_core.proofs.Acknowledging.{some_none, some_more}
 use Rattle.client_core.proofs.Counting.{rose_once, unrisen, unkept_rises, end_by_reply}
 use Rattle.client_core.proofs.Journal.{current_ready, ready_current, acked_one, may_keep_acked, next_keeps, next_current}
+use Rattle.client_core.proofs.Noting.{KeepsAcks, acks_none, acks_more, acks_all}
 use Rattle.client_core.proofs.Firsts.{first_is, none_is, first_some, first_pending, first_number, first_made, store_valid, shorter}
-use Rattle.client_core.proofs.Syncs.{WentSoFar, KeepsAcked, unkept_cause, settled_end, acked_none, acked_more, keeps_none, keeps_now, keeps_more, keeps_cut, keeps_whole, sync_ends, sync_breaks, sync_unkept, sync_synced, has_cause}
+use Rattle.client_core.proofs.Syncs.{WentSoFar, KeepsAcked, unkept_cause, unkept_broken, settled_end, acked_none, acked_more, keeps_none, keeps_now, keeps_more, keeps_cut, keeps_whole, sync_ends, sync_breaks, sync_unkept, sync_synced, has_cause}
 use Rattle.client_core.proofs.Ships.{goes_on, ships_reply, shipped_troubles}
 use Rattle.client_core.proofs.Truths.{went_true, went_complete}
 use Rattle.client_core.proofs.client.Client.sync.Goals as goal
@@ -37,6 +40,7 @@ loop-entry-init g c =
       some = some_none before;
       keeps = keeps_none route.image client before i keeps;
       current = ready_current route.image client before c.self.inside.journal i keeps ready;
+      acks = acks_none route.image client before c.self.inside.journal i;
       world = acked_none client route before i (g.L.Link.tells c.args.link.now) keeps;
     }
 
@@ -475,6 +479,11 @@ loop-entry-preserved g c =
           (keeps_more route.image client before mid i j l c.loop-entry.invariant.keeps (first_some mid.pending entry first) (Ok c.in_default-keep_log.field-0) kept);
       current = subst (JournalIsCurrent l route.image client next) (sym c.in_default-keep_log.ensures.journal)
           (next_current {E = KeepError} route.image client next journal (next_notes journal true next) (Ok c.in_default-keep_log.field-0) j l told);
+      acks = subst (λ (log : Log). KeepsAcks route.image client before c.self.inside.journal log c.keep_log.new.journal i l) is
+          (subst (λ (now : Option Journal). KeepsAcks route.image client before c.self.inside.journal (acknowledged_first mid) now i l)
+          (sym (c.in_default-keep_log.ensures.journal ∙ ap (λ (log : Log). journal_after {E = KeepError} journal (next_notes journal true log) log (Ok c.in_default-keep_log.field-0)) (sym is)))
+          (acks_more route.image client before c.self.inside.journal mid journal c.in_default-keep_log.field-0 i j l c.loop-entry.invariant.acks (first_some mid.pending entry first) c.loop-entry.invariant.current
+          (subst (λ (log : Log). Told j l (KeepsNext {E = KeepError} route.image client log (next_notes journal true log) (Ok c.in_default-keep_log.field-0))) (sym is) told)));
       world = subst (λ (log : Log). WentSoFar client route before log i l t v) is
           (acked_more client route before mid entry c.in-Some.ensures.log first i j keeps t u v c.loop-entry.invariant.world on.0 on.2 goes done l (Ok c.in_default-keep_log.field-0) kept);
     }
@@ -636,3 +645,36 @@ returns-clause-ready g c =
     let name = c.args.route.now.image in
     subst (λ (n : ℕ). IsReady i name (record { number = n; log = log; journal = journal })) (sym c.loop-entry.invariant.number)
     (current_ready name c.self.inside.number log journal i c.loop-entry.invariant.current)
+
+-- ---- what was kept record by record
+
+pub returns-in-Err-clause-records : goal.returns-in-Err-clause-records
+returns-in-Err-clause-records g c = λ whole. absurd (cc (whole))
+
+pub returns-in-Some-end_by-clause-records : goal.returns-in-Some-end_by-clause-records
+returns-in-Some-end_by-clause-records g c = λ whole.
+    let client = c.self.inside.number in
+    let name = c.args.route.now.image in
+    let mid = c.loop-entry.self-inside.log in
+    let journal = c.loop-entry.self-inside.journal in
+    let i = g.K.Keeper.images c.args.keeper.now in
+    let j = g.K.Keeper.images c.loop-entry.keeper in
+    subst (λ (self : Client). KeepsChanges name self (record { number = c.loop-entry.self-inside.number; log = mid; journal = journal }) i j) c.self.view_is
+    (subst (λ (n : ℕ). KeepsChanges name (record { number = client; log = c.self.inside.log; journal = c.self.inside.journal }) (record { number = n; log = mid; journal = journal }) i j) (sym c.loop-entry.invariant.number)
+    (acks_all name client c.self.inside.log c.self.inside.journal mid journal i j c.loop-entry.invariant.some c.loop-entry.invariant.acks))
+
+pub returns-in-Err-keep_log-clause-records : goal.returns-in-Err-keep_log-clause-records
+returns-in-Err-keep_log-clause-records g c = λ whole.
+    absurd (unkept_broken c.in-Err-keep_log.refused (subst (λ (end : SyncEnd). is_broken_sync end ≡ false) c.unkept_end.ensures whole))
+
+pub returns-clause-records : goal.returns-clause-records
+returns-clause-records g c = λ whole.
+    let client = c.self.inside.number in
+    let name = c.args.route.now.image in
+    let mid = c.loop-entry.self-inside.log in
+    let journal = c.loop-entry.self-inside.journal in
+    let i = g.K.Keeper.images c.args.keeper.now in
+    let j = g.K.Keeper.images c.loop-entry.keeper in
+    subst (λ (self : Client). KeepsChanges name self (record { number = c.loop-entry.self-inside.number; log = mid; journal = journal }) i j) c.self.view_is
+    (subst (λ (n : ℕ). KeepsChanges name (record { number = client; log = c.self.inside.log; journal = c.self.inside.journal }) (record { number = n; log = mid; journal = journal }) i j) (sym c.loop-entry.invariant.number)
+    (acks_all name client c.self.inside.log c.self.inside.journal mid journal i j c.loop-entry.invariant.some c.loop-entry.invariant.acks))

@@ -1,6 +1,7 @@
 use Rattle.std.proofs.Common.{◌≡◌, ◌≤◌, length}
 use Rattle.client_core.specs.Causes.{AcknowledgesSome}
 use Rattle.client_core.specs.Inside.{JournalIsCurrent}
+use Rattle.client_core.proofs.Noting.{KeepsAcks}
 use Rattle.client_core.proofs.Syncs.{WentSoFar, KeepsAcked}
 use Rattle.client_core.proofs.client.Client.sync.Given as goal
 
@@ -12,6 +13,7 @@ invariant-loop-entry g l = record {
   some : AcknowledgesSome l.initial.self-inside.log l.self-inside.log;
   keeps : KeepsAcked l.initial.self-inside.log l.route.image l.client l.self-inside.log (g.K.Keeper.images l.fn.keeper) (g.K.Keeper.images l.keeper);
   current : JournalIsCurrent (g.K.Keeper.images l.keeper) l.route.image l.client l.self-inside.log l.self-inside.journal;
+  acks : KeepsAcks l.route.image l.client l.initial.self-inside.log l.initial.self-inside.journal l.self-inside.log l.self-inside.journal (g.K.Keeper.images l.fn.keeper) (g.K.Keeper.images l.keeper);
   world : WentSoFar l.client l.route l.initial.self-inside.log l.self-inside.log (g.K.Keeper.images l.fn.keeper) (g.K.Keeper.images l.keeper) (g.L.Link.tells l.fn.link) (g.L.Link.tells l.link);
 }
 

@@ -1,4 +1,4 @@
-use Rattle.std.proofs.Common.{◌≡◌, ℕ, List, Option, None, Some, Result, Ok, Err, IfOk, refl, sym, ◌∙◌, ap, subst}
+use Rattle.std.proofs.Common.{◌≡◌, false, ℕ, List, Option, None, Some, Result, Ok, Err, IfOk, refl, sym, ◌∙◌, ap, subst}
 use Rattle.shell_lang.specs.declared.line.Line.{Line}
 use Rattle.shell_lang.specs.declared.line.Line.TheVariants.{Empty, Put, Make, Remove, Move, Cat, List as Ls, Enter, Status, Quit}
 use Rattle.shell_lang.specs.declared.line.LineError.{LineError}
@@ -6,7 +6,10 @@ use Rattle.shell_lang.specs.declared.answer.LineAnswer.TheVariants.{Refused}
 use Rattle.shell_lang.specs.declared.answer.Fault.TheVariants as faults
 use Rattle.mod_log.specs.Log.{tree_of}
 use Rattle.client_core.specs.Keeping.{IsKeptReady}
-use Rattle.client_session.specs.Session.{state_of, put_effect, make_effect, remove_effect, move_effect}
+use Rattle.client_core.specs.Noting.{KeepsChanges}
+use Rattle.client_core.specs.Client.{Client}
+use Rattle.client_core.proofs.Noting.{keeps_same}
+use Rattle.client_session.specs.Session.{state_of, put_effect, make_effect, remove_effect, move_effect, has_pulled}
 use Rattle.client_session.specs.Looking.{list_answer}
 use Rattle.cmd_capture.specs.Runs.{telling}
 use Rattle.client_session.specs.Doing.{beside, WentDoing, LineEnds}
@@ -14,6 +17,7 @@ use Rattle.client_session.specs.Inside.{LogsOrRefuses}
 use Rattle.client_session.specs.Causes.{HasLineCause, asks_to_run}
 use Rattle.client_session.proofs.Turning.{line_world, quietly_caused, tells_quietly, silent_quietly, told_quietly, logs_quietly, enter_quietly, err_seen, status_quietly, unkept}
 use Rattle.client_session.proofs.Commanding.{run_went, run_caused, whatever}
+use Rattle.client_session.proofs.Recorded.{unless_pulled}
 use Rattle.client_session.proofs.session.Session.answer.Goals as goal
 
 pub returns-in-Err-clause-world : goal.returns-in-Err-clause-world
@@ -333,3 +337,117 @@ returns-in-Ok-Pull-clause-cause g c =
     let t = beside (g.L.Link.tells c.args.link.now) ran in
     let u = beside (g.L.Link.tells c.pull.new.link) ran in
     subst (λ (l : Result Line LineError). HasLineCause route s l c.pull.result (state_of c.pull.new.self) t u (g.K.Keeper.faults c.args.keeper.now) (g.K.Keeper.faults c.pull.new.keeper)) (sym (c.in-Ok-Pull.is ∙ ap Ok c.in-Ok-Pull.field-0-is)) (c.pull.ensures.cause ran)
+
+-- ---- what is kept record by record
+
+pub returns-in-Err-clause-records : goal.returns-in-Err-clause-records
+returns-in-Err-clause-records g c =
+    let name = c.args.route.now.image in
+    let i = g.K.Keeper.images c.args.keeper.now in
+    let client = c.args.self.now.client in
+    unless_pulled c.args.line (Ok (Some (Refused (faults.Line c.in-Err.refusal)))) (KeepsChanges name client client i i) (whatever (Ok (Some (Refused (faults.Line c.in-Err.refusal)))) (KeepsChanges name client client i i) (keeps_same name client i))
+
+pub returns-in-Ok-Cat-clause-records : goal.returns-in-Ok-Cat-clause-records
+returns-in-Ok-Cat-clause-records g c =
+    let name = c.args.route.now.image in
+    let i = g.K.Keeper.images c.args.keeper.now in
+    let client = c.args.self.now.client in
+    unless_pulled c.args.line c.cat.result (KeepsChanges name client client i i) (whatever c.cat.result (KeepsChanges name client client i i) (keeps_same name client i))
+
+pub returns-in-Ok-List-clause-records : goal.returns-in-Ok-List-clause-records
+returns-in-Ok-List-clause-records g c =
+    let name = c.args.route.now.image in
+    let i = g.K.Keeper.images c.args.keeper.now in
+    let client = c.args.self.now.client in
+    unless_pulled c.args.line c.list.result (KeepsChanges name client client i i) (whatever c.list.result (KeepsChanges name client client i i) (keeps_same name client i))
+
+pub returns-in-Ok-Status-clause-records : goal.returns-in-Ok-Status-clause-records
+returns-in-Ok-Status-clause-records g c =
+    let name = c.args.route.now.image in
+    let i = g.K.Keeper.images c.args.keeper.now in
+    let client = c.args.self.now.client in
+    unless_pulled c.args.line (Ok (Some c.status.result)) (KeepsChanges name client client i i) (whatever (Ok (Some c.status.result)) (KeepsChanges name client client i i) (keeps_same name client i))
+
+pub returns-in-Ok-Empty-clause-records : goal.returns-in-Ok-Empty-clause-records
+returns-in-Ok-Empty-clause-records g c =
+    let name = c.args.route.now.image in
+    let i = g.K.Keeper.images c.args.keeper.now in
+    let client = c.args.self.now.client in
+    unless_pulled c.args.line (Ok None) (KeepsChanges name client client i i) (whatever (Ok None) (KeepsChanges name client client i i) (keeps_same name client i))
+
+pub returns-in-Ok-Quit-clause-records : goal.returns-in-Ok-Quit-clause-records
+returns-in-Ok-Quit-clause-records g c =
+    let name = c.args.route.now.image in
+    let i = g.K.Keeper.images c.args.keeper.now in
+    let client = c.args.self.now.client in
+    unless_pulled c.args.line (Ok None) (KeepsChanges name client client i i) (whatever (Ok None) (KeepsChanges name client client i i) (keeps_same name client i))
+
+pub returns-in-Ok-Enter-clause-records : goal.returns-in-Ok-Enter-clause-records
+returns-in-Ok-Enter-clause-records g c =
+    let name = c.args.route.now.image in
+    let i = g.K.Keeper.images c.args.keeper.now in
+    let client = c.args.self.now.client in
+    let now = c.enter.new.self.client in
+    unless_pulled c.args.line c.enter.result (KeepsChanges name client now i i) (whatever c.enter.result (KeepsChanges name client now i i)
+    (subst (λ (after : Client). KeepsChanges name client after i i) (sym c.enter.ensures.client) (keeps_same name client i)))
+
+pub returns-in-Ok-Put-clause-records : goal.returns-in-Ok-Put-clause-records
+returns-in-Ok-Put-clause-records g c =
+    let name = c.args.route.now.image in
+    let i = g.K.Keeper.images c.args.keeper.now in
+    let j = g.K.Keeper.images c.put.new.keeper in
+    let client = c.args.self.now.client in
+    let now = c.put.new.self.client in
+    unless_pulled c.args.line c.put.result (KeepsChanges name client now i j)
+    (subst (λ (n : List ℕ). IfOk c.put.result (λ answer. KeepsChanges n client now i j)) c.bytes-image.ensures.value c.put.ensures.records)
+
+pub returns-in-Ok-Make-clause-records : goal.returns-in-Ok-Make-clause-records
+returns-in-Ok-Make-clause-records g c =
+    let name = c.args.route.now.image in
+    let i = g.K.Keeper.images c.args.keeper.now in
+    let j = g.K.Keeper.images c.make.new.keeper in
+    let client = c.args.self.now.client in
+    let now = c.make.new.self.client in
+    unless_pulled c.args.line c.make.result (KeepsChanges name client now i j)
+    (subst (λ (n : List ℕ). IfOk c.make.result (λ answer. KeepsChanges n client now i j)) c.bytes-image.ensures.value c.make.ensures.records)
+
+pub returns-in-Ok-Remove-clause-records : goal.returns-in-Ok-Remove-clause-records
+returns-in-Ok-Remove-clause-records g c =
+    let name = c.args.route.now.image in
+    let i = g.K.Keeper.images c.args.keeper.now in
+    let j = g.K.Keeper.images c.remove.new.keeper in
+    let client = c.args.self.now.client in
+    let now = c.remove.new.self.client in
+    unless_pulled c.args.line c.remove.result (KeepsChanges name client now i j)
+    (subst (λ (n : List ℕ). IfOk c.remove.result (λ answer. KeepsChanges n client now i j)) c.bytes-image.ensures.value c.remove.ensures.records)
+
+pub returns-in-Ok-Move-clause-records : goal.returns-in-Ok-Move-clause-records
+returns-in-Ok-Move-clause-records g c =
+    let name = c.args.route.now.image in
+    let i = g.K.Keeper.images c.args.keeper.now in
+    let j = g.K.Keeper.images c.relocate.new.keeper in
+    let client = c.args.self.now.client in
+    let now = c.relocate.new.self.client in
+    unless_pulled c.args.line c.relocate.result (KeepsChanges name client now i j)
+    (subst (λ (n : List ℕ). IfOk c.relocate.result (λ answer. KeepsChanges n client now i j)) c.bytes-image.ensures.value c.relocate.ensures.records)
+
+pub returns-in-Ok-Run-clause-records : goal.returns-in-Ok-Run-clause-records
+returns-in-Ok-Run-clause-records g c =
+    let name = c.args.route.now.image in
+    let i = g.K.Keeper.images c.args.keeper.now in
+    let j = g.K.Keeper.images c.run.new.keeper in
+    unless_pulled c.args.line c.run.result (KeepsChanges name c.args.self.now.client c.run.new.self.client i j) c.run.ensures.records
+
+pub returns-in-Ok-Sync-clause-records : goal.returns-in-Ok-Sync-clause-records
+returns-in-Ok-Sync-clause-records g c =
+    let name = c.args.route.now.image in
+    let i = g.K.Keeper.images c.args.keeper.now in
+    let j = g.K.Keeper.images c.sync.new.keeper in
+    unless_pulled c.args.line c.sync.result (KeepsChanges name c.args.self.now.client c.sync.new.self.client i j) c.sync.ensures.records
+
+pub returns-in-Ok-Pull-clause-records : goal.returns-in-Ok-Pull-clause-records
+returns-in-Ok-Pull-clause-records g c =
+    let name = c.args.route.now.image in
+    let i = g.K.Keeper.images c.args.keeper.now in
+    let j = g.K.Keeper.images c.pull.new.keeper in
+    subst (λ (l : Result Line LineError). IfOk c.pull.result (λ answer. has_pulled l answer ≡ false → KeepsChanges name c.args.self.now.client c.pull.new.self.client i j)) (sym (c.in-Ok-Pull.is ∙ ap Ok c.in-Ok-Pull.field-0-is)) c.pull.ensures.records

@@ -1,13 +1,18 @@
-use Rattle.std.proofs.Common.{ℕ, false, [], ◌∷◌, Some, Ok, Err, refl, sym, ap, subst}
+use Rattle.std.proofs.Common.{ℕ, false, [], ◌∷◌, Some, None, Ok, Err, refl, sym, ap, subst}
 use Rattle.outside.specs.Outside.{Told}
 use Rattle.outside.specs.declared.errors.KeepError.{KeepError}
 use Rattle.client_core.specs.Keeping.{IsKept, IsKeptReady, KeepsLog}
 use Rattle.client_core.specs.Journal.{next_notes}
 use Rattle.client_core.proofs.Journal.{next_keeps}
-use Rattle.client_core.proofs.Locals.{local_one}
+use Rattle.client_core.specs.Client.{Client}
+use Rattle.client_core.specs.Noting.{KeepsChanges}
+use Rattle.client_core.proofs.Locals.{appended-is, local_one}
+use Rattle.client_core.proofs.Noting.{keeps_same, keeps_logged}
 use Rattle.shell_lang.specs.declared.answer.LineAnswer.TheVariants.{Logged}
 use Rattle.client_session.specs.Session.{SessionState, Sitting, seen, state_of}
 use Rattle.client_session.specs.Inside.{LogsMade}
+use Rattle.mod_log.specs.Append.{next_entry}
+use Rattle.client_session.proofs.Commanding.{whatever}
 use Rattle.client_session.proofs.Turning.{word_given, refusal_given, logged_kept, logged_unkept, kept_ok, kept_still, seen_same}
 use Rattle.client_session.proofs.session.Session.log.Goals as goal
 
@@ -79,3 +84,33 @@ keep-requires g c =
     let i = g.K.Keeper.images c.args.keeper.now in
     let kept : IsKeptReady i name c.self.inside.client = subst (λ (s : Sitting). IsKeptReady i name s.client) (sym c.self.view_is) c.requires in
     c.local.ensures.ready i name kept.1
+
+-- ---- what is kept record by record
+
+pub returns-in-Err-clause-records : goal.returns-in-Err-clause-records
+returns-in-Err-clause-records g c =
+    let name = c.args.image.now in
+    let i = g.K.Keeper.images c.args.keeper.now in
+    let client = c.args.self.now.client in
+    whatever c.given.result (KeepsChanges name client client i i) (keeps_same name client i)
+
+pub returns-in-Err-local-clause-records : goal.returns-in-Err-local-clause-records
+returns-in-Err-local-clause-records g c =
+    let name = c.args.image.now in
+    let i = g.K.Keeper.images c.args.keeper.now in
+    let before = c.self.inside.client in
+    whatever c.given-in-Err-local.result (KeepsChanges name c.args.self.now.client c.local.new.self i i)
+    (subst (λ (s : Sitting). KeepsChanges name s.client c.local.new.self i i) c.self.view_is
+    (subst (λ (client : Client). KeepsChanges name before client i i) (sym c.in-Err-local.ensures.unchanged) (keeps_same name before i)))
+
+pub returns-clause-records : goal.returns-clause-records
+returns-clause-records g c =
+    let name = c.args.image.now in
+    let i = g.K.Keeper.images c.args.keeper.now in
+    let j = g.K.Keeper.images c.keep.new.keeper in
+    let before = c.self.inside.client in
+    let effects = c.in-Ok.effect ∷ [] in
+    let kept : IsKeptReady i name before = subst (λ (s : Sitting). IsKeptReady i name s.client) (sym c.self.view_is) c.requires in
+    subst (λ (s : Sitting). KeepsChanges name s.client c.keep.new.self i j) c.self.view_is
+    (keeps_logged name before c.local.new.self c.keep.new.self c.in_default.field-0 i j (next_entry None effects before.log) c.local.ensures.number
+    (sym (appended-is None effects before.log c.local.new.self.log c.in-Ok-local.ensures.ok)) c.local.ensures.journal c.keep.ensures.number c.keep.ensures.log c.in_default.ensures.journal kept c.in_default.ensures.kept)

@@ -1,10 +1,12 @@
-use Rattle.std.proofs.Common.{ℕ, Ok, IfOk, refl, sym, subst}
+use Rattle.std.proofs.Common.{◌≡◌, false, ℕ, Ok, IfOk, refl, sym, subst}
 use Rattle.client_core.specs.Keeping.{IsKept, IsReady}
+use Rattle.client_core.specs.Noting.{KeepsChanges}
 use Rattle.shell_lang.specs.declared.line.Line.TheVariants.{Pull}
-use Rattle.client_session.specs.Session.{SessionState, Sitting, state_of}
+use Rattle.client_session.specs.Session.{SessionState, Sitting, state_of, has_pulled}
 use Rattle.client_session.specs.Doing.{beside, WentDoing, LineEnds}
 use Rattle.client_session.specs.Causes.{HasLineCause}
 use Rattle.client_session.proofs.Turning.{pull_went, pull_cause, pull_kept, both_ok, pull_counts}
+use Rattle.client_session.proofs.Recorded.{pull_records}
 use Rattle.client_session.proofs.session.Session.pull.Goals as goal
 
 pub returns-clause-world : goal.returns-clause-world
@@ -53,3 +55,13 @@ pub returns-clause-keeper : goal.returns-clause-keeper
 returns-clause-keeper g c =
     pull_counts (g.K.Keeper.faults c.args.keeper.now) (g.K.Keeper.faults c.pull-end.new.keeper) c.pull-end.result c.is_pull_fault-fault.result c.pull_answer.result c.answered.result c.pull_answer.ensures c.is_pull_fault-fault.ensures
     c.answered.ensures c.pull-end.ensures.faults
+
+pub returns-clause-records : goal.returns-clause-records
+returns-clause-records g c =
+    let image = c.args.route.now.image in
+    let after = c.pull-end.new.self in
+    let i = g.K.Keeper.images c.args.keeper.now in
+    let j = g.K.Keeper.images c.pull-end.new.keeper in
+    let r = c.answered.result in
+    subst (λ (s : Sitting). IfOk r (λ answer. has_pulled (Ok Pull) answer ≡ false → KeepsChanges image s.client after i j)) c.self.view_is
+    (pull_records c.is_pull_fault-fault.result c.pull_answer.result r c.answered.ensures image c.self.inside.client after i j c.pull-end.result c.pull_answer.ensures c.pull-end.ensures.unchanged)

@@ -7,7 +7,9 @@ use Rattle.client_core.specs.Running.{RunsCommand, has_logged}
 use Rattle.client_core.specs.Keeping.{IsKept, IsReady, IsKeptReady, KeepsNext, KeepsLog}
 use Rattle.client_core.specs.Journal.{next_notes}
 use Rattle.client_core.proofs.Journal.{next_keeps}
-use Rattle.client_core.proofs.Runs.{ran_one}
+use Rattle.client_core.specs.Noting.{KeepsChanges}
+use Rattle.client_core.proofs.Noting.{keeps_same, keeps_logged}
+use Rattle.client_core.proofs.Runs.{ran_one, ran_logged}
 use Rattle.client_session.specs.Session.{SessionState, Sitting, state_of}
 use Rattle.client_session.specs.Inside.{RunsMade}
 use Rattle.client_session.proofs.Turning.{kept_ok, kept_still, seen_same}
@@ -117,3 +119,37 @@ returns-then-not-has_logged-clause-kept g c =
     let none : has_logged end ≡ false = sym c.has_logged.ensures ∙ c.if-not-has_logged.true in
     whatever c.given.result (IsKeptReady i route.image c.run_command-end.new.self)
     (subst (IsKeptReady i route.image) (sym (c.run_command-end.ensures.unchanged none)) (subst (λ (s : Sitting). IsKeptReady i route.image s.client) (sym c.self.view_is) c.requires.kept))
+
+-- ---- what is kept record by record
+
+pub returns-then-not-has_logged-clause-records : goal.returns-then-not-has_logged-clause-records
+returns-then-not-has_logged-clause-records g c =
+    let name = c.args.route.now.image in
+    let i = g.K.Keeper.images c.args.keeper.now in
+    let before = c.self.inside.client in
+    let none : has_logged c.run_command-end.result ≡ false = sym c.has_logged.ensures ∙ c.if-not-has_logged.true in
+    whatever c.given.result (KeepsChanges name c.args.self.now.client c.run_command-end.new.self i i)
+    (subst (λ (s : Sitting). KeepsChanges name s.client c.run_command-end.new.self i i) c.self.view_is
+    (subst (λ (client : Client). KeepsChanges name before client i i) (sym (c.run_command-end.ensures.unchanged none)) (keeps_same name before i)))
+
+pub returns-clause-records : goal.returns-clause-records
+returns-clause-records g c =
+    let route = c.args.route.now in
+    let name = route.image in
+    let i = g.K.Keeper.images c.args.keeper.now in
+    let j = g.K.Keeper.images c.keep.new.keeper in
+    let p = telling (g.R.Runner.runs c.args.runner.now) (g.R.Runner.faults c.args.runner.now) in
+    let q = telling (g.R.Runner.runs c.run_command-end.new.runner) (g.R.Runner.faults c.run_command-end.new.runner) in
+    let before = c.self.inside.client in
+    let after = c.run_command-end.new.self in
+    let end = c.run_command-end.result in
+    let done = c.in_default.field-0 in
+    let did : RunsCommand route.work c.args.command before.log end after.log p q = subst (λ (work : List ℕ). RunsCommand work c.args.command before.log end after.log p q) c.bytes.ensures.value c.run_command-end.ensures.turn in
+    let some : has_logged end ≡ true = sym c.has_logged.ensures ∙ c.if-not-has_logged.false in
+    let logged = ran_logged c.args.command before.log after.log route.work end p q did some in
+    let kept : IsKeptReady i name before = subst (λ (s : Sitting). IsKeptReady i name s.client) (sym c.self.view_is) c.requires.kept in
+    let told : Told i j (KeepsNext {E = KeepError} name after.number after.log (next_notes after.journal false after.log) (Ok done)) =
+    subst (λ (n : List ℕ). Told i j (KeepsNext {E = KeepError} n after.number after.log (next_notes after.journal false after.log) (Ok done))) c.bytes-2.ensures.value c.in_default.ensures.kept in
+    whatever c.given-2.result (KeepsChanges name c.args.self.now.client c.keep.new.self i j)
+    (subst (λ (s : Sitting). KeepsChanges name s.client c.keep.new.self i j) c.self.view_is
+    (keeps_logged name before after c.keep.new.self done i j logged.0 c.run_command-end.ensures.number logged.1 c.run_command-end.ensures.journal c.keep.ensures.number c.keep.ensures.log c.in_default.ensures.journal kept told))

@@ -1,10 +1,12 @@
 use Rattle.std.proofs.Common.{ℕ, Ok, IfOk, refl, sym, subst}
 use Rattle.client_core.specs.Keeping.{IsKept, IsReady}
+use Rattle.client_core.specs.Noting.{KeepsChanges}
 use Rattle.shell_lang.specs.declared.line.Line.TheVariants.{Sync}
 use Rattle.client_session.specs.Session.{SessionState, Sitting, state_of}
 use Rattle.client_session.specs.Doing.{beside, WentDoing, LineEnds}
 use Rattle.client_session.specs.Causes.{HasLineCause}
 use Rattle.client_session.proofs.Turning.{sync_went, sync_cause, sync_kept, both_ok, sync_counts}
+use Rattle.client_session.proofs.Recorded.{sync_records}
 use Rattle.client_session.proofs.session.Session.sync.Goals as goal
 
 pub returns-clause-world : goal.returns-clause-world
@@ -53,3 +55,13 @@ pub returns-clause-keeper : goal.returns-clause-keeper
 returns-clause-keeper g c =
     sync_counts (g.K.Keeper.faults c.args.keeper.now) (g.K.Keeper.faults c.sync-end.new.keeper) c.sync-end.result c.is_sync_fault-fault.result c.sync_answer.result c.answered.result c.sync_answer.ensures c.is_sync_fault-fault.ensures
     c.answered.ensures c.sync-end.ensures.faults
+
+pub returns-clause-records : goal.returns-clause-records
+returns-clause-records g c =
+    let image = c.args.route.now.image in
+    let after = c.sync-end.new.self in
+    let i = g.K.Keeper.images c.args.keeper.now in
+    let j = g.K.Keeper.images c.sync-end.new.keeper in
+    let r = c.answered.result in
+    subst (λ (s : Sitting). IfOk r (λ answer. KeepsChanges image s.client after i j)) c.self.view_is
+    (sync_records c.is_sync_fault-fault.result c.sync_answer.result r c.answered.ensures c.sync-end.result (KeepsChanges image c.self.inside.client after i j) c.sync_answer.ensures c.sync-end.ensures.records)

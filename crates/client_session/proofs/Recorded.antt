@@ -1,0 +1,168 @@
+-- What a line keeps record by record.
+use Rattle.std.proofs.Common.{◌≡◌, ◌≢◌, ◌∙◌, inl, ℕ, Bool, true, false, List, [], ◌∷◌, Option, Some, None, Result, Ok, Err, IfOk, refl, sym, ap, subst}
+use Rattle.outside.specs.Keeper.{Images}
+use Rattle.outside.specs.declared.errors.KeepError.{KeepError}
+use Rattle.file_paths.specs.declared.path.PathError.{PathError}
+use Rattle.tree_values.specs.Lists.{IsIn}
+use Rattle.tree_values.specs.declared.node.Effect.{Effect}
+use Rattle.cmd_capture.specs.declared.command.Command.{Command}
+use Rattle.cmd_capture.specs.declared.capturing.CaptureError.{CaptureError}
+use Rattle.cmd_capture.specs.Capture.{capture}
+use Rattle.mod_log.specs.declared.log.Entry.{Entry}
+use Rattle.mod_log.specs.declared.log.LogError.{LogError}
+use Rattle.mod_log.specs.Log.{Log, logged}
+use Rattle.client_core.specs.declared.route.Route.{Route}
+use Rattle.client_core.specs.declared.syncing.SyncEnd.{SyncEnd}
+use Rattle.client_core.specs.declared.pulling.PullEnd.{PullEnd}
+use Rattle.client_core.specs.declared.pulling.PullEnd.TheVariants as pulls
+use Rattle.client_core.specs.declared.running.RunEnd.{RunEnd}
+use Rattle.client_core.specs.declared.running.RunEnd.TheVariants as runs
+use Rattle.client_core.specs.Client.{Client}
+use Rattle.client_core.specs.Trace.{Trace, nothing}
+use Rattle.client_core.specs.Logging.{local_entry, LocalTurn}
+use Rattle.client_core.specs.Running.{origin_of, changes_of, run_entry, RunTurn}
+use Rattle.client_core.specs.Syncing.{is_broken_sync}
+use Rattle.client_core.specs.Pulling.{PullsSnapshot, PullTurn, is_broken_pull}
+use Rattle.client_core.specs.Noting.{logs_behind, ReplacesNone, records_between, KeepsChanges}
+use Rattle.client_core.proofs.Locals.{appended-is}
+use Rattle.client_core.proofs.Noted.{AreNoted, sync_noted}
+use Rattle.client_core.proofs.Noting.{between_same, between_logged, keeps_same}
+use Rattle.shell_lang.specs.declared.line.Line.{Line}
+use Rattle.shell_lang.specs.declared.line.Line.TheVariants as lines
+use Rattle.shell_lang.specs.declared.line.LineError.{LineError}
+use Rattle.shell_lang.specs.declared.answer.LineAnswer.{LineAnswer}
+use Rattle.client_session.specs.Session.{SessionState, put_effect, make_effect, remove_effect, move_effect, LogTurn, CommandTurn, LineTurn, sync_answer, pull_answer, has_pulled}
+use Rattle.client_session.specs.Causes.{answer_or_fault}
+use Rattle.client_session.proofs.Turning.{unbroken, unbroken_pull}
+
+-- ---- what the calls of a session keep
+
+-- what holds of each answered line holds where no base was replaced
+pub unless_pulled : (line : Result Line LineError) (r : Result (Option LineAnswer) KeepError) (K : Type 0) → IfOk r (λ answer. K) → IfOk r (λ answer. has_pulled line answer ≡ false → K)
+unless_pulled line (Ok answer) K is = λ none. is
+unless_pulled line (Err e) K is = tt
+
+module _ (fault : Bool) (told : Option LineAnswer) (r : Result (Option LineAnswer) KeepError) (is : r ≡ answer_or_fault fault told) where
+  -- a sync that is answered was not broken off
+  pub sync_records : (end : SyncEnd) (K : Type 0) → told ≡ sync_answer end → (is_broken_sync end ≡ false → K) → IfOk r (λ answer. K)
+  sync_records end K shown whole = subst (λ (a : Result (Option LineAnswer) KeepError). IfOk a (λ answer. K)) (sym is) (by fault told shown)
+    where
+      by : (fault : Bool) (told : Option LineAnswer) → told ≡ sync_answer end → IfOk (answer_or_fault fault told) (λ answer. K)
+      by true told shown = tt
+      by false None shown = tt
+      by false (Some answer) shown = whole (unbroken end answer (sym shown))
+
+  -- a pull that is answered was not, and where it took no rows all is as before
+  pub pull_records : (name : List ℕ) (x y : Client) (i j : Option Images) (end : PullEnd) → told ≡ pull_answer end → (is_broken_pull end ≡ false → ((count : ℕ) → end ≢ pulls.Pulled count) → (y ≡ x) × (j ≡ i))
+      → IfOk r (λ answer. has_pulled (Ok lines.Pull) answer ≡ false → KeepsChanges name x y i j)
+  pull_records name x y i j end shown same =
+      subst (λ (a : Result (Option LineAnswer) KeepError). IfOk a (λ answer. has_pulled (Ok lines.Pull) answer ≡ false → KeepsChanges name x y i j)) (sym is) (by fault told shown)
+    where
+      by : (fault : Bool) (told : Option LineAnswer) → told ≡ pull_answer end → IfOk (answer_or_fault fault told) (λ answer. has_pulled (Ok lines.Pull) answer ≡ false → KeepsChanges name x y i j)
+      by true told shown = tt
+      by false None shown = tt
+      by false (Some answer) shown = λ none.
+          let stays = same (unbroken_pull end answer (sym shown)) (λ count pulled. absurd (cc (sym none ∙ ap (has_pulled (Ok lines.Pull)) (shown ∙ ap pull_answer pulled)))) in
+          subst (λ (c : Client). KeepsChanges name x c i j) (sym stays.0) (subst (λ (k : Option Images). KeepsChanges name x x i k) (sym stays.1) (keeps_same name x i))
+
+-- ---- the changes of a line are those that its records make
+
+same_noted : (before after : Log) (trace : Trace) → after ≡ before → trace.changes ≡ [] → AreNoted before after trace
+same_noted before after trace same none =
+    none ∙ sym (ap (λ (log : Log). logs_behind before (records_between before log)) same ∙ ap (logs_behind before) (between_same before))
+
+logged_noted : (before after : Log) (trace : Trace) (entry : Entry) → logged entry before ≡ after → trace.changes ≡ after ∷ [] → AreNoted before after trace
+logged_noted before after trace entry is one =
+    one ∙ ap (λ (log : Log). log ∷ []) (sym is) ∙ sym (ap (logs_behind before) (ap (records_between before) (sym is) ∙ between_logged before entry))
+
+-- ---- a pull
+
+module _ (client : ℕ) (route : Route) (before after : Log) (trace : Trace) (none : ReplacesNone trace) where
+  pulled_not : (count : ℕ) → PullsSnapshot client route before (pulls.Pulled count) after trace → ⊥
+  pulled_not count turn = none count (subst (λ (t : Trace). IsIn (pulls.Pulled count) t.pulls) (sym turn.trace_is) (inl refl))
+
+  pull_noted : (end : PullEnd) → PullTurn client route before end after trace → AreNoted before after trace
+  pull_noted (pulls.Pending count) turn = same_noted before after trace turn.2 (ap (λ (t : Trace). t.changes) turn.3)
+  pull_noted pulls.Unanswered turn = same_noted before after trace turn.1.2 (ap (λ (t : Trace). t.changes) turn.1.3)
+  pull_noted (pulls.Pulled count) turn = absurd (pulled_not count turn)
+  pull_noted (pulls.OtherLast last acked) turn = same_noted before after trace turn.met.3 (ap (λ (t : Trace). t.changes) turn.trace_is)
+  pull_noted (pulls.Older path theirs ours) turn = same_noted before after trace turn.met.4 (ap (λ (t : Trace). t.changes) turn.trace_is)
+  pull_noted pulls.KeepFault turn = absurd turn.met
+  pull_noted pulls.Memory turn = absurd turn.met
+
+  not_pulled : (end : PullEnd) → PullTurn client route before end after trace → has_pulled (Ok lines.Pull) (pull_answer end) ≡ false
+  not_pulled (pulls.Pending count) turn = refl
+  not_pulled pulls.Unanswered turn = refl
+  not_pulled (pulls.Pulled count) turn = absurd (pulled_not count turn)
+  not_pulled (pulls.OtherLast last acked) turn = refl
+  not_pulled (pulls.Older path theirs ours) turn = refl
+  not_pulled pulls.KeepFault turn = refl
+  not_pulled pulls.Memory turn = refl
+
+-- ---- a run
+
+run_noted : (work : List ℕ) (command : Command) (before : Log) (end : RunEnd) (after : Log) (trace : Trace) → RunTurn work command before end after trace → AreNoted before after trace
+run_noted work command before (runs.Logged seq status) after trace turn =
+    logged_noted before after trace (run_entry command turn.0 before) (appended-is (Some (origin_of command turn.0)) (changes_of turn.0) before after turn.2.1) (ap (λ (t : Trace). t.changes) turn.3)
+run_noted work command before (runs.Nothing status) after trace turn = same_noted before after trace turn.2.3 (ap (λ (t : Trace). t.changes) turn.3)
+run_noted work command before (runs.OddTree n) after trace turn = same_noted before after trace turn.2.1 (ap (λ (t : Trace). t.changes) turn.3)
+run_noted work command before (runs.Clash path) after trace turn = same_noted before after trace turn.2.2 (ap (λ (t : Trace). t.changes) turn.3)
+run_noted work command before (runs.Refused refusal) after trace turn = same_noted before after trace turn.2.2 (ap (λ (t : Trace). t.changes) turn.3)
+run_noted work command before (runs.NoJob fault) after trace turn = same_noted before after trace turn.1 (ap (λ (t : Trace). t.changes) turn.2)
+run_noted work command before runs.NotRun after trace turn = same_noted before after trace turn.1 (ap (λ (t : Trace). t.changes) turn.2)
+run_noted work command before runs.Memory after trace turn = absurd turn.2
+
+-- ---- a line
+
+module _ (before after : SessionState) (trace : Trace) where
+  abbrev LineNoted : Type 0
+  LineNoted = AreNoted before.client.log after.client.log trace
+
+  stays : after ≡ before → trace ≡ nothing → LineNoted
+  stays same all = same_noted before.client.log after.client.log trace (ap (λ (s : SessionState). s.client.log) same) (ap (λ (t : Trace). t.changes) all)
+
+  local_noted : (effect : Effect) (result : Result ℕ LogError) → LocalTurn effect before.client.log result after.client.log trace → LineNoted
+  local_noted effect (Ok number) turn =
+      logged_noted before.client.log after.client.log trace (local_entry effect before.client.log) (appended-is None (effect ∷ []) before.client.log after.client.log turn.0) (ap (λ (t : Trace). t.changes) turn.2)
+  local_noted effect (Err refusal) turn = same_noted before.client.log after.client.log trace turn.1 (ap (λ (t : Trace). t.changes) turn.2)
+
+  log_noted : (named : Result Effect PathError) (answer : Option LineAnswer) → LogTurn named before answer after trace → LineNoted
+  log_noted (Ok effect) answer turn = local_noted effect turn.0 turn.1
+  log_noted (Err refusal) answer turn = stays turn.1 turn.2
+
+  command_noted : (route : Route) (made : Result Command CaptureError) (answer : Option LineAnswer) → CommandTurn route made before answer after trace → LineNoted
+  command_noted route (Ok command) answer turn = run_noted route.work command before.client.log turn.0 after.client.log trace turn.1
+  command_noted route (Err refusal) answer turn = stays turn.1 turn.2
+
+  pub line_noted : (route : Route) (line : Result Line LineError) (answer : Option LineAnswer) → LineTurn route before line answer after trace → ReplacesNone trace → LineNoted
+  line_noted route (Err refusal) answer turn none = stays turn.1 turn.2
+  line_noted route (Ok lines.Empty) answer turn none = stays turn.1 turn.2
+  line_noted route (Ok (lines.Put word text)) answer turn none = log_noted (put_effect before.folder word text) answer turn
+  line_noted route (Ok (lines.Make word)) answer turn none = log_noted (make_effect before.folder word) answer turn
+  line_noted route (Ok (lines.Remove word)) answer turn none = log_noted (remove_effect before.folder word) answer turn
+  line_noted route (Ok (lines.Move from to)) answer turn none = log_noted (move_effect before.folder from to) answer turn
+  line_noted route (Ok (lines.Cat word)) answer turn none = stays turn.1 turn.2
+  line_noted route (Ok (lines.List word)) answer turn none = stays turn.1 turn.2
+  line_noted route (Ok (lines.Enter word)) answer turn none = same_noted before.client.log after.client.log trace (ap (λ (s : SessionState). s.client.log) turn.1) (ap (λ (t : Trace). t.changes) turn.2)
+  line_noted route (Ok (lines.Run words)) answer turn none = command_noted route (capture words before.folder) answer turn
+  line_noted route (Ok lines.Status) answer turn none = stays turn.1 turn.2
+  line_noted route (Ok lines.Sync) answer turn none = sync_noted before.client.number route before.client.log after.client.log turn.0 trace turn.1
+  line_noted route (Ok lines.Pull) answer turn none = pull_noted before.client.number route before.client.log after.client.log trace none turn.0 turn.1
+  line_noted route (Ok lines.Quit) answer turn none = stays turn.1 turn.2
+
+  pub line_unpulled : (route : Route) (line : Result Line LineError) (answer : Option LineAnswer) → LineTurn route before line answer after trace → ReplacesNone trace → has_pulled line answer ≡ false
+  line_unpulled route (Err refusal) answer turn none = refl
+  line_unpulled route (Ok lines.Empty) answer turn none = refl
+  line_unpulled route (Ok (lines.Put word text)) answer turn none = refl
+  line_unpulled route (Ok (lines.Make word)) answer turn none = refl
+  line_unpulled route (Ok (lines.Remove word)) answer turn none = refl
+  line_unpulled route (Ok (lines.Move from to)) answer turn none = refl
+  line_unpulled route (Ok (lines.Cat word)) answer turn none = refl
+  line_unpulled route (Ok (lines.List word)) answer turn none = refl
+  line_unpulled route (Ok (lines.Enter word)) answer turn none = refl
+  line_unpulled route (Ok (lines.Run words)) answer turn none = refl
+  line_unpulled route (Ok lines.Status) answer turn none = refl
+  line_unpulled route (Ok lines.Sync) answer turn none = refl
+  line_unpulled route (Ok lines.Pull) answer turn none =
+      ap (has_pulled (Ok lines.Pull)) turn.3 ∙ not_pulled before.client.number route before.client.log after.client.log trace none turn.0 turn.1
+  line_unpulled route (Ok lines.Quit) answer turn none = refl
