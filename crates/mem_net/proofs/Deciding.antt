@@ -6,7 +6,7 @@ use Rattle.mem_net.specs.declared.fate.Fate.{Fate}
 use Rattle.world_rules.specs.World.{World}
 use Rattle.mem_net.specs.Net.{Wire, world_of}
 use Rattle.mem_net.specs.Fates.{decides, deciding, left_after, at_decision, befallen, IsEndOf}
-use Rattle.mem_net.specs.Inside.{MovedFree, KeepsFates, decision, Awaits}
+use Rattle.mem_net.specs.Inside.{MovedFree, KeepsFates, decision, IsUndecided}
 use Rattle.mem_net.proofs.Network.{free_then}
 
 -- ---- one fate
@@ -37,7 +37,7 @@ left_is_end (fate ∷ fates) =
     ]
 
 -- a fate was taken, and the world went on
-module _ (old mid taken new : Wire) (fate : Fate) (so_far : Awaits old mid) (first : mid.fates ≡ fate ∷ taken.fates) (taking : taken ≡ record mid { fates = taken.fates })
+module _ (old mid taken new : Wire) (fate : Fate) (so_far : IsUndecided old mid) (first : mid.fates ≡ fate ∷ taken.fates) (taking : taken ≡ record mid { fates = taken.fates })
     (moves : MovedFree (world_of taken) (world_of new)) (keeps : KeepsFates taken new) where
   same_world : world_of taken ≡ world_of mid
   same_world = ap world_of taking
@@ -65,7 +65,7 @@ module _ (old mid taken new : Wire) (fate : Fate) (so_far : Awaits old mid) (fir
     skip : {X : Type 0} (here later : X) → (if decides fate then here else later) ≡ later
     skip {X} here later = ap (λ (b : Bool). if b then here else later) (undecided fate none)
 
-    pub awaits_on : Awaits old new
+    pub awaits_on : IsUndecided old new
     awaits_on = record {
       fate = ap deciding keeps.0 ∙ sym (skip fate (deciding taken.fates)) ∙ sym (ap deciding first) ∙ so_far.fate;
       left = ap left_after keeps.0 ∙ sym (skip taken.fates (left_after taken.fates)) ∙ sym (ap left_after first) ∙ so_far.left;

@@ -29,7 +29,7 @@ use Rattle.surrogate_core.proofs.Copies.{keeps_the_copy, asks_the_server}
 use Rattle.surrogate_core.proofs.Free.{handlings_move_alone, replies_are_free}
 use Rattle.mem_net.specs.declared.fate.Fate.{Fate}
 use Rattle.mem_net.specs.Net.{Wire, world_of}
-use Rattle.mem_net.specs.Spending.{IsAny, IsGivenAnswer, AreGiven, AreQuiet, Takes, Spends}
+use Rattle.mem_net.specs.Spending.{IsAny, IsGivenAnswer, AreGiven, AreQuiet, TakesFront, Spends}
 use Rattle.mem_net.specs.Scenes.{Scene, server_address, work_folder, HasServed, IsHandled, IsUnhandled, StaysButWorld}
 use Rattle.mem_net.specs.Inside.{MovedFree, GoesFree}
 use Rattle.mem_net.proofs.Taking.{take_front}
@@ -155,7 +155,7 @@ module _ (old served new : Wire) (client : ℕ) (sketched : SketchEntry) (asks :
   same_troubles : new.troubles ≡ served.troubles
   same_troubles = ap (λ (w : Wire). w.troubles) forgets
 
-  pub takes_of : Takes old.fates new.fates old.troubles new.troubles
+  pub takes_of : TakesFront old.fates new.fates old.troubles new.troubles
   takes_of = record {
     taken = spends.taken;
     split = spends.split ∙ ap (λ (l : List Fate). spends.taken ++ l) (sym same_fates);

@@ -1,5 +1,5 @@
 -- What becomes of an ask by the fate that decides it, beside a surrogate.
-use Rattle.std.proofs.Common.{◌≡◌, ◌⊎◌, inl, inr, ℕ, suc, ◌≤◌, false, List, [], ◌++◌, Result, Ok, Err, Vec, IfOk, refl, sym, ◌∙◌, ap, subst, arith, append_assoc}
+use Rattle.std.proofs.Common.{◌≡◌, ◌⊎◌, inl, inr, ℕ, suc, ◌≤◌, false, List, [], ◌++◌, Result, Ok, Err, Vec, IfOk, sym, ◌∙◌, ap, subst, arith, append_assoc}
 use Rattle.std.specs.Prelude.{IfErr, OnOk, OnErr}
 use Rattle.std.specs.declared.alloc.Global.{Global}
 use Rattle.std.proofs.Math.Nat.{le_trans}
@@ -20,7 +20,7 @@ use Rattle.mem_net.specs.declared.fate.Fate.{Fate}
 use Rattle.mem_net.specs.declared.fate.Fate.TheVariants.{Pass, LoseRequest, LoseReply, Twice, Old, Late, Inject}
 use Rattle.mem_net.specs.Net.{Wire, world_of}
 use Rattle.mem_net.specs.Fates.{answered, is_trouble, troubles_after}
-use Rattle.mem_net.specs.Spending.{Takes, quiet_behind, quiet_front}
+use Rattle.mem_net.specs.Spending.{TakesFront, quiet_behind, quiet_front}
 use Rattle.mem_net.specs.Scenes.{Scene, with_world, with_troubles, IsHandled, MeetsAlone, MeetsOperation, UnlessMemory, IsDecided, IsReached, IsMet}
 use Rattle.mem_net.specs.Scenes.{OnMemory, StaysButWorld, IsHandledInPart, handlings, IsCutBefore, IsCutShort}
 use Rattle.mem_net.specs.Inside.{MovedFree, AsksSent, MeetsUnlessMemory, TakesBeside, KeepsFates}
@@ -124,14 +124,14 @@ old_once k to address m a d (Err LinkMemory) met = met
 
 -- ---- what it takes
 
-pub beside_quiet : (fate : Fate) (a b : List Fate) (x y : ℕ) → Takes a b x y → TakesBeside fate a b x y
+pub beside_quiet : (fate : Fate) (a b : List Fate) (x y : ℕ) → TakesFront a b x y → TakesBeside fate a b x y
 beside_quiet fate a b x y takes = record { taken = takes.taken; split = takes.split; later = takes.later; calm = λ quiet others. takes.calm others }
 
 pub beside_same : (fate : Fate) (result : Result (Vec ℕ Global) LinkError) (a b : List Fate) (x y : ℕ) → b ≡ a → y ≡ troubles_after fate result x → x ≤ y → TakesBeside fate a b x y
 beside_same fate result a b x y same counted rises =
     record { taken = []; split = sym same; later = rises; calm = λ quiet others. counted ∙ quiet_after fate result x quiet }
 
-pub beside_then : (fate : Fate) (a b d : List Fate) (x y z : ℕ) → Takes a b x y → TakesBeside fate b d y z → TakesBeside fate a d x z
+pub beside_then : (fate : Fate) (a b d : List Fate) (x y z : ℕ) → TakesFront a b x y → TakesBeside fate b d y z → TakesBeside fate a d x z
 beside_then fate a b d x y z first second =
     record {
       taken = first.taken ++ second.taken;

@@ -17,9 +17,9 @@ use Rattle.mem_net.specs.declared.fate.Fate.{Fate}
 use Rattle.mem_net.specs.declared.fate.Fate.TheVariants.{Pass, LoseRequest, LoseReply, Twice, Old, Late, Inject}
 use Rattle.mem_net.specs.Net.{Wire, world_of}
 use Rattle.mem_net.specs.Fates.{decides, is_trouble, befallen, troubles_after}
-use Rattle.mem_net.specs.Spending.{AreQuiet, Takes, quiet_front, quiet_behind}
+use Rattle.mem_net.specs.Spending.{AreQuiet, TakesFront, quiet_front, quiet_behind}
 use Rattle.mem_net.specs.Scenes.{Scene, with_world, with_fates, IsHandled, IsLateOperation, Befalls, FrontDecides, Reaches, IsReached, TakesFates}
-use Rattle.mem_net.specs.Scenes.{StaysButWorld, IsUnhandled, BefallsInPart, IsFrontTaken, AllBefall, IsCutBefore}
+use Rattle.mem_net.specs.Scenes.{IsUnhandled, BefallsInPart, AllBefall, IsCutBefore}
 use Rattle.mem_net.specs.Inside.{MovedFree, GoesFree, FrontWaits, Nears, TakesBeside}
 use Rattle.mem_net.proofs.Network.{free_none, free_then, free_as}
 use Rattle.mem_net.proofs.Spent.{takes_none, takes_then, quiet_after}
@@ -96,12 +96,12 @@ decided_same : (fate : Fate) (a b : Scene) → decides fate ≡ true → Befalls
 decided_same fate a b decided (inl handled) = absurd (no_operation fate a handled.0 decided handled.2)
 decided_same fate a b decided (inr nothing) = nothing.1 ∙ ap (λ (w : World). with_world w a) (befallen_decided fate a.world decided)
 
-handled_takes : (request reply : Message) (a b : Scene) → IsHandled request reply a b → Takes a.fates b.fates a.troubles b.troubles
-handled_takes request reply a b handled = subst (λ (s : Scene). Takes a.fates s.fates a.troubles s.troubles) (sym handled.2) handled.1.takes
+handled_takes : (request reply : Message) (a b : Scene) → IsHandled request reply a b → TakesFront a.fates b.fates a.troubles b.troubles
+handled_takes request reply a b handled = subst (λ (s : Scene). TakesFront a.fates s.fates a.troubles s.troubles) (sym handled.2) handled.1.takes
 
-befalls_takes : (fate : Fate) (a b : Scene) → Befalls fate a b → Takes a.fates b.fates a.troubles b.troubles
+befalls_takes : (fate : Fate) (a b : Scene) → Befalls fate a b → TakesFront a.fates b.fates a.troubles b.troubles
 befalls_takes fate a b (inl handled) = handled_takes handled.0 handled.1 a b handled.3
-befalls_takes fate a b (inr nothing) = subst (λ (s : Scene). Takes a.fates s.fates a.troubles s.troubles) (sym nothing.1) (takes_none a.fates a.troubles)
+befalls_takes fate a b (inr nothing) = subst (λ (s : Scene). TakesFront a.fates s.fates a.troubles s.troubles) (sym nothing.1) (takes_none a.fates a.troubles)
 
 -- ---- the loop over the fates
 
@@ -268,7 +268,7 @@ was_taken (suc count) old fate new reaches = by old.fates refl reaches (λ middl
 
 -- it was decided, and met
 module _ (to : Peer) (fate : Fate) (result : Result (Vec ℕ Global) LinkError) (old reached : Scene) (was : WasTaken fate old reached) (fails : is_trouble fate ≡ false → (result ≡ Err LinkFailed → ⊥)) where
-  pub takes_beside : (left : List Fate) (now : ℕ) → TakesBeside fate reached.fates left reached.troubles now → Takes old.fates left old.troubles now
+  pub takes_beside : (left : List Fate) (now : ℕ) → TakesBeside fate reached.fates left reached.troubles now → TakesFront old.fates left old.troubles now
   takes_beside left now beside = record {
     taken = was.taken ++ beside.taken;
     split = was.split ∙ ap (λ (l : List Fate). was.taken ++ l) beside.split ∙ sym (append_assoc was.taken beside.taken left);
@@ -309,7 +309,7 @@ module _ (to : Peer) (fate : Fate) (result : Result (Vec ℕ Global) LinkError) 
 memory_fails_not : ◌≡◌ {A = Result (Vec ℕ Global) LinkError} (Err LinkMemory) (Err LinkFailed) → ⊥
 memory_fails_not is = absurd (cc)
 
-pub takes_in_want : (to : Peer) (old new : Wire) → Takes old.fates new.fates old.troubles new.troubles → (new ≡ old) ⊎ FrontWaits old.fates
+pub takes_in_want : (to : Peer) (old new : Wire) → TakesFront old.fates new.fates old.troubles new.troubles → (new ≡ old) ⊎ FrontWaits old.fates
     → TakesFates old.fates new.fates old.troubles new.troubles to (Err LinkMemory)
 takes_in_want to old new takes (inl same) = subst (λ (w : Wire). TakesFates old.fates w.fates old.troubles w.troubles to (Err LinkMemory)) (sym same) (record {
   takes = record { taken = []; split = refl; later = le_refl old.troubles; calm = λ quiet. refl };

@@ -19,7 +19,7 @@ use Rattle.world_rules.proofs.Runs.{asked_by_step}
 use Rattle.mem_net.specs.declared.fate.Fate.{Fate}
 use Rattle.mem_net.specs.Net.{Wire, world_of}
 use Rattle.mem_net.specs.Fates.{decides, is_trouble, deciding, left_after, one_more, troubles_after, IsEndOf}
-use Rattle.mem_net.specs.Spending.{IsAny, AreGiven, AreQuiet, Takes, Spends, quiet_front, quiet_behind}
+use Rattle.mem_net.specs.Spending.{IsAny, AreGiven, AreQuiet, TakesFront, Spends, quiet_front, quiet_behind}
 use Rattle.world_rules.proofs.Allowing.{moved_as}
 
 -- ---- the asks that moves note
@@ -73,10 +73,10 @@ want_after fate result troubles want = ap (λ (r : Result (Vec ℕ Global) LinkE
 
 -- ---- fates in a row
 
-pub takes_none : (fates : List Fate) (troubles : ℕ) → Takes fates fates troubles troubles
+pub takes_none : (fates : List Fate) (troubles : ℕ) → TakesFront fates fates troubles troubles
 takes_none fates troubles = record { taken = []; split = refl; later = le_refl troubles; calm = λ quiet. refl }
 
-pub takes_then : (a b d : List Fate) (x y z : ℕ) → Takes a b x y → Takes b d y z → Takes a d x z
+pub takes_then : (a b d : List Fate) (x y z : ℕ) → TakesFront a b x y → TakesFront b d y z → TakesFront a d x z
 takes_then a b d x y z first second = record {
   taken = first.taken ++ second.taken;
   split = first.split ∙ ap (λ (l : List Fate). first.taken ++ l) second.split ∙ sym (append_assoc first.taken second.taken d);
@@ -87,7 +87,7 @@ takes_then a b d x y z first second = record {
 -- ---- one ask
 
 -- memory was wanted before a fate decided it
-pub spent_in_want : (m : Message) (old new : Wire) → MovedBy (Is m) [] (world_of old) (world_of new) → Takes old.fates new.fates old.troubles new.troubles → Spends old new
+pub spent_in_want : (m : Message) (old new : Wire) → MovedBy (Is m) [] (world_of old) (world_of new) → TakesFront old.fates new.fates old.troubles new.troubles → Spends old new
 spent_in_want m old new moves takes = record {
   made = [];
   moved = moved_as (Is m) IsAny (λ x is. tt) [] (world_of old) (world_of new) moves;
@@ -98,7 +98,7 @@ spent_in_want m old new moves takes = record {
 }
 
 -- the fates that are no longer there were taken
-pub takes_end : (old new : Wire) → IsEndOf new.fates old.fates → new.troubles ≡ old.troubles → Takes old.fates new.fates old.troubles new.troubles
+pub takes_end : (old new : Wire) → IsEndOf new.fates old.fates → new.troubles ≡ old.troubles → TakesFront old.fates new.fates old.troubles new.troubles
 takes_end old new end same = record {
   taken = take end.0 old.fates;
   split = sym (take-append-drop end.0 old.fates) ∙ ap (λ (l : List Fate). take end.0 old.fates ++ l) (sym end.1);

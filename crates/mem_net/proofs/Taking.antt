@@ -4,7 +4,7 @@ use Rattle.std.specs.Prelude.{if◌then◌else◌}
 use Rattle.std.specs.List.{flat_map}
 use Rattle.outside.specs.Outside.{Rose}
 use Rattle.outside.specs.Memory.{one_more}
-use Rattle.byte_fields.proofs.Facts.{eq_itself, not_le_of}
+use Rattle.byte_fields.proofs.Facts.{not_le_of}
 use Rattle.tree_values.specs.Tree.{Volume}
 use Rattle.tree_values.specs.Effects.{Conflict, apply_all, first_conflict}
 use Rattle.tree_values.specs.declared.node.Effect.{Effect}
@@ -15,13 +15,11 @@ use Rattle.wire_frames.specs.declared.message.Message.TheVariants.{Store, Pull, 
 use Rattle.wire_frames.specs.Frame.{Echoes, client_of}
 use Rattle.world_rules.specs.declared.asking.Peer.{Peer}
 use Rattle.world_rules.specs.declared.asking.Peer.TheVariants.{Server, Surrogate}
-use Rattle.world_rules.specs.Served.{Served, Verdict, Repeated, Early, Outdated, Refused, Taken, judged, verdict, reply, is_want_of_room, answer, state_after, served_after, TakenEntry, entry_stored, taken_of, taken_if, with_last}
+use Rattle.world_rules.specs.Served.{Served, Verdict, Repeated, Early, Outdated, Refused, Taken, judged, verdict, reply, is_want_of_room, answer, state_after, served_after, TakenEntry, entry_stored, taken_of, taken_if}
 use Rattle.world_rules.specs.World.{IsForServer}
 use Rattle.world_rules.specs.Asking.{IsRequest}
 use Rattle.mem_net.specs.Net.{stored_in}
-
-with_last-own : (last : ℕ → ℕ) (client number : ℕ) → with_last last client number client ≡ number
-with_last-own last client number = ap (λ (b : Bool). if b then number else last client) (eq_itself client)
+use Rattle.server_core.proofs.Many.{raised}
 
 judged-new : (repeated beyond : Bool) (conflict : Option Conflict) (applied : Result Volume (ℕ × TreeError)) (volume : Volume) → Taken volume ≡ judged repeated beyond conflict applied → repeated ≡ false
 judged-new true beyond conflict applied volume is = absurd (cc)
@@ -42,7 +40,7 @@ module _ (client number : ℕ) (effects : List Effect) (base : List Base) (s : S
   untaken Early is same = refl
   untaken (Outdated conflict) is same = refl
   untaken (Refused cause) is same = refl
-  untaken (Taken volume) is same = absurd (omega (arith, new_number volume is, with_last-own s.last client number, same))
+  untaken (Taken volume) is same = absurd (omega (arith, new_number volume is, raised s.last client number, same))
 
   is_taken : (v : Verdict) → (served_after client number v s).last client ≢ s.last client → taken_if v stored ≡ stored ∷ []
   is_taken Repeated other = absurd (other refl)

@@ -16,7 +16,7 @@ use Rattle.world_rules.specs.Asking.{ask_of}
 use Rattle.mem_net.specs.declared.fate.Fate.{Fate}
 use Rattle.mem_net.specs.Net.{Wire, world_of}
 use Rattle.mem_net.specs.Fates.{decides, is_trouble, deciding, left_after, at_decision, IsEndOf, MeetsFate}
-use Rattle.mem_net.specs.Spending.{AreQuiet, Takes}
+use Rattle.mem_net.specs.Spending.{AreQuiet, TakesFront}
 use Rattle.mem_net.specs.Scenes.{Scene, Reaches, AllBefall}
 
 -- the world moved by steps that may come while any request is asked
@@ -62,7 +62,7 @@ MeetsUnlessMemory fate to address request old new (Err Memory) = AsksSent to add
 MeetsUnlessMemory fate to address request old new result = MeetsFate fate to address request old new result
 
 -- The ask is to be decided as before, after fates that decide nothing.
-pub record Awaits (old new : Wire) : Type 0 where
+pub record IsUndecided (old new : Wire) : Type 0 where
   pub fate : deciding new.fates ≡ deciding old.fates
   pub left : left_after new.fates ≡ left_after old.fates
   pub reached : at_decision new.fates (world_of new) ≡ at_decision old.fates (world_of old)
@@ -79,7 +79,7 @@ is_store _ = false
 -- what goes on while a request is not yet answered: moves of no client's own, and fates from the front
 pub record GoesFree (old new : Wire) : Type 0 where
   pub moved : MovedFree (world_of old) (world_of new)
-  pub takes : Takes old.fates new.fates old.troubles new.troubles
+  pub takes : TakesFront old.fates new.fates old.troubles new.troubles
 
 -- the first of the fates, where there is one, decides no ask
 abbrev pub FrontWaits : List Fate → Type 0

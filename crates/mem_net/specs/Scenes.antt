@@ -24,7 +24,7 @@ use Rattle.mem_net.specs.declared.fate.Fate.TheVariants.{Pass, LoseRequest, Lose
 use Rattle.mem_net.specs.declared.parts.Parts.{Parts}
 use Rattle.mem_net.specs.Net.{world_of}
 use Rattle.mem_net.specs.Fates.{decides, befallen, answered, MeetsFate, troubles_after}
-use Rattle.mem_net.specs.Spending.{AreQuiet, Takes, AreGiven}
+use Rattle.mem_net.specs.Spending.{AreQuiet, TakesFront, AreGiven}
 
 -- ---- one moment of a network
 
@@ -74,7 +74,7 @@ pub record HasServed (request : Message) (result : Result Message AllocError) (o
   pub valid : IfOk result IsValid
   pub has_run : HasRun runs (failures_told result) old.runner new.runner
   pub moved : MovedAlone [] old.world new.world
-  pub takes : Takes old.fates new.fates old.troubles new.troubles
+  pub takes : TakesFront old.fates new.fates old.troubles new.troubles
   pub rose : RoseBy (failed_asks asks) old.troubles new.troubles
   pub given : AreQuiet takes.taken → AreGiven asks old.world new.world
 
@@ -220,7 +220,7 @@ IsCutShort to request old new =
 -- The fates left are an end of those before. Where none of the taken ones is a trouble none is counted, and the ask does not fail; so it
 -- passes where none is left. One that decides and comes first is taken alone by an ask of the server, or none is, where memory ran out.
 pub record TakesFates (fates left : List Fate) (troubles now : ℕ) (to : Peer) (result : Result (Vec ℕ Global) LinkError) : Type 0 where
-  pub takes : Takes fates left troubles now
+  pub takes : TakesFront fates left troubles now
   pub calm : AreQuiet takes.taken → result ≢ Err LinkFailed
   pub alone : (first : Fate) (rest : List Fate) → fates ≡ first ∷ rest → decides first ≡ true → to ≡ Server
       → ((takes.taken ≡ first ∷ []) ⊎ ((takes.taken ≡ []) × (result ≡ Err LinkMemory))) × (now ≡ troubles_after first result troubles)

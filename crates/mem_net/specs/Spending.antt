@@ -47,7 +47,7 @@ abbrev pub AreQuiet : List Fate → Type 0
 AreQuiet fates = (fate : Fate) → IsIn fate fates → is_trouble fate ≡ false
 
 -- These fates were taken from the front, and the troubles are not fewer. Where none of the taken fates is a trouble none was counted.
-pub record Takes (fates left : List Fate) (troubles now : ℕ) : Type 0 where
+pub record TakesFront (fates left : List Fate) (troubles now : ℕ) : Type 0 where
   pub taken : List Fate
   pub split : fates ≡ taken ++ left
   pub later : troubles ≤ now

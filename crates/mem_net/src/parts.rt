@@ -9,7 +9,7 @@ ghost use Rattle.world_rules.specs.Asking.{IsRequest, IsReplyTo, AsksOnce, IsDir
 ghost use Rattle.surrogate_core.specs.Handling.{Idle};
 ghost use Rattle.mem_net.specs.Net.{world_of};
 ghost use Rattle.mem_net.specs.Fates.{decides, comes_late, deciding, troubles_after, LeavesFates};
-ghost use Rattle.mem_net.specs.Spending.{Takes, Spends};
+ghost use Rattle.mem_net.specs.Spending.{TakesFront, Spends};
 ghost use Rattle.mem_net.specs.Scenes.{scene_of, with_world, HasServed, IsHandled, Befalls, IsReached, UnlessMemory};
 ghost use Rattle.mem_net.specs.Scenes.{MeetsOperation, IsMet, TakesFates};
 ghost use Rattle.mem_net.specs.Scenes.{OnMemory, IsUnhandled, IsHandledInPart, BefallsInPart, IsCutBefore, handlings, IsCutShort};
@@ -147,7 +147,7 @@ impl<R: Runner> Parts<R> {
         ensures moved { MovedBy (Is request.now) [] (world_of self.old.wires) (world_of self.new.wires) }
         ensures asking { OnOk result (IsSent request.now (world_of self.old.wires) (world_of self.new.wires)) }
         ensures sent { OnOk result (IsIn request.now self.new.wires.packets) }
-        ensures takes { Takes self.old.wires.fates self.new.wires.fates self.old.wires.troubles self.new.wires.troubles }
+        ensures takes { TakesFront self.old.wires.fates self.new.wires.fates self.old.wires.troubles self.new.wires.troubles }
         ensures front { OnErr result ((self.new.wires ≡ self.old.wires) ⊎ FrontWaits self.old.wires.fates) }
         ensures cut { OnErr result ((scene_of R.runs R.faults self.new ≡ scene_of R.runs R.faults self.old)
             ⊎ IsCutBefore (with_world (sent request.now (world_of self.old.wires)) (scene_of R.runs R.faults self.old))
@@ -167,7 +167,7 @@ impl<R: Runner> Parts<R> {
         ensures met { UnlessMemory result (MeetsOperation Pass Peer.Surrogate address.now request (scene_of R.runs R.faults self.old)
             (scene_of R.runs R.faults self.new) result) }
         ensures once { AsksSent Peer.Surrogate address.now request (world_of self.old.wires) (world_of self.new.wires) result }
-        ensures takes { Takes self.old.wires.fates self.new.wires.fates self.old.wires.troubles self.new.wires.troubles }
+        ensures takes { TakesFront self.old.wires.fates self.new.wires.fates self.old.wires.troubles self.new.wires.troubles }
         ensures memory { IfErr result (λ error. error ≡ LinkError.Memory) }
         ensures cut { OnErr result (IsHandledInPart 1 request (scene_of R.runs R.faults self.old) (scene_of R.runs R.faults self.new)) }
     {

@@ -63,7 +63,7 @@ impl Wires {
     ghost use Rattle.mem_net.specs.Net.{Wire, world_of, new_world};
     ghost use Rattle.mem_net.specs.Fates.{decides, deciding, left_after, at_decision, befallen, delivered_late, injected};
     ghost use Rattle.mem_net.specs.Fates.{answered, one_more, troubles_after, IsEndOf, IsNoReply};
-    ghost use Rattle.mem_net.specs.Inside.{MovedFree, IsSent, KeepsFates, decision, MeetsUnlessMemory, Awaits};
+    ghost use Rattle.mem_net.specs.Inside.{MovedFree, IsSent, KeepsFates, decision, MeetsUnlessMemory, IsUndecided};
     ghost use Rattle.mem_net.specs.declared.fate.Fate.TheVariants.{Pass, LoseRequest, Old};
 
     /// The network of a client and this server, in which nothing was sent. The asks meet these fates in their order;

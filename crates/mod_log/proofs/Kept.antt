@@ -21,7 +21,7 @@ use Rattle.mod_log.specs.declared.log.LogError.{LogError}
 use Rattle.mod_log.specs.declared.log.LogError.TheVariants.{EntryTooLarge, LogFull, LastNumber, Tree, Memory}
 use Rattle.mod_log.specs.Log.{Log, entry, after, tree_of, IsLog, logged, acknowledged}
 use Rattle.mod_log.specs.Append.{next_entry, is_too_large, log_size_with, log_has_no_room, is_at_last, refused_effect, appended}
-use Rattle.mod_log.specs.Inside.{rolled_back, entries_of, IsKept, AreKept, log_of, AreFields, room_refusals, log_error}
+use Rattle.mod_log.specs.Inside.{rolled_back, entries_of, KeepsEntry, AreKept, log_of, AreFields, room_refusals, log_error}
 use Rattle.mod_log.proofs.Sums.{size_behind, size_front}
 use Rattle.mod_log.proofs.Entries.{acknowledged_is_log}
 use Rattle.mod_log.proofs.Appending.{logged_is_log}
@@ -102,12 +102,12 @@ module _ (origin : Option Origin) (effects : List Effect) (log : Log) where
 
 -- ---- the log with one more
 
-AreKept-push : (pending : List Pending) (tree after : Volume) (kept : Pending) → AreKept pending tree → IsKept kept tree after → undone_all kept.undos.items after ≡ tree
+AreKept-push : (pending : List Pending) (tree after : Volume) (kept : Pending) → AreKept pending tree → KeepsEntry kept tree after → undone_all kept.undos.items after ≡ tree
     → AreKept (pending ++ kept ∷ []) after × (rolled_back (pending ++ kept ∷ []) after ≡ rolled_back pending tree)
-AreKept-push [] tree after kept are is back = ((subst (λ before. IsKept kept before after) (sym back) is, tt), back)
+AreKept-push [] tree after kept are is back = ((subst (λ before. KeepsEntry kept before after) (sym back) is, tt), back)
 AreKept-push (first ∷ later) tree after kept are is back =
     let rest = AreKept-push later tree after kept are.1 is back in
-    ((subst (λ r. IsKept first (undone_all first.undos.items r) r) (sym rest.1) are.0, rest.0), ap (undone_all first.undos.items) rest.1)
+    ((subst (λ r. KeepsEntry first (undone_all first.undos.items r) r) (sym rest.1) are.0, rest.0), ap (undone_all first.undos.items) rest.1)
 
 pub record IsLonger (acked : ℕ) (after : Volume) (pending : List Pending) (size : ℕ) (log : Log) : Type 0 where
   pub fields : AreFields acked after pending size
@@ -122,7 +122,7 @@ longer acked tree next pending size kept origin effects fields entry_is kept_siz
     let more : entries_of (pending ++ kept ∷ []) ≡ entries_of pending ++ kept.entry ∷ [] = map-append (λ k. k.entry) pending (kept ∷ []) in
     let tree_is : tree_of (log_of acked tree pending) ≡ tree = after_kept pending tree fields.kept in
     let next_is : next ≡ changed_all effects tree = applied-changes effects 0 tree next applies in
-    let here : IsKept kept tree next = record {
+    let here : KeepsEntry kept tree next = record {
       leads = ap (λ e. changed_all e.effects tree) entry_is ∙ sym next_is;
       can_undo = can;
       size = kept_size;

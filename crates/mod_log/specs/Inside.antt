@@ -28,7 +28,7 @@ abbrev pub entries_of : List Pending → List Entry
 entries_of pending = map (λ kept. kept.entry) pending
 
 -- the entry leads from one tree to the other, and its undos lead back
-pub record IsKept (kept : Pending) (before after : Volume) : Type 0 where
+pub record KeepsEntry (kept : Pending) (before after : Volume) : Type 0 where
   pub leads : changed_all kept.entry.effects before ≡ after
   pub can_undo : CanUndoAll kept.undos.items after
   pub size : kept.size ≡ length (entry kept.entry)
@@ -37,7 +37,7 @@ pub record IsKept (kept : Pending) (before after : Volume) : Type 0 where
 abbrev pub AreKept : List Pending → Volume → Type 0
 AreKept [] tree = ⊤
 AreKept (first ∷ later) tree =
-    IsKept first (rolled_back (first ∷ later) tree) (rolled_back later tree) × AreKept later tree
+    KeepsEntry first (rolled_back (first ∷ later) tree) (rolled_back later tree) × AreKept later tree
 
 -- the log that a tree and the entries that led to it are
 abbrev pub log_of : ℕ → Volume → List Pending → Log

@@ -42,14 +42,14 @@ has_failed (Err Failed) = true
 has_failed _ = false
 
 -- what a failed save leaves: the new image, or all as before
-abbrev pub Leaves : Bool → List ℕ → List ℕ → List Slot → List Slot → Type 0
-Leaves true name image old new = IsPut name image (images_of old) (images_of new)
-Leaves false name image old new = new ≡ old
+abbrev pub LeavesImage : Bool → List ℕ → List ℕ → List Slot → List Slot → Type 0
+LeavesImage true name image old new = IsPut name image (images_of old) (images_of new)
+LeavesImage false name image old new = new ≡ old
 
 -- what a save leaves
 abbrev pub SavesAs : {T : Type 0} → List ℕ → List ℕ → Result T KeepError → KeeperInMemory → List Slot → Type 0
 SavesAs name image (Ok done) old new = IsPut name image (images_of old.slots) (images_of new)
-SavesAs name image (Err Failed) old new = Leaves (leaves_new old) name image old.slots new
+SavesAs name image (Err Failed) old new = LeavesImage (leaves_new old) name image old.slots new
 SavesAs name image (Err Memory) old new = new ≡ old.slots
 
 -- what a call that fails so leaves of the piece that it appends: the whole, or a front of so many bytes

@@ -1,11 +1,11 @@
 -- A frame that is read in two steps: its length, and what is behind it.
-use Rattle.std.proofs.Common.{◌≡◌, ℕ, ◌+◌, ◌≤◌, ◌<◌, Bool, ◌&&◌, nat_le, if◌then◌else◌, List, [], ◌∷◌, ◌++◌, length, take, drop, Option, None, Some, IfSome, refl, sym, ◌∙◌, ap, subst, arith}
+use Rattle.std.proofs.Common.{◌≡◌, ℕ, ◌+◌, ◌≤◌, Bool, ◌&&◌, nat_le, if◌then◌else◌, List, [], ◌∷◌, ◌++◌, length, take, drop, Option, None, Some, IfSome, refl, sym, ◌∙◌, ap, subst, arith}
 use Rattle.std.specs.Int.{w32, from_be_bytes}
 use Rattle.std.proofs.lemmas.Bool.{le-leb}
 use Rattle.std.proofs.lemmas.List.{take_all, length-append}
 use Rattle.std.proofs.Math.Seq.{take-add}
 use Rattle.real_edge.specs.Frames.{frame_limit, announced_bytes, first_frame}
-use Rattle.real_edge.specs.Inside.{IsFront, ReadsUpTo}
+use Rattle.real_edge.specs.Inside.{IsStreamFront, ReadsUpTo}
 
 -- the first four bytes announce as much as all
 behind_front : (bytes : List ℕ) → announced_bytes (take 4 bytes) ≡ announced_bytes bytes
@@ -49,8 +49,8 @@ frame_known None middle after empty head frame none first second = tt
 frame_known (Some bytes) middle after empty head frame none first second =
     let start : head ≡ take 4 bytes = first.1 ∙ ap (λ (l : List ℕ). l ++ first.0) none ∙ first.3.0 in
     let count : announced_bytes head ≡ announced_bytes bytes = ap announced_bytes start ∙ behind_front bytes in
-    let rest : IsFront (announced_bytes head) (Some (drop 4 bytes)) after second.0 =
-    subst (λ (m : Option (List ℕ)). IsFront (announced_bytes head) m after second.0) first.3.1 second.3 in
+    let rest : IsStreamFront (announced_bytes head) (Some (drop 4 bytes)) after second.0 =
+    subst (λ (m : Option (List ℕ)). IsStreamFront (announced_bytes head) m after second.0) first.3.1 second.3 in
     let body : second.0 ≡ take (announced_bytes bytes) (drop 4 bytes) = rest.0 ∙ ap (λ (n : ℕ). take n (drop 4 bytes)) count in
     second.1 ∙ ap (λ (l : List ℕ). l ++ second.0) start ∙ ap (λ (l : List ℕ). take 4 bytes ++ l) body
     ∙ sym (take-add 4 (announced_bytes bytes) bytes)

@@ -32,7 +32,7 @@ use Rattle.world_rules.specs.Asking.{ask_of}
 use Rattle.world_rules.specs.declared.asking.Ask.{Ask}
 use Rattle.surrogate_core.specs.declared.step.Step.TheVariants as steps
 use Rattle.surrogate_core.specs.Handling.{job_print, Phase, Idle, Fetching, Holding, Reaction, answering, declining, prepared, job_for, held_by, unless_clash, unless_unfit, after_verdict, AfterJob, runs_of_job, Tries, closed, refusal_kind, HandlesCome, Round, IsRound, GoesOn}
-use Rattle.surrogate_core.specs.Laws.{IsTried, IsPulled, IsJudged, IsAgreed, HasCause, DeclinesHaveCauses}
+use Rattle.surrogate_core.specs.Laws.{IsTried, IsPulled, IsJudged, IsAgreed, CausesDecline, DeclinesHaveCauses}
 use Rattle.surrogate_core.specs.declared.step.Step.{Step}
 use Rattle.world_rules.proofs.Settled.{failed-append}
 use Rattle.vol_tree.proofs.Behind.{IsIn-right}
@@ -49,7 +49,7 @@ cause_in (Err cause) other = cause
 
 module _ (sketched : SketchEntry) (copy : Volume) where
   abbrev CausedReply : List Run → List Ask → Message → Type 0
-  CausedReply runs asks (Declined c n cause) = HasCause sketched copy asks runs cause
+  CausedReply runs asks (Declined c n cause) = CausesDecline sketched copy asks runs cause
   CausedReply runs asks reply = Unit {0}
 
   abbrev CausedOn : List Run → List Ask → Step → Phase → Type 0
@@ -83,21 +83,21 @@ module _ (sketched : SketchEntry) (copy : Volume) where
       agree_caused client asks runs tried run effects (record { judged = judged; agrees = is }) (find (clashes tried run.job.rows) effects) refl
 
   -- why a pulled copy has no such job
-  no_job_caused : (asks : List Ask) (runs : List Run) (tried : Volume) (cause : Cause) → IsPulled asks tried → job_for tried sketched ≡ Err cause → HasCause sketched copy asks runs cause
+  no_job_caused : (asks : List Ask) (runs : List Run) (tried : Volume) (cause : Cause) → IsPulled asks tried → job_for tried sketched ≡ Err cause → CausesDecline sketched copy asks runs cause
   no_job_caused asks runs tried cause pulled e = by (job_of tried sketched.origin.command) refl e
     where
       differs : (job : Job) (b : Bool) → bytes_eq (job_print job) sketched.origin.job_print ≡ b → job_of tried sketched.origin.command ≡ Ok job
-          → (if b then Ok job else Err (OtherJob sketched.origin.job_print (job_print job))) ≡ Err cause → HasCause sketched copy asks runs cause
+          → (if b then Ok job else Err (OtherJob sketched.origin.job_print (job_print job))) ≡ Err cause → CausesDecline sketched copy asks runs cause
       differs job true same is e = absurd (cc)
       differs job false other is e =
-          subst (HasCause sketched copy asks runs) (ap (λ r. cause_in r cause) e)
+          subst (CausesDecline sketched copy asks runs) (ap (λ r. cause_in r cause) e)
           (tried, job, pulled, is, refl, refl, λ equal. true≢false (sym ((bytes_eq-Decides (job_print job) sketched.origin.job_print).1 equal) ∙ other))
 
-      by : (found : Result Job JobError) → job_of tried sketched.origin.command ≡ found → prepared sketched found ≡ Err cause → HasCause sketched copy asks runs cause
+      by : (found : Result Job JobError) → job_of tried sketched.origin.command ≡ found → prepared sketched found ≡ Err cause → CausesDecline sketched copy asks runs cause
       by (Ok job) is e = differs job (bytes_eq (job_print job) sketched.origin.job_print) refl is e
-      by (Err (job_errors.NoFolder path)) is e = subst (HasCause sketched copy asks runs) (ap (λ r. cause_in r cause) e) (tried, pulled, ap (prepared sketched) is)
-      by (Err (job_errors.NoInput index)) is e = subst (HasCause sketched copy asks runs) (ap (λ r. cause_in r cause) e) (tried, pulled, ap (prepared sketched) is)
-      by (Err job_errors.Memory) is e = subst (HasCause sketched copy asks runs) (ap (λ r. cause_in r cause) e) tt
+      by (Err (job_errors.NoFolder path)) is e = subst (CausesDecline sketched copy asks runs) (ap (λ r. cause_in r cause) e) (tried, pulled, ap (prepared sketched) is)
+      by (Err (job_errors.NoInput index)) is e = subst (CausesDecline sketched copy asks runs) (ap (λ r. cause_in r cause) e) (tried, pulled, ap (prepared sketched) is)
+      by (Err job_errors.Memory) is e = subst (CausesDecline sketched copy asks runs) (ap (λ r. cause_in r cause) e) tt
 
   tries_caused : (pulled : Bool) (client : ℕ) (asks : List Ask) (tried : Volume) (work : List ℕ) (runs : List Run) (reaction : Reaction) → IsTried copy asks tried → (pulled ≡ true → IsPulled asks tried)
       → Tries pulled tried client sketched work runs reaction → Caused runs asks reaction
@@ -182,7 +182,7 @@ module _ (sketched : SketchEntry) (copy : Volume) where
 
 pub declines_have_causes : DeclinesHaveCauses
 declines_have_causes server work copy after client sketched runs asks cause handling =
-    subst (λ l. HasCause sketched copy asks l cause) (sym handling.runs_are)
-    (subst (λ l. HasCause sketched copy l (handling.first_runs ++ flat_map (λ r. r.runs) handling.rounds) cause) (sym handling.asks_are)
+    subst (λ l. CausesDecline sketched copy asks l cause) (sym handling.runs_are)
+    (subst (λ l. CausesDecline sketched copy l (handling.first_runs ++ flat_map (λ r. r.runs) handling.rounds) cause) (sym handling.asks_are)
     (rounds_caused sketched copy server work handling.first_runs [] handling.rounds handling.first (answering after (Declined client sketched.seq cause))
     (tries_caused sketched copy false client [] copy work handling.first_runs handling.first (inl refl) (λ e. absurd (cc)) handling.begins) handling.goes_on))

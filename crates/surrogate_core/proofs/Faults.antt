@@ -24,7 +24,7 @@ use Rattle.wire_frames.proofs.Standing.{filled_stores}
 use Rattle.world_rules.proofs.Replies.{IsTold, refused_all-told}
 use Rattle.surrogate_core.specs.declared.replaying.Held.{Held}
 use Rattle.surrogate_core.specs.Handling.{Held as HeldEffects, held_by, unless_clash, unless_unfit}
-use Rattle.surrogate_core.specs.Inside.{IsReplayed}
+use Rattle.surrogate_core.specs.Inside.{IsJudgedReplay}
 
 -- ---- refusals
 
@@ -82,7 +82,7 @@ verdict_holds sketched copy job outcome (OddTree i) judged = tt
 verdict_holds sketched copy job outcome (Mismatch path) judged = tt
 
 pub store_valid : (client : ℕ) (sketched : SketchEntry) (old new : Volume) (job : Job) (outcome : Outcome) (result : Result Held Cause) → IsValid (Operate client sketched)
-    → IsReplayed old new sketched job outcome result → IfOk result (λ held. IsValid (Store client sketched.seq held.effects sketched.base))
+    → IsJudgedReplay old new sketched job outcome result → IfOk result (λ held. IsValid (Store client sketched.seq held.effects sketched.base))
 store_valid client sketched old new job outcome (Ok held) valid replayed =
     filled_stores client sketched held.effects valid (subst (Holds sketched) replayed.held.0 (verdict_holds sketched old job outcome replayed.verdict replayed.judged))
 store_valid client sketched old new job outcome (Err cause) valid replayed = tt

@@ -22,7 +22,7 @@ use Rattle.surrogate_core.specs.declared.machine.State.TheVariants.{Idle as IsId
 use Rattle.surrogate_core.specs.declared.replaying.Held.{Held}
 use Rattle.surrogate_core.specs.Handling.{Phase, Idle, Fetching, Holding, Machine, Reaction, idle, declining, job_for, after_verdict, held_by, AfterJob, runs_of_job, Tries, HandlesReply}
 use Rattle.surrogate_core.specs.Serving.{Steps, failed_step}
-use Rattle.surrogate_core.specs.Inside.{IsReplayed, IsConcluded, Starves, phase_of, reaction_of, snapshot_rows}
+use Rattle.surrogate_core.specs.Inside.{IsJudgedReplay, IsConcluded, Starves, phase_of, reaction_of, snapshot_rows}
 
 -- ---- what the runner tells
 
@@ -71,7 +71,7 @@ module _ (pulled : Bool) (copy : Volume) (client : ℕ) (sketched : SketchEntry)
       told = subst (λ (k : ℕ). HasRun [] k old new) (sym failed) told;
     }
 
-    pub ran_tries : (outcome : Outcome) (now : Volume) (result : Result Held Cause) (step : Step) (state : State) → IsReplayed copy now sketched job outcome result
+    pub ran_tries : (outcome : Outcome) (now : Volume) (result : Result Held Cause) (step : Step) (state : State) → IsJudgedReplay copy now sketched job outcome result
         → IsConcluded client sketched result step state → failed_step step ≡ 0 → HasRun (record { work = work; job = job; outcome = outcome } ∷ []) 0 old new
         → Steps (Tries pulled copy client sketched work) (reaction_of step state now) old new
     ran_tries outcome now result step state replayed concluded failed told = record {
@@ -85,7 +85,7 @@ module _ (pulled : Bool) (copy : Volume) (client : ℕ) (sketched : SketchEntry)
       told = subst (λ (k : ℕ). HasRun (record { work = work; job = job; outcome = outcome } ∷ []) k old new) (sym failed) told;
     }
       where
-        by : (result : Result Held Cause) → (replayed : IsReplayed copy now sketched job outcome result) → IsConcluded client sketched result step state
+        by : (result : Result Held Cause) → (replayed : IsJudgedReplay copy now sketched job outcome result) → IsConcluded client sketched result step state
             → reaction_of step state now ≡ after_verdict copy client sketched (held_by copy job replayed.verdict)
         by (Ok held) replayed concluded =
             let asks = steps.Ask (messages.Store client sketched.seq held.effects sketched.base) in

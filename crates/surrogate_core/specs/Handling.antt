@@ -77,9 +77,9 @@ abbrev pub declining : Volume → ℕ → ℕ → Cause → Reaction
 declining copy client number cause = answering copy (Declined client number cause)
 
 -- the message of a step has a spelling, and what is asked is a request to the server
-abbrev pub IsSent : Step → Type 0
-IsSent (steps.Ask request) = IsValid request × IsRequest Server request
-IsSent (steps.Answer reply) = IsValid reply
+abbrev pub IsFitStep : Step → Type 0
+IsFitStep (steps.Ask request) = IsValid request × IsRequest Server request
+IsFitStep (steps.Answer reply) = IsValid reply
 
 -- ---- the job
 

@@ -58,17 +58,17 @@ snapshot_rows message = None
 -- ---- trying an operation
 
 -- the copy took these effects, and gives them back
-pub record Takes (old new : Volume) (held : Held) : Type 0 where
+pub record TakesEffects (old new : Volume) (held : Held) : Type 0 where
   pub undoes : undone_all held.undos.items new ≡ old
   pub can_undo : CanUndoAll held.undos.items new
 
 -- what is held came to this, and left the copy with the effects or as it was
 abbrev pub IsHeld : Volume → Volume → Result HeldEffects Cause → Result Held Cause → Type 0
-IsHeld old new wanted (Ok held) = (wanted ≡ Ok (record { effects = held.effects; copy = new })) × Takes old new held
+IsHeld old new wanted (Ok held) = (wanted ≡ Ok (record { effects = held.effects; copy = new })) × TakesEffects old new held
 IsHeld old new wanted (Err cause) = (wanted ≡ Err cause) × (new ≡ old)
 
 -- the outcome was judged, and that came to this
-pub record IsReplayed (old new : Volume) (sketched : SketchEntry) (job : Job) (outcome : Outcome) (result : Result Held Cause) : Type 0 where
+pub record IsJudgedReplay (old new : Volume) (sketched : SketchEntry) (job : Job) (outcome : Outcome) (result : Result Held Cause) : Type 0 where
   pub verdict : Verdict
   pub judged : IsJudgement sketched job outcome verdict
   pub held : IsHeld old new (held_by old job verdict) result

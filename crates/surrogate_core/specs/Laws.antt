@@ -91,30 +91,30 @@ pub record IsAgreed (sketched : SketchEntry) (copy : Volume) (asks : List Ask) (
   pub judged : IsJudged sketched copy asks runs tried run
   pub agrees : IsJudgement sketched run.job run.outcome (verdicts.Agree effects)
 
-abbrev pub HasCause : SketchEntry → Volume → List Ask → List Run → Cause → Type 0
-HasCause sketched copy asks runs (OtherJob logged found) =
+abbrev pub CausesDecline : SketchEntry → Volume → List Ask → List Run → Cause → Type 0
+CausesDecline sketched copy asks runs (OtherJob logged found) =
     (tried : Volume) × (job : Job) × IsPulled asks tried × (job_of tried sketched.origin.command ≡ Ok job) × (found ≡ job_print job) × (logged ≡ sketched.origin.job_print) × (found ≢ logged)
-HasCause sketched copy asks runs (NoJob code index) = (tried : Volume) × IsPulled asks tried × (job_for tried sketched ≡ Err (NoJob code index))
-HasCause sketched copy asks runs NoServer = 8 ≤ failed_asks asks
-HasCause sketched copy asks runs NotRun = (runs ≡ []) × ((tried : Volume) × (job : Job) × IsTried copy asks tried × (job_for tried sketched ≡ Ok job))
-HasCause sketched copy asks runs (Status logged replayed) =
+CausesDecline sketched copy asks runs (NoJob code index) = (tried : Volume) × IsPulled asks tried × (job_for tried sketched ≡ Err (NoJob code index))
+CausesDecline sketched copy asks runs NoServer = 8 ≤ failed_asks asks
+CausesDecline sketched copy asks runs NotRun = (runs ≡ []) × ((tried : Volume) × (job : Job) × IsTried copy asks tried × (job_for tried sketched ≡ Ok job))
+CausesDecline sketched copy asks runs (Status logged replayed) =
     (tried : Volume) × (run : Run) × IsJudged sketched copy asks runs tried run × IsJudgement sketched run.job run.outcome (verdicts.Status logged replayed)
-HasCause sketched copy asks runs (OddTree index) =
+CausesDecline sketched copy asks runs (OddTree index) =
     (tried : Volume) × (run : Run) × IsJudged sketched copy asks runs tried run × IsJudgement sketched run.job run.outcome (verdicts.OddTree index)
-HasCause sketched copy asks runs (Mismatch path) =
+CausesDecline sketched copy asks runs (Mismatch path) =
     (tried : Volume) × (run : Run) × IsJudged sketched copy asks runs tried run × IsJudgement sketched run.job run.outcome (verdicts.Mismatch path)
-HasCause sketched copy asks runs (Clash path) =
+CausesDecline sketched copy asks runs (Clash path) =
     (tried : Volume) × (run : Run) × (effects : List Effect) × (effect : Effect) × IsAgreed sketched copy asks runs tried run effects
     × (find (clashes tried run.job.rows) effects ≡ Some effect) × (path ≡ first_path effect)
-HasCause sketched copy asks runs (NotFit index fault) =
+CausesDecline sketched copy asks runs (NotFit index fault) =
     (tried : Volume) × (run : Run) × (effects : List Effect) × IsAgreed sketched copy asks runs tried run effects
     × (find (clashes tried run.job.rows) effects ≡ None) × (apply_all 0 effects tried ≡ Err (index, fault))
-HasCause sketched copy asks runs (Refused kind) = (ask : Ask) × (reply : Message) × IsIn ask asks × (ask.answer ≡ Reply reply) × (refusal_kind reply ≡ Some kind)
-HasCause sketched copy asks runs NoMemory = Unit {0}
+CausesDecline sketched copy asks runs (Refused kind) = (ask : Ask) × (reply : Message) × IsIn ask asks × (ask.answer ≡ Reply reply) × (refusal_kind reply ≡ Some kind)
+CausesDecline sketched copy asks runs NoMemory = Unit {0}
 
 abbrev pub DeclinesHaveCauses : Type 0
 DeclinesHaveCauses = (server work : List ℕ) (copy after : Volume) (client : ℕ) (sketched : SketchEntry) (runs : List Run) (asks : List Ask) (cause : Cause)
-    → Handling server work copy client sketched runs asks (messages.Declined client sketched.seq cause) after → HasCause sketched copy asks runs cause
+    → Handling server work copy client sketched runs asks (messages.Declined client sketched.seq cause) after → CausesDecline sketched copy asks runs cause
 
 -- eight asks of one request to the server failed, one after the other
 abbrev pub FailedEight : List ℕ → List Ask → Type 0

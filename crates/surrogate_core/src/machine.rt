@@ -12,7 +12,7 @@ ghost use Rattle.surrogate_core.specs.declared.step.Step.TheVariants as steps;
 ghost use Rattle.surrogate_core.specs.declared.machine.State.TheVariants as states;
 ghost use Rattle.surrogate_core.specs.Handling.{Idle, Fetching, IsAsking, idle, copy_before, declining, job_for};
 ghost use Rattle.surrogate_core.specs.Handling.{closed, refusal_kind, Tries, Operates, AfterJob, Expects, HandlesReply};
-ghost use Rattle.surrogate_core.specs.Handling.{IsSilenced, IsSent};
+ghost use Rattle.surrogate_core.specs.Handling.{IsSilenced, IsFitStep};
 ghost use Rattle.cmd_capture.specs.Runs.{telling};
 ghost use Rattle.surrogate_core.specs.Serving.{Steps, failed_cause, failed_step};
 ghost use Rattle.surrogate_core.specs.Inside.{IsSound, IsConcluded, Starves, reaction_of, operation_in, snapshot_rows};
@@ -96,7 +96,7 @@ impl Surrogate {
           after = self.new;
         })
             (telling (R.runs runner.old) (R.faults runner.old)) (telling (R.runs runner.new) (R.faults runner.new)) }
-        ensures sent { IsSent result }
+        ensures sent { IsFitStep result }
     {
         match operation(request) {
             Some((client, sketched)) => self.try_on(false, client, sketched, work, runner),
@@ -112,7 +112,7 @@ impl Surrogate {
           after = self.new;
         })
             (telling (R.runs runner.old) (R.faults runner.old)) (telling (R.runs runner.new) (R.faults runner.new)) }
-        ensures sent { IsSent result }
+        ensures sent { IsFitStep result }
     {
         match mem::replace(&mut self.state, State::Idle) {
             State::Idle => Step::Answer(reply),
@@ -135,7 +135,7 @@ impl Surrogate {
     pub fn on_silence(&mut self) -> Step
         requires { IsAsking self.old.phase }
         ensures silenced { IsSilenced self.old.phase self.old.copy (record { step = result; after = self.new }) }
-        ensures sent { IsSent result }
+        ensures sent { IsFitStep result }
     {
         match mem::replace(&mut self.state, State::Idle) {
             State::Idle => unreachable!(),
@@ -184,7 +184,7 @@ impl Surrogate {
               after = self.new;
             }) (telling (R.runs runner.old) (R.faults runner.old))
             (telling (R.runs runner.new) (R.faults runner.new)) }
-        ensures sent { IsSent result }
+        ensures sent { IsFitStep result }
     {
         let number = sketched.seq;
         let Some(rows) = snapshot_rows(reply) else {
@@ -218,7 +218,7 @@ impl Surrogate {
           after = self.new;
         })
             (telling (R.runs runner.old) (R.faults runner.old)) (telling (R.runs runner.new) (R.faults runner.new)) }
-        ensures sent { IsSent result }
+        ensures sent { IsFitStep result }
     {
         let number = sketched.seq;
         match advance(
@@ -245,7 +245,7 @@ fn declined(client: u8, number: u64, cause: Cause) -> Step
     requires valid { IsValid (Done client number) }
     requires cause { CauseFits cause }
     ensures step { result ≡ steps.Answer (Declined client number cause) }
-    ensures sent { IsSent result }
+    ensures sent { IsFitStep result }
 {
     Step::Answer(Message::Declined {
         client,
@@ -268,7 +268,7 @@ fn advance<R: Runner>(
     ensures ok { IfOk result (λ x. Steps (Tries pulled copy.old client sketched work.now) (reaction_of x.0 x.1 copy.new)
         (telling (R.runs runner.old) (R.faults runner.old)) (telling (R.runs runner.new) (R.faults runner.new))) }
     ensures sound { IfOk result (λ x. IsSound x.1 copy.new) }
-    ensures sent { IfOk result (λ x. IsSent x.0) }
+    ensures sent { IfOk result (λ x. IsFitStep x.0) }
     ensures err { OnErr result (Starves work.now (job_for copy.old sketched) (telling (R.runs runner.old) (R.faults runner.old))
         (telling (R.runs runner.new) (R.faults runner.new))) }
     ensures unchanged { OnErr result (copy.new ≡ copy.old) }
@@ -291,7 +291,7 @@ fn without_job(pulled: bool, client: u8, sketched: SketchEntry, cause: Cause) ->
     requires none_failed { failed_cause cause ≡ 0 }
     ensures came { (copy : Volume) → AfterJob pulled copy client sketched (Err cause) None (reaction_of result.0 result.1 copy) }
     ensures sound { (copy : Volume) → IsSound result.1 copy }
-    ensures sent { IsSent result.0 }
+    ensures sent { IsFitStep result.0 }
     ensures none_failed { failed_step result.0 ≡ 0 }
 {
     if pulled {
@@ -325,7 +325,7 @@ fn perform<R: Runner>(
         (reaction_of x.0 x.1 copy.new) (telling (R.runs runner.old) (R.faults runner.old))
         (telling (R.runs runner.new) (R.faults runner.new))) }
     ensures sound { IfOk result (λ x. IsSound x.1 copy.new) }
-    ensures sent { IfOk result (λ x. IsSent x.0) }
+    ensures sent { IfOk result (λ x. IsFitStep x.0) }
     ensures err { OnErr result (Starves work.now (Ok job) (telling (R.runs runner.old) (R.faults runner.old))
         (telling (R.runs runner.new) (R.faults runner.new))) }
     ensures unchanged { OnErr result (copy.new ≡ copy.old) }
@@ -363,7 +363,7 @@ fn conclude(client: u8, sketched: SketchEntry, held: Result<Held, Cause>) -> (St
     requires cause { IfErr held CauseFits }
     requires none_failed { IfErr held (λ cause. failed_cause cause ≡ 0) }
     ensures held { IsConcluded client sketched held result.0 result.1 }
-    ensures sent { IsSent result.0 }
+    ensures sent { IsFitStep result.0 }
     ensures none_failed { failed_step result.0 ≡ 0 }
 {
     match held {
@@ -381,7 +381,7 @@ fn hold(client: u8, sketched: SketchEntry, held: Held) -> (Step, State)
     requires { IsValid (Store client sketched.seq held.effects sketched.base) }
     ensures step { result.0 ≡ steps.Ask (Store client sketched.seq held.effects sketched.base) }
     ensures state { result.1 ≡ states.Holding client sketched.seq held.undos }
-    ensures sent { IsSent result.0 }
+    ensures sent { IsFitStep result.0 }
 {
     let SketchEntry {
         seq: number,
@@ -414,7 +414,7 @@ fn close(copy: &mut Tree, client: u8, number: u64, undos: Vec<Undo>, kind: Optio
       after = idle copy.new;
     } ≡ closed copy.old client number
         (undone_all undos.items copy.old) kind }
-    ensures sent { IsSent result }
+    ensures sent { IsFitStep result }
 {
     match kind {
         None => {

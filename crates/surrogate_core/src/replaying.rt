@@ -12,7 +12,7 @@ ghost use Rattle.wire_frames.specs.Frame.{IsValid};
 ghost use Rattle.wire_frames.specs.declared.message.Message.TheVariants.{Operate};
 ghost use Rattle.surrogate_core.specs.Handling.{job_for, unless_clash};
 ghost use Rattle.surrogate_core.specs.Serving.{failed_cause};
-ghost use Rattle.surrogate_core.specs.Inside.{IsHeld, IsReplayed};
+ghost use Rattle.surrogate_core.specs.Inside.{IsHeld, IsJudgedReplay};
 
 use cmd_capture::{Job, Outcome, job_print};
 use mod_log::SketchEntry;
@@ -86,7 +86,7 @@ pub(crate) fn replay(
 ) -> Result<Result<Held, Cause>, AllocError>
     requires rows { AreJobRows job.now.rows }
     requires valid { (client : ℕ) × IsValid (Operate client sketched.now) }
-    ensures ok { IfOk result (IsReplayed copy.old copy.new sketched.now job.now outcome.now) }
+    ensures ok { IfOk result (IsJudgedReplay copy.old copy.new sketched.now job.now outcome.now) }
     ensures err { OnErr result (copy.new ≡ copy.old) }
     ensures fits { IfOk result (λ held. IfErr held CauseFits) }
     ensures none_failed { IfOk result (λ held. IfErr held (λ cause. failed_cause cause ≡ 0)) }

@@ -4,7 +4,7 @@ ghost use Rattle.wire_frames.specs.Frame.{IsValid};
 ghost use Rattle.wire_frames.specs.declared.message.Message.TheVariants.{Operate};
 ghost use Rattle.world_rules.specs.Asking.{IsRequest};
 ghost use Rattle.surrogate_core.specs.declared.step.Step.TheVariants as steps;
-ghost use Rattle.surrogate_core.specs.Handling.{Idle, idle, copy_before, IsSent};
+ghost use Rattle.surrogate_core.specs.Handling.{Idle, idle, copy_before, IsFitStep};
 ghost use Rattle.cmd_capture.specs.Runs.{telling};
 ghost use Rattle.surrogate_core.specs.Serving.{Serves};
 ghost use Rattle.surrogate_core.specs.Inside.{Awaits, Follows, Breaks, asks_left};
@@ -109,7 +109,7 @@ impl Surrogate {
             })
             (telling (R.runs runner.old) (R.faults runner.old)) (telling (R.runs runner.new) (R.faults runner.new)) (L.tells link.old)
             (L.tells link.new)) }
-        ensures sent { IfOk result IsSent }
+        ensures sent { IfOk result IsFitStep }
         ensures fewer { IfOk result (λ step. asks_left self.new.phase < asks_left self.old.phase) }
         ensures breaks { OnErr result (Breaks server.now asked.now (L.tells link.old) (L.tells link.new)) }
         ensures taken_back { OnErr result (self.new ≡ idle (copy_before self.old)) }

@@ -1,11 +1,10 @@
 -- What holds of each item of a list and of what is taken from it, and lists whose paths rise.
-use Rattle.std.proofs.Common.{◌≡◌, ◌∙◌, ℕ, zero, suc, ◌<◌, Bool, true, false, List, [], ◌∷◌, ◌++◌, filter, Option, Some, None, inl, inr, refl, sym, ap, subst, true≢false, cond, arith}
+use Rattle.std.proofs.Common.{◌≡◌, ◌∙◌, ℕ, zero, suc, ◌<◌, Bool, true, false, List, [], ◌∷◌, ◌++◌, filter, Option, Some, None, inl, inr, refl, sym, ap, subst, cond, arith}
 use Rattle.std.specs.Prelude.{map}
 use Rattle.std.specs.List.{AllByRecursion, filter_map, cons_option, slice_get}
 use Rattle.std.specs.Option.{unwrap_or}
 use Rattle.std.proofs.lemmas.Option.{none-some}
-use Rattle.std.specs.declared.cmp.Ordering.{Ordering}
-use Rattle.std.specs.declared.cmp.Ordering.TheVariants.{Less, Equal, Greater}
+use Rattle.std.specs.declared.cmp.Ordering.TheVariants.{Less}
 use Rattle.std.specs.Ordering.{ordering_reverse, is_lt, is_gt}
 use Rattle.file_paths.specs.Path.{FilePath, path_cmp}
 use Rattle.file_paths.proofs.Order.{paths_total, is_less, paths_differ}
@@ -15,6 +14,7 @@ use Rattle.cmd_capture.specs.Rows.{JobRowsAreInOrder}
 use Rattle.temp_names.specs.declared.candidate.Candidate.{Candidate}
 use Rattle.temp_names.specs.Candidates.{in_path_order}
 use Rattle.temp_names.specs.Laws.{RisesBy}
+use Rattle.tree_values.proofs.Ordered.{is_greater}
 
 pub some_same : {X : Type 0} (x y : X) → ◌≡◌ {A = Option X} (Some x) (Some y) → x ≡ y
 some_same x y e = ap (λ o. unwrap_or o x) e
@@ -127,11 +127,6 @@ rises_around path new (x ∷ xs) ys low high front back = (
       (low.0, all_map _ _ (λ y less. paths_total.trans (path x) (path new) (path y) low.0 less) ys high),
   rises_around path new xs ys low.1 high front.1 back,
 )
-
-is_greater : (o : Ordering) → is_gt o ≡ true → o ≡ Greater
-is_greater Greater e = refl
-is_greater Equal e = absurd (true≢false (sym e))
-is_greater Less e = absurd (true≢false (sym e))
 
 -- what is above another has that one below it
 pub above_is_below : (a b : FilePath) → is_gt (path_cmp a b) ≡ true → path_cmp b a ≡ Less

@@ -10,7 +10,7 @@ use Rattle.std.proofs.lemmas.List.Sums.{sum_by-set, sum_by-append}
 use Rattle.std.specs.declared.cmp.Ordering.TheVariants.{Less, Equal}
 use Rattle.file_paths.specs.Path.{FilePath}
 use Rattle.tree_values.specs.declared.node.Node.{Node}
-use Rattle.tree_slots.specs.Arena.{Place, Places, no_place, place, name_cmp, child_named, slot_of, AreAscending, AreLinked, AreDistinct, IsFree, IsPool, IsArena, IsEntered, rows_of, linked, written, Pads, Grows}
+use Rattle.tree_slots.specs.Arena.{Place, Places, no_place, place, name_cmp, child_named, slot_of, AreAscending, AreLinked, AreDistinct, IsFreeSlot, IsPool, IsArena, IsEntered, rows_of, linked, written, Pads, Grows}
 use Rattle.tree_slots.proofs.Walk.{same_itself}
 use Rattle.tree_slots.proofs.Slots.{read_place}
 use Rattle.tree_slots.proofs.Links.{SameShape, shape_slot, all_at, child_among}
@@ -185,8 +185,8 @@ module _ (slots : Places) (rest : List ℕ) (j capacity parent k : ℕ) (x s : P
   abbrev put : Places
   put = set (set slots parent x) j s
 
-  free_j : IsFree slots (pool.owner j) j
-  free_j = (but_last (λ c. IsFree slots (pool.owner c) c) rest j pool.unlinked).1
+  free_j : IsFreeSlot slots (pool.owner j) j
+  free_j = (but_last (λ c. IsFreeSlot slots (pool.owner c) c) rest j pool.unlinked).1
 
   j_other : j ≡ parent → ⊥
   j_other = (but_last (λ c. c ≡ parent → ⊥) rest j taken).1
@@ -233,13 +233,13 @@ module _ (slots : Places) (rest : List ℕ) (j capacity parent k : ℕ) (x s : P
   pub put_pool : IsPool (set (set slots parent x) j s) rest capacity
   put_pool =
       let others = distinct_but_last rest j pool.once in
-      let spares = (but_last (λ c. IsFree slots (pool.owner c) c) rest j pool.unlinked).0 in
+      let spares = (but_last (λ c. IsFreeSlot slots (pool.owner c) c) rest j pool.unlinked).0 in
       let apart = (but_last (λ c. c ≡ parent → ⊥) rest j taken).0 in
       record {
         owner = new_owner;
         owned = put_owned;
         root = owner_other pool.owner j (Some parent) 0 (λ same. free_j.below_root (sym same)) ∙ pool.root;
-        unlinked = all_with (λ c (spare : IsFree slots (pool.owner c) c) (both : (c ≡ j → ⊥) × (c ≡ parent → ⊥)). record {
+        unlinked = all_with (λ c (spare : IsFreeSlot slots (pool.owner c) c) (both : (c ≡ j → ⊥) × (c ≡ parent → ⊥)). record {
           within = omega (arith, spare.within, long);
           below_root = spare.below_root;
           unowned = owner_other pool.owner j (Some parent) c both.0 ∙ spare.unowned;
@@ -332,8 +332,8 @@ module _ (slots : Places) (free : List ℕ) (capacity parent k : ℕ) (x : Place
         owner = rest_owner;
         owned = rest_owned;
         root = owner_other pool.owner gone None 0 (λ same. not_none parent (pool.owner 0) pool.root (ap pool.owner same ∙ gone_owned)) ∙ pool.root;
-        unlinked = with_last (λ c. IsFree (set slots parent x) (rest_owner c) c) free gone
-            (all_with (λ c (spare : IsFree slots (pool.owner c) c) (other : c ≡ gone → ⊥). record {
+        unlinked = with_last (λ c. IsFreeSlot (set slots parent x) (rest_owner c) c) free gone
+            (all_with (λ c (spare : IsFreeSlot slots (pool.owner c) c) (other : c ≡ gone → ⊥). record {
               within = omega (arith, spare.within, long);
               below_root = spare.below_root;
               unowned = owner_other pool.owner gone None c other ∙ spare.unowned;

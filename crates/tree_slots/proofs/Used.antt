@@ -7,7 +7,7 @@ use Rattle.std.proofs.lemmas.List.{take-append-drop, take_more, take_all}
 use Rattle.std.proofs.lemmas.List.Edits.{length-insert}
 use Rattle.file_paths.specs.Path.{FilePath}
 use Rattle.tree_values.specs.declared.node.Node.{Node}
-use Rattle.tree_slots.specs.Arena.{Place, Places, place, slot_of, IsArena, IsFree, IsPool, IsIdle, AreUsed, IsFound, IsMissing, IsEntered, IsKept, Pads, Grows, Shrinks, written}
+use Rattle.tree_slots.specs.Arena.{Place, Places, place, slot_of, IsArena, IsFreeSlot, IsPool, IsIdle, AreUsed, IsFound, IsMissing, IsEntered, KeepsArena, Pads, Grows, Shrinks, written}
 use Rattle.tree_slots.proofs.Slots.{read_place}
 use Rattle.tree_slots.proofs.Links.{SameShape, shape_slot, slot_of-append, one_further}
 use Rattle.tree_slots.proofs.Grown.{with_one, no_slots}
@@ -85,8 +85,8 @@ used_grown old new parent k name j index grows used i =
 pub used_shrunk : (old new : Places) (free : List ℕ) (capacity parent k : ℕ) → k < length (place old parent).children → Shrinks old new parent k → IsPool new (free ++ get_or (place old parent).children k 0 ∷ []) capacity → AreUsed old (Some (get_or (place old parent).children k 0)) → AreUsed new (Some parent)
 used_shrunk old new free capacity parent k index shrinks pool used i = all_with step (place new i).children (pool.owned i) rest
   where
-    gone_free : IsFree new (pool.owner (get_or (place old parent).children k 0)) (get_or (place old parent).children k 0)
-    gone_free = (but_last (λ c. IsFree new (pool.owner c) c) free (get_or (place old parent).children k 0) pool.unlinked).1
+    gone_free : IsFreeSlot new (pool.owner (get_or (place old parent).children k 0)) (get_or (place old parent).children k 0)
+    gone_free = (but_last (λ c. IsFreeSlot new (pool.owner c) c) free (get_or (place old parent).children k 0) pool.unlinked).1
 
     step : (c : ℕ) → pool.owner c ≡ Some i → IsUsed old (Some (get_or (place old parent).children k 0)) c → IsUsed new (Some parent) c
     step c owned all other idle =
@@ -193,18 +193,18 @@ used_end slots free capacity path depth end pool used = used_root slots free cap
 
 -- ---- what an arena keeps
 
-pub nothing_kept : (capacity : ℕ) → IsKept [] [] capacity
+pub nothing_kept : (capacity : ℕ) → KeepsArena [] [] capacity
 nothing_kept capacity = record { arena = no_slots; pool = no_pool capacity; used = used_none }
 
-pub written_kept : (slots : Places) (free : List ℕ) (capacity i version : ℕ) (node : Option Node) → IsArena (written slots i version node) → i < length slots → (version ≡ 0 → ⊥) → IsPool slots free capacity → AreUsed slots (Some i) → IsKept (written slots i version node) free capacity
+pub written_kept : (slots : Places) (free : List ℕ) (capacity i version : ℕ) (node : Option Node) → IsArena (written slots i version node) → i < length slots → (version ≡ 0 → ⊥) → IsPool slots free capacity → AreUsed slots (Some i) → KeepsArena (written slots i version node) free capacity
 written_kept slots free capacity i version node arena within some pool used =
     record { arena = arena; pool = written_pool slots free capacity i version node within pool; used = used_written slots i version node within some used }
 
-pub inserted_kept : (slots new : Places) (free : List ℕ) (capacity i version : ℕ) (node : Option Node) → IsArena new → i < length slots → 1 ≤ version → (version ≢ 0 → new ≡ written slots i version node) → IsPool slots free capacity → AreUsed slots (Some i) → IsKept new free capacity
+pub inserted_kept : (slots new : Places) (free : List ℕ) (capacity i version : ℕ) (node : Option Node) → IsArena new → i < length slots → 1 ≤ version → (version ≢ 0 → new ≡ written slots i version node) → IsPool slots free capacity → AreUsed slots (Some i) → KeepsArena new free capacity
 inserted_kept slots new free capacity i version node arena within touched write pool used =
     let some : version ≡ 0 → ⊥ = λ z. absurd (omega arith) in
     let is : new ≡ written slots i version node = write some in
-    subst (λ l. IsKept l free capacity) (sym is) (written_kept slots free capacity i version node (subst IsArena is arena) within some pool used)
+    subst (λ l. KeepsArena l free capacity) (sym is) (written_kept slots free capacity i version node (subst IsArena is arena) within some pool used)
 
 pub restored_kept : (slots new : Places) (free : List ℕ) (capacity i version : ℕ) (node : Option Node) (path : FilePath) → slot_of slots 0 path ≡ Some i → i < length slots → (version ≢ 0 → new ≡ written slots i version node) → (version ≡ 0 → new ≡ written slots i version None) → IsPool slots free capacity → AreUsed slots None → IsPool new free capacity × AreUsed new (slot_of new 0 path)
 restored_kept slots new free capacity i version node path at within some none pool used = elim (cases_eq version 0) [
@@ -215,6 +215,6 @@ restored_kept slots new free capacity i version node path at within some none po
     each : (node : Option Node) → IsPool (written slots i version node) free capacity × AreUsed (written slots i version node) (slot_of (written slots i version node) 0 path)
     each node = (written_pool slots free capacity i version node within pool, used_at (written slots i version node) path i (written_slot slots i version node within path ∙ at) (used_emptied slots i version node within used))
 
-pub copied_kept : (slots : Places) (free : List ℕ) (capacity more : ℕ) → length slots ≤ more → IsKept slots free capacity → IsKept slots free more
+pub copied_kept : (slots : Places) (free : List ℕ) (capacity more : ℕ) → length slots ≤ more → KeepsArena slots free capacity → KeepsArena slots free more
 copied_kept slots free capacity more room kept =
     record { arena = kept.arena; pool = same_pool slots slots free capacity more (λ i. refl) (omega arith) kept.pool.all (omega arith) kept.pool; used = kept.used }

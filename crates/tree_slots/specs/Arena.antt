@@ -92,7 +92,7 @@ AreDistinct [] = Unit {0}
 AreDistinct (c ∷ cs) = AllByRecursion (λ d. d ≡ c → ⊥) cs × AreDistinct cs
 
 -- a slot that is in no other and has none in it
-pub record IsFree (slots : Places) (owner : Option ℕ) (c : ℕ) : Type 0 where
+pub record IsFreeSlot (slots : Places) (owner : Option ℕ) (c : ℕ) : Type 0 where
   pub within : c < length slots
   pub below_root : c ≡ 0 → ⊥
   pub unowned : owner ≡ None
@@ -108,7 +108,7 @@ pub record IsPool (slots : Places) (free : List ℕ) (capacity : ℕ) : Type 0 w
   pub owner : ℕ → Option ℕ
   pub owned : (i : ℕ) → AllByRecursion (λ c. owner c ≡ Some i) (place slots i).children
   pub root : owner 0 ≡ None
-  pub unlinked : AllByRecursion (λ c. IsFree slots (owner c) c) free
+  pub unlinked : AllByRecursion (λ c. IsFreeSlot slots (owner c) c) free
   pub once : AreDistinct free
   pub all : length slots - 1 ≡ linked slots + length free
   pub room : length slots - 1 ≤ capacity
@@ -122,7 +122,7 @@ abbrev pub AreUsed : Places → Option ℕ → Type 0
 AreUsed slots but = (i : ℕ) → AllByRecursion (λ c. (but ≡ Some c → ⊥) → IsIdle (place slots c) → ⊥) (place slots i).children
 
 -- what an arena keeps
-pub record IsKept (slots : Places) (free : List ℕ) (capacity : ℕ) : Type 0 where
+pub record KeepsArena (slots : Places) (free : List ℕ) (capacity : ℕ) : Type 0 where
   pub arena : IsArena slots
   pub pool : IsPool slots free capacity
   pub used : AreUsed slots None
@@ -133,7 +133,7 @@ LeadsToRow rows path = (rest : FilePath) × IsTrue (is_some (row_at rows (path +
 
 -- a slot, but the root's, is there only while a row lies at its path or below
 abbrev pub SlotsLeadToRows : Type 0
-SlotsLeadToRows = (slots : Places) (free : List ℕ) (capacity : ℕ) → IsKept slots free capacity → (path : FilePath) (i : ℕ) → path ≢ [] → slot_of slots 0 path ≡ Some i → LeadsToRow (rows_of slots) path
+SlotsLeadToRows = (slots : Places) (free : List ℕ) (capacity : ℕ) → KeepsArena slots free capacity → (path : FilePath) (i : ℕ) → path ≢ [] → slot_of slots 0 path ≡ Some i → LeadsToRow (rows_of slots) path
 
 -- ---- searching
 

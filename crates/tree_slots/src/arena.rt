@@ -199,13 +199,13 @@ pub struct Arena {
 impl Model for Arena {
     ghost use Rattle.std.specs.Prelude.{List, vec_capacity};
     ghost use Rattle.tree_values.specs.declared.node.Row.{Row};
-    ghost use Rattle.tree_slots.specs.Arena.{rows_of, IsKept};
+    ghost use Rattle.tree_slots.specs.Arena.{rows_of, KeepsArena};
 
     ghost Value = { List Row };
 
     ghost view = { λ arena. rows_of arena.slots.items };
 
-    ghost invariant = { λ arena. IsKept arena.slots.items arena.free.items (vec_capacity arena.free) };
+    ghost invariant = { λ arena. KeepsArena arena.slots.items arena.free.items (vec_capacity arena.free) };
 }
 
 impl Arena {

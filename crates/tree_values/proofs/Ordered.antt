@@ -62,7 +62,7 @@ order_join p [] ys low high front back = back
 order_join p (x ∷ xs) ys low high front back =
     (all_append (λ y. path_cmp x.path y.path ≡ Less) xs ys front.0 (all_map (λ y no. below_trans x.path p y.path low.0 no) ys high), order_join p xs ys low.1 high front.1 back)
 
-is_greater : (o : Ordering) → is_gt o ≡ true → o ≡ Greater
+pub is_greater : (o : Ordering) → is_gt o ≡ true → o ≡ Greater
 is_greater Greater e = refl
 is_greater Equal e = absurd (true≢false (sym e))
 is_greater Less e = absurd (true≢false (sym e))

@@ -7,13 +7,12 @@ use Rattle.std.proofs.lemmas.List.{reverse-append}
 use Rattle.std.proofs.lemmas.List.Elements.{filter-append}
 use Rattle.byte_fields.proofs.Facts.{not_of}
 use Rattle.file_paths.specs.Path.{FilePath, path_cmp}
-use Rattle.tree_values.specs.declared.node.Node.{Node}
 use Rattle.tree_values.specs.declared.node.Effect.{Effect}
 use Rattle.tree_values.specs.declared.node.Effect.TheVariants.{Remove}
 use Rattle.cmd_capture.specs.declared.job.JobRow.{JobRow}
 use Rattle.cmd_capture.specs.Rows.{node_in, JobRowsAreInOrder}
 use Rattle.work_area.specs.Changes.{has_kind, has_content, is_gone, is_new, removal_of, makings_of, making}
-use Rattle.work_area.specs.Laws.{AreFalling, IsGone, IsNew, ChangesAreInOrder}
+use Rattle.work_area.specs.Laws.{AreFalling, IsGone, IsNewRow, ChangesAreInOrder}
 use Rattle.work_area.proofs.JobRows.{are_distinct}
 use Rattle.work_area.proofs.Leading.{makings_found}
 use Rattle.work_area.proofs.Unchanged.{are_found}
@@ -124,7 +123,7 @@ gone_rows before after (row ∷ rows) found = (
 
 new_rows : (before after : List JobRow) (rows : List JobRow)
     → AllByRecursion (λ row. node_in after row.path ≡ Some row.node) rows
-    → AllByRecursion (λ row. is_new before row ≡ true → IsNew before after row) rows
+    → AllByRecursion (λ row. is_new before row ≡ true → IsNewRow before after row) rows
 new_rows before after [] found = tt
 new_rows before after (row ∷ rows) found = (
   (λ new. record { left = found.0; stood = not_of (has_content row.node (node_in before row.path)) new }),
@@ -154,5 +153,5 @@ ordered before after are_before are_after =
           (all_passing (is_gone after) (λ row. IsGone before after row.path) (reverse before)
           (all_reverse (λ row. is_gone after row ≡ true → IsGone before after row.path) before
           (gone_rows before after before found_before)));
-      new = all_passing (is_new before) (IsNew before after) after (new_rows before after after found_after);
+      new = all_passing (is_new before) (IsNewRow before after) after (new_rows before after after found_after);
     }

@@ -61,7 +61,7 @@ pub record IsGone (before after : List JobRow) (path : FilePath) : Type 0 where
   pub left : has_kind node (node_in after path) ≡ false
 
 -- the row is left, and before it its path had no such node
-pub record IsNew (before after : List JobRow) (row : JobRow) : Type 0 where
+pub record IsNewRow (before after : List JobRow) (row : JobRow) : Type 0 where
   pub left : node_in after row.path ≡ Some row.node
   pub stood : has_content row.node (node_in before row.path) ≡ false
 
@@ -73,7 +73,7 @@ pub record RemovesAndMakes (before after : List JobRow) (effects : List Effect) 
   pub falls : AreFalling removed
   pub rises : JobRowsAreInOrder made
   pub gone : AllByRecursion (IsGone before after) removed
-  pub new : AllByRecursion (IsNew before after) made
+  pub new : AllByRecursion (IsNewRow before after) made
 
 abbrev pub ChangesAreInOrder : Type 0
 ChangesAreInOrder = (before after : List JobRow) → AreJobRows before → AreJobRows after
