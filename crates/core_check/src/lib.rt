@@ -1,6 +1,8 @@
-//! Tests of the client: what its calls log, ask and run.
+//! Tests of the client: what its calls log, ask, run and keep.
 #![tactic(auto)]
 
+#[cfg(test)]
+mod keeping;
 #[cfg(test)]
 mod light;
 #[cfg(test)]

@@ -7,7 +7,7 @@ use run_probe::{Fails, Probe};
 use server_core::Server;
 use std::alloc::{AllocError, Global};
 use std::test::Fail;
-use store_image::{write_client, write_server};
+use store_image::{MAX_RECORDS, write_client, write_server};
 use vol_tree::{Content, Effect, Effects, Path, Tree};
 
 #[test]
@@ -375,6 +375,44 @@ fn later_changes_are_appended(rt: HostRuntime) -> Result<(), Fail> {
     wanted.extend_from_slice(SECOND_ACKED)?;
     let kept = kept_after(alloc, b"put a x\nput b y\nsync\n")?;
     assert_eq!(rt; kept.as_slice(), wanted.as_slice());
+    Ok(())
+}
+
+/// What a put's record has beside its content: its size, the kind, the origin, the counts and lengths, the path twice and a version.
+const RECORD_ROOM: usize = 33;
+
+/// Two puts, the record of the second of which has so many bytes.
+fn puts_of(alloc: Global, record: usize) -> Result<Vec<u8>, AllocError> {
+    let mut input = Vec::new(alloc);
+    input.extend_from_slice(b"put a x\nput b ")?;
+    for _ in RECORD_ROOM + 1..record {
+        input.push(b'y')?;
+    }
+    input.push(b'\n')?;
+    Ok(input)
+}
+
+/// How many bytes are kept after two puts, the record of the second of which has so many.
+fn size_after(alloc: Global, record: usize) -> Result<usize, AllocError> {
+    let input = puts_of(alloc, record)?;
+    let kept = kept_after(alloc, &input)?;
+    Ok(kept.len())
+}
+
+/// A record that fills the room of all records is appended. For a larger one the image is saved anew, in which the entry stands
+/// without its size and its kind.
+#[test]
+fn a_record_past_the_limit_saves_the_image(rt: HostRuntime) -> Result<(), Fail> {
+    let alloc = rt.alloc();
+    let image = kept_after(alloc, b"put a x\n")?.len();
+    assert_eq!(rt;
+        size_after(alloc, MAX_RECORDS)?,
+        image.saturating_add(MAX_RECORDS)
+    );
+    assert_eq!(rt;
+        size_after(alloc, MAX_RECORDS + 1)?,
+        image.saturating_add(MAX_RECORDS - 4)
+    );
     Ok(())
 }
 

@@ -1,4 +1,4 @@
-// Images on a full disk, and images that two programs want.
+// Images on a full disk, images that two programs want, and pieces behind an image.
 use crate::serving::serve_a_client_from;
 use outside::{KeepError, Keeper};
 use real_edge::FileKeeper;
@@ -16,6 +16,11 @@ const BESIDE: &str = "image.new";
 
 /// The file beside a server's image that a save writes.
 const SERVED_BESIDE: &str = "served.new";
+
+/// An image in a folder that is not there, and this folder.
+const NOWHERE: &str = "nowhere/image";
+
+const NO_FOLDER: &str = "nowhere";
 
 /// A device that takes no byte.
 const FULL: &str = "/dev/full";
@@ -100,4 +105,57 @@ fn print_load<R: Files<File = File> + Print>(
     };
     drop(loaded);
     println!(rt; "keeper: {came}")
+}
+
+/// Saves an image and appends two pieces, and one more to an image in no folder.
+pub(crate) fn append_pieces<R: Files<File = File> + AllocGlobal + Print>(rt: &R) -> io::Result<()> {
+    forget(rt);
+    println!(rt; "-- pieces behind an image")?;
+    let mut keeper = FileKeeper::new(rt.alloc(), rt);
+    let shown = append_and_load(rt, &mut keeper);
+    drop(keeper);
+    shown
+}
+
+fn append_and_load<R: Files<File = File> + Print>(
+    rt: &R,
+    keeper: &mut FileKeeper<'_, R>,
+) -> io::Result<()> {
+    let saved = keeper.save(IMAGE.as_bytes(), b"an image");
+    print_kept(rt, saved)?;
+    for piece in [" and a piece", " and another"] {
+        let appended = keeper.append(IMAGE.as_bytes(), piece.as_bytes());
+        print_kept(rt, appended)?;
+    }
+    print_bytes(rt, keeper)?;
+    let appended = keeper.append(NOWHERE.as_bytes(), b"a piece");
+    print_kept(rt, appended)?;
+    let made = fs::exists(rt, NO_FOLDER)?;
+    println!(rt; "a folder was made: {made}")?;
+    print_bytes(rt, keeper)
+}
+
+fn print_kept<R: Print>(rt: &R, kept: Result<(), KeepError>) -> io::Result<()> {
+    let came = match kept {
+        Ok(()) => "kept",
+        Err(KeepError::Failed) => "failed",
+        Err(KeepError::Memory) => "no memory",
+    };
+    println!(rt; "keeper: {came}")
+}
+
+/// Prints what the image has, where that is text.
+fn print_bytes<R: Files<File = File> + Print>(
+    rt: &R,
+    keeper: &mut FileKeeper<'_, R>,
+) -> io::Result<()> {
+    let loaded = keeper.load(IMAGE.as_bytes());
+    let text = match &loaded {
+        Ok(Some(bytes)) => str::from_utf8(bytes).unwrap_or("no text"),
+        Ok(None) => "no image",
+        Err(_) => "failed",
+    };
+    let printed = println!(rt; "keeper: {text}");
+    drop(loaded);
+    printed
 }

@@ -1,12 +1,12 @@
-//! Clients of a server in this program over TCP, what strangers are to a server, and images that two programs want. The
-//! program starts itself as the client.
+//! Clients of a server in this program over TCP, what strangers are to a server, images that two programs want, and pieces
+//! that are appended to one. The program starts itself as the client.
 #![tactic(auto)]
 
 mod images;
 mod serving;
 mod strangers;
 
-use images::{fill_the_disk, fill_the_servers_disk, share_an_image};
+use images::{append_pieces, fill_the_disk, fill_the_servers_disk, share_an_image};
 use outside::{MemKeeper, Port};
 use program_words::given_words;
 use real_edge::TcpPort;
@@ -41,6 +41,7 @@ fn show_all<R: Processes + Files<File = File> + Env + AllocGlobal + Net + Clock 
     fill_the_disk(rt)?;
     fill_the_servers_disk(rt)?;
     share_an_image(rt)?;
+    append_pieces(rt)?;
     forget(rt);
     Ok(ExitCode::SUCCESS)
 }
