@@ -1,6 +1,7 @@
 #!/bin/sh
-# Stores of one small file that a server takes a second, from frame to frame, at 10 and at 16,000 rows, and the speed of its
-# answers to pulls. The best of three runs.
+# Stores of one small file that a server takes a second, from frame to frame, for rows that stand and for new rows, and the speed
+# of its answers to pulls: at 10 and at 16,000 rows, in one folder and in 64. The names come in an order in which neighbours are
+# far apart. The best of all rounds of three runs.
 set -eu
 here=$(cd "$(dirname "$0")" && pwd)
 log=$(mktemp)
@@ -11,12 +12,16 @@ for turn in 1 2 3; do
     out/server_bench measure
 done > "$log"
 awk '
-    $3 != $2 { print "a store was not accepted"; bad = 1; exit 1 }
-    { rows = $1; stores = $2 / $4 * 1e9; pulls = $5 / $6 * 1000
-      if (!(rows in best)) order[++lines] = rows
-      if (stores > best[rows]) best[rows] = stores
-      if (pulls > speed[rows]) speed[rows] = pulls }
+    $5 != $4 || $8 != $7 { print "a store was not accepted"; bad = 1; exit 1 }
+    { key = $1 " rows, " $2 " folders"
+      if ($2 == 1) sub("folders", "folder", key)
+      standing = $4 / $6 * 1e9; fresh = $7 / $9 * 1e9; pulls = $10 / $11 * 1000
+      if (!(key in best)) order[++lines] = key
+      if (standing > best[key]) best[key] = standing
+      if (fresh > new[key]) new[key] = fresh
+      if (pulls > speed[key]) speed[key] = pulls }
     END { if (bad) exit 1
           for (i = 1; i <= lines; i++) {
-              rows = order[i]
-              printf "%6d rows   %9.0f stores a second   %8.1f MB/s of snapshots\n", rows, best[rows], speed[rows] } }' "$log"
+              key = order[i]
+              printf "%-24s stores a second: %8.0f for rows that stand, %8.0f for new rows   %6.1f MB/s of snapshots\n",
+                  key, best[key], new[key], speed[key] } }' "$log"

@@ -1,7 +1,7 @@
 #!/bin/sh
 # A file of 8 MiB that is put and synced over loopback, beside rsync to a daemon in the same run: the whole time of the client from its
-# start to its end, with an image kept by either side before each answer, and the whole time of `rsync -a` and of `rsync -a --fsync`. The
-# least of five turns each, which take turns.
+# start to its end, with an image or a record kept by either side before each answer, and the whole time of `rsync -a` and of
+# `rsync -a --fsync`. The least of five turns each, which take turns.
 #
 #   bench/sync/large.sh
 #   CLIENT=.. SERVER=.. bench/sync/large.sh    over these programs; else the proved ones are built
