@@ -29,6 +29,3 @@ pub use reading::read;
 pub use refused::malformed;
 pub use replies::echoes;
 pub use writing::write;
-
-#[cfg(test)]
-mod tests;

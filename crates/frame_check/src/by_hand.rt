@@ -2,10 +2,10 @@
 
 ghost use Rattle.std.specs.Prelude.{◌<◌};
 
-use crate::{FrameError, Message, echoes, read, write};
 use std::alloc::Global;
 use std::rt::HostRuntime;
 use std::test::Fail;
+use wire_frames::{FrameError, Message, echoes, read, write};
 
 const PULL: [u8; 15] = [0, 0, 0, 11, 1, 3, 1, 0, 0, 0, 0, 0, 0, 0, 0];
 
