@@ -2,6 +2,10 @@
 #![tactic(auto)]
 
 #[cfg(test)]
+mod entries;
+#[cfg(test)]
 mod origins;
+#[cfg(test)]
+mod sketches;
 #[cfg(test)]
 mod tests;

@@ -24,8 +24,3 @@ pub use spelling_laws::{
     entries_are_spelled_once, entries_end_with_their_bytes, origins_are_bytes,
     sketched_effects_are_spelled_once, sketched_effects_end_with_their_bytes,
 };
-
-#[cfg(test)]
-mod sketch_tests;
-#[cfg(test)]
-mod tests;

@@ -1,5 +1,8 @@
-use super::*;
+//! What a log keeps of entries, and the entries that it refuses.
+
+use mod_log::{Entry, Log, LogError};
 use std::alloc::Global;
+use std::rt::HostRuntime;
 use std::test::Fail;
 use vol_tree::{Content, Effect, Effects, Path, Tree, TreeError, TryCopy};
 

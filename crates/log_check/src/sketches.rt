@@ -1,7 +1,7 @@
 //! Sketched effects in bytes that were worked out without this code: the print by sha256sum, and the parity by a solver of
 //! the 32 linear equations in Python.
 
-use super::{SketchEffect, SketchEffects};
+use mod_log::{SketchEffect, SketchEffects};
 use rs_parity::sketch_of;
 use std::alloc::Global;
 use std::rt::HostRuntime;
