@@ -22,6 +22,3 @@ pub type Names = List<Content>;
 
 /// Paths, as those that effects touch.
 pub type Paths = List<Path>;
-
-#[cfg(test)]
-mod tests;

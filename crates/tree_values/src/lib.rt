@@ -16,6 +16,3 @@ pub use lists::{Bases, Effects, Rows};
 pub use node::{Base, Effect, Node, Row, TreeError, copy_node, size_of};
 pub use rows::RowsError;
 pub use spelling::spell_row;
-
-#[cfg(test)]
-mod spelling_tests;

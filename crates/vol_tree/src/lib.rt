@@ -14,6 +14,3 @@ pub use tree_values::{
     Base, Bases, Effect, Effects, MAX_EFFECTS, MAX_FILES, MAX_ROWS, Node, Row, Rows, RowsError,
     TreeError,
 };
-
-#[cfg(test)]
-mod tests;

@@ -1,8 +1,8 @@
 //! Paths and contents whose spellings and refusals were worked out by hand. Each owned value ends in the function that
 //! made it, so that the tests hold numbers and truths alone.
 
-use super::*;
 use bytes::Bytes;
+use file_paths::{Content, Names, Path, PathError, TakeError, TryCopy};
 use std::alloc::{AllocError, Global};
 use std::rt::HostRuntime;
 use std::test::Fail;

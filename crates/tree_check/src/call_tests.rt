@@ -1,10 +1,13 @@
 //! Calls of the tree, with ample memory. Each owned value ends in the function that made it, so that the tests hold
 //! numbers and truths alone.
 
-use super::*;
 use std::alloc::{AllocError, Global};
 use std::rt::HostRuntime;
 use std::test::Fail;
+use vol_tree::{
+    ApplyAllError, Content, Effect, Effects, Names, Node, Path, Row, Rows, RowsError, TakeError,
+    Tree, TreeError, TryCopy, apply_all, undo_all,
+};
 
 /// Rows of these paths and versions, each a file without content.
 fn rows_of(alloc: Global, of: &[(&[u8], u64)]) -> Result<Rows, Fail> {

@@ -1,11 +1,11 @@
 //! Spellings that were written by hand: what is taken from them is spelled so again. Each owned value ends in the
 //! function that made it.
 
-use crate::{Bases, Effect, Effects, TreeError};
 use file_paths::{Path, Paths, TakeError};
 use std::alloc::Global;
 use std::rt::HostRuntime;
 use std::test::Fail;
+use tree_values::{Bases, Effect, Effects, TreeError};
 
 /// The spelling of the bases of the path `a` that these bytes spell, and where they end.
 fn bases_again(alloc: Global, bytes: &[u8]) -> Result<(Vec<u8>, usize), Fail> {
