@@ -13,6 +13,3 @@ pub use laws::{
     no_clash_spares_the_rest,
 };
 pub use rows::{RowsFault, rows_of};
-
-#[cfg(test)]
-mod tests;

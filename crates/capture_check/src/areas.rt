@@ -4,12 +4,12 @@ ghost use Rattle.std.specs.Prelude.{IfOk};
 ghost use Rattle.cmd_capture.specs.Spelling.{IsCommand};
 ghost use Rattle.cmd_capture.specs.Rows.{AreJobRows};
 
-use super::*;
 use cmd_capture::{Command, Job, JobRows, RawRow, RawRows, Words, capture};
 use std::alloc::Global;
 use std::rt::HostRuntime;
 use std::test::Fail;
 use vol_tree::{Content, Effect, Effects, Node, Path, Tree};
+use work_area::{JobError, RowsFault, changes, clash, job_of, rows_of};
 
 fn path(alloc: Global, text: &[u8]) -> Result<Path, Fail> {
     match Path::read(alloc, text) {
