@@ -15,6 +15,3 @@ pub use laws::{
 pub use pairs::{Renamed, renaming};
 pub use rows::rename;
 pub use template::fits;
-
-#[cfg(test)]
-mod tests;

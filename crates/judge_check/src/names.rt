@@ -2,13 +2,13 @@
 
 ghost use Rattle.std.specs.Prelude.{IfOk};
 
-use super::*;
 use cmd_capture::{JobRow, JobRows, Templates};
 use mod_log::{SketchEffect, SketchEffects};
 use rs_parity::sketch_of;
 use std::alloc::Global;
 use std::rt::HostRuntime;
 use std::test::Fail;
+use temp_names::{Renamed, fits, rename, renaming};
 use vol_tree::{Content, Node, Path};
 
 fn path(alloc: Global, text: &[u8]) -> Result<Path, Fail> {
