@@ -22,6 +22,3 @@ pub use line::{Line, LineError};
 pub use lines::LineBuffer;
 pub use text::text_of;
 pub use value::{put_decimal, put_number, put_path};
-
-#[cfg(test)]
-mod tests;

@@ -1,7 +1,13 @@
-use super::*;
+//! Lines as they are read, cut and refused, and the texts of their answers, byte for byte.
+
 use cmd_capture::CaptureError;
 use mod_log::LogError;
+use shell_lang::{
+    Child, Children, Fault, Line, LineAnswer, LineBuffer, LineError, has_no_memory, put_content,
+    read_line, text_of,
+};
 use std::alloc::Global;
+use std::rt::HostRuntime;
 use std::test::Fail;
 use vol_tree::{Content, Path, PathError, TreeError, TryCopy};
 use work_area::JobError;
