@@ -18,19 +18,23 @@ EachIsRead item after spelling = EachFits (λ state x. IsRead (item state) (spel
 
 -- a value that breaks the rule of its field is refused where it begins
 abbrev pub RulesAreOfTheirField : Type 0 → Type 0
-RulesAreOfTheirField A = (read : Reader A) (rule : A → Bool) (text : List ℕ) (x : A) → IsRead read text x → rule x ≡ false → IsRefused (ruled rule read) text 0
+RulesAreOfTheirField A =
+    (read : Reader A) (rule : A → Bool) (text : List ℕ) (x : A) → IsRead read text x → rule x ≡ false → IsRefused (ruled rule read) text 0
 
 -- so is a value that means nothing
 abbrev pub MeaningsAreOfTheirField : Type 0 → Type 0 → Type 0 → Type 0
-MeaningsAreOfTheirField A B E = (read : Reader A) (meaning : A → Result B E) (text : List ℕ) (x : A) (cause : E) → IsRead read text x → meaning x ≡ Err cause → IsRefused (mapped meaning read) text 0
+MeaningsAreOfTheirField A B E = (read : Reader A) (meaning : A → Result B E) (text : List ℕ) (x : A) (cause : E)
+    → IsRead read text x → meaning x ≡ Err cause → IsRefused (mapped meaning read) text 0
 
 -- what is refused behind a value is refused as much later as the value is long
 abbrev pub LaterFieldsAreRefusedLater : Type 0 → Type 0 → Type 0
-LaterFieldsAreRefusedLater A B = (first : Reader A) (later : A → Reader B) (text more : List ℕ) (x : A) (offset : ℕ) → IsRead first text x → IsRefused (later x) more offset
+LaterFieldsAreRefusedLater A B = (first : Reader A) (later : A → Reader B) (text more : List ℕ) (x : A) (offset : ℕ)
+    → IsRead first text x → IsRefused (later x) more offset
     → IsRefused (λ bytes at. first bytes at >>= λ y. later y.0 bytes y.1) (text ++ more) (length text + offset)
 
 -- what is refused as an item is refused behind the items before it
 abbrev pub ItemsAreRefusedInTheirPlace : Type 0 → Type 0 → Type 0
-ItemsAreRefusedInTheirPlace S A = (item : S → Reader A) (after : S → A → S) (spelling : A → List ℕ) (state : S) (before : List A) (count : ℕ) (text : List ℕ) (offset : ℕ)
+ItemsAreRefusedInTheirPlace S A =
+    (item : S → Reader A) (after : S → A → S) (spelling : A → List ℕ) (state : S) (before : List A) (count : ℕ) (text : List ℕ) (offset : ℕ)
     → EachIsRead item after spelling state before → length before < count → IsRefused (item (passed after state before)) text offset
     → IsRefused (each_at item after count state) (flat_map spelling before ++ text) (length (flat_map spelling before) + offset)

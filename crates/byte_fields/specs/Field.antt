@@ -1,6 +1,7 @@
 -- Reading fields one after the other. A reader is given the bytes and a place. It answers the value there and the
 -- place after it, or the place where the first faulty field begins.
-use Rattle.std.specs.Prelude.{◌≡◌, ℕ, zero, suc, ◌+◌, nat_le, List, [], ◌∷◌, ◌++◌, length, take, drop, Bool, ◌==◌, Option, Some, None, IfSome, Result, Ok, Err, if◌then◌else◌}
+use Rattle.std.specs.Prelude.{◌≡◌, ℕ, zero, suc, ◌+◌, nat_le, List, [], ◌∷◌, ◌++◌, length, take, drop, Bool, ◌==◌, Option, Some, None}
+use Rattle.std.specs.Prelude.{IfSome, Result, Ok, Err, if◌then◌else◌}
 use Rattle.std.specs.Int.{Width, w8, byte_len, from_be_bytes, to_be_bytes}
 use Rattle.byte_fields.specs.declared.error.TakeError.{TakeError}
 use Rattle.byte_fields.specs.declared.error.TakeError.TheVariants as errors

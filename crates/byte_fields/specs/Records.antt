@@ -1,5 +1,6 @@
 -- Records to the end of the bytes. Each stands behind the number of its bytes, and the last one may be torn.
-use Rattle.std.specs.Prelude.{◌≡◌, ℕ, zero, suc, ◌+◌, ◌^◌, ◌<◌, ◌≤◌, ◌==◌, Bool, true, List, [], ◌∷◌, ◌++◌, length, take, drop, Ok, Err, is_err, if◌then◌else◌}
+use Rattle.std.specs.Prelude.{◌≡◌, ℕ, zero, suc, ◌+◌, ◌^◌, ◌<◌, ◌≤◌, ◌==◌, Bool, true, List, [], ◌∷◌, ◌++◌, length, take, drop, Ok, Err}
+use Rattle.std.specs.Prelude.{is_err, if◌then◌else◌}
 use Rattle.std.specs.Int.{w32}
 use Rattle.std.specs.List.{flat_map}
 use Rattle.byte_fields.specs.Field.{Reader, ◌>>=◌, digits, span_at, number_at, limited, passed, EachFits}
@@ -52,32 +53,44 @@ all_framed spelling = flat_map (λ x. framed (spelling x))
 
 -- whole records to the end of the bytes are all read
 abbrev pub WholeRecordsAreRead : Type 0 → Type 0 → Type 0
-WholeRecordsAreRead S A = (item : S → Reader A) (after : S → A → S) (spelling : A → List ℕ) (state : S) (xs : List A) (bytes : List ℕ) (at : ℕ)
-    → EachIsFramed item after spelling state xs → Stands bytes at (all_framed spelling xs) (length bytes) → until_end item after state bytes at ≡ Ok (xs, length bytes)
+WholeRecordsAreRead S A =
+    (item : S → Reader A) (after : S → A → S) (spelling : A → List ℕ) (state : S) (xs : List A) (bytes : List ℕ) (at : ℕ)
+    → EachIsFramed item after spelling state xs → Stands bytes at (all_framed spelling xs) (length bytes)
+    → until_end item after state bytes at ≡ Ok (xs, length bytes)
 
 -- where the bytes end inside a record, those before it are read, and the place is where it begins
 abbrev pub TornRecordsAreLeft : Type 0 → Type 0 → Type 0
-TornRecordsAreLeft S A = (item : S → Reader A) (after : S → A → S) (spelling : A → List ℕ) (state : S) (xs : List A) (text bytes : List ℕ) (at torn next end : ℕ)
-    → EachIsFramed item after spelling state xs → Stands bytes at (all_framed spelling xs) torn → Stands bytes torn (framed text) next → length text < 2 ^ 32 → torn ≤ end → end < next
+TornRecordsAreLeft S A =
+    (item : S → Reader A) (after : S → A → S) (spelling : A → List ℕ) (state : S) (xs : List A) (text bytes : List ℕ) (at torn next end : ℕ)
+    → EachIsFramed item after spelling state xs → Stands bytes at (all_framed spelling xs) torn
+    → Stands bytes torn (framed text) next → length text < 2 ^ 32 → torn ≤ end → end < next
     → until_end item after state (take end bytes) at ≡ Ok (xs, torn)
 
 -- nothing else is read: the records stand there one after the other, and what they leave is torn
 abbrev pub OnlyRecordsAreRead : Type 0 → Type 0 → Type 0
-OnlyRecordsAreRead S A = (item : S → Reader A) (after : S → A → S) (spelling : A → List ℕ) → ((state : S) → IsCodec (item state) spelling (λ x. IsRead (item state) (spelling x) x))
-    → (state : S) (xs : List A) (bytes : List ℕ) (at torn : ℕ) → IsBytes bytes → at ≤ length bytes → until_end item after state bytes at ≡ Ok (xs, torn)
+OnlyRecordsAreRead S A = (item : S → Reader A) (after : S → A → S) (spelling : A → List ℕ)
+    → ((state : S) → IsCodec (item state) spelling (λ x. IsRead (item state) (spelling x) x))
+    → (state : S) (xs : List A) (bytes : List ℕ) (at torn : ℕ) → IsBytes bytes → at ≤ length bytes
+    → until_end item after state bytes at ≡ Ok (xs, torn)
     → Stands bytes at (all_framed spelling xs) torn × EachIsFramed item after spelling state xs × (is_torn bytes torn ≡ true)
 
 -- what is refused within the bytes of a whole record is refused there, behind the records before it
 abbrev pub FaultyRecordsAreRefused : Type 0 → Type 0 → Type 0
-FaultyRecordsAreRefused S A = (item : S → Reader A) (after : S → A → S) (spelling : A → List ℕ) (state : S) (before : List A) (text : List ℕ) (offset : ℕ)
-    → EachIsFramed item after spelling state before → length text < 2 ^ 32 → IsRefused (limited (length text) (item (passed after state before))) text offset
-    → IsRefused (until_end item after state) (all_framed spelling before ++ framed text) (length (all_framed spelling before) + (4 + offset))
+FaultyRecordsAreRefused S A =
+    (item : S → Reader A) (after : S → A → S) (spelling : A → List ℕ) (state : S) (before : List A) (text : List ℕ) (offset : ℕ)
+    → EachIsFramed item after spelling state before → length text < 2 ^ 32
+    → IsRefused (limited (length text) (item (passed after state before))) text offset
+    → IsRefused (until_end item after state) (all_framed spelling before ++ framed text)
+    (length (all_framed spelling before) + (4 + offset))
 
 -- so is what a record leaves of its bytes
 abbrev pub LeftBytesAreRefused : Type 0 → Type 0 → Type 0
-LeftBytesAreRefused S A = (item : S → Reader A) (after : S → A → S) (spelling : A → List ℕ) (state : S) (before : List A) (text left : List ℕ) (x : A)
-    → EachIsFramed item after spelling state before → length (text ++ left) < 2 ^ 32 → IsRead (item (passed after state before)) text x → 0 < length left
-    → IsRefused (until_end item after state) (all_framed spelling before ++ framed (text ++ left)) (length (all_framed spelling before) + (4 + length text))
+LeftBytesAreRefused S A =
+    (item : S → Reader A) (after : S → A → S) (spelling : A → List ℕ) (state : S) (before : List A) (text left : List ℕ) (x : A)
+    → EachIsFramed item after spelling state before → length (text ++ left) < 2 ^ 32
+    → IsRead (item (passed after state before)) text x → 0 < length left
+    → IsRefused (until_end item after state) (all_framed spelling before ++ framed (text ++ left))
+    (length (all_framed spelling before) + (4 + length text))
 
 -- what is torn is the front of a record, and not the whole of it
 abbrev pub IsTornOf : List ℕ → ℕ → Type 0

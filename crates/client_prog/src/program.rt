@@ -71,7 +71,8 @@ Answers:
   unfit N, full N   entry N does not fit at the server; others may clear the way
   unanswered N      eight tries failed: look at SERVER, and sync again later
   behind N LAST     the server has lost entries: is it on its own image?
-  other last LAST   NUMBER was used with another image: take another one
+  other last LAST   NUMBER was used with another image: take another one; or,
+                    where LAST is less than A, the server is not on its own image
   older PATH ..     the server has lost something: is it on its own image?
 
 NUMBER is the client's number, from 1 to 64. It goes with one IMAGE, the file in

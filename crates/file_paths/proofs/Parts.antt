@@ -1,6 +1,6 @@
 -- The laws of the spellings of paths and contents: what is read is spelled so, what is spelled so is read, where bytes
 -- that end too early are refused, and where values that break a rule are.
-use Rattle.std.proofs.Common.{◌≡◌, ℕ, ◌^◌, ◌<◌, ◌≤◌, leb, List, ◌++◌, length, refl, arith}
+use Rattle.std.proofs.Common.{ℕ, ◌^◌, ◌<◌, leb, length, refl, arith}
 use Rattle.std.specs.Int.{w16, w32}
 use Rattle.std.proofs.lemmas.Bool.{leb-true, le-leb}
 use Rattle.byte_fields.specs.Field.{digits, ruled, mapped, number_at, span_at}

@@ -1,5 +1,5 @@
 -- How long the spellings of paths and contents are.
-use Rattle.std.proofs.Common.{◌≡◌, ℕ, ◌+◌, ◌≤◌, List, ◌++◌, length, arith, length-append}
+use Rattle.std.proofs.Common.{◌≡◌, ℕ, ◌+◌, ◌≤◌, List, length, arith, length-append}
 use Rattle.std.specs.Int.{w16, w32}
 use Rattle.byte_fields.specs.Field.{digits}
 use Rattle.byte_fields.proofs.Facts.{two_bytes, four_bytes}

@@ -9,7 +9,8 @@ use Rattle.file_paths.specs.Reading.{path_at, content_at}
 
 -- a text that spells no path: at the text, behind its length
 abbrev pub BrokenTexts : Type 0
-BrokenTexts = (text : List ℕ) (cause : PathError) → length text < 2 ^ 16 → path_of text ≡ Err cause → IsRefused path_at (digits w16 (length text) ++ text) 2
+BrokenTexts = (text : List ℕ) (cause : PathError) → length text < 2 ^ 16 → path_of text ≡ Err cause
+    → IsRefused path_at (digits w16 (length text) ++ text) 2
 
 -- a content that is longer than it may be: at its length
 abbrev pub BrokenLengths : Type 0

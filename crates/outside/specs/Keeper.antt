@@ -1,5 +1,5 @@
 -- What the calls of a keeper do to the images that it tells.
-use Rattle.std.specs.Prelude.{◌≡◌, ◌≢◌, ◌⊎◌, ℕ, List, [], ◌++◌, take, Option, None, Some, option_map, unwrap_or, Result, Ok, Err, Vec}
+use Rattle.std.specs.Prelude.{◌≡◌, ◌≢◌, ◌⊎◌, ℕ, List, [], ◌++◌, take, Option, Some, option_map, unwrap_or, Result, Ok, Err, Vec}
 use Rattle.std.specs.declared.alloc.Global.{Global}
 
 -- what is kept under each name

@@ -1,5 +1,6 @@
 -- The keeper in memory, as contracts see it.
-use Rattle.std.specs.Prelude.{◌≡◌, ℕ, Bool, true, false, ◌==◌, List, find, take, Option, option_map, is_some, unwrap_or, Result, Ok, Err, if◌then◌else◌}
+use Rattle.std.specs.Prelude.{◌≡◌, ℕ, Bool, true, false, ◌==◌, List, find, take, Option, option_map, is_some, unwrap_or, Result, Ok, Err}
+use Rattle.std.specs.Prelude.{if◌then◌else◌}
 use Rattle.std.specs.Str.{bytes_eq}
 use Rattle.outside.specs.declared.errors.KeepError.{KeepError}
 use Rattle.outside.specs.declared.errors.KeepError.TheVariants.{Failed, Memory}
@@ -63,5 +64,6 @@ left_now keeper piece = unwrap_or (option_map (λ fail. left_of fail piece) (fai
 -- what an append leaves
 abbrev pub AppendsAs : {T : Type 0} → List ℕ → List ℕ → Result T KeepError → KeeperInMemory → List Slot → Type 0
 AppendsAs name piece (Ok done) old new = IsPut name (followed_by piece (images_of old.slots name)) (images_of old.slots) (images_of new)
-AppendsAs name piece (Err Failed) old new = IsPut name (followed_by (left_now old piece) (images_of old.slots name)) (images_of old.slots) (images_of new)
+AppendsAs name piece (Err Failed) old new =
+    IsPut name (followed_by (left_now old piece) (images_of old.slots name)) (images_of old.slots) (images_of new)
 AppendsAs name piece (Err Memory) old new = new ≡ old.slots

@@ -1,5 +1,6 @@
 -- The port in memory, as contracts see it.
-use Rattle.std.specs.Prelude.{ℕ, Bool, false, ◌&&◌, ◌||◌, List, ◌++◌, drop, length, map, nat_lt, not, is_none, slice_get, ◌-◌, Option, None, Some, option_map, Result, Vec}
+use Rattle.std.specs.Prelude.{ℕ, Bool, false, ◌&&◌, ◌||◌, List, ◌++◌, drop, length, map, nat_lt, not, is_none, slice_get, ◌-◌, Option, None}
+use Rattle.std.specs.Prelude.{Some, option_map, Result, Vec}
 use Rattle.std.specs.declared.alloc.Global.{Global}
 use Rattle.outside.specs.declared.calls.Calls.{Calls}
 use Rattle.outside.specs.declared.memory_port.HeldTalk.{HeldTalk}

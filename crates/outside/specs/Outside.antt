@@ -1,7 +1,9 @@
 -- What an object of the outside tells of its content, and what an answer of it means.
-use Rattle.std.specs.Prelude.{◌≡◌, ℕ, ◌+◌, ◌-◌, ◌≤◌, ◌^◌, min, max, List, [], ◌++◌, length, take, drop, Option, None, Some, Result, Ok, Err, IsErrOf}
+use Rattle.std.specs.Prelude.{◌≡◌, ℕ, ◌+◌, ◌-◌, ◌≤◌, ◌^◌, min, max, List, [], ◌++◌, length, take, drop, Option, None, Some, Result, Ok, Err}
+use Rattle.std.specs.Prelude.{IsErrOf}
 
--- an object that tells its content before a call tells it after the call, too, and the call relates the two; one that tells none goes on telling none
+-- an object that tells its content before a call tells it after the call, too, and the call relates the two; one that tells none
+-- goes on telling none
 abbrev pub Told : {A : Type 0} → Option A → Option A → (A → A → Type 0) → Type 0
 Told (Some old) (Some new) relation = relation old new
 Told (Some old) None relation = ⊥
@@ -36,7 +38,8 @@ pub record HasCause {T E : Type 0} (fault : E) (before now : ℕ) (result : Resu
 
 -- a read takes the first bytes left into the front of the buffer, none only where none is left; a refused read takes nothing
 abbrev pub Reads : {E : Type 0} → List ℕ → List ℕ → List ℕ → Result ℕ E → Type 0
-Reads left rest buf (Ok count) = (count ≤ length left) × (take count buf ≡ take count left) × (rest ≡ drop count left) × (count ≡ 0 → left ≡ [])
+Reads left rest buf (Ok count) =
+    (count ≤ length left) × (take count buf ≡ take count left) × (rest ≡ drop count left) × (count ≡ 0 → left ≡ [])
 Reads left rest buf (Err e) = rest ≡ left
 
 -- a write adds the first bytes of the piece; a refused write adds nothing

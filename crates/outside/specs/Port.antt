@@ -27,5 +27,6 @@ talks_begun (Err e) = []
 -- an answer goes to the talk that was begun last, which had none; an answer that is refused goes to none
 abbrev pub AnswersLast : {T E : Type 0} → List ℕ → Result T E → List Talk → List Talk → Type 0
 AnswersLast reply (Ok done) old new =
-    (before : List Talk) × (frame : List ℕ) × (old ≡ before ++ record { frame = frame; reply = None } ∷ []) × (new ≡ before ++ record { frame = frame; reply = Some reply } ∷ [])
+    (before : List Talk) × (frame : List ℕ) × (old ≡ before ++ record { frame = frame; reply = None } ∷ [])
+    × (new ≡ before ++ record { frame = frame; reply = Some reply } ∷ [])
 AnswersLast reply (Err e) old new = new ≡ old

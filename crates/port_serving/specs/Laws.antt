@@ -41,5 +41,6 @@ pub record HasTalks (talks : List Talk) (old new : PortTelling) : Type 0 where
 -- that of connections without an answer.
 pub record IsTold (whole lined : Type 0) (talks : List Talk) (old new : PortTelling) (written now : Option (List ℕ)) : Type 0 where
   pub all : whole → new.faults ≡ raised (fall old new - length (replies_of talks)) old.faults
-  pub at_hand : (new.faults ≡ raised (fall old new - length (replies_of talks)) old.faults) ⊎ (new.faults ≡ raised (fall old new - length (replies_of talks) - 1) old.faults)
+  pub at_hand : (new.faults ≡ raised (fall old new - length (replies_of talks)) old.faults)
+      ⊎ (new.faults ≡ raised (fall old new - length (replies_of talks) - 1) old.faults)
   pub line : lined → Adds written now (served_line (length (frames_of talks)) (fall old new - length (replies_of talks)))

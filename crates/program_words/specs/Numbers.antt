@@ -15,4 +15,5 @@ printed_number low high word = number_printed low high (digits_value 10 word) wo
 
 -- a word gives a number exactly where it is one between the two as it is printed
 abbrev pub NumbersArePrinted : Type 0
-NumbersArePrinted = (low high n : ℕ) (word : List ℕ) → high < 2 ^ 64 → (printed_number low high word ≡ Some n) ↔ ((low ≤ n) × (n ≤ high) × (word ≡ decimal n))
+NumbersArePrinted = (low high n : ℕ) (word : List ℕ) → high < 2 ^ 64 → (printed_number low high word ≡ Some n)
+    ↔ ((low ≤ n) × (n ≤ high) × (word ≡ decimal n))

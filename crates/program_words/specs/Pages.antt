@@ -26,7 +26,8 @@ page_text pages Version = pages.version.now
 -- the whole text was written, and the status says so; or a front of it, since the sink failed or memory ran out
 abbrev pub Shows : Status → List ℕ → Option (List ℕ) → Option (List ℕ) → Type 0
 Shows Done text old new = Adds old new text
-Shows status text old new = ((status ≡ SinkFailed) ⊎ (status ≡ NoMemory)) × ((count : ℕ) × (count ≤ length text) × Adds old new (take count text))
+Shows status text old new =
+    ((status ≡ SinkFailed) ⊎ (status ≡ NoMemory)) × ((count : ℕ) × (count ≤ length text) × Adds old new (take count text))
 
 -- the page was shown, and the program ended with how that went
 abbrev pub ShowsPage : Pages → Page → ℕ → Option (List ℕ) → Option (List ℕ) → Type 0

@@ -1,7 +1,8 @@
 -- Which number stands for each status.
 use Rattle.std.specs.Prelude.{ℕ}
 use Rattle.program_words.specs.declared.status.Status.{Status}
-use Rattle.program_words.specs.declared.status.Status.TheVariants.{Done, CannotListen, NoForm, SourceFailed, SinkFailed, KeeperFailed, OtherImage, NoMemory, TooLong}
+use Rattle.program_words.specs.declared.status.Status.TheVariants.{Done, CannotListen, NoForm, SourceFailed, SinkFailed, KeeperFailed}
+use Rattle.program_words.specs.declared.status.Status.TheVariants.{OtherImage, NoMemory, TooLong}
 
 abbrev pub code : Status → ℕ
 code Done = 0

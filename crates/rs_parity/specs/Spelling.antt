@@ -45,4 +45,5 @@ OneSpelling = (room : ℕ) → IsCodec (sketch_at room) sketch_spelling (SketchF
 
 -- the sketch of a content that is short enough has a spelling
 abbrev pub SketchesFit : Type 0
-SketchesFit = (content : List ℕ) (sketch : Sketch) (room : ℕ) → IsSketch content sketch → length content ≤ min room max_len → SketchFits room sketch
+SketchesFit =
+    (content : List ℕ) (sketch : Sketch) (room : ℕ) → IsSketch content sketch → length content ≤ min room max_len → SketchFits room sketch

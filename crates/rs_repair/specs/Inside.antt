@@ -1,6 +1,7 @@
 -- What the private functions of this crate give one another: repairs of one block, polynomials found by elimination whose roots show
 -- the places of the errors, and the errors themselves. Coefficients stand lowest first.
-use Rattle.std.specs.Prelude.{◌≡◌, ◌≢◌, ℕ, suc, ◌+◌, ◌-◌, ◌/◌, ◌%◌, ◌^◌, ◌<◌, ◌≤◌, ◌⊎◌, ◌++◌, Bool, true, false, List, [], ◌∷◌, length, take, drop, sum, slice_index, slice_index_or, bit_xor}
+use Rattle.std.specs.Prelude.{◌≡◌, ◌≢◌, ℕ, suc, ◌+◌, ◌-◌, ◌/◌, ◌%◌, ◌^◌, ◌<◌, ◌≤◌, ◌⊎◌, ◌++◌, Bool, true, false, List, [], ◌∷◌, length}
+use Rattle.std.specs.Prelude.{take, drop, sum, slice_index, slice_index_or, bit_xor}
 use Rattle.gf_65536.specs.Field.{gf_mul, gf_pow}
 use Rattle.rs_parity.specs.CodeWord.{symbols, sum_at}
 use Rattle.rs_parity.specs.Weight.{differing}
@@ -62,7 +63,8 @@ pub record IsClearedAbove (pivot : ℕ) (sums : List ℕ) (place : ℕ) (old new
   pub size : length new ≡ 17
   pub kept : (i : ℕ) → i ≤ pivot → slice_index_or new i [] ≡ slice_index_or old i []
   pub cleared : (i : ℕ) → pivot < i → i < 17
-      → (factor : ℕ) × IsPlusMultiple (slice_index_or old i []) (slice_index_or old pivot []) factor (slice_index_or new i []) × (pairing (slice_index_or new i []) (drop place sums) ≡ 0)
+      → (factor : ℕ) × IsPlusMultiple (slice_index_or old i []) (slice_index_or old pivot []) factor (slice_index_or new i [])
+      × (pairing (slice_index_or new i []) (drop place sums) ≡ 0)
 
 -- the row annihilates the sums from each place on, as long as its coefficients up to its degree meet sums
 abbrev pub AnnihilatesAll : List ℕ → ℕ → List ℕ → Type 0
@@ -83,7 +85,8 @@ pub record AreRoots (row : List ℕ) (bound : ℕ) (exponents : List ℕ) : Type
   pub coefficients : (k : ℕ) → slice_index row k < 2 ^ 16
   pub each : (i : ℕ) → i < length exponents → (slice_index exponents i < bound) × (value row (gf_pow 2 (slice_index exponents i)) ≡ 0)
   pub ordered : (i j : ℕ) → i < j → j < length exponents → slice_index exponents i < slice_index exponents j
-  pub complete : (e : ℕ) → 32 ≤ e → e < bound → value row (gf_pow 2 e) ≡ 0 → (i : ℕ) × (i < length exponents) × (slice_index exponents i ≡ e)
+  pub complete : (e : ℕ) → 32 ≤ e → e < bound → value row (gf_pow 2 e) ≡ 0
+      → (i : ℕ) × (i < length exponents) × (slice_index exponents i ≡ e)
 
 -- the product of the differences of x and the powers
 unfoldable pub gap : ℕ → List ℕ → ℕ
@@ -106,7 +109,8 @@ without xs i = take i xs ++ drop (i + 1) xs
 -- the error at an exponent: that of its power where it is among the exponents, and else 0
 abbrev pub IsErrorAt : List ℕ → List ℕ → List ℕ → ℕ → ℕ → Type 0
 IsErrorAt sums exponents powers exponent error =
-    ((i : ℕ) × (i < length exponents) × (slice_index exponents i ≡ exponent) × (error ≡ error_of sums (slice_index powers i) (without powers i)))
+    ((i : ℕ) × (i < length exponents) × (slice_index exponents i ≡ exponent)
+    × (error ≡ error_of sums (slice_index powers i) (without powers i)))
     ⊎ (((i : ℕ) → i < length exponents → slice_index exponents i ≢ exponent) × (error ≡ 0))
 
 -- the difference of two parities

@@ -24,8 +24,10 @@ IsBeyondRepair content sketch = (x : List ℕ) → IsBytes x → Repairs content
 
 -- at most one content repairs a content by a sketch
 abbrev pub OneRepair : Type 0
-OneRepair = (content : List ℕ) (sketch : Sketch) (x y : List ℕ) → IsBytes x → IsBytes y → Repairs content sketch x → Repairs content sketch y → x ≡ y
+OneRepair = (content : List ℕ) (sketch : Sketch) (x y : List ℕ) → IsBytes x → IsBytes y → Repairs content sketch x
+    → Repairs content sketch y → x ≡ y
 
 -- a content near another one is repaired to it by its sketch
 abbrev pub NearContentsAreRepaired : Type 0
-NearContentsAreRepaired = (content sketched : List ℕ) (sketch : Sketch) → AreNear content sketched → IsSketch sketched sketch → Repairs content sketch sketched
+NearContentsAreRepaired =
+    (content sketched : List ℕ) (sketch : Sketch) → AreNear content sketched → IsSketch sketched sketch → Repairs content sketch sketched

@@ -1,14 +1,11 @@
 -- Where the rows of a path stand in rows that are in order.
-use Rattle.std.proofs.Common.{◌≡◌, ℕ, zero, suc, ◌+◌, ◌<◌, ◌≤◌, false, List, [], ◌∷◌, length, get_or, set, Option, Some, None, Result, Ok, Err, IfOk, IfErr, inl, inr, subst, arith, refl, sym, ap, ◌∙◌, true≢false}
+use Rattle.std.proofs.Common.{◌≡◌, ℕ, zero, suc, ◌+◌, ◌<◌, ◌≤◌, false, List, [], ◌∷◌, length, get_or, set, Option, Some, None, Result, Ok, Err, IfOk, IfErr, inl, inr, subst, arith, refl, ap, ◌∙◌}
 use Rattle.std.specs.List.{AllByRecursion, remove}
 use Rattle.std.proofs.lemmas.List.{set_split}
 use Rattle.std.proofs.lemmas.Option.{slice_get_read}
-use Rattle.std.specs.Cmp.{IsTotalOrder}
-use Rattle.std.specs.Cmp.Lexicographic.{lists_total, nat_list_cmp_total}
-use Rattle.std.specs.FinMap.{slice_cmp-IsAntisymmetric, nat_cmp-IsAntisymmetric}
 use Rattle.std.specs.declared.cmp.Ordering.{Ordering}
 use Rattle.std.specs.declared.cmp.Ordering.TheVariants.{Less, Equal, Greater}
-use Rattle.std.specs.Ordering.{ordering_reverse, ordering_index, is_lt}
+use Rattle.std.specs.Ordering.{ordering_index, is_lt}
 use Rattle.std.specs.List.Sorted.{IsSearchInRange, IsBinarySearchResult, IsNonDecreasingBy}
 use Rattle.std.proofs.lemmas.Bool.{cases_lt}
 use Rattle.tree_values.specs.Inside.{StandsAt, BelongsAt}
@@ -16,7 +13,7 @@ use Rattle.file_paths.specs.Path.{path_cmp}
 use Rattle.tree_values.specs.declared.node.Node.{Node}
 use Rattle.tree_values.specs.declared.node.Row.{Row}
 use Rattle.tree_values.specs.Tree.{AreInOrder, row_at, rows_below, rows_above, with_row, without_row, kept_row, version_at, touched}
-use Rattle.file_paths.proofs.Order.{paths_total, same_path, after_path}
+use Rattle.file_paths.proofs.Order.{same_path, after_path}
 
 -- rows that are all above a path
 pub record AreAbove (path : List (List ℕ)) (rows : List Row) : Type 0 where

@@ -1,10 +1,10 @@
 -- How long spellings are, and at most.
-use Rattle.std.proofs.Common.{◌≡◌, ℕ, ◌+◌, ◌*◌, ◌≤◌, List, [], ◌∷◌, ◌++◌, length, Option, Some, None, refl, ap, arith, length-append}
+use Rattle.std.proofs.Common.{◌≡◌, ℕ, ◌+◌, ◌*◌, ◌≤◌, List, [], ◌∷◌, ◌++◌, length, Option, Some, None, ap, arith, length-append}
 use Rattle.std.specs.List.{flat_map, sum_by, AllByRecursion}
-use Rattle.std.specs.Int.{w16, w32, w64}
+use Rattle.std.specs.Int.{w32, w64}
 use Rattle.std.proofs.lemmas.List.Concat.{flat_map-cons}
 use Rattle.std.proofs.lemmas.List.Sums.{sum_by-cons}
-use Rattle.file_paths.specs.Path.{FilePath, IsPath, path_text}
+use Rattle.file_paths.specs.Path.{FilePath}
 use Rattle.tree_values.specs.Tree.{Volume, IsRow, IsTree, node_size, total_size}
 use Rattle.tree_values.specs.Effects.{content_size}
 use Rattle.tree_values.specs.declared.node.Effect.{Effect}
@@ -17,7 +17,7 @@ use Rattle.byte_fields.specs.Field.{digits}
 use Rattle.file_paths.specs.Spelling.{path, content}
 use Rattle.tree_values.specs.Spelling.{effect, effects, base, bases, node, row, rows, EffectFits, EffectsFit, BaseFits}
 use Rattle.byte_fields.proofs.Facts.{four_bytes, eight_bytes}
-use Rattle.file_paths.proofs.Sizes.{path_length, content_length, path_size}
+use Rattle.file_paths.proofs.Sizes.{content_length, path_size}
 
 -- ---- exactly
 

@@ -1,5 +1,5 @@
 -- Several effects in a row: what they touch, what they come to, and the versions they rest on.
-use Rattle.std.specs.Prelude.{◌≡◌, ℕ, ◌+◌, not, cond, List, [], ◌∷◌, Option, Some, None, Result, Ok, Err, ◌==◌, filter, map, length, ⊤}
+use Rattle.std.specs.Prelude.{ℕ, ◌+◌, not, cond, List, [], ◌∷◌, Option, Some, None, Result, Ok, Err, ◌==◌, filter, map, length}
 use Rattle.std.specs.List.{flat_map, sum_by}
 use Rattle.file_paths.specs.Path.{FilePath, is_same_path}
 use Rattle.tree_values.specs.declared.node.Base.{Base}
@@ -45,7 +45,8 @@ pub record Conflict : Type 0 where
 -- the first path whose version is not that of the rows
 abbrev pub first_conflict : List Base → Volume → Option Conflict
 first_conflict [] rows = None
-first_conflict (base ∷ bases) rows = cond (version_at rows base.path == base.version) (first_conflict bases rows) (Some (record { path = base.path; theirs = version_at rows base.path; ours = base.version }))
+first_conflict (base ∷ bases) rows = cond (version_at rows base.path == base.version) (first_conflict bases rows)
+    (Some (record { path = base.path; theirs = version_at rows base.path; ours = base.version }))
 
 -- the bytes of the content that an effect writes
 abbrev pub content_size : Effect → ℕ

@@ -8,7 +8,8 @@ use Rattle.file_paths.specs.Spelling.{path}
 use Rattle.file_paths.specs.Fields.{path_fields}
 use Rattle.file_paths.specs.Reading.{path_at}
 use Rattle.tree_values.specs.declared.node.TreeError.{TreeError}
-use Rattle.tree_values.specs.declared.node.TreeError.TheVariants.{RootFixed, NoParent, Exists, Missing, IsFolder, NotEmpty, RowsFull, FileTooLarge, TreeFull, VersionTop, Memory}
+use Rattle.tree_values.specs.declared.node.TreeError.TheVariants.{RootFixed, NoParent, Exists, Missing, IsFolder, NotEmpty, RowsFull}
+use Rattle.tree_values.specs.declared.node.TreeError.TheVariants.{FileTooLarge, TreeFull, VersionTop, Memory}
 
 -- the number of the refusal, and what it names; want of memory has no spelling
 abbrev pub tree_fault : TreeError → List ℕ

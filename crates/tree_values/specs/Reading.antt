@@ -1,9 +1,10 @@
 -- Reading effects, bases and rows, with the place of the first faulty field.
-use Rattle.std.specs.Prelude.{ℕ, ◌-◌, min, nat_le, ◌==◌, ◌&&◌, not, Bool, true, false, List, [], ◌∷◌, ◌++◌, length, Option, Some, None, Ok, Err}
-use Rattle.std.specs.Int.{w16, w32, w64}
+use Rattle.std.specs.Prelude.{ℕ, ◌-◌, min, nat_le, ◌==◌, ◌&&◌, not, Bool, true, false, List, [], ◌∷◌, ◌++◌, length, Option, Some, None, Ok}
+use Rattle.std.specs.Prelude.{Err}
+use Rattle.std.specs.Int.{w32, w64}
 use Rattle.std.specs.List.{list_all}
 use Rattle.std.specs.Ordering.{is_lt}
-use Rattle.byte_fields.specs.Field.{Reader, ◌>>=◌, ruled, mapped, none, tagged_at, span_at, number_at, each_at}
+use Rattle.byte_fields.specs.Field.{Reader, ◌>>=◌, ruled, none, tagged_at, number_at, each_at}
 use Rattle.file_paths.specs.Limits.{max_file}
 use Rattle.file_paths.specs.Path.{FilePath, path_cmp, is_same_path, folder_of}
 use Rattle.file_paths.specs.Reading.{path_at, content_at}

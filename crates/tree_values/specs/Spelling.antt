@@ -1,7 +1,7 @@
 -- The one spelling of each value, and which values have one.
 use Rattle.std.specs.Prelude.{◌≡◌, ℕ, ◌<◌, ◌≤◌, ◌^◌, List, [], ◌∷◌, ◌++◌, length, map, Option, Some, None}
 use Rattle.std.specs.List.{flat_map, AllByRecursion}
-use Rattle.std.specs.Int.{w16, w32, w64}
+use Rattle.std.specs.Int.{w32, w64}
 use Rattle.byte_fields.specs.Field.{digits}
 use Rattle.file_paths.specs.Limits.{max_file}
 use Rattle.file_paths.specs.Path.{FilePath, IsPath}

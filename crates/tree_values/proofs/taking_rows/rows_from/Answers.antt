@@ -1,7 +1,4 @@
-use Rattle.std.proofs.Common.{◌≡◌, Ok, [], List, ap, sym, ◌∙◌}
-use Rattle.byte_fields.specs.Field.{each_at, passed}
-use Rattle.tree_values.specs.Tree.{Volume}
-use Rattle.tree_values.specs.Reading.{next_row_at, with_next}
+use Rattle.std.proofs.Common.{◌≡◌, [], ◌∙◌}
 use Rattle.tree_values.proofs.RowsTaken.{rows_passed}
 use Rattle.tree_values.proofs.taking_rows.rows_from.Goals as goal
 
