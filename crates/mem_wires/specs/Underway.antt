@@ -71,4 +71,3 @@ pub record IsUndecided (old new : Wire) : Type 0 where
 abbrev pub is_store : Message → Bool
 is_store (Store client number effects base) = true
 is_store _ = false
-

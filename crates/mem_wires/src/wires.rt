@@ -432,12 +432,7 @@ impl Wires {
     }
 
     /// A request that was sent has no answer.
-    pub fn lose(
-        &mut self,
-        to: Peer,
-        address: &[u8],
-        request: Message,
-    ) -> Result<Vec<u8>, LinkError>
+    pub fn lose(&mut self, to: Peer, address: &[u8], request: Message) -> Result<Vec<u8>, LinkError>
         requires { IsIn request self.old.packets }
         ensures met { MeetsUnlessMemory LoseRequest to address.now request (world_of self.old) (world_of self.new) result }
         ensures fates { self.new.fates ≡ self.old.fates }
