@@ -34,7 +34,7 @@ use Rattle.mem_net.specs.Scenes.{Scene, server_address, work_folder, HasServed, 
 use Rattle.mem_wires.specs.Underway.{MovedFree}
 use Rattle.mem_net.specs.Inside.{GoesFree}
 use Rattle.mem_wires.proofs.Taking.{take_front}
-use Rattle.mem_wires.proofs.Network.{free_then}
+use Rattle.mem_wires.proofs.Steps.{free_then}
 use Rattle.mem_wires.proofs.Spent.{asks_kept, moved_asks, one_made}
 use Rattle.world_rules.proofs.Allowing.{moved_as}
 

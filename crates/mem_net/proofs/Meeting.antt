@@ -25,7 +25,7 @@ use Rattle.mem_net.specs.Scenes.{Scene, with_world, with_troubles, IsHandled, Me
 use Rattle.mem_net.specs.Scenes.{OnMemory, StaysButWorld, IsHandledInPart, handlings, IsCutBefore, IsCutShort}
 use Rattle.mem_wires.specs.Underway.{MovedFree, AsksSent, MeetsUnlessMemory, KeepsFates}
 use Rattle.mem_net.specs.Inside.{TakesBeside}
-use Rattle.mem_wires.proofs.Network.{got_in, noted_ask}
+use Rattle.mem_wires.proofs.Steps.{got_in, noted_ask}
 use Rattle.mem_wires.proofs.Spent.{quiet_after}
 use Rattle.mem_net.proofs.Handling.{scene_by, stays_by}
 

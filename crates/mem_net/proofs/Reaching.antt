@@ -22,7 +22,7 @@ use Rattle.mem_net.specs.Scenes.{Scene, with_world, with_fates, IsHandled, IsLat
 use Rattle.mem_net.specs.Scenes.{IsUnhandled, BefallsInPart, AllBefall, IsCutBefore}
 use Rattle.mem_wires.specs.Underway.{MovedFree}
 use Rattle.mem_net.specs.Inside.{GoesFree, FrontWaits, Nears, TakesBeside}
-use Rattle.mem_wires.proofs.Network.{free_none, free_then, free_as}
+use Rattle.mem_wires.proofs.Steps.{free_none, free_then, free_as}
 use Rattle.mem_wires.proofs.Spent.{takes_none, takes_then, quiet_after}
 use Rattle.mem_net.proofs.Handling.{scene_by, stays_by}
 

@@ -7,7 +7,7 @@ use Rattle.world_rules.specs.World.{World}
 use Rattle.mem_wires.specs.Wire.{Wire, world_of}
 use Rattle.mem_wires.specs.Fates.{decides, deciding, left_after, at_decision, befallen, IsEndOf}
 use Rattle.mem_wires.specs.Underway.{MovedFree, KeepsFates, decision, IsUndecided}
-use Rattle.mem_wires.proofs.Network.{free_then}
+use Rattle.mem_wires.proofs.Steps.{free_then}
 
 -- ---- one fate
 

@@ -14,7 +14,7 @@ use Rattle.mem_wires.specs.Wire.{Wire, world_of}
 use Rattle.mem_wires.specs.Fates.{delivered_late, injected}
 use Rattle.mem_wires.specs.Underway.{MovedFree, IsSent, is_store}
 use Rattle.world_rules.proofs.Asks.{IsIn-last}
-use Rattle.mem_wires.proofs.Network.{free_none, free_as, free_then, free_handled, free_other, is_sent, sent_then}
+use Rattle.mem_wires.proofs.Steps.{free_none, free_as, free_then, free_handled, free_other, is_sent, sent_then}
 
 -- ---- a message joins the packets
 

@@ -1,5 +1,5 @@
 pub mod Taking
-pub mod Network
+pub mod Steps
 pub mod Delivering
 pub mod Deciding
 pub mod Spent

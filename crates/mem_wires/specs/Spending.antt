@@ -1,4 +1,4 @@
--- What asks in a row take of a network in memory, and what they leave.
+-- What asks in a row take of wires in memory, and what they leave.
 use Rattle.std.specs.Prelude.{◌≡◌, ℕ, ◌≤◌, false, List, [], ◌∷◌, ◌++◌, refl}
 use Rattle.std.proofs.Common.{◌∙◌, ap, sym, inl, inr, append_assoc}
 use Rattle.std.proofs.Math.Nat.{le_refl, le_trans}

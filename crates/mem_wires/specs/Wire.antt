@@ -1,4 +1,4 @@
--- The network in memory without its surrogate, as contracts see it.
+-- The wires of one client and one server in memory, as contracts see them.
 use Rattle.std.specs.Prelude.{ℕ, List, [], ◌∷◌}
 use Rattle.std.specs.List.{flat_map}
 use Rattle.wire_frames.specs.declared.message.Message.{Message}
@@ -12,7 +12,7 @@ use Rattle.mem_wires.specs.declared.fate.Fate.{Fate}
 -- The client, the server, and what stands between them. The world about the client is `world_of` it.
 pub record Wire : Type 0 where
   pub client : ℕ
-  -- what the server held when the network was made
+  -- what the server held when the wires were made
   pub opening : Holding
   pub server : Holding
   -- the stores that were taken
@@ -28,7 +28,7 @@ abbrev pub stored_in : Message → List TakenEntry
 stored_in (Store client number effects base) = entry_stored client number effects base ∷ []
 stored_in message = []
 
--- the world that the network tells
+-- the world that the wires tell
 abbrev pub world_of : Wire → World
 world_of wires = record {
   client = wires.client;

@@ -1,4 +1,4 @@
-// A network of one client and one server in memory, over which a surrogate asks, too.
+// The wires of one client and one server in memory, over which a surrogate asks, too.
 ghost use Rattle.std.specs.Prelude.{◌≡◌, ◌↔◌, IsTrue};
 ghost use Rattle.world_rules.specs.World.{IsForServer};
 ghost use Rattle.world_rules.specs.Asking.{IsRequest};
@@ -66,7 +66,7 @@ impl Wires {
     ghost use Rattle.mem_wires.specs.Underway.{MovedFree, IsSent, KeepsFates, decision, MeetsUnlessMemory, IsUndecided};
     ghost use Rattle.mem_wires.specs.declared.fate.Fate.TheVariants.{Pass, LoseRequest, Old};
 
-    /// The network of a client and this server, in which nothing was sent. The asks meet these fates in their order;
+    /// The wires of a client and this server, over which nothing was sent. The asks meet these fates in their order;
     /// with none left an ask passes. Fails where memory runs out.
     pub fn new(
         alloc: Global,

@@ -13,7 +13,7 @@ use Rattle.mem_wires.specs.Wire.{Wire, world_of}
 use Rattle.mem_net.specs.Scenes.{scene_of, with_world, UnlessMemory, IsMet, OnMemory, IsHandledInPart, handlings, IsCutShort}
 use Rattle.mem_wires.specs.Underway.{AsksSent, MeetsUnlessMemory}
 use Rattle.mem_wires.proofs.Taking.{for_server, not_the_server}
-use Rattle.mem_wires.proofs.Network.{asks_on, asks_once, directly_on, asks_directly, calm_directly, replied, same_request}
+use Rattle.mem_wires.proofs.Steps.{asks_on, asks_once, directly_on, asks_directly, calm_directly, replied, same_request}
 use Rattle.mem_wires.proofs.Spent.{takes_none, quiet_after, want_after, spent_in_want, spent}
 use Rattle.mem_net.proofs.Reaching.{was_taken, takes_beside, takes_by_server, takes_by_surrogate, takes_in_want}
 use Rattle.mem_net.proofs.Meeting.{quiet_meets, quiet_operates, alone_met, rose_later, met_by_server, met_by_surrogate, is_met}

@@ -7,7 +7,7 @@ use Rattle.mem_wires.specs.declared.fate.Fate.{Fate}
 use Rattle.mem_wires.specs.declared.fate.Fate.TheVariants.{LoseRequest, Old}
 use Rattle.mem_wires.specs.Wire.{world_of}
 use Rattle.mem_net.specs.Scenes.{scene_of, UnlessMemory, MeetsOperation, OnMemory, IsHandledInPart, handlings}
-use Rattle.mem_wires.proofs.Network.{asks_later, lost_once}
+use Rattle.mem_wires.proofs.Steps.{asks_later, lost_once}
 use Rattle.mem_wires.proofs.Spent.{takes_then}
 use Rattle.mem_net.proofs.Meeting.{alone_met, lost_reply_met, twice_met, old_once, beside_quiet, on_memory, stays_met, cut_after}
 use Rattle.mem_net.proofs.parts.Parts.meet.Goals as goal

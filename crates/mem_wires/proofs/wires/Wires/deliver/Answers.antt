@@ -1,7 +1,7 @@
 use Rattle.std.proofs.Common.{◌∙◌, true}
 use Rattle.world_rules.specs.World.{delivered}
 use Rattle.mem_wires.specs.Wire.{Wire, world_of}
-use Rattle.mem_wires.proofs.Network.{free_delivered, free_as, free_then}
+use Rattle.mem_wires.proofs.Steps.{free_delivered, free_as, free_then}
 use Rattle.mem_wires.proofs.Delivering.{moved-handled, moved-same, world-answered}
 use Rattle.mem_wires.proofs.wires.Wires.deliver.Goals as goal
 

@@ -4,7 +4,7 @@ use Rattle.wire_frames.specs.declared.message.Message.{Message}
 use Rattle.world_rules.specs.World.{IsForServer}
 use Rattle.std.specs.Prelude.{slice_get}
 use Rattle.mem_wires.specs.Wire.{Wire, world_of}
-use Rattle.mem_wires.proofs.Network.{got_in}
+use Rattle.mem_wires.proofs.Steps.{got_in}
 use Rattle.mem_wires.proofs.Delivering.{late-delivered}
 use Rattle.mem_wires.proofs.wires.Wires.late.Goals as goal
 

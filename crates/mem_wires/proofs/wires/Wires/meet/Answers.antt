@@ -2,7 +2,7 @@ use Rattle.std.proofs.Common.{sym, subst}
 use Rattle.mem_wires.specs.declared.fate.Fate.{Fate}
 use Rattle.mem_wires.specs.Wire.{world_of}
 use Rattle.mem_wires.specs.Underway.{MeetsUnlessMemory}
-use Rattle.mem_wires.proofs.Network.{delivered-among, met-lost-reply, met-twice}
+use Rattle.mem_wires.proofs.Steps.{delivered-among, met-lost-reply, met-twice}
 use Rattle.mem_wires.proofs.wires.Wires.meet.Goals as goal
 
 pub lose-requires-in-Ok : goal.lose-requires-in-Ok

@@ -11,7 +11,7 @@ use Rattle.mem_wires.specs.Spending.{AreQuiet, spends_none}
 use Rattle.mem_wires.proofs.Deciding.{left_is_end}
 use Rattle.mem_wires.proofs.Spent.{taken_of, takes_left, quiet_deciding, quiet_after, want_after, takes_end, spent_in_want, spent}
 use Rattle.mem_wires.proofs.Taking.{for_server, not_the_server}
-use Rattle.mem_wires.proofs.Network.{asks_on, asks_once, lost_once, directly_on, asks_directly, calm_directly, replied, same_request}
+use Rattle.mem_wires.proofs.Steps.{asks_on, asks_once, lost_once, directly_on, asks_directly, calm_directly, replied, same_request}
 use Rattle.mem_wires.proofs.wires.WiresLink.ask.Goals as goal
 
 -- ---- an ask of the server
@@ -93,7 +93,7 @@ returns-in-Surrogate-clause-world c = λ request spells.
 pub returns-in-Surrogate-clause-direct : goal.returns-in-Surrogate-clause-direct
 returns-in-Surrogate-clause-direct c = λ request spells to_server quiet. absurd (not_the_server (sym c.in-Surrogate.is ∙ to_server))
 
--- ---- what the ask takes of the network
+-- ---- what the ask takes of the wires
 
 pub returns-in_default-clause-kept : goal.returns-in_default-clause-kept
 returns-in_default-clause-kept c = spends_none c.args.self.now

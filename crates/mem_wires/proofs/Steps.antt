@@ -1,4 +1,4 @@
--- The steps that the network in memory makes, and what they make of an ask.
+-- The steps that wires in memory make, and what they make of an ask.
 use Rattle.std.proofs.Common.{◌≡◌, inl, inr, ⊎_elim, ℕ, zero, suc, ◌≤◌, true, false, List, [], ◌∷◌, length, Some, Result, Ok, Err, Vec, IfOk, refl, sym, ◌∙◌, ap, subst, arith}
 use Rattle.std.specs.Prelude.{slice_get}
 use Rattle.std.specs.declared.alloc.Global.{Global}
