@@ -8,11 +8,11 @@ use Rattle.world_rules.specs.declared.asking.Peer.TheVariants.{Server}
 use Rattle.world_rules.specs.declared.link.LinkError.{LinkError}
 use Rattle.world_rules.specs.declared.link.LinkError.TheVariants.{Failed as LinkFailed, Memory as LinkMemory}
 use Rattle.world_rules.specs.World.{sent}
-use Rattle.mem_net.specs.declared.fate.Fate.{Fate}
-use Rattle.mem_net.specs.declared.fate.Fate.TheVariants.{Pass, LoseRequest, LoseReply, Twice, Old, Late, Inject}
-use Rattle.mem_net.specs.Fates.{decides, deciding, left_after, comes_late, troubles_after, IsEndOf, LeavesFates}
+use Rattle.mem_wires.specs.declared.fate.Fate.{Fate}
+use Rattle.mem_wires.specs.declared.fate.Fate.TheVariants.{Pass, LoseRequest, LoseReply, Twice, Old, Late, Inject}
+use Rattle.mem_wires.specs.Fates.{decides, deciding, left_after, comes_late, troubles_after, IsEndOf, LeavesFates}
 use Rattle.mem_net.specs.Scenes.{Scene, with_world, with_fates, IsLateOperation, Befalls, FrontDecides, Reaches, BefallsInPart, IsFrontTaken, AllBefall, IsCutBefore}
-use Rattle.mem_net.proofs.Deciding.{left_is_end}
+use Rattle.mem_wires.proofs.Deciding.{left_is_end}
 
 -- ---- one fate
 

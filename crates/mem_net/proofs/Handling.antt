@@ -27,14 +27,15 @@ use Rattle.surrogate_core.specs.Serving.{MayAsk, Serves, ServesTo, WorldWent}
 use Rattle.surrogate_core.specs.Laws.{EndsOperation}
 use Rattle.surrogate_core.proofs.Copies.{keeps_the_copy, asks_the_server}
 use Rattle.surrogate_core.proofs.Free.{handlings_move_alone, replies_are_free}
-use Rattle.mem_net.specs.declared.fate.Fate.{Fate}
-use Rattle.mem_net.specs.Net.{Wire, world_of}
-use Rattle.mem_net.specs.Spending.{IsAny, IsGivenAnswer, AreGiven, AreQuiet, TakesFront, Spends}
+use Rattle.mem_wires.specs.declared.fate.Fate.{Fate}
+use Rattle.mem_wires.specs.Wire.{Wire, world_of}
+use Rattle.mem_wires.specs.Spending.{IsAny, IsGivenAnswer, AreGiven, AreQuiet, TakesFront, Spends}
 use Rattle.mem_net.specs.Scenes.{Scene, server_address, work_folder, HasServed, IsHandled, IsUnhandled, StaysButWorld}
-use Rattle.mem_net.specs.Inside.{MovedFree, GoesFree}
-use Rattle.mem_net.proofs.Taking.{take_front}
-use Rattle.mem_net.proofs.Network.{free_then}
-use Rattle.mem_net.proofs.Spent.{asks_kept, moved_asks, one_made}
+use Rattle.mem_wires.specs.Underway.{MovedFree}
+use Rattle.mem_net.specs.Inside.{GoesFree}
+use Rattle.mem_wires.proofs.Taking.{take_front}
+use Rattle.mem_wires.proofs.Steps.{free_then}
+use Rattle.mem_wires.proofs.Spent.{asks_kept, moved_asks, one_made}
 use Rattle.world_rules.proofs.Allowing.{moved_as}
 
 -- ---- asks that are forgotten

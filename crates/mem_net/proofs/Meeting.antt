@@ -16,16 +16,17 @@ use Rattle.world_rules.specs.declared.link.LinkError.{LinkError}
 use Rattle.world_rules.specs.declared.link.LinkError.TheVariants.{Failed as LinkFailed, Memory as LinkMemory}
 use Rattle.world_rules.specs.World.{World, Is, MovedBy, sent}
 use Rattle.world_rules.proofs.Asks.{IsIn-last, moved_by_none}
-use Rattle.mem_net.specs.declared.fate.Fate.{Fate}
-use Rattle.mem_net.specs.declared.fate.Fate.TheVariants.{Pass, LoseRequest, LoseReply, Twice, Old, Late, Inject}
-use Rattle.mem_net.specs.Net.{Wire, world_of}
-use Rattle.mem_net.specs.Fates.{answered, is_trouble, troubles_after}
-use Rattle.mem_net.specs.Spending.{TakesFront, quiet_behind, quiet_front}
+use Rattle.mem_wires.specs.declared.fate.Fate.{Fate}
+use Rattle.mem_wires.specs.declared.fate.Fate.TheVariants.{Pass, LoseRequest, LoseReply, Twice, Old, Late, Inject}
+use Rattle.mem_wires.specs.Wire.{Wire, world_of}
+use Rattle.mem_wires.specs.Fates.{answered, is_trouble, troubles_after}
+use Rattle.mem_wires.specs.Spending.{TakesFront, quiet_behind, quiet_front}
 use Rattle.mem_net.specs.Scenes.{Scene, with_world, with_troubles, IsHandled, MeetsAlone, MeetsOperation, UnlessMemory, IsDecided, IsReached, IsMet}
 use Rattle.mem_net.specs.Scenes.{OnMemory, StaysButWorld, IsHandledInPart, handlings, IsCutBefore, IsCutShort}
-use Rattle.mem_net.specs.Inside.{MovedFree, AsksSent, MeetsUnlessMemory, TakesBeside, KeepsFates}
-use Rattle.mem_net.proofs.Network.{got_in, noted_ask}
-use Rattle.mem_net.proofs.Spent.{quiet_after}
+use Rattle.mem_wires.specs.Underway.{MovedFree, AsksSent, MeetsUnlessMemory, KeepsFates}
+use Rattle.mem_net.specs.Inside.{TakesBeside}
+use Rattle.mem_wires.proofs.Steps.{got_in, noted_ask}
+use Rattle.mem_wires.proofs.Spent.{quiet_after}
 use Rattle.mem_net.proofs.Handling.{scene_by, stays_by}
 
 -- ---- the two errors

@@ -13,16 +13,17 @@ use Rattle.world_rules.specs.declared.link.LinkError.{LinkError}
 use Rattle.world_rules.specs.declared.link.LinkError.TheVariants.{Failed as LinkFailed, Memory as LinkMemory}
 use Rattle.world_rules.specs.World.{World, sent}
 use Rattle.world_rules.specs.Asking.{IsRequest}
-use Rattle.mem_net.specs.declared.fate.Fate.{Fate}
-use Rattle.mem_net.specs.declared.fate.Fate.TheVariants.{Pass, LoseRequest, LoseReply, Twice, Old, Late, Inject}
-use Rattle.mem_net.specs.Net.{Wire, world_of}
-use Rattle.mem_net.specs.Fates.{decides, is_trouble, befallen, troubles_after}
-use Rattle.mem_net.specs.Spending.{AreQuiet, TakesFront, quiet_front, quiet_behind}
+use Rattle.mem_wires.specs.declared.fate.Fate.{Fate}
+use Rattle.mem_wires.specs.declared.fate.Fate.TheVariants.{Pass, LoseRequest, LoseReply, Twice, Old, Late, Inject}
+use Rattle.mem_wires.specs.Wire.{Wire, world_of}
+use Rattle.mem_wires.specs.Fates.{decides, is_trouble, befallen, troubles_after}
+use Rattle.mem_wires.specs.Spending.{AreQuiet, TakesFront, quiet_front, quiet_behind}
 use Rattle.mem_net.specs.Scenes.{Scene, with_world, with_fates, IsHandled, IsLateOperation, Befalls, FrontDecides, Reaches, IsReached, TakesFates}
 use Rattle.mem_net.specs.Scenes.{IsUnhandled, BefallsInPart, AllBefall, IsCutBefore}
-use Rattle.mem_net.specs.Inside.{MovedFree, GoesFree, FrontWaits, Nears, TakesBeside}
-use Rattle.mem_net.proofs.Network.{free_none, free_then, free_as}
-use Rattle.mem_net.proofs.Spent.{takes_none, takes_then, quiet_after}
+use Rattle.mem_wires.specs.Underway.{MovedFree}
+use Rattle.mem_net.specs.Inside.{GoesFree, FrontWaits, Nears, TakesBeside}
+use Rattle.mem_wires.proofs.Steps.{free_none, free_then, free_as}
+use Rattle.mem_wires.proofs.Spent.{takes_none, takes_then, quiet_after}
 use Rattle.mem_net.proofs.Handling.{scene_by, stays_by}
 
 -- ---- moves of no client's own, in a row

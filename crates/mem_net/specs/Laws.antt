@@ -4,7 +4,7 @@ use Rattle.wire_frames.specs.declared.message.TheConstants.{CLIENTS}
 use Rattle.mod_log.specs.Log.{new_log}
 use Rattle.world_rules.specs.Served.{Served, IsServed}
 use Rattle.world_rules.specs.InStep.{InStep}
-use Rattle.mem_net.specs.Net.{new_world}
+use Rattle.mem_wires.specs.Wire.{new_world}
 
 -- A client's new log is in step with the world of a network whose server has taken nothing of the client.
 abbrev pub NewNetworksAreInStep : Type 0

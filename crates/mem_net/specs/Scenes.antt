@@ -19,12 +19,12 @@ use Rattle.world_rules.specs.World.{World, MovedAlone, sent}
 use Rattle.world_rules.specs.Asking.{IsRequest}
 use Rattle.world_rules.specs.Settling.{failed_asks}
 use Rattle.surrogate_core.specs.Serving.{ServesTo, failures_told}
-use Rattle.mem_net.specs.declared.fate.Fate.{Fate}
-use Rattle.mem_net.specs.declared.fate.Fate.TheVariants.{Pass, LoseRequest, LoseReply, Twice, Old, Late}
+use Rattle.mem_wires.specs.declared.fate.Fate.{Fate}
+use Rattle.mem_wires.specs.declared.fate.Fate.TheVariants.{Pass, LoseRequest, LoseReply, Twice, Old, Late}
 use Rattle.mem_net.specs.declared.parts.Parts.{Parts}
-use Rattle.mem_net.specs.Net.{world_of}
-use Rattle.mem_net.specs.Fates.{decides, befallen, answered, MeetsFate, troubles_after}
-use Rattle.mem_net.specs.Spending.{AreQuiet, TakesFront, AreGiven}
+use Rattle.mem_wires.specs.Wire.{world_of}
+use Rattle.mem_wires.specs.Fates.{decides, befallen, answered, MeetsFate, troubles_after}
+use Rattle.mem_wires.specs.Spending.{AreQuiet, TakesFront, AreGiven}
 
 -- ---- one moment of a network
 

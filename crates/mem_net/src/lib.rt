@@ -2,13 +2,10 @@
 //! delays and injects as a list of fates says.
 #![tactic(auto)]
 
-mod fate;
 mod laws;
 mod net;
-mod packet;
 mod parts;
-mod wires;
 
-pub use fate::Fate;
 pub use laws::new_networks_are_in_step;
+pub use mem_wires::Fate;
 pub use net::MemNet;

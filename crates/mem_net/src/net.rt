@@ -1,10 +1,9 @@
 // A network of one client, one server and one surrogate in memory.
 ghost use Rattle.std.specs.Prelude.{◌≡◌};
 
-use crate::fate::Fate;
 use crate::parts::Parts;
-use crate::wires::Wires;
 use cmd_capture::Runner;
+use mem_wires::{Fate, Wires};
 use server_core::Server;
 use std::alloc::{AllocError, Global};
 use std::marker::Model;
@@ -37,7 +36,7 @@ impl<R: Drop> MemNet<R> {
     ghost use Rattle.world_rules.specs.Served.{IsServed};
     ghost use Rattle.server_core.specs.Holding.{served};
     ghost use Rattle.surrogate_core.specs.Handling.{Idle};
-    ghost use Rattle.mem_net.specs.Net.{world_of, new_world};
+    ghost use Rattle.mem_wires.specs.Wire.{world_of, new_world};
 
     /// The network of a client, this server and this surrogate with its runner, in which nothing was sent. The asks meet
     /// these fates in their order; with none left an ask passes. The surrogate runs its jobs in the folder `work`, and asks
@@ -125,9 +124,9 @@ impl<R: Runner> Link for MemNet<R> {
     ghost use Rattle.wire_frames.specs.declared.message.Message.{Message};
     ghost use Rattle.wire_frames.specs.Frame.{Spells};
     ghost use Rattle.world_rules.specs.Asking.{IsRequest, IsReplyTo, AsksOnce, IsDirect};
-    ghost use Rattle.mem_net.specs.Net.{world_of};
-    ghost use Rattle.mem_net.specs.Fates.{comes_late, deciding, troubles_after, LeavesFates};
-    ghost use Rattle.mem_net.specs.Spending.{Spends, spends_none, spends_then};
+    ghost use Rattle.mem_wires.specs.Wire.{world_of};
+    ghost use Rattle.mem_wires.specs.Fates.{comes_late, deciding, troubles_after, LeavesFates};
+    ghost use Rattle.mem_wires.specs.Spending.{Spends, spends_none, spends_then};
     ghost use Rattle.mem_net.specs.Scenes.{scene_of, UnlessMemory, IsMet, TakesFates, OnMemory, IsCutShort};
 
     ghost tells = { λ n. record { world = Some (world_of n.wires); troubles = n.wires.troubles } };

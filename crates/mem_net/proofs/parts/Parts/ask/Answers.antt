@@ -8,17 +8,17 @@ use Rattle.world_rules.specs.declared.asking.Peer.TheVariants.{Server}
 use Rattle.world_rules.specs.World.{IsForServer, sent}
 use Rattle.world_rules.specs.Asking.{AsksOnce, IsDirect, IsReplyTo}
 use Rattle.cmd_capture.specs.Runs.{telling}
-use Rattle.mem_net.specs.declared.fate.Fate.{Fate}
-use Rattle.mem_net.specs.Net.{Wire, world_of}
+use Rattle.mem_wires.specs.declared.fate.Fate.{Fate}
+use Rattle.mem_wires.specs.Wire.{Wire, world_of}
 use Rattle.mem_net.specs.Scenes.{scene_of, with_world, UnlessMemory, IsMet, OnMemory, IsHandledInPart, handlings, IsCutShort}
-use Rattle.mem_net.specs.Inside.{AsksSent, MeetsUnlessMemory}
-use Rattle.mem_net.proofs.Taking.{for_server, not_the_server}
-use Rattle.mem_net.proofs.Network.{asks_on, asks_once, directly_on, asks_directly, calm_directly, replied, same_request}
-use Rattle.mem_net.proofs.Spent.{takes_none, quiet_after, want_after, spent_in_want, spent}
+use Rattle.mem_wires.specs.Underway.{AsksSent, MeetsUnlessMemory}
+use Rattle.mem_wires.proofs.Taking.{for_server, not_the_server}
+use Rattle.mem_wires.proofs.Steps.{asks_on, asks_once, directly_on, asks_directly, calm_directly, replied, same_request}
+use Rattle.mem_wires.proofs.Spent.{takes_none, quiet_after, want_after, spent_in_want, spent}
 use Rattle.mem_net.proofs.Reaching.{was_taken, takes_beside, takes_by_server, takes_by_surrogate, takes_in_want}
 use Rattle.mem_net.proofs.Meeting.{quiet_meets, quiet_operates, alone_met, rose_later, met_by_server, met_by_surrogate, is_met}
 use Rattle.mem_net.proofs.Meeting.{stays_met, is_cut, is_cut_before}
-use Rattle.mem_net.proofs.Deciding.{left_is_end}
+use Rattle.mem_wires.proofs.Deciding.{left_is_end}
 use Rattle.mem_net.proofs.Early.{reached_early, lone_in_want, lone_met}
 use Rattle.mem_net.proofs.parts.Parts.ask.Goals as goal
 

@@ -1,7 +1,7 @@
 use Rattle.std.proofs.Common.{sym, subst}
 use Rattle.byte_fields.proofs.Fronts.{on_error}
 use Rattle.cmd_capture.specs.Runs.{telling}
-use Rattle.mem_net.specs.declared.fate.Fate.{Fate}
+use Rattle.mem_wires.specs.declared.fate.Fate.{Fate}
 use Rattle.mem_net.specs.Scenes.{scene_of, Befalls, BefallsInPart}
 use Rattle.mem_net.proofs.Reaching.{kept_in_part}
 use Rattle.mem_net.proofs.parts.Parts.befall.Goals as goal

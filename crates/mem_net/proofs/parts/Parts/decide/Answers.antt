@@ -1,10 +1,10 @@
 use Rattle.std.proofs.Common.{◌∙◌, sym, subst}
 use Rattle.byte_fields.proofs.Fronts.{on_error}
 use Rattle.cmd_capture.specs.Runs.{telling}
-use Rattle.mem_net.specs.declared.fate.Fate.{Fate}
-use Rattle.mem_net.specs.declared.fate.Fate.TheVariants.{Pass}
+use Rattle.mem_wires.specs.declared.fate.Fate.{Fate}
+use Rattle.mem_wires.specs.declared.fate.Fate.TheVariants.{Pass}
 use Rattle.mem_net.specs.Scenes.{Scene, scene_of, Befalls, IsReached, BefallsInPart}
-use Rattle.mem_net.proofs.Deciding.{undecided, decided_by}
+use Rattle.mem_wires.proofs.Deciding.{undecided, decided_by}
 use Rattle.mem_net.proofs.Reaching.{goes_on, taken_scene, untaken_scene, nears_on, reached_by, cut_on, reached_end}
 use Rattle.mem_net.proofs.parts.Parts.decide.Goals as goal
 

@@ -6,8 +6,8 @@ use Rattle.world_rules.specs.declared.asking.Peer.TheVariants.{Surrogate}
 use Rattle.world_rules.specs.Asking.{IsRequest}
 use Rattle.cmd_capture.specs.Runs.{telling}
 use Rattle.mem_net.specs.Scenes.{scene_of}
-use Rattle.mem_net.specs.declared.fate.Fate.TheVariants.{Late}
-use Rattle.mem_net.proofs.Network.{got_in}
+use Rattle.mem_wires.specs.declared.fate.Fate.TheVariants.{Late}
+use Rattle.mem_wires.proofs.Steps.{got_in}
 use Rattle.byte_fields.proofs.Fronts.{on_error}
 use Rattle.mem_net.proofs.Reaching.{kept_in_part, stays_in_part, operation_in_part}
 use Rattle.mem_net.proofs.parts.Parts.late.Goals as goal

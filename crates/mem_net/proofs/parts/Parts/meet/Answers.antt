@@ -3,12 +3,12 @@ use Rattle.world_rules.specs.declared.asking.Peer.TheVariants.{Surrogate}
 use Rattle.world_rules.specs.World.{Is}
 use Rattle.world_rules.proofs.Asks.{moved_packets}
 use Rattle.cmd_capture.specs.Runs.{telling}
-use Rattle.mem_net.specs.declared.fate.Fate.{Fate}
-use Rattle.mem_net.specs.declared.fate.Fate.TheVariants.{LoseRequest, Old}
-use Rattle.mem_net.specs.Net.{world_of}
+use Rattle.mem_wires.specs.declared.fate.Fate.{Fate}
+use Rattle.mem_wires.specs.declared.fate.Fate.TheVariants.{LoseRequest, Old}
+use Rattle.mem_wires.specs.Wire.{world_of}
 use Rattle.mem_net.specs.Scenes.{scene_of, UnlessMemory, MeetsOperation, OnMemory, IsHandledInPart, handlings}
-use Rattle.mem_net.proofs.Network.{asks_later, lost_once}
-use Rattle.mem_net.proofs.Spent.{takes_then}
+use Rattle.mem_wires.proofs.Steps.{asks_later, lost_once}
+use Rattle.mem_wires.proofs.Spent.{takes_then}
 use Rattle.mem_net.proofs.Meeting.{alone_met, lost_reply_met, twice_met, old_once, beside_quiet, on_memory, stays_met, cut_after}
 use Rattle.mem_net.proofs.parts.Parts.meet.Goals as goal
 

@@ -4,10 +4,10 @@ use Rattle.tree_values.specs.Lists.{IsIn}
 use Rattle.world_rules.specs.World.{Is}
 use Rattle.world_rules.proofs.Asks.{moved_packets}
 use Rattle.cmd_capture.specs.Runs.{telling}
-use Rattle.mem_net.specs.Net.{world_of}
+use Rattle.mem_wires.specs.Wire.{world_of}
 use Rattle.mem_net.specs.Scenes.{scene_of}
-use Rattle.mem_net.specs.Inside.{IsSent}
-use Rattle.mem_net.proofs.Delivering.{sent_among, always, was_sent}
+use Rattle.mem_wires.specs.Underway.{IsSent}
+use Rattle.mem_wires.proofs.Delivering.{sent_among, always, was_sent}
 use Rattle.mem_net.proofs.Reaching.{unsent, cut_sent}
 use Rattle.mem_net.proofs.parts.Parts.reach.Goals as goal
 

@@ -1,9 +1,0 @@
-use Rattle.std.proofs.Common.{length}
-use Rattle.mem_net.specs.Inside.{IsUndecided}
-use Rattle.mem_net.proofs.wires.Wires.decide.Given as goal
-
-abbrev pub invariant-loop-fate : goal.invariant-loop-fate
-invariant-loop-fate l = IsUndecided l.initial.self l.self
-
-abbrev pub decreases-loop-fate : goal.decreases-loop-fate
-decreases-loop-fate l = length l.self.fates

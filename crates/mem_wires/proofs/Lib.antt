@@ -1,0 +1,5 @@
+pub mod Taking
+pub mod Steps
+pub mod Delivering
+pub mod Deciding
+pub mod Spent

@@ -1,0 +1,4 @@
+pub mod Wire
+pub mod Fates
+pub mod Spending
+pub mod Underway

@@ -1,0 +1,11 @@
+//! The wires between one client and one server in memory: every message that was sent is kept, and lost, repeated, delayed
+//! and injected as a list of fates says.
+#![tactic(auto)]
+
+mod fate;
+mod packet;
+mod wires;
+
+pub use fate::Fate;
+pub use packet::Packet;
+pub use wires::Wires;
