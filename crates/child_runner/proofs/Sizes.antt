@@ -1,5 +1,5 @@
 -- The bytes of rows, of which there is one more.
-use Rattle.std.proofs.Common.{◌≡◌, ℕ, ◌+◌, List, [], ◌∷◌, ◌++◌, Some, arith, refl}
+use Rattle.std.proofs.Common.{◌≡◌, ◌+◌, List, [], ◌∷◌, ◌++◌, Some, arith, refl}
 use Rattle.std.proofs.lemmas.List.Sums.{sum_by-append, sum_by-cons}
 use Rattle.tree_values.specs.Tree.{node_size}
 use Rattle.cmd_capture.specs.declared.job.RawRow.{RawRow}

@@ -4,8 +4,6 @@ use Rattle.std.proofs.Common.{take, Err, refl, sym, ap, subst, ◌∙◌, arith,
 use Rattle.std.specs.Int.{w8, w16, w32}
 use Rattle.std.specs.List.{flat_map, list_all, AllByRecursion}
 use Rattle.std.proofs.lemmas.Bool.{le-leb}
-use Rattle.std.proofs.lemmas.List.{drop-take}
-use Rattle.std.proofs.Math.Seq.{take-append-add}
 use Rattle.byte_fields.specs.Field.{Reader, ◌>>=◌, digits, ruled, none, one, number_at, span_at, each_at, limited}
 use Rattle.byte_fields.specs.Field.{passed}
 use Rattle.byte_fields.specs.Codec.{IsCodec}
@@ -19,7 +17,6 @@ use Rattle.file_paths.specs.Limits.{max_file}
 use Rattle.file_paths.specs.Path.{FilePath, IsPath}
 use Rattle.file_paths.specs.Spelling.{path, content}
 use Rattle.file_paths.specs.Reading.{path_at, content_at}
-use Rattle.tree_values.specs.declared.node.Node.{Node}
 use Rattle.tree_values.specs.declared.node.Node.TheVariants.{File}
 use Rattle.file_paths.proofs.Parts.{path_codec, length_refused}
 use Rattle.file_paths.proofs.Sizes.{content_length}

@@ -16,9 +16,9 @@ use Rattle.byte_fields.proofs.Codec.{stands_first, stands_second, found1, again1
 use Rattle.byte_fields.proofs.Codec.{limited_codec, tagged_found, tagged_fault, tagged_again0, tagged_again1, branch0, branch1}
 use Rattle.byte_fields.proofs.Facts.{not_of, or_false_of, two_bytes, no_bytes}
 use Rattle.file_paths.specs.Limits.{max_file}
-use Rattle.file_paths.specs.Path.{FilePath, IsPath, path_text}
+use Rattle.file_paths.specs.Path.{FilePath, IsPath}
 use Rattle.file_paths.specs.Spelling.{path, content}
-use Rattle.file_paths.specs.Reading.{path_at, content_at}
+use Rattle.file_paths.specs.Reading.{path_at}
 use Rattle.tree_values.specs.Tree.{node_size, file_bytes}
 use Rattle.tree_values.specs.declared.node.Node.{Node}
 use Rattle.tree_values.specs.declared.node.Node.TheVariants.{Folder, File}

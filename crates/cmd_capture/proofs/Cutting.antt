@@ -20,7 +20,6 @@ use Rattle.file_paths.specs.Fields.{path_fields, content_fields}
 use Rattle.tree_values.specs.Fields.{node_fields}
 use Rattle.tree_values.specs.declared.node.Node.{Node}
 use Rattle.tree_values.specs.declared.node.Node.TheVariants.{Folder, File}
-use Rattle.file_paths.specs.Reading.{path_at}
 use Rattle.file_paths.proofs.Parts.{path_codec, path_cut, content_cut}
 use Rattle.cmd_capture.specs.Limits.{max_command, max_template}
 use Rattle.cmd_capture.specs.declared.job.Job.{Job}

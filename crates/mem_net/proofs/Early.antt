@@ -4,7 +4,6 @@ use Rattle.std.specs.Prelude.{if◌then◌else◌}
 use Rattle.std.specs.declared.alloc.Global.{Global}
 use Rattle.std.proofs.lemmas.List.{drop-drop}
 use Rattle.wire_frames.specs.declared.message.Message.{Message}
-use Rattle.world_rules.specs.declared.asking.Peer.TheVariants.{Server}
 use Rattle.world_rules.specs.declared.link.LinkError.{LinkError}
 use Rattle.world_rules.specs.declared.link.LinkError.TheVariants.{Failed as LinkFailed, Memory as LinkMemory}
 use Rattle.world_rules.specs.World.{sent}

@@ -1,5 +1,6 @@
 -- The network with its surrogate: what an operation comes to, and what becomes of an ask.
-use Rattle.std.specs.Prelude.{◌≡◌, ◌≢◌, ◌⊎◌, ℕ, codes, zero, suc, true, false, List, [], ◌∷◌, Option, Some, slice_get, Result, Ok, Err, IfOk, Vec}
+use Rattle.std.specs.Prelude.{◌≡◌, ◌≢◌, ◌⊎◌, ℕ, codes, zero, suc, true, false, List, [], ◌∷◌, Option, Some, slice_get, Result, Ok, Err}
+use Rattle.std.specs.Prelude.{IfOk, Vec}
 use Rattle.std.specs.declared.alloc.Global.{Global}
 use Rattle.std.specs.declared.alloc.AllocError.{AllocError}
 use Rattle.outside.specs.Outside.{RoseBy}
@@ -53,7 +54,8 @@ abbrev pub with_fates : List Fate → Scene → Scene
 with_fates fates scene = record { world = scene.world; fates = fates; troubles = scene.troubles; copy = scene.copy; runner = scene.runner }
 
 abbrev pub with_troubles : ℕ → Scene → Scene
-with_troubles troubles scene = record { world = scene.world; fates = scene.fates; troubles = troubles; copy = scene.copy; runner = scene.runner }
+with_troubles troubles scene =
+    record { world = scene.world; fates = scene.fates; troubles = troubles; copy = scene.copy; runner = scene.runner }
 
 -- ---- the surrogate
 
@@ -80,7 +82,8 @@ pub record HasServed (request : Message) (result : Result Message AllocError) (o
 
 -- the operation is handled by the surrogate: it is served, and the reply joins the packets
 abbrev pub IsHandled : Message → Message → Scene → Scene → Type 0
-IsHandled request reply old new = (served : Scene) × HasServed request (Ok reply) old served × (new ≡ with_world (sent reply served.world) served)
+IsHandled request reply old new =
+    (served : Scene) × HasServed request (Ok reply) old served × (new ≡ with_world (sent reply served.world) served)
 
 -- ---- what happens before an ask is decided
 
@@ -120,7 +123,8 @@ noted_in to address request answer scene = with_world (answered to address reque
 -- the operation is handled, and the bytes spell the reply
 abbrev pub IsAnsweredHandled : Peer → List ℕ → Message → Scene → Scene → List ℕ → Type 0
 IsAnsweredHandled to address request old new bytes =
-    (reply : Message) × (handled : Scene) × IsHandled request reply old handled × Spells reply bytes × (new ≡ noted_in to address request (Reply reply) handled)
+    (reply : Message) × (handled : Scene) × IsHandled request reply old handled × Spells reply bytes
+    × (new ≡ noted_in to address request (Reply reply) handled)
 
 -- all but the world and the troubles is as before, and a trouble is counted where the fate is one
 abbrev pub MeetsAlone : Fate → Peer → List ℕ → Message → Scene → Scene → Result (Vec ℕ Global) LinkError → Type 0
@@ -134,7 +138,8 @@ MeetsOperation Pass to address request old new (Ok frame) = IsAnsweredHandled to
 MeetsOperation Twice to address request old new (Ok frame) =
     (first : Message) × (middle : Scene) × IsHandled request first old middle × IsAnsweredHandled to address request middle new frame.items
 MeetsOperation LoseReply to address request old new (Err LinkFailed) =
-    (lost : Message) × (handled : Scene) × IsHandled request lost old handled × MeetsAlone LoseRequest to address request handled new (Err LinkFailed)
+    (lost : Message) × (handled : Scene) × IsHandled request lost old handled
+    × MeetsAlone LoseRequest to address request handled new (Err LinkFailed)
 MeetsOperation LoseRequest to address request old new result = MeetsAlone LoseRequest to address request old new result
 MeetsOperation (Old k) to address request old new result = MeetsAlone (Old k) to address request old new result
 MeetsOperation fate to address request old new result = ⊥
@@ -151,7 +156,8 @@ IsDecided Server fate address request old new result = MeetsAlone fate Server ad
 IsDecided Surrogate fate address request old new result = MeetsOperation fate Surrogate address request old new result
 
 -- A request that was sent reaches the fate that decides it, and is met by it.
-pub record IsMet (to : Peer) (address : List ℕ) (request : Message) (old new : Scene) (result : Result (Vec ℕ Global) LinkError) : Type 0 where
+pub record IsMet (to : Peer) (address : List ℕ) (request : Message) (old new : Scene) (result : Result (Vec ℕ Global) LinkError) :
+    Type 0 where
   pub fate : Fate
   pub reached : Scene
   pub reaches : IsReached (with_world (sent request old.world) old) fate reached
@@ -177,7 +183,8 @@ IsUnhandled request old new = StaysButWorld old new ⊎ ((result : Result Messag
 abbrev pub IsHandledInPart : ℕ → Message → Scene → Scene → Type 0
 IsHandledInPart zero request old new = StaysButWorld old new
 IsHandledInPart (suc count) request old new =
-    IsUnhandled request old new ⊎ ((reply : Message) × (middle : Scene) × IsHandled request reply old middle × IsHandledInPart count request middle new)
+    IsUnhandled request old new ⊎ ((reply : Message) × (middle : Scene) × IsHandled request reply old middle
+    × IsHandledInPart count request middle new)
 
 -- memory ran out while this fate happened: a late operation is left unhandled, or all but the world is as before
 abbrev pub BefallsInPart : Fate → Scene → Scene → Type 0
@@ -196,7 +203,8 @@ AllBefall (suc count) old new =
 -- fates that decide nothing were taken and happened, and while the last of them did memory ran out
 abbrev pub IsCutBefore : Scene → Scene → Type 0
 IsCutBefore old new =
-    (count : ℕ) × (middle taken : Scene) × (fate : Fate) × AllBefall count old middle × IsFrontTaken fate middle taken × BefallsInPart fate taken new
+    (count : ℕ) × (middle taken : Scene) × (fate : Fate) × AllBefall count old middle × IsFrontTaken fate middle taken
+    × BefallsInPart fate taken new
 
 -- how often an operation is handled by the fate that decides its ask; a request to the server is none
 abbrev pub handlings : Peer → Fate → ℕ
@@ -213,7 +221,8 @@ abbrev pub IsCutShort : Peer → Message → Scene → Scene → Type 0
 IsCutShort to request old new =
     let start = with_world (sent request old.world) old in
     (new ≡ old)
-    ⊎ (IsCutBefore start new ⊎ ((fate : Fate) × (reached : Scene) × IsReached start fate reached × IsHandledInPart (handlings to fate) request reached new))
+    ⊎ (IsCutBefore start new ⊎ ((fate : Fate) × (reached : Scene) × IsReached start fate reached
+    × IsHandledInPart (handlings to fate) request reached new))
 
 -- ---- what an ask takes
 

@@ -82,7 +82,8 @@ pub quiet_behind : (xs ys : List Fate) → AreQuiet (xs ++ ys) → AreQuiet ys
 quiet_behind xs ys quiet = λ fate among. quiet fate (in_behind fate xs ys among)
 
 -- what was given stays given in longer moves
-module _ (start old new end : World) (earlier later : List Ask) (before : MovedBy IsAny earlier start old) (after : MovedBy IsAny later new end) where
+module _ (start old new end : World) (earlier later : List Ask) (before : MovedBy IsAny earlier start old)
+    (after : MovedBy IsAny later new end) where
   answer_longer : (request : Message) (answer : Answer) → IsGivenAnswer request answer old new → IsGivenAnswer request answer start end
   answer_longer request (Reply reply) given = record {
     moment = given.moment;
@@ -99,7 +100,8 @@ module _ (start old new end : World) (earlier later : List Ask) (before : MovedB
   given_longer [] given = tt
   given_longer (ask ∷ asks) given = (answer_longer ask.request ask.answer given.0, given_longer asks given.1)
 
-given_append : (first second : List Ask) (old new : World) → AreGiven first old new → AreGiven second old new → AreGiven (first ++ second) old new
+given_append : (first second : List Ask) (old new : World) → AreGiven first old new → AreGiven second old new
+    → AreGiven (first ++ second) old new
 given_append [] second old new a b = b
 given_append (ask ∷ first) second old new a b = (a.0, given_append first second old new a.1 b)
 

@@ -1,5 +1,6 @@
 -- What goes on while an ask is under way: the words of the calls that an ask is made of.
-use Rattle.std.specs.Prelude.{◌≡◌, ◌⊎◌, ℕ, ◌+◌, ◌≤◌, Bool, true, false, List, [], ◌∷◌, ◌++◌, Option, Some, None, Result, Ok, Err, Vec, if◌then◌else◌}
+use Rattle.std.specs.Prelude.{◌≡◌, ◌⊎◌, ℕ, ◌+◌, ◌≤◌, Bool, true, false, List, [], ◌∷◌, ◌++◌, Option, Some, None, Result, Ok, Err, Vec}
+use Rattle.std.specs.Prelude.{if◌then◌else◌}
 use Rattle.std.specs.declared.alloc.Global.{Global}
 use Rattle.wire_frames.specs.declared.message.Message.{Message}
 use Rattle.wire_frames.specs.declared.message.Message.TheVariants.{Store}
@@ -43,7 +44,8 @@ pub record IsFreshSent (to : Peer) (address : List ℕ) (request reply : Message
   pub is : reply ≡ answer request moment.served
 
 abbrev pub IsDirectlySent : Peer → List ℕ → Message → World → World → Result (Vec ℕ Global) LinkError → Type 0
-IsDirectlySent to address request old new (Ok frame) = (reply : Message) × Spells reply frame.items × IsFreshSent to address request reply old new
+IsDirectlySent to address request old new (Ok frame) =
+    (reply : Message) × Spells reply frame.items × IsFreshSent to address request reply old new
 IsDirectlySent to address request old new (Err error) = Unit {0}
 
 -- the fates and the troubles are as before

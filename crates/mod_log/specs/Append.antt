@@ -17,7 +17,8 @@ use Rattle.mod_log.specs.Log.{Log, entry, tree_of, logged}
 
 -- the next entry: its number follows the last, and its base list has the versions of the log's tree
 abbrev pub next_entry : Option Origin → List Effect → Log → Entry
-next_entry origin effects log = record { seq = log.acked + length log.pending + 1; origin = origin; effects = effects; base = base_of effects (tree_of log) }
+next_entry origin effects log =
+    record { seq = log.acked + length log.pending + 1; origin = origin; effects = effects; base = base_of effects (tree_of log) }
 
 -- more than 4,096 effects or 33,554,432 bytes of content
 abbrev pub is_too_large : List Effect → Bool
@@ -44,7 +45,8 @@ refused_effect (Err refusal) = Some (Tree refusal.0 refusal.1)
 abbrev pub append_refusals : Option Origin → List Effect → Log → List (Option LogError)
 append_refusals origin effects log =
     when (is_too_large effects) (EntryTooLarge (length effects) (as_u64 (contents_size effects)))
-    ∷ when (log_has_no_room (next_entry origin effects log) log) (LogFull (length log.pending) (as_u64 (log_size_with (next_entry origin effects log) log)))
+    ∷ when (log_has_no_room (next_entry origin effects log) log)
+    (LogFull (length log.pending) (as_u64 (log_size_with (next_entry origin effects log) log)))
     ∷ when (is_at_last log) LastNumber
     ∷ refused_effect (apply_all 0 effects (tree_of log))
     ∷ []

@@ -13,12 +13,14 @@ use Rattle.mod_log.specs.declared.log.Entry.{Entry}
 
 -- an appended entry is the last of a log that has all else as before, and its effects lead to the new tree
 abbrev pub AppendingAddsAnEntry : Type 0
-AppendingAddsAnEntry = (origin : Option Origin) (effects : List Effect) (log new : Log) → IsLog log → MadeByFits origin → AllByRecursion IsLegalEffect effects → 1 ≤ length effects → appended origin effects log ≡ Ok new
+AppendingAddsAnEntry = (origin : Option Origin) (effects : List Effect) (log new : Log) → IsLog log → MadeByFits origin
+    → AllByRecursion IsLegalEffect effects → 1 ≤ length effects → appended origin effects log ≡ Ok new
     → (new ≡ logged (next_entry origin effects log) log) × IsLog new × (tree_of new ≡ changed_all effects (tree_of log))
 
 -- where a log with an entry behind it is one, appending the entry's origin and effects gives it
 abbrev pub EntriesThatFitAreAppended : Type 0
-EntriesThatFitAreAppended = (log : Log) (entry : Entry) → IsLog (logged entry log) → appended entry.origin entry.effects log ≡ Ok (logged entry log)
+EntriesThatFitAreAppended =
+    (log : Log) (entry : Entry) → IsLog (logged entry log) → appended entry.origin entry.effects log ≡ Ok (logged entry log)
 
 -- acknowledged entries go into the base, and the tree stays
 abbrev pub AcknowledgingKeepsTheTree : Type 0
@@ -40,4 +42,5 @@ LogsHoldTrees = (log : Log) (count : ℕ) → IsLog log → IsTree (tree_after c
 
 -- each pending entry is one of its number, with the versions of just the paths that it touches
 abbrev pub PendingEntriesFit : Type 0
-PendingEntriesFit = (log : Log) (i : ℕ) (d : Entry) → IsLog log → i < length log.pending → EntryFits (log.acked + 1 + i) (slice_index_or log.pending i d)
+PendingEntriesFit =
+    (log : Log) (i : ℕ) (d : Entry) → IsLog log → i < length log.pending → EntryFits (log.acked + 1 + i) (slice_index_or log.pending i d)

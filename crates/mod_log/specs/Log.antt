@@ -47,7 +47,8 @@ pub record IsEntryOf (number : ℕ) (volume : Volume) (entry : Entry) : Type 0 w
 -- each is one of the volume after those before it, numbered on from here
 abbrev pub AreEntriesOf : ℕ → Volume → List Entry → Type 0
 AreEntriesOf number volume [] = Unit {0}
-AreEntriesOf number volume (entry ∷ entries) = IsEntryOf number volume entry × AreEntriesOf (number + 1) (changed_all entry.effects volume) entries
+AreEntriesOf number volume (entry ∷ entries) =
+    IsEntryOf number volume entry × AreEntriesOf (number + 1) (changed_all entry.effects volume) entries
 
 -- what every log keeps
 pub record IsLog (log : Log) : Type 0 where

@@ -55,7 +55,8 @@ sketch_put_at room = two path_at (λ path. sketch_at room) Put
 
 -- each kind of sketched effect with what follows it
 abbrev pub sketch_effect_kinds : ℕ → List (ℕ × Reader SketchEffect)
-sketch_effect_kinds room = (1, one path_at Make) ∷ (2, sketch_put_at room) ∷ (3, one path_at Remove) ∷ (4, two path_at (λ from. path_at) Move) ∷ []
+sketch_effect_kinds room =
+    (1, one path_at Make) ∷ (2, sketch_put_at room) ∷ (3, one path_at Remove) ∷ (4, two path_at (λ from. path_at) Move) ∷ []
 
 -- a sketched effect where there is still room for so many bytes of content
 unfoldable pub sketch_effect_at : ℕ → Reader SketchEffect

@@ -85,15 +85,18 @@ WritesContent effects content = (path : FilePath) × IsIn (Put path content) eff
 
 -- legal effects fill their own sketches
 abbrev pub SketchesAreFilled : Type 0
-SketchesAreFilled = (effects : List Effect) (sketched : List SketchEffect) → AllByRecursion IsLegalEffect effects → AreSketchedAs effects sketched → AllFill sketched effects
+SketchesAreFilled = (effects : List Effect) (sketched : List SketchEffect) → AllByRecursion IsLegalEffect effects
+    → AreSketchedAs effects sketched → AllFill sketched effects
 
 -- only the effects themselves do, where no two contents have one print
 abbrev pub FillingsAreEqual : Type 0
-FillingsAreEqual = (effects others : List Effect) (sketched : List SketchEffect) → AreSketchedAs effects sketched → AllFill sketched others → Distinct (WritesContent effects) (WritesContent others) → others ≡ effects
+FillingsAreEqual = (effects others : List Effect) (sketched : List SketchEffect) → AreSketchedAs effects sketched
+    → AllFill sketched others → Distinct (WritesContent effects) (WritesContent others) → others ≡ effects
 
 -- what fills sketches touches the same paths, and writes as many bytes as they stand for
 abbrev pub FillingsTouchAlike : Type 0
-FillingsTouchAlike = (effects : List Effect) (sketched : List SketchEffect) → AllFill sketched effects → (touched_all effects ≡ sketches_touch sketched) × (contents_size effects ≡ sketched_sizes sketched)
+FillingsTouchAlike = (effects : List Effect) (sketched : List SketchEffect) → AllFill sketched effects
+    → (touched_all effects ≡ sketches_touch sketched) × (contents_size effects ≡ sketched_sizes sketched)
 
 -- effects have one list of sketches
 abbrev pub OneSketchList : Type 0

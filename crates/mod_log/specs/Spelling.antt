@@ -51,8 +51,10 @@ SketchEffectsFit = SketchEffectsFitWithin max_effects max_files
 
 -- what fills sketches that fit, fits
 abbrev pub FillingsFit : Type 0
-FillingsFit = (effects : List Effect) (sketched : List SketchEffect) → SketchEffectsFit sketched → AllFill sketched effects → EffectsFit effects
+FillingsFit =
+    (effects : List Effect) (sketched : List SketchEffect) → SketchEffectsFit sketched → AllFill sketched effects → EffectsFit effects
 
 -- the sketches of effects that fit, fit
 abbrev pub SketchesOfEffectsFit : Type 0
-SketchesOfEffectsFit = (effects : List Effect) (sketched : List SketchEffect) → EffectsFit effects → AreSketchedAs effects sketched → SketchEffectsFit sketched
+SketchesOfEffectsFit =
+    (effects : List Effect) (sketched : List SketchEffect) → EffectsFit effects → AreSketchedAs effects sketched → SketchEffectsFit sketched

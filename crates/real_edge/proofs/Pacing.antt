@@ -1,10 +1,9 @@
 -- Calls that are made again within one window of a connection's time, or two.
-use Rattle.std.proofs.Common.{◌≡◌, ◌≤◌, inl, inr, ℕ, ◌∙◌, List, ◌++◌, take, Option, None, Some, Result, Ok, Err, refl, sym, subst, ap, arith}
+use Rattle.std.proofs.Common.{◌≡◌, inl, inr, ℕ, ◌∙◌, List, ◌++◌, take, Option, None, Some, Result, Ok, Err, refl, sym, subst, ap, arith}
 use Rattle.std.proofs.KnownBytes.{Keeps-trans}
-use Rattle.std.specs.Io.KnownBytes.{Keeps, Appends, Consumes, IsAtEnd, ReadConsumes, WriteAppends}
-use Rattle.std.specs.declared.time.Instant.{Instant}
+use Rattle.std.specs.Io.KnownBytes.{Keeps, Appends, Consumes, ReadConsumes, WriteAppends}
 use Rattle.real_edge.specs.declared.pace.Window.{Window}
-use Rattle.real_edge.specs.Pace.{window_bytes, fresh, limit, spent, after_bytes, LeadsOn}
+use Rattle.real_edge.specs.Pace.{after_bytes, LeadsOn}
 
 -- ---- known bytes
 

@@ -9,7 +9,8 @@ use Rattle.wire_frames.specs.Head.{IsEchoedBy}
 -- one read put so many bytes behind the old ones, and none only at the stream's end
 abbrev pub ReadsBlock : ℕ → Option (List ℕ) → Option (List ℕ) → List ℕ → List ℕ → ℕ → Type 0
 ReadsBlock most before after old new count =
-    (block : List ℕ) × (new ≡ old ++ block) × (length block ≡ count) × (count ≤ most) × Consumes before after block × (count ≡ 0 → IsAtEnd after)
+    (block : List ℕ) × (new ≡ old ++ block) × (length block ≡ count) × (count ≤ most) × Consumes before after block
+    × (count ≡ 0 → IsAtEnd after)
 
 -- these are the first so many of the stream's bytes, where it tells them, or all of them
 abbrev pub IsStreamFront : ℕ → Option (List ℕ) → Option (List ℕ) → List ℕ → Type 0

@@ -74,7 +74,8 @@ HasWaited seconds window = StartsBy (waiting seconds) window × (now : Instant) 
 
 -- the window that holds after one: itself, or where it is over and moved its share, the next one
 abbrev pub LeadsOn : Window → Window → Type 0
-LeadsOn window next = (next ≡ window) ⊎ ((window_bytes ≤ window.moved) × (now : Instant) × (limit window ≤ spent window now) × (next ≡ fresh now))
+LeadsOn window next =
+    (next ≡ window) ⊎ ((window_bytes ≤ window.moved) × (now : Instant) × (limit window ≤ spent window now) × (next ≡ fresh now))
 
 -- a call moved so many bytes in the window that held then, or it failed
 abbrev pub Moves : {E : Type 0} → Result ℕ E → Window → Window → Type 0

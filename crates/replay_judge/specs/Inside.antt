@@ -30,6 +30,7 @@ IsComparison wanted found (OddTree i) = ⊥
 IsComparison wanted found (Mismatch path) = IsFirstMismatch wanted found path
 
 -- what the first places agreed on, and how they and those left make the verdict on all
-pub record Decides (wanted : List SketchEffect) (found : List Effect) (left : List SketchEffect) (left_found agreed : List Effect) : Type 0 where
+pub record Decides (wanted : List SketchEffect) (found : List Effect) (left : List SketchEffect) (left_found agreed : List Effect) :
+    Type 0 where
   pub agrees : (more : List Effect) → AllAgree left left_found more → AllAgree wanted found (agreed ++ more)
   pub differs : (path : FilePath) → IsFirstMismatch left left_found path → IsFirstMismatch wanted found path

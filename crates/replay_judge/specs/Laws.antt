@@ -12,7 +12,8 @@ use Rattle.replay_judge.specs.Judgement.{IsJudgement}
 
 -- an outcome has one judgement, repairs included
 abbrev pub OneJudgement : Type 0
-OneJudgement = (sketched : SketchEntry) (job : Job) (outcome : Outcome) (v w : Verdict) → IsJudgement sketched job outcome v → IsJudgement sketched job outcome w → v ≡ w
+OneJudgement = (sketched : SketchEntry) (job : Job) (outcome : Outcome) (v w : Verdict) → IsJudgement sketched job outcome v
+    → IsJudgement sketched job outcome w → v ≡ w
 
 -- what an entry and a replay agree on has contents of the sketches' lengths and prints
 abbrev pub AgreementsFill : Type 0

@@ -1,5 +1,5 @@
 -- Bytes that end inside a sketch, and sketches that break a rule: the field that is the faulty one.
-use Rattle.std.proofs.Common.{◌≡◌, ℕ, ◌+◌, ◌-◌, ◌<◌, ◌≤◌, ◌^◌, ◌⊎◌, inl, inr, true, min, List, [], ◌∷◌, ◌++◌, length, take, leb, Err, subst, arith, length-append}
+use Rattle.std.proofs.Common.{◌≡◌, ℕ, ◌+◌, ◌-◌, ◌<◌, ◌^◌, ◌⊎◌, inl, inr, true, min, [], ◌∷◌, ◌++◌, length, take, Err, subst, arith, length-append}
 use Rattle.std.specs.Int.{w16, w32}
 use Rattle.std.specs.List.{flat_map, AllByRecursion}
 use Rattle.byte_fields.specs.Field.{digits, number_at, span_at, ruled, two}
@@ -15,8 +15,7 @@ use Rattle.rs_parity.specs.Blocks.{blocks_in, IsCheck}
 use Rattle.rs_parity.specs.Spelling.{parity_spelling, sketch_spelling, SketchFits, parity_at, parities_at, sketch_at}
 use Rattle.rs_parity.specs.Fields.{parity_fields, sketch_fields}
 use Rattle.rs_parity.specs.Broken.{BrokenSketches}
-use Rattle.rs_parity.proofs.Spelled.{elements_to, checks_to, parity_codec, parities_codec, within, len_codec, len_fits, sketch_of_parts}
-use Rattle.rs_parity.specs.declared.sketch.Sketch.{Sketch}
+use Rattle.rs_parity.proofs.Spelled.{elements_to, checks_to, parity_codec, within, len_codec, len_fits, sketch_of_parts}
 
 parity_cut : IsCut parity_at parity_spelling parity_fields IsCheck
 unfolding parity_at parity_spelling

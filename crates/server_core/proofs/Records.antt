@@ -1,5 +1,5 @@
 -- Records behind what is kept of a server.
-use Rattle.std.proofs.Common.{◌≡◌, ◌≤◌, ◌<◌, ◌+◌, ◌-◌, ◌⊎◌, inl, inr, ℕ, Bool, true, false, List, [], ◌∷◌, ◌++◌, length, map, take, set, None, Ok, refl, sym, ◌∙◌, ap, subst, arith, true≢false}
+use Rattle.std.proofs.Common.{◌≡◌, ◌≤◌, ◌<◌, ◌+◌, ◌-◌, ◌⊎◌, inl, inr, ℕ, true, false, List, [], ◌∷◌, length, map, None, Ok, refl, sym, ◌∙◌, ap, subst, arith, true≢false}
 use Rattle.std.specs.Prelude.{is_some, nat_le, option_to_list}
 use Rattle.std.proofs.lemmas.List.{length-set}
 use Rattle.byte_fields.proofs.Facts.{and_of, le_of}
@@ -10,17 +10,17 @@ use Rattle.tree_values.specs.Effects.{apply_all, changed_all}
 use Rattle.vol_tree.proofs.Behind.{applied-changes}
 use Rattle.store_image.specs.declared.image.ServerImage.{ServerImage}
 use Rattle.store_image.specs.declared.record.ServerRecord.{ServerRecord}
-use Rattle.store_image.specs.Records.{server_record, last_of, with_taken, with_all_taken, IsTakenOf}
+use Rattle.store_image.specs.Records.{with_taken, with_all_taken, IsTakenOf}
 use Rattle.store_image.specs.Image.{IsKeptWholeForServer}
 use Rattle.store_image.proofs.Appended.{records_are_appended, cut_records_are_torn}
 use Rattle.wire_frames.specs.Frame.{IsValid}
 use Rattle.wire_frames.specs.declared.message.Message.{Message}
 use Rattle.wire_frames.specs.declared.message.Message.TheVariants.{Store}
 use Rattle.world_rules.specs.Served.{Served, state_after, taken_of, with_last}
-use Rattle.server_core.specs.Holding.{Holding, last_number, served}
+use Rattle.server_core.specs.Holding.{last_number, served}
 use Rattle.server_core.specs.Framing.{is_any}
 use Rattle.server_core.specs.Inside.{record_of_store}
-use Rattle.server_core.specs.Keeping.{holding_of, IsKeptForServed, IsKeptWholeForServed, Leads, NoteLeads, record_of_taken, WholeIsKept, RecordsLeadOn, TornRecordsAreDropped}
+use Rattle.server_core.specs.Keeping.{holding_of, Leads, NoteLeads, record_of_taken, WholeIsKept, RecordsLeadOn, TornRecordsAreDropped}
 use Rattle.server_core.proofs.Many.{IsIdle, IsTaken, idle_or_taken}
 use Rattle.server_core.proofs.Numbers.{served-raised}
 

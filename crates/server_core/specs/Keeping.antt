@@ -84,5 +84,6 @@ RecordsLeadOn = (before after : Served) (note : ServerRecord) (bytes : List ℕ)
 
 -- with a front of the record behind it, it is still kept for the state before the record
 abbrev pub TornRecordsAreDropped : Type 0
-TornRecordsAreDropped = (before after : Served) (note : ServerRecord) (bytes : List ℕ) (count : ℕ) → IsKeptWholeForServed before bytes → Leads note before after
+TornRecordsAreDropped =
+    (before after : Served) (note : ServerRecord) (bytes : List ℕ) (count : ℕ) → IsKeptWholeForServed before bytes → Leads note before after
     → count < length (server_record note) → IsKeptForServed before (bytes ++ take count (server_record note))

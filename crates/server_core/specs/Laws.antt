@@ -119,7 +119,8 @@ VersionsCountTouches = (messages : List Message) (served : Served) (path : FileP
 
 -- messages do what the entries that are taken of them do
 abbrev pub TakenEntriesTellTheState : Type 0
-TakenEntriesTellTheState = (messages : List Message) (served : Served) → state_after_all messages served ≡ replay (taken_among messages served) served
+TakenEntriesTellTheState =
+    (messages : List Message) (served : Served) → state_after_all messages served ≡ replay (taken_among messages served) served
 
 -- ---- frames
 

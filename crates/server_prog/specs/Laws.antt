@@ -12,12 +12,14 @@ abbrev pub IsWhole : ℕ → Type 0
 IsWhole status = (status ≡ 0) ⊎ (status ≡ 4)
 
 abbrev pub FallsAreBounded : Type 0
-FallsAreBounded = (count status : ℕ) (old new : ServerTelling) (written now : Option (List ℕ)) → ServerRan count status old new written now → HasFallen count (IsWhole status) old.port new.port
+FallsAreBounded = (count status : ℕ) (old new : ServerTelling) (written now : Option (List ℕ))
+    → ServerRan count status old new written now → HasFallen count (IsWhole status) old.port new.port
 
 -- at status 5 or 7 the connection at hand may be without an answer and without a fault; at status 0 the last line was written
 abbrev pub FramesAreCounted : Type 0
 FramesAreCounted = (count status : ℕ) (old new : ServerTelling) (written now : Option (List ℕ)) (talks : List Talk)
-    → ServerRan count status old new written now → HasTalks talks old.port new.port → IsTold (IsWhole status) (status ≡ 0) talks old.port new.port written now
+    → ServerRan count status old new written now → HasTalks talks old.port new.port
+    → IsTold (IsWhole status) (status ≡ 0) talks old.port new.port written now
 
 -- nothing was taken, and what is kept is as before
 pub record IsNothingTaken (status : ℕ) (taken : List (List ℕ)) (old new : Option (List ℕ)) : Type 0 where
@@ -36,9 +38,12 @@ pub record IsKeptBefore (status : ℕ) (taken : List (List ℕ)) (first : Served
 -- What is kept at the end of a run is the state after the taken frames, and as before where none of them changed it. At status
 -- 5 or 7 the change of the frame at hand may be missing.
 abbrev pub KeptImagesAreServed : Type 0
-KeptImagesAreServed = (count status : ℕ) (old new : ServerTelling) (written now : Option (List ℕ)) (talks : List Talk) (o n : Option (List ℕ))
+KeptImagesAreServed =
+    (count status : ℕ) (old new : ServerTelling) (written now : Option (List ℕ)) (talks : List Talk) (o n : Option (List ℕ))
     → ServerRan count status old new written now → HasTalks talks old.port new.port → old.kept ≡ Some o → new.kept ≡ Some n
-    → IsNothingTaken status (frames_of talks) o n ⊎ ((first : Served) × KeepsServed o first × (IsKeptAfter (frames_of talks) first o n ⊎ IsKeptBefore status (frames_of talks) first o n))
+    → IsNothingTaken status (frames_of talks) o n
+    ⊎ ((first : Served) × KeepsServed o first
+    × (IsKeptAfter (frames_of talks) first o n ⊎ IsKeptBefore status (frames_of talks) first o n))
 
 -- Where serving came to its end, what is kept is an image for the state after the first of the taken frames that changed it,
 -- and behind it one record of each later one, in order, where these have at most as many bytes as a run appends. It is as

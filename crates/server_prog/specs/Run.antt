@@ -25,7 +25,8 @@ server_status_of (Err Memory) = code statuses.NoMemory
 -- the statuses that a run may give
 abbrev pub is_server_status : ℕ → Bool
 is_server_status status =
-    list_any (λ known. code known == status) (statuses.Done ∷ statuses.NoForm ∷ statuses.SinkFailed ∷ statuses.KeeperFailed ∷ statuses.OtherImage ∷ statuses.NoMemory ∷ [])
+    list_any (λ known. code known == status)
+    (statuses.Done ∷ statuses.NoForm ∷ statuses.SinkFailed ∷ statuses.KeeperFailed ∷ statuses.OtherImage ∷ statuses.NoMemory ∷ [])
 
 -- those that the program may end with: one more where it cannot listen
 abbrev pub is_exit : ℕ → Bool
@@ -41,7 +42,8 @@ OpensNone kept = IfSome kept (λ image. (state : Served) → KeepsServed image s
 
 -- serving came to its end: as many connections were used up as the words say, or none is left; the first change is kept by an
 -- image, and each later one by its record
-pub record ServerIsServed (count : ℕ) (first : Served) (connections : List Connection) (after : Served) (old new : ServerTelling) : Type 0 where
+pub record ServerIsServed (count : ℕ) (first : Served) (connections : List Connection) (after : Served) (old new : ServerTelling) :
+    Type 0 where
   pub opens : Opens old.kept first
   pub port : UsesAll count connections old.port new.port
   pub serves : ServesConnections connections first after old.kept new.kept
@@ -49,7 +51,8 @@ pub record ServerIsServed (count : ℕ) (first : Served) (connections : List Con
 
 -- serving was broken off at a connection for want of memory, or by a fault of the keeper: its frame, where it was taken, is not
 -- answered, and what is kept has its change or not
-pub record IsBrokenOff (count : ℕ) (first : Served) (connections : List Connection) (after : Served) (old new : ServerTelling) : Type 0 where
+pub record IsBrokenOff (count : ℕ) (first : Served) (connections : List Connection) (after : Served) (old new : ServerTelling) :
+    Type 0 where
   pub opens : Opens old.kept first
   pub frames : List (List ℕ)
   pub port : UsesFront count connections frames old.port new.port
@@ -75,15 +78,18 @@ StopsInServing count old new written now =
 -- what a run did by how it ended
 abbrev pub ServerRun : ℕ → ServerTelling → ServerTelling → Option (List ℕ) → Option (List ℕ) → Result (Unit {0}) Stopped → Type 0
 ServerRun count old new written now (Ok done) =
-    (first : Served) × (connections : List Connection) × (after : Served) × ServerIsServed count first connections after old new × Adds written now (served_line_of connections)
+    (first : Served) × (connections : List Connection) × (after : Served) × ServerIsServed count first connections after old new
+    × Adds written now (served_line_of connections)
 ServerRun count old new written now (Err Sink) = StopsInLine count old new written now
 ServerRun count old new written now (Err Keeper) = StopsBefore old new written now ⊎ StopsInServing count old new written now
 ServerRun count old new written now (Err Image) = StopsBefore old new written now × OpensNone old.kept
-ServerRun count old new written now (Err Memory) = StopsBefore old new written now ⊎ (StopsInLine count old new written now ⊎ StopsInServing count old new written now)
+ServerRun count old new written now (Err Memory) =
+    StopsBefore old new written now ⊎ (StopsInLine count old new written now ⊎ StopsInServing count old new written now)
 
 -- a run that gave this status
 abbrev pub ServerRan : ℕ → ℕ → ServerTelling → ServerTelling → Option (List ℕ) → Option (List ℕ) → Type 0
-ServerRan count status old new written now = (ended : Result (Unit {0}) Stopped) × (status ≡ server_status_of ended) × ServerRun count old new written now ended
+ServerRan count status old new written now =
+    (ended : Result (Unit {0}) Stopped) × (status ≡ server_status_of ended) × ServerRun count old new written now ended
 
 -- what a port, a keeper and a sink tell
 pub record Objects : Type 0 where
@@ -109,5 +115,7 @@ pub record Ends (words : List (List ℕ)) (status : ℕ) (old new : Objects) : T
   pub sink : RisesWhere (status ≡ 4) old.sink_faults new.sink_faults
   pub keeper : RisesWhere (status ≡ 5) old.keeper_faults new.keeper_faults
   pub complete :
-      IfSome (server_run_of words) (λ run. (Rose old.sink_faults new.sink_faults → ⊥) → (Rose old.keeper_faults new.keeper_faults → ⊥) → (status ≡ 0) ⊎ ((status ≡ 6) ⊎ (status ≡ 7)))
-  pub served : IfSome (server_run_of words) (λ run. ServerRan run.count status (told_of run.image old) (told_of run.image new) old.written new.written)
+      IfSome (server_run_of words) (λ run. (Rose old.sink_faults new.sink_faults → ⊥)
+      → (Rose old.keeper_faults new.keeper_faults → ⊥) → (status ≡ 0) ⊎ ((status ≡ 6) ⊎ (status ≡ 7)))
+  pub served : IfSome (server_run_of words)
+      (λ run. ServerRan run.count status (told_of run.image old) (told_of run.image new) old.written new.written)

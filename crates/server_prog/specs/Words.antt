@@ -20,5 +20,6 @@ with_count address image (Some count) = Some (record { address = address; image 
 
 -- what `run LISTEN IMAGE COUNT` says; any other words are of no form
 abbrev pub server_run_of : List (List ℕ) → Option ServerInvocation
-server_run_of (run ∷ address ∷ image ∷ count ∷ []) = if is_server_run run address image then with_count address image (count_of count) else None
+server_run_of (run ∷ address ∷ image ∷ count ∷ []) =
+    if is_server_run run address image then with_count address image (count_of count) else None
 server_run_of words = None

@@ -1,5 +1,5 @@
 -- Bytes that are cut at each place of one byte, and joined by it again.
-use Rattle.std.proofs.Common.{◌≡◌, ℕ, List, [], ◌∷◌, ◌++◌, Bool, true, false, not, ◌&&◌, ◌||◌, ◌==◌, arith, refl, ap, ◌∙◌}
+use Rattle.std.proofs.Common.{◌≡◌, ℕ, List, [], ◌∷◌, ◌++◌, Bool, true, false, not, ◌||◌, ◌==◌, refl, ap, ◌∙◌}
 use Rattle.std.specs.List.{slice_split, onto_first, join_with_byte, list_any, list_all}
 use Rattle.std.proofs.lemmas.List.Splits.{slice_split-cons_yes, slice_split-cons_no}
 use Rattle.byte_fields.proofs.Facts.{eq_itself, and_of}

@@ -1,5 +1,5 @@
 -- The laws of a client's records that break a rule.
-use Rattle.std.proofs.Common.{◌≡◌, ◌≢◌, ◌⊎◌, ℕ, zero, suc, ◌+◌, ◌-◌, ◌^◌, ◌<◌, ◌≤◌, false, List, [], ◌∷◌, ◌++◌, length, take, Ok, Err, inl, inr, refl, sym, ap, subst, ◌∙◌, arith, lit<, append_assoc, length-append}
+use Rattle.std.proofs.Common.{◌≡◌, ◌⊎◌, ℕ, zero, suc, ◌+◌, ◌-◌, ◌^◌, ◌<◌, ◌≤◌, false, List, [], ◌∷◌, ◌++◌, length, take, Ok, Err, inl, inr, refl, sym, ap, subst, ◌∙◌, arith, lit<, append_assoc, length-append}
 use Rattle.std.specs.Prelude.{nat_lt, nat_le, sum}
 use Rattle.std.specs.Int.{w32, w64}
 use Rattle.std.specs.Str.{bytes_eq}
@@ -25,15 +25,14 @@ use Rattle.store_image.specs.declared.image.ImageError.TheVariants.{BadImage}
 use Rattle.store_image.specs.declared.record.ClientRecord.{ClientRecord}
 use Rattle.store_image.specs.declared.record.ClientRecord.TheVariants.{Logged, Acked}
 use Rattle.store_image.specs.Reading.{next_entry_at, server_mark, client_at}
-use Rattle.store_image.specs.Spelling.{client, ClientFits}
+use Rattle.store_image.specs.Spelling.{client}
 use Rattle.store_image.specs.Fields.{client_note_fields}
-use Rattle.store_image.specs.Records.{behind_records, client_note, client_record, client_records, client_kinds, client_record_at, client_records_within, client_records_at, is_pending, has_room, with_record, with_records, AreNotes}
+use Rattle.store_image.specs.Records.{behind_records, client_note, client_record, client_records, client_kinds, client_record_at, client_records_within, client_records_at, is_pending, has_room, with_record, with_records}
 use Rattle.store_image.specs.Image.{kept_client_at, kept_client_of, IsKeptWholeFor}
 use Rattle.store_image.specs.BrokenRecords.{IsRefusedClientRecord, ComesNext, BrokenClientRecords}
 use Rattle.store_image.proofs.Images.{client_made, client_codec}
-use Rattle.store_image.proofs.Entries.{NextFits}
 use Rattle.store_image.proofs.Notes.{NoteFits, note_codec, RecordFits, client_record_codec, notes_again, log_after_all}
-use Rattle.store_image.proofs.Records.{record_length, more_than_records}
+use Rattle.store_image.proofs.Records.{more_than_records}
 use Rattle.store_image.proofs.Cuts.{next_entry_cut}
 use Rattle.store_image.proofs.Breaking.{whole_refused}
 use Rattle.store_image.proofs.BreakingLists.{first_fails}

@@ -1,22 +1,20 @@
 -- The laws of a server's records that break a rule.
-use Rattle.std.proofs.Common.{◌≡◌, ◌⊎◌, ℕ, ◌+◌, ◌-◌, ◌^◌, ◌<◌, ◌≤◌, true, false, ◌&&◌, leb, List, [], ◌∷◌, ◌++◌, length, take, Ok, Err, refl, sym, ap, subst, ◌∙◌, arith, lit<, append_assoc, length-append}
-use Rattle.std.specs.Prelude.{nat_lt, sum}
+use Rattle.std.proofs.Common.{◌≡◌, ◌⊎◌, ℕ, ◌+◌, ◌^◌, ◌<◌, ◌≤◌, false, ◌&&◌, leb, List, [], ◌∷◌, ◌++◌, length, take, Ok, Err, refl, sym, ap, subst, ◌∙◌, arith, lit<, append_assoc, length-append}
+use Rattle.std.specs.Prelude.{nat_lt}
 use Rattle.std.specs.Int.{w8, w32, w64}
 use Rattle.std.specs.Str.{bytes_eq}
 use Rattle.std.specs.List.{flat_map}
 use Rattle.std.proofs.lemmas.Bool.{le-leb}
 use Rattle.byte_fields.specs.Field.{Reader, ◌>>=◌, digits, limited, ruled, number_at, tagged_at}
 use Rattle.byte_fields.specs.Numbers.{as_u32}
-use Rattle.byte_fields.specs.Codec.{Stands}
 use Rattle.byte_fields.specs.Cuts.{start_of, IsCut}
-use Rattle.byte_fields.specs.Broken.{IsRefused, IsRead}
+use Rattle.byte_fields.specs.Broken.{IsRefused}
 use Rattle.byte_fields.specs.Records.{framed, framed_at}
-use Rattle.byte_fields.proofs.Codec.{u8_codec, u64_codec, ruled_codec, stands_second}
+use Rattle.byte_fields.proofs.Codec.{u8_codec, u64_codec}
 use Rattle.byte_fields.proofs.Facts.{lt_holds, lt_fails, le_holds, eight_bytes, sum_more}
 use Rattle.byte_fields.proofs.Cutting.{u64_cut, ruled_cut, three_cut}
 use Rattle.byte_fields.proofs.Tails.{framed_refused, left_refused, all_refused}
 use Rattle.byte_fields.proofs.Breaking.{read_again, refused_there, rule_refused, first_refused, later_refused, tagged_refused, unknown_kind}
-use Rattle.tree_values.specs.declared.node.Effect.{Effect}
 use Rattle.tree_values.specs.Spelling.{effect, effects}
 use Rattle.tree_values.specs.Fields.{effects_fields}
 use Rattle.store_image.specs.declared.image.ImageError.TheVariants.{BadImage}
@@ -29,7 +27,6 @@ use Rattle.store_image.specs.Records.{behind_records, server_note, server_record
 use Rattle.store_image.specs.Image.{kept_server_at, server_of, IsKeptWholeForServer}
 use Rattle.store_image.specs.BrokenRecords.{IsRefusedServerRecord, IsLaterEntry, BrokenServerRecords}
 use Rattle.store_image.proofs.Images.{number_codec, server_codec}
-use Rattle.store_image.proofs.Growing.{applied_effects_codec}
 use Rattle.store_image.proofs.Taken.{body, later_codec, taken_note_codec, are_framed}
 use Rattle.store_image.proofs.Cuts.{number_cut, applied_effects_cut, version_cut}
 use Rattle.store_image.proofs.Breaking.{wrong_client, whole_refused}

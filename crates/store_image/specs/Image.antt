@@ -12,7 +12,8 @@ use Rattle.store_image.specs.declared.record.ClientRecord.{ClientRecord}
 use Rattle.store_image.specs.declared.record.ServerRecord.{ServerRecord}
 use Rattle.store_image.specs.Reading.{client_mark, server_mark, client_at, server_at}
 use Rattle.store_image.specs.Spelling.{client, ClientFits, server, ServerFits}
-use Rattle.store_image.specs.Records.{IsTorn, behind_records, client_records_at, client_records, with_record, with_records, AreNotes, server_records_at, server_records, with_taken, with_all_taken, AreTakenOf}
+use Rattle.store_image.specs.Records.{IsTorn, behind_records, client_records_at, client_records, with_record, with_records, AreNotes}
+use Rattle.store_image.specs.Records.{server_records_at, server_records, with_taken, with_all_taken, AreTakenOf}
 
 -- what was read, or the first faulty field
 abbrev pub read_of : {A : Type 0} → Result (A × ℕ) ℕ → Result A ImageError

@@ -1,5 +1,6 @@
 -- Records behind an image: how each is spelled, when it may come, what it makes of the state, and how it is read.
-use Rattle.std.specs.Prelude.{◌≡◌, ℕ, zero, suc, ◌+◌, ◌-◌, ◌^◌, ◌<◌, ◌≤◌, nat_lt, nat_le, not, ◌&&◌, ◌||◌, Bool, true, List, [], ◌∷◌, ◌++◌, length, set, slice_index_or, Ok, if◌then◌else◌}
+use Rattle.std.specs.Prelude.{◌≡◌, ℕ, zero, suc, ◌+◌, ◌-◌, ◌^◌, ◌<◌, ◌≤◌, nat_lt, nat_le, not, ◌&&◌, ◌||◌, Bool, true, List, [], ◌∷◌, ◌++◌}
+use Rattle.std.specs.Prelude.{length, set, slice_index_or, Ok, if◌then◌else◌}
 use Rattle.std.specs.Int.{w8, w64}
 use Rattle.std.specs.List.{flat_map}
 use Rattle.byte_fields.specs.Field.{Reader, ◌>>=◌, one, three, ruled, digits, number_at, tagged_at, passed, EachFits}
@@ -141,7 +142,8 @@ made_taken client last effects = record { client = client; last = last; effects 
 
 -- the client, a number above its last one, and effects that apply
 unfoldable pub taken_at : ServerImage → Reader ServerRecord
-taken_at image = three (ruled (λ n. nat_le 1 n && nat_le n 64) (number_at w8)) (λ client. ruled (λ n. nat_lt (last_of image client) n) (number_at w64)) (λ _ _. applied_effects_at image.tree) made_taken
+taken_at image = three (ruled (λ n. nat_le 1 n && nat_le n 64) (number_at w8))
+    (λ client. ruled (λ n. nat_lt (last_of image client) n) (number_at w64)) (λ _ _. applied_effects_at image.tree) made_taken
 
 -- the one kind of records
 abbrev pub server_kinds : ServerImage → List (ℕ × Reader ServerRecord)

@@ -16,10 +16,12 @@ use Rattle.surrogate_core.specs.Serving.{MayAsk}
 -- where the operation of the world's client stood in the packets, the world went on alone
 abbrev pub HandlingsMoveAlone : Type 0
 HandlingsMoveAlone = (client : ℕ) (sketched : SketchEntry) (asks : List Ask) (old new : World) → IsValid (messages.Operate client sketched)
-    → (client ≡ old.client → IsIn (messages.Operate client sketched) old.packets) → MovedBy (MayAsk client sketched) asks old new → MovedAlone asks old new
+    → (client ≡ old.client → IsIn (messages.Operate client sketched) old.packets) → MovedBy (MayAsk client sketched) asks old new
+    → MovedAlone asks old new
 
 -- the answer is one that a surrogate may send then
 abbrev pub RepliesAreFree : Type 0
-RepliesAreFree = (server work : List ℕ) (copy after : Volume) (client : ℕ) (sketched : SketchEntry) (runs : List Run) (asks : List Ask) (reply : Message) (world : World)
+RepliesAreFree = (server work : List ℕ) (copy after : Volume) (client : ℕ) (sketched : SketchEntry) (runs : List Run)
+    (asks : List Ask) (reply : Message) (world : World)
     → (client ≡ world.client → IsIn (messages.Operate client sketched) world.packets) → AnswersStand world asks
     → Handling server work copy client sketched runs asks reply after → IsValid reply → IsFree world reply

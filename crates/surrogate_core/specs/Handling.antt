@@ -1,5 +1,6 @@
 -- How an operation is handled, step by step, and a whole handling as a chain of rounds.
-use Rattle.std.specs.Prelude.{◌≡◌, ◌⊎◌, ℕ, ◌-◌, Bool, true, false, List, [], ◌∷◌, ◌++◌, find, Option, None, Some, Result, Ok, Err, if◌then◌else◌}
+use Rattle.std.specs.Prelude.{◌≡◌, ◌⊎◌, ℕ, ◌-◌, Bool, true, false, List, [], ◌∷◌, ◌++◌, find, Option, None, Some, Result, Ok, Err}
+use Rattle.std.specs.Prelude.{if◌then◌else◌}
 use Rattle.std.specs.List.{flat_map}
 use Rattle.std.specs.Str.{bytes_eq}
 use Rattle.sha2.specs.Sha256.{sha256}
@@ -22,9 +23,11 @@ use Rattle.replay_judge.specs.declared.verdict.Verdict.{Verdict}
 use Rattle.replay_judge.specs.declared.verdict.Verdict.TheVariants as verdicts
 use Rattle.wire_frames.specs.Frame.{IsValid, Echoes}
 use Rattle.wire_frames.specs.declared.cause.Cause.{Cause}
-use Rattle.wire_frames.specs.declared.cause.Cause.TheVariants.{OtherJob, NoJob, NoServer, NotRun, Status, OddTree, Mismatch, Clash, NotFit, Refused, NoMemory}
+use Rattle.wire_frames.specs.declared.cause.Cause.TheVariants.{OtherJob, NoJob, NoServer, NotRun, Status, OddTree, Mismatch, Clash, NotFit}
+use Rattle.wire_frames.specs.declared.cause.Cause.TheVariants.{Refused, NoMemory}
 use Rattle.wire_frames.specs.declared.message.Message.{Message}
-use Rattle.wire_frames.specs.declared.message.Message.TheVariants.{Store, Operate, Pull, Stale, Unfit, Gap, Snapshot, Done, Declined, Full, Malformed}
+use Rattle.wire_frames.specs.declared.message.Message.TheVariants.{Store, Operate, Pull, Stale, Unfit, Gap, Snapshot, Done, Declined, Full}
+use Rattle.wire_frames.specs.declared.message.Message.TheVariants.{Malformed}
 use Rattle.world_rules.specs.Asking.{IsRequest}
 use Rattle.world_rules.specs.Settling.{IsSettling, BreaksSettling}
 use Rattle.world_rules.specs.declared.asking.Peer.TheVariants.{Server}
@@ -134,7 +137,8 @@ after_verdict copy client sketched (Err cause) = declining copy client sketched.
 abbrev pub AfterRun : Volume → ℕ → SketchEntry → Job → Option Outcome → Reaction → Type 0
 AfterRun copy client sketched job None reaction = reaction ≡ declining copy client sketched.seq NotRun
 AfterRun copy client sketched job (Some outcome) reaction =
-    (verdict : Verdict) × IsJudgement sketched job outcome verdict × (reaction ≡ after_verdict copy client sketched (held_by copy job verdict))
+    (verdict : Verdict) × IsJudgement sketched job outcome verdict
+    × (reaction ≡ after_verdict copy client sketched (held_by copy job verdict))
 
 -- Where the copy has no such job a snapshot is asked for, unless the copy is one of this handling (`pulled`).
 abbrev pub AfterJob : Bool → Volume → ℕ → SketchEntry → Result Job Cause → Option Outcome → Reaction → Type 0
@@ -150,10 +154,12 @@ runs_of_job work (Ok job) (Some outcome) = record { work = work; job = job; outc
 runs_of_job work job ran = []
 
 -- The operation is tried on the copy, with these runs: as said above, or memory was wanted.
-pub record Tries (pulled : Bool) (copy : Volume) (client : ℕ) (sketched : SketchEntry) (work : List ℕ) (runs : List Run) (reaction : Reaction) : Type 0 where
+pub record Tries (pulled : Bool) (copy : Volume) (client : ℕ) (sketched : SketchEntry) (work : List ℕ) (runs : List Run)
+    (reaction : Reaction) : Type 0 where
   pub ran : Option Outcome
   pub runs_are : runs ≡ runs_of_job work (job_for copy sketched) ran
-  pub came : AfterJob pulled copy client sketched (job_for copy sketched) ran reaction ⊎ (reaction ≡ declining copy client sketched.seq NoMemory)
+  pub came : AfterJob pulled copy client sketched (job_for copy sketched) ran reaction
+      ⊎ (reaction ≡ declining copy client sketched.seq NoMemory)
 
 -- An operation is tried on the surrogate's copy; any other message is not for a surrogate.
 abbrev pub Operates : Volume → List ℕ → Message → List Run → Reaction → Type 0
@@ -179,7 +185,8 @@ closed copy client number before (Some kind) = declining before client number (R
 abbrev pub Expects : Phase → Message → Type 0
 Expects Idle reply = ⊥
 Expects (Fetching client sketched) reply = IsValid reply × Echoes (Pull client (sketched.seq - 1)) reply
-Expects (Holding client number before) reply = IsValid reply × ((effects : List Effect) × (base : List Base) × Echoes (Store client number effects base) reply)
+Expects (Holding client number before) reply =
+    IsValid reply × ((effects : List Effect) × (base : List Base) × Echoes (Store client number effects base) reply)
 
 -- What a reply comes to. A snapshot is the copy from here on, unless memory is wanted for it.
 abbrev pub HandlesReply : Phase → Volume → Message → List ℕ → List Run → Reaction → Type 0
@@ -213,7 +220,8 @@ abbrev pub IsRound : List ℕ → List ℕ → Reaction → Round → Type 0
 IsRound server work before round = by before.step
   where
     by : Step → Type 0
-    by (steps.Ask request) = IsSettling Server server request round.came round.asks × HandlesCome before.after round.came work round.runs round.after
+    by (steps.Ask request) = IsSettling Server server request round.came round.asks
+        × HandlesCome before.after round.came work round.runs round.after
     by (steps.Answer reply) = ⊥
 
 -- rounds, one after the other
@@ -222,7 +230,8 @@ GoesOn server work first [] last = last ≡ first
 GoesOn server work first (round ∷ rounds) last = IsRound server work first round × GoesOn server work round.after rounds last
 
 -- The handling of an operation up to some step: with these runs and asks, in order.
-pub record Handled (server work : List ℕ) (copy : Volume) (client : ℕ) (sketched : SketchEntry) (runs : List Run) (asks : List Ask) (last : Reaction) : Type 0 where
+pub record Handled (server work : List ℕ) (copy : Volume) (client : ℕ) (sketched : SketchEntry) (runs : List Run) (asks : List Ask)
+    (last : Reaction) : Type 0 where
   pub first_runs : List Run
   pub first : Reaction
   pub begins : Tries false copy client sketched work first_runs first
@@ -236,7 +245,8 @@ abbrev pub Handling : List ℕ → List ℕ → Volume → ℕ → SketchEntry �
 Handling server work copy client sketched runs asks reply after = Handled server work copy client sketched runs asks (answering after reply)
 
 -- a handling that was broken off in a settling, since memory was wanted: what was open is taken back
-pub record BreaksHandling (server work : List ℕ) (copy : Volume) (client : ℕ) (sketched : SketchEntry) (runs : List Run) (asks : List Ask) (after : Volume) : Type 0 where
+pub record BreaksHandling (server work : List ℕ) (copy : Volume) (client : ℕ) (sketched : SketchEntry) (runs : List Run)
+    (asks : List Ask) (after : Volume) : Type 0 where
   pub earlier : List Ask
   pub machine : Machine
   pub request : Message

@@ -26,7 +26,8 @@ use Rattle.surrogate_core.specs.declared.step.Step.TheVariants as steps
 use Rattle.surrogate_core.specs.declared.machine.State.{State}
 use Rattle.surrogate_core.specs.declared.machine.State.TheVariants.{Idle as IsIdle, Fetching as IsFetching, Holding as IsHolding}
 use Rattle.surrogate_core.specs.declared.replaying.Held.{Held}
-use Rattle.surrogate_core.specs.Handling.{Held as HeldEffects, Phase, Idle, Fetching, Holding, Reaction, Round, IsRound, Handled, held_by, runs_of_job}
+use Rattle.surrogate_core.specs.Handling.{Held as HeldEffects, Phase, Idle, Fetching, Holding, Reaction, Round, IsRound, Handled, held_by}
+use Rattle.surrogate_core.specs.Handling.{runs_of_job}
 use Rattle.surrogate_core.specs.Serving.{MayAsk, failed_step}
 
 -- ---- the machine's fields
@@ -68,14 +69,16 @@ IsHeld old new wanted (Ok held) = (wanted ≡ Ok (record { effects = held.effect
 IsHeld old new wanted (Err cause) = (wanted ≡ Err cause) × (new ≡ old)
 
 -- the outcome was judged, and that came to this
-pub record IsJudgedReplay (old new : Volume) (sketched : SketchEntry) (job : Job) (outcome : Outcome) (result : Result Held Cause) : Type 0 where
+pub record IsJudgedReplay (old new : Volume) (sketched : SketchEntry) (job : Job) (outcome : Outcome) (result : Result Held Cause) :
+    Type 0 where
   pub verdict : Verdict
   pub judged : IsJudgement sketched job outcome verdict
   pub held : IsHeld old new (held_by old job verdict) result
 
 -- the step and the state behind a run: the store of what is held is asked, or the operation is declined
 abbrev pub IsConcluded : ℕ → SketchEntry → Result Held Cause → Step → State → Type 0
-IsConcluded client sketched (Ok held) step state = (step ≡ steps.Ask (Store client sketched.seq held.effects sketched.base)) × (state ≡ IsHolding client sketched.seq held.undos)
+IsConcluded client sketched (Ok held) step state =
+    (step ≡ steps.Ask (Store client sketched.seq held.effects sketched.base)) × (state ≡ IsHolding client sketched.seq held.undos)
 IsConcluded client sketched (Err cause) step state = (step ≡ steps.Answer (Declined client sketched.seq cause)) × (state ≡ IsIdle)
 
 -- memory was wanted before a run, or behind it
@@ -103,7 +106,8 @@ pub record Asked (request : Message) (asks : List Ask) (old new : LinkTelling) :
   pub went : ToldWorlds old new (λ v w. MovedBy (Is request) asks v w × AnswersStand w asks)
 
 -- one round from a step to the next, and what runner and link tell of it
-pub record Follows (server work : List ℕ) (request : Message) (before after : Reaction) (runner ran : RunnerTelling) (link asked : LinkTelling) : Type 0 where
+pub record Follows (server work : List ℕ) (request : Message) (before after : Reaction) (runner ran : RunnerTelling)
+    (link asked : LinkTelling) : Type 0 where
   pub round : Round
   pub is_round : IsRound server work before round
   pub after_is : round.after ≡ after
@@ -117,7 +121,8 @@ pub record Breaks (server : List ℕ) (request : Message) (link asked : LinkTell
   pub has_asked : Asked request asks link asked
 
 -- an operation that was handled up to some step, and what runner and link tell of it
-pub record Serving (server work : List ℕ) (copy : Volume) (client : ℕ) (sketched : SketchEntry) (last : Reaction) (runner ran : RunnerTelling) (link asked : LinkTelling) : Type 0 where
+pub record Serving (server work : List ℕ) (copy : Volume) (client : ℕ) (sketched : SketchEntry) (last : Reaction)
+    (runner ran : RunnerTelling) (link asked : LinkTelling) : Type 0 where
   pub runs : List Run
   pub asks : List Ask
   pub handled : Handled server work copy client sketched runs asks last

@@ -13,21 +13,24 @@ use Rattle.mod_log.specs.declared.sketching.SketchEntry.{SketchEntry}
 use Rattle.replay_judge.specs.Judgement.{IsJudgement}
 use Rattle.replay_judge.specs.declared.verdict.Verdict.TheVariants as verdicts
 use Rattle.wire_frames.specs.declared.cause.Cause.{Cause}
-use Rattle.wire_frames.specs.declared.cause.Cause.TheVariants.{OtherJob, NoJob, NoServer, NotRun, Status, OddTree, Mismatch, Clash, NotFit, Refused, NoMemory}
+use Rattle.wire_frames.specs.declared.cause.Cause.TheVariants.{OtherJob, NoJob, NoServer, NotRun, Status, OddTree, Mismatch, Clash, NotFit}
+use Rattle.wire_frames.specs.declared.cause.Cause.TheVariants.{Refused, NoMemory}
 use Rattle.wire_frames.specs.declared.message.Message.{Message}
 use Rattle.wire_frames.specs.declared.message.Message.TheVariants as messages
 use Rattle.world_rules.specs.declared.asking.Peer.TheVariants.{Server}
 use Rattle.world_rules.specs.declared.asking.Answer.TheVariants.{Reply}
 use Rattle.world_rules.specs.declared.asking.Ask.{Ask}
 use Rattle.world_rules.specs.Settling.{failures, failed_asks}
-use Rattle.surrogate_core.specs.Handling.{Reaction, Tries, Handling, BreaksHandling, after_verdict, declining, job_for, job_print, refusal_kind}
+use Rattle.surrogate_core.specs.Handling.{Reaction, Tries, Handling, BreaksHandling, after_verdict, declining, job_for, job_print}
+use Rattle.surrogate_core.specs.Handling.{refusal_kind}
 use Rattle.surrogate_core.specs.Serving.{MayAsk}
 
 -- ---- what is asked, and what is run
 
 -- each ask goes to the server at the address, and is one that the operation may ask
 abbrev pub HandlingsAskTheServer : Type 0
-HandlingsAskTheServer = (server work : List ℕ) (copy after : Volume) (client : ℕ) (sketched : SketchEntry) (runs : List Run) (asks : List Ask) (reply : Message) (ask : Ask)
+HandlingsAskTheServer = (server work : List ℕ) (copy after : Volume) (client : ℕ) (sketched : SketchEntry) (runs : List Run)
+    (asks : List Ask) (reply : Message) (ask : Ask)
     → Handling server work copy client sketched runs asks reply after → IsIn ask asks
     → (ask.to ≡ Server) × (ask.address ≡ server) × MayAsk client sketched ask.request
 
@@ -38,14 +41,16 @@ IsOfJob sketched work (run ∷ []) = (run.work ≡ work) × (job_print run.job �
 IsOfJob sketched work (run ∷ more ∷ runs) = ⊥
 
 abbrev pub HandlingsRunOnce : Type 0
-HandlingsRunOnce = (server work : List ℕ) (copy after : Volume) (client : ℕ) (sketched : SketchEntry) (runs : List Run) (asks : List Ask) (reply : Message)
+HandlingsRunOnce =
+    (server work : List ℕ) (copy after : Volume) (client : ℕ) (sketched : SketchEntry) (runs : List Run) (asks : List Ask) (reply : Message)
     → Handling server work copy client sketched runs asks reply after → IsOfJob sketched work runs
 
 -- ---- the copy
 
 -- the rows of a snapshot that was answered
 abbrev pub IsPulled : List Ask → Volume → Type 0
-IsPulled asks tried = (ask : Ask) × (client number last : ℕ) × IsIn ask asks × (ask.answer ≡ Reply (messages.Snapshot client number last tried))
+IsPulled asks tried =
+    (ask : Ask) × (client number last : ℕ) × IsIn ask asks × (ask.answer ≡ Reply (messages.Snapshot client number last tried))
 
 -- the copy that the operation was tried on: the one from before, or the rows of a snapshot that was answered
 abbrev pub IsTried : Volume → List Ask → Volume → Type 0
@@ -65,17 +70,21 @@ pub record IsDoneBy (client : ℕ) (sketched : SketchEntry) (copy : Volume) (ask
 
 -- the answer is of the operation; a decline leaves the tried copy as it was, and Done leaves it with what was accepted
 abbrev pub EndsOperation : ℕ → SketchEntry → Volume → List Ask → Volume → Message → Type 0
-EndsOperation client sketched copy asks after (messages.Declined of number cause) = (of ≡ client) × (number ≡ sketched.seq) × IsTried copy asks after
-EndsOperation client sketched copy asks after (messages.Done of number) = (of ≡ client) × (number ≡ sketched.seq) × IsDoneBy client sketched copy asks after
+EndsOperation client sketched copy asks after (messages.Declined of number cause) =
+    (of ≡ client) × (number ≡ sketched.seq) × IsTried copy asks after
+EndsOperation client sketched copy asks after (messages.Done of number) =
+    (of ≡ client) × (number ≡ sketched.seq) × IsDoneBy client sketched copy asks after
 EndsOperation client sketched copy asks after reply = ⊥
 
 abbrev pub HandlingsKeepTheCopy : Type 0
-HandlingsKeepTheCopy = (server work : List ℕ) (copy after : Volume) (client : ℕ) (sketched : SketchEntry) (runs : List Run) (asks : List Ask) (reply : Message)
+HandlingsKeepTheCopy =
+    (server work : List ℕ) (copy after : Volume) (client : ℕ) (sketched : SketchEntry) (runs : List Run) (asks : List Ask) (reply : Message)
     → Handling server work copy client sketched runs asks reply after → EndsOperation client sketched copy asks after reply
 
 -- also where memory was wanted
 abbrev pub BrokenHandlingsKeepTheCopy : Type 0
-BrokenHandlingsKeepTheCopy = (server work : List ℕ) (copy after : Volume) (client : ℕ) (sketched : SketchEntry) (runs : List Run) (asks : List Ask)
+BrokenHandlingsKeepTheCopy =
+    (server work : List ℕ) (copy after : Volume) (client : ℕ) (sketched : SketchEntry) (runs : List Run) (asks : List Ask)
     → BreaksHandling server work copy client sketched runs asks after → IsTried copy asks after
 
 -- ---- why an operation is declined
@@ -87,34 +96,44 @@ pub record IsJudged (sketched : SketchEntry) (copy : Volume) (asks : List Ask) (
   pub job_is : job_for tried sketched ≡ Ok run.job
 
 -- what was run is judged as agreeing on these effects
-pub record IsAgreed (sketched : SketchEntry) (copy : Volume) (asks : List Ask) (runs : List Run) (tried : Volume) (run : Run) (effects : List Effect) : Type 0 where
+pub record IsAgreed (sketched : SketchEntry) (copy : Volume) (asks : List Ask) (runs : List Run) (tried : Volume) (run : Run)
+    (effects : List Effect) : Type 0 where
   pub judged : IsJudged sketched copy asks runs tried run
   pub agrees : IsJudgement sketched run.job run.outcome (verdicts.Agree effects)
 
 abbrev pub CausesDecline : SketchEntry → Volume → List Ask → List Run → Cause → Type 0
 CausesDecline sketched copy asks runs (OtherJob logged found) =
-    (tried : Volume) × (job : Job) × IsPulled asks tried × (job_of tried sketched.origin.command ≡ Ok job) × (found ≡ job_print job) × (logged ≡ sketched.origin.job_print) × (found ≢ logged)
-CausesDecline sketched copy asks runs (NoJob code index) = (tried : Volume) × IsPulled asks tried × (job_for tried sketched ≡ Err (NoJob code index))
+    (tried : Volume) × (job : Job) × IsPulled asks tried × (job_of tried sketched.origin.command ≡ Ok job) × (found ≡ job_print job)
+    × (logged ≡ sketched.origin.job_print) × (found ≢ logged)
+CausesDecline sketched copy asks runs (NoJob code index) =
+    (tried : Volume) × IsPulled asks tried × (job_for tried sketched ≡ Err (NoJob code index))
 CausesDecline sketched copy asks runs NoServer = 8 ≤ failed_asks asks
-CausesDecline sketched copy asks runs NotRun = (runs ≡ []) × ((tried : Volume) × (job : Job) × IsTried copy asks tried × (job_for tried sketched ≡ Ok job))
+CausesDecline sketched copy asks runs NotRun =
+    (runs ≡ []) × ((tried : Volume) × (job : Job) × IsTried copy asks tried × (job_for tried sketched ≡ Ok job))
 CausesDecline sketched copy asks runs (Status logged replayed) =
-    (tried : Volume) × (run : Run) × IsJudged sketched copy asks runs tried run × IsJudgement sketched run.job run.outcome (verdicts.Status logged replayed)
+    (tried : Volume) × (run : Run) × IsJudged sketched copy asks runs tried run
+    × IsJudgement sketched run.job run.outcome (verdicts.Status logged replayed)
 CausesDecline sketched copy asks runs (OddTree index) =
-    (tried : Volume) × (run : Run) × IsJudged sketched copy asks runs tried run × IsJudgement sketched run.job run.outcome (verdicts.OddTree index)
+    (tried : Volume) × (run : Run) × IsJudged sketched copy asks runs tried run
+    × IsJudgement sketched run.job run.outcome (verdicts.OddTree index)
 CausesDecline sketched copy asks runs (Mismatch path) =
-    (tried : Volume) × (run : Run) × IsJudged sketched copy asks runs tried run × IsJudgement sketched run.job run.outcome (verdicts.Mismatch path)
+    (tried : Volume) × (run : Run) × IsJudged sketched copy asks runs tried run
+    × IsJudgement sketched run.job run.outcome (verdicts.Mismatch path)
 CausesDecline sketched copy asks runs (Clash path) =
     (tried : Volume) × (run : Run) × (effects : List Effect) × (effect : Effect) × IsAgreed sketched copy asks runs tried run effects
     × (find (clashes tried run.job.rows) effects ≡ Some effect) × (path ≡ first_path effect)
 CausesDecline sketched copy asks runs (NotFit index fault) =
     (tried : Volume) × (run : Run) × (effects : List Effect) × IsAgreed sketched copy asks runs tried run effects
     × (find (clashes tried run.job.rows) effects ≡ None) × (apply_all 0 effects tried ≡ Err (index, fault))
-CausesDecline sketched copy asks runs (Refused kind) = (ask : Ask) × (reply : Message) × IsIn ask asks × (ask.answer ≡ Reply reply) × (refusal_kind reply ≡ Some kind)
+CausesDecline sketched copy asks runs (Refused kind) =
+    (ask : Ask) × (reply : Message) × IsIn ask asks × (ask.answer ≡ Reply reply) × (refusal_kind reply ≡ Some kind)
 CausesDecline sketched copy asks runs NoMemory = Unit {0}
 
 abbrev pub DeclinesHaveCauses : Type 0
-DeclinesHaveCauses = (server work : List ℕ) (copy after : Volume) (client : ℕ) (sketched : SketchEntry) (runs : List Run) (asks : List Ask) (cause : Cause)
-    → Handling server work copy client sketched runs asks (messages.Declined client sketched.seq cause) after → CausesDecline sketched copy asks runs cause
+DeclinesHaveCauses =
+    (server work : List ℕ) (copy after : Volume) (client : ℕ) (sketched : SketchEntry) (runs : List Run) (asks : List Ask) (cause : Cause)
+    → Handling server work copy client sketched runs asks (messages.Declined client sketched.seq cause) after
+    → CausesDecline sketched copy asks runs cause
 
 -- eight asks of one request to the server failed, one after the other
 abbrev pub FailedEight : List ℕ → List Ask → Type 0
@@ -122,20 +141,25 @@ FailedEight server asks = (request : Message) × (front back : List Ask) × (ask
 
 -- for want of the server an operation is declined only behind them
 abbrev pub SilencesAreOfOneRequest : Type 0
-SilencesAreOfOneRequest = (server work : List ℕ) (copy after : Volume) (client : ℕ) (sketched : SketchEntry) (runs : List Run) (asks : List Ask)
+SilencesAreOfOneRequest =
+    (server work : List ℕ) (copy after : Volume) (client : ℕ) (sketched : SketchEntry) (runs : List Run) (asks : List Ask)
     → Handling server work copy client sketched runs asks (messages.Declined client sketched.seq NoServer) after → FailedEight server asks
 
 -- ---- what is done
 
 -- what was run is judged as agreeing, nothing clashes and the copy takes it: then the store is asked, unless memory is wanted
 abbrev pub AgreedTriesAskTheStore : Type 0
-AgreedTriesAskTheStore = (pulled : Bool) (tried new : Volume) (client : ℕ) (sketched : SketchEntry) (work : List ℕ) (run : Run) (effects : List Effect) (reaction : Reaction)
+AgreedTriesAskTheStore = (pulled : Bool) (tried new : Volume) (client : ℕ) (sketched : SketchEntry) (work : List ℕ) (run : Run)
+    (effects : List Effect) (reaction : Reaction)
     → Tries pulled tried client sketched work (run ∷ []) reaction → IsJudgement sketched run.job run.outcome (verdicts.Agree effects)
     → find (clashes tried run.job.rows) effects ≡ None → apply_all 0 effects tried ≡ Ok new
-    → (reaction ≡ after_verdict tried client sketched (Ok (record { effects = effects; copy = new }))) ⊎ (reaction ≡ declining tried client sketched.seq NoMemory)
+    → (reaction ≡ after_verdict tried client sketched (Ok (record { effects = effects; copy = new })))
+    ⊎ (reaction ≡ declining tried client sketched.seq NoMemory)
 
 -- a store that the server accepts ends as done
 abbrev pub AcceptedHandlingsAreDone : Type 0
-AcceptedHandlingsAreDone = (server work : List ℕ) (copy after : Volume) (client : ℕ) (sketched : SketchEntry) (runs : List Run) (asks : List Ask) (reply : Message)
-    (ask : Ask) (of number : ℕ) → Handling server work copy client sketched runs asks reply after → IsIn ask asks → ask.answer ≡ Reply (messages.Accepted of number)
+AcceptedHandlingsAreDone =
+    (server work : List ℕ) (copy after : Volume) (client : ℕ) (sketched : SketchEntry) (runs : List Run) (asks : List Ask) (reply : Message)
+    (ask : Ask) (of number : ℕ) → Handling server work copy client sketched runs asks reply after → IsIn ask asks
+    → ask.answer ≡ Reply (messages.Accepted of number)
     → reply ≡ messages.Done client sketched.seq

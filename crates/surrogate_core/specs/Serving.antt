@@ -52,8 +52,10 @@ MayAsk client sketched _ = ⊥
 
 -- a message was served with these runs and asks, to this result
 abbrev pub ServesTo : List ℕ → List ℕ → Volume → Message → List Run → List Ask → Result Message AllocError → Volume → Type 0
-ServesTo server work copy (Operate client sketched) runs asks (Ok reply) after = Handling server work copy client sketched runs asks reply after
-ServesTo server work copy (Operate client sketched) runs asks (Err error) after = BreaksHandling server work copy client sketched runs asks after
+ServesTo server work copy (Operate client sketched) runs asks (Ok reply) after =
+    Handling server work copy client sketched runs asks reply after
+ServesTo server work copy (Operate client sketched) runs asks (Err error) after =
+    BreaksHandling server work copy client sketched runs asks after
 ServesTo server work copy request runs asks result after = (result ≡ Ok (Malformed 7 0)) × (runs ≡ []) × (asks ≡ []) × (after ≡ copy)
 
 -- how many runs failed, by the result

@@ -1,5 +1,5 @@
 -- While a surrogate asks, the world's client sends nothing.
-use Rattle.std.proofs.Common.{◌≡◌, ℕ, List, ◌∙◌}
+use Rattle.std.proofs.Common.{◌≡◌, ◌∙◌}
 use Rattle.tree_values.specs.Lists.{IsIn}
 use Rattle.wire_frames.specs.declared.message.Message.{Message}
 use Rattle.wire_frames.specs.declared.message.Message.TheVariants.{Operate}
@@ -7,7 +7,7 @@ use Rattle.world_rules.specs.World.{World, IsFree}
 use Rattle.world_rules.proofs.Free.{moves_alone}
 use Rattle.surrogate_core.proofs.Free.{may_ask_free}
 use Rattle.surrogate_prog.specs.Serving.{AnyAsks}
-use Rattle.surrogate_prog.specs.Laws.{WereSent, RunsMoveAlone}
+use Rattle.surrogate_prog.specs.Laws.{RunsMoveAlone}
 
 pub runs_move_alone : RunsMoveAlone
 runs_move_alone frames asks old new were moved = moves_alone (AnyAsks frames) old free asks new moved

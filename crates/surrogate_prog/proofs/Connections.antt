@@ -13,7 +13,7 @@ use Rattle.port_serving.proofs.Connections as ports
 use Rattle.tree_values.specs.Tree.{Volume}
 use Rattle.cmd_capture.specs.declared.runner.Run.{Run}
 use Rattle.world_rules.specs.declared.asking.Ask.{Ask}
-use Rattle.surrogate_prog.specs.Serving.{Doings, did_nothing, and_then, ServesFrame, ServesFrames, BreaksServing, Outside, Did}
+use Rattle.surrogate_prog.specs.Serving.{Doings, did_nothing, and_then, ServesFrame, ServesFrames, Outside, Did}
 use Rattle.surrogate_prog.specs.Inside.{RepliesTo, BreaksReply, SurrogateServesNext, BreaksTaking, SurrogateServesSoFar, SurrogateServesAll, SurrogateServesFront}
 use Rattle.surrogate_prog.proofs.Doing.{nothing_done, did_more, unanswered}
 

@@ -1,5 +1,5 @@
 -- What the connections of a run amount to.
-use Rattle.std.proofs.Common.{◌≡◌, ◌⊎◌, inl, inr, ℕ, List, Option, Result, Ok, Err, arith}
+use Rattle.std.proofs.Common.{◌≡◌, inl, inr, ℕ, List, Option, Result, Ok, Err, arith}
 use Rattle.outside.specs.Port.{Talk}
 use Rattle.port_serving.specs.Laws.{HasFallen, HasTalks, IsTold}
 use Rattle.port_serving.proofs.Totals as ports

@@ -18,7 +18,8 @@ use Rattle.surrogate_prog.specs.declared.run.Stopped.TheVariants as stops
 use Rattle.surrogate_prog.specs.Serving.{Doings, and_then, ServesFrame, ServesFrames, BreaksServing, Outside, Did}
 
 -- a message was handled, and these bytes spell the reply
-pub record IsMessageHandled (server work : List ℕ) (copy : Volume) (request : Message) (bytes : List ℕ) (after : Volume) (old new : Outside) : Type 0 where
+pub record IsMessageHandled (server work : List ℕ) (copy : Volume) (request : Message) (bytes : List ℕ) (after : Volume)
+    (old new : Outside) : Type 0 where
   pub reply : Message
   pub serves : Serves server work copy request (Ok reply) after old.runner new.runner old.link new.link
   pub spells : bytes ≡ frame reply
@@ -42,7 +43,8 @@ pub record BreaksReply (server work bytes : List ℕ) (before : Volume) (old new
   pub did_outside : Did (bytes ∷ []) did old new
 
 -- one connection was used up and its frame served, or none was left
-pub record SurrogateServesNext (server work : List ℕ) (how : Came) (before after : Volume) (port used : PortTelling) (old new : Outside) : Type 0 where
+pub record SurrogateServesNext (server work : List ℕ) (how : Came) (before after : Volume) (port used : PortTelling)
+    (old new : Outside) : Type 0 where
   pub bytes : List ℕ
   pub reply : List ℕ
   pub uses : Uses (connection_of how bytes reply) port used
@@ -60,7 +62,8 @@ pub record BreaksTaking (server work : List ℕ) (before : Volume) (port used : 
   pub did_outside : Did frames did old new
 
 -- connections were served and counted, one for each take so far
-pub record SurrogateServesSoFar (server work : List ℕ) (made : ℕ) (tally : Tally) (before after : Volume) (port used : PortTelling) (old new : Outside) : Type 0 where
+pub record SurrogateServesSoFar (server work : List ℕ) (made : ℕ) (tally : Tally) (before after : Volume) (port used : PortTelling)
+    (old new : Outside) : Type 0 where
   pub connections : List Connection
   pub uses : UsesSoFar made tally connections port used
   pub did : Doings
@@ -68,7 +71,8 @@ pub record SurrogateServesSoFar (server work : List ℕ) (made : ℕ) (tally : T
   pub did_outside : Did (frames_taken connections) did old new
 
 -- at the end of the takes, or of the connections
-pub record SurrogateServesAll (server work : List ℕ) (count : ℕ) (tally : Tally) (before : Volume) (port used : PortTelling) (old new : Outside) : Type 0 where
+pub record SurrogateServesAll (server work : List ℕ) (count : ℕ) (tally : Tally) (before : Volume) (port used : PortTelling)
+    (old new : Outside) : Type 0 where
   pub connections : List Connection
   pub uses : UsesAll count connections port used
   pub counts : Counts connections tally
@@ -78,7 +82,8 @@ pub record SurrogateServesAll (server work : List ℕ) (count : ℕ) (tally : Ta
   pub did_outside : Did (frames_taken connections) did old new
 
 -- broken off for want of memory
-pub record SurrogateServesFront (server work : List ℕ) (count : ℕ) (before : Volume) (port used : PortTelling) (old new : Outside) : Type 0 where
+pub record SurrogateServesFront (server work : List ℕ) (count : ℕ) (before : Volume) (port used : PortTelling) (old new : Outside) :
+    Type 0 where
   pub connections : List Connection
   pub frames : List (List ℕ)
   pub uses : UsesFront count connections frames port used

@@ -23,20 +23,25 @@ abbrev pub SurrogateIsWhole : ℕ → Type 0
 SurrogateIsWhole status = (status ≡ 0) ⊎ (status ≡ 4)
 
 abbrev pub SurrogateFallsAreBounded : Type 0
-SurrogateFallsAreBounded = (run : SurrogateInvocation) (status : ℕ) (old new : SurrogateTelling) (written now : Option (List ℕ)) → SurrogateRan run status old new written now → HasFallen run.count (SurrogateIsWhole status) old.port new.port
+SurrogateFallsAreBounded = (run : SurrogateInvocation) (status : ℕ) (old new : SurrogateTelling) (written now : Option (List ℕ))
+    → SurrogateRan run status old new written now → HasFallen run.count (SurrogateIsWhole status) old.port new.port
 
 -- at status 7 the connection at hand may be without an answer and without a fault; at status 0 the last line was written
 abbrev pub SurrogateFramesAreCounted : Type 0
-SurrogateFramesAreCounted = (run : SurrogateInvocation) (status : ℕ) (old new : SurrogateTelling) (written now : Option (List ℕ)) (talks : List Talk)
-    → SurrogateRan run status old new written now → HasTalks talks old.port new.port → IsTold (SurrogateIsWhole status) (status ≡ 0) talks old.port new.port written now
+SurrogateFramesAreCounted =
+    (run : SurrogateInvocation) (status : ℕ) (old new : SurrogateTelling) (written now : Option (List ℕ)) (talks : List Talk)
+    → SurrogateRan run status old new written now → HasTalks talks old.port new.port
+    → IsTold (SurrogateIsWhole status) (status ≡ 0) talks old.port new.port written now
 
 -- the operations of a client among the frames had been sent when the world was so
 abbrev pub WereSent : List (List ℕ) → World → Type 0
-WereSent frames world = (bytes : List ℕ) (client : ℕ) (sketched : SketchEntry) → IsIn bytes frames → frame_of bytes ≡ Ok (Operate client sketched) → client ≡ world.client → IsIn (Operate client sketched) world.packets
+WereSent frames world = (bytes : List ℕ) (client : ℕ) (sketched : SketchEntry) → IsIn bytes frames
+    → frame_of bytes ≡ Ok (Operate client sketched) → client ≡ world.client → IsIn (Operate client sketched) world.packets
 
 -- what a surrogate asks for these frames are no sendings of the world's client
 abbrev pub RunsMoveAlone : Type 0
-RunsMoveAlone = (frames : List (List ℕ)) (asks : List Ask) (old new : World) → WereSent frames old → MovedBy (AnyAsks frames) asks old new → MovedAlone asks old new
+RunsMoveAlone = (frames : List (List ℕ)) (asks : List Ask) (old new : World) → WereSent frames old
+    → MovedBy (AnyAsks frames) asks old new → MovedAlone asks old new
 
 -- an operation that is declined since no server answered
 abbrev pub silent_cause : Cause → Bool
@@ -55,5 +60,6 @@ SpellAll replies pairs = ⊥
 
 -- eight asks at least failed for each of the replies that tells so
 abbrev pub SilentServersFailedEight : Type 0
-SilentServersFailedEight = (server work : List ℕ) (copy after : Volume) (pairs : List (List ℕ × List ℕ)) (did : Doings) → ServesFrames server work copy pairs did after
+SilentServersFailedEight = (server work : List ℕ) (copy after : Volume) (pairs : List (List ℕ × List ℕ)) (did : Doings)
+    → ServesFrames server work copy pairs did after
     → (replies : List Message) × SpellAll replies pairs × (8 * count_by is_silent replies ≤ failed_asks did.asks)

@@ -20,7 +20,8 @@ surrogate_status_of (Err Memory) = code statuses.NoMemory
 
 -- the statuses that a run may give
 abbrev pub is_surrogate_status : ℕ → Bool
-is_surrogate_status status = list_any (λ known. code known == status) (statuses.Done ∷ statuses.NoForm ∷ statuses.SinkFailed ∷ statuses.NoMemory ∷ [])
+is_surrogate_status status =
+    list_any (λ known. code known == status) (statuses.Done ∷ statuses.NoForm ∷ statuses.SinkFailed ∷ statuses.NoMemory ∷ [])
 
 -- those that the program may end with: one more where it cannot listen
 abbrev pub is_surrogate_exit : ℕ → Bool
@@ -36,14 +37,16 @@ surrogate_telling port outside = record { port = port; outside = outside }
 
 -- Serving came to its end: as many connections were used up as the words say, or none is left. The frames were served from a copy
 -- without rows.
-pub record SurrogateIsServed (run : SurrogateInvocation) (connections : List Connection) (did : Doings) (old new : SurrogateTelling) : Type 0 where
+pub record SurrogateIsServed (run : SurrogateInvocation) (connections : List Connection) (did : Doings)
+    (old new : SurrogateTelling) : Type 0 where
   pub port : UsesAll run.count connections old.port new.port
   pub copy : Volume
   pub serves : ServesFrames run.server run.work [] (exchanges connections) did copy
   pub did_outside : Did (frames_taken connections) did old.outside new.outside
 
 -- Serving was broken off at a connection for want of memory: its frame, where it was taken, is not answered.
-pub record SurrogateIsBrokenOff (run : SurrogateInvocation) (connections : List Connection) (did at_hand : Doings) (old new : SurrogateTelling) : Type 0 where
+pub record SurrogateIsBrokenOff (run : SurrogateInvocation) (connections : List Connection) (did at_hand : Doings)
+    (old new : SurrogateTelling) : Type 0 where
   pub frames : List (List ℕ)
   pub port : UsesFront run.count connections frames old.port new.port
   pub copy : Volume
@@ -53,21 +56,27 @@ pub record SurrogateIsBrokenOff (run : SurrogateInvocation) (connections : List 
 
 -- all connections were served, and a front of the last line was written
 abbrev pub SurrogateStopsInLine : SurrogateInvocation → SurrogateTelling → SurrogateTelling → Option (List ℕ) → Option (List ℕ) → Type 0
-SurrogateStopsInLine run old new written now = (connections : List Connection) × (did : Doings) × (bytes : ℕ) × SurrogateIsServed run connections did old new × Adds written now (take bytes (served_line_of connections))
+SurrogateStopsInLine run old new written now = (connections : List Connection) × (did : Doings) × (bytes : ℕ)
+    × SurrogateIsServed run connections did old new × Adds written now (take bytes (served_line_of connections))
 
 -- a connection was broken off, and nothing was written
 abbrev pub SurrogateStopsInServing : SurrogateInvocation → SurrogateTelling → SurrogateTelling → Option (List ℕ) → Option (List ℕ) → Type 0
-SurrogateStopsInServing run old new written now = (connections : List Connection) × (did at_hand : Doings) × SurrogateIsBrokenOff run connections did at_hand old new × (now ≡ written)
+SurrogateStopsInServing run old new written now =
+    (connections : List Connection) × (did at_hand : Doings) × SurrogateIsBrokenOff run connections did at_hand old new × (now ≡ written)
 
 -- what a run did by how it ended
-abbrev pub SurrogateRun : SurrogateInvocation → SurrogateTelling → SurrogateTelling → Option (List ℕ) → Option (List ℕ) → Result (Unit {0}) Stopped → Type 0
-SurrogateRun run old new written now (Ok done) = (connections : List Connection) × (did : Doings) × SurrogateIsServed run connections did old new × Adds written now (served_line_of connections)
+abbrev pub SurrogateRun : SurrogateInvocation → SurrogateTelling → SurrogateTelling → Option (List ℕ) → Option (List ℕ)
+    → Result (Unit {0}) Stopped → Type 0
+SurrogateRun run old new written now (Ok done) = (connections : List Connection) × (did : Doings)
+    × SurrogateIsServed run connections did old new × Adds written now (served_line_of connections)
 SurrogateRun run old new written now (Err Sink) = SurrogateStopsInLine run old new written now
-SurrogateRun run old new written now (Err Memory) = SurrogateStopsInLine run old new written now ⊎ SurrogateStopsInServing run old new written now
+SurrogateRun run old new written now (Err Memory) =
+    SurrogateStopsInLine run old new written now ⊎ SurrogateStopsInServing run old new written now
 
 -- a run that gave this status
 abbrev pub SurrogateRan : SurrogateInvocation → ℕ → SurrogateTelling → SurrogateTelling → Option (List ℕ) → Option (List ℕ) → Type 0
-SurrogateRan run status old new written now = (ended : Result (Unit {0}) Stopped) × (status ≡ surrogate_status_of ended) × SurrogateRun run old new written now ended
+SurrogateRan run status old new written now =
+    (ended : Result (Unit {0}) Stopped) × (status ≡ surrogate_status_of ended) × SurrogateRun run old new written now ended
 
 -- what a port, a runner, a link and a sink tell
 pub record SurrogateObjects : Type 0 where
@@ -86,4 +95,6 @@ pub record SurrogateEnds (words : List (List ℕ)) (status : ℕ) (old new : Sur
   pub untouched : surrogate_run_of words ≡ None → new ≡ old
   pub sink : RisesWhere (status ≡ 4) old.sink_faults new.sink_faults
   pub complete : IfSome (surrogate_run_of words) (λ run. (Rose old.sink_faults new.sink_faults → ⊥) → (status ≡ 0) ⊎ (status ≡ 7))
-  pub served : IfSome (surrogate_run_of words) (λ run. SurrogateRan run status (surrogate_telling old.port old.outside) (surrogate_telling new.port new.outside) old.written new.written)
+  pub served : IfSome (surrogate_run_of words)
+      (λ run. SurrogateRan run status (surrogate_telling old.port old.outside) (surrogate_telling new.port new.outside) old.written
+      new.written)

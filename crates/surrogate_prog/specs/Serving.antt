@@ -34,8 +34,10 @@ and_then first more = record { runs = first.runs ++ more.runs; failed = first.fa
 
 -- Bytes that were read are served by a handling of their message; bytes that were refused are answered so.
 abbrev pub ServesRead : List ℕ → List ℕ → Volume → Result Message FrameError → Doings → Message → Volume → Type 0
-ServesRead server work copy (Ok request) did reply after = ServesTo server work copy request did.runs did.asks (Ok reply) after × (did.failed ≡ failed_runs reply)
-ServesRead server work copy (Err refusal) did reply after = (reply ≡ Malformed (refusal_code refusal) (refusal_offset refusal)) × (did ≡ did_nothing) × (after ≡ copy)
+ServesRead server work copy (Ok request) did reply after =
+    ServesTo server work copy request did.runs did.asks (Ok reply) after × (did.failed ≡ failed_runs reply)
+ServesRead server work copy (Err refusal) did reply after =
+    (reply ≡ Malformed (refusal_code refusal) (refusal_offset refusal)) × (did ≡ did_nothing) × (after ≡ copy)
 
 -- a frame was served: the frame that answers it spells the reply that its bytes came to
 pub record ServesFrame (server work : List ℕ) (copy : Volume) (pair : List ℕ × List ℕ) (did : Doings) (after : Volume) : Type 0 where
@@ -47,7 +49,8 @@ pub record ServesFrame (server work : List ℕ) (copy : Volume) (pair : List ℕ
 abbrev pub ServesFrames : List ℕ → List ℕ → Volume → List (List ℕ × List ℕ) → Doings → Volume → Type 0
 ServesFrames server work copy [] did after = (did ≡ did_nothing) × (after ≡ copy)
 ServesFrames server work copy (pair ∷ pairs) did after =
-    (first more : Doings) × (middle : Volume) × ServesFrame server work copy pair first middle × ServesFrames server work middle pairs more after × (did ≡ and_then first more)
+    (first more : Doings) × (middle : Volume) × ServesFrame server work copy pair first middle
+    × ServesFrames server work middle pairs more after × (did ≡ and_then first more)
 
 -- What want of memory left of the frame at hand: nothing was done for it, or its message was served and not answered.
 pub record ServesPart (server work : List ℕ) (copy : Volume) (frames : List (List ℕ)) (did : Doings) : Type 0 where

@@ -13,7 +13,8 @@ pub record SurrogateInvocation : Type 0 where
 
 -- the word `run`, and two addresses and a folder that are not empty
 abbrev pub is_surrogate_run : List ℕ → List ℕ → List ℕ → List ℕ → Bool
-is_surrogate_run run address server work = bytes_eq run (codes "run") && nat_lt 0 (length address) && nat_lt 0 (length server) && nat_lt 0 (length work)
+is_surrogate_run run address server work =
+    bytes_eq run (codes "run") && nat_lt 0 (length address) && nat_lt 0 (length server) && nat_lt 0 (length work)
 
 abbrev pub surrogate_run_with : List ℕ → List ℕ → List ℕ → Option ℕ → Option SurrogateInvocation
 surrogate_run_with address server work None = None
@@ -21,5 +22,6 @@ surrogate_run_with address server work (Some count) = Some (record { address = a
 
 -- what `run LISTEN SERVER WORK COUNT` says; any other words are of no form
 abbrev pub surrogate_run_of : List (List ℕ) → Option SurrogateInvocation
-surrogate_run_of (run ∷ address ∷ server ∷ work ∷ count ∷ []) = if is_surrogate_run run address server work then surrogate_run_with address server work (count_of count) else None
+surrogate_run_of (run ∷ address ∷ server ∷ work ∷ count ∷ []) =
+    if is_surrogate_run run address server work then surrogate_run_with address server work (count_of count) else None
 surrogate_run_of words = None

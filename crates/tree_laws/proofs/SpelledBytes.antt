@@ -1,7 +1,7 @@
 -- The spellings of the parts are bytes.
 use Rattle.std.proofs.Common.{ℕ, List, [], ◌∷◌, ◌++◌, length, Option, Some, None, arith}
 use Rattle.std.specs.Int.{w32, w64}
-use Rattle.std.specs.List.{flat_map, AllByRecursion}
+use Rattle.std.specs.List.{flat_map}
 use Rattle.byte_fields.specs.Field.{digits}
 use Rattle.byte_fields.specs.Codec.{IsBytes}
 use Rattle.byte_fields.proofs.Facts.{no_bytes, byte_before, bytes_appended, bytes_of_each, four_are_bytes, eight_are_bytes}

@@ -5,7 +5,8 @@ use Rattle.tree_values.specs.declared.node.Node.TheVariants.{Folder}
 use Rattle.tree_values.specs.declared.node.Effect.{Effect}
 use Rattle.tree_values.specs.declared.node.Effect.TheVariants.{Make, Put, Remove, Move}
 use Rattle.tree_values.specs.declared.node.TreeError.{TreeError}
-use Rattle.tree_values.specs.Tree.{Volume, IsTree, IsLegalEffect, version_at, node_at, is_folder, children, with_content, apply, touched_paths, kept_rows, undone}
+use Rattle.tree_values.specs.Tree.{Volume, IsTree, IsLegalEffect, version_at, node_at, is_folder, children, with_content, apply}
+use Rattle.tree_values.specs.Tree.{touched_paths, kept_rows, undone}
 use Rattle.tree_values.specs.Effects.{apply_all, changed_all, touched_all, distinct}
 use Rattle.tree_values.specs.Lists.{NoneTwice, IsIn}
 use Rattle.vol_tree.specs.Behind.{IsBehind, IsAhead, AgreeAt}
@@ -14,12 +15,14 @@ use Rattle.vol_tree.specs.Behind.{IsBehind, IsAhead, AgreeAt}
 
 -- the version of a touched path is one more
 abbrev pub EffectsCountTouches : Type 0
-EffectsCountTouches = (effect : Effect) (rows new : Volume) (path : FilePath) → apply effect rows ≡ Ok new → IsIn path (touched_paths effect)
+EffectsCountTouches =
+    (effect : Effect) (rows new : Volume) (path : FilePath) → apply effect rows ≡ Ok new → IsIn path (touched_paths effect)
     → version_at new path ≡ version_at rows path + 1
 
 -- a path that is not touched keeps its version and its node
 abbrev pub EffectsLeaveTheRest : Type 0
-EffectsLeaveTheRest = (effect : Effect) (rows new : Volume) (path : FilePath) → apply effect rows ≡ Ok new → (IsIn path (touched_paths effect) → ⊥)
+EffectsLeaveTheRest =
+    (effect : Effect) (rows new : Volume) (path : FilePath) → apply effect rows ≡ Ok new → (IsIn path (touched_paths effect) → ⊥)
     → (version_at new path ≡ version_at rows path) × (node_at new path ≡ node_at rows path)
 
 -- where a folder is made, a folder stands
@@ -28,7 +31,8 @@ MakingGivesAFolder = (path : FilePath) (rows new : Volume) → apply (Make path)
 
 -- where a content is put, a file with it stands
 abbrev pub PuttingGivesAFile : Type 0
-PuttingGivesAFile = (path : FilePath) (content : List ℕ) (rows new : Volume) → apply (Put path content) rows ≡ Ok new → node_at new path ≡ Some (with_content (node_at rows path) content)
+PuttingGivesAFile = (path : FilePath) (content : List ℕ) (rows new : Volume) → apply (Put path content) rows ≡ Ok new
+    → node_at new path ≡ Some (with_content (node_at rows path) content)
 
 -- where something is removed, nothing stands
 abbrev pub RemovingLeavesNothing : Type 0
@@ -36,13 +40,15 @@ RemovingLeavesNothing = (path : FilePath) (rows new : Volume) → apply (Remove 
 
 -- what is moved stands at its new path, and nothing at the old one
 abbrev pub MovingCarriesTheNode : Type 0
-MovingCarriesTheNode = (from to : FilePath) (rows new : Volume) → apply (Move from to) rows ≡ Ok new → (node_at new to ≡ node_at rows from) × (node_at new from ≡ None)
+MovingCarriesTheNode = (from to : FilePath) (rows new : Volume) → apply (Move from to) rows ≡ Ok new
+    → (node_at new to ≡ node_at rows from) × (node_at new from ≡ None)
 
 -- ---- trees
 
 -- two trees with the same version and node at each path are one
 abbrev pub TreesAreWhatTheyHold : Type 0
-TreesAreWhatTheyHold = (x y : Volume) → IsTree x → IsTree y → ((path : FilePath) → (version_at x path ≡ version_at y path) × (node_at x path ≡ node_at y path)) → x ≡ y
+TreesAreWhatTheyHold = (x y : Volume) → IsTree x → IsTree y
+    → ((path : FilePath) → (version_at x path ≡ version_at y path) × (node_at x path ≡ node_at y path)) → x ≡ y
 
 -- an applied effect leaves a tree
 abbrev pub ApplyingKeepsTrees : Type 0
@@ -50,7 +56,8 @@ ApplyingKeepsTrees = (effect : Effect) (rows new : Volume) → IsTree rows → I
 
 -- what is kept of an applied effect puts the rows back
 abbrev pub UndoingRestores : Type 0
-UndoingRestores = (effect : Effect) (rows new : Volume) → IsTree rows → apply effect rows ≡ Ok new → undone (kept_rows effect rows) new ≡ rows
+UndoingRestores =
+    (effect : Effect) (rows new : Volume) → IsTree rows → apply effect rows ≡ Ok new → undone (kept_rows effect rows) new ≡ rows
 
 -- what is no folder has no children
 abbrev pub FoldersAloneHaveChildren : Type 0
@@ -79,11 +86,13 @@ pub record IsFirstRefused (effects : List Effect) (rows : Volume) (i : ℕ) (cau
 
 -- a list is refused at the first effect that is, for its cause
 abbrev pub TheFirstRefusalStops : Type 0
-TheFirstRefusalStops = (effects : List Effect) (rows : Volume) (i : ℕ) (cause : TreeError) → IsFirstRefused effects rows i cause → apply_all 0 effects rows ≡ Err (i, cause)
+TheFirstRefusalStops = (effects : List Effect) (rows : Volume) (i : ℕ) (cause : TreeError) → IsFirstRefused effects rows i cause
+    → apply_all 0 effects rows ≡ Err (i, cause)
 
 -- and for nothing else
 abbrev pub OnlyTheFirstRefusalStops : Type 0
-OnlyTheFirstRefusalStops = (effects : List Effect) (rows : Volume) (i : ℕ) (cause : TreeError) → apply_all 0 effects rows ≡ Err (i, cause) → IsFirstRefused effects rows i cause
+OnlyTheFirstRefusalStops = (effects : List Effect) (rows : Volume) (i : ℕ) (cause : TreeError)
+    → apply_all 0 effects rows ≡ Err (i, cause) → IsFirstRefused effects rows i cause
 
 -- ---- distinct paths
 
@@ -93,7 +102,8 @@ DistinctPathsDiffer = (paths : List FilePath) → NoneTwice (distinct paths)
 
 -- the distinct paths are those of the list
 abbrev pub DistinctPathsAreTheSame : Type 0
-DistinctPathsAreTheSame = (paths : List FilePath) (path : FilePath) → (IsIn path (distinct paths) → IsIn path paths) × (IsIn path paths → IsIn path (distinct paths))
+DistinctPathsAreTheSame = (paths : List FilePath) (path : FilePath)
+    → (IsIn path (distinct paths) → IsIn path paths) × (IsIn path paths → IsIn path (distinct paths))
 
 -- what comes later in the list comes later among the distinct paths
 abbrev pub DistinctPathsKeepTheirOrder : Type 0
@@ -111,7 +121,8 @@ EffectsLeadForward = (effects : List Effect) (v : Volume) → IsBehind v (change
 
 -- the same effects keep one tree behind another, where the versions agree at what they touch
 abbrev pub EffectsKeepBehind : Type 0
-EffectsKeepBehind = (effects : List Effect) (x v : Volume) → IsBehind x v → AgreeAt x v (touched_all effects) → IsBehind (changed_all effects x) (changed_all effects v)
+EffectsKeepBehind = (effects : List Effect) (x v : Volume) → IsBehind x v → AgreeAt x v (touched_all effects)
+    → IsBehind (changed_all effects x) (changed_all effects v)
 
 -- some path is ahead, or none is
 abbrev pub SomePathIsAheadOrNone : Type 0
@@ -119,7 +130,8 @@ SomePathIsAheadOrNone = (x v : Volume) → IsAhead v x ⊎ ((path : FilePath) �
 
 -- a tree that is behind another, of which no path is ahead, is that tree
 abbrev pub NoneAheadIsTheSame : Type 0
-NoneAheadIsTheSame = (x v : Volume) → IsBehind x v → IsTree x → IsTree v → ((path : FilePath) → version_at v path ≤ version_at x path) → x ≡ v
+NoneAheadIsTheSame =
+    (x v : Volume) → IsBehind x v → IsTree x → IsTree v → ((path : FilePath) → version_at v path ≤ version_at x path) → x ≡ v
 
 -- what applies to a tree and not to one that it is behind meets a path that is ahead
 abbrev pub RefusedWhereAhead : Type 0

@@ -37,43 +37,58 @@ frame_with kind client number behind =
 -- A message of this kind and number whose body begins so is refused at this place of its frame, whatever follows. The
 -- body begins at byte 15.
 abbrev pub IsRefusedAt : Kind → ℕ → List ℕ → ℕ → Type 0
-IsRefusedAt kind number text place = (client : ℕ) (behind : List ℕ) → client_rule kind client ≡ true → number_rule kind number ≡ true → number < 2 ^ 64 → 15 + length (text ++ behind) ≤ max_frame
+IsRefusedAt kind number text place = (client : ℕ) (behind : List ℕ) → client_rule kind client ≡ true
+    → number_rule kind number ≡ true → number < 2 ^ 64 → 15 + length (text ++ behind) ≤ max_frame
     → frame_of (frame_with kind client number (text ++ behind)) ≡ Err (BadField place)
 
 -- a number that the kind does not have: at the number
 abbrev pub BrokenNumbers : Type 0
-BrokenNumbers = (kind : Kind) (client number : ℕ) (behind : List ℕ) → client_rule kind client ≡ true → number_rule kind number ≡ false → number < 2 ^ 64 → 15 + length behind ≤ max_frame
+BrokenNumbers = (kind : Kind) (client number : ℕ) (behind : List ℕ) → client_rule kind client ≡ true
+    → number_rule kind number ≡ false → number < 2 ^ 64 → 15 + length behind ≤ max_frame
     → frame_of (frame_with kind client number behind) ≡ Err (BadField 7)
 
 pub record BrokenBodies : Type 0 where
   -- effects that are refused: in them
-  pub effects_are_refused : (number : ℕ) (text : List ℕ) (offset : ℕ) → IsRefused effects_at text offset → IsRefusedAt Store number text (15 + offset)
+  pub effects_are_refused : (number : ℕ) (text : List ℕ) (offset : ℕ) → IsRefused effects_at text offset
+      → IsRefusedAt Store number text (15 + offset)
   -- a base of the touched paths that is refused: behind the effects
-  pub base_is_refused : (number : ℕ) (es : List Effect) (text : List ℕ) (offset : ℕ) → EffectsFit es → IsRefused (bases_at (distinct (touched_all es))) text offset → IsRefusedAt Store number (effects es ++ text) (15 + length (effects es) + offset)
+  pub base_is_refused : (number : ℕ) (es : List Effect) (text : List ℕ) (offset : ℕ) → EffectsFit es
+      → IsRefused (bases_at (distinct (touched_all es))) text offset
+      → IsRefusedAt Store number (effects es ++ text) (15 + length (effects es) + offset)
   -- an origin that is refused: in it
-  pub origin_is_refused : (number : ℕ) (text : List ℕ) (offset : ℕ) → IsRefused origin_at text offset → IsRefusedAt Operate number text (15 + offset)
+  pub origin_is_refused : (number : ℕ) (text : List ℕ) (offset : ℕ) → IsRefused origin_at text offset
+      → IsRefusedAt Operate number text (15 + offset)
   -- sketched effects that are refused: behind the origin
-  pub sketches_are_refused : (number : ℕ) (o : Origin) (text : List ℕ) (offset : ℕ) → OriginFits o → IsRefused sketch_effects_at text offset → IsRefusedAt Operate number (origin o ++ text) (15 + length (origin o) + offset)
+  pub sketches_are_refused : (number : ℕ) (o : Origin) (text : List ℕ) (offset : ℕ) → OriginFits o
+      → IsRefused sketch_effects_at text offset → IsRefusedAt Operate number (origin o ++ text) (15 + length (origin o) + offset)
   -- a base of the touched paths that is refused: behind the sketched effects
-  pub sketch_base_is_refused : (number : ℕ) (o : Origin) (es : List SketchEffect) (text : List ℕ) (offset : ℕ) → OriginFits o → SketchEffectsFit es → IsRefused (bases_at (distinct (sketches_touch es))) text offset
+  pub sketch_base_is_refused : (number : ℕ) (o : Origin) (es : List SketchEffect) (text : List ℕ) (offset : ℕ) → OriginFits o
+      → SketchEffectsFit es → IsRefused (bases_at (distinct (sketches_touch es))) text offset
       → IsRefusedAt Operate number (origin o ++ (sketch_effects es ++ text)) (15 + length (origin o) + length (sketch_effects es) + offset)
   -- a path that is refused: in it
-  pub path_is_refused : (number : ℕ) (text : List ℕ) (offset : ℕ) → IsRefused path_at text offset → IsRefusedAt Stale number text (15 + offset)
+  pub path_is_refused : (number : ℕ) (text : List ℕ) (offset : ℕ) → IsRefused path_at text offset
+      → IsRefusedAt Stale number text (15 + offset)
   -- versions that do not differ: at the second
-  pub versions_are_equal : (number : ℕ) (p : FilePath) (version : ℕ) → IsPath p → version < 2 ^ 64 → IsRefusedAt Stale number (path p ++ (digits w64 version ++ digits w64 version)) (15 + length (path p) + 8)
+  pub versions_are_equal : (number : ℕ) (p : FilePath) (version : ℕ) → IsPath p → version < 2 ^ 64
+      → IsRefusedAt Stale number (path p ++ (digits w64 version ++ digits w64 version)) (15 + length (path p) + 8)
   -- a refusal of the volume that is refused: behind the index
-  pub unfit_is_refused : (number index : ℕ) (text : List ℕ) (offset : ℕ) → index < 2 ^ 32 → IsRefused unfit_fault_at text offset → IsRefusedAt Unfit number (digits w32 index ++ text) (19 + offset)
-  pub full_is_refused : (number index : ℕ) (text : List ℕ) (offset : ℕ) → index < 2 ^ 32 → IsRefused full_fault_at text offset → IsRefusedAt Full number (digits w32 index ++ text) (19 + offset)
+  pub unfit_is_refused : (number index : ℕ) (text : List ℕ) (offset : ℕ) → index < 2 ^ 32 → IsRefused unfit_fault_at text offset
+      → IsRefusedAt Unfit number (digits w32 index ++ text) (19 + offset)
+  pub full_is_refused : (number index : ℕ) (text : List ℕ) (offset : ℕ) → index < 2 ^ 32 → IsRefused full_fault_at text offset
+      → IsRefusedAt Full number (digits w32 index ++ text) (19 + offset)
   -- a last number whose next is not below the message's: at it
   pub last_is_near : (number last : ℕ) → last < 2 ^ 64 → number ≤ last + 1 → IsRefusedAt Gap number (digits w64 last) 15
   -- rows that are refused: behind the last number
-  pub rows_are_refused : (number last : ℕ) (text : List ℕ) (offset : ℕ) → last < 2 ^ 64 → IsRefused rows_at text offset → IsRefusedAt Snapshot number (digits w64 last ++ text) (23 + offset)
+  pub rows_are_refused : (number last : ℕ) (text : List ℕ) (offset : ℕ) → last < 2 ^ 64 → IsRefused rows_at text offset
+      → IsRefusedAt Snapshot number (digits w64 last ++ text) (23 + offset)
   -- a cause that is refused: in it
-  pub cause_is_refused : (number : ℕ) (text : List ℕ) (offset : ℕ) → IsRefused cause_at text offset → IsRefusedAt Declined number text (15 + offset)
+  pub cause_is_refused : (number : ℕ) (text : List ℕ) (offset : ℕ) → IsRefused cause_at text offset
+      → IsRefusedAt Declined number text (15 + offset)
   -- a code that is none of 1 to 7: at the code
   pub code_is_none : (number code : ℕ) → code < 2 ^ 8 → (code ≡ 0) ⊎ (7 < code) → IsRefusedAt Malformed number (code ∷ []) 15
   -- an offset beside a code that has none: at the offset
-  pub offset_is_told : (number code offset : ℕ) → 1 ≤ code → code ≤ 7 → code ≢ 5 → code ≢ 6 → 1 ≤ offset → offset < 2 ^ 32 → IsRefusedAt Malformed number (code ∷ digits w32 offset) 16
+  pub offset_is_told : (number code offset : ℕ) → 1 ≤ code → code ≤ 7 → code ≢ 5 → code ≢ 6 → 1 ≤ offset → offset < 2 ^ 32
+      → IsRefusedAt Malformed number (code ∷ digits w32 offset) 16
 
 -- Causes that break a rule. The number of the cause is their first byte.
 pub record BrokenCauses : Type 0 where
@@ -88,9 +103,11 @@ pub record BrokenCauses : Type 0 where
   -- statuses that do not differ: at the second
   pub statuses_are_equal : (status : ℕ) → status < 2 ^ 8 → IsRefused cause_at (5 ∷ status ∷ status ∷ []) 2
   -- a path that is refused: in it
-  pub path_is_refused : (text : List ℕ) (offset : ℕ) → IsRefused path_at text offset → AllByRecursion (λ number. IsRefused cause_at (number ∷ text) (1 + offset)) (7 ∷ 8 ∷ [])
+  pub path_is_refused : (text : List ℕ) (offset : ℕ) → IsRefused path_at text offset
+      → AllByRecursion (λ number. IsRefused cause_at (number ∷ text) (1 + offset)) (7 ∷ 8 ∷ [])
   -- a refusal of the copy that is refused: behind the index
-  pub fault_is_refused : (index : ℕ) (text : List ℕ) (offset : ℕ) → index < 2 ^ 32 → IsRefused fault_at text offset → IsRefused cause_at (9 ∷ (digits w32 index ++ text)) (5 + offset)
+  pub fault_is_refused : (index : ℕ) (text : List ℕ) (offset : ℕ) → index < 2 ^ 32 → IsRefused fault_at text offset
+      → IsRefused cause_at (9 ∷ (digits w32 index ++ text)) (5 + offset)
   -- a kind of reply that refuses no store: at the kind
   pub reply_is_none : (kind : ℕ) → kind < 2 ^ 8 → refusal_rule kind ≡ false → IsRefused cause_at (10 ∷ kind ∷ []) 1
 

@@ -10,7 +10,8 @@ use Rattle.file_paths.specs.Fields.{path_fields}
 use Rattle.file_paths.specs.Reading.{path_at}
 use Rattle.tree_values.specs.Fault.{tree_fault, fault_fields, FaultFits, fault_at}
 use Rattle.wire_frames.specs.declared.cause.Cause.{Cause}
-use Rattle.wire_frames.specs.declared.cause.Cause.TheVariants.{OtherJob, NoJob, NoServer, NotRun, Status, OddTree, Mismatch, Clash, NotFit, Refused, NoMemory}
+use Rattle.wire_frames.specs.declared.cause.Cause.TheVariants.{OtherJob, NoJob, NoServer, NotRun, Status, OddTree, Mismatch, Clash, NotFit}
+use Rattle.wire_frames.specs.declared.cause.Cause.TheVariants.{Refused, NoMemory}
 
 -- the number of the cause, and what it tells
 abbrev pub cause : Cause → List ℕ

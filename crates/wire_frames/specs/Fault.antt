@@ -3,7 +3,8 @@ use Rattle.std.specs.Prelude.{ℕ, ◌<◌, ◌^◌, List, [], ◌∷◌}
 use Rattle.byte_fields.specs.Field.{Reader}
 use Rattle.file_paths.specs.Path.{IsPath}
 use Rattle.tree_values.specs.declared.node.TreeError.{TreeError}
-use Rattle.tree_values.specs.declared.node.TreeError.TheVariants.{RootFixed, NoParent, Exists, Missing, IsFolder, NotEmpty, RowsFull, FileTooLarge, TreeFull, VersionTop, Memory}
+use Rattle.tree_values.specs.declared.node.TreeError.TheVariants.{RootFixed, NoParent, Exists, Missing, IsFolder, NotEmpty, RowsFull}
+use Rattle.tree_values.specs.declared.node.TreeError.TheVariants.{FileTooLarge, TreeFull, VersionTop, Memory}
 use Rattle.tree_values.specs.Fault.{fault_of}
 
 -- the numbers of the refusals that more room would not cure

@@ -15,7 +15,8 @@ use Rattle.wire_frames.specs.Limits.{max_client}
 use Rattle.wire_frames.specs.declared.message.Message.{Message}
 use Rattle.wire_frames.specs.declared.message.Message.TheVariants as messages
 use Rattle.wire_frames.specs.declared.message.Kind.{Kind}
-use Rattle.wire_frames.specs.declared.message.Kind.TheVariants.{Store, Operate, Pull, Accepted, Stale, Unfit, Gap, Snapshot, Done, Declined, Full, Malformed}
+use Rattle.wire_frames.specs.declared.message.Kind.TheVariants.{Store, Operate, Pull, Accepted, Stale, Unfit, Gap, Snapshot, Done, Declined}
+use Rattle.wire_frames.specs.declared.message.Kind.TheVariants.{Full, Malformed}
 
 abbrev pub kind : Message → Kind
 kind (messages.Store client number es bs) = Store
@@ -128,7 +129,8 @@ BodyFits (messages.Unfit client number index fault) = (index < 2 ^ 32) × UnfitF
 BodyFits (messages.Full client number index fault) = (index < 2 ^ 32) × FullFits fault
 BodyFits (messages.Gap client number last) = (last < 2 ^ 64) × (nat_le (last + 2) number ≡ true)
 BodyFits (messages.Snapshot client number last rs) = (last < 2 ^ 64) × IsTree rs
-BodyFits (messages.Malformed code offset) = (code < 2 ^ 8) × ((nat_le 1 code && nat_le code 7) ≡ true) × (offset < 2 ^ 32) × (offset_rule code offset ≡ true)
+BodyFits (messages.Malformed code offset) =
+    (code < 2 ^ 8) × ((nat_le 1 code && nat_le code 7) ≡ true) × (offset < 2 ^ 32) × (offset_rule code offset ≡ true)
 BodyFits (messages.Declined client number why) = CauseFits why
 BodyFits (messages.Pull client number) = Unit {0}
 BodyFits (messages.Accepted client number) = Unit {0}

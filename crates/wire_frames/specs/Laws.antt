@@ -13,7 +13,8 @@ use Rattle.mod_log.specs.Sketched.{AllFill, IsSketchOf}
 use Rattle.wire_frames.specs.declared.message.Message.{Message}
 use Rattle.wire_frames.specs.declared.message.Message.TheVariants as messages
 use Rattle.wire_frames.specs.declared.message.Kind.{Kind}
-use Rattle.wire_frames.specs.declared.message.Kind.TheVariants.{Store, Operate, Pull, Accepted, Stale, Unfit, Gap, Snapshot, Done, Declined, Full}
+use Rattle.wire_frames.specs.declared.message.Kind.TheVariants.{Store, Operate, Pull, Accepted, Stale, Unfit, Gap, Snapshot, Done, Declined}
+use Rattle.wire_frames.specs.declared.message.Kind.TheVariants.{Full}
 use Rattle.wire_frames.specs.declared.message.FrameError.TheVariants.{BadLength, BadVersion, BadKind, BadClient, BadField, Trailing}
 use Rattle.wire_frames.specs.Frame.{frame_version, kind, client_of, number_of, code_of, client_rule, frame, IsValid, Echoes}
 use Rattle.wire_frames.specs.Fields.{message_fields}
@@ -43,7 +44,8 @@ ClientIsFourth = (bytes : List ℕ) → (frame_of bytes ≡ Err BadClient)
 
 -- a faulty field begins behind the client
 abbrev pub FieldsAreBehindTheClient : Type 0
-FieldsAreBehindTheClient = (bytes : List ℕ) (place : ℕ) → IsBytes bytes → frame_of bytes ≡ Err (BadField place) → (7 ≤ place) × (place ≤ length bytes)
+FieldsAreBehindTheClient =
+    (bytes : List ℕ) (place : ℕ) → IsBytes bytes → frame_of bytes ≡ Err (BadField place) → (7 ≤ place) × (place ≤ length bytes)
 
 -- what is left over stands behind the fields of a valid message
 abbrev pub MessagesStandBeforeWhatIsLeft : Type 0
@@ -53,18 +55,21 @@ MessagesStandBeforeWhatIsLeft = (bytes : List ℕ) (place : ℕ) → IsBytes byt
 -- A valid message's frame that is cut short, and says its new length, is refused at the field in which it ends.
 abbrev pub CutFramesNameTheField : Type 0
 CutFramesNameTheField = (message : Message) (end : ℕ) → IsValid message → 15 ≤ end → end < length (frame message)
-    → frame_of (take end (digits w32 (end - 4) ++ drop 4 (frame message))) ≡ Err (BadField (7 + start_of (end - 7) (message_fields message)))
+    → frame_of (take end (digits w32 (end - 4) ++ drop 4 (frame message))) ≡ Err
+    (BadField (7 + start_of (end - 7) (message_fields message)))
 
 -- ---- operations beside stores
 
 -- what fills the sketches of a valid operation is, with the operation's number and bases, a valid store
 abbrev pub FilledStoresAreValid : Type 0
-FilledStoresAreValid = (client : ℕ) (sketched : SketchEntry) (effects : List Effect) → IsValid (messages.Operate client sketched) → AllFill sketched.effects effects
+FilledStoresAreValid = (client : ℕ) (sketched : SketchEntry) (effects : List Effect) → IsValid (messages.Operate client sketched)
+    → AllFill sketched.effects effects
     → IsValid (messages.Store client sketched.seq effects sketched.base)
 
 -- an entry that has a valid store has a valid operation, if a command made it
 abbrev pub SketchedStoresAreValid : Type 0
-SketchedStoresAreValid = (client : ℕ) (entry : Entry) (sketched : SketchEntry) → IsValid (messages.Store client entry.seq entry.effects entry.base) → MadeByFits entry.origin → IsSketchOf entry sketched
+SketchedStoresAreValid = (client : ℕ) (entry : Entry) (sketched : SketchEntry)
+    → IsValid (messages.Store client entry.seq entry.effects entry.base) → MadeByFits entry.origin → IsSketchOf entry sketched
     → IsValid (messages.Operate client sketched)
 
 -- ---- replies
@@ -84,4 +89,5 @@ IsReplyKind _ _ = ⊥
 -- a reply answers a request exactly where its kind answers the request's, and it is of its client and its number
 abbrev pub KindsDecideReplies : Type 0
 KindsDecideReplies = (request reply : Message)
-    → Echoes request reply ↔ (IsReplyKind (kind request) (kind reply) × (client_of request ≡ client_of reply) × (number_of request ≡ number_of reply))
+    → Echoes request reply
+    ↔ (IsReplyKind (kind request) (kind reply) × (client_of request ≡ client_of reply) × (number_of request ≡ number_of reply))

@@ -42,4 +42,5 @@ sketches_at bytes at = do
 
 -- the operation of this number
 unfoldable pub operation_at : ℕ → Reader SketchEntry
-operation_at number = two origin_at (λ origin. sketches_at) (λ origin sketched. record { seq = number; origin = origin; base = sketched.1; effects = sketched.0 })
+operation_at number = two origin_at (λ origin. sketches_at)
+    (λ origin sketched. record { seq = number; origin = origin; base = sketched.1; effects = sketched.0 })

@@ -5,16 +5,9 @@ use Rattle.std.proofs.Common.{Result, Ok, Err}
 use Rattle.std.specs.List.{filter_map, cons_option}
 use Rattle.std.specs.Option.{option_to_list, option_and_then}
 use Rattle.std.proofs.lemmas.List.{reverse-append}
-use Rattle.tree_values.specs.declared.node.Effect.{Effect}
 use Rattle.cmd_capture.specs.declared.job.JobRow.{JobRow}
 use Rattle.cmd_capture.specs.declared.job.RawRow.{RawRow}
-use Rattle.std.specs.List.{list_all, AllByRecursion}
-use Rattle.std.specs.Ordering.{is_lt}
-use Rattle.std.specs.Cmp.{first_so, second_so}
-use Rattle.std.specs.declared.cmp.Ordering.TheVariants.{Equal}
-use Rattle.file_paths.specs.Path.{path_cmp, FilePath, IsPath, path_of}
-use Rattle.tree_values.specs.Tree.{is_root}
-use Rattle.file_paths.proofs.Order.{same_place}
+use Rattle.file_paths.specs.Path.{FilePath, IsPath, path_of}
 use Rattle.file_paths.specs.declared.path.PathError.{PathError}
 use Rattle.file_paths.proofs.PathTexts.{path_of_text}
 use Rattle.cmd_capture.specs.Capture.{ok}

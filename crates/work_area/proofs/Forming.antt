@@ -10,8 +10,7 @@ use Rattle.byte_fields.proofs.Facts.{or_true}
 use Rattle.file_paths.specs.Limits.{max_file}
 use Rattle.file_paths.specs.Path.{FilePath, IsPath, path_cmp, folder_of}
 use Rattle.byte_fields.specs.Codec.{IsBytes}
-use Rattle.tree_values.specs.Tree.{Volume, IsRow, IsTree, AreInOrder, is_root, is_folder, is_folder_node, node_at, node_size, file_bytes}
-use Rattle.tree_values.specs.declared.node.Node.{Node}
+use Rattle.tree_values.specs.Tree.{Volume, IsRow, IsTree, AreInOrder, is_root, is_folder_node, node_at, node_size, file_bytes}
 use Rattle.tree_values.specs.declared.node.Row.{Row}
 use Rattle.cmd_capture.specs.declared.command.Command.{Command}
 use Rattle.cmd_capture.specs.declared.job.JobRow.{JobRow}

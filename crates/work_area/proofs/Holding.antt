@@ -4,15 +4,9 @@ use Rattle.std.proofs.Common.{Option, Some, None, option_map, Ok, cond, refl, sy
 use Rattle.std.proofs.Common.{subst}
 use Rattle.std.specs.List.{filter_map, cons_option, AllByRecursion}
 use Rattle.std.specs.Option.{option_and_then}
-use Rattle.std.specs.Str.{bytes_eq}
-use Rattle.std.specs.Cmp.Lexicographic.{pointwise, pointwise_decides, bytes_decides}
-use Rattle.std.specs.declared.cmp.Ordering.TheVariants.{Less, Equal}
-use Rattle.std.specs.Ordering.{is_lt}
-use Rattle.std.proofs.lemmas.Bool.{cases_lt}
-use Rattle.std.proofs.lemmas.List.{take-take}
-use Rattle.file_paths.specs.Path.{FilePath, path_cmp, is_same_path, folder_of}
-use Rattle.file_paths.specs.Refusals.{unless_refused}
-use Rattle.tree_values.specs.Tree.{Volume, IsRow, IsTree, AreInOrder, is_root, is_folder, is_folder_node, node_at, node_size}
+use Rattle.std.specs.declared.cmp.Ordering.TheVariants.{Less}
+use Rattle.file_paths.specs.Path.{FilePath, path_cmp, is_same_path}
+use Rattle.tree_values.specs.Tree.{Volume, AreInOrder, node_at}
 use Rattle.tree_values.specs.declared.node.Node.{Node}
 use Rattle.tree_values.specs.declared.node.Row.{Row}
 use Rattle.tree_values.proofs.Ordered.{find_none}

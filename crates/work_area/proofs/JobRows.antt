@@ -5,7 +5,7 @@ use Rattle.std.specs.List.{list_all, AllByRecursion}
 use Rattle.std.specs.Cmp.{first_so, second_so}
 use Rattle.std.specs.Ordering.{is_lt}
 use Rattle.std.specs.declared.cmp.Ordering.TheVariants.{Less, Equal}
-use Rattle.file_paths.specs.Path.{FilePath, IsPath, path_cmp, is_same_path, folder_of}
+use Rattle.file_paths.specs.Path.{FilePath, IsPath, path_cmp, folder_of}
 use Rattle.tree_values.specs.Tree.{is_root, is_folder_node}
 use Rattle.tree_values.specs.declared.node.Node.{Node}
 use Rattle.byte_fields.proofs.Facts.{not_of}

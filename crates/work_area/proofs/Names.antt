@@ -6,7 +6,6 @@ use Rattle.std.proofs.lemmas.List.{length-map}
 use Rattle.byte_fields.proofs.Facts.{or_false_of, filter_length}
 use Rattle.file_paths.specs.Path.{FilePath, last_name}
 use Rattle.tree_values.specs.Tree.{Volume, is_child, children}
-use Rattle.tree_values.specs.declared.node.Row.{Row}
 
 module _ {X : Type 0} (f : X → Bool) where
   pub all_seen : (xs : List X) (i : ℕ) → length xs ≤ i → list_any f (take i xs) ≡ false → list_any f xs ≡ false

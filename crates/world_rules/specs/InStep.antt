@@ -12,7 +12,8 @@ use Rattle.mod_log.specs.Log.{Log, tree_at, IsLog}
 use Rattle.mod_log.specs.Sketched.{IsSketchOf, WritesContent}
 use Rattle.rs_parity.specs.Sketches.{Distinct}
 use Rattle.wire_frames.specs.declared.message.Message.{Message}
-use Rattle.wire_frames.specs.declared.message.Message.TheVariants.{Store, Operate, Pull, Accepted, Stale, Unfit, Gap, Snapshot, Done, Declined, Full, Malformed}
+use Rattle.wire_frames.specs.declared.message.Message.TheVariants.{Store, Operate, Pull, Accepted, Stale, Unfit, Gap, Snapshot, Done}
+use Rattle.wire_frames.specs.declared.message.Message.TheVariants.{Declined, Full, Malformed}
 use Rattle.wire_frames.specs.Frame.{client_of, IsValid}
 use Rattle.world_rules.specs.Served.{IsServed}
 use Rattle.world_rules.specs.World.{World}
@@ -33,7 +34,8 @@ pub record IsSendable (log : Log) (number : ℕ) : Type 0 where
 
 -- the pending entry of this number has these effects and this base
 abbrev pub IsPendingAt : Log → ℕ → List Effect → List Base → Type 0
-IsPendingAt log number effects base = (entry : Entry) × IsIn entry log.pending × (entry.seq ≡ number) × (effects ≡ entry.effects) × (base ≡ entry.base)
+IsPendingAt log number effects base =
+    (entry : Entry) × IsIn entry log.pending × (entry.seq ≡ number) × (effects ≡ entry.effects) × (base ≡ entry.base)
 
 -- this is the sketch of a pending entry
 abbrev pub IsSketchPending : Log → SketchEntry → Type 0
@@ -45,13 +47,16 @@ IsFitting log last volume (Store client number effects base) = IsSendable log nu
 IsFitting log last volume (Operate client sketched) = IsSendable log sketched.seq × (last < sketched.seq → IsSketchPending log sketched)
 IsFitting log last volume (Pull client number) = number ≤ last
 IsFitting log last volume (Accepted client number) = number ≤ last
-IsFitting log last volume (Stale client number path theirs ours) = IsSendable log number × (number ≡ log.acked + 1 → version_at (tree_at last log) path < version_at volume path)
-IsFitting log last volume (Unfit client number index fault) = IsSendable log number × (number ≡ log.acked + 1 → IsAhead volume (tree_at last log))
+IsFitting log last volume (Stale client number path theirs ours) =
+    IsSendable log number × (number ≡ log.acked + 1 → version_at (tree_at last log) path < version_at volume path)
+IsFitting log last volume (Unfit client number index fault) =
+    IsSendable log number × (number ≡ log.acked + 1 → IsAhead volume (tree_at last log))
 IsFitting log last volume (Gap client number beyond) = ⊥
 IsFitting log last volume (Snapshot client number then seen) = (number ≤ then) × (then ≤ last) × IsBehind seen volume × IsTree seen
 IsFitting log last volume (Done client number) = number ≤ last
 IsFitting log last volume (Declined client number cause) = Unit {0}
-IsFitting log last volume (Full client number index fault) = IsSendable log number × (number ≡ log.acked + 1 → IsAhead volume (tree_at last log))
+IsFitting log last volume (Full client number index fault) =
+    IsSendable log number × (number ≡ log.acked + 1 → IsAhead volume (tree_at last log))
 IsFitting log last volume (Malformed code offset) = Unit {0}
 
 -- a client's log is in step with the world about it
@@ -63,7 +68,8 @@ pub record InStep (client : ℕ) (log : Log) (world : World) : Type 0 where
   pub not_higher : IsTakenUpTo log (world.served.last client)
   -- where a version is that of the client's tree after the last taken entry, the node is, too; no version is lower
   pub behind : IsBehind (tree_at (world.served.last client) log) world.served.volume
-  pub fitting : (message : Message) → IsIn message world.packets → client_of message ≡ client → IsFitting log (world.served.last client) world.served.volume message
+  pub fitting : (message : Message) → IsIn message world.packets → client_of message ≡ client
+      → IsFitting log (world.served.last client) world.served.volume message
   pub valid : (message : Message) → IsIn message world.packets → IsValid message
   pub log_is : IsLog log
   pub served_is : IsServed world.served
@@ -98,7 +104,8 @@ HasNoOperation client packets = (sketched : SketchEntry) → IsIn (Operate clien
 -- pending.
 abbrev pub MaySend : ℕ → Bool → Log → Message → Type 0
 MaySend client ships log (Store of number effects base) = (of ≡ client) × (number ≡ log.acked + 1) × IsPendingAt log number effects base
-MaySend client ships log (Operate of sketched) = (of ≡ client) × (sketched.seq ≡ log.acked + 1) × IsSketchPending log sketched × IsTrue ships
+MaySend client ships log (Operate of sketched) =
+    (of ≡ client) × (sketched.seq ≡ log.acked + 1) × IsSketchPending log sketched × IsTrue ships
 MaySend client ships log (Pull of number) = (of ≡ client) × (number ≡ log.acked) × (log.pending ≡ [])
 MaySend client ships log _ = ⊥
 

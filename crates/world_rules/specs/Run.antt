@@ -64,7 +64,8 @@ abbrev pub IsPossible : ℕ → Bool → State → Move → Type 0
 IsPossible client ships state (Network step) = IsAllowed (MaySendKept client ships state) state.world step
 IsPossible client ships state (Notes ask) = IsIn ask.request state.world.packets × AnswerStands state.world ask
 IsPossible client ships state (Logs entry) = IsLog (logged entry state.log)
-IsPossible client ships state (Acknowledges reply) = (state.log.pending ≢ []) × IsAcceptance client (state.log.acked + 1) reply × IsIn reply state.world.packets
+IsPossible client ships state (Acknowledges reply) =
+    (state.log.pending ≢ []) × IsAcceptance client (state.log.acked + 1) reply × IsIn reply state.world.packets
 IsPossible client ships state (Pulls last seen) =
     (state.log.pending ≡ []) × (last ≡ state.log.acked) × IsIn (Snapshot client state.log.acked last seen) state.world.packets
     × ((path : FilePath) → version_at state.log.base path ≤ version_at seen path)

@@ -1,5 +1,6 @@
 -- What a server holds, what it answers to a message, and what it holds then.
-use Rattle.std.specs.Prelude.{◌≡◌, ℕ, ◌+◌, ◌<◌, ◌^◌, Bool, true, false, ◌==◌, List, [], ◌∷◌, Option, Some, None, Result, Ok, Err, nat_lt, nat_le, if◌then◌else◌}
+use Rattle.std.specs.Prelude.{◌≡◌, ℕ, ◌+◌, ◌<◌, ◌^◌, Bool, true, false, ◌==◌, List, [], ◌∷◌, Option, Some, None, Result, Ok, Err, nat_lt}
+use Rattle.std.specs.Prelude.{nat_le, if◌then◌else◌}
 use Rattle.tree_values.specs.Effects.{apply_all, Conflict, first_conflict}
 use Rattle.tree_values.specs.Tree.{Volume, IsTree}
 use Rattle.tree_values.specs.declared.node.Effect.{Effect}
@@ -113,7 +114,8 @@ taken_if _ entry = []
 
 -- the entry of a store, where it is taken
 abbrev pub taken_of : Message → Served → List TakenEntry
-taken_of (Store client number effects base) served = taken_if (verdict client number effects base served) (entry_stored client number effects base)
+taken_of (Store client number effects base) served =
+    taken_if (verdict client number effects base served) (entry_stored client number effects base)
 taken_of message served = []
 
 -- the served state after the stores of these entries, one after the other

@@ -25,13 +25,15 @@ settled to address request failed reply = failures to address request failed ++ 
 
 -- either a reply came, or eight asks failed
 abbrev pub IsSettling : Peer → List ℕ → Message → Option Message → List Ask → Type 0
-IsSettling to address request (Some reply) asks = (failed : ℕ) × (failed < 8) × IsValid reply × Echoes request reply × (asks ≡ settled to address request failed reply)
+IsSettling to address request (Some reply) asks =
+    (failed : ℕ) × (failed < 8) × IsValid reply × Echoes request reply × (asks ≡ settled to address request failed reply)
 IsSettling to address request None asks = asks ≡ failures to address request 8
 
 -- the asks of a settling that is broken off: some failed, and at most one more was made
 abbrev pub BreaksSettling : Peer → List ℕ → Message → List Ask → Type 0
 BreaksSettling to address request asks =
-    (failed : ℕ) × (failed < 8) × ((asks ≡ failures to address request failed) ⊎ ((answer : Answer) × (asks ≡ failures to address request failed ++ ask_of to address request answer ∷ [])))
+    (failed : ℕ) × (failed < 8) × ((asks ≡ failures to address request failed)
+    ⊎ ((answer : Answer) × (asks ≡ failures to address request failed ++ ask_of to address request answer ∷ [])))
 
 -- the asks of a settling with this result: a reply, none after eight asks that failed, or want of memory, which breaks it off
 abbrev pub SettlesTo : Peer → List ℕ → Message → Result (Option Message) AllocError → List Ask → Type 0
@@ -51,7 +53,8 @@ failed_asks (ask ∷ asks) = one_if_failed ask.answer + failed_asks asks
 
 -- Between two moments of a link a request was settled, or its settling was broken off, over any link. Where the link tells its world,
 -- that moved by these asks, and each answer stands in it.
-pub record Settled (to : Peer) (address : List ℕ) (request : Message) (old new : LinkTelling) (result : Result (Option Message) AllocError) : Type 0 where
+pub record Settled (to : Peer) (address : List ℕ) (request : Message) (old new : LinkTelling)
+    (result : Result (Option Message) AllocError) : Type 0 where
   pub asks : List Ask
   pub settling : SettlesTo to address request result asks
   pub rose : HadTroubles (failed_asks asks) old new

@@ -41,7 +41,14 @@ pub data Step : Type 0 where
 
 -- the world once a message has joined the packets
 abbrev pub sent : Message → World → World
-sent message world = record { client = world.client; opening = world.opening; taken = world.taken; served = world.served; packets = world.packets ++ message ∷ []; asks = world.asks }
+sent message world = record {
+  client = world.client;
+  opening = world.opening;
+  taken = world.taken;
+  served = world.served;
+  packets = world.packets ++ message ∷ [];
+  asks = world.asks;
+}
 
 -- the world once a message was delivered to the server, and its answer has joined the packets or was lost
 abbrev pub delivered : Message → Bool → World → World
@@ -56,7 +63,14 @@ delivered message joins world = record {
 
 -- the world once these asks are noted
 abbrev pub noted : List Ask → World → World
-noted made world = record { client = world.client; opening = world.opening; taken = world.taken; served = world.served; packets = world.packets; asks = world.asks ++ made }
+noted made world = record {
+  client = world.client;
+  opening = world.opening;
+  taken = world.taken;
+  served = world.served;
+  packets = world.packets;
+  asks = world.asks ++ made;
+}
 
 -- the world after a step
 abbrev pub happens : Step → World → World
@@ -84,7 +98,8 @@ IsOperated client packets Holds = (sketched : SketchEntry) × IsIn (Operate clie
 -- that it is declined, and, once its store was accepted, that it is done.
 abbrev pub IsLicensed : ℕ → List Message → Message → Type 0
 IsLicensed client packets (Store of number effects base) =
-    (of ≡ client) × IsOperated client packets (λ sketched. (number ≡ sketched.seq) × (base ≡ sketched.base) × AllFill sketched.effects effects)
+    (of ≡ client) × IsOperated client packets
+    (λ sketched. (number ≡ sketched.seq) × (base ≡ sketched.base) × AllFill sketched.effects effects)
 IsLicensed client packets (Pull of number) = (of ≡ client) × IsOperated client packets (λ sketched. number ≡ sketched.seq - 1)
 IsLicensed client packets (Declined of number cause) = (of ≡ client) × IsOperated client packets (λ sketched. number ≡ sketched.seq)
 IsLicensed client packets (Done of number) =

@@ -1,4 +1,4 @@
-use Rattle.std.proofs.Common.{◌≡◌, ◌<◌, ◌≤◌, arith, rules}
+use Rattle.std.proofs.Common.{◌≡◌, ◌<◌, ◌≤◌, arith}
 use Rattle.outside.proofs.Writing.{on_err}
 use Rattle.port_serving.proofs.Connections.{fits}
 use Rattle.surrogate_prog.proofs.Connections.{so_far_begins, so_far_next, all_came, all_made, front}

@@ -1,4 +1,4 @@
-use Rattle.std.proofs.Common.{◌≡◌, ◌++◌, ◌∷◌, [], ◌∙◌, not, sym, ap}
+use Rattle.std.proofs.Common.{◌++◌, ◌∷◌, [], ◌∙◌, not, sym, ap}
 use Rattle.tree_values.specs.Tree.{children}
 use Rattle.work_area.specs.Changes.{has_row}
 use Rattle.work_area.proofs.Names.{none_here}

@@ -1,4 +1,4 @@
-use Rattle.std.proofs.Common.{◌≡◌, ◌∙◌, ap, length, not, arith}
+use Rattle.std.proofs.Common.{◌≡◌, ◌∙◌, ap, length}
 use Rattle.shell_lang.specs.Lines.{Buffered}
 use Rattle.shell_lang.proofs.Searching.{line_end_added, line_end_stays}
 use Rattle.shell_lang.proofs.lines.LineBuffer.add.Goals as goal
