@@ -234,18 +234,18 @@ module _ (slots : Places) (path : FilePath) (arena : IsArena slots) where
 
 -- ---- the first, or one by its number
 
-pub standing_more : (slots : Places) (cs : List ℕ) (k c : ℕ) (slot : Place) → k < length cs → c ≡ get_or cs k c → slot ≡ place slots c → is_some slot.node ≡ true → standing slots (take (k + 1) cs) ≡ standing slots (take k cs) ++ slot.name ∷ []
+pub standing_more : (slots : Places) (cs : List ℕ) (k c : ℕ) (slot : Place) → k < length cs → c ≡ get_or cs k 0 → slot ≡ place slots c → is_some slot.node ≡ true → standing slots (take (k + 1) cs) ≡ standing slots (take k cs) ++ slot.name ∷ []
 standing_more slots cs k c slot within read is some =
-    let front : take (k + 1) cs ≡ take k cs ++ c ∷ [] = take_more cs k c within ∙ ap (λ d. take k cs ++ d ∷ []) (sym read) in
+    let front : take (k + 1) cs ≡ take k cs ++ c ∷ [] = take_more cs k 0 within ∙ ap (λ d. take k cs ++ d ∷ []) (sym read) in
     let test : is_some (place slots c).node ≡ true = ap (λ (x : Place). is_some x.node) (sym is) ∙ some in
     ap (standing slots) front
     ∙ ap (map (λ c. (place slots c).name)) (filter-append (λ c. is_some (place slots c).node) (take k cs) (c ∷ []) ∙ rw test refl)
     ∙ map-append (λ c. (place slots c).name) (filter (λ c. is_some (place slots c).node) (take k cs)) (c ∷ [])
     ∙ ap (λ (x : Place). standing slots (take k cs) ++ x.name ∷ []) (sym is)
 
-pub standing_same : (slots : Places) (cs : List ℕ) (k c : ℕ) (slot : Place) → k < length cs → c ≡ get_or cs k c → slot ≡ place slots c → is_some slot.node ≡ false → standing slots (take (k + 1) cs) ≡ standing slots (take k cs)
+pub standing_same : (slots : Places) (cs : List ℕ) (k c : ℕ) (slot : Place) → k < length cs → c ≡ get_or cs k 0 → slot ≡ place slots c → is_some slot.node ≡ false → standing slots (take (k + 1) cs) ≡ standing slots (take k cs)
 standing_same slots cs k c slot within read is none =
-    let front : take (k + 1) cs ≡ take k cs ++ c ∷ [] = take_more cs k c within ∙ ap (λ d. take k cs ++ d ∷ []) (sym read) in
+    let front : take (k + 1) cs ≡ take k cs ++ c ∷ [] = take_more cs k 0 within ∙ ap (λ d. take k cs ++ d ∷ []) (sym read) in
     let test : is_some (place slots c).node ≡ false = ap (λ (x : Place). is_some x.node) (sym is) ∙ none in
     ap (standing slots) front
     ∙ ap (map (λ c. (place slots c).name)) (filter-append (λ c. is_some (place slots c).node) (take k cs) (c ∷ []) ∙ rw test (append-nil (filter (λ c. is_some (place slots c).node) (take k cs))))

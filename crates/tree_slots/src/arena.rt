@@ -14,6 +14,7 @@ ghost use Rattle.tree_slots.specs.Arena.{written, Pads, Grows, IsEntered, place,
 ghost use Rattle.tree_slots.specs.Arena.{standing as standing_names};
 
 use file_paths::{Content, Names, Path, TryCopy};
+use parted_list::PartedList;
 use std::alloc::{AllocError, Global};
 use std::cmp::Ordering;
 use std::marker::Model;
@@ -21,12 +22,12 @@ use std::mem;
 use tree_values::{Node, Row, Rows, copy_node, spell_row};
 
 /// What stands at a name in a folder: version 0 stands for no row.
-#[derive(Debug, Drop)]
+#[derive(Drop)]
 pub struct Slot {
     name: Content,
     version: u64,
     node: Option<Node>,
-    children: Vec<u32>,
+    children: PartedList,
 }
 
 impl Model for Slot {
@@ -34,7 +35,7 @@ impl Model for Slot {
 
     ghost Value = { Place };
 
-    ghost view = { λ slot. record { name = slot.name; version = slot.version; node = slot.node; children = slot.children.items } };
+    ghost view = { λ slot. record { name = slot.name; version = slot.version; node = slot.node; children = slot.children } };
 }
 
 impl Slot {
@@ -46,7 +47,7 @@ impl Slot {
             name: Content::empty(),
             version: 0,
             node: None,
-            children: Vec::new(alloc),
+            children: PartedList::new(alloc),
         }
     }
 
@@ -60,10 +61,10 @@ impl Slot {
         self.children.clear();
     }
 
-    fn children(&self) -> &[u32]
+    fn children(&self) -> &PartedList
         ensures { result.now ≡ self.now.children }
     {
-        self.children.as_slice()
+        &self.children
     }
 
     fn name(&self) -> &Content
@@ -115,7 +116,7 @@ impl Slot {
         ensures { self.new ≡ record
             { name = self.old.name; version = self.old.version; node = self.old.node; children = remove self.old.children k } }
     {
-        let _ = self.children.remove(k);
+        self.children.remove(k);
     }
 
     /// Whether it stands for no row and has no slots in it.
@@ -134,18 +135,44 @@ impl Slot {
     }
 }
 
-/// The slots in a slot, in the order of their names.
-fn children_of(slots: &[Slot], i: u32) -> &[u32]
-    ensures { result.now ≡ (place slots.now i).children }
+/// How many slots are in a slot.
+fn child_count(slots: &[Slot], i: u32) -> usize
+    ensures { result ≡ length (place slots.now i).children }
 {
     match slots.get(i as usize) {
-        Some(slot) => slot.children(),
-        None => &[],
+        Some(slot) => slot.children().len(),
+        None => 0,
     }
 }
 
-/// Where the child of a name stands, or else where it belongs; and how many names were compared.
-fn search(slots: &[Slot], children: &[u32], name: &Content) -> (Result<usize, usize>, u32)
+/// Slot `k` of those in a slot, in the order of their names.
+fn child_of(slots: &[Slot], i: u32, k: usize) -> u32
+    requires linked { AreLinked slots.now }
+    requires within { k < length (place slots.now i).children }
+    ensures child { result ≡ slice_index (place slots.now i).children k }
+    ensures within { result < length slots.now }
+{
+    match slots.get(i as usize) {
+        Some(slot) => slot.children().get(k),
+        None => unreachable!(),
+    }
+}
+
+/// Where the child of a name stands in a slot, or else where it belongs; and how many names were compared.
+fn search(slots: &[Slot], i: u32, name: &Content) -> (Result<usize, usize>, u32)
+    requires { AreLinked slots.now }
+    ensures found { IfOk result.0 (IsFound slots.now (place slots.now i).children name.now) }
+    ensures missing { IfErr result.0 (IsMissing slots.now (place slots.now i).children name.now) }
+    ensures few { result.1 ≤ 16 }
+{
+    match slots.get(i as usize) {
+        Some(slot) => halve(slots, slot.children(), name),
+        None => (Err(0), 0),
+    }
+}
+
+/// The same among these slots, by halving them.
+fn halve(slots: &[Slot], children: &PartedList, name: &Content) -> (Result<usize, usize>, u32)
     requires within { (k : ℕ) → k < length children.now → slice_index children.now k < length slots.now }
     requires ascending { AreAscending slots.now children.now }
     requires few { length children.now < 65536 }
@@ -159,7 +186,7 @@ fn search(slots: &[Slot], children: &[u32], name: &Content) -> (Result<usize, us
     while low < high {
         let middle = low + (high - low) / 2;
         left -= 1;
-        match slots[children[middle] as usize].compare(name) {
+        match slots[children.get(middle) as usize].compare(name) {
             Ordering::Less => low = middle + 1,
             Ordering::Greater => high = middle,
             Ordering::Equal => return (Ok(middle), 16 - left),
@@ -177,11 +204,10 @@ fn descend(slots: &[Slot], path: &[Content]) -> (Option<u32>, u32)
     let mut at = 0;
     let mut compared: u32 = 0;
     for name in path {
-        let children = children_of(slots, at);
-        let (found, more) = search(slots, children, name);
+        let (found, more) = search(slots, at, name);
         compared = compared.saturating_add(more);
         match found {
-            Ok(k) => at = children[k],
+            Ok(k) => at = child_of(slots, at, k),
             Err(_) => return (None, compared),
         }
     }
@@ -245,13 +271,24 @@ impl Arena {
         }
     }
 
+    /// What stands at a path, and how many applied effects touched it.
+    pub fn look(&self, path: &[Content]) -> (Option<&Node>, u64)
+        ensures node { option_copied result.0 ≡ node_at self.now path.now }
+        ensures version { result.1 ≡ version_at self.now path.now }
+    {
+        match descend(&self.slots, path).0 {
+            Some(i) => (node_of(&self.slots, i), version_of(&self.slots, i)),
+            None => (None, 0),
+        }
+    }
+
     /// The names of what stands in a folder, in order.
     pub fn children(&self, path: &[Content]) -> Result<Names, AllocError>
         ensures { IfOk result (λ names. names ≡ children self.now path.now) }
     {
         let alloc = *self.slots.allocator();
         match descend(&self.slots, path).0 {
-            Some(i) => standing(alloc, &self.slots, children_of(&self.slots, i)),
+            Some(i) => standing(alloc, &self.slots, i),
             None => Ok(Names::new(alloc)),
         }
     }
@@ -261,7 +298,7 @@ impl Arena {
         ensures { option_copied result ≡ slice_get (children self.now path.now) i }
     {
         match descend(&self.slots, path).0 {
-            Some(at) => nth_standing(&self.slots, children_of(&self.slots, at), i),
+            Some(at) => nth_standing(&self.slots, at, i),
             None => None,
         }
     }
@@ -350,7 +387,7 @@ impl TryCopy for Slot {
             name: self.name.copy()?,
             version: self.version,
             node: copy_node(self.node.as_ref())?,
-            children: Vec::from_slice(*self.children.allocator(), self.children.as_slice())?,
+            children: self.children.copy()?,
         })
     }
 }
@@ -383,9 +420,10 @@ fn add_rows(
         return Ok(());
     }
     add_own_row(slots, path, i, rows)?;
-    for c in children_of(slots, i) {
-        let child = path.child(slots[*c as usize].name())?;
-        add_rows(slots, &child, *c, levels - 1, rows)?;
+    for k in 0..child_count(slots, i) {
+        let c = child_of(slots, i, k);
+        let child = path.child(slots[c as usize].name())?;
+        add_rows(slots, &child, c, levels - 1, rows)?;
     }
     Ok(())
 }
@@ -405,14 +443,15 @@ fn add_own_row(slots: &[Slot], path: &Path, i: u32, rows: &mut Rows) -> Result<(
     Ok(())
 }
 
-/// The names of those of these slots at which something stands.
-fn standing(alloc: Global, slots: &[Slot], children: &[u32]) -> Result<Names, AllocError>
-    requires { (k : ℕ) → k < length children.now → slice_index children.now k < length slots.now }
-    ensures { IfOk result (λ names. names ≡ standing_names slots.now children.now) }
+/// The names of those slots in a slot at which something stands.
+fn standing(alloc: Global, slots: &[Slot], at: u32) -> Result<Names, AllocError>
+    requires { AreLinked slots.now }
+    ensures { IfOk result (λ names. names ≡ standing_names slots.now (place slots.now at).children) }
 {
     let mut names = Names::new(alloc);
-    for c in children {
-        let slot = &slots[*c as usize];
+    for k in 0..child_count(slots, at) {
+        let c = child_of(slots, at, k);
+        let slot = &slots[c as usize];
         if slot.stands() {
             names.push(slot.name().copy()?)?;
         }
@@ -420,14 +459,15 @@ fn standing(alloc: Global, slots: &[Slot], children: &[u32]) -> Result<Names, Al
     Ok(names)
 }
 
-/// Name `i` of those of these slots at which something stands, counted from 0.
-fn nth_standing<'a>(slots: &'a [Slot], children: &[u32], i: u32) -> Option<&'a Content>
-    requires { (k : ℕ) → k < length children.now → slice_index children.now k < length slots.now }
-    ensures { option_copied result ≡ slice_get (standing_names slots.now children.now) i }
+/// Name `i` of those slots in a slot at which something stands, counted from 0.
+fn nth_standing(slots: &[Slot], at: u32, i: u32) -> Option<&Content>
+    requires { AreLinked slots.now }
+    ensures { option_copied result ≡ slice_get (standing_names slots.now (place slots.now at).children) i }
 {
     let mut left = i;
-    for c in children {
-        let slot = &slots[*c as usize];
+    for k in 0..child_count(slots, at) {
+        let c = child_of(slots, at, k);
+        let slot = &slots[c as usize];
         if slot.stands() {
             if left == 0 {
                 return Some(slot.name());
@@ -558,8 +598,8 @@ fn enter(
     ensures pool { IsPool slots.new.items free.new.items (vec_capacity free.new) }
     ensures err { OnErr result (Pads slots.old.items slots.new.items) }
 {
-    match search(slots, children_of(slots, at), name).0 {
-        Ok(k) => Ok(children_of(slots, at)[k]),
+    match search(slots, at, name).0 {
+        Ok(k) => Ok(child_of(slots, at, k)),
         Err(k) => add_child(slots, free, at, k, name),
     }
 }
@@ -620,10 +660,10 @@ fn drop_idle(slots: &mut Vec<Slot>, free: &mut Vec<u32>, folder: &[Content], nam
     let Some(at) = descend(slots, folder).0 else {
         return false;
     };
-    let Ok(k) = search(slots, children_of(slots, at), name).0 else {
+    let Ok(k) = search(slots, at, name).0 else {
         return false;
     };
-    let child = children_of(slots, at)[k];
+    let child = child_of(slots, at, k);
     if !slots[child as usize].is_idle() {
         return false;
     }
@@ -690,9 +730,10 @@ fn spell_rows(
         return Ok(());
     }
     spell_own_row(slots, path, i, out)?;
-    for c in children_of(slots, i) {
-        let child = path.child(slots[*c as usize].name())?;
-        spell_rows(slots, &child, *c, levels - 1, out)?;
+    for k in 0..child_count(slots, i) {
+        let c = child_of(slots, i, k);
+        let child = path.child(slots[c as usize].name())?;
+        spell_rows(slots, &child, c, levels - 1, out)?;
     }
     Ok(())
 }

@@ -1,5 +1,5 @@
 -- Versions only grow, and what two trees have in common lasts over one effect on both.
-use Rattle.std.proofs.Common.{filter, not, ◌≡◌, ◌≢◌, ◌⊎◌, inl, inr, ℕ, ◌+◌, ◌<◌, ◌≤◌, Bool, true, false, cond, List, [], ◌∷◌, ◌++◌, map, Option, Some, None, option_map, unwrap_or, Result, Ok, Err, refl, sym, ◌∙◌, ap, subst, arith, ⊎_elim, eqb-true, true≢false}
+use Rattle.std.proofs.Common.{filter, not, ◌≡◌, ◌≢◌, ◌⊎◌, inl, inr, ℕ, ◌+◌, ◌<◌, ◌≤◌, Bool, true, false, cond, List, [], ◌∷◌, ◌++◌, map, Option, Some, None, is_some, option_map, unwrap_or, Result, Ok, Err, refl, sym, ◌∙◌, ap, subst, arith, ⊎_elim, eqb-true, true≢false}
 use Rattle.std.specs.Prelude.{◌==◌}
 use Rattle.std.specs.List.{AllByRecursion}
 use Rattle.std.specs.Option.{option_and_then}
@@ -223,6 +223,14 @@ counted rows path tree = by (row_at rows path) refl
     by : (o : Option Row) → row_at rows path ≡ o → version_of o ≡ 0 → o ≡ None
     by None e zero = refl
     by (Some row) e zero = absurd (omega (arith, zero, (find_among IsRow (is_at path) rows row tree.each e).touched))
+
+-- a path that was touched has a row
+pub has_row : (rows : Volume) (path : FilePath) → (version_at rows path ≡ 0 → ⊥) → is_some (row_at rows path) ≡ true
+has_row rows path touched = by (row_at rows path) refl
+  where
+    by : (o : Option Row) → row_at rows path ≡ o → is_some o ≡ true
+    by None e = absurd (touched (rw e refl))
+    by (Some row) e = refl
 
 same_row : (path : FilePath) (a b : Option Row) → ((row : Row) → a ≡ Some row → row.path ≡ path) → ((row : Row) → b ≡ Some row → row.path ≡ path)
     → version_of a ≡ version_of b → node_of a ≡ node_of b → (version_of a ≡ 0 → a ≡ None) → (version_of b ≡ 0 → b ≡ None) → a ≡ b

@@ -5,10 +5,10 @@ ghost use Rattle.std.specs.Option.{option_copied, option_to_list};
 ghost use Rattle.tree_values.specs.declared.node.TreeError.TheVariants.{Memory};
 ghost use Rattle.tree_values.specs.declared.node.Row.{Row};
 ghost use Rattle.tree_values.specs.Tree.{IsTree, version_at, node_at, is_folder, apply, touched, undone, CanUndo, changed, kept_rows};
-ghost use Rattle.tree_values.specs.Tree.{has_no_room, is_child, total_size, node_size, children, IsRowsRefusal, IsLegalEffect};
+ghost use Rattle.tree_values.specs.Tree.{is_folder_node as is_folder_of, has_no_room, is_child, total_size, node_size, children, IsRowsRefusal, IsLegalEffect};
 ghost use Rattle.byte_fields.specs.Codec.{IsBytes};
 ghost use Rattle.byte_fields.specs.Field.{IsFront};
-ghost use Rattle.file_paths.specs.Path.{IsPath};
+ghost use Rattle.file_paths.specs.Path.{FilePath, IsPath};
 ghost use Rattle.tree_values.specs.Limits.{max_files};
 ghost use Rattle.tree_values.specs.Spelling.{rows as spelled_rows};
 
@@ -268,13 +268,14 @@ fn check_make(rows: &Counted, path: &Path) -> Result<(), TreeError>
     if !is_folder_in(rows, path.folder_names()) {
         return Err(TreeError::NoParent(path.folder()?));
     }
-    if node_in(rows, names).is_some() {
+    let (node, version) = rows.arena().look(names);
+    if node.is_some() {
         return Err(TreeError::Exists(path.copy()?));
     }
-    if lacks_room(rows, names) {
+    if lacks_room(rows, version) {
         return Err(TreeError::RowsFull(MAX_ROWS as u32));
     }
-    if version_in(rows, names) == u64::MAX {
+    if version == u64::MAX {
         return Err(TreeError::VersionTop(path.copy()?));
     }
     Ok(())
@@ -295,20 +296,21 @@ fn check_put(rows: &Counted, path: &Path, content: &Content) -> Result<(), TreeE
     if !is_folder_in(rows, path.folder_names()) {
         return Err(TreeError::NoParent(path.folder()?));
     }
-    if is_folder_in(rows, names) {
+    let (node, version) = rows.arena().look(names);
+    if is_folder_node(node) {
         return Err(TreeError::IsFolder(path.copy()?));
     }
-    if lacks_room(rows, names) {
+    if lacks_room(rows, version) {
         return Err(TreeError::RowsFull(MAX_ROWS as u32));
     }
     if size > MAX_FILE as u64 {
         return Err(TreeError::FileTooLarge(size));
     }
-    let total = size_of_others(rows, names) + size;
+    let total = size_of_others(rows, node) + size;
     if total > MAX_FILES as u64 {
         return Err(TreeError::TreeFull(total));
     }
-    if version_in(rows, names) == u64::MAX {
+    if version == u64::MAX {
         return Err(TreeError::VersionTop(path.copy()?));
     }
     Ok(())
@@ -324,13 +326,14 @@ fn check_remove(rows: &Counted, path: &Path) -> Result<(), TreeError>
     if names.is_empty() {
         return Err(TreeError::RootFixed);
     }
-    if node_in(rows, names).is_none() {
+    let (node, version) = rows.arena().look(names);
+    if node.is_none() {
         return Err(TreeError::Missing(path.copy()?));
     }
     if let Some(name) = first_child(rows, names) {
         return Err(TreeError::NotEmpty(path.copy()?, path.child(name)?));
     }
-    if version_in(rows, names) == u64::MAX {
+    if version == u64::MAX {
         return Err(TreeError::VersionTop(path.copy()?));
     }
     Ok(())
@@ -350,22 +353,24 @@ fn check_move(rows: &Counted, from: &Path, to: &Path) -> Result<(), TreeError>
     if !is_folder_in(rows, to.folder_names()) {
         return Err(TreeError::NoParent(to.folder()?));
     }
-    if node_in(rows, new).is_some() {
+    let (there, there_version) = rows.arena().look(new);
+    if there.is_some() {
         return Err(TreeError::Exists(to.copy()?));
     }
-    if node_in(rows, old).is_none() {
+    let (node, version) = rows.arena().look(old);
+    if node.is_none() {
         return Err(TreeError::Missing(from.copy()?));
     }
-    if is_folder_in(rows, old) {
+    if is_folder_node(node) {
         return Err(TreeError::IsFolder(from.copy()?));
     }
-    if lacks_room(rows, new) {
+    if lacks_room(rows, there_version) {
         return Err(TreeError::RowsFull(MAX_ROWS as u32));
     }
-    if version_in(rows, old) == u64::MAX {
+    if version == u64::MAX {
         return Err(TreeError::VersionTop(from.copy()?));
     }
-    if version_in(rows, new) == u64::MAX {
+    if there_version == u64::MAX {
         return Err(TreeError::VersionTop(to.copy()?));
     }
     Ok(())
@@ -418,33 +423,34 @@ fn node_in<'a>(rows: &'a Counted, path: &[Content]) -> Option<&'a Node>
     rows.arena().find(path).0
 }
 
-fn version_in(rows: &Counted, path: &[Content]) -> u64
-    ensures { result ≡ version_at rows.now path.now }
-{
-    rows.arena().version(path)
-}
-
 fn is_folder_in(rows: &Counted, path: &[Content]) -> bool
     ensures { result ≡ is_folder rows.now path.now }
 {
-    path.is_empty() || matches!(node_in(rows, path), Some(Node::Folder))
+    path.is_empty() || is_folder_node(node_in(rows, path))
 }
 
-/// Whether the path has no row and the rows are full.
-fn lacks_room(rows: &Counted, path: &[Content]) -> bool
-    requires { IsTree rows.now }
-    ensures { result ≡ has_no_room rows.now path.now }
+fn is_folder_node(node: Option<&Node>) -> bool
+    ensures { result ≡ is_folder_of (option_copied node.entry) }
 {
-    version_in(rows, path) == 0 && rows.count() >= MAX_ROWS as u64
+    matches!(node, Some(Node::Folder))
 }
 
-/// The bytes of all files but the one at the path.
-fn size_of_others(rows: &Counted, path: &[Content]) -> u64
+/// Whether a path of this version has no row, and the rows are full.
+fn lacks_room(rows: &Counted, version: u64) -> bool
     requires { IsTree rows.now }
-    ensures value { result ≡ total_size rows.now - node_size (node_at rows.now path.now) }
+    ensures { (path : FilePath) → version ≡ version_at rows.now path → result ≡ has_no_room rows.now path }
+{
+    version == 0 && rows.count() >= MAX_ROWS as u64
+}
+
+/// The bytes of all files but the one that is this node, if it is one.
+fn size_of_others(rows: &Counted, node: Option<&Node>) -> u64
+    requires tree { IsTree rows.now }
+    requires node { (path : FilePath) × (option_copied node ≡ node_at rows.now path) }
+    ensures value { result ≡ total_size rows.now - node_size (option_copied node.entry) }
     ensures small { result ≤ max_files }
 {
-    rows.size() - size_of(node_in(rows, path))
+    rows.size() - size_of(node)
 }
 
 /// The name of the first that stands in this folder.

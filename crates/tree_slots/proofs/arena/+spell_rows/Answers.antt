@@ -13,40 +13,34 @@ spell_own_row-requires t c = own_holds _ c.args.levels c.args.slots.now c.args.p
 
 pub child-requires : goal.child-requires
 child-requires t c =
-    let here : c.loop-c.c-index < length c.children_of-c-items.result.now = omega arith in
-    let within = rw c.children_of-c-items.ensures at here in
-    let inside = rw (← c.children_of-c-items.ensures) at (c.requires.linked.within c.args.i c.loop-c.c-index within) in
-    let seen = c.name.ensures ∙ sym (ap (λ (x : Place). x.name) (read_place c.args.slots.now (get_or c.children_of-c-items.result.now c.loop-c.c-index 0) c.index-slots-c.result inside c.index-slots-c.is)) in
-    rw (seen, c.children_of-c-items.ensures) (child_path c.args.slots.now c.requires.linked c.args.i c.loop-c.c-index within c.args.path.now c.requires.paths)
+    let within : c.loop-k.k < length (place c.args.slots.now c.args.i).children = omega (arith, c.child_count-k-end.ensures) in
+    let seen = c.name.ensures ∙ sym (ap (λ (x : Place). x.name) (read_place c.args.slots.now c.child_of-c.result c.index-slots-c.result c.child_of-c.ensures.within c.index-slots-c.is)) in
+    rw (seen, c.child_of-c.ensures.child) (child_path c.args.slots.now c.requires.linked c.args.i c.loop-k.k within c.args.path.now c.requires.paths)
 
 pub spell_rows-requires : goal.spell_rows-requires
 spell_rows-requires t c =
-    let here : c.loop-c.c-index < length c.children_of-c-items.result.now = omega arith in
-    let within = rw c.children_of-c-items.ensures at here in
-    let inside = rw (← c.children_of-c-items.ensures) at (c.requires.linked.within c.args.i c.loop-c.c-index within) in
-    let seen = c.name.ensures ∙ sym (ap (λ (x : Place). x.name) (read_place c.args.slots.now (get_or c.children_of-c-items.result.now c.loop-c.c-index 0) c.index-slots-c.result inside c.index-slots-c.is)) in (
+    let within : c.loop-k.k < length (place c.args.slots.now c.args.i).children = omega (arith, c.child_count-k-end.ensures) in
+    let seen = c.name.ensures ∙ sym (ap (λ (x : Place). x.name) (read_place c.args.slots.now c.child_of-c.result c.index-slots-c.result c.child_of-c.ensures.within c.index-slots-c.is)) in (
       omega arith,
       (
         c.requires.linked,
         (
-          rw (c.in_ok-child.ensures, seen, c.children_of-c-items.ensures) (child_paths c.args.slots.now c.requires.linked c.args.i c.loop-c.c-index within c.args.path.now c.requires.paths),
-          rw (c.in_ok-child.ensures, seen, c.children_of-c-items.ensures) (child_holds _ c.args.levels c.args.slots.now c.args.path.now c.args.i c.loop-c.c-index c.if-levels-eq0.false within c.requires.small),
+          rw (c.in_ok-child.ensures, seen, c.child_of-c.ensures.child) (child_paths c.args.slots.now c.requires.linked c.args.i c.loop-k.k within c.args.path.now c.requires.paths),
+          rw (c.in_ok-child.ensures, seen, c.child_of-c.ensures.child) (child_holds _ c.args.levels c.args.slots.now c.args.path.now c.args.i c.loop-k.k c.if-levels-eq0.false within c.requires.small),
         ),
       ),
     )
 
-pub loop-c-preserved : goal.loop-c-preserved
-loop-c-preserved t c =
-    let here : c.loop-c.c-index < length c.children_of-c-items.result.now = omega arith in
-    let within = rw c.children_of-c-items.ensures at here in
-    let inside = rw (← c.children_of-c-items.ensures) at (c.requires.linked.within c.args.i c.loop-c.c-index within) in
-    let seen = c.name.ensures ∙ sym (ap (λ (x : Place). x.name) (read_place c.args.slots.now (get_or c.children_of-c-items.result.now c.loop-c.c-index 0) c.index-slots-c.result inside c.index-slots-c.is)) in
-    let one = rw (c.in_ok-child.ensures, seen, c.children_of-c-items.ensures, c.loop-c.invariant) at c.in_ok-spell_rows.ensures.ok in
-    one ∙ spelled_more c.args.levels c.args.slots.now c.args.path.now c.args.i c.loop-c.c-index c.args.out.now.items within
+pub loop-k-preserved : goal.loop-k-preserved
+loop-k-preserved t c =
+    let within : c.loop-k.k < length (place c.args.slots.now c.args.i).children = omega (arith, c.child_count-k-end.ensures) in
+    let seen = c.name.ensures ∙ sym (ap (λ (x : Place). x.name) (read_place c.args.slots.now c.child_of-c.result c.index-slots-c.result c.child_of-c.ensures.within c.index-slots-c.is)) in
+    let one = rw (c.in_ok-child.ensures, seen, c.child_of-c.ensures.child, c.loop-k.invariant) at c.in_ok-spell_rows.ensures.ok in
+    one ∙ spelled_more c.args.levels c.args.slots.now c.args.path.now c.args.i c.loop-k.k c.args.out.now.items within
 
 pub returns-clause-ok : goal.returns-clause-ok
 returns-clause-ok t c =
-    c.loop-c.invariant ∙ ap (λ rows. c.args.out.now.items ++ flat_map spelled_row rows) (spelled_all c.args.levels c.args.slots.now c.args.path.now c.args.i c.loop-c.c-index c.if-levels-eq0.false (rw (← c.children_of-c-items.ensures) (omega arith)))
+    c.loop-k.invariant ∙ ap (λ rows. c.args.out.now.items ++ flat_map spelled_row rows) (spelled_all c.args.levels c.args.slots.now c.args.path.now c.args.i c.loop-k.k c.if-levels-eq0.false (omega (arith, c.child_count-k-end.ensures)))
 
 pub returns-in_err-spell_own_row-clause-err : goal.returns-in_err-spell_own_row-clause-err
 returns-in_err-spell_own_row-clause-err t c =
@@ -56,14 +50,12 @@ returns-in_err-spell_own_row-clause-err t c =
 pub returns-in_err-child-clause-err : goal.returns-in_err-child-clause-err
 returns-in_err-child-clause-err t c =
     on_error c.from_residual-in_err-child.result
-    (rows_cut c.args.levels c.args.slots.now c.args.path.now c.args.i c.args.out.now.items c.loop-c.out.items c.loop-c.c-index c.if-levels-eq0.false c.loop-c.invariant)
+    (rows_cut c.args.levels c.args.slots.now c.args.path.now c.args.i c.args.out.now.items c.loop-k.out.items c.loop-k.k c.if-levels-eq0.false c.loop-k.invariant)
 
 pub returns-in_err-spell_rows-clause-err : goal.returns-in_err-spell_rows-clause-err
 returns-in_err-spell_rows-clause-err t c =
-    let here : c.loop-c.c-index < length c.children_of-c-items.result.now = omega arith in
-    let within = rw c.children_of-c-items.ensures at here in
-    let inside = rw (← c.children_of-c-items.ensures) at (c.requires.linked.within c.args.i c.loop-c.c-index within) in
-    let seen = c.name.ensures ∙ sym (ap (λ (x : Place). x.name) (read_place c.args.slots.now (get_or c.children_of-c-items.result.now c.loop-c.c-index 0) c.index-slots-c.result inside c.index-slots-c.is)) in
-    let cut = rw (c.in_ok-child.ensures, seen, c.children_of-c-items.ensures) at c.in_err-spell_rows.ensures.err in
+    let within : c.loop-k.k < length (place c.args.slots.now c.args.i).children = omega (arith, c.child_count-k-end.ensures) in
+    let seen = c.name.ensures ∙ sym (ap (λ (x : Place). x.name) (read_place c.args.slots.now c.child_of-c.result c.index-slots-c.result c.child_of-c.ensures.within c.index-slots-c.is)) in
+    let cut = rw (c.in_ok-child.ensures, seen, c.child_of-c.ensures.child) at c.in_err-spell_rows.ensures.err in
     on_error c.from_residual-in_err-spell_rows.result
-    (child_cut c.args.levels c.args.slots.now c.args.path.now c.args.i c.args.out.now.items c.loop-c.out.items c.spell_rows.new.out.items c.loop-c.c-index c.if-levels-eq0.false within c.loop-c.invariant cut)
+    (child_cut c.args.levels c.args.slots.now c.args.path.now c.args.i c.args.out.now.items c.loop-k.out.items c.spell_rows.new.out.items c.loop-k.k c.if-levels-eq0.false within c.loop-k.invariant cut)

@@ -1,6 +1,6 @@
 use Rattle.std.proofs.Common.{◌≡◌, ◌+◌, length, take}
-use Rattle.tree_slots.specs.Arena.{standing}
+use Rattle.tree_slots.specs.Arena.{standing, place}
 use Rattle.tree_slots.proofs.arena.nth_standing.Given as goal
 
-abbrev pub invariant-loop-c : goal.invariant-loop-c
-invariant-loop-c l = l.left + length (standing l.slots (take l.c-index l.children)) ≡ l.i
+abbrev pub invariant-loop-k : goal.invariant-loop-k
+invariant-loop-k l = l.left + length (standing l.slots (take l.k (place l.slots l.at).children)) ≡ l.i

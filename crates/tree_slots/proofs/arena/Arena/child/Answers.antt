@@ -7,7 +7,7 @@ use Rattle.tree_slots.proofs.arena.Arena.child.Goals as goal
 pub returns-in-Some : goal.returns-in-Some
 returns-in-Some c =
     let at = rw c.deref.ensures.value at (sym c.descend.ensures.slot ∙ c.in-Some.is) in
-    let nth = rw (c.children_of.ensures, c.deref-in-Some.ensures.value, c.deref-in-Some-2.ensures.value) at c.nth_standing.ensures in
+    let nth = rw c.deref-in-Some.ensures.value at c.nth_standing.ensures in
     nth ∙ ap (λ names. slice_get names c.args.i) (sym (children_found c.self.inside.slots.items c.args.path.now c.self.invariant.arena c.in-Some.at at) ∙ ap (λ rows. children rows c.args.path.now) c.self.view_is)
 
 pub returns-in-None : goal.returns-in-None

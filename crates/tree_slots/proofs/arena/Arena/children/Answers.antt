@@ -6,7 +6,7 @@ use Rattle.tree_slots.proofs.arena.Arena.children.Goals as goal
 pub returns-in-Some : goal.returns-in-Some
 returns-in-Some c =
     let at = rw c.deref.ensures.value at (sym c.descend.ensures.slot ∙ c.in-Some.is) in
-    let names = rw (c.children_of.ensures, c.deref-in-Some.ensures.value, c.deref-in-Some-2.ensures.value) at c.standing.ensures in
+    let names = rw c.deref-in-Some.ensures.value at c.standing.ensures in
     rw (← c.self.view_is, children_found c.self.inside.slots.items c.args.path.now c.self.invariant.arena c.in-Some.i at) names
 
 pub returns-in-None : goal.returns-in-None

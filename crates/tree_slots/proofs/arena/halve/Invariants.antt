@@ -2,7 +2,7 @@ use Rattle.std.proofs.Common.{◌-◌, ◌^◌, ◌≡◌, ℕ, ◌+◌, ◌<◌
 use Rattle.std.specs.declared.cmp.Ordering.TheVariants.{Less, Greater}
 use Rattle.tree_slots.specs.Arena.{name_cmp}
 use Rattle.tree_slots.proofs.Slots.{name_at}
-use Rattle.tree_slots.proofs.arena.search.Given as goal
+use Rattle.tree_slots.proofs.arena.halve.Given as goal
 
 abbrev pub invariant-loop-low : goal.invariant-loop-low
 invariant-loop-low l = record {

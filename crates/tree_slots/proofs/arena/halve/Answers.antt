@@ -3,14 +3,14 @@ use Rattle.std.specs.declared.cmp.Ordering.{Ordering}
 use Rattle.std.specs.declared.cmp.Ordering.TheVariants.{Less, Equal, Greater}
 use Rattle.tree_slots.specs.Arena.{name_cmp}
 use Rattle.tree_slots.proofs.Slots.{name_at, halved, lower, higher, is_found, none_at, read_cmp}
-use Rattle.tree_slots.proofs.arena.search.Goals as goal
+use Rattle.tree_slots.proofs.arena.halve.Goals as goal
 
 pub loop-low-preserved-in-Less : goal.loop-low-preserved-in-Less
 loop-low-preserved-in-Less c =
     let k : ℕ = c.loop-low.low + (c.loop-low.high - c.loop-low.low) / 2 in
     let inside : k < length c.args.children.now = omega arith in
     let half = halved c.loop-low.left (c.loop-low.high - c.loop-low.low) c.loop-low.invariant.narrow (omega arith) in
-    let here = read_cmp c.args.slots.now c.args.children.now c.args.name.now k c.index-slots-children.result Less (c.requires.within k inside) c.index-slots-children.is c.in-Less.ensures in
+    let here = read_cmp c.args.slots.now c.args.children.now c.args.name.now k c.index-slots-get.result Less (c.requires.within k inside) (rw c.get.ensures at c.index-slots-get.is) c.in-Less.ensures in
     record {
       ordered = omega arith;
       within = omega arith;
@@ -25,7 +25,7 @@ loop-low-preserved c =
     let k : ℕ = c.loop-low.low + (c.loop-low.high - c.loop-low.low) / 2 in
     let inside : k < length c.args.children.now = omega arith in
     let half = halved c.loop-low.left (c.loop-low.high - c.loop-low.low) c.loop-low.invariant.narrow (omega arith) in
-    let here = read_cmp c.args.slots.now c.args.children.now c.args.name.now k c.index-slots-children.result Greater (c.requires.within k inside) c.index-slots-children.is c.in-Greater.ensures in
+    let here = read_cmp c.args.slots.now c.args.children.now c.args.name.now k c.index-slots-get.result Greater (c.requires.within k inside) (rw c.get.ensures at c.index-slots-get.is) c.in-Greater.ensures in
     record {
       ordered = omega arith;
       within = omega arith;
@@ -39,7 +39,7 @@ pub returns-in-Equal-clause-found : goal.returns-in-Equal-clause-found
 returns-in-Equal-clause-found c =
     let k : ℕ = c.loop-low.low + (c.loop-low.high - c.loop-low.low) / 2 in
     let inside : k < length c.args.children.now = omega arith in
-    let here = read_cmp c.args.slots.now c.args.children.now c.args.name.now k c.index-slots-children.result Equal (c.requires.within k inside) c.index-slots-children.is c.in-Equal.ensures in
+    let here = read_cmp c.args.slots.now c.args.children.now c.args.name.now k c.index-slots-get.result Equal (c.requires.within k inside) (rw c.get.ensures at c.index-slots-get.is) c.in-Equal.ensures in
     is_found c.args.slots.now c.args.children.now c.args.name.now k c.requires.ascending inside here
 
 pub returns-clause-missing : goal.returns-clause-missing
