@@ -1,11 +1,10 @@
 -- A number is carried from part to part.
-use Rattle.std.proofs.Common.{◌≡◌, ℕ, zero, suc, ◌+◌, ◌-◌, ◌*◌, ◌/◌, ◌%◌, ◌<◌, ◌≤◌, List, [], ◌∷◌, ◌++◌, length, get_or, take, drop, set, arith, refl, sym, ap, ◌∙◌, subst}
+use Rattle.std.proofs.Common.{◌≡◌, ℕ, suc, ◌+◌, ◌-◌, ◌*◌, ◌/◌, ◌%◌, ◌<◌, ◌≤◌, List, [], ◌∷◌, ◌++◌, length, get_or, take, drop, set, arith, refl, sym, ap, ◌∙◌}
 use Rattle.std.specs.List.{concat, insert, remove}
 use Rattle.std.proofs.lemmas.List.{append_assoc, append-nil, drop_more, take_more, take_more_set, take-set, drop-set, drop-set-lt, take_all, drop_all, length-append, same_from_push, take-append-drop, take_at, length_push}
 use Rattle.std.proofs.lemmas.List.Folds.{concat-append}
 use Rattle.std.proofs.lemmas.List.Edits.{insert-append_left, insert-append_right, remove-append_left, remove-append_right, length-remove, length-insert}
-use Rattle.parted_list.specs.Parts.{AreParted}
-use Rattle.parted_list.proofs.Places.{part, IsAt, located_at}
+use Rattle.parted_list.proofs.Places.{part, IsAt}
 
 -- the numbers, and one between those of the first parts and those of the others
 abbrev pub between_parts : List (List ℕ) → ℕ → ℕ → List ℕ

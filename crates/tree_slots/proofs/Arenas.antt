@@ -1,5 +1,5 @@
 -- What the calls of an arena leave.
-use Rattle.std.proofs.Common.{◌≡◌, ◌≢◌, ℕ, ◌+◌, ◌<◌, ◌≤◌, true, false, [], ◌∷◌, length, Option, Some, None, IsTrue, is_some, inl, inr, arith, refl, sym, ap, ◌∙◌, subst, true≢false}
+use Rattle.std.proofs.Common.{◌≡◌, ◌≢◌, ℕ, ◌+◌, ◌<◌, ◌≤◌, false, [], ◌∷◌, length, Option, Some, None, IsTrue, is_some, inl, inr, arith, refl, sym, ap, ◌∙◌, subst, true≢false}
 use Rattle.std.proofs.lemmas.Bool.{cases_lt, cases_eq, eqb-false}
 use Rattle.std.proofs.lemmas.List.{get_or_past}
 use Rattle.file_paths.specs.Path.{FilePath}

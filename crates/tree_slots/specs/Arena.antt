@@ -1,5 +1,6 @@
 -- Slots: which of them stands for a path, and the rows that all of them stand for.
-use Rattle.std.specs.Prelude.{◌≡◌, ◌≢◌, ℕ, zero, suc, ◌+◌, ◌-◌, ◌<◌, ◌≤◌, ◌==◌, cond, List, [], ◌∷◌, ◌++◌, length, find, map, filter, sum_by, is_some, IsTrue, slice_index, slice_index_or, slice_set, Option, Some, None, option_and_then}
+use Rattle.std.specs.Prelude.{◌≡◌, ◌≢◌, ℕ, zero, suc, ◌+◌, ◌-◌, ◌<◌, ◌≤◌, ◌==◌, cond, List, [], ◌∷◌, ◌++◌, length, find, map, filter}
+use Rattle.std.specs.Prelude.{sum_by, is_some, IsTrue, slice_index, slice_index_or, slice_set, Option, Some, None, option_and_then}
 use Rattle.std.specs.List.{flat_map, AllByRecursion, insert, remove}
 use Rattle.std.specs.Option.{option_to_list}
 use Rattle.std.specs.declared.cmp.Ordering.{Ordering}
@@ -52,7 +53,8 @@ own_row path slot = cond (slot.version == 0) None (Some (record { path = path; v
 -- the rows of a slot and of those below it, so many levels down, in the order of their paths
 abbrev pub rows_from : ℕ → Places → FilePath → ℕ → Volume
 rows_from zero slots path i = []
-rows_from (suc levels) slots path i = option_to_list (own_row path (place slots i)) ++ flat_map (λ c. rows_from levels slots (path ++ (place slots c).name ∷ []) c) (place slots i).children
+rows_from (suc levels) slots path i = option_to_list (own_row path (place slots i))
+    ++ flat_map (λ c. rows_from levels slots (path ++ (place slots c).name ∷ []) c) (place slots i).children
 
 -- the rows of all slots; a path has at most 32 names, so no row is below so many levels
 unfoldable pub rows_of : Places → Volume
@@ -133,7 +135,8 @@ LeadsToRow rows path = (rest : FilePath) × IsTrue (is_some (row_at rows (path +
 
 -- a slot, but the root's, is there only while a row lies at its path or below
 abbrev pub SlotsLeadToRows : Type 0
-SlotsLeadToRows = (slots : Places) (free : List ℕ) (capacity : ℕ) → KeepsArena slots free capacity → (path : FilePath) (i : ℕ) → path ≢ [] → slot_of slots 0 path ≡ Some i → LeadsToRow (rows_of slots) path
+SlotsLeadToRows = (slots : Places) (free : List ℕ) (capacity : ℕ) → KeepsArena slots free capacity → (path : FilePath) (i : ℕ)
+    → path ≢ [] → slot_of slots 0 path ≡ Some i → LeadsToRow (rows_of slots) path
 
 -- ---- searching
 
@@ -160,7 +163,12 @@ pub record Pads (old new : Places) : Type 0 where
 -- one more slot, which stands for no row: j, with this name, before index k of the children of a slot
 pub record Grows (old new : Places) (parent k : ℕ) (name : List ℕ) (j : ℕ) : Type 0 where
   pub fresh : place new j ≡ record { name = name; version = 0; node = None; children = [] }
-  pub linked : place new parent ≡ record { name = (place old parent).name; version = (place old parent).version; node = (place old parent).node; children = insert (place old parent).children k j }
+  pub linked : place new parent ≡ record {
+    name = (place old parent).name;
+    version = (place old parent).version;
+    node = (place old parent).node;
+    children = insert (place old parent).children k j;
+  }
   pub others : (i : ℕ) → (i ≡ j → ⊥) → (i ≡ parent → ⊥) → place new i ≡ place old i
   pub unlinked : (i m : ℕ) → m < length (place old i).children → slice_index (place old i).children m ≡ j → ⊥
   pub below_root : j ≡ 0 → ⊥
@@ -169,7 +177,8 @@ pub record Grows (old new : Places) (parent k : ℕ) (name : List ℕ) (j : ℕ)
 
 -- the slots, of which one has another version and node
 abbrev pub written : Places → ℕ → ℕ → Option Node → Places
-written slots i version node = slice_set slots i (record { name = (place slots i).name; version = version; node = node; children = (place slots i).children })
+written slots i version node =
+    slice_set slots i (record { name = (place slots i).name; version = version; node = node; children = (place slots i).children })
 
 -- the slot of a path, once it is there; the rows are the same
 pub record IsEntered (old new : Places) (path : FilePath) (i : ℕ) : Type 0 where

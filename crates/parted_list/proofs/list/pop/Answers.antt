@@ -1,6 +1,6 @@
-use Rattle.std.proofs.Common.{◌≡◌, ◌∙◌, ◌+◌, ◌-◌, ◌<◌, ◌≤◌, length, arith, sym, ap, take}
+use Rattle.std.proofs.Common.{◌≡◌, ◌∙◌, ◌-◌, ◌<◌, length, arith, sym, ap, take}
 use Rattle.std.proofs.lemmas.List.{length-take-le}
-use Rattle.parted_list.proofs.Places.{part, some_parts, read_part, last_parted, front_parted}
+use Rattle.parted_list.proofs.Places.{part, some_parts, read_part, last_parted}
 use Rattle.parted_list.proofs.Moves.{gone_last, gone_part}
 use Rattle.parted_list.proofs.list.pop.Goals as goal
 

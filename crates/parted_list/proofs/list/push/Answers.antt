@@ -1,6 +1,5 @@
-use Rattle.std.proofs.Common.{◌≡◌, ◌∙◌, ◌+◌, ◌-◌, ◌<◌, ◌≤◌, ◌++◌, ◌∷◌, [], length, arith, sym, ap}
-use Rattle.std.proofs.lemmas.List.{length_push}
-use Rattle.parted_list.proofs.Places.{part, read_part, last_parted, more_parted}
+use Rattle.std.proofs.Common.{◌-◌, ◌∷◌, arith}
+use Rattle.parted_list.proofs.Places.{read_part}
 use Rattle.parted_list.proofs.Moves.{added_last, added_part}
 use Rattle.parted_list.proofs.list.push.Goals as goal
 

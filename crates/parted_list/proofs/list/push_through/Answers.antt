@@ -1,4 +1,4 @@
-use Rattle.std.proofs.Common.{◌≡◌, ◌∙◌, ◌++◌, ◌∷◌, [], ◌<◌, ◌≤◌, ◌/◌, ◌%◌, length, arith, sym, insert}
+use Rattle.std.proofs.Common.{◌∙◌, ◌∷◌, ◌<◌, ◌/◌, ◌%◌, length, arith, sym}
 use Rattle.std.proofs.lemmas.List.{length-set}
 use Rattle.parted_list.proofs.Places.{part, located_at, read_part, kept_parted}
 use Rattle.parted_list.proofs.Moves.{carried_on, put_in, all_carried, pushed_size}

@@ -1,4 +1,4 @@
-use Rattle.std.proofs.Common.{◌≡◌, ◌<◌, ◌∙◌, sym, ap, arith, get_or, length}
+use Rattle.std.proofs.Common.{◌<◌, ◌∙◌, sym, ap, arith, length}
 use Rattle.tree_slots.specs.Arena.{Place, place}
 use Rattle.tree_slots.proofs.Slots.{read_place}
 use Rattle.tree_slots.proofs.Listing.{child_path, child_paths, walked}

@@ -1,4 +1,4 @@
-use Rattle.std.proofs.Common.{◌≡◌, ◌<◌, ◌∙◌, ◌++◌, sym, ap, arith, get_or, length}
+use Rattle.std.proofs.Common.{◌<◌, ◌∙◌, ◌++◌, sym, ap, arith, length}
 use Rattle.std.specs.List.{flat_map}
 use Rattle.tree_values.specs.Spelling.{row as spelled_row}
 use Rattle.tree_slots.specs.Arena.{Place, place}

@@ -1,5 +1,4 @@
 use Rattle.std.proofs.Common.{◌≡◌, insert, rules, vec_capacity}
-use Rattle.tree_slots.specs.Arena.{Place}
 use Rattle.tree_slots.proofs.Pool.{added}
 use Rattle.tree_slots.proofs.arena.add_child.Goals as goal
 

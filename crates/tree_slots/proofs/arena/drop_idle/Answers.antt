@@ -1,4 +1,4 @@
-use Rattle.std.proofs.Common.{◌∙◌, refl, sym, rules, get_or, arith, vec_len, vec_capacity, ◌<◌, ◌++◌, ◌∷◌, []}
+use Rattle.std.proofs.Common.{◌∙◌, sym, rules, arith, vec_len, vec_capacity, ◌<◌, ◌++◌, ◌∷◌, []}
 use Rattle.tree_slots.proofs.Shrunk.{dropped, child_within}
 use Rattle.tree_slots.proofs.Pool.{dropped_pool, roomy}
 use Rattle.tree_slots.proofs.Used.{dropped_used, not_idle, used_nowhere, no_folder_slot, no_name_slot}

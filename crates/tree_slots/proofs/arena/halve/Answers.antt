@@ -1,8 +1,6 @@
-use Rattle.std.proofs.Common.{◌≡◌, ℕ, ◌+◌, ◌-◌, ◌/◌, ◌<◌, ◌≤◌, length, get_or, arith}
-use Rattle.std.specs.declared.cmp.Ordering.{Ordering}
+use Rattle.std.proofs.Common.{ℕ, ◌+◌, ◌-◌, ◌/◌, ◌<◌, ◌≤◌, length, arith}
 use Rattle.std.specs.declared.cmp.Ordering.TheVariants.{Less, Equal, Greater}
-use Rattle.tree_slots.specs.Arena.{name_cmp}
-use Rattle.tree_slots.proofs.Slots.{name_at, halved, lower, higher, is_found, none_at, read_cmp}
+use Rattle.tree_slots.proofs.Slots.{halved, lower, higher, is_found, none_at, read_cmp}
 use Rattle.tree_slots.proofs.arena.halve.Goals as goal
 
 pub loop-low-preserved-in-Less : goal.loop-low-preserved-in-Less

@@ -1,4 +1,4 @@
-use Rattle.std.proofs.Common.{◌-◌, ◌^◌, ◌≡◌, ℕ, ◌+◌, ◌<◌, ◌≤◌, length, get_or}
+use Rattle.std.proofs.Common.{◌-◌, ◌^◌, ◌≡◌, ℕ, ◌<◌, ◌≤◌, length}
 use Rattle.std.specs.declared.cmp.Ordering.TheVariants.{Less, Greater}
 use Rattle.tree_slots.specs.Arena.{name_cmp}
 use Rattle.tree_slots.proofs.Slots.{name_at}

@@ -1,4 +1,4 @@
-use Rattle.std.proofs.Common.{◌≡◌, refl, arith, vec_capacity}
+use Rattle.std.proofs.Common.{refl, arith, vec_capacity}
 use Rattle.tree_slots.proofs.Used.{used_front, used_whole, used_end}
 use Rattle.tree_slots.proofs.arena.prune.Goals as goal
 

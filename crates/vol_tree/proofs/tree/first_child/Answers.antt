@@ -1,4 +1,3 @@
-use Rattle.std.proofs.Common.{◌≡◌}
 use Rattle.tree_values.proofs.Children.{first_named}
 use Rattle.vol_tree.proofs.tree.first_child.Goals as goal
 

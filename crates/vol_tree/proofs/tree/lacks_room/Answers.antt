@@ -1,4 +1,4 @@
-use Rattle.std.proofs.Common.{◌≡◌, ◌∙◌, sym, refl}
+use Rattle.std.proofs.Common.{◌∙◌, sym, refl}
 use Rattle.std.proofs.lemmas.Bool.{ne_eqb}
 use Rattle.vol_tree.proofs.Behind.{counted, has_row}
 use Rattle.vol_tree.proofs.tree.lacks_room.Goals as goal

@@ -1,4 +1,3 @@
-use Rattle.std.proofs.Common.{◌≡◌}
 use Rattle.tree_slots.proofs.Counts.{node_at_most}
 use Rattle.vol_tree.proofs.tree.size_of_others.Goals as goal
 

@@ -1,4 +1,4 @@
-use Rattle.std.proofs.Common.{◌≡◌, ◌∙◌, ◌<◌, ◌/◌, ap, get_or, length, arith}
+use Rattle.std.proofs.Common.{◌∙◌, ◌<◌, ap, get_or, length, arith}
 use Rattle.std.specs.List.{concat}
 use Rattle.parted_list.proofs.Places.{located_at, read_number}
 use Rattle.parted_list.proofs.list.PartedList.get.Goals as goal

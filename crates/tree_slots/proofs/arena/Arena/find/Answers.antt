@@ -1,4 +1,4 @@
-use Rattle.std.proofs.Common.{◌≡◌, refl, sym, ap, ◌∙◌}
+use Rattle.std.proofs.Common.{refl, sym, ap, ◌∙◌}
 use Rattle.tree_values.specs.Tree.{node_at}
 use Rattle.tree_slots.proofs.Walk.{none_found, node_found}
 use Rattle.tree_slots.proofs.arena.Arena.find.Goals as goal

@@ -1,4 +1,4 @@
-use Rattle.std.proofs.Common.{◌∙◌, refl, ap, vec_capacity}
+use Rattle.std.proofs.Common.{◌∙◌, ap, vec_capacity}
 use Rattle.tree_values.specs.Tree.{with_row}
 use Rattle.tree_slots.proofs.Arenas.{inserted_rows}
 use Rattle.tree_slots.proofs.Used.{inserted_kept}

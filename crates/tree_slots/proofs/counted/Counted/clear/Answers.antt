@@ -1,4 +1,3 @@
-use Rattle.std.proofs.Common.{◌≡◌, ◌∙◌, sym, ap, arith}
 use Rattle.tree_slots.proofs.Counts.{node_within, counted_clear}
 use Rattle.tree_slots.proofs.counted.Counted.clear.Goals as goal
 

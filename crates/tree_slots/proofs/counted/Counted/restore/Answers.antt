@@ -1,6 +1,5 @@
-use Rattle.std.proofs.Common.{◌≡◌, ◌∙◌, refl, sym, ap, arith}
-use Rattle.tree_values.specs.Tree.{restored, total_size}
-use Rattle.tree_slots.proofs.Counts.{counted_restored, counted_taken, some_row, node_within, size_restored}
+use Rattle.std.proofs.Common.{refl, arith}
+use Rattle.tree_slots.proofs.Counts.{counted_restored, counted_taken, node_within, size_restored}
 use Rattle.tree_slots.proofs.counted.Counted.restore.Goals as goal
 
 pub overflow_sub-self-then-kept-eq0 : goal.overflow_sub-self-then-kept-eq0

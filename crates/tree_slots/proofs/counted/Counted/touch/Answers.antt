@@ -1,5 +1,4 @@
-use Rattle.std.proofs.Common.{◌≡◌, ◌∙◌, sym, ap, arith}
-use Rattle.tree_values.specs.Tree.{touched, total_size}
+use Rattle.std.proofs.Common.{arith}
 use Rattle.tree_slots.proofs.Counts.{node_within, counted_touch, size_touch}
 use Rattle.tree_slots.proofs.counted.Counted.touch.Goals as goal
 
