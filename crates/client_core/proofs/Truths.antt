@@ -16,7 +16,7 @@ use Rattle.world_rules.specs.Telling.{LinkTelling, IsCalm}
 use Rattle.world_rules.specs.Asking.{AnswersStand}
 use Rattle.world_rules.specs.Settling.{failed_asks}
 use Rattle.world_rules.specs.InStep.{InStep, HasNoCollision}
-use Rattle.world_rules.specs.Run.{AreAllOf, kept_at, taken_in}
+use Rattle.world_rules.specs.Run.{kept_at}
 use Rattle.world_rules.proofs.Asks.{told_as, answers_front, answers_end}
 use Rattle.world_rules.proofs.Settled.{failed-append}
 use Rattle.world_rules.proofs.Runs.{runs_in_step, run_answers, lone_tree, pulled_last}
