@@ -12,10 +12,11 @@ use Rattle.mod_log.specs.Log.{Log, IsLog, logged}
 use Rattle.wire_frames.specs.declared.message.Message.{Message}
 use Rattle.world_rules.specs.declared.asking.Ask.{Ask}
 use Rattle.world_rules.specs.World.{World}
+use Rattle.world_rules.specs.Telling.{LinkTelling, ToldWorlds, HadTroubles}
 use Rattle.world_rules.specs.Settling.{failed_asks}
 use Rattle.world_rules.specs.InStep.{InStep, HasNoCollision, IsAcceptance}
 use Rattle.world_rules.specs.Run.{State, Runs, kept_at, Acknowledges, Logs, Saves}
-use Rattle.world_rules.proofs.Asks.{told_then, in_either}
+use Rattle.world_rules.proofs.Asks.{told_then, told_as, told_start, in_either}
 use Rattle.world_rules.proofs.Colliding.{fewer_collide}
 use Rattle.world_rules.proofs.Runs.{runs_none, runs_then, runs_once, runs_in_step, run_packets, pending_later}
 use Rattle.world_rules.proofs.Settled.{failed-append}
@@ -24,7 +25,7 @@ use Rattle.client_core.specs.declared.pulling.PullEnd.{PullEnd}
 use Rattle.client_core.specs.Trace.{Trace, nothing, followed, asking, changing, logging, running, pulling, last_log, log_before_last, IsLastOrBefore}
 use Rattle.client_core.specs.Syncing.{acknowledged_first}
 use Rattle.client_core.specs.Keeping.{OthersStay, IsKept, Kept, Keeping, KeepsLog}
-use Rattle.client_core.specs.Goes.{Goes, stand, no_runner}
+use Rattle.client_core.specs.Goes.{Goes, WorldGoes, stand, no_runner}
 use Rattle.client_core.specs.Honest.{IsTruePull}
 
 -- ---- traces
@@ -207,141 +208,181 @@ true_longer t v s u end more is = (is.0, λ calm. is.1 (λ rose. calm (more rose
 
 -- ---- stretches of a client's life
 
+-- ---- what a stretch is in the worlds
+
+module _ (client : ℕ) (ships : Bool) where
+  -- where no pull met a snapshot
+  worlds_unpulled : (trace : Trace) (a b k : Log) (t u : ℕ) (x y : World) → trace.pulls ≡ [] → Runs client ships trace.entries trace.asks (kept_at a x) (stand b k y) → WorldGoes client ships a b k trace t u x y
+  worlds_unpulled trace a b k t u x y none runs =
+      record { runs = runs; true_pulls = λ begun apart end among. absurd (subst (IsIn end) none among) }
+
+  worlds_then : (m n : Trace) (a b c k : Log) (t u v : ℕ) (x y z : World) → RoseBy 0 t u → RoseBy 0 u v → WorldGoes client ships a b b m t u x y → WorldGoes client ships b c k n u v y z
+      → WorldGoes client ships a c k (followed m n) t v x z
+  worlds_then m n a b c k t u v x y z before after first second = record {
+    runs = runs_then client ships m.entries n.entries m.asks n.asks (kept_at a x) (kept_at b y) (stand c k z) first.runs second.runs;
+    true_pulls = λ begun apart end among.
+        let parts = both_apart client ships m.entries n.entries m.asks n.asks (kept_at a x) (kept_at b y) (stand c k z) begun first.runs second.runs apart in
+        ⊎_elim (λ here. true_longer t v t u end (λ rose. omega (arith, rose, after)) (first.true_pulls begun parts.1 end here))
+        (λ later. true_longer t v u v end (λ rose. omega (arith, rose, before)) (second.true_pulls parts.0 parts.2 end later))
+        (in_either end m.pulls n.pulls among);
+  }
+
+  -- and then the log is kept
+  worlds_saved : (trace : Trace) (a b k : Log) (t u : ℕ) (x y : World) → WorldGoes client ships a b k trace t u x y → WorldGoes client ships a b b trace t u x y
+  worlds_saved trace a b k t u x y goes = record {
+    runs = subst (λ (m : List Ask). Runs client ships trace.entries m (kept_at a x) (kept_at b y)) (append-nil trace.asks)
+        (subst (λ (es : List Entry). Runs client ships es (trace.asks ++ []) (kept_at a x) (kept_at b y)) (append-nil trace.entries)
+        (runs_then client ships trace.entries [] trace.asks [] (kept_at a x) (stand b k y) (kept_at b y) goes.runs (runs_once client ships (stand b k y) Saves tt)));
+    true_pulls = goes.true_pulls;
+  }
+
 module _ (name : List ℕ) (client : ℕ) (ships : Bool) where
-  pub goes_none : (T : Trace → Type 0) (s : Log) (i : Option Images) (r : RunnerTelling) (t : ℕ) (w : World) → IsKept i name client s → T nothing → Goes client ships name T s s s i i r r t t w w
-  goes_none T s i r t w keeps turn = record {
+  pub goes_none : (T : Trace → Type 0) (s : Log) (i : Option Images) (r : RunnerTelling) (t : LinkTelling) → IsKept i name client s → T nothing → Goes client ships name T s s s i i r r t t
+  goes_none T s i r t keeps turn = record {
     trace = nothing;
     turn = turn;
-    runs = runs_none client ships (kept_at s w);
     keeping = keeping_none name client s i keeps;
     has_run = has_run_none r;
     rose = omega arith;
-    true_pulls = λ begun apart end among. absurd among;
+    told = told_start t.world (WorldGoes client ships s s s nothing t.troubles t.troubles)
+        (λ w. worlds_unpulled client ships nothing s s s t.troubles t.troubles w w refl (runs_none client ships (kept_at s w)));
   }
 
   -- another relation of the same turns
-  pub goes_as : (T S : Trace → Type 0) (a b k : Log) (i j : Option Images) (p q : RunnerTelling) (t u : ℕ) (v w : World) → Goes client ships name T a b k i j p q t u v w
-      → ((trace : Trace) → T trace → S trace) → Goes client ships name S a b k i j p q t u v w
-  goes_as T S a b k i j p q t u v w goes to =
-      record { trace = goes.trace; turn = to goes.trace goes.turn; runs = goes.runs; keeping = goes.keeping; has_run = goes.has_run; rose = goes.rose; true_pulls = goes.true_pulls }
+  pub goes_as : (T S : Trace → Type 0) (a b k : Log) (i j : Option Images) (p q : RunnerTelling) (t u : LinkTelling) → Goes client ships name T a b k i j p q t u
+      → ((trace : Trace) → T trace → S trace) → Goes client ships name S a b k i j p q t u
+  goes_as T S a b k i j p q t u goes to =
+      record { trace = goes.trace; turn = to goes.trace goes.turn; keeping = goes.keeping; has_run = goes.has_run; rose = goes.rose; told = goes.told }
 
   -- beside any runner, where none was asked
-  pub goes_beside : (T : Trace → Type 0) (a b k : Log) (i j : Option Images) (t u : ℕ) (v w : World) → Goes client ships name T a b k i j no_runner no_runner t u v w
-      → (r : RunnerTelling) → Goes client ships name T a b k i j r r t u v w
-  goes_beside T a b k i j t u v w goes r =
-      record { trace = goes.trace; turn = goes.turn; runs = goes.runs; keeping = goes.keeping; has_run = has_run_alone goes.trace.runs goes.trace.missed r goes.has_run; rose = goes.rose; true_pulls = goes.true_pulls }
+  pub goes_beside : (T : Trace → Type 0) (a b k : Log) (i j : Option Images) (t u : LinkTelling) → Goes client ships name T a b k i j no_runner no_runner t u
+      → (r : RunnerTelling) → Goes client ships name T a b k i j r r t u
+  goes_beside T a b k i j t u goes r =
+      record { trace = goes.trace; turn = goes.turn; keeping = goes.keeping; has_run = has_run_alone goes.trace.runs goes.trace.missed r goes.has_run; rose = goes.rose; told = goes.told }
 
   -- one stretch, at whose end the log is kept, after another
-  pub goes_then : (T S R : Trace → Type 0) (a b c k : Log) (i j l : Option Images) (p q r : RunnerTelling) (t u v : ℕ) (x y z : World) → Goes client ships name T a b b i j p q t u x y
-      → Goes client ships name S b c k j l q r u v y z → ((m n : Trace) → T m → S n → R (followed m n)) → Goes client ships name R a c k i l p r t v x z
-  goes_then T S R a b c k i j l p q r t u v x y z first second join = record {
+  pub goes_then : (T S R : Trace → Type 0) (a b c k : Log) (i j l : Option Images) (p q r : RunnerTelling) (t u v : LinkTelling) → Goes client ships name T a b b i j p q t u
+      → Goes client ships name S b c k j l q r u v → ((m n : Trace) → T m → S n → R (followed m n)) → Goes client ships name R a c k i l p r t v
+  goes_then T S R a b c k i j l p q r t u v first second join = record {
     trace = followed first.trace second.trace;
     turn = join first.trace second.trace first.turn second.turn;
-    runs = runs_then client ships first.trace.entries second.trace.entries first.trace.asks second.trace.asks (kept_at a x) (kept_at b y) (stand c k z) first.runs second.runs;
     keeping = keeping_then name client a b c k first.trace.changes second.trace.changes i j l first.keeping second.keeping;
     has_run = has_run_then first.trace.runs second.trace.runs first.trace.missed second.trace.missed p q r first.has_run second.has_run;
     rose = omega (arith, failed-append first.trace.asks second.trace.asks, first.rose, second.rose);
-    true_pulls = λ begun apart end among.
-        let parts = both_apart client ships first.trace.entries second.trace.entries first.trace.asks second.trace.asks (kept_at a x) (kept_at b y) (stand c k z) begun first.runs second.runs apart in
-        ⊎_elim (λ here. true_longer t v t u end (λ rose. omega (arith, rose, second.rose)) (first.true_pulls begun parts.1 end here))
-        (λ later. true_longer t v u v end (λ rose. omega (arith, rose, first.rose)) (second.true_pulls parts.0 parts.2 end later))
-        (in_either end first.trace.pulls second.trace.pulls among);
+    told = told_then t.world u.world v.world (WorldGoes client ships a b b first.trace t.troubles u.troubles) (WorldGoes client ships b c k second.trace u.troubles v.troubles)
+        (WorldGoes client ships a c k (followed first.trace second.trace) t.troubles v.troubles) first.told second.told
+        (λ x y z. worlds_then client ships first.trace second.trace a b c k t.troubles u.troubles v.troubles x y z (omega (arith, first.rose)) (omega (arith, second.rose)));
   }
 
   -- asks that are a run of the kept log
-  pub goes_asked : (T : Trace → Type 0) (asks : List Ask) (s : Log) (i : Option Images) (r : RunnerTelling) (t u : ℕ) (x y : World) → IsKept i name client s
-      → Runs client ships [] asks (kept_at s x) (kept_at s y) → RoseBy (failed_asks asks) t u → T (asking asks) → Goes client ships name T s s s i i r r t u x y
-  goes_asked T asks s i r t u x y keeps runs rose turn = record {
+  pub goes_asked : (T : Trace → Type 0) (asks : List Ask) (s : Log) (i : Option Images) (r : RunnerTelling) (t u : LinkTelling) → IsKept i name client s
+      → ToldWorlds t u (λ x y. Runs client ships [] asks (kept_at s x) (kept_at s y)) → HadTroubles (failed_asks asks) t u → T (asking asks) → Goes client ships name T s s s i i r r t u
+  goes_asked T asks s i r t u keeps told rose turn = record {
     trace = asking asks;
     turn = turn;
-    runs = runs;
     keeping = keeping_none name client s i keeps;
     has_run = has_run_none r;
     rose = rose;
-    true_pulls = λ begun apart end among. absurd among;
+    told = told_as t.world u.world (λ x y. Runs client ships [] asks (kept_at s x) (kept_at s y)) (WorldGoes client ships s s s (asking asks) t.troubles u.troubles) told
+        (λ x y runs. worlds_unpulled client ships (asking asks) s s s t.troubles u.troubles x y refl runs);
   }
 
   -- and a change of the log by one move, which is not kept yet
-  pub goes_changed : (T : Trace → Type 0) (asks : List Ask) (s next : Log) (i : Option Images) (r : RunnerTelling) (t u : ℕ) (x y : World) → IsKept i name client s
-      → Runs client ships [] asks (kept_at s x) (kept_at s y) → RoseBy (failed_asks asks) t u → Runs client ships [] [] (kept_at s y) (stand next s y)
-      → T (followed (asking asks) (changing next)) → Goes client ships name T s next s i i r r t u x y
-  goes_changed T asks s next i r t u x y keeps asked rose runs turn = record {
+  pub goes_changed : (T : Trace → Type 0) (asks : List Ask) (s next : Log) (i : Option Images) (r : RunnerTelling) (t u : LinkTelling) → IsKept i name client s
+      → ToldWorlds t u (λ x y. Runs client ships [] asks (kept_at s x) (kept_at s y) × Runs client ships [] [] (kept_at s y) (stand next s y)) → HadTroubles (failed_asks asks) t u
+      → T (followed (asking asks) (changing next)) → Goes client ships name T s next s i i r r t u
+  goes_changed T asks s next i r t u keeps told rose turn = record {
     trace = followed (asking asks) (changing next);
     turn = turn;
-    runs = runs_then client ships [] [] asks [] (kept_at s x) (kept_at s y) (stand next s y) asked runs;
     keeping = keeping_unkept name client s next i keeps;
     has_run = has_run_none r;
     rose = omega (arith, failed-append asks [], rose);
-    true_pulls = λ begun apart end among. absurd among;
+    told = told_as t.world u.world (λ x y. Runs client ships [] asks (kept_at s x) (kept_at s y) × Runs client ships [] [] (kept_at s y) (stand next s y))
+        (WorldGoes client ships s next s (followed (asking asks) (changing next)) t.troubles u.troubles) told
+        (λ x y runs. worlds_unpulled client ships (followed (asking asks) (changing next)) s next s t.troubles u.troubles x y refl
+        (runs_then client ships [] [] asks [] (kept_at s x) (kept_at s y) (stand next s y) runs.0 runs.1));
   }
 
+  -- in each world the asks of a pull and its change of the log, if any; and where that is in step, how a pull may end
+  abbrev pub Met : List Ask → PullEnd → Log → Log → ℕ → ℕ → World → World → Type 0
+  Met asks end s next t u x y = Runs client ships [] asks (kept_at s x) (kept_at s y) × Runs client ships [] [] (kept_at s y) (stand next s y) × (InStep client s x → InStep client s y → IsTruePull t u end)
+
   -- the asks of a pull that met a snapshot, and its change of the log, if any, which is not kept yet
-  pub goes_pulled : (T : Trace → Type 0) (end : PullEnd) (asks : List Ask) (changes : List Log) (s next : Log) (i : Option Images) (r : RunnerTelling) (t u : ℕ) (x y : World)
-      → Keeping name client s next s changes i i → Runs client ships [] asks (kept_at s x) (kept_at s y) → RoseBy (failed_asks asks) t u → Runs client ships [] [] (kept_at s y) (stand next s y)
-      → (InStep client s x → InStep client s y → IsTruePull t u end) → T (followed (asking asks) (pulling end changes)) → Goes client ships name T s next s i i r r t u x y
-  goes_pulled T end asks changes s next i r t u x y keeping asked rose runs true_so turn = record {
+  pub goes_pulled : (T : Trace → Type 0) (end : PullEnd) (asks : List Ask) (changes : List Log) (s next : Log) (i : Option Images) (r : RunnerTelling) (t u : LinkTelling)
+      → Keeping name client s next s changes i i → ToldWorlds t u (Met asks end s next t.troubles u.troubles) → HadTroubles (failed_asks asks) t u
+      → T (followed (asking asks) (pulling end changes)) → Goes client ships name T s next s i i r r t u
+  goes_pulled T end asks changes s next i r t u keeping told rose turn = record {
     trace = followed (asking asks) (pulling end changes);
     turn = turn;
-    runs = runs_then client ships [] [] asks [] (kept_at s x) (kept_at s y) (stand next s y) asked runs;
     keeping = keeping;
     has_run = has_run_none r;
     rose = omega (arith, failed-append asks [], rose);
-    true_pulls = λ begun apart ended among.
-        ⊎_elim (λ (is : ended ≡ end). subst (IsTruePull t u) (sym is) (true_so begun (runs_in_step client ships [] asks (kept_at s x) (kept_at s y) begun asked apart))) (λ none. absurd none) among;
+    told = told_as t.world u.world (Met asks end s next t.troubles u.troubles) (WorldGoes client ships s next s (followed (asking asks) (pulling end changes)) t.troubles u.troubles) told
+        (λ x y met. record {
+          runs = runs_then client ships [] [] asks [] (kept_at s x) (kept_at s y) (stand next s y) met.0 met.1;
+          true_pulls = λ begun apart ended among.
+              ⊎_elim (λ (is : ended ≡ end). subst (IsTruePull t.troubles u.troubles) (sym is) (met.2 begun (runs_in_step client ships [] asks (kept_at s x) (kept_at s y) begun met.0 apart)))
+              (λ none. absurd none) among;
+        });
   }
 
   -- such as the acknowledgement of the first pending entry on a reply that was sent
-  pub goes_acked : (T : Trace → Type 0) (reply : Message) (asks : List Ask) (s : Log) (i : Option Images) (r : RunnerTelling) (t u : ℕ) (x y : World) → IsKept i name client s
-      → Runs client ships [] asks (kept_at s x) (kept_at s y) → RoseBy (failed_asks asks) t u → s.pending ≢ [] → IsAcceptance client (s.acked + 1) reply → IsIn reply y.packets
-      → T (followed (asking asks) (changing (acknowledged_first s))) → Goes client ships name T s (acknowledged_first s) s i i r r t u x y
-  goes_acked T reply asks s i r t u x y keeps asked rose some is among turn =
-      goes_changed T asks s (acknowledged_first s) i r t u x y keeps asked rose (runs_once client ships (kept_at s y) (Acknowledges reply) (some, is, among)) turn
+  pub goes_acked : (T : Trace → Type 0) (reply : Message) (asks : List Ask) (s : Log) (i : Option Images) (r : RunnerTelling) (t u : LinkTelling) → IsKept i name client s
+      → ToldWorlds t u (λ x y. Runs client ships [] asks (kept_at s x) (kept_at s y) × IsIn reply y.packets) → HadTroubles (failed_asks asks) t u → s.pending ≢ [] → IsAcceptance client (s.acked + 1) reply
+      → T (followed (asking asks) (changing (acknowledged_first s))) → Goes client ships name T s (acknowledged_first s) s i i r r t u
+  goes_acked T reply asks s i r t u keeps told rose some is turn =
+      goes_changed T asks s (acknowledged_first s) i r t u keeps
+      (told_as t.world u.world (λ x y. Runs client ships [] asks (kept_at s x) (kept_at s y) × IsIn reply y.packets)
+      (λ x y. Runs client ships [] asks (kept_at s x) (kept_at s y) × Runs client ships [] [] (kept_at s y) (stand (acknowledged_first s) s y)) told
+      (λ x y asked. (asked.0, runs_once client ships (kept_at s y) (Acknowledges reply) (some, is, asked.1))))
+      rose turn
 
   -- an entry that is logged, and not kept yet
-  pub goes_logged : (T : Trace → Type 0) (entry : Entry) (s : Log) (i : Option Images) (r : RunnerTelling) (t : ℕ) (w : World) → IsKept i name client s → IsLog (logged entry s)
-      → T (logging entry (logged entry s)) → Goes client ships name T s (logged entry s) s i i r r t t w w
-  goes_logged T entry s i r t w keeps log_is turn = record {
+  pub goes_logged : (T : Trace → Type 0) (entry : Entry) (s : Log) (i : Option Images) (r : RunnerTelling) (t : LinkTelling) → IsKept i name client s → IsLog (logged entry s)
+      → T (logging entry (logged entry s)) → Goes client ships name T s (logged entry s) s i i r r t t
+  goes_logged T entry s i r t keeps log_is turn = record {
     trace = logging entry (logged entry s);
     turn = turn;
-    runs = runs_once client ships (kept_at s w) (Logs entry) log_is;
     keeping = keeping_unkept name client s (logged entry s) i keeps;
     has_run = has_run_none r;
     rose = omega arith;
-    true_pulls = λ begun apart end among. absurd among;
+    told = told_start t.world (WorldGoes client ships s (logged entry s) s (logging entry (logged entry s)) t.troubles t.troubles)
+        (λ w. worlds_unpulled client ships (logging entry (logged entry s)) s (logged entry s) s t.troubles t.troubles w w refl (runs_once client ships (kept_at s w) (Logs entry) log_is));
   }
 
   -- a runner that was asked, while the log stood still
-  pub goes_ran : (T : Trace → Type 0) (runs : List Run) (missed : ℕ) (s : Log) (i : Option Images) (p q : RunnerTelling) (t : ℕ) (w : World) → IsKept i name client s → HasRun runs missed p q
-      → T (running runs missed) → Goes client ships name T s s s i i p q t t w w
-  goes_ran T runs missed s i p q t w keeps has_run turn = record {
+  pub goes_ran : (T : Trace → Type 0) (runs : List Run) (missed : ℕ) (s : Log) (i : Option Images) (p q : RunnerTelling) (t : LinkTelling) → IsKept i name client s → HasRun runs missed p q
+      → T (running runs missed) → Goes client ships name T s s s i i p q t t
+  goes_ran T runs missed s i p q t keeps has_run turn = record {
     trace = running runs missed;
     turn = turn;
-    runs = runs_none client ships (kept_at s w);
     keeping = keeping_none name client s i keeps;
     has_run = has_run;
     rose = omega arith;
-    true_pulls = λ begun apart end among. absurd among;
+    told = told_start t.world (WorldGoes client ships s s s (running runs missed) t.troubles t.troubles)
+        (λ w. worlds_unpulled client ships (running runs missed) s s s t.troubles t.troubles w w refl (runs_none client ships (kept_at s w)));
   }
 
   -- and then an entry that is logged, and not kept yet
-  pub goes_ran_logged : (T : Trace → Type 0) (runs : List Run) (missed : ℕ) (entry : Entry) (s : Log) (i : Option Images) (p q : RunnerTelling) (t : ℕ) (w : World) → IsKept i name client s
+  pub goes_ran_logged : (T : Trace → Type 0) (runs : List Run) (missed : ℕ) (entry : Entry) (s : Log) (i : Option Images) (p q : RunnerTelling) (t : LinkTelling) → IsKept i name client s
       → IsLog (logged entry s) → HasRun (runs ++ []) (missed + 0) p q → T (followed (running runs missed) (logging entry (logged entry s)))
-      → Goes client ships name T s (logged entry s) s i i p q t t w w
-  goes_ran_logged T runs missed entry s i p q t w keeps log_is has_run turn = record {
+      → Goes client ships name T s (logged entry s) s i i p q t t
+  goes_ran_logged T runs missed entry s i p q t keeps log_is has_run turn = record {
     trace = followed (running runs missed) (logging entry (logged entry s));
     turn = turn;
-    runs = runs_once client ships (kept_at s w) (Logs entry) log_is;
     keeping = keeping_unkept name client s (logged entry s) i keeps;
     has_run = has_run;
     rose = omega arith;
-    true_pulls = λ begun apart end among. absurd among;
+    told = told_start t.world (WorldGoes client ships s (logged entry s) s (followed (running runs missed) (logging entry (logged entry s))) t.troubles t.troubles)
+        (λ w. worlds_unpulled client ships (followed (running runs missed) (logging entry (logged entry s))) s (logged entry s) s t.troubles t.troubles w w refl
+        (runs_once client ships (kept_at s w) (Logs entry) log_is));
   }
 
   -- What a keeping makes of a stretch that changed the log: the log is kept now, or, where it was refused, perhaps what was kept before.
-  pub goes_saved : {E : Type 0} (T : Trace → Type 0) (a b k : Log) (i j l : Option Images) (p q : RunnerTelling) (t u : ℕ) (x y : World) (r : Result (Unit {0}) E)
-      (goes : Goes client ships name T a b k i j p q t u x y) → goes.trace.changes ≢ [] → Told j l (KeepsLog name client b r)
-      → (now : Log) × Goes client ships name T a b now i l p q t u x y × IfOk r (λ done. now ≡ b)
-  goes_saved {E} T a b k i j l p q t u x y r goes some save = by (keeping_saved name client a b k goes.trace.changes some i j l r goes.keeping save)
+  pub goes_saved : {E : Type 0} (T : Trace → Type 0) (a b k : Log) (i j l : Option Images) (p q : RunnerTelling) (t u : LinkTelling) (r : Result (Unit {0}) E)
+      (goes : Goes client ships name T a b k i j p q t u) → goes.trace.changes ≢ [] → Told j l (KeepsLog name client b r)
+      → (now : Log) × Goes client ships name T a b now i l p q t u × IfOk r (λ done. now ≡ b)
+  goes_saved {E} T a b k i j l p q t u r goes some save = by (keeping_saved name client a b k goes.trace.changes some i j l r goes.keeping save)
     where
       sure : (r : Result (Unit {0}) E) → IfOk r (λ done. b ≡ b)
       sure (Ok done) = refl
@@ -352,20 +393,18 @@ module _ (name : List ℕ) (client : ℕ) (ships : Bool) where
       unsure (Err e) none = tt
 
       by : Keeping name client a b b goes.trace.changes i l ⊎ (IfOk r (λ done. ⊥) × Keeping name client a b k goes.trace.changes i l)
-          → (now : Log) × Goes client ships name T a b now i l p q t u x y × IfOk r (λ done. now ≡ b)
+          → (now : Log) × Goes client ships name T a b now i l p q t u × IfOk r (λ done. now ≡ b)
       by (inl now) = (
         b,
         record {
           trace = goes.trace;
           turn = goes.turn;
-          runs = subst (λ (m : List Ask). Runs client ships goes.trace.entries m (kept_at a x) (kept_at b y)) (append-nil goes.trace.asks)
-              (subst (λ (es : List Entry). Runs client ships es (goes.trace.asks ++ []) (kept_at a x) (kept_at b y)) (append-nil goes.trace.entries)
-              (runs_then client ships goes.trace.entries [] goes.trace.asks [] (kept_at a x) (stand b k y) (kept_at b y) goes.runs (runs_once client ships (stand b k y) Saves tt)));
           keeping = now;
           has_run = goes.has_run;
           rose = goes.rose;
-          true_pulls = goes.true_pulls;
+          told = told_as t.world u.world (WorldGoes client ships a b k goes.trace t.troubles u.troubles) (WorldGoes client ships a b b goes.trace t.troubles u.troubles) goes.told
+              (λ x y. worlds_saved client ships goes.trace a b k t.troubles u.troubles x y);
         },
         sure r,
       )
-      by (inr still) = (k, record { trace = goes.trace; turn = goes.turn; runs = goes.runs; keeping = still.1; has_run = goes.has_run; rose = goes.rose; true_pulls = goes.true_pulls }, unsure r still.0)
+      by (inr still) = (k, record { trace = goes.trace; turn = goes.turn; keeping = still.1; has_run = goes.has_run; rose = goes.rose; told = goes.told }, unsure r still.0)

@@ -10,7 +10,7 @@ use Rattle.mod_log.specs.declared.log.LogError.{LogError}
 use Rattle.mod_log.specs.declared.log.LogError.TheVariants.{EntryTooLarge, LogFull, LastNumber, Tree, Memory}
 use Rattle.mod_log.specs.Log.{Log, IsLog, logged}
 use Rattle.mod_log.specs.Append.{next_entry, appended, append_refusals}
-use Rattle.world_rules.specs.World.{World}
+use Rattle.world_rules.specs.Telling.{LinkTelling}
 use Rattle.client_core.specs.Logging.{local_entry, LocalEnds}
 use Rattle.client_core.specs.declared.keeping.Journal.{Journal}
 use Rattle.client_core.specs.Journal.{next_notes}
@@ -30,32 +30,32 @@ appended-is origin effects before after is = unrefused (append_refusals origin e
 
 module _ (name : List ℕ) (client : ℕ) (ships : Bool) (effect : Effect) (before after : Log) (i : Option Images) (keeps : IsKept i name client before) where
   logs_goes : (number : ℕ) → appended None (effect ∷ []) before ≡ Ok after → number ≡ (local_entry effect before).seq → IsLog after
-      → (r : RunnerTelling) (t : ℕ) (w : World) → Goes client ships name (LocalEnds effect before (Ok number) after) before after before i i r r t t w w
-  logs_goes number is shown is_log r t w =
+      → (r : RunnerTelling) (t : LinkTelling) → Goes client ships name (LocalEnds effect before (Ok number) after) before after before i i r r t t
+  logs_goes number is shown is_log r t =
       let entry : Entry = local_entry effect before in
       let same : logged entry before ≡ after = appended-is None (effect ∷ []) before after is in
-      subst (λ (next : Log). Goes client ships name (LocalEnds effect before (Ok number) next) before next before i i r r t t w w) same
-      (goes_logged name client ships (LocalEnds effect before (Ok number) (logged entry before)) entry before i r t w keeps (subst IsLog (sym same) is_log)
+      subst (λ (next : Log). Goes client ships name (LocalEnds effect before (Ok number) next) before next before i i r r t t) same
+      (goes_logged name client ships (LocalEnds effect before (Ok number) (logged entry before)) entry before i r t keeps (subst IsLog (sym same) is_log)
       (inl (subst (λ (next : Log). appended None (effect ∷ []) before ≡ Ok next) (sym same) is, shown, refl)))
 
   refused_goes : (refusal : LogError) → appended None (effect ∷ []) before ≡ Err refusal → after ≡ before
-      → (r : RunnerTelling) (t : ℕ) (w : World) → Goes client ships name (LocalEnds effect before (Err refusal) after) before after before i i r r t t w w
-  refused_goes refusal is same r t w =
-      subst (λ (next : Log). Goes client ships name (LocalEnds effect before (Err refusal) next) before next before i i r r t t w w) (sym same)
-      (goes_none name client ships (LocalEnds effect before (Err refusal) before) before i r t w keeps (inl (is, refl, refl)))
+      → (r : RunnerTelling) (t : LinkTelling) → Goes client ships name (LocalEnds effect before (Err refusal) after) before after before i i r r t t
+  refused_goes refusal is same r t =
+      subst (λ (next : Log). Goes client ships name (LocalEnds effect before (Err refusal) next) before next before i i r r t t) (sym same)
+      (goes_none name client ships (LocalEnds effect before (Err refusal) before) before i r t keeps (inl (is, refl, refl)))
 
-  -- what `local` makes of the client, in every world
+  -- what `local` makes of the client, over any link
   pub local_goes : (result : Result ℕ LogError) → OnOk result (appended None (effect ∷ []) before ≡ Ok after) → IfOk result (λ seq. seq ≡ (local_entry effect before).seq)
       → IfErr result (λ e. e ≢ Memory → appended None (effect ∷ []) before ≡ Err e) → OnErr result (after ≡ before) → IsLog after
-      → (r : RunnerTelling) (t : ℕ) (w : World) → Goes client ships name (LocalEnds effect before result after) before after before i i r r t t w w
-  local_goes (Ok number) ok seq err same is_log r t w = logs_goes number ok seq is_log r t w
-  local_goes (Err (EntryTooLarge count bytes)) ok seq err same is_log r t w = refused_goes (EntryTooLarge count bytes) (err (λ e. absurd (cc))) same r t w
-  local_goes (Err (LogFull count bytes)) ok seq err same is_log r t w = refused_goes (LogFull count bytes) (err (λ e. absurd (cc))) same r t w
-  local_goes (Err LastNumber) ok seq err same is_log r t w = refused_goes LastNumber (err (λ e. absurd (cc))) same r t w
-  local_goes (Err (Tree i refusal)) ok seq err same is_log r t w = refused_goes (Tree i refusal) (err (λ e. absurd (cc))) same r t w
-  local_goes (Err Memory) ok seq err same is_log r t w =
-      subst (λ (next : Log). Goes client ships name (LocalEnds effect before (Err Memory) next) before next before i i r r t t w w) (sym same)
-      (goes_none name client ships (LocalEnds effect before (Err Memory) before) before i r t w keeps (inr (refl, refl, refl)))
+      → (r : RunnerTelling) (t : LinkTelling) → Goes client ships name (LocalEnds effect before result after) before after before i i r r t t
+  local_goes (Ok number) ok seq err same is_log r t = logs_goes number ok seq is_log r t
+  local_goes (Err (EntryTooLarge count bytes)) ok seq err same is_log r t = refused_goes (EntryTooLarge count bytes) (err (λ e. absurd (cc))) same r t
+  local_goes (Err (LogFull count bytes)) ok seq err same is_log r t = refused_goes (LogFull count bytes) (err (λ e. absurd (cc))) same r t
+  local_goes (Err LastNumber) ok seq err same is_log r t = refused_goes LastNumber (err (λ e. absurd (cc))) same r t
+  local_goes (Err (Tree i refusal)) ok seq err same is_log r t = refused_goes (Tree i refusal) (err (λ e. absurd (cc))) same r t
+  local_goes (Err Memory) ok seq err same is_log r t =
+      subst (λ (next : Log). Goes client ships name (LocalEnds effect before (Err Memory) next) before next before i i r r t t) (sym same)
+      (goes_none name client ships (LocalEnds effect before (Err Memory) before) before i r t keeps (inr (refl, refl, refl)))
 
 -- a client that might go on under a name still may
 pub local_ready : (effects : List Effect) (before after : Log) (result : Result ℕ LogError) → OnOk result (appended None effects before ≡ Ok after) → OnErr result (after ≡ before)

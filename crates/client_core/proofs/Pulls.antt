@@ -23,7 +23,7 @@ use Rattle.world_rules.specs.Settling.{Settled, IsFreshReply}
 use Rattle.world_rules.specs.InStep.{InStep, MaySend}
 use Rattle.world_rules.specs.Run.{Runs, kept_at, Pulls}
 use Rattle.world_rules.proofs.Runs.{runs_none, runs_once, moved_runs, pulled_last}
-use Rattle.world_rules.proofs.Asks.{told_as, told_start}
+use Rattle.world_rules.proofs.Asks.{told_as}
 use Rattle.world_rules.proofs.Replying.{fresh_newer}
 use Rattle.world_rules.proofs.Sending.{sent_valid}
 use Rattle.client_core.specs.declared.route.Route.{Route}
@@ -36,7 +36,7 @@ use Rattle.client_core.specs.Goes.{Goes, Went, stand, no_runner}
 use Rattle.client_core.specs.Causes.{TakesRows, HasPullCause, PullKeeps}
 use Rattle.client_core.specs.Honest.{IsNotOtherLast, IsNotOlder}
 use Rattle.client_core.specs.Inside.{MeetsEnds, PullLeaves, first_lower, snapshot_of}
-use Rattle.client_core.proofs.Going.{changed_so, keeping_none, keeping_unkept, keeping_saved, goes_none, goes_as, goes_asked, goes_pulled, goes_saved}
+use Rattle.client_core.proofs.Going.{changed_so, keeping_none, keeping_unkept, keeping_saved, goes_none, goes_as, goes_asked, Met, goes_pulled, goes_saved}
 use Rattle.client_core.proofs.Standing.{settled_stands}
 use Rattle.client_core.proofs.Olders.{nowhere_older, first_older}
 
@@ -102,12 +102,11 @@ module _ (client : ℕ) (route : Route) (before : Log) (i : Option Images) (keep
 
   -- what a pull did over the link before it kept anything
   abbrev Asks : PullEnd → Log → LinkTelling → LinkTelling → Type 0
-  Asks end after t u = ToldWorlds t u (λ x y. Goes client ships name (PullAsks client route before end after) before after before i i no_runner no_runner t.troubles u.troubles x y)
+  Asks end after t u = Goes client ships name (PullAsks client route before end after) before after before i i no_runner no_runner t u
 
   -- entries are pending
   pub pull_waits : (count : ℕ) → before.pending ≢ [] → count ≡ length before.pending → (t : LinkTelling) → Asks (ends.Pending count) before t t
-  pull_waits count some is t =
-      told_start t.world (λ x y. Goes client ships name (PullAsks client route before (ends.Pending count) before) before before before i i no_runner no_runner t.troubles t.troubles x y) (λ w. goes_none name client ships (PullAsks client route before (ends.Pending count) before) before i no_runner t.troubles w keeps (inl (some, is, refl, refl)))
+  pull_waits count some is t = goes_none name client ships (PullAsks client route before (ends.Pending count) before) before i no_runner t keeps (inl (some, is, refl, refl))
 
   module _ (none : before.pending ≡ []) (t u : LinkTelling) where
     abbrev request : Message
@@ -118,9 +117,11 @@ module _ (client : ℕ) (route : Route) (before : Log) (i : Option Images) (keep
 
     -- the asks of a settling, which change nothing
     asked : (end : PullEnd) (result : Result (Option Message) AllocError) (done : Settled Server route.server request t u result) → PullAsks client route before end before (asking done.asks) → Pulls_so end before
-    asked end result done turn = told_as t.world u.world (λ x y. Moved request done.asks x y × AnswersStand y done.asks)
-        (λ x y. Goes client ships name (PullAsks client route before end before) before before before i i no_runner no_runner t.troubles u.troubles x y) done.told
-        (λ x y moved. goes_asked name client ships (PullAsks client route before end before) done.asks before i no_runner t.troubles u.troubles x y keeps (moved_runs client ships before request done.asks x y (pull_sends client ships before none) moved.0 moved.1) done.rose turn)
+    asked end result done turn =
+        goes_asked name client ships (PullAsks client route before end before) done.asks before i no_runner t u keeps
+        (told_as t.world u.world (λ x y. Moved request done.asks x y × AnswersStand y done.asks) (λ x y. Runs client ships [] done.asks (kept_at before x) (kept_at before y)) done.told
+        (λ x y moved. moved_runs client ships before request done.asks x y (pull_sends client ships before none) moved.0 moved.1))
+        done.rose turn
 
     -- eight asks failed
     pub pull_unanswered : Settled Server route.server request t u (Ok None) → Pulls_so ends.Unanswered before
@@ -140,15 +141,18 @@ module _ (client : ℕ) (route : Route) (before : Log) (i : Option Images) (keep
           → ((y : World) → IsIn (Snapshot client before.acked last seen) y.packets → Runs client ships [] [] (kept_at before y) (stand after before y))
           → ((trace : Trace) → PullsSnapshot client route before end after trace → PullTurn client route before end after trace) → Pulls_so end after
       came end after changes met is keeping runs turned =
-          told_as t.world u.world (λ x y. (Moved request done.asks x y × AnswersStand y done.asks) × (IsCalm t u → IsFreshReply request x y (Snapshot client before.acked last seen)))
-          (λ x y. Goes client ships name (PullAsks client route before end after) before after before i i no_runner no_runner t.troubles u.troubles x y)
+          goes_pulled name client ships (PullAsks client route before end after) end done.asks changes before after i no_runner t u keeping
+          (told_as t.world u.world (λ x y. (Moved request done.asks x y × AnswersStand y done.asks) × (IsCalm t u → IsFreshReply request x y (Snapshot client before.acked last seen)))
+          (Met name client ships done.asks end before after t.troubles u.troubles)
           (told_beside t.world u.world (IsCalm t u) (λ x y. Moved request done.asks x y × AnswersStand y done.asks) (λ x y. IsFreshReply request x y (Snapshot client before.acked last seen)) done.told direct)
           (λ x y so.
-          let stands = settled_stands Server route.server request y (Some (Snapshot client before.acked last seen)) done.asks done.settling so.0.1 in
-          goes_pulled name client ships (PullAsks client route before end after) end done.asks changes before after i no_runner t.troubles u.troubles x y keeping
-          (moved_runs client ships before request done.asks x y (pull_sends client ships before none) so.0.0 so.0.1) done.rose (runs y stands.0)
-          (λ begun now. (never_other client before none last seen y now stands.0 end after met, λ calm. never_older client before none last seen x y (so.1 calm) begun end after (inl met)))
-          (inl (turned (followed (asking done.asks) (pulling end changes)) (snapshot end after (followed (asking done.asks) (pulling end changes)) met (ap (λ (n : Trace). followed (asking done.asks) n) is)))))
+          let stands = settled_stands Server route.server request y (Some (Snapshot client before.acked last seen)) done.asks done.settling so.0.1 in (
+            moved_runs client ships before request done.asks x y (pull_sends client ships before none) so.0.0 so.0.1,
+            runs y stands.0,
+            λ begun now. (never_other client before none last seen y now stands.0 end after met, λ calm. never_older client before none last seen x y (so.1 calm) begun end after (inl met)),
+          )))
+          done.rose
+          (inl (turned (followed (asking done.asks) (pulling end changes)) (snapshot end after (followed (asking done.asks) (pulling end changes)) met (ap (λ (n : Trace). followed (asking done.asks) n) is))))
 
       -- the log stays
       stays : (end : PullEnd) → Meets before last seen end before → pulling end [] ≡ pull_change end before
@@ -219,46 +223,38 @@ module _ (before : Log) (none : before.pending ≡ []) (last : ℕ) (seen : Volu
 
 -- ---- the keeping behind a pull
 
-module _ (client : ℕ) (route : Route) (before after : Log) (i l : Option Images) (t u : ℕ) where
-  -- rows were taken, and the log was to be kept
-  pulled_kept : (x y : World) (count : ℕ) (r : Result (Unit {0}) KeepError) → Goes client (is_some route.surrogate) route.image (PullAsks client route before (ends.Pulled count) after) before after before i i no_runner no_runner t u x y
-      → Told i l (KeepsLog route.image client after r) → (kept : Log) × Goes client (is_some route.surrogate) route.image (PullEnds client route before (pulled_end count r) after kept) before after kept i l no_runner no_runner t u x y
-  pulled_kept x y count r goes save = by r (goes_saved route.image client (is_some route.surrogate) (PullAsks client route before (ends.Pulled count) after) before after before i i l no_runner no_runner t u x y r goes (changed goes.trace goes.turn) save)
-    where
-      changed : (trace : Trace) → PullAsks client route before (ends.Pulled count) after trace → trace.changes ≢ []
-      changed trace (inl turn) = changed_so trace.changes after [] (ap (λ (n : Trace). n.changes) turn.trace_is)
-      changed trace (inr broken) = absurd (cc (broken.0))
-
-      snapshot : (trace : Trace) → PullAsks client route before (ends.Pulled count) after trace → PullsSnapshot client route before (ends.Pulled count) after trace
-      snapshot trace (inl turn) = turn
-      snapshot trace (inr broken) = absurd (cc (broken.0))
-
-      by : (r : Result (Unit {0}) KeepError) → (now : Log) × Goes client (is_some route.surrogate) route.image (PullAsks client route before (ends.Pulled count) after) before after now i l no_runner no_runner t u x y × IfOk r (λ done. now ≡ after)
-          → (kept : Log) × Goes client (is_some route.surrogate) route.image (PullEnds client route before (pulled_end count r) after kept) before after kept i l no_runner no_runner t u x y
-      by (Ok done) saved = (
-        saved.0,
-        goes_as route.image client (is_some route.surrogate) (PullAsks client route before (ends.Pulled count) after) (PullEnds client route before (ends.Pulled count) after saved.0) before after saved.0 i l no_runner no_runner t u x y saved.1
-            (λ trace turn. inl (snapshot trace turn, saved.2)),
-      )
-      by (Err keepers.Failed) saved = (
-        saved.0,
-        goes_as route.image client (is_some route.surrogate) (PullAsks client route before (ends.Pulled count) after) (PullEnds client route before ends.KeepFault after saved.0) before after saved.0 i l no_runner no_runner t u x y saved.1
-            (λ trace turn. inr (refl, inr (count, snapshot trace turn))),
-      )
-      by (Err keepers.Memory) saved = (
-        saved.0,
-        goes_as route.image client (is_some route.surrogate) (PullAsks client route before (ends.Pulled count) after) (PullEnds client route before ends.Memory after saved.0) before after saved.0 i l no_runner no_runner t u x y saved.1
-            (λ trace turn. inr (refl, inr (count, snapshot trace turn))),
-      )
-
--- and over the link
+-- rows were taken, and the log was to be kept
 pub pulled_went : (client : ℕ) (route : Route) (before after : Log) (i l : Option Images) (t u : LinkTelling) (count : ℕ) (r : Result (Unit {0}) KeepError) → Told i l (KeepsLog route.image client after r)
-    → ToldWorlds t u (λ x y. Goes client (is_some route.surrogate) route.image (PullAsks client route before (ends.Pulled count) after) before after before i i no_runner no_runner t.troubles u.troubles x y)
+    → Goes client (is_some route.surrogate) route.image (PullAsks client route before (ends.Pulled count) after) before after before i i no_runner no_runner t u
     → Went client (is_some route.surrogate) route.image (PullEnds client route before (pulled_end count r) after) before after i l t u
 pulled_went client route before after i l t u count r save goes =
-    told_as t.world u.world (λ x y. Goes client (is_some route.surrogate) route.image (PullAsks client route before (ends.Pulled count) after) before after before i i no_runner no_runner t.troubles u.troubles x y)
-    (λ x y. (kept : Log) × Goes client (is_some route.surrogate) route.image (PullEnds client route before (pulled_end count r) after kept) before after kept i l no_runner no_runner t.troubles u.troubles x y) goes
-    (λ x y did. pulled_kept client route before after i l t.troubles u.troubles x y count r did save)
+    by r (goes_saved route.image client (is_some route.surrogate) (PullAsks client route before (ends.Pulled count) after) before after before i i l no_runner no_runner t u r goes (changed goes.trace goes.turn) save)
+  where
+    changed : (trace : Trace) → PullAsks client route before (ends.Pulled count) after trace → trace.changes ≢ []
+    changed trace (inl turn) = changed_so trace.changes after [] (ap (λ (n : Trace). n.changes) turn.trace_is)
+    changed trace (inr broken) = absurd (cc (broken.0))
+
+    snapshot : (trace : Trace) → PullAsks client route before (ends.Pulled count) after trace → PullsSnapshot client route before (ends.Pulled count) after trace
+    snapshot trace (inl turn) = turn
+    snapshot trace (inr broken) = absurd (cc (broken.0))
+
+    by : (r : Result (Unit {0}) KeepError) → (now : Log) × Goes client (is_some route.surrogate) route.image (PullAsks client route before (ends.Pulled count) after) before after now i l no_runner no_runner t u × IfOk r (λ done. now ≡ after)
+        → Went client (is_some route.surrogate) route.image (PullEnds client route before (pulled_end count r) after) before after i l t u
+    by (Ok done) saved = (
+      saved.0,
+      goes_as route.image client (is_some route.surrogate) (PullAsks client route before (ends.Pulled count) after) (PullEnds client route before (ends.Pulled count) after saved.0) before after saved.0 i l no_runner no_runner t u saved.1
+          (λ trace turn. inl (snapshot trace turn, saved.2)),
+    )
+    by (Err keepers.Failed) saved = (
+      saved.0,
+      goes_as route.image client (is_some route.surrogate) (PullAsks client route before (ends.Pulled count) after) (PullEnds client route before ends.KeepFault after saved.0) before after saved.0 i l no_runner no_runner t u saved.1
+          (λ trace turn. inr (refl, inr (count, snapshot trace turn))),
+    )
+    by (Err keepers.Memory) saved = (
+      saved.0,
+      goes_as route.image client (is_some route.surrogate) (PullAsks client route before (ends.Pulled count) after) (PullEnds client route before ends.Memory after saved.0) before after saved.0 i l no_runner no_runner t u saved.1
+          (λ trace turn. inr (refl, inr (count, snapshot trace turn))),
+    )
 
 -- ends that are no Pulled
 abbrev pub IsUnpulled : PullEnd → Type 0
@@ -276,22 +272,15 @@ module _ (before after : Log) where
   leaves_same ends.Memory other leaves = leaves
 
 -- a pull that changed nothing
-unpulled_kept : (client : ℕ) (route : Route) (before after : Log) (i : Option Images) (t u : ℕ) (x y : World) (end : PullEnd) → IsUnpulled end → PullLeaves end before after
-    → Goes client (is_some route.surrogate) route.image (PullAsks client route before end after) before after before i i no_runner no_runner t u x y → (kept : Log) × Goes client (is_some route.surrogate) route.image (PullEnds client route before end after kept) before after kept i i no_runner no_runner t u x y
-unpulled_kept client route before after i t u x y end other leaves goes =
-    (before, goes_as route.image client (is_some route.surrogate) (PullAsks client route before end after) (PullEnds client route before end after before) before after before i i no_runner no_runner t u x y goes (λ trace turn. kept_so trace turn))
+pub unpulled_went : (client : ℕ) (route : Route) (before after : Log) (i : Option Images) (t u : LinkTelling) (end : PullEnd) → IsUnpulled end → PullLeaves end before after
+    → Goes client (is_some route.surrogate) route.image (PullAsks client route before end after) before after before i i no_runner no_runner t u
+    → Went client (is_some route.surrogate) route.image (PullEnds client route before end after) before after i i t u
+unpulled_went client route before after i t u end other leaves goes =
+    (before, goes_as route.image client (is_some route.surrogate) (PullAsks client route before end after) (PullEnds client route before end after before) before after before i i no_runner no_runner t u goes (λ trace turn. kept_so trace turn))
   where
     kept_so : (trace : Trace) → PullAsks client route before end after trace → PullEnds client route before end after before trace
     kept_so trace (inl turn) = inl (turn, sym (leaves_same before after end other leaves))
     kept_so trace (inr broken) = inr (ap is_broken_pull broken.0, inl broken.1)
-
-pub unpulled_went : (client : ℕ) (route : Route) (before after : Log) (i : Option Images) (t u : LinkTelling) (end : PullEnd) → IsUnpulled end → PullLeaves end before after
-    → ToldWorlds t u (λ x y. Goes client (is_some route.surrogate) route.image (PullAsks client route before end after) before after before i i no_runner no_runner t.troubles u.troubles x y)
-    → Went client (is_some route.surrogate) route.image (PullEnds client route before end after) before after i i t u
-unpulled_went client route before after i t u end other leaves goes =
-    told_as t.world u.world (λ x y. Goes client (is_some route.surrogate) route.image (PullAsks client route before end after) before after before i i no_runner no_runner t.troubles u.troubles x y)
-    (λ x y. (kept : Log) × Goes client (is_some route.surrogate) route.image (PullEnds client route before end after kept) before after kept i i no_runner no_runner t.troubles u.troubles x y) goes
-    (λ x y did. unpulled_kept client route before after i t.troubles u.troubles x y end other leaves did)
 
 -- what is kept behind a pull
 module _ (name : List ℕ) (client : ℕ) (before after : Log) (i l : Option Images) (keeps : IsKept i name client before) where

@@ -24,7 +24,7 @@ use Rattle.mod_log.specs.Append.{appended}
 use Rattle.mod_log.specs.declared.log.Entry.{Entry}
 use Rattle.mod_log.specs.declared.log.LogError.{LogError}
 use Rattle.mod_log.specs.Log.{Log, IsLog, tree_of, logged}
-use Rattle.world_rules.specs.World.{World}
+use Rattle.world_rules.specs.Telling.{LinkTelling}
 use Rattle.client_core.specs.declared.running.RunEnd.{RunEnd}
 use Rattle.client_core.specs.declared.running.RunEnd.TheVariants as ends
 use Rattle.client_core.specs.Trace.{Trace, nothing, followed, logging, running}
@@ -256,39 +256,39 @@ module _ (log : Log) (run : Run) where
   odd_is (rows_faults.OddTree i) is command = inl (is, refl)
   odd_is rows_faults.Memory is command = inr (refl, refl)
 
--- ---- in every world
+-- ---- over any link
 
-module _ (name : List ℕ) (client : ℕ) (ships : Bool) (work : List ℕ) (command : Command) (before : Log) (i : Option Images) (keeps : IsKept i name client before) (p q : RunnerTelling) (t : ℕ) (w : World) where
+module _ (name : List ℕ) (client : ℕ) (ships : Bool) (work : List ℕ) (command : Command) (before : Log) (i : Option Images) (keeps : IsKept i name client before) (p q : RunnerTelling) (t : LinkTelling) where
   -- the log stood still
   still_goes : (T : Trace → Type 0) (after : Log) (runs : List Run) (missed : ℕ) (trace : Trace) → after ≡ before → trace ≡ running runs missed → T trace → HasRun trace.runs trace.missed p q
-      → Goes client ships name T before after before i i p q t t w w
+      → Goes client ships name T before after before i i p q t t
   still_goes T after runs missed trace same is turn has_run =
-      subst (λ (next : Log). Goes client ships name T before next before i i p q t t w w) (sym same)
-      (goes_ran name client ships T runs missed before i p q t w keeps (subst (λ (n : Trace). HasRun n.runs n.missed p q) is has_run) (subst T is turn))
+      subst (λ (next : Log). Goes client ships name T before next before i i p q t t) (sym same)
+      (goes_ran name client ships T runs missed before i p q t keeps (subst (λ (n : Trace). HasRun n.runs n.missed p q) is has_run) (subst T is turn))
 
   -- an entry was logged
   logs_goes : (run : Run) (seq status : ℕ) (after : Log) (trace : Trace) → run_logged command run before ≡ Ok after → trace ≡ ran_trace command before run (ends.Logged seq status) after
       → RunEnds work command before (ends.Logged seq status) after trace → HasRun trace.runs trace.missed p q → IsLog after
-      → Goes client ships name (RunEnds work command before (ends.Logged seq status) after) before after before i i p q t t w w
+      → Goes client ships name (RunEnds work command before (ends.Logged seq status) after) before after before i i p q t t
   logs_goes run seq status after trace is shown turn has_run log_is =
       let entry : Entry = run_entry command run before in
       let end : RunEnd = ends.Logged seq status in
       let same : logged entry before ≡ after = appended-is (Some (origin_of command run)) (changes_of run) before after is in
       let seen : trace ≡ followed (running (run ∷ []) 0) (logging entry (logged entry before)) =
       subst (λ (next : Log). trace ≡ followed (running (run ∷ []) 0) (logging entry next)) (sym same) shown in
-      subst (λ (next : Log). Goes client ships name (RunEnds work command before end after) before next before i i p q t t w w) same
-      (goes_ran_logged name client ships (RunEnds work command before end after) (run ∷ []) 0 entry before i p q t w keeps (subst IsLog (sym same) log_is)
+      subst (λ (next : Log). Goes client ships name (RunEnds work command before end after) before next before i i p q t t) same
+      (goes_ran_logged name client ships (RunEnds work command before end after) (run ∷ []) 0 entry before i p q t keeps (subst IsLog (sym same) log_is)
       (subst (λ (n : Trace). HasRun n.runs n.missed p q) seen has_run) (subst (RunEnds work command before end after) seen turn))
 
-  -- what `run_command` makes of the client, in every world
-  pub run_goes : (end : RunEnd) (after : Log) → RunsCommand work command before end after p q → IsLog after → Goes client ships name (RunEnds work command before end after) before after before i i p q t t w w
+  -- what `run_command` makes of the client, over any link
+  pub run_goes : (end : RunEnd) (after : Log) → RunsCommand work command before end after p q → IsLog after → Goes client ships name (RunEnds work command before end after) before after before i i p q t t
   run_goes end after did log_is = by did.turn
     where
       T : Trace → Type 0
       T = RunEnds work command before end after
 
       turned : (e : RunEnd) → RunTurn work command before e after did.trace → RunEnds work command before e after did.trace
-          → Goes client ships name (RunEnds work command before e after) before after before i i p q t t w w
+          → Goes client ships name (RunEnds work command before e after) before after before i i p q t t
       turned (ends.Logged seq status) turn all = logs_goes turn.0 seq status after did.trace turn.2.1 turn.3 all did.has_run log_is
       turned (ends.Nothing status) turn all = still_goes (RunEnds work command before (ends.Nothing status) after) after (turn.0 ∷ []) 0 did.trace turn.2.3 turn.3 all did.has_run
       turned (ends.NoJob fault) turn all = still_goes (RunEnds work command before (ends.NoJob fault) after) after [] 0 did.trace turn.1 turn.2 all did.has_run
@@ -298,11 +298,11 @@ module _ (name : List ℕ) (client : ℕ) (ships : Bool) (work : List ℕ) (comm
       turned (ends.Refused refusal) turn all = still_goes (RunEnds work command before (ends.Refused refusal) after) after (turn.0 ∷ []) 0 did.trace turn.2.2 turn.3 all did.has_run
       turned ends.Memory turn all = absurd turn.2
 
-      broken : BreaksRun work command before did.trace → after ≡ before → Goes client ships name T before after before i i p q t t w w
+      broken : BreaksRun work command before did.trace → after ≡ before → Goes client ships name T before after before i i p q t t
       broken (inl none) same = still_goes T after [] 0 did.trace same none did.turn did.has_run
       broken (inr given) same = still_goes T after (given.0 ∷ []) 0 did.trace same given.2 did.turn did.has_run
 
-      by : RunEnds work command before end after did.trace → Goes client ships name T before after before i i p q t t w w
+      by : RunEnds work command before end after did.trace → Goes client ships name T before after before i i p q t t
       by (inl turn) = turned end turn did.turn
       by (inr why) = broken why.2 why.1
 

@@ -3,6 +3,7 @@ use Rattle.std.proofs.Common.{Bool, is_some, true, false, ◌≡◌, ◌≢◌, 
 use Rattle.std.specs.declared.alloc.AllocError.{AllocError}
 use Rattle.outside.specs.Outside.{Told, RoseBy, Rose}
 use Rattle.outside.specs.Keeper.{Images}
+use Rattle.tree_values.specs.Lists.{IsIn}
 use Rattle.outside.specs.declared.errors.KeepError.{KeepError}
 use Rattle.outside.specs.declared.errors.KeepError.TheVariants as keepers
 use Rattle.mod_log.specs.declared.log.Entry.{Entry}
@@ -11,11 +12,10 @@ use Rattle.wire_frames.specs.declared.message.Message.{Message}
 use Rattle.wire_frames.specs.declared.message.Message.TheVariants.{Accepted, Stale, Unfit, Gap, Full}
 use Rattle.wire_frames.specs.Frame.{IsValid, Echoes, number_of}
 use Rattle.world_rules.specs.declared.asking.Ask.{Ask}
-use Rattle.world_rules.specs.World.{World}
-use Rattle.world_rules.specs.Telling.{LinkTelling, ToldWorlds}
+use Rattle.world_rules.specs.Telling.{LinkTelling}
 use Rattle.world_rules.specs.InStep.{IsAcceptance}
-use Rattle.world_rules.specs.Run.{kept_at}
-use Rattle.world_rules.proofs.Asks.{told_then, told_as, told_start}
+use Rattle.world_rules.specs.Run.{Runs, kept_at}
+use Rattle.world_rules.proofs.Asks.{told_as}
 use Rattle.world_rules.proofs.Runs.{run_answers}
 use Rattle.client_core.specs.declared.route.Route.{Route}
 use Rattle.client_core.specs.declared.syncing.SyncEnd.{SyncEnd}
@@ -161,48 +161,47 @@ module _ (client : ℕ) (route : Route) (before : Log) where
 
   -- and what it did over the link, each log being kept
   abbrev pub WentSoFar : Log → Option Images → Option Images → LinkTelling → LinkTelling → Type 0
-  WentSoFar mid i j t u = ToldWorlds t u (λ x y. Goes client ships name (Acked mid) before mid mid i j no_runner no_runner t.troubles u.troubles x y)
+  WentSoFar mid i j t u = Goes client ships name (Acked mid) before mid mid i j no_runner no_runner t u
 
   pub acked_none : (i : Option Images) (t : LinkTelling) → IsKept i name client before → WentSoFar before i i t t
-  acked_none i t keeps =
-      told_start t.world (λ x y. Goes client ships name (Acked before) before before before i i no_runner no_runner t.troubles t.troubles x y) (λ w. goes_none name client ships (Acked before) before i no_runner t.troubles w keeps (0, (refl, refl)))
+  acked_none i t keeps = goes_none name client ships (Acked before) before i no_runner t keeps (0, (refl, refl))
 
   -- nothing is pending
   pub sync_synced : (mid : Log) (i j : Option Images) (t u : LinkTelling) → mid.pending ≡ [] → WentSoFar mid i j t u → Went client ships name (SyncEnds client route before (ends.Synced mid.acked) mid) before mid i j t u
-  sync_synced mid i j t u none so_far =
-      told_as t.world u.world (λ x y. Goes client ships name (Acked mid) before mid mid i j no_runner no_runner t.troubles u.troubles x y) _ so_far
-      (λ x y goes. (
-        mid,
-        goes_as name client ships (Acked mid) (SyncEnds client route before (ends.Synced mid.acked) mid mid) before mid mid i j no_runner no_runner t.troubles u.troubles x y goes
-            (λ m acked. inl ((acked.0, m, [], acked.1, inl (none, refl, refl), followed-nothing m), refl)),
-      ))
+  sync_synced mid i j t u none so_far = (
+    mid,
+    goes_as name client ships (Acked mid) (SyncEnds client route before (ends.Synced mid.acked) mid mid) before mid mid i j no_runner no_runner t u so_far
+        (λ m acked. inl ((acked.0, m, [], acked.1, inl (none, refl, refl), followed-nothing m), refl)),
+  )
 
   module _ (mid : Log) (entry : Entry) (is : IsLog mid) (first : IsFirst entry mid.pending) (i j : Option Images) (keeps : IsKept j name client mid) (t u v : LinkTelling) (so_far : WentSoFar mid i j t u) where
     abbrev acked : Log
     acked = acknowledged_first mid
 
+    -- asks for the entry, which change nothing
+    asked : (Made : List Ask → Type 0) (shipped : AskedFor client route entry Made u v) → Goes client ships name (λ (n : Trace). n ≡ asking shipped.asks) mid mid mid j j no_runner no_runner u v
+    asked Made shipped = goes_asked name client ships (λ (n : Trace). n ≡ asking shipped.asks) shipped.asks mid j no_runner u v keeps
+        (told_as u.world v.world (AsksRun client route entry shipped.asks) (λ y z. Runs client ships [] shipped.asks (kept_at mid y) (kept_at mid z)) shipped.told (λ y z ran. ran mid is first))
+        shipped.rose refl
+
     -- the shipping comes to an end of the sync
     pub sync_ends : (came : Option Message) (end : SyncEnd) → AskedFor client route entry (Ships client route entry came) u v → Some end ≡ end_by entry.seq came
         → Went client ships name (SyncEnds client route before end mid) before mid i j t v
-    sync_ends came end shipped by =
-        told_then t.world u.world v.world (λ x y. Goes client ships name (Acked mid) before mid mid i j no_runner no_runner t.troubles u.troubles x y) (AsksRun client route entry shipped.asks) _ so_far shipped.told
-        (λ x y z goes ran.
-        let last = goes_asked name client ships (λ (n : Trace). n ≡ asking shipped.asks) shipped.asks mid j no_runner u.troubles v.troubles y z keeps (ran mid is first) shipped.rose refl in (
-          mid,
-          goes_then name client ships (Acked mid) (λ (n : Trace). n ≡ asking shipped.asks) (SyncEnds client route before end mid mid) before mid mid mid i j j no_runner no_runner no_runner t.troubles u.troubles v.troubles x y z goes last
-              (λ m n acked is. inl ((acked.0, m, shipped.asks, acked.1, inr (record { entry = entry; first = first; came = came; ships = shipped.made; end_is = sym by }), ap (followed m) is), refl)),
-        ))
+    sync_ends came end shipped by = (
+      mid,
+      goes_then name client ships (Acked mid) (λ (n : Trace). n ≡ asking shipped.asks) (SyncEnds client route before end mid mid) before mid mid mid i j j no_runner no_runner no_runner t u v so_far
+          (asked (Ships client route entry came) shipped)
+          (λ m n acked is. inl ((acked.0, m, shipped.asks, acked.1, inr (record { entry = entry; first = first; came = came; ships = shipped.made; end_is = sym by }), ap (followed m) is), refl)),
+    )
 
     -- memory was wanted in it
     pub sync_breaks : (e : AllocError) → AskedFor client route entry (ShipsTo client route entry (Err e)) u v → Went client ships name (SyncEnds client route before ends.Memory mid) before mid i j t v
-    sync_breaks e shipped =
-        told_then t.world u.world v.world (λ x y. Goes client ships name (Acked mid) before mid mid i j no_runner no_runner t.troubles u.troubles x y) (AsksRun client route entry shipped.asks) _ so_far shipped.told
-        (λ x y z goes ran.
-        let last = goes_asked name client ships (λ (n : Trace). n ≡ asking shipped.asks) shipped.asks mid j no_runner u.troubles v.troubles y z keeps (ran mid is first) shipped.rose refl in (
-          mid,
-          goes_then name client ships (Acked mid) (λ (n : Trace). n ≡ asking shipped.asks) (SyncEnds client route before ends.Memory mid mid) before mid mid mid i j j no_runner no_runner no_runner t.troubles u.troubles v.troubles x y z goes last
-              (λ m n acked is. inr (refl, (acked.0, m, shipped.asks, acked.1, broken shipped.asks shipped.made, ap (followed m) is))),
-        ))
+    sync_breaks e shipped = (
+      mid,
+      goes_then name client ships (Acked mid) (λ (n : Trace). n ≡ asking shipped.asks) (SyncEnds client route before ends.Memory mid mid) before mid mid mid i j j no_runner no_runner no_runner t u v so_far
+          (asked (ShipsTo client route entry (Err e)) shipped)
+          (λ m n acked is. inr (refl, (acked.0, m, shipped.asks, acked.1, broken shipped.asks shipped.made, ap (followed m) is))),
+    )
       where
         broken : (asks : List Ask) → (asks ≡ []) ⊎ BreaksShipping client route entry asks → (asks ≡ []) ⊎ ((entry : Entry) × IsFirst entry mid.pending × BreaksShipping client route entry asks)
         broken asks (inl none) = inl none
@@ -212,18 +211,22 @@ module _ (client : ℕ) (route : Route) (before : Log) where
       abbrev change : Trace
       change = followed (asking shipped.asks) (changing acked)
 
-      -- the entry was acknowledged, and the log was to be kept
-      acked_saved : (l : Option Images) (r : Result (Unit {0}) KeepError) → Told j l (KeepsLog name client acked r) → (x y z : World) → Goes client ships name (Acked mid) before mid mid i j no_runner no_runner t.troubles u.troubles x y
-          → AsksRun client route entry shipped.asks y z
-          → (kept : Log) × Goes client ships name (Acked acked) before acked kept i l no_runner no_runner t.troubles v.troubles x z × IfOk r (λ done. kept ≡ acked)
-      acked_saved l r save x y z goes ran =
+      -- the entry was acknowledged, and is to be kept
+      acknowledges : Goes client ships name (λ (n : Trace). n ≡ change) mid acked mid j j no_runner no_runner u v
+      acknowledges = goes_acked name client ships (λ (n : Trace). n ≡ change) reply shipped.asks mid j no_runner u v keeps
+          (told_as u.world v.world (AsksRun client route entry shipped.asks) (λ y z. Runs client ships [] shipped.asks (kept_at mid y) (kept_at mid z) × IsIn reply z.packets) shipped.told
+          (λ y z ran.
           let runs = ran mid is first in
-          let among = reply_stands client route entry z reply shipped.asks (run_answers client ships [] shipped.asks (kept_at mid y) (kept_at mid z) runs) shipped.made in
-          let last = goes_acked name client ships (λ (n : Trace). n ≡ change) reply shipped.asks mid j no_runner u.troubles v.troubles y z keeps runs shipped.rose
-          (first_some mid.pending entry first) (subst (λ (n : ℕ). IsAcceptance client n reply) (first_number mid entry is first) accepts) among refl in
-          let saved = goes_saved name client ships (λ (n : Trace). n ≡ change) mid acked mid j j l no_runner no_runner u.troubles v.troubles y z r last (changed_so last.trace.changes acked [] (ap (λ (n : Trace). n.changes) last.turn)) save in (
+          (runs, reply_stands client route entry z reply shipped.asks (run_answers client ships [] shipped.asks (kept_at mid y) (kept_at mid z) runs) shipped.made)))
+          shipped.rose (first_some mid.pending entry first) (subst (λ (n : ℕ). IsAcceptance client n reply) (first_number mid entry is first) accepts) refl
+
+      acked_saved : (l : Option Images) (r : Result (Unit {0}) KeepError) → Told j l (KeepsLog name client acked r)
+          → (kept : Log) × Goes client ships name (Acked acked) before acked kept i l no_runner no_runner t v × IfOk r (λ done. kept ≡ acked)
+      acked_saved l r save =
+          let last = acknowledges in
+          let saved = goes_saved name client ships (λ (n : Trace). n ≡ change) mid acked mid j j l no_runner no_runner u v r last (changed_so last.trace.changes acked [] (ap (λ (n : Trace). n.changes) last.turn)) save in (
             saved.0,
-            goes_then name client ships (Acked mid) (λ (n : Trace). n ≡ change) (Acked acked) before mid acked saved.0 i j l no_runner no_runner no_runner t.troubles u.troubles v.troubles x y z goes saved.1
+            goes_then name client ships (Acked mid) (λ (n : Trace). n ≡ change) (Acked acked) before mid acked saved.0 i j l no_runner no_runner no_runner t u v so_far saved.1
                 (λ m n so ends. (
                   suc so.0,
                   (
@@ -242,22 +245,17 @@ module _ (client : ℕ) (route : Route) (before : Log) where
       pub acked_more : (l : Option Images) (r : Result (Unit {0}) KeepError) → Told j l (KeepsLog name client acked r) → IfOk r (λ kept. WentSoFar acked i l t v)
       acked_more l (Err e) save = tt
       acked_more l (Ok kept) save =
-          told_then t.world u.world v.world (λ x y. Goes client ships name (Acked mid) before mid mid i j no_runner no_runner t.troubles u.troubles x y) (AsksRun client route entry shipped.asks)
-          (λ x z. Goes client ships name (Acked acked) before acked acked i l no_runner no_runner t.troubles v.troubles x z) so_far shipped.told
-          (λ x y z goes ran.
-          let saved = acked_saved l (Ok kept) save x y z goes ran in
-          subst (λ (k : Log). Goes client ships name (Acked acked) before acked k i l no_runner no_runner t.troubles v.troubles x z) saved.2 saved.1)
+          let saved = acked_saved l (Ok kept) save in
+          subst (λ (k : Log). Goes client ships name (Acked acked) before acked k i l no_runner no_runner t v) saved.2 saved.1
 
       pub sync_unkept : (l : Option Images) (e : KeepError) → Told j l (KeepsLog {E = KeepError} name client acked (Err e))
           → Went client ships name (SyncEnds client route before (unkept_end e) acked) before acked i l t v
       sync_unkept l e save =
-          told_then t.world u.world v.world (λ x y. Goes client ships name (Acked mid) before mid mid i j no_runner no_runner t.troubles u.troubles x y) (AsksRun client route entry shipped.asks) _ so_far shipped.told
-          (λ x y z goes ran.
-          let saved = acked_saved l (Err e) save x y z goes ran in (
+          let saved = acked_saved l (Err e) save in (
             saved.0,
-            goes_as name client ships (Acked acked) (SyncEnds client route before (unkept_end e) acked saved.0) before acked saved.0 i l no_runner no_runner t.troubles v.troubles x z saved.1
+            goes_as name client ships (Acked acked) (SyncEnds client route before (unkept_end e) acked saved.0) before acked saved.0 i l no_runner no_runner t v saved.1
                 (λ m acked. inr (broken e, (acked.0, m, [], acked.1, inl refl, followed-nothing m))),
-          ))
+          )
         where
           broken : (e : KeepError) → is_broken_sync (unkept_end e) ≡ true
           broken keepers.Failed = refl

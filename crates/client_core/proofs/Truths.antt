@@ -1,9 +1,8 @@
 -- What the ends of syncs and pulls tell a client that is in step.
 use Rattle.std.proofs.Common.{Bool, true, false, ◌≡◌, ◌⊎◌, inl, inr, ⊎_elim, ℕ, zero, suc, ◌+◌, ◌≤◌, List, [], ◌++◌, Option, Some, None, refl, sym, ◌∙◌, ap, subst, arith}
 use Rattle.std.proofs.lemmas.List.{append-nil}
-use Rattle.outside.specs.Outside.{Rose}
+use Rattle.outside.specs.Outside.{RoseBy, Rose}
 use Rattle.outside.specs.Keeper.{Images}
-use Rattle.cmd_capture.specs.Runs.{RunnerTelling}
 use Rattle.tree_values.specs.Lists.{IsIn}
 use Rattle.mod_log.specs.declared.log.Entry.{Entry}
 use Rattle.mod_log.specs.Log.{Log, tree_at}
@@ -17,7 +16,7 @@ use Rattle.world_rules.specs.Telling.{LinkTelling, IsCalm}
 use Rattle.world_rules.specs.Asking.{AnswersStand}
 use Rattle.world_rules.specs.Settling.{failed_asks}
 use Rattle.world_rules.specs.InStep.{InStep, HasNoCollision}
-use Rattle.world_rules.specs.Run.{AreAllOf, kept_at, taken_in}
+use Rattle.world_rules.specs.Run.{kept_at}
 use Rattle.world_rules.proofs.Asks.{told_as, answers_front, answers_end}
 use Rattle.world_rules.proofs.Settled.{failed-append}
 use Rattle.world_rules.proofs.Runs.{runs_in_step, run_answers, lone_tree, pulled_last}
@@ -32,7 +31,8 @@ use Rattle.client_core.specs.Trace.{Trace, followed, asking}
 use Rattle.client_core.specs.Syncing.{store_of, end_by, Ships, EntryTurn, Acknowledges, EndsSync, SyncTurn, SyncEnds, is_broken_sync}
 use Rattle.client_core.specs.Pulling.{pull_of, PullTurn, PullEnds, is_broken_pull}
 use Rattle.client_core.specs.Causes.{HasSyncCause}
-use Rattle.client_core.specs.Goes.{Goes, Went, stand, no_runner}
+use Rattle.client_core.specs.Goes.{WorldGoes, Went, stand}
+use Rattle.client_core.specs.Laws.{CalmSyncsAreComplete}
 use Rattle.client_core.specs.Honest.{FromInStepApart, IsOvertaken, IsTrueSync, IsComplete, IsNotOtherLast}
 use Rattle.client_core.proofs.Firsts.{first_number}
 use Rattle.client_core.proofs.Ships.{ending_stands, ships_failed}
@@ -63,10 +63,9 @@ sync_logs_none client route before after kept end trace (inr broken) =
 -- ---- in step
 
 -- what a client did keeps it in step
-pub goes_in_step : (client : ℕ) (ships : Bool) (name : List ℕ) (T : Trace → Type 0) (before after kept : Log) (i j : Option Images) (runner ran : RunnerTelling) (t u : ℕ) (x y : World)
-    → (goes : Goes client ships name T before after kept i j runner ran t u x y)
-    → InStep client before x → HasNoCollision client (before.pending ++ goes.trace.entries) y.packets → InStep client after y
-goes_in_step client ships name T before after kept i j runner ran t u x y goes now apart = runs_in_step client ships goes.trace.entries goes.trace.asks (kept_at before x) (stand after kept y) now goes.runs apart
+pub goes_in_step : (client : ℕ) (ships : Bool) (before after kept : Log) (trace : Trace) (t u : ℕ) (x y : World) → WorldGoes client ships before after kept trace t u x y
+    → InStep client before x → HasNoCollision client (before.pending ++ trace.entries) y.packets → InStep client after y
+goes_in_step client ships before after kept trace t u x y goes now apart = runs_in_step client ships trace.entries trace.asks (kept_at before x) (stand after kept y) now goes.runs apart
 
 module _ (client : ℕ) (entry : Entry) (log : Log) (world : World) (next : entry.seq ≡ log.acked + 1) (now : InStep client log world) where
   abbrev store : Message
@@ -203,58 +202,60 @@ broken_memory (ends.Full number index fault) after t v p q is cause sound = absu
 broken_memory (ends.Unanswered number) after t v p q is cause sound = absurd (cc)
 broken_memory (ends.Behind number last) after t v p q is cause sound = absurd (cc)
 
-module _ (client : ℕ) (ships : Bool) (name : List ℕ) (route : Route) (before after : Log) (end : SyncEnd) (i j : Option Images) where
-  -- of what a client did
-  module _ (kept : Log) (runner ran : RunnerTelling) (t u : ℕ) (x y : World) (goes : Goes client ships name (SyncEnds client route before end after kept) before after kept i j runner ran t u x y) where
-    stands : AnswersStand y goes.trace.asks
-    stands = run_answers client ships goes.trace.entries goes.trace.asks (kept_at before x) (stand after kept y) goes.runs
+module _ (client : ℕ) (ships : Bool) (route : Route) (before after : Log) (end : SyncEnd) where
+  -- of what a client did, in two worlds
+  module _ (kept : Log) (trace : Trace) (turn : SyncEnds client route before end after kept trace) (t u : ℕ) (rose : RoseBy (failed_asks trace.asks) t u) (x y : World)
+      (goes : WorldGoes client ships before after kept trace t u x y) where
+    stands : AnswersStand y trace.asks
+    stands = run_answers client ships trace.entries trace.asks (kept_at before x) (stand after kept y) goes.runs
 
-    few_failed : (Rose t u → ⊥) → 8 ≤ failed_asks goes.trace.asks → ⊥
-    few_failed calm eight = calm (omega (arith, goes.rose, eight))
+    few_failed : (Rose t u → ⊥) → 8 ≤ failed_asks trace.asks → ⊥
+    few_failed calm eight = calm (omega (arith, rose, eight))
 
-    apart_then : HasNoCollision client before.pending y.packets → HasNoCollision client (before.pending ++ goes.trace.entries) y.packets
-    apart_then apart = no_more client before.pending goes.trace.entries y (sync_logs_none client route before after kept end goes.trace goes.turn) apart
+    apart_then : HasNoCollision client before.pending y.packets → HasNoCollision client (before.pending ++ trace.entries) y.packets
+    apart_then apart = no_more client before.pending trace.entries y (sync_logs_none client route before after kept end trace turn) apart
+
+    then_in_step : InStep client before x → HasNoCollision client before.pending y.packets → InStep client after y
+    then_in_step now apart = goes_in_step client ships before after kept trace t u x y goes now (apart_then apart)
 
     goes_true : InStep client before x → HasNoCollision client before.pending y.packets → IsTrueSync end client after y
-    goes_true now apart = by goes.turn
+    goes_true now apart = by turn
       where
-        then : InStep client after y
-        then = goes_in_step client ships name (SyncEnds client route before end after kept) before after kept i j runner ran t u x y goes now (apart_then apart)
-
-        by : SyncEnds client route before end after kept goes.trace → IsTrueSync end client after y
-        by (inl turn) = sync_true client route before after end goes.trace y turn.0 stands then
+        by : SyncEnds client route before end after kept trace → IsTrueSync end client after y
+        by (inl turn) = sync_true client route before after end trace y turn.0 stands (then_in_step now apart)
         by (inr broken) = broken_true client after y end broken.0
 
     goes_complete : InStep client before x → HasNoCollision client before.pending y.packets → (Rose t u → ⊥) → (IsOvertaken client after y → ⊥) → ((end ≡ ends.Synced after.acked) × (after.pending ≡ [])) ⊎ (is_broken_sync end ≡ true)
-    goes_complete now apart calm none_ahead = by goes.turn
+    goes_complete now apart calm none_ahead = by turn
       where
-        then : InStep client after y
-        then = goes_in_step client ships name (SyncEnds client route before end after kept) before after kept i j runner ran t u x y goes now (apart_then apart)
-
-        by : SyncEnds client route before end after kept goes.trace → ((end ≡ ends.Synced after.acked) × (after.pending ≡ [])) ⊎ (is_broken_sync end ≡ true)
-        by (inl turn) = inl (sync_complete client route before after end goes.trace y turn.0 stands then (few_failed calm) none_ahead)
+        by : SyncEnds client route before end after kept trace → ((end ≡ ends.Synced after.acked) × (after.pending ≡ [])) ⊎ (is_broken_sync end ≡ true)
+        by (inl turn) = inl (sync_complete client route before after end trace y turn.0 stands (then_in_step now apart) (few_failed calm) none_ahead)
         by (inr broken) = inr broken.0
 
   -- over any link
-  module _ (t u : LinkTelling) (went : Went client ships name (SyncEnds client route before end after) before after i j t u) where
+  module _ (name : List ℕ) (i j : Option Images) (t u : LinkTelling) (went : Went client ships name (SyncEnds client route before end after) before after i j t u) where
+    abbrev kept_log : Log
+    kept_log = went.0
+
+    abbrev steps : Trace
+    steps = went.1.trace
+
     pub went_true : FromInStepApart client before t u (IsTrueSync end client after)
-    went_true = told_as t.world u.world _ _ went (λ x y goes. goes_true goes.0 no_runner no_runner t.troubles u.troubles x y goes.1)
+    went_true = told_as t.world u.world (WorldGoes client ships before after kept_log steps t.troubles u.troubles) (λ x y. InStep client before x → HasNoCollision client before.pending y.packets → IsTrueSync end client after y) went.1.told
+        (λ x y. goes_true kept_log steps went.1.turn t.troubles u.troubles went.1.rose x y)
 
     pub went_complete : (p q : ℕ) → HasSyncCause end after t.troubles u.troubles p q → IsCalm t u → (Rose p q → ⊥) → FromInStepApart client before t u (IsComplete end client after)
-    went_complete p q cause calm sound = told_as t.world u.world _ _ went
-        (λ x y goes now apart none_ahead. ⊎_elim (λ all. inl all) (λ broken. inr (broken_memory end after t.troubles u.troubles p q broken cause sound)) (goes_complete goes.0 no_runner no_runner t.troubles u.troubles x y goes.1 now apart calm none_ahead))
+    went_complete p q cause calm sound = told_as t.world u.world (WorldGoes client ships before after kept_log steps t.troubles u.troubles)
+        (λ x y. InStep client before x → HasNoCollision client before.pending y.packets → IsComplete end client after y) went.1.told
+        (λ x y goes now apart none_ahead. ⊎_elim (λ all. inl all) (λ broken. inr (broken_memory end after t.troubles u.troubles p q broken cause sound))
+        (goes_complete kept_log steps went.1.turn t.troubles u.troubles went.1.rose x y goes now apart calm none_ahead))
 
-pub calm_complete : (client : ℕ) (ships : Bool) (route : Route) (name : List ℕ) (before after kept : Log) (end : SyncEnd) (images images_now : Option Images) (runner ran : RunnerTelling) (troubles later : ℕ) (old new : World)
-    → (goes : Goes client ships name (SyncEnds client route before end after kept) before after kept images images_now runner ran troubles later old new)
-    → InStep client before old → HasNoCollision client before.pending new.packets → (Rose troubles later → ⊥)
-    → AreAllOf client (taken_in goes.runs.moves (kept_at before old))
-    → old.served.volume ≡ tree_at (old.served.last client) before
-    → ((end ≡ ends.Synced after.acked) × (after.pending ≡ [])) ⊎ (is_broken_sync end ≡ true)
-calm_complete client ships route name before after kept end images images_now runner ran troubles later old new goes now apart calm alone served =
-    goes_complete client ships name route before after end images images_now kept runner ran troubles later old new goes now apart calm
+pub calm_complete : CalmSyncsAreComplete
+calm_complete client ships route before after kept end trace troubles later old new turn rose goes now apart calm alone served =
+    goes_complete client ships route before after end kept trace turn troubles later rose old new goes now apart calm
     (never_ahead new.served.volume (tree_at (new.served.last client) after)
-    (lone_tree client ships goes.trace.entries goes.trace.asks (kept_at before old) (stand after kept new) now goes.runs alone served
-    (no_more client before.pending goes.trace.entries new (sync_logs_none client route before after kept end goes.trace goes.turn) apart)))
+    (lone_tree client ships trace.entries trace.asks (kept_at before old) (stand after kept new) now goes.runs alone served
+    (no_more client before.pending trace.entries new (sync_logs_none client route before after kept end trace turn) apart)))
 
 -- ---- a pull
 
@@ -276,23 +277,23 @@ module _ (client : ℕ) (route : Route) (before after : Log) where
   unpulled_log : (other acked : ℕ) (trace : Trace) → PullTurn client route before (pulls.OtherLast other acked) after trace → after ≡ before
   unpulled_log other acked trace turn = turn.met.3
 
-  goes_not_other : (ships : Bool) (name : List ℕ) (end : PullEnd) (kept : Log) (i j : Option Images) (t u : ℕ) (x y : World)
-      → Goes client ships name (PullEnds client route before end after kept) before after kept i j no_runner no_runner t u x y
-      → InStep client before x → HasNoCollision client before.pending y.packets → IsNotOtherLast end
-  goes_not_other ships name end kept i j t u x y goes now apart last acked is = by goes.turn
+  goes_not_other : (ships : Bool) (end : PullEnd) (kept : Log) (trace : Trace) → PullEnds client route before end after kept trace → (t u : ℕ) (x y : World)
+      → WorldGoes client ships before after kept trace t u x y → InStep client before x → HasNoCollision client before.pending y.packets → IsNotOtherLast end
+  goes_not_other ships end kept trace turn t u x y goes now apart last acked is = by turn
     where
-      by : PullEnds client route before end after kept goes.trace → ⊥
+      by : PullEnds client route before end after kept trace → ⊥
       by (inl turn) =
-          let met : PullTurn client route before (pulls.OtherLast last acked) after goes.trace = subst (λ (e : PullEnd). PullTurn client route before e after goes.trace) is turn.0 in
-          let none : goes.trace.entries ≡ [] = ap (λ (n : Trace). n.entries) met.trace_is in
-          let later : InStep client after y = goes_in_step client ships name (PullEnds client route before end after kept) before after kept i j no_runner no_runner t u x y goes now
-          (no_more client before.pending goes.trace.entries y none apart) in
-          pull_met_last (pulls.OtherLast last acked) goes.trace y met (run_answers client ships goes.trace.entries goes.trace.asks (kept_at before x) (stand after kept y) goes.runs)
-          (subst (λ (log : Log). InStep client log y) (unpulled_log last acked goes.trace met) later) last acked refl
+          let met : PullTurn client route before (pulls.OtherLast last acked) after trace = subst (λ (e : PullEnd). PullTurn client route before e after trace) is turn.0 in
+          let none : trace.entries ≡ [] = ap (λ (n : Trace). n.entries) met.trace_is in
+          let later : InStep client after y = goes_in_step client ships before after kept trace t u x y goes now (no_more client before.pending trace.entries y none apart) in
+          pull_met_last (pulls.OtherLast last acked) trace y met (run_answers client ships trace.entries trace.asks (kept_at before x) (stand after kept y) goes.runs)
+          (subst (λ (log : Log). InStep client log y) (unpulled_log last acked trace met) later) last acked refl
       by (inr broken) =
           let quiet : is_broken_pull end ≡ false = ap is_broken_pull is in
           absurd (cc (quiet, broken.0))
 
   pub pull_not_other : (ships : Bool) (name : List ℕ) (end : PullEnd) (i j : Option Images) (t u : LinkTelling) → Went client ships name (PullEnds client route before end after) before after i j t u
       → FromInStepApart client before t u (λ new. IsNotOtherLast end)
-  pull_not_other ships name end i j t u went = told_as t.world u.world _ _ went (λ x y goes now apart. goes_not_other ships name end goes.0 i j t.troubles u.troubles x y goes.1 now apart)
+  pull_not_other ships name end i j t u went = told_as t.world u.world (WorldGoes client ships before after went.0 went.1.trace t.troubles u.troubles)
+      (λ x y. InStep client before x → HasNoCollision client before.pending y.packets → IsNotOtherLast end) went.1.told
+      (λ x y. goes_not_other ships end went.0 went.1.trace went.1.turn t.troubles u.troubles x y)

@@ -1,11 +1,10 @@
 -- What the ends of syncs and pulls tell of the world, read off what was asked and answered.
-use Rattle.std.specs.Prelude.{◌≡◌, ◌⊎◌, ℕ, Bool, true, List, [], Option}
-use Rattle.outside.specs.Outside.{Rose}
-use Rattle.outside.specs.Keeper.{Images}
-use Rattle.cmd_capture.specs.Runs.{RunnerTelling}
+use Rattle.std.specs.Prelude.{◌≡◌, ◌⊎◌, ℕ, Bool, true, []}
+use Rattle.outside.specs.Outside.{RoseBy, Rose}
 use Rattle.mod_log.specs.Log.{Log, tree_at}
 use Rattle.world_rules.specs.World.{World}
 use Rattle.world_rules.specs.Asking.{AnswersStand}
+use Rattle.world_rules.specs.Settling.{failed_asks}
 use Rattle.world_rules.specs.InStep.{InStep, HasNoCollision}
 use Rattle.world_rules.specs.Run.{taken_in, AreAllOf, kept_at}
 use Rattle.client_core.specs.declared.route.Route.{Route}
@@ -15,7 +14,7 @@ use Rattle.client_core.specs.declared.pulling.PullEnd.{PullEnd}
 use Rattle.client_core.specs.Trace.{Trace}
 use Rattle.client_core.specs.Syncing.{SyncTurn, SyncEnds, is_broken_sync}
 use Rattle.client_core.specs.Pulling.{PullTurn}
-use Rattle.client_core.specs.Goes.{Goes}
+use Rattle.client_core.specs.Goes.{WorldGoes}
 use Rattle.client_core.specs.Honest.{IsTrueSync, IsNotOtherLast}
 
 -- Where the answers of a sync stand, no log of the client that is in step has a server that is behind, whatever came after the sync.
@@ -36,9 +35,10 @@ PullsMeetTheirLast = (client : ℕ) (route : Route) (before after : Log) (end : 
 -- A sync without trouble, in which no other client's store was taken, in which no content is taken for another, and before which the
 -- served tree was the client's after its last taken entry, ends with all entries acknowledged, or was broken off.
 abbrev pub CalmSyncsAreComplete : Type 0
-CalmSyncsAreComplete = (client : ℕ) (ships : Bool) (route : Route) (name : List ℕ) (before after kept : Log) (end : SyncEnd) (images images_now : Option Images) (runner ran : RunnerTelling) (troubles later : ℕ) (old new : World)
-    → (goes : Goes client ships name (SyncEnds client route before end after kept) before after kept images images_now runner ran troubles later old new)
+CalmSyncsAreComplete = (client : ℕ) (ships : Bool) (route : Route) (before after kept : Log) (end : SyncEnd) (trace : Trace) (troubles later : ℕ) (old new : World)
+    → SyncEnds client route before end after kept trace → RoseBy (failed_asks trace.asks) troubles later
+    → (went : WorldGoes client ships before after kept trace troubles later old new)
     → InStep client before old → HasNoCollision client before.pending new.packets → (Rose troubles later → ⊥)
-    → AreAllOf client (taken_in goes.runs.moves (kept_at before old))
+    → AreAllOf client (taken_in went.runs.moves (kept_at before old))
     → old.served.volume ≡ tree_at (old.served.last client) before
     → ((end ≡ Synced after.acked) × (after.pending ≡ [])) ⊎ (is_broken_sync end ≡ true)

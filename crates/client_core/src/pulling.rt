@@ -122,10 +122,9 @@ fn pull_log<L: Link>(client: u8, route: &Route, log: &mut Log, link: &mut L) -> 
     requires low { 1 ≤ client }
     requires high { client ≤ 64 }
     ensures world { (images : Option Images) → IsKept images route.now.image client log.old
-        → ToldWorlds (L.tells link.old) (L.tells link.new)
-        (λ old new. Goes client (is_some route.now.surrogate) route.now.image
+        → Goes client (is_some route.now.surrogate) route.now.image
         (PullAsks client route.now log.old result log.new) log.old log.new log.old
-        images images no_runner no_runner (L.tells link.old).troubles (L.tells link.new).troubles old new) }
+        images images no_runner no_runner (L.tells link.old) (L.tells link.new) }
     ensures cause { (faults now : ℕ)
         → HasPullCause result log.old log.new (L.tells link.old).troubles (L.tells link.new).troubles faults now }
     ensures leaves { PullLeaves result log.old log.new }

@@ -14,9 +14,10 @@ use Rattle.mod_log.specs.Log.{Log, logged}
 use Rattle.wire_frames.specs.declared.message.Message.{Message}
 use Rattle.world_rules.specs.declared.asking.Ask.{Ask}
 use Rattle.world_rules.specs.World.{World, GoesOnAlone}
-use Rattle.world_rules.specs.InStep.{HasNoCollision}
+use Rattle.world_rules.specs.Telling.{ToldWorlds}
+use Rattle.world_rules.specs.InStep.{InStep, HasNoCollision, HasNoOperation}
 use Rattle.world_rules.specs.Run.{State, kept_at, Runs}
-use Rattle.world_rules.proofs.Asks.{in_either}
+use Rattle.world_rules.proofs.Asks.{told_as, in_either}
 use Rattle.world_rules.proofs.Colliding.{fewer_collide}
 use Rattle.world_rules.proofs.Runs.{runs_then, runs_without, run_packets, counted_later}
 use Rattle.world_rules.proofs.Operations.{never_collides}
@@ -32,7 +33,7 @@ use Rattle.client_core.specs.Trace.{Trace, nothing, followed, asking, last_log, 
 use Rattle.client_core.specs.Logging.{local_entry, LocalTurn}
 use Rattle.client_core.specs.Syncing.{IsFirst, Acknowledges}
 use Rattle.client_core.specs.Pulling.{PullsSnapshot, PullTurn}
-use Rattle.client_core.specs.Goes.{stand}
+use Rattle.client_core.specs.Goes.{WorldGoes, stand}
 use Rattle.client_core.proofs.Locals.{appended-is}
 use Rattle.client_core.proofs.Pulls.{none_pending}
 use Rattle.shell_lang.specs.declared.line.Line.{Line}
@@ -44,7 +45,8 @@ use Rattle.client_prog.specs.declared.run.Stop.{Stop}
 use Rattle.client_prog.specs.declared.run.Stop.TheVariants as stops
 use Rattle.client_session.specs.Session.{SessionState, opened, put_effect, make_effect, remove_effect, move_effect, LogTurn, CommandTurn, LineTurn, BreaksCommand, BreaksOff, Broken, BreaksChain}
 use Rattle.client_prog.specs.Run.{asked_for, Handles, WholeRun}
-use Rattle.client_prog.specs.Composing.{RunsCompose, StoresNeverCollide}
+use Rattle.client_prog.specs.Composing.{LeaveTogether, RunsCompose, StoresNeverCollide}
+use Rattle.client_prog.specs.Headline.{Around, Ran}
 use Rattle.client_prog.proofs.RunningLeaves.{leaves}
 
 -- ---- how many entries a log has known
@@ -276,51 +278,91 @@ among_first : (entry : Entry) (pending earlier later : List Entry) → IsIn entr
 among_first entry pending earlier later among =
     ⊎_elim (λ before. IsIn-left entry pending (earlier ++ later) before) (λ logged. IsIn-right entry pending (earlier ++ later) (IsIn-left entry earlier later logged)) (in_either entry pending earlier among)
 
+-- two runs in told worlds, of which the first began in step
+module _ (client : ℕ) (route other_route : Route) (start : Log) (around around_now other other_now : Around) (status other_status : ℕ) (first : Ran client route start around around_now status)
+    (second : Ran client other_route first.kept other other_now other_status) where
+  abbrev did : Trace
+  did = first.goes.trace
+
+  abbrev does : Trace
+  does = second.goes.trace
+
+  abbrev last : Log
+  last = first.after.client.log
+
+  abbrev kept : Log
+  kept = first.kept
+
+  abbrev FirstGoes : World → World → Type 0
+  FirstGoes = WorldGoes client (is_some route.surrogate) start last kept did around.link.troubles around_now.link.troubles
+
+  abbrev SecondGoes : World → World → Type 0
+  SecondGoes = WorldGoes client (is_some other_route.surrogate) kept second.after.client.log second.kept does other.link.troubles other_now.link.troubles
+
+  -- what is so of both in their worlds
+  in_worlds : (P : World → World → World → World → Type 0) → ((old middle begun new : World) → FirstGoes old middle → SecondGoes begun new → P old middle begun new)
+      → ToldWorlds around.link around_now.link (λ old middle. ToldWorlds other.link other_now.link (P old middle))
+  in_worlds P so =
+      told_as around.link.world around_now.link.world FirstGoes (λ old middle. ToldWorlds other.link other_now.link (P old middle)) first.goes.told
+      (λ old middle went. told_as other.link.world other_now.link.world SecondGoes (P old middle) second.goes.told (λ begun new goes. so old middle begun new went goes))
+
+  abbrev BothEntries : List Entry
+  BothEntries = did.entries ++ does.entries
+
+  leave_together : (old middle begun new : World) → FirstGoes old middle → SecondGoes begun new → InStep client start old → GoesOnAlone middle begun → HasNoCollision client (start.pending ++ BothEntries) new.packets
+      → LeaveTogether client start second.after.client.log second.kept status did.entries does.entries old new
+  leave_together old middle begun new first_goes second_goes in_step alone apart =
+      let end = stand second.after.client.log second.kept new in
+      let went = with_surrogate client (is_some route.surrogate) did.entries did.asks (kept_at start old) (stand last kept middle) first_goes.runs in
+      let goes = with_surrogate client (is_some other_route.surrogate) does.entries does.asks (kept_at kept begun) end second_goes.runs in
+      let part = restarts client true start last kept did.entries does.entries did.asks does.asks old middle begun end went alone goes in
+      let after = since client true start last kept did.entries does.entries did.asks does.asks old middle begun end went alone goes in
+      let stays = λ (message : Message) (among : IsIn message middle.packets). run_packets client true does.entries does.asks (kept_at kept middle) end message after among in
+      let first_apart : HasNoCollision client (start.pending ++ did.entries) middle.packets =
+      fewer_collide client (start.pending ++ did.entries) (start.pending ++ BothEntries) middle.packets new.packets (λ entry among. among_first entry start.pending did.entries does.entries among) stays apart in
+      let part_apart : HasNoCollision client (start.pending ++ part.0) middle.packets =
+      fewer_collide client (start.pending ++ part.0) (start.pending ++ did.entries) middle.packets middle.packets
+      (λ entry among. subst (λ (es : List Entry). IsIn entry (start.pending ++ es)) (sym part.2) (among_first entry start.pending part.0 part.1 among)) (λ message among. among) first_apart in
+      let both_apart : HasNoCollision client (start.pending ++ (part.0 ++ does.entries)) new.packets =
+      fewer_collide client (start.pending ++ (part.0 ++ does.entries)) (start.pending ++ BothEntries) new.packets new.packets
+      (λ entry among. subst (λ (es : List Entry). IsIn entry (start.pending ++ (es ++ does.entries))) (sym part.2) (among_all entry start.pending part.0 part.1 does.entries among)) (λ message among. among) apart in
+      let whole = counted_later client true did.entries did.asks (kept_at start old) (stand last kept middle) in_step went first_apart in
+      let held = counted_later client true part.0 did.asks (kept_at start old) (kept_at kept middle) in_step part.3 part_apart in
+      let sum = ap length part.2 ∙ length-append part.0 part.1 in
+      let lacks = run_kept route (opened client start) first.after kept around.left around_now.left around.written around_now.written first.answers first.ended did first.goes.turn in
+      record {
+        stayed = part.0;
+        lost = part.1;
+        all = part.2;
+        at_most_one = omega (arith, whole, held, sum, lacks);
+        none = λ not_five not_seven.
+            let same : kept ≡ last = first.kept_last not_five not_seven ∙ sym first.goes.keeping.last in
+            none_pending part.1 (omega (arith, whole, held, sum, ap last_number same));
+        leaves = leaves client true (part.0 ++ does.entries) (did.asks ++ does.asks) start second.after.client.log second.kept old new in_step
+            (joined client true start last kept did.entries does.entries did.asks does.asks old middle begun end went alone goes) both_apart;
+      }
+
+  stores_apart : route.surrogate ≡ None → other_route.surrogate ≡ None → (old middle begun new : World) → FirstGoes old middle → SecondGoes begun new → InStep client start old → HasNoOperation client old.packets
+      → GoesOnAlone middle begun → HasNoCollision client (start.pending ++ BothEntries) new.packets
+  stores_apart none none_too old middle begun new first_goes second_goes in_step unsent alone =
+      let end = stand second.after.client.log second.kept new in
+      let went = by_stores client route.surrogate did.entries did.asks (kept_at start old) (stand last kept middle) none first_goes.runs in
+      let goes = by_stores client other_route.surrogate does.entries does.asks (kept_at kept begun) end none_too second_goes.runs in
+      let part = restarts client false start last kept did.entries does.entries did.asks does.asks old middle begun end went alone goes in
+      never_collides client (part.0 ++ does.entries) (did.asks ++ does.asks) (kept_at start old) end (start.pending ++ BothEntries) in_step.about unsent
+      (joined client false start last kept did.entries does.entries did.asks does.asks old middle begun end went alone goes)
+
 pub runs_compose : RunsCompose
-runs_compose client route other_route start around around_now other other_now status other_status old middle begun new in_step first alone second apart =
-    let did = first.goes.trace in
-    let does = second.goes.trace in
-    let last = first.after.client.log in
-    let kept = first.kept in
-    let end = stand second.after.client.log second.kept new in
-    let went = with_surrogate client (is_some route.surrogate) did.entries did.asks (kept_at start old) (stand last kept middle) first.goes.runs in
-    let goes = with_surrogate client (is_some other_route.surrogate) does.entries does.asks (kept_at kept begun) end second.goes.runs in
-    let part = restarts client true start last kept did.entries does.entries did.asks does.asks old middle begun end went alone goes in
-    let after = since client true start last kept did.entries does.entries did.asks does.asks old middle begun end went alone goes in
-    let stays = λ (message : Message) (among : IsIn message middle.packets). run_packets client true does.entries does.asks (kept_at kept middle) end message after among in
-    let first_apart : HasNoCollision client (start.pending ++ did.entries) middle.packets =
-    fewer_collide client (start.pending ++ did.entries) (start.pending ++ (did.entries ++ does.entries)) middle.packets new.packets (λ entry among. among_first entry start.pending did.entries does.entries among) stays apart in
-    let part_apart : HasNoCollision client (start.pending ++ part.0) middle.packets =
-    fewer_collide client (start.pending ++ part.0) (start.pending ++ did.entries) middle.packets middle.packets
-    (λ entry among. subst (λ (es : List Entry). IsIn entry (start.pending ++ es)) (sym part.2) (among_first entry start.pending part.0 part.1 among)) (λ message among. among) first_apart in
-    let both_apart : HasNoCollision client (start.pending ++ (part.0 ++ does.entries)) new.packets =
-    fewer_collide client (start.pending ++ (part.0 ++ does.entries)) (start.pending ++ (did.entries ++ does.entries)) new.packets new.packets
-    (λ entry among. subst (λ (es : List Entry). IsIn entry (start.pending ++ (es ++ does.entries))) (sym part.2) (among_all entry start.pending part.0 part.1 does.entries among)) (λ message among. among) apart in
-    let whole = counted_later client true did.entries did.asks (kept_at start old) (stand last kept middle) in_step went first_apart in
-    let held = counted_later client true part.0 did.asks (kept_at start old) (kept_at kept middle) in_step part.3 part_apart in
-    let sum = ap length part.2 ∙ length-append part.0 part.1 in
-    let lacks = run_kept route (opened client start) first.after kept around.left around_now.left around.written around_now.written first.answers first.ended did first.goes.turn in
-    record {
-      stayed = part.0;
-      lost = part.1;
-      all = part.2;
-      at_most_one = omega (arith, whole, held, sum, lacks);
-      none = λ not_five not_seven.
-          let same : kept ≡ last = first.kept_last not_five not_seven ∙ sym first.goes.keeping.last in
-          none_pending part.1 (omega (arith, whole, held, sum, ap last_number same));
-      leaves = leaves client true (part.0 ++ does.entries) (did.asks ++ does.asks) start second.after.client.log second.kept old new in_step
-          (joined client true start last kept did.entries does.entries did.asks does.asks old middle begun end went alone goes) both_apart;
-    }
+runs_compose client route other_route start around around_now other other_now status other_status first second =
+    in_worlds client route other_route start around around_now other other_now status other_status first second
+    (λ old middle begun new. InStep client start old → GoesOnAlone middle begun
+    → HasNoCollision client (start.pending ++ (first.goes.trace.entries ++ second.goes.trace.entries)) new.packets
+    → LeaveTogether client start second.after.client.log second.kept status first.goes.trace.entries second.goes.trace.entries old new)
+    (leave_together client route other_route start around around_now other other_now status other_status first second)
 
 pub stores_never_collide : StoresNeverCollide
-stores_never_collide client route other_route start around around_now other other_now status other_status old middle begun new in_step unsent first none alone second none_too =
-    let did = first.goes.trace in
-    let does = second.goes.trace in
-    let last = first.after.client.log in
-    let kept = first.kept in
-    let end = stand second.after.client.log second.kept new in
-    let went = by_stores client route.surrogate did.entries did.asks (kept_at start old) (stand last kept middle) none first.goes.runs in
-    let goes = by_stores client other_route.surrogate does.entries does.asks (kept_at kept begun) end none_too second.goes.runs in
-    let part = restarts client false start last kept did.entries does.entries did.asks does.asks old middle begun end went alone goes in
-    never_collides client (part.0 ++ does.entries) (did.asks ++ does.asks) (kept_at start old) end (start.pending ++ (did.entries ++ does.entries)) in_step.about unsent
-    (joined client false start last kept did.entries does.entries did.asks does.asks old middle begun end went alone goes)
+stores_never_collide client route other_route start around around_now other other_now status other_status first second none none_too =
+    in_worlds client route other_route start around around_now other other_now status other_status first second
+    (λ old middle begun new. InStep client start old → HasNoOperation client old.packets → GoesOnAlone middle begun
+    → HasNoCollision client (start.pending ++ (first.goes.trace.entries ++ second.goes.trace.entries)) new.packets)
+    (stores_apart client route other_route start around around_now other other_now status other_status first second none none_too)

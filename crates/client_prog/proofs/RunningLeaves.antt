@@ -1,6 +1,6 @@
 -- What a run of a client leaves.
 use Rattle.std.proofs.Common.{◌≡◌, ◌≢◌, ⊎_elim, ℕ, Bool, false, List, ◌++◌, Option, Some, None, is_some, Result, Ok, Err, IfOk, refl, ◌∙◌, subst}
-use Rattle.outside.specs.Outside.{Told}
+use Rattle.outside.specs.Outside.{Told, RoseBy}
 use Rattle.outside.specs.Keeper.{Images}
 use Rattle.mod_log.specs.declared.log.Entry.{Entry}
 use Rattle.mod_log.specs.Log.{Log}
@@ -8,7 +8,9 @@ use Rattle.world_rules.specs.declared.asking.Ask.{Ask}
 use Rattle.world_rules.specs.World.{World}
 use Rattle.world_rules.specs.InStep.{InStep, HasNoCollision}
 use Rattle.world_rules.specs.Run.{Runs, kept_at, AreInStep, taken_in}
+use Rattle.world_rules.specs.Asking.{AnswersStand}
 use Rattle.world_rules.specs.Settling.{failed_asks}
+use Rattle.world_rules.proofs.Asks.{told_as}
 use Rattle.world_rules.proofs.Runs.{both_in_step, runs_in_step, run_taken, entries_in_order, path_is_kept, lone_kept, pending_later, run_asked, run_answers}
 use Rattle.world_rules.proofs.Colliding.{kept_none}
 use Rattle.world_rules.proofs.Operations.{operated_before, never_collides}
@@ -19,7 +21,7 @@ use Rattle.client_prog.specs.declared.run.Stop.TheVariants.{Sink, Keeper, Memory
 use Rattle.client_core.specs.declared.route.Route.{Route}
 use Rattle.client_core.specs.Trace.{Trace}
 use Rattle.client_core.specs.Keeping.{IsKept}
-use Rattle.client_core.specs.Goes.{Goes, stand}
+use Rattle.client_core.specs.Goes.{WorldGoes, Goes, stand}
 use Rattle.client_core.specs.Noting.{AreRecorded, ReplacesNone}
 use Rattle.client_core.proofs.Going.{goes_none}
 use Rattle.shell_lang.specs.declared.answer.LineAnswer.{LineAnswer}
@@ -27,10 +29,10 @@ use Rattle.shell_lang.specs.declared.answer.LineAnswer.TheVariants.{OtherLast, O
 use Rattle.client_session.specs.Session.{SessionState, opened}
 use Rattle.client_prog.specs.Run.{status_of, Handles, WholeRun}
 use Rattle.client_prog.specs.InsideRun.{RunAnswers}
-use Rattle.client_prog.specs.Headline.{Leaves, Around, Ran}
+use Rattle.client_prog.specs.Headline.{Leaves, Around, WorldRan, Ran}
 use Rattle.client_session.proofs.Answered.{log_past}
 use Rattle.client_session.proofs.Pulls.{answers_no_other, answers_no_older}
-use Rattle.client_prog.proofs.RunningAnswers.{unbehind, synced, none_failed, few_unrun, unrun_rose, pull_of_run}
+use Rattle.client_prog.proofs.RunningAnswers.{unbehind, synced, none_failed, few_unrun, unrun_rose, few_unanswered, unanswered_rose, pull_of_run}
 use Rattle.client_prog.proofs.RunningEnds.{run_nothing}
 use Rattle.client_prog.proofs.RunningPeers.{run_peers}
 
@@ -80,11 +82,47 @@ recorded (Err Memory) status K is kept sink keeper memory = absurd (memory is)
 
 -- a run that goes so, from a log that is kept on
 module _ (client : ℕ) (route : Route) (start : Log) (around around_now : Around) where
-  pub ran : (ended : Result InputEnd Stop) (after : SessionState) (kept : Log) (status : ℕ) (x y : World) → status ≡ status_of ended
+  -- what it is in the worlds
+  module _ (ended : Result InputEnd Stop) (answers : List (Option LineAnswer)) (after : SessionState) (kept : Log) (trace : Trace)
+      (turn : WholeRun route (opened client start) around.left around_now.left answers around.written around_now.written ended after kept trace) (t u : ℕ) (rose : RoseBy (failed_asks trace.asks) t u) (x y : World)
+      (goes : WorldGoes client (is_some route.surrogate) start after.client.log kept trace t u x y) where
+    abbrev Moves : Bool → Type 0
+    Moves ships = Runs client ships trace.entries trace.asks (kept_at start x) (stand after.client.log kept y)
+
+    by_stores : route.surrogate ≡ None → Moves false
+    by_stores none = subst (λ (surrogate : Option (List ℕ)). Moves (is_some surrogate)) none goes.runs
+
+    at_end : InStep client start x → HasNoCollision client (start.pending ++ trace.entries) y.packets → InStep client after.client.log y
+    at_end now apart = runs_in_step client (is_some route.surrogate) trace.entries trace.asks (kept_at start x) (stand after.client.log kept y) now goes.runs apart
+
+    answers_stand : AnswersStand y trace.asks
+    answers_stand = run_answers client (is_some route.surrogate) trace.entries trace.asks (kept_at start x) (stand after.client.log kept y) goes.runs
+
+    world_ran : WorldRan client route start after.client.log kept trace answers t u x y
+    unfolding leaves
+    world_ran = record {
+      asked = run_asked client (is_some route.surrogate) trace.entries trace.asks (kept_at start x) (stand after.client.log kept y) goes.runs;
+      unoperated = λ none now sketched among. operated_before client trace.entries trace.asks (kept_at start x) (stand after.client.log kept y) sketched now.about (by_stores none) among;
+      apart = λ none now unsent. never_collides client trace.entries trace.asks (kept_at start x) (stand after.client.log kept y) (start.pending ++ trace.entries) now.about unsent (by_stores none);
+      leaves = λ now apart. leaves client (is_some route.surrogate) trace.entries trace.asks start after.client.log kept x y now goes.runs apart;
+      honest = λ now apart.
+          unbehind client route (opened client start) after kept answers trace around.left around_now.left around.written around_now.written ended after.client.log y refl (at_end now apart) answers_stand turn;
+      same_last = λ now apart last among.
+          let told = pull_of_run route (opened client start) after kept answers trace around.left around_now.left around.written around_now.written ended turn (Some (OtherLast last)) among tt in
+          answers_no_other told.0 last told.2 (goes.true_pulls now apart told.0 told.1).0;
+      fresh = λ now apart quiet path theirs ours among.
+          let told = pull_of_run route (opened client start) after kept answers trace around.left around_now.left around.written around_now.written ended turn (Some (Older path theirs ours)) among tt in
+          answers_no_older told.0 path theirs ours told.2 ((goes.true_pulls now apart told.0 told.1).1 quiet);
+      calm = λ now apart same own_only quiet.
+          synced client route (opened client start) after kept answers trace around.left around_now.left around.written around_now.written ended after.client.log y refl (at_end now apart) answers_stand turn start.acked
+          (lone_unrefused client (is_some route.surrogate) trace.entries trace.asks (kept_at start x) (stand after.client.log kept y) now goes.runs own_only same apart)
+          (log_past start now.log_is) (none_failed (failed_asks trace.asks) t u rose quiet);
+    }
+
+  pub ran : (ended : Result InputEnd Stop) (after : SessionState) (kept : Log) (status : ℕ) → status ≡ status_of ended
       → Goes client (is_some route.surrogate) route.image (RunRecords route (opened client start) around.left around_now.left around.written around_now.written ended after around.images around_now.images kept) start after.client.log kept around.images around_now.images
-      around.runner around_now.runner around.troubles around_now.troubles x y → Ran client route start around around_now status x y
-  unfolding leaves
-  ran ended after kept status x y is goes =
+      around.runner around_now.runner around.link around_now.link → Ran client route start around around_now status
+  ran ended after kept status is goes =
       let answers = goes.turn.0.0 in
       record {
         ended = ended;
@@ -92,48 +130,27 @@ module _ (client : ℕ) (route : Route) (start : Log) (around around_now : Aroun
         answers = answers;
         after = after;
         kept = kept;
-        goes = record { trace = goes.trace; turn = goes.turn.0.1; runs = goes.runs; keeping = goes.keeping; has_run = goes.has_run; rose = goes.rose; true_pulls = goes.true_pulls };
+        goes = record { trace = goes.trace; turn = goes.turn.0.1; keeping = goes.keeping; has_run = goes.has_run; rose = goes.rose; told = goes.told };
         kept_last = λ other more.
             kept_at_end route (opened client start) after around.left around_now.left around.written around_now.written kept ended answers goes.trace (λ five. absurd (other (is ∙ five))) (λ seven. absurd (more (is ∙ seven))) goes.turn.0.1
             ∙ goes.keeping.last;
         records = recorded ended status (ReplacesNone goes.trace → Told around.images around_now.images (λ images now. AreRecorded client goes.trace.changes (images route.image) (now route.image))) is goes.turn.1;
         unrun = unrun_rose answers goes.trace around.runner around_now.runner
             (few_unrun route (opened client start) after kept answers goes.trace around.left around_now.left around.written around_now.written ended goes.turn.0.1) goes.has_run;
-        asked = run_asked client (is_some route.surrogate) goes.trace.entries goes.trace.asks (kept_at start x) (stand after.client.log kept y) goes.runs;
+        unanswered = unanswered_rose answers goes.trace around.link.troubles around_now.link.troubles
+            (few_unanswered route (opened client start) after kept answers goes.trace around.left around_now.left around.written around_now.written ended goes.turn.0.1) goes.rose;
         peers = λ ask among.
             run_peers route (opened client start) after kept answers goes.trace ask among around.left around_now.left around.written around_now.written ended goes.turn.0.1;
-        unoperated = λ none now sketched among. operated_before client goes.trace.entries goes.trace.asks (kept_at start x) (stand after.client.log kept y) sketched now.about (by_stores none goes.runs) among;
-        apart = λ none now unsent.
-            never_collides client goes.trace.entries goes.trace.asks (kept_at start x) (stand after.client.log kept y) (start.pending ++ goes.trace.entries) now.about unsent (by_stores none goes.runs);
-        leaves = λ now apart. leaves client (is_some route.surrogate) goes.trace.entries goes.trace.asks start after.client.log kept x y now goes.runs apart;
-        honest = λ now apart.
-            unbehind client route (opened client start) after kept answers goes.trace around.left around_now.left around.written around_now.written ended after.client.log y refl (at_end goes.runs now apart)
-            (run_answers client (is_some route.surrogate) goes.trace.entries goes.trace.asks (kept_at start x) (stand after.client.log kept y) goes.runs) goes.turn.0.1;
-        same_last = λ now apart last among.
-            let told = pull_of_run route (opened client start) after kept answers goes.trace around.left around_now.left around.written around_now.written ended goes.turn.0.1 (Some (OtherLast last)) among tt in
-            answers_no_other told.0 last told.2 (goes.true_pulls now apart told.0 told.1).0;
-        fresh = λ now apart quiet path theirs ours among.
-            let told = pull_of_run route (opened client start) after kept answers goes.trace around.left around_now.left around.written around_now.written ended goes.turn.0.1 (Some (Older path theirs ours)) among tt in
-            answers_no_older told.0 path theirs ours told.2 ((goes.true_pulls now apart told.0 told.1).1 quiet);
-        calm = λ now apart same own_only quiet.
-            synced client route (opened client start) after kept answers goes.trace around.left around_now.left around.written around_now.written ended after.client.log y refl (at_end goes.runs now apart)
-            (run_answers client (is_some route.surrogate) goes.trace.entries goes.trace.asks (kept_at start x) (stand after.client.log kept y) goes.runs) goes.turn.0.1 start.acked
-            (lone_unrefused client (is_some route.surrogate) goes.trace.entries goes.trace.asks (kept_at start x) (stand after.client.log kept y) now goes.runs own_only same apart)
-            (log_past start now.log_is) (none_failed (failed_asks goes.trace.asks) around.troubles around_now.troubles goes.rose quiet);
+        told = told_as around.link.world around_now.link.world (WorldGoes client (is_some route.surrogate) start after.client.log kept goes.trace around.link.troubles around_now.link.troubles)
+            (WorldRan client route start after.client.log kept goes.trace answers around.link.troubles around_now.link.troubles) goes.told
+            (λ x y. world_ran ended answers after kept goes.trace goes.turn.0.1 around.link.troubles around_now.link.troubles goes.rose x y);
       }
-    where
-      by_stores : route.surrogate ≡ None → Runs client (is_some route.surrogate) goes.trace.entries goes.trace.asks (kept_at start x) (stand after.client.log kept y)
-          → Runs client false goes.trace.entries goes.trace.asks (kept_at start x) (stand after.client.log kept y)
-      by_stores none runs = subst (λ (surrogate : Option (List ℕ)). Runs client (is_some surrogate) goes.trace.entries goes.trace.asks (kept_at start x) (stand after.client.log kept y)) none runs
-
-      at_end : Runs client (is_some route.surrogate) goes.trace.entries goes.trace.asks (kept_at start x) (stand after.client.log kept y) → InStep client start x → HasNoCollision client (start.pending ++ goes.trace.entries) y.packets → InStep client after.client.log y
-      at_end runs now apart = runs_in_step client (is_some route.surrogate) goes.trace.entries goes.trace.asks (kept_at start x) (stand after.client.log kept y) now runs apart
 
 -- a run that did nothing
-pub nothing_ran : (client : ℕ) (route : Route) (start : Log) (around : Around) (stop : Stop) (status : ℕ) (x : World) → IsKept around.images route.image client start → status ≡ status_of (Err stop)
-    → Ran client route start around around status x x
-nothing_ran client route start around stop status x keeps is =
+pub nothing_ran : (client : ℕ) (route : Route) (start : Log) (around : Around) (stop : Stop) (status : ℕ) → IsKept around.images route.image client start → status ≡ status_of (Err stop)
+    → Ran client route start around around status
+nothing_ran client route start around stop status keeps is =
     let first = opened client start in
-    ran client route start around around (Err stop) first start status x x is
-    (goes_none route.image client (is_some route.surrogate) (RunRecords route first around.left around.left around.written around.written (Err stop) first around.images around.images start) start around.images around.runner around.troubles x keeps
+    ran client route start around around (Err stop) first start status is
+    (goes_none route.image client (is_some route.surrogate) (RunRecords route first around.left around.left around.written around.written (Err stop) first around.images around.images start) start around.images around.runner around.link keeps
     (run_nothing stop route first around.left around.written, tt))

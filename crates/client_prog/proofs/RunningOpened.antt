@@ -1,11 +1,10 @@
 -- A run that begins with what is kept of its client, and one that has no client to begin with.
-use Rattle.std.proofs.Common.{◌≡◌, ◌⊎◌, inl, inr, ℕ, ◌≤◌, List, [], length, Option, Some, None, is_some, Result, Ok, Err, IfOk, refl, sym, subst, arith}
+use Rattle.std.proofs.Common.{◌≡◌, ◌⊎◌, inl, inr, ℕ, ◌≤◌, List, [], length, Option, Some, None, Result, Ok, Err, IfOk, refl, sym, subst, arith}
 use Rattle.std.specs.Prelude.{IfSome}
 use Rattle.outside.specs.Outside.{Told, Rose}
 use Rattle.outside.specs.Keeper.{Images}
 use Rattle.mod_log.specs.Log.{Log}
-use Rattle.world_rules.specs.Telling.{ToldWorlds}
-use Rattle.world_rules.proofs.Asks.{told_start, told_as}
+use Rattle.world_rules.proofs.Asks.{told_start}
 use Rattle.client_core.specs.Client.{Client}
 use Rattle.client_core.specs.Keeping.{IsKept, TellsKept, IsKeptOfNone}
 use Rattle.client_core.specs.Noting.{AreRecorded, ReplacesNone}
@@ -18,7 +17,7 @@ use Rattle.client_prog.specs.declared.opening.Unopened.{Unopened}
 use Rattle.client_prog.specs.declared.opening.Unopened.TheVariants.{Keeper, Image, Memory}
 use Rattle.client_prog.specs.Words.{Invocation}
 use Rattle.client_session.specs.Session.{Sitting, state_of, opened}
-use Rattle.client_session.specs.Doing.{Telling, Does, WentDoing}
+use Rattle.client_session.specs.Doing.{Telling, WentDoing}
 use Rattle.client_session.proofs.Doing.{went_as}
 use Rattle.client_prog.specs.Opening.{status_unopened}
 use Rattle.client_prog.specs.Run.{status_of, route_of, IsInputRead}
@@ -79,12 +78,12 @@ none_read u status left is = subst (λ (n : ℕ). Told left left (IsInputRead n)
 
 -- what is told at a moment
 abbrev pub around : Option (List ℕ) → Option (List ℕ) → Option Images → Telling → Around
-around left written images told = record { left = left; written = written; images = images; runner = told.runner; troubles = told.link.troubles }
+around left written images told = record { left = left; written = written; images = images; runner = told.runner; link = told.link }
 
 -- Over a keeper that tells its images, from the log that is kept.
 abbrev pub RanFrom : Option Images → Option Images → Option (List ℕ) → Option (List ℕ) → Option (List ℕ) → Option (List ℕ) → ℕ → Telling → Telling → Invocation → Type 0
 RanFrom i j left rest o n status t u run =
-    (start : Log) → TellsKept i run.image run.client start → ToldWorlds t.link u.link (Ran run.client (route_of run) start (around left o i t) (around rest n j u) status)
+    (start : Log) → TellsKept i run.image run.client start → Ran run.client (route_of run) start (around left o i t) (around rest n j u) status
 
 kept_so : {T E : Type 0} (r : Result T E) (P K : Type 0) → (P → K) → IfOk r (λ done. P) → IfOk r (λ done. K)
 kept_so (Ok done) P K to is = to is
@@ -108,14 +107,11 @@ opened_ran run client i j left rest o n ended after status t u number new only i
     let goes : WentDoing route (RunRecords route (opened run.client start) left rest o n ended now i j) (opened run.client start) now i j t u =
     subst (λ (log : Log). WentDoing route (RunRecords route (opened run.client log) left rest o n ended now i j) (opened run.client log) now i j t u) (only start told)
     (subst (λ (m : ℕ). WentDoing route (RunRecords route (opened m client.log) left rest o n ended now i j) (opened m client.log) now i j t u) number all) in
-    told_as t.link.world u.link.world (λ x y. (kept : Log) × Does (is_some route.surrogate) route.image (RunRecords route (opened run.client start) left rest o n ended now i j kept) (opened run.client start) now kept i j t u x y)
-    (Ran run.client route start (around left o i t) (around rest n j u) status) goes
-    (λ x y did. ran run.client route start (around left o i t) (around rest n j u) ended now did.0 status x y is did.1.goes)
+    ran run.client route start (around left o i t) (around rest n j u) ended now goes.0 status is goes.1.goes
 
 stopped_ran : (stop : Stop) (run : Invocation) (i : Option Images) (left o : Option (List ℕ)) (status : ℕ) (t : Telling) → status ≡ status_of (Err stop) → RanFrom i i left left o o status t t run
 stopped_ran stop run i left o status t is = λ start told.
-    told_start t.link.world (Ran run.client (route_of run) start (around left o i t) (around left o i t) status)
-    (λ x. nothing_ran run.client (route_of run) start (around left o i t) stop status x (tells_so i run.image run.client start told) is)
+    nothing_ran run.client (route_of run) start (around left o i t) stop status (tells_so i run.image run.client start told) is
 
 pub wanted_ran : (run : Invocation) (i : Option Images) (left o : Option (List ℕ)) (t : Telling) → RanFrom i i left left o o 7 t t run
 wanted_ran run i left o t = stopped_ran stops.Memory run i left o 7 t refl

@@ -4,6 +4,7 @@ use Rattle.mod_log.specs.declared.log.Entry.{Entry}
 use Rattle.mod_log.specs.Log.{Log}
 use Rattle.world_rules.specs.declared.asking.Ask.{Ask}
 use Rattle.world_rules.specs.World.{World, GoesOnAlone}
+use Rattle.world_rules.specs.Telling.{ToldWorlds}
 use Rattle.world_rules.specs.InStep.{InStep, HasNoCollision, HasNoOperation}
 use Rattle.world_rules.specs.Run.{Runs, kept_at}
 use Rattle.client_core.specs.declared.route.Route.{Route}
@@ -21,23 +22,25 @@ pub record LeaveTogether (client : ℕ) (start log kept : Log) (status : ℕ) (e
   pub none : status ≢ 5 → status ≢ 7 → lost ≡ []
   pub leaves : Leaves client start log kept (stayed ++ later) old new
 
--- Two runs, the second begun on what the first left kept, in the world that it left or one that went on without the client since.
--- Where the first began in step, and no content that was sent is taken for another, they leave together what one run leaves.
+-- Two runs, the second begun on what the first left kept, over links that tell their worlds: in the world that the first left, or one
+-- that went on without the client since. Where the first began in step, and no content that was sent is taken for another, they leave
+-- together what one run leaves.
 abbrev pub RunsCompose : Type 0
 RunsCompose =
-    (client : ℕ) (route other_route : Route) (start : Log) (around around_now other other_now : Around) (status other_status : ℕ) (old middle begun new : World) → InStep client start old
-    → (first : Ran client route start around around_now status old middle) → GoesOnAlone middle begun
-    → (second : Ran client other_route first.kept other other_now other_status begun new)
+    (client : ℕ) (route other_route : Route) (start : Log) (around around_now other other_now : Around) (status other_status : ℕ)
+    → (first : Ran client route start around around_now status) (second : Ran client other_route first.kept other other_now other_status)
+    → ToldWorlds around.link around_now.link (λ old middle. ToldWorlds other.link other_now.link (λ begun new. InStep client start old → GoesOnAlone middle begun
     → HasNoCollision client (start.pending ++ (first.goes.trace.entries ++ second.goes.trace.entries)) new.packets
-    → LeaveTogether client start second.after.client.log second.kept status first.goes.trace.entries second.goes.trace.entries old new
+    → LeaveTogether client start second.after.client.log second.kept status first.goes.trace.entries second.goes.trace.entries old new))
 
 -- None is where both have no surrogate, and no operation of the client was sent before the first.
 abbrev pub StoresNeverCollide : Type 0
 StoresNeverCollide =
-    (client : ℕ) (route other_route : Route) (start : Log) (around around_now other other_now : Around) (status other_status : ℕ) (old middle begun new : World) → InStep client start old
-    → HasNoOperation client old.packets → (first : Ran client route start around around_now status old middle) → route.surrogate ≡ None → GoesOnAlone middle begun
-    → (second : Ran client other_route first.kept other other_now other_status begun new) → other_route.surrogate ≡ None
-    → HasNoCollision client (start.pending ++ (first.goes.trace.entries ++ second.goes.trace.entries)) new.packets
+    (client : ℕ) (route other_route : Route) (start : Log) (around around_now other other_now : Around) (status other_status : ℕ)
+    → (first : Ran client route start around around_now status) (second : Ran client other_route first.kept other other_now other_status)
+    → route.surrogate ≡ None → other_route.surrogate ≡ None
+    → ToldWorlds around.link around_now.link (λ old middle. ToldWorlds other.link other_now.link (λ begun new. InStep client start old → HasNoOperation client old.packets
+    → GoesOnAlone middle begun → HasNoCollision client (start.pending ++ (first.goes.trace.entries ++ second.goes.trace.entries)) new.packets))
 
 -- Whatever a client did from a kept log on that was in step, in one run or in many, it leaves this, where no content that was sent is
 -- taken for another. For runs join, and a new beginning with what is kept ends a run, as does a world that went on without the client.

@@ -22,7 +22,7 @@ abbrev pub NotesChanges : List ℕ → Client → Client → Option Images → O
 NotesChanges name before after images now trace =
     ReplacesNone trace → Told images now (λ old new. (notes : List ClientRecord) × (trace.changes ≡ logs_behind before.log notes) × KeepsRecords name before after notes old new)
 
--- over a link that tells its world, a session did what these turns say, and where it was not stopped, its changes were so kept
+-- a session did what these turns say, and where it was not stopped, its changes were so kept
 abbrev pub WentNoting : {T E : Type 0} → Route → Result T E → (Log → Trace → Type 0) → Sitting → Sitting → Option Images → Option Images → Telling → Telling → Type 0
 WentNoting route result turns before after images now told later =
     WentDoing route (λ kept trace. turns kept trace × IfOk result (λ done. NotesChanges route.image before.client after.client images now trace)) (state_of before) (state_of after) images now told later

@@ -3,7 +3,6 @@ ghost use Rattle.std.specs.Prelude.{◌≡◌, ◌↔◌, None, IsTrue, map, ◌
 ghost use Rattle.std.specs.String.{string_bytes};
 ghost use Rattle.outside.specs.Outside.{Told, RisesWhere, Rose};
 ghost use Rattle.mod_log.specs.Log.{Log};
-ghost use Rattle.world_rules.specs.Telling.{ToldWorlds};
 ghost use Rattle.client_core.specs.Keeping.{TellsKept, IsKeptOfNone};
 ghost use Rattle.cmd_capture.specs.Runs.{telling};
 ghost use Rattle.client_prog.specs.Words.{run_of};
@@ -213,20 +212,20 @@ pub fn answered<R: Eprint, I: Source, O: Sink, K: Keeper, J: Runner, L: Link>(
         → (Rose (I.faults input.old) (I.faults input.new) → ⊥) → (Rose (O.faults output.old) (O.faults output.new) → ⊥)
         → (Rose (K.faults keeper.old) (K.faults keeper.new) → ⊥) → (exit_status result ≡ 0) ⊎ (exit_status result ≡ 7))) }
     ensures session { IfSome (run_of (map string_bytes words.now)) (λ run. (start : Log)
-        → TellsKept (K.images keeper.old) run.image run.client start → ToldWorlds (L.tells link.old) (L.tells link.new)
-        (Ran run.client (route_of run) start (record {
+        → TellsKept (K.images keeper.old) run.image run.client start
+        → Ran run.client (route_of run) start (record {
           left = I.left input.old;
           written = O.written output.old;
           images = K.images keeper.old;
           runner = telling (J.runs runner.old) (J.faults runner.old);
-          troubles = (L.tells link.old).troubles;
+          link = L.tells link.old;
         }) (record {
           left = I.left input.new;
           written = O.written output.new;
           images = K.images keeper.new;
           runner = telling (J.runs runner.new) (J.faults runner.new);
-          troubles = (L.tells link.new).troubles;
-        }) (exit_status result))) }
+          link = L.tells link.new;
+        }) (exit_status result)) }
 {
     let status = client_run(alloc, words, input, output, keeper, runner, link);
     end(rt, NAME, status)

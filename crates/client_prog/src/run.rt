@@ -5,7 +5,6 @@ ghost use Rattle.std.specs.Option.{option_copied};
 ghost use Rattle.std.specs.String.{string_bytes};
 ghost use Rattle.outside.specs.Outside.{Told, Adds, CountsFault, RisesWhere, Rose};
 ghost use Rattle.mod_log.specs.Log.{Log};
-ghost use Rattle.world_rules.specs.Telling.{ToldWorlds};
 ghost use Rattle.client_core.specs.Keeping.{IsKeptReady, TellsKept, IsKeptOfNone};
 ghost use Rattle.shell_lang.specs.Lines.{whole_lines, last_line};
 ghost use Rattle.shell_lang.specs.Commands.{read_line};
@@ -476,20 +475,20 @@ pub fn client_run<I: Source, O: Sink, K: Keeper, R: Runner, L: Link>(
         → (Rose (I.faults input.old) (I.faults input.new) → ⊥) → (Rose (O.faults output.old) (O.faults output.new) → ⊥)
         → (Rose (K.faults keeper.old) (K.faults keeper.new) → ⊥) → (result ≡ 0) ⊎ (result ≡ 7))) }
     ensures session { IfSome (run_of (map string_bytes words.now)) (λ run. (start : Log)
-        → TellsKept (K.images keeper.old) run.image run.client start → ToldWorlds (L.tells link.old) (L.tells link.new)
-        (Ran run.client (route_of run) start (record {
+        → TellsKept (K.images keeper.old) run.image run.client start
+        → Ran run.client (route_of run) start (record {
           left = I.left input.old;
           written = O.written output.old;
           images = K.images keeper.old;
           runner = telling (R.runs runner.old) (R.faults runner.old);
-          troubles = (L.tells link.old).troubles;
+          link = L.tells link.old;
         }) (record {
           left = I.left input.new;
           written = O.written output.new;
           images = K.images keeper.new;
           runner = telling (R.runs runner.new) (R.faults runner.new);
-          troubles = (L.tells link.new).troubles;
-        }) result)) }
+          link = L.tells link.new;
+        }) result) }
 {
     let Some(words) = run_words(words) else {
         return 2;

@@ -9,9 +9,7 @@ use Rattle.cmd_capture.specs.declared.capturing.CaptureError.{CaptureError}
 use Rattle.cmd_capture.specs.declared.capturing.CaptureError.TheVariants as captures
 use Rattle.cmd_capture.specs.Capture.{capture}
 use Rattle.mod_log.specs.Log.{Log, IsLog}
-use Rattle.world_rules.specs.World.{World}
 use Rattle.world_rules.specs.Telling.{LinkTelling}
-use Rattle.world_rules.proofs.Asks.{told_start}
 use Rattle.client_core.specs.declared.route.Route.{Route}
 use Rattle.client_core.specs.declared.running.RunEnd.{RunEnd}
 use Rattle.client_core.specs.declared.running.RunEnd.TheVariants as ends
@@ -28,16 +26,16 @@ use Rattle.client_session.specs.Session.{SessionState, CommandTurn, LineTurn, Br
 use Rattle.client_session.specs.Doing.{beside, Does, WentDoing, LineEnds}
 use Rattle.client_session.specs.Inside.{IsAnswerOrMemory, RunsLine, RunsMade}
 use Rattle.client_session.proofs.Doing.{does_none}
-use Rattle.client_session.proofs.Turning.{a_world, same_but_log}
+use Rattle.client_session.proofs.Turning.{same_but_log}
 
 -- ---- over a link
 
 module _ (route : Route) (words : List (List ℕ)) (before after : SessionState) (r : Result (Option LineAnswer) KeepError) (i j : Option Images) (p q : RunnerTelling) (runs : RunsLine route words before r after i j p q) (t : LinkTelling) where
   pub run_went : WentDoing route (LineEnds route before (Ok (RunLine words)) r after) before after i j (beside t p) (beside t q)
-  run_went = told_start t.world (λ x y. (kept : Log) × Does (is_some route.surrogate) route.image (LineEnds route before (Ok (RunLine words)) r after kept) before after kept i j (beside t p) (beside t q) x y) (runs t)
+  run_went = runs t
 
   pub run_caused : (kept : Log) × (trace : Trace) × LineEnds route before (Ok (RunLine words)) r after kept trace × HasRun trace.runs trace.missed p q
-  run_caused = let here = runs t a_world in (here.0, here.1.goes.trace, here.1.goes.turn, here.1.goes.has_run)
+  run_caused = let here = runs t in (here.0, here.1.goes.trace, here.1.goes.turn, here.1.goes.has_run)
 
 -- ---- words that make no command
 
@@ -47,14 +45,14 @@ module _ (route : Route) (words : List (List ℕ)) (before : SessionState) (i : 
 
   pub capture_given : (refusal : CaptureError) (told : Option LineAnswer) (r : Result (Option LineAnswer) KeepError) → (refusal ≢ captures.Memory → capture words before.folder ≡ Err refusal) → told ≡ capture_answer refusal
       → IsAnswerOrMemory told r → RunsLine route words before r before i i p p
-  capture_given refusal (Some answer) (Ok given) refused shown gave = λ link world.
+  capture_given refusal (Some answer) (Ok given) refused shown gave = λ link.
       let is : capture words before.folder ≡ Err refusal = refused (named_refusal refusal answer (sym shown)) in
       let turn : LineTurn route before (Ok (RunLine words)) (Some answer) before nothing =
       subst (λ (c : Result Command CaptureError). CommandTurn route c before (Some answer) before nothing) (sym is) (shown, refl, refl) in
-      subst (λ (a : Option LineAnswer). (kept : Log) × Does (is_some route.surrogate) route.image (LineEnds route before (Ok (RunLine words)) (Ok a) before kept) before before kept i i (beside link p) (beside link p) world world) (sym gave)
-      (before.client.log, does_none (is_some route.surrogate) route.image (LineEnds route before (Ok (RunLine words)) (Ok (Some answer)) before before.client.log) before i (beside link p) world keeps (turn, refl))
-  capture_given refusal None (Err keepers.Memory) refused shown gave = λ link world.
-      (before.client.log, does_none (is_some route.surrogate) route.image (LineEnds route before (Ok (RunLine words)) (Err keepers.Memory) before before.client.log) before i (beside link p) world keeps (inl (refl, refl)))
+      subst (λ (a : Option LineAnswer). (kept : Log) × Does (is_some route.surrogate) route.image (LineEnds route before (Ok (RunLine words)) (Ok a) before kept) before before kept i i (beside link p) (beside link p)) (sym gave)
+      (before.client.log, does_none (is_some route.surrogate) route.image (LineEnds route before (Ok (RunLine words)) (Ok (Some answer)) before before.client.log) before i (beside link p) keeps (turn, refl))
+  capture_given refusal None (Err keepers.Memory) refused shown gave = λ link.
+      (before.client.log, does_none (is_some route.surrogate) route.image (LineEnds route before (Ok (RunLine words)) (Err keepers.Memory) before before.client.log) before i (beside link p) keeps (inl (refl, refl)))
   capture_given refusal None (Err keepers.Failed) refused shown gave = absurd gave
   capture_given refusal (Some answer) (Err e) refused shown gave = absurd gave
   capture_given refusal None (Ok given) refused shown gave = absurd gave
@@ -105,26 +103,26 @@ module _ (route : Route) (command : Command) (before after : SessionState) (numb
       inr (inr (subst (λ (c : Result Command CaptureError). BreaksCommand route c before.client.log after.client.log trace) (sym made) (broken.2, broken.1), same_but_log before after number folder))
 
   module _ (i : Option Images) (p q : RunnerTelling) (keeps : IsKept i route.image before.client.number before.client.log) (did : RunsCommand route.work command before.client.log end after.client.log p q) (is_log : IsLog after.client.log) where
-    went : (t : ℕ) (w : World) → Goes before.client.number (is_some route.surrogate) route.image Ends before.client.log after.client.log before.client.log i i p q t t w w
-    went t w = run_goes route.image before.client.number (is_some route.surrogate) route.work command before.client.log i keeps p q t w end after.client.log did is_log
+    went : (t : LinkTelling) → Goes before.client.number (is_some route.surrogate) route.image Ends before.client.log after.client.log before.client.log i i p q t t
+    went t = run_goes route.image before.client.number (is_some route.surrogate) route.work command before.client.log i keeps p q t end after.client.log did is_log
 
     -- the log is as before
     pub run_given : (told : Option LineAnswer) (r : Result (Option LineAnswer) KeepError) → told ≡ run_answer end → IsAnswerOrMemory told r → after.client.log ≡ before.client.log → RunsMade route command before r after i i p q
-    run_given (Some answer) (Ok given) shown gave same = λ words made link world.
-        subst (λ (a : Option LineAnswer). (kept : Log) × Does (is_some route.surrogate) route.image (LineEnds route before (Ok (RunLine words)) (Ok a) after kept) before after kept i i (beside link p) (beside link q) world world) (sym gave) (
+    run_given (Some answer) (Ok given) shown gave same = λ words made link.
+        subst (λ (a : Option LineAnswer). (kept : Log) × Does (is_some route.surrogate) route.image (LineEnds route before (Ok (RunLine words)) (Ok a) after kept) before after kept i i (beside link p) (beside link q)) (sym gave) (
           before.client.log,
           record {
             number = number;
-            goes = goes_as route.image before.client.number (is_some route.surrogate) Ends (LineEnds route before (Ok (RunLine words)) (Ok (Some answer)) after before.client.log) before.client.log after.client.log before.client.log i i p q link.troubles link.troubles world world
-                (went link.troubles world) (λ trace turn. (answered_turn words made answer (sym shown) trace turn, sym same));
+            goes = goes_as route.image before.client.number (is_some route.surrogate) Ends (LineEnds route before (Ok (RunLine words)) (Ok (Some answer)) after before.client.log) before.client.log after.client.log before.client.log i i p q link link
+                (went link) (λ trace turn. (answered_turn words made answer (sym shown) trace turn, sym same));
           },
         )
-    run_given None (Err keepers.Memory) shown gave same = λ words made link world. (
+    run_given None (Err keepers.Memory) shown gave same = λ words made link. (
       before.client.log,
       record {
         number = number;
-        goes = goes_as route.image before.client.number (is_some route.surrogate) Ends (LineEnds route before (Ok (RunLine words)) (Err keepers.Memory) after before.client.log) before.client.log after.client.log before.client.log i i p q link.troubles link.troubles world world
-            (went link.troubles world) (λ trace turn. broken_turn words made trace turn);
+        goes = goes_as route.image before.client.number (is_some route.surrogate) Ends (LineEnds route before (Ok (RunLine words)) (Err keepers.Memory) after before.client.log) before.client.log after.client.log before.client.log i i p q link link
+            (went link) (λ trace turn. broken_turn words made trace turn);
       },
     )
     run_given None (Err keepers.Failed) shown gave same = absurd gave
@@ -133,22 +131,22 @@ module _ (route : Route) (command : Command) (before after : SessionState) (numb
 
     -- the log was changed, and was to be kept
     module _ (logged : has_logged end ≡ true) (j : Option Images) where
-      saved : (r : Result (Unit {0}) KeepError) → Told i j (KeepsLog route.image before.client.number after.client.log r) → (t : ℕ) (w : World)
-          → (kept : Log) × Goes before.client.number (is_some route.surrogate) route.image Ends before.client.log after.client.log kept i j p q t t w w × IfOk r (λ done. kept ≡ after.client.log)
-      saved r save t w =
-          let goes = went t w in
-          goes_saved route.image before.client.number (is_some route.surrogate) Ends before.client.log after.client.log before.client.log i i j p q t t w w r goes
+      saved : (r : Result (Unit {0}) KeepError) → Told i j (KeepsLog route.image before.client.number after.client.log r) → (t : LinkTelling)
+          → (kept : Log) × Goes before.client.number (is_some route.surrogate) route.image Ends before.client.log after.client.log kept i j p q t t × IfOk r (λ done. kept ≡ after.client.log)
+      saved r save t =
+          let goes = went t in
+          goes_saved route.image before.client.number (is_some route.surrogate) Ends before.client.log after.client.log before.client.log i i j p q t t r goes
           (logged_changes route.work command before.client.log end after.client.log goes.trace logged goes.turn) save
 
       pub run_kept : (done : Unit {0}) (told : Option LineAnswer) (r : Result (Option LineAnswer) KeepError) → told ≡ run_answer end → IsAnswerOrMemory told r
           → Told i j (KeepsLog {E = KeepError} route.image before.client.number after.client.log (Ok done)) → RunsMade route command before r after i j p q
-      run_kept done (Some answer) (Ok given) shown gave save = λ words made link world.
-          let all = saved (Ok done) save link.troubles world in
-          subst (λ (a : Option LineAnswer). (kept : Log) × Does (is_some route.surrogate) route.image (LineEnds route before (Ok (RunLine words)) (Ok a) after kept) before after kept i j (beside link p) (beside link q) world world) (sym gave) (
+      run_kept done (Some answer) (Ok given) shown gave save = λ words made link.
+          let all = saved (Ok done) save link in
+          subst (λ (a : Option LineAnswer). (kept : Log) × Does (is_some route.surrogate) route.image (LineEnds route before (Ok (RunLine words)) (Ok a) after kept) before after kept i j (beside link p) (beside link q)) (sym gave) (
             all.0,
             record {
               number = number;
-              goes = goes_as route.image before.client.number (is_some route.surrogate) Ends (LineEnds route before (Ok (RunLine words)) (Ok (Some answer)) after all.0) before.client.log after.client.log all.0 i j p q link.troubles link.troubles world world
+              goes = goes_as route.image before.client.number (is_some route.surrogate) Ends (LineEnds route before (Ok (RunLine words)) (Ok (Some answer)) after all.0) before.client.log after.client.log all.0 i j p q link link
                   all.1 (λ trace turn. (answered_turn words made answer (sym shown) trace turn, all.2));
             },
           )
@@ -156,12 +154,12 @@ module _ (route : Route) (command : Command) (before after : SessionState) (numb
       run_kept done (Some answer) (Err e) shown gave save = absurd gave
 
       pub run_unkept : (e : KeepError) → Told i j (KeepsLog {E = KeepError} route.image before.client.number after.client.log (Err e)) → RunsMade route command before (Err e) after i j p q
-      run_unkept e save = λ words made link world.
-          let all = saved (Err e) save link.troubles world in (
+      run_unkept e save = λ words made link.
+          let all = saved (Err e) save link in (
             all.0,
             record {
               number = number;
-              goes = goes_as route.image before.client.number (is_some route.surrogate) Ends (LineEnds route before (Ok (RunLine words)) (Err e) after all.0) before.client.log after.client.log all.0 i j p q link.troubles link.troubles world world
+              goes = goes_as route.image before.client.number (is_some route.surrogate) Ends (LineEnds route before (Ok (RunLine words)) (Err e) after all.0) before.client.log after.client.log all.0 i j p q link link
                   all.1 (λ trace turn. broken_turn words made trace turn);
             },
           )

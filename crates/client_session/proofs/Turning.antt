@@ -12,10 +12,7 @@ use Rattle.mod_log.specs.declared.log.LogError.{LogError}
 use Rattle.mod_log.specs.declared.log.LogError.TheVariants as logs
 use Rattle.mod_log.specs.Log.{Log, IsLog, tree_of}
 use Rattle.mod_log.specs.Append.{appended}
-use Rattle.world_rules.specs.Served.{new_served}
-use Rattle.world_rules.specs.World.{World}
 use Rattle.world_rules.specs.Telling.{LinkTelling}
-use Rattle.world_rules.proofs.Asks.{told_start, told_as}
 use Rattle.client_core.specs.declared.route.Route.{Route}
 use Rattle.client_core.specs.declared.syncing.SyncEnd.{SyncEnd}
 use Rattle.client_core.specs.declared.syncing.SyncEnd.TheVariants as syncs
@@ -45,11 +42,11 @@ use Rattle.client_session.specs.Inside.{IsAnswerOrMemory, GivesEffect, LogEnds, 
 use Rattle.client_session.specs.Causes.{HasLineCause, is_sync_fault, is_pull_fault, answer_or_fault}
 use Rattle.client_session.proofs.Doing.{does_none, does_as}
 
--- what a line that asks nothing of the server does in any world, with a surrogate or without, where the keeper's images were these and
+-- what a line that asks nothing of the server does over any link, with a surrogate or without, where the keeper's images were these and
 -- are those now
 abbrev pub Quietly : List ℕ → SessionState → Result Line LineError → Result (Option LineAnswer) KeepError → SessionState → Option Images → Option Images → Type 0
 Quietly name before line result after images now =
-    (ships : Bool) (route : Route) (told : Telling) (world : World) → (kept : Log) × Does ships name (LineEnds route before line result after kept) before after kept images now told told world world
+    (ships : Bool) (route : Route) (told : Telling) → (kept : Log) × Does ships name (LineEnds route before line result after kept) before after kept images now told told
 
 -- a state of the same client in the same folder has another log at most
 pub same_but_log : (before after : SessionState) → after.client.number ≡ before.client.number → after.folder ≡ before.folder → after ≡ with_log before after.client.log
@@ -79,23 +76,18 @@ both_ok (Err e) A B a b = tt
 pub seen_same : (client now : Client) (folder : FilePath) → now.number ≡ client.number → now.log ≡ client.log → state_of (record { client = client; folder = folder }) ≡ state_of (record { client = now; folder = folder })
 seen_same client now folder number log = λ i. record { client = record { number = sym number i; log = sym log i }; folder = folder }
 
--- some world
-pub a_world : World
-a_world = record { client = 1; opening = new_served; taken = []; served = new_served; packets = []; asks = [] }
-
 -- ---- a line that asks nothing of the server
 
 module _ (route : Route) (i : Option Images) where
   -- over each link it does the same
   pub quietly_told : (before : SessionState) (line : Result Line LineError) (r : Result (Option LineAnswer) KeepError) (after : SessionState) (j : Option Images) → Quietly route.image before line r after i j → (t : Telling)
       → WentDoing route (LineEnds route before line r after) before after i j t t
-  quietly_told before line r after j quiet t =
-      told_start t.link.world (λ x y. (kept : Log) × Does (is_some route.surrogate) route.image (LineEnds route before line r after kept) before after kept i j t t x y) (quiet (is_some route.surrogate) route t)
+  quietly_told before line r after j quiet t = quiet (is_some route.surrogate) route t
 
   -- and so it has its turn over any link
   pub quietly_caused : (before : SessionState) (line : Result Line LineError) (r : Result (Option LineAnswer) KeepError) (after : SessionState) (j : Option Images) → Quietly route.image before line r after i j → (t : Telling)
       → (kept : Log) × (trace : Trace) × LineEnds route before line r after kept trace × HasRun trace.runs trace.missed t.runner t.runner
-  quietly_caused before line r after j quiet t = let here = quiet (is_some route.surrogate) route t a_world in (here.0, here.1.goes.trace, here.1.goes.turn, here.1.goes.has_run)
+  quietly_caused before line r after j quiet t = let here = quiet (is_some route.surrogate) route t in (here.0, here.1.goes.trace, here.1.goes.turn, here.1.goes.has_run)
 
   -- as what the line reads as
   pub line_world : (before : SessionState) (read line : Result Line LineError) (r : Result (Option LineAnswer) KeepError) (after : SessionState) (j : Option Images) (t : Telling) → read ≡ line
@@ -107,14 +99,14 @@ module _ (name : List ℕ) (i : Option Images) where
   module _ (before : SessionState) (keeps : IsKept i name before.client.number before.client.log) where
     -- a line that does nothing but answer
     pub tells_quietly : (line : Result Line LineError) (answer : Option LineAnswer) → ((route : Route) → LineTurn route before line answer before nothing) → Quietly name before line (Ok answer) before i i
-    tells_quietly line answer turn = λ ships route t w. (before.client.log, does_none ships name (LineEnds route before line (Ok answer) before before.client.log) before i t w keeps (turn route, refl))
+    tells_quietly line answer turn = λ ships route t. (before.client.log, does_none ships name (LineEnds route before line (Ok answer) before before.client.log) before i t keeps (turn route, refl))
 
     pub silent_quietly : (line : Result Line LineError) → ((route : Route) → LineTurn route before line None before nothing) → Quietly name before line (Ok None) before i i
     silent_quietly line turn = tells_quietly line None turn
 
     -- a line for which memory was wanted before it did anything
     breaks_quietly : (line : Result Line LineError) (e : KeepError) → Quietly name before line (Err e) before i i
-    breaks_quietly line e = λ ships route t w. (before.client.log, does_none ships name (LineEnds route before line (Err e) before before.client.log) before i t w keeps (inl (refl, refl)))
+    breaks_quietly line e = λ ships route t. (before.client.log, does_none ships name (LineEnds route before line (Err e) before before.client.log) before i t keeps (inl (refl, refl)))
 
     -- a line that does nothing but answer, unless memory is wanted
     pub told_quietly : (line : Result Line LineError) (answer : Option LineAnswer) (r : Result (Option LineAnswer) KeepError) → ((route : Route) → LineTurn route before line answer before nothing)
@@ -130,11 +122,11 @@ module _ (name : List ℕ) (i : Option Images) where
     enter_quietly after word (Ok given) is entered same =
         let there = with_folder before (folder_by (enter_answer (tree_of before.client.log) before.folder word) before.folder) in
         subst (λ (s : SessionState). Quietly name before (Ok (Enter word)) (Ok given) s i i) (sym entered)
-        (λ ships route t w. (
+        (λ ships route t. (
           before.client.log,
           record {
             number = refl;
-            goes = goes_none name before.client.number ships (LineEnds route before (Ok (Enter word)) (Ok given) there before.client.log) before.client.log i t.runner t.link.troubles w keeps ((is, refl, refl), refl);
+            goes = goes_none name before.client.number ships (LineEnds route before (Ok (Enter word)) (Ok given) there before.client.log) before.client.log i t.runner t.link keeps ((is, refl, refl), refl);
           },
         ))
     enter_quietly after word (Err e) is entered same = subst (λ (s : SessionState). Quietly name before (Ok (Enter word)) (Err e) s i i) (sym same) (breaks_quietly (Ok (Enter word)) e)
@@ -147,11 +139,11 @@ module _ (name : List ℕ) (i : Option Images) where
 
     -- memory was wanted before
     unlogged : (named : Result Effect PathError) (e : KeepError) → LogsOrRefuses name named before (Err e) before i i
-    unlogged named e = λ ships t w. (before.client.log, does_none ships name (LogEnds named before (Err e) before before.client.log) before i t w keeps (inl (refl, refl)))
+    unlogged named e = λ ships t. (before.client.log, does_none ships name (LogEnds named before (Err e) before before.client.log) before i t keeps (inl (refl, refl)))
 
     -- the refusal of a path word
     refused_word : (refusal : PathError) (answer : LineAnswer) → word_answer refusal ≡ Some answer → LogsOrRefuses name (Err refusal) before (Ok (Some answer)) before i i
-    refused_word refusal answer is = λ ships t w. (before.client.log, does_none ships name (LogEnds (Err refusal) before (Ok (Some answer)) before before.client.log) before i t w keeps ((sym is, refl, refl), refl))
+    refused_word refusal answer is = λ ships t. (before.client.log, does_none ships name (LogEnds (Err refusal) before (Ok (Some answer)) before before.client.log) before i t keeps ((sym is, refl, refl), refl))
 
     no_memory_word : (refusal : PathError) (answer : LineAnswer) → word_answer refusal ≡ Some answer → refusal ≢ paths.Memory
     no_memory_word refusal answer is memory = absurd (cc (ap word_answer memory, is))
@@ -183,12 +175,12 @@ module _ (name : List ℕ) (i : Option Images) where
           let log_same : after.client.log ≡ before.client.log = ap (λ (c : ClientState). c.log) same in
           subst (λ (n : Result Effect PathError). LogsOrRefuses name n before (Ok given) after i i) (sym is_named)
           (subst (λ (a : Option LineAnswer). LogsOrRefuses name (Ok effect) before (Ok a) after i i) (sym gave)
-          (λ ships t w. (
+          (λ ships t. (
             before.client.log,
             record {
               number = number;
-              goes = goes_as name before.client.number ships (LocalEnds effect before.client.log (Err refusal) after.client.log) (LogEnds (Ok effect) before (Ok (Some answer)) after before.client.log) before.client.log after.client.log before.client.log i i t.runner t.runner t.link.troubles t.link.troubles w w
-                  (local_goes name before.client.number ships effect before.client.log after.client.log i keeps (Err refusal) tt tt err log_same is_log t.runner t.link.troubles w)
+              goes = goes_as name before.client.number ships (LocalEnds effect before.client.log (Err refusal) after.client.log) (LogEnds (Ok effect) before (Ok (Some answer)) after before.client.log) before.client.log after.client.log before.client.log i i t.runner t.runner t.link t.link
+                  (local_goes name before.client.number ships effect before.client.log after.client.log i keeps (Err refusal) tt tt err log_same is_log t.runner t.link)
                   (λ trace turn. (refused_turn refusal answer shown trace turn, sym log_same));
             },
           )))
@@ -209,23 +201,23 @@ module _ (name : List ℕ) (i : Option Images) where
         logged_turn trace (inl turn) = (Ok seq, turn, same_but_log before after number folder, refl)
         logged_turn trace (inr memory) = absurd (cc (memory.0))
 
-        goes_kept : (r : Result (Unit {0}) KeepError) → Told i j (KeepsLog name before.client.number after.client.log r) → (ships : Bool) (t : Telling) (w : World)
-            → (kept : Log) × Goes before.client.number ships name (LocalEnds effect before.client.log (Ok seq) after.client.log) before.client.log after.client.log kept i j t.runner t.runner t.link.troubles t.link.troubles w w × IfOk r (λ done. kept ≡ after.client.log)
-        goes_kept r save ships t w =
-            let goes = local_goes name before.client.number ships effect before.client.log after.client.log i keeps (Ok seq) ok shown tt tt is_log t.runner t.link.troubles w in
-            goes_saved name before.client.number ships (LocalEnds effect before.client.log (Ok seq) after.client.log) before.client.log after.client.log before.client.log i i j t.runner t.runner t.link.troubles t.link.troubles w w r goes (local_changes goes.trace goes.turn) save
+        goes_kept : (r : Result (Unit {0}) KeepError) → Told i j (KeepsLog name before.client.number after.client.log r) → (ships : Bool) (t : Telling)
+            → (kept : Log) × Goes before.client.number ships name (LocalEnds effect before.client.log (Ok seq) after.client.log) before.client.log after.client.log kept i j t.runner t.runner t.link t.link × IfOk r (λ done. kept ≡ after.client.log)
+        goes_kept r save ships t =
+            let goes = local_goes name before.client.number ships effect before.client.log after.client.log i keeps (Ok seq) ok shown tt tt is_log t.runner t.link in
+            goes_saved name before.client.number ships (LocalEnds effect before.client.log (Ok seq) after.client.log) before.client.log after.client.log before.client.log i i j t.runner t.runner t.link t.link r goes (local_changes goes.trace goes.turn) save
 
         pub logged_kept : (made : Result Effect PathError) (done : Unit {0}) → made ≡ Ok effect → Told i j (KeepsLog {E = KeepError} name before.client.number after.client.log (Ok done))
             → LogsMade name made before (Ok (Some (answers.Logged seq))) after i j
         logged_kept made done is save = λ named gives.
             let is_named : named ≡ Ok effect = subst (λ (m : Result Effect PathError). GivesEffect m named) is gives in
             subst (λ (n : Result Effect PathError). LogsOrRefuses name n before (Ok (Some (answers.Logged seq))) after i j) (sym is_named)
-            (λ ships t w.
-            let saved = goes_kept (Ok done) save ships t w in (
+            (λ ships t.
+            let saved = goes_kept (Ok done) save ships t in (
               saved.0,
               record {
                 number = number;
-                goes = goes_as name before.client.number ships (LocalEnds effect before.client.log (Ok seq) after.client.log) (LogEnds (Ok effect) before (Ok (Some (answers.Logged seq))) after saved.0) before.client.log after.client.log saved.0 i j t.runner t.runner t.link.troubles t.link.troubles w w
+                goes = goes_as name before.client.number ships (LocalEnds effect before.client.log (Ok seq) after.client.log) (LogEnds (Ok effect) before (Ok (Some (answers.Logged seq))) after saved.0) before.client.log after.client.log saved.0 i j t.runner t.runner t.link t.link
                     saved.1 (λ trace turn. (logged_turn trace turn, saved.2));
               },
             ))
@@ -234,30 +226,30 @@ module _ (name : List ℕ) (i : Option Images) where
         logged_unkept made e is save = λ named gives.
             let is_named : named ≡ Ok effect = subst (λ (m : Result Effect PathError). GivesEffect m named) is gives in
             subst (λ (n : Result Effect PathError). LogsOrRefuses name n before (Err e) after i j) (sym is_named)
-            (λ ships t w.
-            let saved = goes_kept (Err e) save ships t w in (
+            (λ ships t.
+            let saved = goes_kept (Err e) save ships t in (
               saved.0,
               record {
                 number = number;
-                goes = goes_as name before.client.number ships (LocalEnds effect before.client.log (Ok seq) after.client.log) (LogEnds (Ok effect) before (Err e) after saved.0) before.client.log after.client.log saved.0 i j t.runner t.runner t.link.troubles t.link.troubles w w
+                goes = goes_as name before.client.number ships (LocalEnds effect before.client.log (Ok seq) after.client.log) (LogEnds (Ok effect) before (Err e) after saved.0) before.client.log after.client.log saved.0 i j t.runner t.runner t.link t.link
                     saved.1 (λ trace turn. inr (Some (answers.Logged seq), logged_turn trace turn));
               },
             ))
 
-  -- in every world, as its line
+  -- over any link, as its line
   pub logs_quietly : (named : Result Effect PathError) (before : SessionState) (line : Result Line LineError) (r : Result (Option LineAnswer) KeepError) (after : SessionState) (j : Option Images)
       → ((route : Route) (answer : Option LineAnswer) (trace : Trace) → LogTurn named before answer after trace → LineTurn route before line answer after trace)
       → LogsOrRefuses name named before r after i j → Quietly name before line r after i j
-  logs_quietly named before line (Ok answer) after j to logs = λ ships route t w.
-      let done = logs ships t w in (
+  logs_quietly named before line (Ok answer) after j to logs = λ ships route t.
+      let done = logs ships t in (
         done.0,
-        does_as ships name (LogEnds named before (Ok answer) after done.0) (LineEnds route before line (Ok answer) after done.0) before after done.0 i j t t w w done.1
+        does_as ships name (LogEnds named before (Ok answer) after done.0) (LineEnds route before line (Ok answer) after done.0) before after done.0 i j t t done.1
             (λ trace turn behind. (to route answer trace turn.0, turn.1)),
       )
-  logs_quietly named before line (Err e) after j to logs = λ ships route t w.
-      let done = logs ships t w in (
+  logs_quietly named before line (Err e) after j to logs = λ ships route t.
+      let done = logs ships t in (
         done.0,
-        does_as ships name (LogEnds named before (Err e) after done.0) (LineEnds route before line (Err e) after done.0) before after done.0 i j t t w w done.1
+        does_as ships name (LogEnds named before (Err e) after done.0) (LineEnds route before line (Err e) after done.0) before after done.0 i j t t done.1
             (λ trace turn behind. ⊎_elim (λ none. inl none) (λ some. inr (inl (some.0, to route some.0 trace some.1))) turn),
       )
 
@@ -279,18 +271,18 @@ broken_silent (syncs.Behind seq last) is = absurd (cc)
 broken_silent syncs.KeepFault is = refl
 broken_silent syncs.Memory is = refl
 
-module _ (route : Route) (before after : SessionState) (k : Log) (i j : Option Images) (t u : LinkTelling) (x y : World) (number : after.client.number ≡ before.client.number) (folder : after.folder ≡ before.folder) (end : SyncEnd)
-    (goes : Goes before.client.number (is_some route.surrogate) route.image (SyncEnds before.client.number route before.client.log end after.client.log k) before.client.log after.client.log k i j no_runner no_runner t.troubles u.troubles x y) (runner : RunnerTelling) where
+module _ (route : Route) (before after : SessionState) (k : Log) (i j : Option Images) (t u : LinkTelling) (number : after.client.number ≡ before.client.number) (folder : after.folder ≡ before.folder) (end : SyncEnd)
+    (goes : Goes before.client.number (is_some route.surrogate) route.image (SyncEnds before.client.number route before.client.log end after.client.log k) before.client.log after.client.log k i j no_runner no_runner t u) (runner : RunnerTelling) where
   abbrev Did : Result (Option LineAnswer) KeepError → Type 0
-  Did r = (kept : Log) × Does (is_some route.surrogate) route.image (LineEnds route before (Ok Sync) r after kept) before after kept i j (beside t runner) (beside u runner) x y
+  Did r = (kept : Log) × Does (is_some route.surrogate) route.image (LineEnds route before (Ok Sync) r after kept) before after kept i j (beside t runner) (beside u runner)
 
   sync_as : (r : Result (Option LineAnswer) KeepError) → ((trace : Trace) → SyncEnds before.client.number route before.client.log end after.client.log k trace → LineEnds route before (Ok Sync) r after k trace) → Did r
   sync_as r to = (
     k,
     record {
       number = number;
-      goes = goes_as route.image before.client.number (is_some route.surrogate) (SyncEnds before.client.number route before.client.log end after.client.log k) (LineEnds route before (Ok Sync) r after k) before.client.log after.client.log k i j runner runner t.troubles u.troubles x y
-          (goes_beside route.image before.client.number (is_some route.surrogate) (SyncEnds before.client.number route before.client.log end after.client.log k) before.client.log after.client.log k i j t.troubles u.troubles x y goes runner) to;
+      goes = goes_as route.image before.client.number (is_some route.surrogate) (SyncEnds before.client.number route before.client.log end after.client.log k) (LineEnds route before (Ok Sync) r after k) before.client.log after.client.log k i j runner runner t u
+          (goes_beside route.image before.client.number (is_some route.surrogate) (SyncEnds before.client.number route before.client.log end after.client.log k) before.client.log after.client.log k i j t u goes runner) to;
     },
   )
 
@@ -315,10 +307,7 @@ pub sync_went : (route : Route) (before after : SessionState) (i j : Option Imag
     (fault : Bool) (told : Option LineAnswer) (r : Result (Option LineAnswer) KeepError) → told ≡ sync_answer end → r ≡ answer_or_fault fault told
     → Went before.client.number (is_some route.surrogate) route.image (SyncEnds before.client.number route before.client.log end after.client.log) before.client.log after.client.log i j t u
     → (runner : RunnerTelling) → WentDoing route (LineEnds route before (Ok Sync) r after) before after i j (beside t runner) (beside u runner)
-sync_went route before after i j t u number folder end fault told r shown is went runner =
-    told_as t.world u.world (λ x y. (kept : Log) × Goes before.client.number (is_some route.surrogate) route.image (SyncEnds before.client.number route before.client.log end after.client.log kept) before.client.log after.client.log kept i j no_runner no_runner t.troubles u.troubles x y)
-    (λ x y. (kept : Log) × Does (is_some route.surrogate) route.image (LineEnds route before (Ok Sync) r after kept) before after kept i j (beside t runner) (beside u runner) x y) went
-    (λ x y did. sync_given route before after did.0 i j t u x y number folder end did.1 runner fault told r shown is)
+sync_went route before after i j t u number folder end fault told r shown is went runner = sync_given route before after went.0 i j t u number folder end went.1 runner fault told r shown is
 
 pub sync_cause : (route : Route) (before after : SessionState) (t u : LinkTelling) (p q : ℕ) (number : after.client.number ≡ before.client.number) (folder : after.folder ≡ before.folder)
     → AcknowledgesSome before.client.log after.client.log → (end : SyncEnd) (fault : Bool) (told : Option LineAnswer) (r : Result (Option LineAnswer) KeepError) → told ≡ sync_answer end → fault ≡ is_sync_fault end
@@ -375,18 +364,18 @@ broken_unsaid pulls.Unanswered is = absurd (cc)
 broken_unsaid pulls.KeepFault is = refl
 broken_unsaid pulls.Memory is = refl
 
-module _ (route : Route) (before after : SessionState) (k : Log) (i j : Option Images) (t u : LinkTelling) (x y : World) (number : after.client.number ≡ before.client.number) (folder : after.folder ≡ before.folder) (end : PullEnd)
-    (goes : Goes before.client.number (is_some route.surrogate) route.image (PullEnds before.client.number route before.client.log end after.client.log k) before.client.log after.client.log k i j no_runner no_runner t.troubles u.troubles x y) (runner : RunnerTelling) where
+module _ (route : Route) (before after : SessionState) (k : Log) (i j : Option Images) (t u : LinkTelling) (number : after.client.number ≡ before.client.number) (folder : after.folder ≡ before.folder) (end : PullEnd)
+    (goes : Goes before.client.number (is_some route.surrogate) route.image (PullEnds before.client.number route before.client.log end after.client.log k) before.client.log after.client.log k i j no_runner no_runner t u) (runner : RunnerTelling) where
   abbrev Pulls_so : Result (Option LineAnswer) KeepError → Type 0
-  Pulls_so r = (kept : Log) × Does (is_some route.surrogate) route.image (LineEnds route before (Ok Pull) r after kept) before after kept i j (beside t runner) (beside u runner) x y
+  Pulls_so r = (kept : Log) × Does (is_some route.surrogate) route.image (LineEnds route before (Ok Pull) r after kept) before after kept i j (beside t runner) (beside u runner)
 
   pull_as : (r : Result (Option LineAnswer) KeepError) → ((trace : Trace) → PullEnds before.client.number route before.client.log end after.client.log k trace → LineEnds route before (Ok Pull) r after k trace) → Pulls_so r
   pull_as r to = (
     k,
     record {
       number = number;
-      goes = goes_as route.image before.client.number (is_some route.surrogate) (PullEnds before.client.number route before.client.log end after.client.log k) (LineEnds route before (Ok Pull) r after k) before.client.log after.client.log k i j runner runner t.troubles u.troubles x y
-          (goes_beside route.image before.client.number (is_some route.surrogate) (PullEnds before.client.number route before.client.log end after.client.log k) before.client.log after.client.log k i j t.troubles u.troubles x y goes runner) to;
+      goes = goes_as route.image before.client.number (is_some route.surrogate) (PullEnds before.client.number route before.client.log end after.client.log k) (LineEnds route before (Ok Pull) r after k) before.client.log after.client.log k i j runner runner t u
+          (goes_beside route.image before.client.number (is_some route.surrogate) (PullEnds before.client.number route before.client.log end after.client.log k) before.client.log after.client.log k i j t u goes runner) to;
     },
   )
 
@@ -411,10 +400,7 @@ pub pull_went : (route : Route) (before after : SessionState) (i j : Option Imag
     (fault : Bool) (told : Option LineAnswer) (r : Result (Option LineAnswer) KeepError) → told ≡ pull_answer end → r ≡ answer_or_fault fault told
     → Went before.client.number (is_some route.surrogate) route.image (PullEnds before.client.number route before.client.log end after.client.log) before.client.log after.client.log i j t u
     → (runner : RunnerTelling) → WentDoing route (LineEnds route before (Ok Pull) r after) before after i j (beside t runner) (beside u runner)
-pull_went route before after i j t u number folder end fault told r shown is went runner =
-    told_as t.world u.world (λ x y. (kept : Log) × Goes before.client.number (is_some route.surrogate) route.image (PullEnds before.client.number route before.client.log end after.client.log kept) before.client.log after.client.log kept i j no_runner no_runner t.troubles u.troubles x y)
-    (λ x y. (kept : Log) × Does (is_some route.surrogate) route.image (LineEnds route before (Ok Pull) r after kept) before after kept i j (beside t runner) (beside u runner) x y) went
-    (λ x y did. pull_given route before after did.0 i j t u x y number folder end did.1 runner fault told r shown is)
+pull_went route before after i j t u number folder end fault told r shown is went runner = pull_given route before after went.0 i j t u number folder end went.1 runner fault told r shown is
 
 pub pull_cause : (route : Route) (before after : SessionState) (t u : LinkTelling) (p q : ℕ) (number : after.client.number ≡ before.client.number) (folder : after.folder ≡ before.folder)
     → (end : PullEnd) (fault : Bool) (told : Option LineAnswer) (r : Result (Option LineAnswer) KeepError) → told ≡ pull_answer end → fault ≡ is_pull_fault end

@@ -1,10 +1,9 @@
--- What a line does: its turn, and with it the client, what is kept of it and the world.
+-- What a line does: its turn, and with it the client and what is kept of it, and the world where that is told.
 use Rattle.std.specs.Prelude.{◌≡◌, ℕ, Bool, List, Option, is_some, Result, Ok, Err}
 use Rattle.outside.specs.Keeper.{Images}
 use Rattle.outside.specs.declared.errors.KeepError.{KeepError}
 use Rattle.mod_log.specs.Log.{Log}
-use Rattle.world_rules.specs.World.{World}
-use Rattle.world_rules.specs.Telling.{LinkTelling, ToldWorlds}
+use Rattle.world_rules.specs.Telling.{LinkTelling}
 use Rattle.client_core.specs.declared.route.Route.{Route}
 use Rattle.client_core.specs.Trace.{Trace}
 use Rattle.cmd_capture.specs.Runs.{RunnerTelling}
@@ -23,16 +22,17 @@ abbrev pub beside : LinkTelling → RunnerTelling → Telling
 beside link runner = record { link = link; runner = runner }
 
 -- Between two moments a session did what these turns say: it is the same client's, and this client, what is kept of it under the
--- name, what the runner tells and the world went on together. Where it ships nothing but stores, `ships` is false.
-pub record Does (ships : Bool) (name : List ℕ) (turns : Trace → Type 0) (before after : SessionState) (kept : Log) (images images_now : Option Images) (told now : Telling) (old new : World) : Type 0 where
+-- name and what the runner tells went on together, over any link, and with them the world where the link tells it. Where it ships
+-- nothing but stores, `ships` is false.
+pub record Does (ships : Bool) (name : List ℕ) (turns : Trace → Type 0) (before after : SessionState) (kept : Log) (images images_now : Option Images) (told now : Telling) : Type 0 where
   pub number : after.client.number ≡ before.client.number
-  pub goes : Goes before.client.number ships name turns before.client.log after.client.log kept images images_now told.runner now.runner told.link.troubles now.link.troubles old new
+  pub goes : Goes before.client.number ships name turns before.client.log after.client.log kept images images_now told.runner now.runner told.link now.link
 
--- Over a link that tells its world, a session did what these turns of what is kept at the end say, under the image of its route. It
--- ships operations only where the route has a surrogate.
+-- Over any link, a session did what these turns of what is kept at the end say, under the image of its route. It ships operations only
+-- where the route has a surrogate.
 abbrev pub WentDoing : Route → (Log → Trace → Type 0) → SessionState → SessionState → Option Images → Option Images → Telling → Telling → Type 0
 WentDoing route turns before after images images_now old new =
-    ToldWorlds old.link new.link (λ v w. (kept : Log) × Does (is_some route.surrogate) route.image (turns kept) before after kept images images_now old new v w)
+    (kept : Log) × Does (is_some route.surrogate) route.image (turns kept) before after kept images images_now old new
 
 -- a line that was answered and after which the log is kept, or one that was broken off
 abbrev pub LineEnds : Route → SessionState → Result Line LineError → Result (Option LineAnswer) KeepError → SessionState → Log → Trace → Type 0

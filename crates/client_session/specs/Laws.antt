@@ -1,5 +1,5 @@
 -- What holds of every session.
-use Rattle.std.specs.Prelude.{◌≡◌, ◌⊎◌, ◌+◌, ◌≤◌, length, List, [], ◌∷◌, map, Option, Some, Result}
+use Rattle.std.specs.Prelude.{◌≡◌, ◌⊎◌, ◌+◌, ◌*◌, ◌≤◌, length, List, [], ◌∷◌, map, Option, Some, Result}
 use Rattle.std.specs.List.{count_by}
 use Rattle.tree_values.specs.Lists.{IsIn}
 use Rattle.tree_values.specs.Tree.{Volume}
@@ -7,6 +7,7 @@ use Rattle.mod_log.specs.declared.log.Entry.{Entry}
 use Rattle.mod_log.specs.Log.{Log, logged, pulled}
 use Rattle.world_rules.specs.declared.asking.Ask.{Ask}
 use Rattle.world_rules.specs.declared.asking.Peer.TheVariants.{Server, Surrogate}
+use Rattle.world_rules.specs.Settling.{failed_asks}
 use Rattle.client_core.specs.declared.route.Route.{Route}
 use Rattle.client_core.specs.Trace.{Trace}
 use Rattle.client_core.specs.Syncing.{acknowledged_first}
@@ -14,7 +15,7 @@ use Rattle.shell_lang.specs.declared.line.Line.{Line}
 use Rattle.shell_lang.specs.declared.line.LineError.{LineError}
 use Rattle.shell_lang.specs.declared.answer.LineAnswer.{LineAnswer}
 use Rattle.client_session.specs.Causes.{asks_to_run}
-use Rattle.client_session.specs.Session.{SessionState, Chain, BreaksChain, is_unrun}
+use Rattle.client_session.specs.Session.{SessionState, Chain, BreaksChain, is_unrun, is_unanswered_sync}
 
 -- one entry with the next number is logged, the first pending one is acknowledged, or the base is replaced by a pull
 abbrev pub IsChange : Log → Log → Type 0
@@ -41,6 +42,11 @@ AsksAndRunsMakeSessions = (route : Route) (before : SessionState) (lines : List 
 abbrev pub UnrunLinesAreCounted : Type 0
 UnrunLinesAreCounted = (route : Route) (before : SessionState) (lines : List (Result Line LineError)) (answers : List (Option LineAnswer)) (after : SessionState) (trace : Trace)
     → Chain route before lines answers after trace → count_by is_unrun answers ≡ trace.missed
+
+-- Each sync that is answered `unanswered` cost eight asks that failed.
+abbrev pub UnansweredSyncsCostAsks : Type 0
+UnansweredSyncsCostAsks = (route : Route) (before : SessionState) (lines : List (Result Line LineError)) (answers : List (Option LineAnswer)) (after : SessionState) (trace : Trace)
+    → Chain route before lines answers after trace → 8 * count_by is_unanswered_sync answers ≤ failed_asks trace.asks
 
 -- Each run, failed ones too, is of a line `run`, and no line has two.
 abbrev pub LinesRunOnce : Type 0

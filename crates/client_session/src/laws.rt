@@ -1,6 +1,6 @@
 // Laws of sessions.
 ghost use Rattle.client_session.specs.Laws.{SessionsChangeSo, AsksAndRunsMakeSessions, UnrunLinesAreCounted};
-ghost use Rattle.client_session.specs.Laws.{LinesRunOnce, AsksAreOfTheRoute, BrokenSessionsAskTheRoute};
+ghost use Rattle.client_session.specs.Laws.{LinesRunOnce, AsksAreOfTheRoute, BrokenSessionsAskTheRoute, UnansweredSyncsCostAsks};
 ghost use Rattle.client_session.specs.Contents.{DistinctContentsDoNotCollide, BrokenSessionsDoNotCollide};
 
 /// Law: what a session changes of the log are entries that it logs, acknowledgements of the first pending one and pulls, one
@@ -19,6 +19,11 @@ pub fn asks_and_runs_make_sessions()
 pub fn unrun_lines_are_counted()
     ensures unrun { UnrunLinesAreCounted }
     ensures once { LinesRunOnce }
+{}
+
+/// Law: each sync that is answered `unanswered` cost eight asks that failed.
+pub fn unanswered_syncs_cost_asks()
+    ensures { UnansweredSyncsCostAsks }
 {}
 
 /// Law: where no two contents, one of a session and one of the packets, have one print, no content that the client ships as an

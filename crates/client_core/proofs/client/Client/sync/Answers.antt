@@ -118,7 +118,7 @@ returns-in-Err-clause-honest g c =
     let j = g.K.Keeper.images c.loop-entry.keeper in
     let t : LinkTelling = g.L.Link.tells c.args.link.now in
     let u : LinkTelling = g.L.Link.tells c.loop-entry.link in
-    went_true client (is_some route.surrogate) route.image route before mid Memory i j t (g.L.Link.tells c.ship.new.link) (returns-in-Err-clause-world g c)
+    went_true client (is_some route.surrogate) route before mid Memory route.image i j t (g.L.Link.tells c.ship.new.link) (returns-in-Err-clause-world g c)
 
 pub returns-in-Err-clause-complete : goal.returns-in-Err-clause-complete
 returns-in-Err-clause-complete g c = λ calm sound.
@@ -130,7 +130,7 @@ returns-in-Err-clause-complete g c = λ calm sound.
     let j = g.K.Keeper.images c.loop-entry.keeper in
     let t : LinkTelling = g.L.Link.tells c.args.link.now in
     let u : LinkTelling = g.L.Link.tells c.loop-entry.link in
-    went_complete client (is_some route.surrogate) route.image route before mid Memory i j t (g.L.Link.tells c.ship.new.link) (returns-in-Err-clause-world g c) (g.K.Keeper.faults c.args.keeper.now) (g.K.Keeper.faults c.loop-entry.keeper) (returns-in-Err-clause-cause g c) calm sound
+    went_complete client (is_some route.surrogate) route before mid Memory route.image i j t (g.L.Link.tells c.ship.new.link) (returns-in-Err-clause-world g c) (g.K.Keeper.faults c.args.keeper.now) (g.K.Keeper.faults c.loop-entry.keeper) (returns-in-Err-clause-cause g c) calm sound
 
 pub returns-in-Err-clause-settled : goal.returns-in-Err-clause-settled
 returns-in-Err-clause-settled g c = λ none sound.
@@ -223,7 +223,7 @@ returns-in-Some-end_by-clause-honest g c =
     let j = g.K.Keeper.images c.loop-entry.keeper in
     let t : LinkTelling = g.L.Link.tells c.args.link.now in
     let u : LinkTelling = g.L.Link.tells c.loop-entry.link in
-    went_true client (is_some route.surrogate) route.image route before mid c.in-Some-end_by.end i j t (g.L.Link.tells c.ship.new.link) (returns-in-Some-end_by-clause-world g c)
+    went_true client (is_some route.surrogate) route before mid c.in-Some-end_by.end route.image i j t (g.L.Link.tells c.ship.new.link) (returns-in-Some-end_by-clause-world g c)
 
 pub returns-in-Some-end_by-clause-complete : goal.returns-in-Some-end_by-clause-complete
 returns-in-Some-end_by-clause-complete g c = λ calm sound.
@@ -235,7 +235,7 @@ returns-in-Some-end_by-clause-complete g c = λ calm sound.
     let j = g.K.Keeper.images c.loop-entry.keeper in
     let t : LinkTelling = g.L.Link.tells c.args.link.now in
     let u : LinkTelling = g.L.Link.tells c.loop-entry.link in
-    went_complete client (is_some route.surrogate) route.image route before mid c.in-Some-end_by.end i j t (g.L.Link.tells c.ship.new.link) (returns-in-Some-end_by-clause-world g c) (g.K.Keeper.faults c.args.keeper.now) (g.K.Keeper.faults c.loop-entry.keeper) (returns-in-Some-end_by-clause-cause g c) calm sound
+    went_complete client (is_some route.surrogate) route before mid c.in-Some-end_by.end route.image i j t (g.L.Link.tells c.ship.new.link) (returns-in-Some-end_by-clause-world g c) (g.K.Keeper.faults c.args.keeper.now) (g.K.Keeper.faults c.loop-entry.keeper) (returns-in-Some-end_by-clause-cause g c) calm sound
 
 pub returns-in-Some-end_by-clause-settled : goal.returns-in-Some-end_by-clause-settled
 returns-in-Some-end_by-clause-settled g c = λ none sound.
@@ -411,7 +411,7 @@ returns-in-Err-keep_log-clause-honest g c =
     let j = g.K.Keeper.images c.loop-entry.keeper in
     let t : LinkTelling = g.L.Link.tells c.args.link.now in
     let u : LinkTelling = g.L.Link.tells c.loop-entry.link in
-    went_true client (is_some route.surrogate) route.image route before c.acknowledge.new.self c.unkept_end.result i (g.K.Keeper.images c.keep_log.new.keeper) t (g.L.Link.tells c.ship.new.link) (returns-in-Err-keep_log-clause-world g c)
+    went_true client (is_some route.surrogate) route before c.acknowledge.new.self c.unkept_end.result route.image i (g.K.Keeper.images c.keep_log.new.keeper) t (g.L.Link.tells c.ship.new.link) (returns-in-Err-keep_log-clause-world g c)
 
 pub returns-in-Err-keep_log-clause-complete : goal.returns-in-Err-keep_log-clause-complete
 returns-in-Err-keep_log-clause-complete g c = λ calm sound.
@@ -423,7 +423,7 @@ returns-in-Err-keep_log-clause-complete g c = λ calm sound.
     let j = g.K.Keeper.images c.loop-entry.keeper in
     let t : LinkTelling = g.L.Link.tells c.args.link.now in
     let u : LinkTelling = g.L.Link.tells c.loop-entry.link in
-    went_complete client (is_some route.surrogate) route.image route before c.acknowledge.new.self c.unkept_end.result i (g.K.Keeper.images c.keep_log.new.keeper) t (g.L.Link.tells c.ship.new.link) (returns-in-Err-keep_log-clause-world g c) (g.K.Keeper.faults c.args.keeper.now) (g.K.Keeper.faults c.keep_log.new.keeper) (returns-in-Err-keep_log-clause-cause g c) calm sound
+    went_complete client (is_some route.surrogate) route before c.acknowledge.new.self c.unkept_end.result route.image i (g.K.Keeper.images c.keep_log.new.keeper) t (g.L.Link.tells c.ship.new.link) (returns-in-Err-keep_log-clause-world g c) (g.K.Keeper.faults c.args.keeper.now) (g.K.Keeper.faults c.keep_log.new.keeper) (returns-in-Err-keep_log-clause-cause g c) calm sound
 
 pub returns-in-Err-keep_log-clause-settled : goal.returns-in-Err-keep_log-clause-settled
 returns-in-Err-keep_log-clause-settled g c = λ none sound.
@@ -552,7 +552,7 @@ returns-clause-honest g c =
     let j = g.K.Keeper.images c.loop-entry.keeper in
     let t : LinkTelling = g.L.Link.tells c.args.link.now in
     let u : LinkTelling = g.L.Link.tells c.loop-entry.link in
-    went_true client (is_some route.surrogate) route.image route before mid (Synced c.acked.result) i j t u (returns-clause-world g c)
+    went_true client (is_some route.surrogate) route before mid (Synced c.acked.result) route.image i j t u (returns-clause-world g c)
 
 pub returns-clause-complete : goal.returns-clause-complete
 returns-clause-complete g c = λ calm sound.
@@ -564,7 +564,7 @@ returns-clause-complete g c = λ calm sound.
     let j = g.K.Keeper.images c.loop-entry.keeper in
     let t : LinkTelling = g.L.Link.tells c.args.link.now in
     let u : LinkTelling = g.L.Link.tells c.loop-entry.link in
-    went_complete client (is_some route.surrogate) route.image route before mid (Synced c.acked.result) i j t u (returns-clause-world g c) (g.K.Keeper.faults c.args.keeper.now) (g.K.Keeper.faults c.loop-entry.keeper) (returns-clause-cause g c) calm sound
+    went_complete client (is_some route.surrogate) route before mid (Synced c.acked.result) route.image i j t u (returns-clause-world g c) (g.K.Keeper.faults c.args.keeper.now) (g.K.Keeper.faults c.loop-entry.keeper) (returns-clause-cause g c) calm sound
 
 pub returns-clause-settled : goal.returns-clause-settled
 returns-clause-settled g c = λ none sound.
