@@ -23,14 +23,16 @@ AcknowledgesSome before after =
 
 -- an entry is still pending, and a valid reply to the first one says why
 abbrev pub RestsOnReply : Log → SyncEnd → Type 0
-RestsOnReply after end = (after.pending ≢ []) × ((reply : Message) × IsValid reply × (number_of reply ≡ after.acked + 1) × (end_by (after.acked + 1) (Some reply) ≡ Some end))
+RestsOnReply after end = (after.pending ≢ [])
+    × ((reply : Message) × IsValid reply × (number_of reply ≡ after.acked + 1) × (end_by (after.acked + 1) (Some reply) ≡ Some end))
 
 -- Synced only where nothing is pending at the end, Unanswered only where the troubles rose by eight, one for each ask of the store
 -- (`UnansweredStoresFailed`), and KeepFault only where the keeper's faults rose. Every end but Synced, KeepFault and Memory names the first
 -- pending entry.
 abbrev pub HasSyncCause : SyncEnd → Log → ℕ → ℕ → ℕ → ℕ → Type 0
 HasSyncCause (Synced number) after troubles now faults faults_now = (after.pending ≡ []) × (number ≡ after.acked)
-HasSyncCause (Unanswered number) after troubles now faults faults_now = (after.pending ≢ []) × (number ≡ after.acked + 1) × RoseBy 8 troubles now
+HasSyncCause (Unanswered number) after troubles now faults faults_now =
+    (after.pending ≢ []) × (number ≡ after.acked + 1) × RoseBy 8 troubles now
 HasSyncCause KeepFault after troubles now faults faults_now = Rose faults faults_now
 HasSyncCause Memory after troubles now faults faults_now = Unit {0}
 HasSyncCause end after troubles now faults faults_now = RestsOnReply after end
@@ -38,7 +40,8 @@ HasSyncCause end after troubles now faults faults_now = RestsOnReply after end
 -- each change acknowledges the first pending entry
 abbrev pub AcknowledgeFirsts : Log → List Log → Type 0
 AcknowledgeFirsts before [] = Unit {0}
-AcknowledgeFirsts before (change ∷ changes) = (before.pending ≢ []) × (change ≡ acknowledged_first before) × AcknowledgeFirsts change changes
+AcknowledgeFirsts before (change ∷ changes) =
+    (before.pending ≢ []) × (change ≡ acknowledged_first before) × AcknowledgeFirsts change changes
 
 -- What is kept after a sync: its log, but after one that was broken off perhaps the log before the last acknowledgement. Where
 -- nothing was acknowledged, the kept bytes are as before.
@@ -59,11 +62,14 @@ TakesRows before after = (last : ℕ) × (seen : Volume) × (count : ℕ) × IsT
 -- faults rose once the rows were taken. With Memory they may have been taken, too. With every other end but Pulled the log is as
 -- before. The three others met rows that are a tree.
 abbrev pub HasPullCause : PullEnd → Log → Log → ℕ → ℕ → ℕ → ℕ → Type 0
-HasPullCause (pulls.Pending count) before after troubles now faults faults_now = (before.pending ≢ []) × (count ≡ length before.pending) × (after ≡ before)
+HasPullCause (pulls.Pending count) before after troubles now faults faults_now =
+    (before.pending ≢ []) × (count ≡ length before.pending) × (after ≡ before)
 HasPullCause pulls.Unanswered before after troubles now faults faults_now = (before.pending ≡ []) × (after ≡ before) × RoseBy 8 troubles now
-HasPullCause pulls.KeepFault before after troubles now faults faults_now = (before.pending ≡ []) × TakesRows before after × Rose faults faults_now
+HasPullCause pulls.KeepFault before after troubles now faults faults_now =
+    (before.pending ≡ []) × TakesRows before after × Rose faults faults_now
 HasPullCause pulls.Memory before after troubles now faults faults_now = (before.pending ≡ []) × ((after ≡ before) ⊎ TakesRows before after)
-HasPullCause end before after troubles now faults faults_now = (before.pending ≡ []) × ((last : ℕ) × (seen : Volume) × IsTree seen × Meets before last seen end after)
+HasPullCause end before after troubles now faults faults_now =
+    (before.pending ≡ []) × ((last : ℕ) × (seen : Volume) × IsTree seen × Meets before last seen end after)
 
 -- nothing was changed, or the base was replaced
 abbrev pub ReplacesOnce : Log → List Log → Type 0

@@ -28,16 +28,19 @@ stand log kept world = record { log = log; kept = kept; world = world }
 
 -- In the worlds of two moments the client's log, what is kept of it and the world went on by moves that were possible, among them the
 -- asks and the logged entries of this trace.
-pub record WorldGoes (client : ℕ) (ships : Bool) (before after kept : Log) (trace : Trace) (troubles now : ℕ) (old new : World) : Type 0 where
+pub record WorldGoes (client : ℕ) (ships : Bool) (before after kept : Log) (trace : Trace) (troubles now : ℕ) (old new : World) :
+    Type 0 where
   pub runs : Runs client ships trace.entries trace.asks (kept_at before old) (stand after kept new)
   -- where the log was in step, no pull of it met another last number at the server, and none older rows where the link had no trouble
-  pub true_pulls : InStep client before old → HasNoCollision client (before.pending ++ trace.entries) new.packets → (end : PullEnd) → IsIn end trace.pulls → IsTruePull troubles now end
+  pub true_pulls : InStep client before old → HasNoCollision client (before.pending ++ trace.entries) new.packets → (end : PullEnd)
+      → IsIn end trace.pulls → IsTruePull troubles now end
 
 -- Between two moments of a link, at the first of which its log was kept under this name, a client did what these turns say. What the
 -- keeper tells is kept for the log so kept; what the runner tells went on by these runs; and the troubles of the link rose by at least
 -- the asks that failed. All this holds over any link; where the link tells its world, that went on with the log and what is kept of
 -- it. Where the client ships nothing but stores, `ships` is false.
-pub record Goes (client : ℕ) (ships : Bool) (name : List ℕ) (turns : Trace → Type 0) (before after kept : Log) (images images_now : Option Images) (runner ran : RunnerTelling) (old new : LinkTelling) : Type 0 where
+pub record Goes (client : ℕ) (ships : Bool) (name : List ℕ) (turns : Trace → Type 0) (before after kept : Log)
+    (images images_now : Option Images) (runner ran : RunnerTelling) (old new : LinkTelling) : Type 0 where
   pub trace : Trace
   pub turn : turns trace
   pub keeping : Keeping name client before after kept trace.changes images images_now
@@ -46,7 +49,8 @@ pub record Goes (client : ℕ) (ships : Bool) (name : List ℕ) (turns : Trace �
   pub told : ToldWorlds old new (WorldGoes client ships before after kept trace old.troubles new.troubles)
 
 -- Over any link, a client did what these turns of what is kept at the end say, and let nothing run.
-abbrev pub Went : ℕ → Bool → List ℕ → (Log → Trace → Type 0) → Log → Log → Option Images → Option Images → LinkTelling → LinkTelling → Type 0
+abbrev pub Went : ℕ → Bool → List ℕ → (Log → Trace → Type 0) → Log → Log → Option Images → Option Images → LinkTelling → LinkTelling
+    → Type 0
 Went client ships name turns before after images images_now old new =
     (kept : Log) × Goes client ships name (turns kept) before after kept images images_now no_runner no_runner old new
 

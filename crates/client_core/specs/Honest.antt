@@ -19,7 +19,8 @@ FromInStep client before old new claim = ToldWorlds old new (λ v w. InStep clie
 
 -- the same, where at the end no content of the client's stores is taken for another one that its operations carry
 abbrev pub FromInStepApart : ℕ → Log → LinkTelling → LinkTelling → (World → Type 0) → Type 0
-FromInStepApart client before old new claim = ToldWorlds old new (λ v w. InStep client before v → HasNoCollision client before.pending w.packets → claim w)
+FromInStepApart client before old new claim =
+    ToldWorlds old new (λ v w. InStep client before v → HasNoCollision client before.pending w.packets → claim w)
 
 -- the client's tree after its last entry that the server took
 abbrev pub taken_tree : ℕ → Log → World → Volume
@@ -32,7 +33,8 @@ IsOvertaken client log world = IsAhead world.served.volume (taken_tree client lo
 -- The server is never behind. Where an entry is refused, others have written: at the path that a stale end names, or at some.
 abbrev pub IsTrueSync : SyncEnd → ℕ → Log → World → Type 0
 IsTrueSync (Behind seq last) client after world = ⊥
-IsTrueSync (Stale seq path theirs ours) client after world = version_at (taken_tree client after world) path < version_at world.served.volume path
+IsTrueSync (Stale seq path theirs ours) client after world =
+    version_at (taken_tree client after world) path < version_at world.served.volume path
 IsTrueSync (Unfit seq index fault) client after world = IsOvertaken client after world
 IsTrueSync (Full seq index fault) client after world = IsOvertaken client after world
 IsTrueSync end client after world = Unit {0}

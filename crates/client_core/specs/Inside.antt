@@ -1,5 +1,6 @@
 -- Words that only the contracts of private functions cite.
-use Rattle.std.specs.Prelude.{◌≡◌, ◌≢◌, ◌⊎◌, ℕ, ◌<◌, nat_lt, Bool, true, false, List, [], length, Option, None, Some, is_some, IfSome, find, Result, Ok, Err}
+use Rattle.std.specs.Prelude.{◌≡◌, ◌≢◌, ◌⊎◌, ℕ, ◌<◌, nat_lt, Bool, true, false, List, [], length, Option, None, Some, is_some, IfSome, find}
+use Rattle.std.specs.Prelude.{Result, Ok, Err}
 use Rattle.std.specs.declared.alloc.AllocError.{AllocError}
 use Rattle.tree_values.specs.Tree.{Volume, version_at}
 use Rattle.tree_values.specs.declared.node.Row.{Row}
@@ -52,7 +53,8 @@ pub record AskedFor (client : ℕ) (route : Route) (entry : Entry) (Made : List 
   pub asks : List Ask
   pub made : Made asks
   pub rose : HadTroubles (failed_asks asks) old new
-  pub told : ToldWorlds old new (λ v w. (log : Log) → IsLog log → IsFirst entry log.pending → Runs client (is_some route.surrogate) [] asks (kept_at log v) (kept_at log w))
+  pub told : ToldWorlds old new (λ v w. (log : Log) → IsLog log → IsFirst entry log.pending
+      → Runs client (is_some route.surrogate) [] asks (kept_at log v) (kept_at log w))
 
 -- whether a reply says that an operation is done
 abbrev pub is_done : Option Message → Bool
@@ -72,7 +74,8 @@ TellsDone address operation old new result =
 -- the operation of an entry, where that is shorter than its store
 abbrev pub IsOperationOf : ℕ → Entry → Option Message → Type 0
 IsOperationOf client entry None =
-    (sketched : SketchEntry) → IsSketchOf entry sketched → length (frame (Operate client sketched)) < length (frame (store_of client entry)) → ⊥
+    (sketched : SketchEntry) → IsSketchOf entry sketched
+    → length (frame (Operate client sketched)) < length (frame (store_of client entry)) → ⊥
 IsOperationOf client entry (Some operation) =
     (sketched : SketchEntry) × (operation ≡ Operate client sketched) × IsSketchOf entry sketched
     × (length (frame (Operate client sketched)) < length (frame (store_of client entry)))

@@ -25,7 +25,8 @@ NoSyncIsBehind = (client : ℕ) (route : Route) (before after log : Log) (seq la
 -- The end of a sync is true of each world in which its answers stand and with which the log that it left is in step.
 abbrev pub SyncEndsAreTrue : Type 0
 SyncEndsAreTrue = (client : ℕ) (route : Route) (before after : Log) (end : SyncEnd) (trace : Trace) (world : World)
-    → SyncTurn client route before end after trace → AnswersStand world trace.asks → InStep client after world → IsTrueSync end client after world
+    → SyncTurn client route before end after trace → AnswersStand world trace.asks → InStep client after world
+    → IsTrueSync end client after world
 
 -- And a pull, whose log is in step then, never met another last number.
 abbrev pub PullsMeetTheirLast : Type 0
@@ -35,7 +36,8 @@ PullsMeetTheirLast = (client : ℕ) (route : Route) (before after : Log) (end : 
 -- A sync without trouble, in which no other client's store was taken, in which no content is taken for another, and before which the
 -- served tree was the client's after its last taken entry, ends with all entries acknowledged, or was broken off.
 abbrev pub CalmSyncsAreComplete : Type 0
-CalmSyncsAreComplete = (client : ℕ) (ships : Bool) (route : Route) (before after kept : Log) (end : SyncEnd) (trace : Trace) (troubles later : ℕ) (old new : World)
+CalmSyncsAreComplete = (client : ℕ) (ships : Bool) (route : Route) (before after kept : Log) (end : SyncEnd) (trace : Trace)
+    (troubles later : ℕ) (old new : World)
     → SyncEnds client route before end after kept trace → RoseBy (failed_asks trace.asks) troubles later
     → (went : WorldGoes client ships before after kept trace troubles later old new)
     → InStep client before old → HasNoCollision client before.pending new.packets → (Rose troubles later → ⊥)

@@ -40,8 +40,8 @@ abbrev pub SyncsAreLicensed : Type 0
 SyncsAreLicensed = (client : ℕ) (route : Route) (before after kept : Log) (end : SyncEnd) (trace : Trace) → IsLog before
     → SyncEnds client route before end after kept trace → AreLicensed client route before.pending [] trace.asks
 
--- Where an entry's operation was answered by Done, each ask of that entry in the sync is of its operation, whose frame is shorter than that of
--- its store.
+-- Where an entry's operation was answered by Done, each ask of that entry in the sync is of its operation, whose frame is shorter
+-- than that of its store.
 abbrev pub DoneEntriesCostOperations : Type 0
 DoneEntriesCostOperations = (client : ℕ) (route : Route) (before after kept : Log) (end : SyncEnd) (trace : Trace) → IsLog before
     → SyncEnds client route before end after kept trace

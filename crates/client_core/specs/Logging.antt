@@ -17,8 +17,10 @@ abbrev pub LocalTurn : Effect → Log → Result ℕ LogError → Log → Trace 
 LocalTurn effect before (Ok number) after trace =
     (appended None (effect ∷ []) before ≡ Ok after) × (number ≡ (local_entry effect before).seq)
     × (trace ≡ logging (local_entry effect before) after)
-LocalTurn effect before (Err refusal) after trace = (appended None (effect ∷ []) before ≡ Err refusal) × (after ≡ before) × (trace ≡ nothing)
+LocalTurn effect before (Err refusal) after trace =
+    (appended None (effect ∷ []) before ≡ Err refusal) × (after ≡ before) × (trace ≡ nothing)
 
 -- an effect that has its turn, or for which memory was wanted before it did anything
 abbrev pub LocalEnds : Effect → Log → Result ℕ LogError → Log → Trace → Type 0
-LocalEnds effect before result after trace = LocalTurn effect before result after trace ⊎ ((result ≡ Err Memory) × (after ≡ before) × (trace ≡ nothing))
+LocalEnds effect before result after trace =
+    LocalTurn effect before result after trace ⊎ ((result ≡ Err Memory) × (after ≡ before) × (trace ≡ nothing))

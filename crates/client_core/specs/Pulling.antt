@@ -33,8 +33,10 @@ pub record IsFirstOlder (base seen : Volume) (path : FilePath) : Type 0 where
 abbrev pub Meets : Log → ℕ → Volume → PullEnd → Log → Type 0
 Meets before last seen (OtherLast other acked) after = (last ≢ before.acked) × (other ≡ last) × (acked ≡ before.acked) × (after ≡ before)
 Meets before last seen (Older path theirs ours) after =
-    (last ≡ before.acked) × IsFirstOlder before.base seen path × (theirs ≡ version_at seen path) × (ours ≡ version_at before.base path) × (after ≡ before)
-Meets before last seen (Pulled count) after = (last ≡ before.acked) × IsNowhereOlder before.base seen × (count ≡ length seen) × (after ≡ pulled seen before)
+    (last ≡ before.acked) × IsFirstOlder before.base seen path × (theirs ≡ version_at seen path)
+    × (ours ≡ version_at before.base path) × (after ≡ before)
+Meets before last seen (Pulled count) after =
+    (last ≡ before.acked) × IsNowhereOlder before.base seen × (count ≡ length seen) × (after ≡ pulled seen before)
 Meets before last seen end after = ⊥
 
 -- how a pull ends that took so many rows, by whether its log was kept
@@ -60,15 +62,18 @@ pub record PullsSnapshot (client : ℕ) (route : Route) (before : Log) (end : Pu
 
 -- Where entries are pending, nothing is asked. Else the pull is settled with the server: eight asks failed, or a snapshot came.
 abbrev pub PullTurn : ℕ → Route → Log → PullEnd → Log → Trace → Type 0
-PullTurn client route before (Pending count) after trace = (before.pending ≢ []) × (count ≡ length before.pending) × (after ≡ before) × (trace ≡ nothing)
+PullTurn client route before (Pending count) after trace =
+    (before.pending ≢ []) × (count ≡ length before.pending) × (after ≡ before) × (trace ≡ nothing)
 PullTurn client route before Unanswered after trace =
-    (before.pending ≡ []) × ((asks : List Ask) × IsSettling Server route.server (pull_of client before) None asks × (after ≡ before) × (trace ≡ asking asks))
+    (before.pending ≡ []) × ((asks : List Ask) × IsSettling Server route.server (pull_of client before) None asks × (after ≡ before)
+    × (trace ≡ asking asks))
 PullTurn client route before end after trace = PullsSnapshot client route before end after trace
 
 -- nothing is done, or the settling is broken off
 abbrev pub BreaksAsking : ℕ → Route → Log → Log → Trace → Type 0
 BreaksAsking client route before after trace =
-    (asks : List Ask) × (before.pending ≡ []) × (after ≡ before) × BreaksSettling Server route.server (pull_of client before) asks × (trace ≡ asking asks)
+    (asks : List Ask) × (before.pending ≡ []) × (after ≡ before) × BreaksSettling Server route.server (pull_of client before) asks
+    × (trace ≡ asking asks)
 
 -- it is broken off before it changed anything, or when the base was replaced and was to be kept
 abbrev pub BreaksPull : ℕ → Route → Log → Log → Trace → Type 0
@@ -83,9 +88,11 @@ is_broken_pull end = false
 
 -- what a pull does before it keeps anything
 abbrev pub PullAsks : ℕ → Route → Log → PullEnd → Log → Trace → Type 0
-PullAsks client route before end after trace = PullTurn client route before end after trace ⊎ ((end ≡ Memory) × BreaksAsking client route before after trace)
+PullAsks client route before end after trace =
+    PullTurn client route before end after trace ⊎ ((end ≡ Memory) × BreaksAsking client route before after trace)
 
 -- a pull that ended and whose log is kept, or one that was broken off
 abbrev pub PullEnds : ℕ → Route → Log → PullEnd → Log → Log → Trace → Type 0
 PullEnds client route before end after kept trace =
-    (PullTurn client route before end after trace × (kept ≡ after)) ⊎ ((is_broken_pull end ≡ true) × BreaksPull client route before after trace)
+    (PullTurn client route before end after trace × (kept ≡ after))
+    ⊎ ((is_broken_pull end ≡ true) × BreaksPull client route before after trace)

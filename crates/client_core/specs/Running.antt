@@ -60,12 +60,15 @@ pub record IsLoggable (log : Log) (run : Run) : Type 0 where
 -- the next entry, or refused.
 abbrev pub RanEnd : Command → Log → Run → RunEnd → Log → Type 0
 RanEnd command before run (ends.OddTree i) after = IsRowsFault run.outcome.rows (rows_faults.OddTree i) × (after ≡ before)
-RanEnd command before run (ends.Nothing status) after = AreLegal run.outcome.rows × (changes_of run ≡ []) × (status ≡ run.outcome.status) × (after ≡ before)
+RanEnd command before run (ends.Nothing status) after =
+    AreLegal run.outcome.rows × (changes_of run ≡ []) × (status ≡ run.outcome.status) × (after ≡ before)
 RanEnd command before run (ends.Clash path) after =
     AreLegal run.outcome.rows × ((effect : Effect) × (first_clash before run ≡ Some effect) × (path ≡ first_path effect)) × (after ≡ before)
-RanEnd command before run (ends.Refused refusal) after = IsLoggable before run × (run_logged command run before ≡ Err refusal) × (after ≡ before)
+RanEnd command before run (ends.Refused refusal) after =
+    IsLoggable before run × (run_logged command run before ≡ Err refusal) × (after ≡ before)
 RanEnd command before run (ends.Logged seq status) after =
-    IsLoggable before run × (run_logged command run before ≡ Ok after) × (seq ≡ (run_entry command run before).seq) × (status ≡ run.outcome.status)
+    IsLoggable before run × (run_logged command run before ≡ Ok after) × (seq ≡ (run_entry command run before).seq)
+    × (status ≡ run.outcome.status)
 RanEnd command before run end after = ⊥
 
 -- the run, and behind it the entry that is logged
@@ -75,7 +78,8 @@ ran_trace command before run end after = running (run ∷ []) 0
 
 -- The command may have no job on the log's tree, or the runner fails. Else there is one run.
 abbrev pub RunTurn : List ℕ → Command → Log → RunEnd → Log → Trace → Type 0
-RunTurn work command before (ends.NoJob fault) after trace = (job_of (tree_of before) command ≡ Err fault) × (after ≡ before) × (trace ≡ nothing)
+RunTurn work command before (ends.NoJob fault) after trace =
+    (job_of (tree_of before) command ≡ Err fault) × (after ≡ before) × (trace ≡ nothing)
 RunTurn work command before ends.NotRun after trace =
     ((job : Job) × (job_of (tree_of before) command ≡ Ok job)) × (after ≡ before) × (trace ≡ running [] 1)
 RunTurn work command before end after trace =
@@ -98,7 +102,8 @@ has_logged end = false
 -- ---- over any runner
 
 -- What a command came to between two moments of a runner, which went on by just the runs of this.
-pub record RunsCommand (work : List ℕ) (command : Command) (before : Log) (end : RunEnd) (after : Log) (old new : RunnerTelling) : Type 0 where
+pub record RunsCommand (work : List ℕ) (command : Command) (before : Log) (end : RunEnd) (after : Log) (old new : RunnerTelling) :
+    Type 0 where
   pub trace : Trace
   pub turn : RunEnds work command before end after trace
   pub has_run : HasRun trace.runs trace.missed old new

@@ -119,7 +119,8 @@ EndsSync client route after end asks =
 -- some entries are acknowledged, and then the sync ends
 abbrev pub SyncTurn : ℕ → Route → Log → SyncEnd → Log → Trace → Type 0
 SyncTurn client route before end after trace =
-    (count : ℕ) × (earlier : Trace) × (last : List Ask) × Acknowledges client route count before after earlier × EndsSync client route after end last
+    (count : ℕ) × (earlier : Trace) × (last : List Ask) × Acknowledges client route count before after earlier
+    × EndsSync client route after end last
     × (trace ≡ followed earlier (asking last))
 
 -- some entries are acknowledged, and then nothing more is done, or the shipping of the next one is broken off
@@ -138,4 +139,5 @@ is_broken_sync end = false
 -- a sync that ended and whose log is kept, or one that was broken off
 abbrev pub SyncEnds : ℕ → Route → Log → SyncEnd → Log → Log → Trace → Type 0
 SyncEnds client route before end after kept trace =
-    (SyncTurn client route before end after trace × (kept ≡ after)) ⊎ ((is_broken_sync end ≡ true) × BreaksSync client route before after trace)
+    (SyncTurn client route before end after trace × (kept ≡ after))
+    ⊎ ((is_broken_sync end ≡ true) × BreaksSync client route before after trace)

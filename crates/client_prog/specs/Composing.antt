@@ -29,7 +29,8 @@ abbrev pub RunsCompose : Type 0
 RunsCompose =
     (client : ℕ) (route other_route : Route) (start : Log) (around around_now other other_now : Around) (status other_status : ℕ)
     → (first : Ran client route start around around_now status) (second : Ran client other_route first.kept other other_now other_status)
-    → ToldWorlds around.link around_now.link (λ old middle. ToldWorlds other.link other_now.link (λ begun new. InStep client start old → GoesOnAlone middle begun
+    → ToldWorlds around.link around_now.link
+    (λ old middle. ToldWorlds other.link other_now.link (λ begun new. InStep client start old → GoesOnAlone middle begun
     → HasNoCollision client (start.pending ++ (first.goes.trace.entries ++ second.goes.trace.entries)) new.packets
     → LeaveTogether client start second.after.client.log second.kept status first.goes.trace.entries second.goes.trace.entries old new))
 
@@ -39,12 +40,15 @@ StoresNeverCollide =
     (client : ℕ) (route other_route : Route) (start : Log) (around around_now other other_now : Around) (status other_status : ℕ)
     → (first : Ran client route start around around_now status) (second : Ran client other_route first.kept other other_now other_status)
     → route.surrogate ≡ None → other_route.surrogate ≡ None
-    → ToldWorlds around.link around_now.link (λ old middle. ToldWorlds other.link other_now.link (λ begun new. InStep client start old → HasNoOperation client old.packets
-    → GoesOnAlone middle begun → HasNoCollision client (start.pending ++ (first.goes.trace.entries ++ second.goes.trace.entries)) new.packets))
+    → ToldWorlds around.link around_now.link
+    (λ old middle. ToldWorlds other.link other_now.link (λ begun new. InStep client start old → HasNoOperation client old.packets
+    → GoesOnAlone middle begun → HasNoCollision client (start.pending ++ (first.goes.trace.entries ++ second.goes.trace.entries))
+    new.packets))
 
 -- Whatever a client did from a kept log on that was in step, in one run or in many, it leaves this, where no content that was sent is
 -- taken for another. For runs join, and a new beginning with what is kept ends a run, as does a world that went on without the client.
 abbrev pub MovesLeave : Type 0
-MovesLeave = (client : ℕ) (ships : Bool) (entries : List Entry) (asks : List Ask) (start log kept : Log) (old new : World) → InStep client start old
+MovesLeave =
+    (client : ℕ) (ships : Bool) (entries : List Entry) (asks : List Ask) (start log kept : Log) (old new : World) → InStep client start old
     → Runs client ships entries asks (kept_at start old) (stand log kept new)
     → HasNoCollision client (start.pending ++ entries) new.packets → Leaves client start log kept entries old new

@@ -16,11 +16,16 @@ IsSketchable pending runs content = IsOfEntries pending content ⊎ IsOfRuns run
 
 -- Where no such content has the print of another one among the packets of the world that is told, none that was sent is taken for another.
 abbrev pub DistinctContentsNeverCollide : Type 0
-DistinctContentsNeverCollide = (client : ℕ) (route : Route) (start : Log) (around around_now : Around) (status : ℕ) → (ran : Ran client route start around around_now status)
-    → ToldWorlds around.link around_now.link (λ old new. Distinct (IsSketchable start.pending ran.goes.trace.runs) (IsOfPackets new.packets) → HasNoCollision client (start.pending ++ ran.goes.trace.entries) new.packets)
+DistinctContentsNeverCollide = (client : ℕ) (route : Route) (start : Log) (around around_now : Around) (status : ℕ)
+    → (ran : Ran client route start around around_now status)
+    → ToldWorlds around.link around_now.link
+    (λ old new. Distinct (IsSketchable start.pending ran.goes.trace.runs) (IsOfPackets new.packets)
+    → HasNoCollision client (start.pending ++ ran.goes.trace.entries) new.packets)
 
 -- So a run that began in step leaves what it is to leave.
 abbrev pub DistinctContentsLeave : Type 0
-DistinctContentsLeave = (client : ℕ) (route : Route) (start : Log) (around around_now : Around) (status : ℕ) → (ran : Ran client route start around around_now status)
-    → ToldWorlds around.link around_now.link (λ old new. InStep client start old → Distinct (IsSketchable start.pending ran.goes.trace.runs) (IsOfPackets new.packets)
+DistinctContentsLeave = (client : ℕ) (route : Route) (start : Log) (around around_now : Around) (status : ℕ)
+    → (ran : Ran client route start around around_now status)
+    → ToldWorlds around.link around_now.link
+    (λ old new. InStep client start old → Distinct (IsSketchable start.pending ran.goes.trace.runs) (IsOfPackets new.packets)
     → Leaves client start ran.after.client.log ran.kept ran.goes.trace.entries old new)

@@ -49,12 +49,15 @@ pub record Leaves (client : ℕ) (start log kept : Log) (entries : List Entry) (
   -- what is pending in memory are the entries after the acknowledged one, of those that were pending and those that were logged
   pub pending : log.pending ≡ drop (log.acked - start.acked) (start.pending ++ entries)
   -- of the client's entries the server took those after the last that it had, up to that one, in order and each once
-  pub once : own client taken ≡ entries_between client start.acked (last_taken client old) (last_taken client new) (start.pending ++ entries)
+  pub once : own client taken ≡ entries_between client start.acked (last_taken client old) (last_taken client new)
+      (start.pending ++ entries)
   -- at each path whose version was that of the client's tree when the run began, and that no other client wrote in it, the server
   -- holds what the kept tree was after that entry: the node, and the version, which counts the writes
-  pub spared : (path : FilePath) → version_at old.served.volume path ≡ version_at (tree_at (last_taken client old) start) path → OthersSpare client path taken → IsSameAt client kept new path
+  pub spared : (path : FilePath) → version_at old.served.volume path ≡ version_at (tree_at (last_taken client old) start) path
+      → OthersSpare client path taken → IsSameAt client kept new path
   -- where nobody else wrote, the server holds that tree
-  pub alone : old.served.volume ≡ tree_at (last_taken client old) start → AreAllOf client taken → new.served.volume ≡ tree_at (last_taken client new) kept
+  pub alone : old.served.volume ≡ tree_at (last_taken client old) start → AreAllOf client taken
+      → new.served.volume ≡ tree_at (last_taken client new) kept
 
 -- what the objects that a run is given tell at one moment: the bytes that are left of the input, the text of the output, what is
 -- kept under each name, the runner's runs and faults, and what the link tells of itself
@@ -67,24 +70,31 @@ pub record Around : Type 0 where
 
 -- What a run is in the worlds of its two moments, where the client's log was `start` and at the end is `last`, and `kept` is kept: what the
 -- world notes of it, and what it leaves and answers where `start` was in step.
-pub record WorldRan (client : ℕ) (route : Route) (start last kept : Log) (trace : Trace) (answers : List (Option LineAnswer)) (troubles now : ℕ) (old new : World) : Type 0 where
+pub record WorldRan (client : ℕ) (route : Route) (start last kept : Log) (trace : Trace) (answers : List (Option LineAnswer))
+    (troubles now : ℕ) (old new : World) : Type 0 where
   -- the world notes just the asks of the session
   pub asked : new.asks ≡ old.asks ++ trace.asks
   -- where it has no surrogate it sends no operation: each of its operations among the packets was there before
-  pub unoperated : route.surrogate ≡ None → InStep client start old → (sketched : SketchEntry) → IsIn (Operate client sketched) new.packets → IsIn (Operate client sketched) old.packets
+  pub unoperated : route.surrogate ≡ None → InStep client start old → (sketched : SketchEntry)
+      → IsIn (Operate client sketched) new.packets → IsIn (Operate client sketched) old.packets
   -- so where none was there before, no content that was sent is taken for another
-  pub apart : route.surrogate ≡ None → InStep client start old → HasNoOperation client old.packets → HasNoCollision client (start.pending ++ trace.entries) new.packets
+  pub apart : route.surrogate ≡ None → InStep client start old → HasNoOperation client old.packets
+      → HasNoCollision client (start.pending ++ trace.entries) new.packets
   -- what it leaves where no content that was sent is taken for another
-  pub leaves : InStep client start old → HasNoCollision client (start.pending ++ trace.entries) new.packets → Leaves client start last kept trace.entries old new
+  pub leaves : InStep client start old → HasNoCollision client (start.pending ++ trace.entries) new.packets
+      → Leaves client start last kept trace.entries old new
   -- to a client whose log was in step the server is never behind
-  pub honest : InStep client start old → HasNoCollision client (start.pending ++ trace.entries) new.packets → (seq last : ℕ) → IsIn (Some (Behind seq last)) answers → ⊥
+  pub honest : InStep client start old → HasNoCollision client (start.pending ++ trace.entries) new.packets → (seq last : ℕ)
+      → IsIn (Some (Behind seq last)) answers → ⊥
   -- no pull of it meets another last number there
-  pub same_last : InStep client start old → HasNoCollision client (start.pending ++ trace.entries) new.packets → (last : ℕ) → IsIn (Some (OtherLast last)) answers → ⊥
+  pub same_last : InStep client start old → HasNoCollision client (start.pending ++ trace.entries) new.packets → (last : ℕ)
+      → IsIn (Some (OtherLast last)) answers → ⊥
   -- and none meets older rows, where the link had no trouble
   pub fresh : InStep client start old → HasNoCollision client (start.pending ++ trace.entries) new.packets → (Rose troubles now → ⊥)
       → (path : FilePath) (theirs ours : ℕ) → IsIn (Some (Older path theirs ours)) answers → ⊥
   -- where the client's tree was served, nobody else wrote, and the link had no trouble, every sync came through
-  pub calm : (begun : InStep client start old) (distinct : HasNoCollision client (start.pending ++ trace.entries) new.packets) → old.served.volume ≡ tree_at (last_taken client old) start → AreAllOf client (leaves begun distinct).taken
+  pub calm : (begun : InStep client start old) (distinct : HasNoCollision client (start.pending ++ trace.entries) new.packets)
+      → old.served.volume ≡ tree_at (last_taken client old) start → AreAllOf client (leaves begun distinct).taken
       → (Rose troubles now → ⊥) → (answer : Option LineAnswer) → IsIn answer answers → LeavesPending answer → ⊥
 
 -- A run where this log was kept at the start, over any link: one session over the lines that were handled, in which the client, what is
@@ -98,7 +108,8 @@ pub record Ran (client : ℕ) (route : Route) (start : Log) (around around_now :
   pub after : SessionState
   -- what is kept at the end: the keeper's bytes are kept for it, and are as before where nothing was changed
   pub kept : Log
-  pub goes : Goes client (is_some route.surrogate) route.image (WholeRun route (opened client start) around.left around_now.left answers around.written around_now.written ended after kept)
+  pub goes : Goes client (is_some route.surrogate) route.image
+      (WholeRun route (opened client start) around.left around_now.left answers around.written around_now.written ended after kept)
       start after.client.log kept around.images around_now.images around.runner around_now.runner around.link around_now.link
   -- it is the client's log after the last change, but where a keeping was refused or memory ran out, perhaps the one before that change
   pub kept_last : status ≢ 5 → status ≢ 7 → kept ≡ last_log start goes.trace.changes
@@ -113,4 +124,5 @@ pub record Ran (client : ℕ) (route : Route) (start : Log) (around around_now :
   -- each ask of the session is of the server at its address, or of the surrogate at its address, where there is one
   pub peers : (ask : Ask) → IsIn ask goes.trace.asks → IsOfRoute route ask
   -- what it is in the world, where the link tells that
-  pub told : ToldWorlds around.link around_now.link (WorldRan client route start after.client.log kept goes.trace answers around.link.troubles around_now.link.troubles)
+  pub told : ToldWorlds around.link around_now.link
+      (WorldRan client route start after.client.log kept goes.trace answers around.link.troubles around_now.link.troubles)

@@ -20,25 +20,34 @@ use Rattle.client_prog.specs.Run.{HasLines, StopsIn, WholeRun, asked_for, has_qu
 -- where no pull replaced the base, the changes were kept record by record
 abbrev pub NotesChanges : List ℕ → Client → Client → Option Images → Option Images → Trace → Type 0
 NotesChanges name before after images now trace =
-    ReplacesNone trace → Told images now (λ old new. (notes : List ClientRecord) × (trace.changes ≡ logs_behind before.log notes) × KeepsRecords name before after notes old new)
+    ReplacesNone trace → Told images now (λ old new. (notes : List ClientRecord) × (trace.changes ≡ logs_behind before.log notes)
+    × KeepsRecords name before after notes old new)
 
 -- a session did what these turns say, and where it was not stopped, its changes were so kept
-abbrev pub WentNoting : {T E : Type 0} → Route → Result T E → (Log → Trace → Type 0) → Sitting → Sitting → Option Images → Option Images → Telling → Telling → Type 0
+abbrev pub WentNoting : {T E : Type 0} → Route → Result T E → (Log → Trace → Type 0) → Sitting → Sitting → Option Images
+    → Option Images → Telling → Telling → Type 0
 WentNoting route result turns before after images now told later =
-    WentDoing route (λ kept trace. turns kept trace × IfOk result (λ done. NotesChanges route.image before.client after.client images now trace)) (state_of before) (state_of after) images now told later
+    WentDoing route (λ kept trace. turns kept trace
+    × IfOk result (λ done. NotesChanges route.image before.client after.client images now trace)) (state_of before)
+    (state_of after) images now told later
 
 -- the lines were answered, one after the other
 abbrev pub AllAnswered : Route → SessionState → List (List ℕ) → Option (List ℕ) → Option (List ℕ) → SessionState → Trace → Type 0
 AllAnswered route before lines old new after trace =
-    (answers : List (Option LineAnswer)) × (text : List ℕ) × Chain route before (asked_for lines) answers after trace × AreTexts answers text × Adds old new text
+    (answers : List (Option LineAnswer)) × (text : List ℕ) × Chain route before (asked_for lines) answers after trace
+    × AreTexts answers text × Adds old new text
 
 -- a front of them was answered
-abbrev pub FrontAnswered : Stop → Route → SessionState → List (List ℕ) → Option (List ℕ) → Option (List ℕ) → SessionState → Log → Trace → Type 0
-FrontAnswered stop route before lines old new after kept trace = (answers : List (Option LineAnswer)) × StopsIn stop route before lines answers old new after kept trace
+abbrev pub FrontAnswered : Stop → Route → SessionState → List (List ℕ) → Option (List ℕ) → Option (List ℕ) → SessionState → Log
+    → Trace → Type 0
+FrontAnswered stop route before lines old new after kept trace =
+    (answers : List (Option LineAnswer)) × StopsIn stop route before lines answers old new after kept trace
 
 -- all lines were answered, and the client is kept; or a front of them was
-abbrev pub AnswersLines : {T : Type 0} → Route → SessionState → List (List ℕ) → Option (List ℕ) → Option (List ℕ) → Result T Stop → SessionState → Log → Trace → Type 0
-AnswersLines route before lines old new (Ok done) after kept trace = AllAnswered route before lines old new after trace × (kept ≡ after.client.log)
+abbrev pub AnswersLines : {T : Type 0} → Route → SessionState → List (List ℕ) → Option (List ℕ) → Option (List ℕ) → Result T Stop
+    → SessionState → Log → Trace → Type 0
+AnswersLines route before lines old new (Ok done) after kept trace =
+    AllAnswered route before lines old new after trace × (kept ≡ after.client.log)
 AnswersLines route before lines old new (Err stop) after kept trace = FrontAnswered stop route before lines old new after kept trace
 
 -- the lines in front of the bytes that are left, of which none quits
@@ -62,7 +71,8 @@ pub record ReadsSoFar (left rest : Option (List ℕ)) (reading : Reading) (behin
   pub no_quit : has_quit behind ≡ false
 
 -- they were answered
-abbrev pub AnswersSoFar : Route → SessionState → Option (List ℕ) → Option (List ℕ) → Reading → Option (List ℕ) → Option (List ℕ) → SessionState → Trace → Type 0
+abbrev pub AnswersSoFar : Route → SessionState → Option (List ℕ) → Option (List ℕ) → Reading → Option (List ℕ) → Option (List ℕ)
+    → SessionState → Trace → Type 0
 AnswersSoFar route before left rest reading old new after trace =
     (behind : List (List ℕ)) × ReadsSoFar left rest reading behind × AllAnswered route before behind old new after trace
 
@@ -72,12 +82,17 @@ TakesInput left rest (Ok ended) = (lines : List (List ℕ)) × HasLines left res
 TakesInput left rest (Err stop) = (lines : List (List ℕ)) × (ended : InputEnd) × HasLines left rest lines ended
 
 -- all lines that count of an input were answered, and the client is kept; or a front of them was
-abbrev pub AnswersInput : Route → SessionState → Option (List ℕ) → Option (List ℕ) → Option (List ℕ) → Option (List ℕ) → Result InputEnd Stop → SessionState → Log → Trace → Type 0
+abbrev pub AnswersInput : Route → SessionState → Option (List ℕ) → Option (List ℕ) → Option (List ℕ) → Option (List ℕ)
+    → Result InputEnd Stop → SessionState → Log → Trace → Type 0
 AnswersInput route before left rest old new (Ok ended) after kept trace =
-    (lines : List (List ℕ)) × HasLines left rest lines ended × AllAnswered route before lines old new after trace × (kept ≡ after.client.log)
+    (lines : List (List ℕ)) × HasLines left rest lines ended × AllAnswered route before lines old new after trace
+    × (kept ≡ after.client.log)
 AnswersInput route before left rest old new (Err stop) after kept trace =
-    (lines : List (List ℕ)) × (ended : InputEnd) × HasLines left rest lines ended × FrontAnswered stop route before lines old new after kept trace
+    (lines : List (List ℕ)) × (ended : InputEnd) × HasLines left rest lines ended
+    × FrontAnswered stop route before lines old new after kept trace
 
 -- a run, whatever was answered
-abbrev pub RunAnswers : Route → SessionState → Option (List ℕ) → Option (List ℕ) → Option (List ℕ) → Option (List ℕ) → Result InputEnd Stop → SessionState → Log → Trace → Type 0
-RunAnswers route before left rest old new ended after kept trace = (answers : List (Option LineAnswer)) × WholeRun route before left rest answers old new ended after kept trace
+abbrev pub RunAnswers : Route → SessionState → Option (List ℕ) → Option (List ℕ) → Option (List ℕ) → Option (List ℕ)
+    → Result InputEnd Stop → SessionState → Log → Trace → Type 0
+RunAnswers route before left rest old new ended after kept trace =
+    (answers : List (Option LineAnswer)) × WholeRun route before left rest answers old new ended after kept trace

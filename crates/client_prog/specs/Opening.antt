@@ -23,7 +23,8 @@ status_unopened Memory = 7
 -- keeper is asked.
 abbrev pub OpensBytes : ℕ → List ℕ → Result Client Unopened → Type 0
 OpensBytes number bytes (Ok client) =
-    (client.number ≡ number) × (client.journal ≡ None) × Keeps (Some bytes) number client.log × ((start : Log) → Keeps (Some bytes) number start → client.log ≡ start)
+    (client.number ≡ number) × (client.journal ≡ None) × Keeps (Some bytes) number client.log
+    × ((start : Log) → Keeps (Some bytes) number start → client.log ≡ start)
 OpensBytes number bytes (Err Image) = (start : Log) → Keeps (Some bytes) number start → ⊥
 OpensBytes number bytes (Err Memory) = Unit {0}
 OpensBytes number bytes (Err Keeper) = ⊥

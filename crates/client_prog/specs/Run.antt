@@ -1,5 +1,6 @@
 -- A run of the client: how it ends, which lines of its input it handles, and what it writes.
-use Rattle.std.specs.Prelude.{◌≡◌, ◌==◌, ◌≢◌, ◌⊎◌, ◌↔◌, ℕ, ◌+◌, ◌≤◌, Bool, true, false, List, [], ◌∷◌, ◌++◌, length, take, map, Option, Result, Ok, Err, if◌then◌else◌}
+use Rattle.std.specs.Prelude.{◌≡◌, ◌==◌, ◌≢◌, ◌⊎◌, ◌↔◌, ℕ, ◌+◌, ◌≤◌, Bool, true, false, List, [], ◌∷◌, ◌++◌, length, take, map, Option}
+use Rattle.std.specs.Prelude.{Result, Ok, Err, if◌then◌else◌}
 use Rattle.std.specs.List.{list_any}
 use Rattle.outside.specs.Outside.{Adds, Takes}
 use Rattle.outside.specs.declared.errors.SinkError.{SinkError}
@@ -104,7 +105,8 @@ closing_at TooLong state = []
 
 -- Each line was handled, one after the other, and the client is kept.
 abbrev pub HandlesAll : Route → SessionState → List (List ℕ) → List (Option LineAnswer) → SessionState → Log → Trace → Type 0
-HandlesAll route before lines answers after kept trace = Chain route before (asked_for lines) answers after trace × (kept ≡ after.client.log)
+HandlesAll route before lines answers after kept trace =
+    Chain route before (asked_for lines) answers after trace × (kept ≡ after.client.log)
 
 -- The lines were handled; want of memory or a refused keeping may have broken off the last one.
 abbrev pub Handles : Stop → Route → SessionState → List (List ℕ) → List (Option LineAnswer) → SessionState → Log → Trace → Type 0
@@ -118,26 +120,31 @@ WritesFront Keeper text old new = Adds old new text
 WritesFront stop text old new = (count : ℕ) × Adds old new (take count text)
 
 -- A front of the lines was handled, and a front of their answers' texts was written.
-abbrev pub StopsIn : Stop → Route → SessionState → List (List ℕ) → List (Option LineAnswer) → Option (List ℕ) → Option (List ℕ) → SessionState → Log → Trace → Type 0
+abbrev pub StopsIn : Stop → Route → SessionState → List (List ℕ) → List (Option LineAnswer) → Option (List ℕ) → Option (List ℕ)
+    → SessionState → Log → Trace → Type 0
 StopsIn stop route before lines answers old new after kept trace =
     (handled behind : List (List ℕ)) × (text : List ℕ)
-    × (lines ≡ handled ++ behind) × Handles stop route before handled answers after kept trace × AreTexts answers text × WritesFront stop text old new
+    × (lines ≡ handled ++ behind) × Handles stop route before handled answers after kept trace × AreTexts answers text
+    × WritesFront stop text old new
 
 -- All lines were handled, their answers' texts were written, and a front of the closing line.
-abbrev pub StopsAtClosing : Stop → Route → SessionState → List (List ℕ) → List (Option LineAnswer) → Option (List ℕ) → Option (List ℕ) → SessionState → Log → Trace → Type 0
+abbrev pub StopsAtClosing : Stop → Route → SessionState → List (List ℕ) → List (Option LineAnswer) → Option (List ℕ)
+    → Option (List ℕ) → SessionState → Log → Trace → Type 0
 StopsAtClosing stop route before lines answers old new after kept trace =
     (text : List ℕ) × (count : ℕ) × (stop ≢ Keeper) × HandlesAll route before lines answers after kept trace × AreTexts answers text
     × Adds old new (text ++ take count (closing_line after))
 
 -- What a run did by how it ended. Where its input came to an end: all the lines that count were handled, the client is kept, and
 -- the texts of what was answered to each were written, and the closing line where one is due. Where it was stopped: a front of them.
-abbrev pub WholeRun : Route → SessionState → Option (List ℕ) → Option (List ℕ) → List (Option LineAnswer) → Option (List ℕ) → Option (List ℕ) → Result InputEnd Stop → SessionState → Log → Trace → Type 0
+abbrev pub WholeRun : Route → SessionState → Option (List ℕ) → Option (List ℕ) → List (Option LineAnswer) → Option (List ℕ)
+    → Option (List ℕ) → Result InputEnd Stop → SessionState → Log → Trace → Type 0
 WholeRun route before left rest answers old new (Ok ended) after kept trace =
     (lines : List (List ℕ)) × (text : List ℕ) × HasLines left rest lines ended
     × HandlesAll route before lines answers after kept trace × AreTexts answers text × Adds old new (text ++ closing_at ended after)
 WholeRun route before left rest answers old new (Err stop) after kept trace =
     (lines : List (List ℕ)) × (ended : InputEnd) × HasLines left rest lines ended
-    × (StopsIn stop route before lines answers old new after kept trace ⊎ ((ended ≡ Read) × StopsAtClosing stop route before lines answers old new after kept trace))
+    × (StopsIn stop route before lines answers old new after kept trace
+    ⊎ ((ended ≡ Read) × StopsAtClosing stop route before lines answers old new after kept trace))
 
 -- How much of a source a run with this status takes: never more than the first byte past the limit. It answers 8 exactly where it
 -- takes that byte and no whole line before it quits, but that a sink, a keeper or want of memory may stop it before; 0 only where it
@@ -146,6 +153,7 @@ pub record IsInputRead (status : ℕ) (left rest : List ℕ) : Type 0 where
   pub input : List ℕ
   pub taken : left ≡ input ++ rest
   pub most : length input ≤ MAX_INPUT + 1
-  pub past : status ≢ 4 → status ≢ 5 → status ≢ 7 → (status ≡ 8 ↔ ((length input ≡ MAX_INPUT + 1) × (has_quit (whole_lines (within_limit input)) ≡ false)))
+  pub past : status ≢ 4 → status ≢ 5 → status ≢ 7
+      → (status ≡ 8 ↔ ((length input ≡ MAX_INPUT + 1) × (has_quit (whole_lines (within_limit input)) ≡ false)))
   pub ended : status ≡ 0 → (rest ≡ []) ⊎ (has_quit (whole_lines (within_limit input)) ≡ true)
   pub failed : status ≡ 3 → has_quit (whole_lines input) ≡ false

@@ -20,7 +20,8 @@ address_of word = if bytes_eq word (codes "-") then None else Some word
 -- the word `run`, and an image, a server, a surrogate and a work folder, of which no word is empty
 abbrev pub is_run : List ℕ → List ℕ → List ℕ → List ℕ → List ℕ → Bool
 is_run run image server surrogate work =
-    bytes_eq run (codes "run") && nat_lt 0 (length image) && nat_lt 0 (length server) && nat_lt 0 (length surrogate) && nat_lt 0 (length work)
+    bytes_eq run (codes "run") && nat_lt 0 (length image) && nat_lt 0 (length server) && nat_lt 0 (length surrogate)
+    && nat_lt 0 (length work)
 
 abbrev pub run_by : List ℕ → List ℕ → List ℕ → List ℕ → Option ℕ → Option Invocation
 run_by image server surrogate work None = None

@@ -42,12 +42,15 @@ asks_to_run line = false
 -- A sync acknowledges some entries and a pull may replace the base, and nothing else of the session changes; each ends with a cause,
 -- and is answered so. Every other line has its turn, or was broken off; what its runs were, the runner tells, and its faults rose
 -- where a line was answered `not run`.
-abbrev pub HasLineCause : Route → SessionState → Result Line LineError → Result (Option LineAnswer) KeepError → SessionState → Telling → Telling → ℕ → ℕ → Type 0
+abbrev pub HasLineCause : Route → SessionState → Result Line LineError → Result (Option LineAnswer) KeepError → SessionState
+    → Telling → Telling → ℕ → ℕ → Type 0
 HasLineCause route before (Ok Sync) result after old new faults faults_now =
     (after ≡ with_log before after.client.log) × AcknowledgesSome before.client.log after.client.log
-    × ((end : SyncEnd) × (result ≡ answer_or_fault (is_sync_fault end) (sync_answer end)) × HasSyncCause end after.client.log old.link.troubles new.link.troubles faults faults_now)
+    × ((end : SyncEnd) × (result ≡ answer_or_fault (is_sync_fault end) (sync_answer end))
+    × HasSyncCause end after.client.log old.link.troubles new.link.troubles faults faults_now)
 HasLineCause route before (Ok Pull) result after old new faults faults_now =
     (after ≡ with_log before after.client.log)
     × ((end : PullEnd) × (result ≡ answer_or_fault (is_pull_fault end) (pull_answer end))
     × HasPullCause end before.client.log after.client.log old.link.troubles new.link.troubles faults faults_now)
-HasLineCause route before line result after old new faults faults_now = (kept : Log) × (trace : Trace) × LineEnds route before line result after kept trace × HasRun trace.runs trace.missed old.runner new.runner
+HasLineCause route before line result after old new faults faults_now = (kept : Log) × (trace : Trace)
+    × LineEnds route before line result after kept trace × HasRun trace.runs trace.missed old.runner new.runner

@@ -50,14 +50,16 @@ IsOfPackets packets content = (message : Message) × IsIn message packets × Has
 -- Where a content of a session and one of the packets that have one print are equal, no content that the client may ship as an operation
 -- is taken for another. For an entry of a command that was not pending before writes only what its run left.
 abbrev pub DistinctContentsDoNotCollide : Type 0
-DistinctContentsDoNotCollide = (client : ℕ) (route : Route) (before : SessionState) (lines : List (Result Line LineError)) (answers : List (Option LineAnswer)) (after : SessionState) (trace : Trace) (packets : List Message)
+DistinctContentsDoNotCollide = (client : ℕ) (route : Route) (before : SessionState) (lines : List (Result Line LineError))
+    (answers : List (Option LineAnswer)) (after : SessionState) (trace : Trace) (packets : List Message)
     → Chain route before lines answers after trace
     → Distinct (IsOfTheRun before.client.log.pending lines trace.runs) (IsOfPackets packets)
     → HasNoCollision client (before.client.log.pending ++ trace.entries) packets
 
 -- And so it is of a session whose last line was broken off.
 abbrev pub BrokenSessionsDoNotCollide : Type 0
-BrokenSessionsDoNotCollide = (client : ℕ) (route : Route) (before : SessionState) (lines : List (Result Line LineError)) (answers : List (Option LineAnswer)) (after : SessionState) (kept : Log) (trace : Trace) (packets : List Message)
+BrokenSessionsDoNotCollide = (client : ℕ) (route : Route) (before : SessionState) (lines : List (Result Line LineError))
+    (answers : List (Option LineAnswer)) (after : SessionState) (kept : Log) (trace : Trace) (packets : List Message)
     → BreaksChain route before lines answers after kept trace
     → Distinct (IsOfTheRun before.client.log.pending lines trace.runs) (IsOfPackets packets)
     → HasNoCollision client (before.client.log.pending ++ trace.entries) packets

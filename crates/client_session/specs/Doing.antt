@@ -24,17 +24,21 @@ beside link runner = record { link = link; runner = runner }
 -- Between two moments a session did what these turns say: it is the same client's, and this client, what is kept of it under the
 -- name and what the runner tells went on together, over any link, and with them the world where the link tells it. Where it ships
 -- nothing but stores, `ships` is false.
-pub record Does (ships : Bool) (name : List ℕ) (turns : Trace → Type 0) (before after : SessionState) (kept : Log) (images images_now : Option Images) (told now : Telling) : Type 0 where
+pub record Does (ships : Bool) (name : List ℕ) (turns : Trace → Type 0) (before after : SessionState) (kept : Log)
+    (images images_now : Option Images) (told now : Telling) : Type 0 where
   pub number : after.client.number ≡ before.client.number
-  pub goes : Goes before.client.number ships name turns before.client.log after.client.log kept images images_now told.runner now.runner told.link now.link
+  pub goes : Goes before.client.number ships name turns before.client.log after.client.log kept images images_now told.runner
+      now.runner told.link now.link
 
 -- Over any link, a session did what these turns of what is kept at the end say, under the image of its route. It ships operations only
 -- where the route has a surrogate.
-abbrev pub WentDoing : Route → (Log → Trace → Type 0) → SessionState → SessionState → Option Images → Option Images → Telling → Telling → Type 0
+abbrev pub WentDoing : Route → (Log → Trace → Type 0) → SessionState → SessionState → Option Images → Option Images → Telling
+    → Telling → Type 0
 WentDoing route turns before after images images_now old new =
     (kept : Log) × Does (is_some route.surrogate) route.image (turns kept) before after kept images images_now old new
 
 -- a line that was answered and after which the log is kept, or one that was broken off
-abbrev pub LineEnds : Route → SessionState → Result Line LineError → Result (Option LineAnswer) KeepError → SessionState → Log → Trace → Type 0
+abbrev pub LineEnds : Route → SessionState → Result Line LineError → Result (Option LineAnswer) KeepError → SessionState → Log
+    → Trace → Type 0
 LineEnds route before line (Ok answer) after kept trace = LineTurn route before line answer after trace × (kept ≡ after.client.log)
 LineEnds route before line (Err error) after kept trace = Broken route before line after trace

@@ -37,22 +37,29 @@ LogEnds named before (Err error) after kept trace =
     ((after ≡ before) × (trace ≡ nothing)) ⊎ ((answer : Option LineAnswer) × LogTurn named before answer after trace)
 
 -- what it does over any link, with a surrogate or without, where the keeper's images were these and are those now
-abbrev pub LogsOrRefuses : List ℕ → Result Effect PathError → SessionState → Result (Option LineAnswer) KeepError → SessionState → Option Images → Option Images → Type 0
+abbrev pub LogsOrRefuses : List ℕ → Result Effect PathError → SessionState → Result (Option LineAnswer) KeepError → SessionState
+    → Option Images → Option Images → Type 0
 LogsOrRefuses name named before result after images now =
-    (ships : Bool) (told : Telling) → (kept : Log) × Does ships name (LogEnds named before result after kept) before after kept images now told told
+    (ships : Bool) (told : Telling) → (kept : Log) × Does ships name (LogEnds named before result after kept) before after kept
+    images now told told
 
 -- the same of an effect that was made, whatever it was made of
-abbrev pub LogsMade : List ℕ → Result Effect PathError → SessionState → Result (Option LineAnswer) KeepError → SessionState → Option Images → Option Images → Type 0
-LogsMade name made before result after images now = (named : Result Effect PathError) → GivesEffect made named → LogsOrRefuses name named before result after images now
+abbrev pub LogsMade : List ℕ → Result Effect PathError → SessionState → Result (Option LineAnswer) KeepError → SessionState
+    → Option Images → Option Images → Type 0
+LogsMade name made before result after images now =
+    (named : Result Effect PathError) → GivesEffect made named → LogsOrRefuses name named before result after images now
 
 -- What a command of a line does over any link, where the keeper's images and what the runner tells were these and are those now: the
 -- line has its turn, or is broken off.
-abbrev pub RunsLine : Route → List (List ℕ) → SessionState → Result (Option LineAnswer) KeepError → SessionState → Option Images → Option Images → RunnerTelling → RunnerTelling → Type 0
+abbrev pub RunsLine : Route → List (List ℕ) → SessionState → Result (Option LineAnswer) KeepError → SessionState → Option Images
+    → Option Images → RunnerTelling → RunnerTelling → Type 0
 RunsLine route words before result after images now runner ran =
     (link : LinkTelling)
-    → (kept : Log) × Does (is_some route.surrogate) route.image (LineEnds route before (Ok (RunLine words)) result after kept) before after kept images now (beside link runner) (beside link ran)
+    → (kept : Log) × Does (is_some route.surrogate) route.image (LineEnds route before (Ok (RunLine words)) result after kept)
+    before after kept images now (beside link runner) (beside link ran)
 
 -- the same of a command, whatever words made it
-abbrev pub RunsMade : Route → Command → SessionState → Result (Option LineAnswer) KeepError → SessionState → Option Images → Option Images → RunnerTelling → RunnerTelling → Type 0
+abbrev pub RunsMade : Route → Command → SessionState → Result (Option LineAnswer) KeepError → SessionState → Option Images
+    → Option Images → RunnerTelling → RunnerTelling → Type 0
 RunsMade route command before result after images now runner ran =
     (words : List (List ℕ)) → capture words before.folder ≡ Ok command → RunsLine route words before result after images now runner ran

@@ -20,7 +20,8 @@ use Rattle.client_session.specs.Session.{SessionState, Chain, BreaksChain, is_un
 -- one entry with the next number is logged, the first pending one is acknowledged, or the base is replaced by a pull
 abbrev pub IsChange : Log → Log → Type 0
 IsChange before after =
-    ((entry : Entry) × (entry.seq ≡ before.acked + length before.pending + 1) × (after ≡ logged entry before)) ⊎ (after ≡ acknowledged_first before) ⊎ ((seen : Volume) × (after ≡ pulled seen before))
+    ((entry : Entry) × (entry.seq ≡ before.acked + length before.pending + 1) × (after ≡ logged entry before))
+    ⊎ (after ≡ acknowledged_first before) ⊎ ((seen : Volume) × (after ≡ pulled seen before))
 
 -- each of these logs is a change of the one before it, and the last of them is this log
 abbrev pub ChangesLeadTo : Log → List Log → Log → Type 0
@@ -29,28 +30,34 @@ ChangesLeadTo before (change ∷ changes) after = IsChange before change × Chan
 
 -- What a session changes of the log are such changes, one after the other, and its log is what they lead to.
 abbrev pub SessionsChangeSo : Type 0
-SessionsChangeSo = (route : Route) (before : SessionState) (lines : List (Result Line LineError)) (answers : List (Option LineAnswer)) (after : SessionState) (trace : Trace)
+SessionsChangeSo = (route : Route) (before : SessionState) (lines : List (Result Line LineError))
+    (answers : List (Option LineAnswer)) (after : SessionState) (trace : Trace)
     → Chain route before lines answers after trace → ChangesLeadTo before.client.log trace.changes after.client.log
 
 -- Its lines, its asks, its runs and which lines were not run make a session: from one state on they leave only one way to answer, to
 -- log and to change.
 abbrev pub AsksAndRunsMakeSessions : Type 0
-AsksAndRunsMakeSessions = (route : Route) (before : SessionState) (lines : List (Result Line LineError)) (xs ys : List (Option LineAnswer)) (a b : SessionState) (p q : Trace)
-    → Chain route before lines xs a p → Chain route before lines ys b q → p.asks ≡ q.asks → p.runs ≡ q.runs → map is_unrun xs ≡ map is_unrun ys → (xs ≡ ys) × (a ≡ b) × (p ≡ q)
+AsksAndRunsMakeSessions = (route : Route) (before : SessionState) (lines : List (Result Line LineError))
+    (xs ys : List (Option LineAnswer)) (a b : SessionState) (p q : Trace)
+    → Chain route before lines xs a p → Chain route before lines ys b q → p.asks ≡ q.asks → p.runs ≡ q.runs
+    → map is_unrun xs ≡ map is_unrun ys → (xs ≡ ys) × (a ≡ b) × (p ≡ q)
 
 -- The lines that were answered `not run` are as many as the runs that failed.
 abbrev pub UnrunLinesAreCounted : Type 0
-UnrunLinesAreCounted = (route : Route) (before : SessionState) (lines : List (Result Line LineError)) (answers : List (Option LineAnswer)) (after : SessionState) (trace : Trace)
+UnrunLinesAreCounted = (route : Route) (before : SessionState) (lines : List (Result Line LineError))
+    (answers : List (Option LineAnswer)) (after : SessionState) (trace : Trace)
     → Chain route before lines answers after trace → count_by is_unrun answers ≡ trace.missed
 
 -- Each sync that is answered `unanswered` cost eight asks that failed.
 abbrev pub UnansweredSyncsCostAsks : Type 0
-UnansweredSyncsCostAsks = (route : Route) (before : SessionState) (lines : List (Result Line LineError)) (answers : List (Option LineAnswer)) (after : SessionState) (trace : Trace)
+UnansweredSyncsCostAsks = (route : Route) (before : SessionState) (lines : List (Result Line LineError))
+    (answers : List (Option LineAnswer)) (after : SessionState) (trace : Trace)
     → Chain route before lines answers after trace → 8 * count_by is_unanswered_sync answers ≤ failed_asks trace.asks
 
 -- Each run, failed ones too, is of a line `run`, and no line has two.
 abbrev pub LinesRunOnce : Type 0
-LinesRunOnce = (route : Route) (before : SessionState) (lines : List (Result Line LineError)) (answers : List (Option LineAnswer)) (after : SessionState) (trace : Trace)
+LinesRunOnce = (route : Route) (before : SessionState) (lines : List (Result Line LineError)) (answers : List (Option LineAnswer))
+    (after : SessionState) (trace : Trace)
     → Chain route before lines answers after trace → length trace.runs + trace.missed ≤ count_by asks_to_run lines
 
 -- the ask is of a peer of the route: of the server at its address, or of the surrogate at its address, where there is one
@@ -59,10 +66,12 @@ IsOfRoute route ask = ((ask.to ≡ Server) × (ask.address ≡ route.server)) �
 
 -- Each ask of a session is of a peer of its route.
 abbrev pub AsksAreOfTheRoute : Type 0
-AsksAreOfTheRoute = (route : Route) (before : SessionState) (lines : List (Result Line LineError)) (answers : List (Option LineAnswer)) (after : SessionState) (trace : Trace) (ask : Ask)
+AsksAreOfTheRoute = (route : Route) (before : SessionState) (lines : List (Result Line LineError))
+    (answers : List (Option LineAnswer)) (after : SessionState) (trace : Trace) (ask : Ask)
     → Chain route before lines answers after trace → IsIn ask trace.asks → IsOfRoute route ask
 
 -- And so is each of a session whose last line was broken off.
 abbrev pub BrokenSessionsAskTheRoute : Type 0
-BrokenSessionsAskTheRoute = (route : Route) (before : SessionState) (lines : List (Result Line LineError)) (answers : List (Option LineAnswer)) (after : SessionState) (kept : Log) (trace : Trace) (ask : Ask)
+BrokenSessionsAskTheRoute = (route : Route) (before : SessionState) (lines : List (Result Line LineError))
+    (answers : List (Option LineAnswer)) (after : SessionState) (kept : Log) (trace : Trace) (ask : Ask)
     → BreaksChain route before lines answers after kept trace → IsIn ask trace.asks → IsOfRoute route ask

@@ -30,7 +30,8 @@ use Rattle.client_core.specs.Pulling.{PullTurn, BreaksPull}
 use Rattle.shell_lang.specs.Commands.{put_content}
 use Rattle.shell_lang.specs.Texts.{text_of, HasNoMemory}
 use Rattle.shell_lang.specs.declared.line.Line.{Line}
-use Rattle.shell_lang.specs.declared.line.Line.TheVariants.{Empty, Put, Make, Remove, Move, Cat, List as Ls, Enter, Run as RunLine, Status, Sync, Pull, Quit}
+use Rattle.shell_lang.specs.declared.line.Line.TheVariants.{Empty, Put, Make, Remove, Move, Cat, List as Ls, Enter, Run as RunLine, Status}
+use Rattle.shell_lang.specs.declared.line.Line.TheVariants.{Sync, Pull, Quit}
 use Rattle.shell_lang.specs.declared.line.LineError.{LineError}
 use Rattle.shell_lang.specs.declared.answer.LineAnswer.{LineAnswer}
 use Rattle.shell_lang.specs.declared.answer.LineAnswer.TheVariants as answers
@@ -170,7 +171,8 @@ LogTurn (Err refusal) before answer after trace = (answer ≡ word_answer refusa
 
 -- the current folder is another one, or the word is refused
 abbrev pub EnterTurn : LineAnswer → SessionState → Option LineAnswer → SessionState → Trace → Type 0
-EnterTurn told before answer after trace = (answer ≡ Some told) × (after ≡ with_folder before (folder_by told before.folder)) × (trace ≡ nothing)
+EnterTurn told before answer after trace =
+    (answer ≡ Some told) × (after ≡ with_folder before (folder_by told before.folder)) × (trace ≡ nothing)
 
 -- a command is run once at most, and what it changed is logged or refused; or the words make none
 abbrev pub CommandTurn : Route → Result Command CaptureError → SessionState → Option LineAnswer → SessionState → Trace → Type 0
@@ -187,9 +189,12 @@ LineTurn route before (Ok (Put word text)) answer after trace = LogTurn (put_eff
 LineTurn route before (Ok (Make word)) answer after trace = LogTurn (make_effect before.folder word) before answer after trace
 LineTurn route before (Ok (Remove word)) answer after trace = LogTurn (remove_effect before.folder word) before answer after trace
 LineTurn route before (Ok (Move from to)) answer after trace = LogTurn (move_effect before.folder from to) before answer after trace
-LineTurn route before (Ok (Cat word)) answer after trace = Tells (cat_answer (tree_of before.client.log) before.folder word) before answer after trace
-LineTurn route before (Ok (Ls word)) answer after trace = Tells (list_answer (tree_of before.client.log) before.folder word) before answer after trace
-LineTurn route before (Ok (Enter word)) answer after trace = EnterTurn (enter_answer (tree_of before.client.log) before.folder word) before answer after trace
+LineTurn route before (Ok (Cat word)) answer after trace =
+    Tells (cat_answer (tree_of before.client.log) before.folder word) before answer after trace
+LineTurn route before (Ok (Ls word)) answer after trace =
+    Tells (list_answer (tree_of before.client.log) before.folder word) before answer after trace
+LineTurn route before (Ok (Enter word)) answer after trace =
+    EnterTurn (enter_answer (tree_of before.client.log) before.folder word) before answer after trace
 LineTurn route before (Ok (RunLine words)) answer after trace = CommandTurn route (capture words before.folder) before answer after trace
 LineTurn route before (Ok Status) answer after trace = Tells (status_answer before) before answer after trace
 LineTurn route before (Ok Sync) answer after trace =
@@ -204,7 +209,8 @@ LineTurn route before (Ok Quit) answer after trace = IsSilent before answer afte
 abbrev pub Chain : Route → SessionState → List (Result Line LineError) → List (Option LineAnswer) → SessionState → Trace → Type 0
 Chain route before [] answers after trace = (answers ≡ []) × (after ≡ before) × (trace ≡ nothing)
 Chain route before (line ∷ lines) answers after trace =
-    (middle : SessionState) × (first rest : Trace) × (answer : Option LineAnswer) × (more : List (Option LineAnswer)) × LineTurn route before line answer middle first
+    (middle : SessionState) × (first rest : Trace) × (answer : Option LineAnswer) × (more : List (Option LineAnswer))
+    × LineTurn route before line answer middle first
     × Chain route middle lines more after rest × (answers ≡ answer ∷ more) × (trace ≡ followed first rest)
 
 -- ---- what is shown of answers
@@ -274,8 +280,11 @@ Broken route before line after trace =
 
 -- The turns of some lines, the last of which is broken off, and what was answered to those before it. What is kept is the log after
 -- the last change of this line, or the one before that change: all that was answered is kept.
-abbrev pub BreaksChain : Route → SessionState → List (Result Line LineError) → List (Option LineAnswer) → SessionState → Log → Trace → Type 0
+abbrev pub BreaksChain : Route → SessionState → List (Result Line LineError) → List (Option LineAnswer) → SessionState → Log → Trace
+    → Type 0
 BreaksChain route before lines answers after kept trace =
-    (handled : List (Result Line LineError)) × (last : Result Line LineError) × (middle : SessionState) × (earlier broken : Trace) × (lines ≡ handled ++ last ∷ [])
-    × Chain route before handled answers middle earlier × Broken route middle last after broken × IsLastOrBefore middle.client.log broken.changes kept
+    (handled : List (Result Line LineError)) × (last : Result Line LineError) × (middle : SessionState) × (earlier broken : Trace)
+    × (lines ≡ handled ++ last ∷ [])
+    × Chain route before handled answers middle earlier × Broken route middle last after broken
+    × IsLastOrBefore middle.client.log broken.changes kept
     × (trace ≡ followed earlier broken)
