@@ -144,6 +144,7 @@ impl Wires {
         self.packets.get(k as usize)
     }
 
+    /// Takes the first of the fates; `None` where none is left.
     pub fn take_fate(&mut self) -> Option<Fate>
         ensures some { IfSome result (λ fate. self.old.fates ≡ fate ∷ self.new.fates) }
         ensures none { IfNone result ((self.old.fates ≡ []) × (self.new.fates ≡ [])) }
