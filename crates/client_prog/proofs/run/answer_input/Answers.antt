@@ -1,4 +1,4 @@
-use Rattle.std.proofs.Common.{◌≡◌, Bool, false, true, ◌++◌, ◌∷◌, [], Some, Ok, Err, refl, sym, ap, ◌∙◌, subst, arith}
+use Rattle.std.proofs.Common.{rules, ◌≡◌, Bool, false, true, ◌++◌, ◌∷◌, [], Some, Ok, Err, refl, sym, ap, ◌∙◌, subst, arith}
 use Rattle.std.proofs.lemmas.Result.{err_from_is_err_and}
 use Rattle.shell_lang.specs.Lines.{whole_lines, parts}
 use Rattle.cmd_capture.specs.Runs.{telling}
@@ -12,9 +12,10 @@ use Rattle.client_prog.specs.declared.run.Stop.TheVariants as stops
 use Rattle.client_prog.specs.Input.{last_at, Reading, EndsAt, GoesOnOrEnds}
 use Rattle.client_prog.specs.Run.{has_quit, up_to_quit}
 use Rattle.client_prog.specs.InsideRun.{AnswersLines, AnswersSoFar, AnswersInput, HasUnfinished}
-use Rattle.client_prog.proofs.Counting.{no_fault, same_fault, wanted_fault}
+use Rattle.client_prog.proofs.Counting.{no_fault, no_source_fault, same_fault, wanted_fault}
 use Rattle.client_prog.proofs.RunningPieces.{reads_none, reads_more, failed_in, quits_in, stops_in, lost_in, all_in, ends_at, so_far_none, so_far_more, so_far_failed, so_far_quits, so_far_stops, so_far_lost, all_answered, all_stops}
 use Rattle.client_prog.proofs.RunningRecords.{KeptNoting, noting_none, noting_as, noting_then, noting_next, noting_stops}
+use Rattle.client_prog.proofs.run.answer_input.Goals.{in-Some+in-Read-1, in-None-1}
 use Rattle.client_prog.proofs.run.answer_input.Goals as goal
 
 pub loop-reader-init : goal.loop-reader-init
@@ -343,3 +344,22 @@ returns-in-Some-clause-cause g c = no_fault stops.Sink (g.O.Sink.faults c.args.o
 
 pub returns-in-Some-clause-keeper : goal.returns-in-Some-clause-keeper
 returns-in-Some-clause-keeper g c = no_fault stops.Keeper (g.K.Keeper.faults c.args.keeper.now) (g.K.Keeper.faults c.answer_last.new.keeper) c.in-Some.end (c.in_ok-answer_last.ensures.keeper.never (λ is. absurd (cc (is))) ∙ c.in_ok-quit.ensures.keeper.never (λ is. absurd (cc (is))) ∙ c.loop-reader.invariant.keeper_same)
+
+-- ---- how often the source failed
+
+pub returns-in_err-answer_last-clause-source : goal.returns-in_err-answer_last-clause-source
+returns-in_err-answer_last-clause-source g c =
+    let x = err_from_is_err_and c.from_residual-in_err-answer_last.result c.from_residual-in_err-answer_last.ensures.1 in
+    let other : c.in-Some.end ≡ Failed → ⊥ = λ is. elim c.match-end.branch [ in-Some+in-Read-1 w ↦ first_of (cc (is), grind (arith, is), search (rules, is)) | in-None-1 w ↦ first_of (cc (is), grind (arith, is), search (rules, is)) ] in
+    no_source_fault (g.I.Source.faults c.args.input.now) (g.I.Source.faults c.loop-reader.input) (g.I.Source.faults c.read_piece.new.input) c.from_residual-in_err-answer_last.result
+    (λ is. absurd (cc (is, x.1)))
+    (c.in_ok-end.ensures.cause.never (λ is. other (cc (is, c.in-Some.is))))
+    c.loop-reader.invariant.source_same
+
+pub returns-in-Some-clause-source : goal.returns-in-Some-clause-source
+returns-in-Some-clause-source g c =
+    let other : c.in-Some.end ≡ Failed → ⊥ = λ is. elim c.match-end.branch [ in-Some+in-Read-1 w ↦ first_of (cc (is), grind (arith, is), search (rules, is)) | in-None-1 w ↦ first_of (cc (is), grind (arith, is), search (rules, is)) ] in
+    no_source_fault (g.I.Source.faults c.args.input.now) (g.I.Source.faults c.loop-reader.input) (g.I.Source.faults c.read_piece.new.input) (Ok c.in-Some.end)
+    (λ is. other (cc (is)))
+    (c.in_ok-end.ensures.cause.never (λ is. other (cc (is, c.in-Some.is))))
+    c.loop-reader.invariant.source_same
