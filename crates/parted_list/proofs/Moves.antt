@@ -4,6 +4,7 @@ use Rattle.std.specs.List.{concat, insert, remove}
 use Rattle.std.proofs.lemmas.List.{append_assoc, append-nil, drop_more, take_more, take_more_set, take-set, drop-set, drop-set-lt, take_all, drop_all, length-append, same_from_push, take-append-drop, take_at, length_push}
 use Rattle.std.proofs.lemmas.List.Folds.{concat-append}
 use Rattle.std.proofs.lemmas.List.Edits.{insert-append_left, insert-append_right, remove-append_left, remove-append_right, length-remove, length-insert}
+use Rattle.parted_list.specs.Parts.{part_size}
 use Rattle.parted_list.proofs.Places.{part, IsAt}
 
 -- the numbers, and one between those of the first parts and those of the others
@@ -49,19 +50,19 @@ carried_on parts i q x y there moved =
     ∙ ap (λ s. concat (take i parts) ++ s) (sym (append_assoc q (y ∷ []) rest) ∙ ap (λ s. s ++ rest) moved)
     )
 
-pub put_in : (parts : List (List ℕ)) (k : ℕ) (q : List ℕ) (x y : ℕ) → IsAt parts (k / 512) (k % 512) → q ++ y ∷ [] ≡ insert (part parts (k / 512)) (k % 512) x → between_parts (set parts (k / 512) q) (k / 512 + 1) y ≡ insert (concat parts) k x
+pub put_in : (parts : List (List ℕ)) (k : ℕ) (q : List ℕ) (x y : ℕ) → IsAt parts (k / part_size) (k % part_size) → q ++ y ∷ [] ≡ insert (part parts (k / part_size)) (k % part_size) x → between_parts (set parts (k / part_size) q) (k / part_size + 1) y ≡ insert (concat parts) k x
 put_in parts k q x y at moved =
-    let a : ℕ = k / 512 in
-    let r : ℕ = k % 512 in
+    let a : ℕ = k / part_size in
+    let r : ℕ = k % part_size in
     let front : List ℕ = concat (take a parts) in
     let rest : List ℕ = concat (drop (a + 1) parts) in
     let there : a < length parts = at.there in
     let inside : r ≤ length (part parts a) = omega (arith, at.within) in
-    let behind : k - 512 * a ≡ r = omega arith in
+    let behind : k - part_size * a ≡ r = omega arith in
     rw (up_to_set parts a q there, rest_set parts a q, three parts a there) (
     append_assoc front q (y ∷ rest)
     ∙ ap (λ s. front ++ s) (sym (append_assoc q (y ∷ []) rest) ∙ ap (λ s. s ++ rest) moved ∙ sym (insert-append_left (part parts a) rest r x inside))
-    ∙ sym (insert-append_right front (part parts a ++ rest) (512 * a) k x at.before (omega arith) ∙ ap (λ i. front ++ insert (part parts a ++ rest) i x) behind)
+    ∙ sym (insert-append_right front (part parts a ++ rest) (part_size * a) k x at.before (omega arith) ∙ ap (λ i. front ++ insert (part parts a ++ rest) i x) behind)
     )
 
 pub all_carried : (parts : List (List ℕ)) (i x : ℕ) → length parts ≤ i → between_parts parts i x ≡ concat parts ++ x ∷ []
@@ -78,17 +79,17 @@ carried_back parts i q x y there moved =
     ∙ sym (append_assoc (concat (take i parts)) (part parts i) (x ∷ rest))
     )
 
-pub taken_out : (parts : List (List ℕ)) (k : ℕ) (x : ℕ) → IsAt parts (k / 512) (k % 512) → concat (set parts (k / 512) (remove (part parts (k / 512)) (k % 512) ++ x ∷ [])) ≡ remove (between_parts parts (k / 512 + 1) x) k
+pub taken_out : (parts : List (List ℕ)) (k : ℕ) (x : ℕ) → IsAt parts (k / part_size) (k % part_size) → concat (set parts (k / part_size) (remove (part parts (k / part_size)) (k % part_size) ++ x ∷ [])) ≡ remove (between_parts parts (k / part_size + 1) x) k
 taken_out parts k x at =
-    let a : ℕ = k / 512 in
-    let r : ℕ = k % 512 in
+    let a : ℕ = k / part_size in
+    let r : ℕ = k % part_size in
     let front : List ℕ = concat (take a parts) in
     let rest : List ℕ = concat (drop (a + 1) parts) in
     let there : a < length parts = at.there in
-    let behind : k - 512 * a ≡ r = omega arith in
+    let behind : k - part_size * a ≡ r = omega arith in
     rw (three_set parts a (remove (part parts a) r ++ x ∷ []) there, up_to parts a there, append_assoc front (part parts a) (x ∷ rest)) (
     ap (λ s. front ++ s) (append_assoc (remove (part parts a) r) (x ∷ []) rest ∙ sym (remove-append_left (part parts a) (x ∷ rest) r at.within))
-    ∙ sym (remove-append_right front (part parts a ++ x ∷ rest) (512 * a) k at.before (omega arith) ∙ ap (λ i. front ++ remove (part parts a ++ x ∷ rest) i) behind)
+    ∙ sym (remove-append_right front (part parts a ++ x ∷ rest) (part_size * a) k at.before (omega arith) ∙ ap (λ i. front ++ remove (part parts a ++ x ∷ rest) i) behind)
     )
 
 -- the first of a part comes before what is left of it

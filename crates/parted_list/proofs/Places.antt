@@ -4,7 +4,7 @@ use Rattle.std.specs.List.{concat}
 use Rattle.std.proofs.lemmas.Bool.{cases_lt, cases_eq}
 use Rattle.std.proofs.lemmas.List.{length-append, length-set, get_or-set_same, get_or-set_other, get_or_append_left, get_or_at, get_or_past, length_push, get_or-take, length-take-le, get_or_read}
 use Rattle.std.proofs.lemmas.List.Concat.{get_or-flat_map, concat_is}
-use Rattle.parted_list.specs.Parts.{AreParted}
+use Rattle.parted_list.specs.Parts.{AreParted, part_size}
 
 -- the part of this index
 abbrev pub part : List (List ℕ) → ℕ → List ℕ
@@ -21,58 +21,58 @@ behind q parts parted = record {
 pub record IsAt (parts : List (List ℕ)) (a r : ℕ) : Type 0 where
   pub there : a < length parts
   pub within : r < length (part parts a)
-  pub before : length (concat (take a parts)) ≡ 512 * a
+  pub before : length (concat (take a parts)) ≡ part_size * a
 
-pub located : (parts : List (List ℕ)) (a r : ℕ) → AreParted parts → r < 512 → 512 * a + r < length (concat parts) → IsAt parts a r
+pub located : (parts : List (List ℕ)) (a r : ℕ) → AreParted parts → r < part_size → part_size * a + r < length (concat parts) → IsAt parts a r
 located [] a r parted small within = absurd (omega arith)
 located (q ∷ parts) zero r parted small within = elim (cases_lt 0 (length parts)) [
   | inl more ↦
-      let full : length q ≡ 512 = parted.full 0 (omega arith) in
+      let full : length q ≡ part_size = parted.full 0 (omega arith) in
       record { there = omega arith; within = omega arith; before = refl }
   | inr none ↦ by parts (omega arith) within
 ]
   where
-    by : (rest : List (List ℕ)) → length rest ≡ 0 → 512 * 0 + r < length (concat (q ∷ rest)) → IsAt (q ∷ parts) zero r
+    by : (rest : List (List ℕ)) → length rest ≡ 0 → part_size * 0 + r < length (concat (q ∷ rest)) → IsAt (q ∷ parts) zero r
     by [] empty less = record { there = omega arith; within = omega (arith, length-append q []); before = refl }
     by (p ∷ ps) empty less = absurd (omega arith)
 located (q ∷ parts) (suc a) r parted small within =
-    let fits : length q ≤ 512 = parted.fitting 0 in
+    let fits : length q ≤ part_size = parted.fitting 0 in
     let both : length (concat (q ∷ parts)) ≡ length q + length (concat parts) = length-append q (concat parts) in
     let rest = located parts a r (behind q parts parted) small (omega arith) in
     let more : 0 < length parts = omega (arith, rest.there) in
-    let full : length q ≡ 512 = parted.full 0 (omega arith) in
+    let full : length q ≡ part_size = parted.full 0 (omega arith) in
     record {
       there = omega (arith, rest.there);
       within = rest.within;
       before = length-append q (concat (take a parts)) ∙ omega (arith, rest.before);
     }
 
-pub located_at : (parts : List (List ℕ)) (k : ℕ) → AreParted parts → k < length (concat parts) → IsAt parts (k / 512) (k % 512)
-located_at parts k parted within = located parts (k / 512) (k % 512) parted (omega arith) (omega arith)
+pub located_at : (parts : List (List ℕ)) (k : ℕ) → AreParted parts → k < length (concat parts) → IsAt parts (k / part_size) (k % part_size)
+located_at parts k parted within = located parts (k / part_size) (k % part_size) parted (omega arith) (omega arith)
 
-pub read_at : (parts : List (List ℕ)) (k : ℕ) → AreParted parts → k < length (concat parts) → get_or (part parts (k / 512)) (k % 512) 0 ≡ get_or (concat parts) k 0
+pub read_at : (parts : List (List ℕ)) (k : ℕ) → AreParted parts → k < length (concat parts) → get_or (part parts (k / part_size)) (k % part_size) 0 ≡ get_or (concat parts) k 0
 read_at parts k parted within =
     let at = located_at parts k parted within in
-    let found = get_or-flat_map (λ (q : List ℕ). q) parts (k / 512) (k % 512) [] 0 at.there at.within in
-    let here : length (concat (take (k / 512) parts)) + k % 512 ≡ k = omega (arith, at.before) in
-    sym (rw (← concat_is parts, ← concat_is (take (k / 512) parts), here) at found)
+    let found = get_or-flat_map (λ (q : List ℕ). q) parts (k / part_size) (k % part_size) [] 0 at.there at.within in
+    let here : length (concat (take (k / part_size) parts)) + k % part_size ≡ k = omega (arith, at.before) in
+    sym (rw (← concat_is parts, ← concat_is (take (k / part_size) parts), here) at found)
 
 -- how many numbers there are
-one_more : (a n l : ℕ) → a ≡ 512 → a + (n * 512 + l) ≡ suc n * 512 + l
+one_more : (a n l : ℕ) → a ≡ part_size → a + (n * part_size + l) ≡ suc n * part_size + l
 one_more a n l full = omega arith
 
-counted_behind : (q : List ℕ) (parts : List (List ℕ)) → AreParted (q ∷ parts) → length (concat (q ∷ parts)) ≡ length parts * 512 + length (part (q ∷ parts) (length parts))
+counted_behind : (q : List ℕ) (parts : List (List ℕ)) → AreParted (q ∷ parts) → length (concat (q ∷ parts)) ≡ length parts * part_size + length (part (q ∷ parts) (length parts))
 counted_behind q [] parted = length-append q [] ∙ omega arith
 counted_behind q (p ∷ ps) parted =
     length-append q (concat (p ∷ ps))
     ∙ ap (λ n. length q + n) (counted_behind p ps (behind q (p ∷ ps) parted))
     ∙ one_more (length q) (length ps) (length (part (p ∷ ps) (length ps))) (parted.full 0 (omega arith))
 
-pub counted : (parts : List (List ℕ)) (i : ℕ) → AreParted parts → i + 1 ≡ length parts → length (concat parts) ≡ i * 512 + length (part parts i)
+pub counted : (parts : List (List ℕ)) (i : ℕ) → AreParted parts → i + 1 ≡ length parts → length (concat parts) ≡ i * part_size + length (part parts i)
 counted [] i parted last = absurd (omega arith)
 counted (q ∷ parts) i parted last =
     let same : length parts ≡ i = omega arith in
-    subst (λ n. length (concat (q ∷ parts)) ≡ n * 512 + length (part (q ∷ parts) n)) same (counted_behind q parts parted)
+    subst (λ n. length (concat (q ∷ parts)) ≡ n * part_size + length (part (q ∷ parts) n)) same (counted_behind q parts parted)
 
 -- where numbers are, parts are
 pub some_parts : (parts : List (List ℕ)) → 0 < length (concat parts) → 0 < length parts
@@ -83,10 +83,10 @@ some_parts (q ∷ parts) some = omega arith
 pub read_part : (parts : List (List ℕ)) (i : ℕ) (q : List ℕ) → i < length parts → q ≡ get_or parts i q → q ≡ part parts i
 read_part parts i q there read = get_or_read parts i q there read []
 
-pub read_number : (parts : List (List ℕ)) (k : ℕ) (q : List ℕ) → AreParted parts → k < length (concat parts) → q ≡ get_or parts (k / 512) q → (k % 512 < length q) × (get_or q (k % 512) 0 ≡ get_or (concat parts) k 0)
+pub read_number : (parts : List (List ℕ)) (k : ℕ) (q : List ℕ) → AreParted parts → k < length (concat parts) → q ≡ get_or parts (k / part_size) q → (k % part_size < length q) × (get_or q (k % part_size) 0 ≡ get_or (concat parts) k 0)
 read_number parts k q parted within read =
     let at = located_at parts k parted within in
-    let is = read_part parts (k / 512) q at.there read in
+    let is = read_part parts (k / part_size) q at.there read in
     (rw is at.within, rw is (read_at parts k parted within))
 
 -- ---- parts of the same lengths
@@ -106,7 +106,7 @@ kept_parted parts i q parted there same = record {
 
 -- ---- the last part
 
-pub last_parted : (parts : List (List ℕ)) (i : ℕ) (q : List ℕ) → AreParted parts → i + 1 ≡ length parts → 0 < length q → length q ≤ 512 → AreParted (set parts i q)
+pub last_parted : (parts : List (List ℕ)) (i : ℕ) (q : List ℕ) → AreParted parts → i + 1 ≡ length parts → 0 < length q → length q ≤ part_size → AreParted (set parts i q)
 last_parted parts i q parted last some fits = record {
   full = λ j l. ap length (get_or-set_other parts i j q [] (λ z. absurd (omega (arith, length-set parts i q)))) ∙ parted.full j (omega (arith, length-set parts i q));
   some = λ j l. elim (cases_eq j i) [
@@ -122,7 +122,7 @@ last_parted parts i q parted last some fits = record {
 pub none_parted : AreParted []
 none_parted = record { full = λ i l. absurd (omega arith); some = λ i l. absurd (omega arith); fitting = λ i. omega arith }
 
-pub more_parted : (parts : List (List ℕ)) (x : ℕ) → AreParted parts → (0 < length parts → 512 ≤ length (part parts (length parts - 1))) → AreParted (parts ++ (x ∷ []) ∷ [])
+pub more_parted : (parts : List (List ℕ)) (x : ℕ) → AreParted parts → (0 < length parts → part_size ≤ length (part parts (length parts - 1))) → AreParted (parts ++ (x ∷ []) ∷ [])
 more_parted parts x parted full = record {
   full = λ i l. rw (get_or_append_left parts ((x ∷ []) ∷ []) [] i (omega (arith, length_push parts (x ∷ [])))) (elim (cases_eq (i + 1) (length parts)) [
     | inl last ↦

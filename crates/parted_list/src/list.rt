@@ -1,14 +1,14 @@
 // The list: its parts, every one full but perhaps the last.
 ghost use Rattle.std.specs.Prelude.{◌≡◌, ℕ, ◌+◌, ◌<◌, ◌≤◌, ◌^◌, List, [], ◌∷◌, ◌++◌, length, slice_index, slice_index_or, false, take, ◌-◌, IfOk, OnOk, OnErr, IsTrue, ◌↔◌};
 ghost use Rattle.std.specs.List.{concat, insert, remove};
-ghost use Rattle.parted_list.specs.Parts.{AreParted};
+ghost use Rattle.parted_list.specs.Parts.{AreParted, part_size};
 
 use crate::part::Part;
 use std::alloc::{AllocError, Global};
 use std::marker::Model;
 
 /// How many numbers a full part has.
-const PART: usize = 512;
+const PART: usize = 2_048;
 
 /// At most 4,294,967,295 numbers.
 #[derive(Drop)]
@@ -131,9 +131,9 @@ fn push(parts: &mut Vec<Part>, number: u32) -> Result<(), AllocError>
 /// Whether no part has room for one more number.
 fn is_filled(parts: &[Part]) -> bool
     requires { AreParted parts.now }
-    ensures filled { IsTrue result → 0 < length parts.now → 512 ≤ length (slice_index_or parts.now (length parts.now - 1) []) }
+    ensures filled { IsTrue result → 0 < length parts.now → part_size ≤ length (slice_index_or parts.now (length parts.now - 1) []) }
     ensures some { result ≡ false → 0 < length parts.now }
-    ensures room { result ≡ false → length (slice_index_or parts.now (length parts.now - 1) []) < 512 }
+    ensures room { result ≡ false → length (slice_index_or parts.now (length parts.now - 1) []) < part_size }
 {
     let n = parts.len();
     n == 0 || parts[n - 1].len() >= PART

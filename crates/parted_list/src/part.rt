@@ -68,7 +68,11 @@ impl Part {
         let Some(last) = self.numbers.pop_back() else {
             return number;
         };
-        let _ = self.numbers.insert(i, number);
+        if i == 0 {
+            self.numbers.push_front_reserved(number);
+        } else {
+            let _ = self.numbers.insert(i, number);
+        }
         last
     }
 

@@ -5,13 +5,13 @@ use std::alloc::{AllocError, Global};
 use std::rt::HostRuntime;
 use std::test::Fail;
 
-/// How many of 2,000 changes at scattered places left a list and a plain vector of the same numbers.
+/// How many of 6,000 changes at scattered places left a list and a plain vector of the same numbers.
 fn changes_alike(alloc: Global) -> Result<u32, AllocError> {
     let mut list = PartedList::new(alloc);
     let mut plain: Vec<u32> = Vec::new(alloc);
     let mut seed: u32 = 7;
     let mut alike: u32 = 0;
-    for turn in 0..2_000_u32 {
+    for turn in 0..6_000_u32 {
         seed = seed.wrapping_mul(1_664_525).wrapping_add(1_013_904_223);
         let at = (seed >> 8) as usize;
         if turn % 5 == 4 && !plain.is_empty() {
@@ -47,11 +47,11 @@ fn is_alike(list: &PartedList, plain: &[u32]) -> bool {
     true
 }
 
-/// Whether a copy of a list of 600 numbers is alike, and empty once it is cleared.
+/// Whether a copy of a list of 3,000 numbers is alike, and empty once it is cleared.
 fn copies_alike(alloc: Global) -> Result<bool, AllocError> {
     let mut list = PartedList::new(alloc);
     let mut plain: Vec<u32> = Vec::new(alloc);
-    for number in 0..600_u32 {
+    for number in 0..3_000_u32 {
         list.insert(0, number)?;
         plain.insert(0, number)?;
     }
@@ -64,7 +64,7 @@ fn copies_alike(alloc: Global) -> Result<bool, AllocError> {
 #[test]
 fn changes_as_a_vector_does(rt: HostRuntime) -> Result<(), Fail> {
     let alloc = rt.alloc();
-    assert!(rt; changes_alike(alloc)? == 2_000);
+    assert!(rt; changes_alike(alloc)? == 6_000);
     assert!(rt; copies_alike(alloc)?);
     Ok(())
 }

@@ -1,4 +1,5 @@
 pub mod Slots
+pub mod Heads
 pub mod Walk
 pub mod Links
 pub mod Grown

@@ -5,6 +5,7 @@ ghost use Rattle.std.specs.Option.{option_copied, option_to_list};
 ghost use Rattle.tree_values.specs.Tree.{row_at, version_at, node_at, node_size, is_root, is_at_top, touched, kept_row, restored};
 ghost use Rattle.tree_values.specs.Tree.{with_row, children};
 ghost use Rattle.std.specs.List.{insert, remove, flat_map, AllByRecursion};
+ghost use Rattle.byte_fields.specs.Codec.{IsBytes};
 ghost use Rattle.byte_fields.specs.Field.{IsFront};
 ghost use Rattle.file_paths.specs.Path.{FilePath, IsPath};
 ghost use Rattle.file_paths.specs.Limits.{max_file};
@@ -12,7 +13,9 @@ ghost use Rattle.tree_values.specs.Spelling.{row as spelled_row};
 ghost use Rattle.tree_slots.specs.Arena.{Place, Places, rows_of, rows_from, IsArena, IsPool, AreUsed, SlotsLeadToRows, own_row};
 ghost use Rattle.tree_slots.specs.Arena.{written, Pads, Grows, IsEntered, place, slot_of, AreAscending, AreLinked, IsFound, IsMissing};
 ghost use Rattle.tree_slots.specs.Arena.{standing as standing_names};
+ghost use Rattle.tree_slots.specs.Head.{head_bytes, name_head};
 
+use crate::head::head_of;
 use file_paths::{Content, Names, Path, TryCopy};
 use parted_list::PartedList;
 use std::alloc::{AllocError, Global};
@@ -24,6 +27,8 @@ use tree_values::{Node, Row, Rows, copy_node, spell_row};
 /// What stands at a name in a folder: version 0 stands for no row.
 #[derive(Drop)]
 pub struct Slot {
+    /// The head of the name, which most comparisons read alone.
+    head: u64,
     name: Content,
     version: u64,
     node: Option<Node>,
@@ -31,11 +36,16 @@ pub struct Slot {
 }
 
 impl Model for Slot {
+    ghost use Rattle.std.specs.Prelude.{◌≡◌};
+    ghost use Rattle.byte_fields.specs.Codec.{IsBytes};
     ghost use Rattle.tree_slots.specs.Arena.{Place};
+    ghost use Rattle.tree_slots.specs.Head.{head_bytes, name_head};
 
     ghost Value = { Place };
 
     ghost view = { λ slot. record { name = slot.name; version = slot.version; node = slot.node; children = slot.children } };
+
+    ghost invariant = { λ slot. (slot.head ≡ name_head head_bytes slot.name) × IsBytes slot.name };
 }
 
 impl Slot {
@@ -44,6 +54,7 @@ impl Slot {
         ensures { result ≡ record { name = []; version = 0; node = None; children = [] } }
     {
         Slot {
+            head: 0,
             name: Content::empty(),
             version: 0,
             node: None,
@@ -55,6 +66,7 @@ impl Slot {
     fn begin(&mut self, name: Content)
         ensures { self.new ≡ record { name = name; version = 0; node = None; children = [] } }
     {
+        self.head = head_of(name.bytes());
         self.name = name;
         self.version = 0;
         self.node = None;
@@ -128,10 +140,17 @@ impl Slot {
         self.version == 0 && self.children.is_empty()
     }
 
-    fn compare(&self, name: &Content) -> Ordering
+    /// How the name compares with one that has this head.
+    fn compare(&self, head: u64, name: &Content) -> Ordering
+        requires head { head ≡ name_head head_bytes name.now }
+        requires bytes { IsBytes name.now }
         ensures { result ≡ Rattle.tree_slots.specs.Arena.name_cmp self.now.name name.now }
     {
-        self.name.cmp(name)
+        match self.head.cmp(&head) {
+            Ordering::Less => Ordering::Less,
+            Ordering::Greater => Ordering::Greater,
+            Ordering::Equal => self.name.cmp(name),
+        }
     }
 }
 
@@ -166,13 +185,20 @@ fn search(slots: &[Slot], i: u32, name: &Content) -> (Result<usize, usize>, u32)
     ensures few { result.1 ≤ 16 }
 {
     match slots.get(i as usize) {
-        Some(slot) => halve(slots, slot.children(), name),
+        Some(slot) => halve(slots, slot.children(), head_of(name.bytes()), name),
         None => (Err(0), 0),
     }
 }
 
-/// The same among these slots, by halving them.
-fn halve(slots: &[Slot], children: &PartedList, name: &Content) -> (Result<usize, usize>, u32)
+/// The same among these slots, by halving them; the name has this head.
+fn halve(
+    slots: &[Slot],
+    children: &PartedList,
+    head: u64,
+    name: &Content,
+) -> (Result<usize, usize>, u32)
+    requires head { head ≡ name_head head_bytes name.now }
+    requires bytes { IsBytes name.now }
     requires within { (k : ℕ) → k < length children.now → slice_index children.now k < length slots.now }
     requires ascending { AreAscending slots.now children.now }
     requires few { length children.now < 65536 }
@@ -186,7 +212,7 @@ fn halve(slots: &[Slot], children: &PartedList, name: &Content) -> (Result<usize
     while low < high {
         let middle = low + (high - low) / 2;
         left -= 1;
-        match slots[children.get(middle) as usize].compare(name) {
+        match slots[children.get(middle) as usize].compare(head, name) {
             Ordering::Less => low = middle + 1,
             Ordering::Greater => high = middle,
             Ordering::Equal => return (Ok(middle), 16 - left),
@@ -384,6 +410,7 @@ impl Arena {
 impl TryCopy for Slot {
     fn copy(&self) -> Result<Slot, AllocError> {
         Ok(Slot {
+            head: self.head,
             name: self.name.copy()?,
             version: self.version,
             node: copy_node(self.node.as_ref())?,

@@ -3,6 +3,7 @@
 
 mod arena;
 mod counted;
+mod head;
 
 pub use arena::{Arena, slots_lead_to_rows};
 pub use counted::Counted;

@@ -2,6 +2,7 @@ use Rattle.std.proofs.Common.{◌≡◌, ◌∙◌, ◌++◌, ◌∷◌, [], ◌
 use Rattle.std.specs.List.{concat}
 use Rattle.std.proofs.lemmas.List.{length-set, length_push}
 use Rattle.std.proofs.lemmas.List.Edits.{remove-append_left}
+use Rattle.parted_list.specs.Parts.{part_size}
 use Rattle.parted_list.proofs.Places.{part, located_at, read_part, kept_parted}
 use Rattle.parted_list.proofs.Moves.{between_parts, between_length, carried_back, first_pulled, taken_out, all_carried, pulled_size}
 use Rattle.parted_list.proofs.list.pull_through.Goals as goal
@@ -38,24 +39,24 @@ pub pull_through-requires : goal.pull_through-requires
 pull_through-requires c =
     let size : length (concat c.loop-i.parts.items) ≡ length (concat c.args.parts.now.items) = omega (arith, between_length c.loop-i.parts.items c.loop-i.i c.loop-i.carried, ap length c.loop-i.invariant.carried, length_push (concat c.args.parts.now.items) 0) in
     let at = located_at c.loop-i.parts.items c.args.k c.loop-i.invariant.parted (omega (arith, size, c.requires.within)) in
-    let is = read_part c.loop-i.parts.items (c.args.k / 512) c.index_mut-2.result.now at.there c.index_mut-2.ensures.value in
+    let is = read_part c.loop-i.parts.items (c.args.k / part_size) c.index_mut-2.result.now at.there c.index_mut-2.ensures.value in
     rw is at.within
 
 pub returns-clause-parted : goal.returns-clause-parted
 returns-clause-parted c =
     let size : length (concat c.loop-i.parts.items) ≡ length (concat c.args.parts.now.items) = omega (arith, between_length c.loop-i.parts.items c.loop-i.i c.loop-i.carried, ap length c.loop-i.invariant.carried, length_push (concat c.args.parts.now.items) 0) in
     let at = located_at c.loop-i.parts.items c.args.k c.loop-i.invariant.parted (omega (arith, size, c.requires.within)) in
-    let is = read_part c.loop-i.parts.items (c.args.k / 512) c.index_mut-2.result.now at.there c.index_mut-2.ensures.value in
+    let is = read_part c.loop-i.parts.items (c.args.k / part_size) c.index_mut-2.result.now at.there c.index_mut-2.ensures.value in
     let rest = rw is at c.pull_through.ensures.rest in
-    rw rest (kept_parted c.loop-i.parts.items (c.args.k / 512) (remove (part c.loop-i.parts.items (c.args.k / 512)) (c.args.k % 512) ++ c.loop-i.carried ∷ []) c.loop-i.invariant.parted at.there (pulled_size (part c.loop-i.parts.items (c.args.k / 512)) (c.args.k % 512) c.loop-i.carried at.within))
+    rw rest (kept_parted c.loop-i.parts.items (c.args.k / part_size) (remove (part c.loop-i.parts.items (c.args.k / part_size)) (c.args.k % part_size) ++ c.loop-i.carried ∷ []) c.loop-i.invariant.parted at.there (pulled_size (part c.loop-i.parts.items (c.args.k / part_size)) (c.args.k % part_size) c.loop-i.carried at.within))
 
 pub returns-clause-numbers : goal.returns-clause-numbers
 returns-clause-numbers c =
     let size : length (concat c.loop-i.parts.items) ≡ length (concat c.args.parts.now.items) = omega (arith, between_length c.loop-i.parts.items c.loop-i.i c.loop-i.carried, ap length c.loop-i.invariant.carried, length_push (concat c.args.parts.now.items) 0) in
     let at = located_at c.loop-i.parts.items c.args.k c.loop-i.invariant.parted (omega (arith, size, c.requires.within)) in
-    let is = read_part c.loop-i.parts.items (c.args.k / 512) c.index_mut-2.result.now at.there c.index_mut-2.ensures.value in
+    let is = read_part c.loop-i.parts.items (c.args.k / part_size) c.index_mut-2.result.now at.there c.index_mut-2.ensures.value in
     let rest = rw is at c.pull_through.ensures.rest in
-    let end : c.args.k / 512 + 1 ≡ c.loop-i.i = omega (arith, c.loop-i.invariant.behind) in
+    let end : c.args.k / part_size + 1 ≡ c.loop-i.i = omega (arith, c.loop-i.invariant.behind) in
     rw rest (
     taken_out c.loop-i.parts.items c.args.k c.loop-i.carried at
     ∙ ap (λ i. remove (between_parts c.loop-i.parts.items i c.loop-i.carried) c.args.k) end

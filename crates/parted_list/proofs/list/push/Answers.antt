@@ -1,4 +1,4 @@
-use Rattle.std.proofs.Common.{◌-◌, ◌∷◌, arith}
+use Rattle.std.proofs.Common.{◌-◌, arith}
 use Rattle.parted_list.proofs.Places.{read_part}
 use Rattle.parted_list.proofs.Moves.{added_last, added_part}
 use Rattle.parted_list.proofs.list.push.Goals as goal

@@ -1,5 +1,6 @@
-use Rattle.std.proofs.Common.{◌∙◌, ◌∷◌, ◌<◌, ◌/◌, ◌%◌, length, arith, sym}
+use Rattle.std.proofs.Common.{◌∙◌, ◌<◌, ◌/◌, ◌%◌, length, arith, sym}
 use Rattle.std.proofs.lemmas.List.{length-set}
+use Rattle.parted_list.specs.Parts.{part_size}
 use Rattle.parted_list.proofs.Places.{part, located_at, read_part, kept_parted}
 use Rattle.parted_list.proofs.Moves.{carried_on, put_in, all_carried, pushed_size}
 use Rattle.parted_list.proofs.list.push_through.Goals as goal
@@ -10,17 +11,17 @@ index_mut-requires c = omega (arith, (located_at c.args.parts.now.items c.args.k
 pub push_through-carried-requires : goal.push_through-carried-requires
 push_through-carried-requires c =
     let at = located_at c.args.parts.now.items c.args.k c.requires.parted c.requires.within in
-    let is = read_part c.args.parts.now.items (c.args.k / 512) c.index_mut.result.now at.there c.index_mut.ensures.value in
+    let is = read_part c.args.parts.now.items (c.args.k / part_size) c.index_mut.result.now at.there c.index_mut.ensures.value in
     rw is at.within
 
 pub loop-i-init : goal.loop-i-init
 loop-i-init c =
     let at = located_at c.args.parts.now.items c.args.k c.requires.parted c.requires.within in
-    let is = read_part c.args.parts.now.items (c.args.k / 512) c.index_mut.result.now at.there c.index_mut.ensures.value in
+    let is = read_part c.args.parts.now.items (c.args.k / part_size) c.index_mut.result.now at.there c.index_mut.ensures.value in
     let moved = rw is at c.push_through-carried.ensures in
     record {
-      parted = kept_parted c.args.parts.now.items (c.args.k / 512) c.push_through-carried.new.self c.requires.parted at.there (pushed_size c.push_through-carried.new.self (part c.args.parts.now.items (c.args.k / 512)) (c.args.k % 512) c.args.number c.push_through-carried.result (omega (arith, at.within)) moved);
-      same = length-set c.args.parts.now.items (c.args.k / 512) c.push_through-carried.new.self;
+      parted = kept_parted c.args.parts.now.items (c.args.k / part_size) c.push_through-carried.new.self c.requires.parted at.there (pushed_size c.push_through-carried.new.self (part c.args.parts.now.items (c.args.k / part_size)) (c.args.k % part_size) c.args.number c.push_through-carried.result (omega (arith, at.within)) moved);
+      same = length-set c.args.parts.now.items (c.args.k / part_size) c.push_through-carried.new.self;
       carried = put_in c.args.parts.now.items c.args.k c.push_through-carried.new.self c.args.number c.push_through-carried.result at moved;
     }
 

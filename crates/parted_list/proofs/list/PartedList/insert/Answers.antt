@@ -1,4 +1,4 @@
-use Rattle.std.proofs.Common.{◌∙◌, ◌≤◌, ◌∷◌, length, ap, insert}
+use Rattle.std.proofs.Common.{◌∙◌, ◌≤◌, length, ap, insert}
 use Rattle.std.specs.List.{concat}
 use Rattle.parted_list.proofs.Moves.{inserted}
 use Rattle.parted_list.proofs.list.PartedList.insert.Goals as goal
