@@ -65,7 +65,7 @@ impl Client {
         keeper: &mut K,
     ) -> PullEnd
         requires { IsKeptReady (K.images keeper.old) route.now.image self.old }
-        ensures world { Went self.old.number (is_some route.now.surrogate) route.now.image
+        ensures did { Went self.old.number (is_some route.now.surrogate) route.now.image
             (PullEnds self.old.number route.now self.old.log result self.new.log) self.old.log self.new.log
             (K.images keeper.old) (K.images keeper.new) (L.tells link.old) (L.tells link.new) }
         ensures cause { HasPullCause result self.old.log self.new.log
@@ -121,7 +121,7 @@ fn pulled_end(count: u32, kept: Result<(), KeepError>) -> PullEnd
 fn pull_log<L: Link>(client: u8, route: &Route, log: &mut Log, link: &mut L) -> PullEnd
     requires low { 1 ≤ client }
     requires high { client ≤ 64 }
-    ensures world { (images : Option Images) → IsKept images route.now.image client log.old
+    ensures did { (images : Option Images) → IsKept images route.now.image client log.old
         → Goes client (is_some route.now.surrogate) route.now.image
         (PullAsks client route.now log.old result log.new) log.old log.new log.old
         images images no_runner no_runner (L.tells link.old) (L.tells link.new) }

@@ -73,7 +73,7 @@ impl Client {
         keeper: &mut K,
     ) -> SyncEnd
         requires { IsKeptReady (K.images keeper.old) route.now.image self.old }
-        ensures world { Went self.old.number (is_some route.now.surrogate) route.now.image
+        ensures did { Went self.old.number (is_some route.now.surrogate) route.now.image
             (SyncEnds self.old.number route.now self.old.log result self.new.log) self.old.log self.new.log
             (K.images keeper.old) (K.images keeper.new) (L.tells link.old) (L.tells link.new) }
         ensures cause { HasSyncCause result self.new.log (L.tells link.old).troubles (L.tells link.new).troubles

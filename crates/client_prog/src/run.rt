@@ -141,7 +141,7 @@ fn answer<O: Sink, K: Keeper, R: Runner, L: Link>(
     link: &mut L,
 ) -> Result<bool, Stop>
     requires { IsKeptReady (K.images keeper.old) route.now.image session.old.client }
-    ensures world { WentNoting route.now result (AnswersLines route.now (state_of session.old) (line.now ∷ []) (O.written output.old)
+    ensures did { WentNoting route.now result (AnswersLines route.now (state_of session.old) (line.now ∷ []) (O.written output.old)
         (O.written output.new) result (state_of session.new)) session.old session.new (K.images keeper.old)
         (K.images keeper.new)
         (beside (L.tells link.old) (telling (R.runs runner.old) (R.faults runner.old)))
@@ -173,7 +173,7 @@ fn answer_lines<O: Sink, K: Keeper, R: Runner, L: Link>(
     link: &mut L,
 ) -> Result<bool, Stop>
     requires { IsKeptReady (K.images keeper.old) route.now.image session.old.client }
-    ensures world { WentNoting route.now result (AnswersLines route.now (state_of session.old) (up_to_quit (whole_lines reader.old.bytes))
+    ensures did { WentNoting route.now result (AnswersLines route.now (state_of session.old) (up_to_quit (whole_lines reader.old.bytes))
         (O.written output.old) (O.written output.new) result (state_of session.new)) session.old session.new (K.images keeper.old)
         (K.images keeper.new) (beside (L.tells link.old) (telling (R.runs runner.old) (R.faults runner.old)))
         (beside (L.tells link.new) (telling (R.runs runner.new) (R.faults runner.new))) }
@@ -208,7 +208,7 @@ fn answer_input<I: Source, O: Sink, K: Keeper, R: Runner, L: Link>(
     link: &mut L,
 ) -> Result<InputEnd, Stop>
     requires { IsKeptReady (K.images keeper.old) route.now.image session.old.client }
-    ensures world { WentNoting route.now result
+    ensures did { WentNoting route.now result
         (AnswersInput route.now (state_of session.old) (I.left input.old) (I.left input.new) (O.written output.old)
         (O.written output.new) result (state_of session.new)) session.old session.new (K.images keeper.old)
         (K.images keeper.new)
@@ -263,7 +263,7 @@ fn answer_last<O: Sink, K: Keeper, R: Runner, L: Link>(
     link: &mut L,
 ) -> Result<(), Stop>
     requires { IsKeptReady (K.images keeper.old) route.now.image session.old.client }
-    ensures world { WentNoting route.now result
+    ensures did { WentNoting route.now result
         (AnswersLines route.now (state_of session.old) (last_at end reader.now.bytes) (O.written output.old)
         (O.written output.new) result (state_of session.new)) session.old session.new (K.images keeper.old)
         (K.images keeper.new)
@@ -302,7 +302,7 @@ fn answer_unfinished<O: Sink, K: Keeper, R: Runner, L: Link>(
     link: &mut L,
 ) -> Result<(), Stop>
     requires { IsKeptReady (K.images keeper.old) route.now.image session.old.client }
-    ensures world { WentNoting route.now result (AnswersLines route.now (state_of session.old) (last_line line.now) (O.written output.old)
+    ensures did { WentNoting route.now result (AnswersLines route.now (state_of session.old) (last_line line.now) (O.written output.old)
         (O.written output.new) result (state_of session.new)) session.old session.new (K.images keeper.old)
         (K.images keeper.new)
         (beside (L.tells link.old) (telling (R.runs runner.old) (R.faults runner.old)))
@@ -365,7 +365,7 @@ fn run<I: Source, O: Sink, K: Keeper, R: Runner, L: Link>(
     link: &mut L,
 ) -> Result<InputEnd, Stop>
     requires { IsKeptReady (K.images keeper.old) route.now.image session.old.client }
-    ensures world { WentNoting route.now result
+    ensures did { WentNoting route.now result
         (RunAnswers route.now (state_of session.old) (I.left input.old) (I.left input.new) (O.written output.old)
         (O.written output.new) result (state_of session.new)) session.old session.new (K.images keeper.old)
         (K.images keeper.new)

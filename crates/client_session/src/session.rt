@@ -69,7 +69,7 @@ impl Session {
         runner: &mut R,
     ) -> Result<Option<LineAnswer>, KeepError>
         requires { IsKeptReady (K.images keeper.old) route.now.image self.old.client }
-        ensures world { WentDoing route.now (LineEnds route.now (state_of self.old) line result (state_of self.new)) (state_of self.old)
+        ensures did { WentDoing route.now (LineEnds route.now (state_of self.old) line result (state_of self.new)) (state_of self.old)
             (state_of self.new) (K.images keeper.old)
             (K.images keeper.new) (beside (L.tells link.old) (telling (R.runs runner.old) (R.faults runner.old)))
             (beside (L.tells link.new) (telling (R.runs runner.new) (R.faults runner.new))) }
@@ -275,7 +275,7 @@ impl Session {
         keeper: &mut K,
     ) -> Result<Option<LineAnswer>, KeepError>
         requires { IsKeptReady (K.images keeper.old) route.now.image self.old.client }
-        ensures world { (runner : RunnerTelling) → WentDoing route.now
+        ensures did { (runner : RunnerTelling) → WentDoing route.now
             (LineEnds route.now (state_of self.old) (Ok Line.Sync) result (state_of self.new)) (state_of self.old) (state_of self.new)
             (K.images keeper.old) (K.images keeper.new)
             (beside (L.tells link.old) runner) (beside (L.tells link.new) runner) }
@@ -300,7 +300,7 @@ impl Session {
         keeper: &mut K,
     ) -> Result<Option<LineAnswer>, KeepError>
         requires { IsKeptReady (K.images keeper.old) route.now.image self.old.client }
-        ensures world { (runner : RunnerTelling) → WentDoing route.now
+        ensures did { (runner : RunnerTelling) → WentDoing route.now
             (LineEnds route.now (state_of self.old) (Ok Line.Pull) result (state_of self.new)) (state_of self.old) (state_of self.new)
             (K.images keeper.old) (K.images keeper.new)
             (beside (L.tells link.old) runner) (beside (L.tells link.new) runner) }

@@ -94,7 +94,7 @@ fn server_of(alloc: Global, bytes: &[u8]) -> Result<Server, Stopped>
         Ok(image) => Ok(Server::from_image(image)),
         Err(error) => match error {
             ImageError::Memory => Err(Stopped::Memory),
-            _ => Err(Stopped::Image),
+            ImageError::WrongKind | ImageError::BadImage(_) => Err(Stopped::Image),
         },
     }
 }

@@ -14,8 +14,8 @@ use Rattle.client_core.specs.Honest.{IsNotOlder}
 use Rattle.client_core.proofs.Pulls.{none_pending, some_pending, pull_valid, pull_waits, pull_unanswered, pull_breaks, pull_met, pull_cause, pull_leaves, never_older, not_older, found_snapshot, found_none}
 use Rattle.client_core.proofs.pulling.pull_log.Goals as goal
 
-pub returns-then-pending-gt0-clause-world : goal.returns-then-pending-gt0-clause-world
-returns-then-pending-gt0-clause-world g c = λ images keeps.
+pub returns-then-pending-gt0-clause-did : goal.returns-then-pending-gt0-clause-did
+returns-then-pending-gt0-clause-did g c = λ images keeps.
     let before = c.args.log.now in
     let some : before.pending ≢ [] = some_pending before.pending (omega (arith, c.if-pending-gt0.true, c.pending-pending.ensures.count)) in
     pull_waits c.args.client c.args.route.now before images keeps c.pending-pending.result some c.pending-pending.ensures.count (g.L.Link.tells c.args.link.now)
@@ -34,8 +34,8 @@ pub take_snapshot-requires : goal.take_snapshot-requires
 take_snapshot-requires g c =
     none_pending c.args.log.now.pending (omega (arith, c.if-pending-gt0.false, c.pending-pending.ensures.count))
 
-pub returns-in-Err-clause-world : goal.returns-in-Err-clause-world
-returns-in-Err-clause-world g c = λ images keeps.
+pub returns-in-Err-clause-did : goal.returns-in-Err-clause-did
+returns-in-Err-clause-did g c = λ images keeps.
     let client = c.args.client in
     let route = c.args.route.now in
     let before = c.args.log.now in
@@ -59,8 +59,8 @@ returns-in-Err-clause-fresh g c = λ calm.
     let done : Settled Server route.server (pull_of client before) t u (Err c.in-Err._refused) = subst (λ (n : ℕ). Settled Server route.server (Pull client n) t u (Err c.in-Err._refused)) c.acked.ensures.acked c.in-Err.ensures.settled in
     not_older client before t.world u.world _ Memory (λ path theirs ours is. absurd (cc)) done.told
 
-pub returns-in-Some-clause-world : goal.returns-in-Some-clause-world
-returns-in-Some-clause-world g c = λ images keeps.
+pub returns-in-Some-clause-did : goal.returns-in-Some-clause-did
+returns-in-Some-clause-did g c = λ images keeps.
     let client = c.args.client in
     let route = c.args.route.now in
     let before = c.args.log.now in
@@ -136,8 +136,8 @@ returns-in-Some-clause-leaves g c =
     let valid = subst (λ (r : Option Message). IfSome r (λ (m : Message). IsValid m × Echoes (pull_of client before) m)) is told in
     pull_leaves before none last seen valid.0.body_fits.1 end after c.take_snapshot.ensures
 
-pub returns-in-None-clause-world : goal.returns-in-None-clause-world
-returns-in-None-clause-world g c = λ images keeps.
+pub returns-in-None-clause-did : goal.returns-in-None-clause-did
+returns-in-None-clause-did g c = λ images keeps.
     let client = c.args.client in
     let route = c.args.route.now in
     let before = c.args.log.now in

@@ -17,8 +17,8 @@ use Rattle.client_prog.proofs.RunningLines.{line_unread, line_broken, line_untol
 use Rattle.client_prog.proofs.RunningRecords.{notes_line, done_none, stopped_as, ended_as}
 use Rattle.client_prog.proofs.run.answer.Goals as goal
 
-pub returns-in_err-asked-clause-world : goal.returns-in_err-asked-clause-world
-returns-in_err-asked-clause-world g c =
+pub returns-in_err-asked-clause-did : goal.returns-in_err-asked-clause-did
+returns-in_err-asked-clause-did g c =
     let p = err_from_is_err_and c.from_residual.result c.from_residual.ensures.1 in
     let r = c.args.route.now in
     let a = state_of c.args.session.now in
@@ -26,8 +26,8 @@ returns-in_err-asked-clause-world g c =
     let o = g.O.Sink.written c.args.output.now in
     rw (p.1, p.2) (done_none r {U = Bool} (Err Memory) (AnswersLines {T = Bool} r a (line ∷ []) o o (Err Memory) a) c.args.session.now (g.K.Keeper.images c.args.keeper.now) (beside (g.L.Link.tells c.args.link.now) (telling (g.R.Runner.runs c.args.runner.now) (g.R.Runner.faults c.args.runner.now))) c.requires.0 (line_unread r a line o))
 
-pub returns-in_err-answer-clause-world : goal.returns-in_err-answer-clause-world
-returns-in_err-answer-clause-world g c =
+pub returns-in_err-answer-clause-did : goal.returns-in_err-answer-clause-did
+returns-in_err-answer-clause-did g c =
     let p = err_from_is_err_and c.from_residual-in_err-answer.result c.from_residual-in_err-answer.ensures.1 in
     let r = c.args.route.now in
     let a = state_of c.args.session.now in
@@ -40,12 +40,12 @@ returns-in_err-answer-clause-world g c =
     let line = c.args.line.now in
     let e = c.in_err-answer.field-0.0 in
     let turn : WentDoing r (LineEnds r a (read_line line) (Err e) b) a b i j t u =
-    subst (λ (l : Result Line LineError). WentDoing r (LineEnds r a l (Err e) b) a b i j t u) c.in_ok-asked.ensures c.in_err-answer.ensures.world in
+    subst (λ (l : Result Line LineError). WentDoing r (LineEnds r a l (Err e) b) a b i j t u) c.in_ok-asked.ensures c.in_err-answer.ensures.did in
     rw (p.1, p.2) (stopped_as r Bool (stop_by e) (LineEnds r a (read_line line) (Err e) b) (AnswersLines {T = Bool} r a (line ∷ []) o o (Err (stop_by e)) b) c.args.session.now c.answer.new.self i j t u turn
     (λ k trace broken behind. line_broken r a b k line o e trace broken behind))
 
-pub returns-in_err-text-clause-world : goal.returns-in_err-text-clause-world
-returns-in_err-text-clause-world g c =
+pub returns-in_err-text-clause-did : goal.returns-in_err-text-clause-did
+returns-in_err-text-clause-did g c =
     let p = err_from_is_err_and c.from_residual-in_err-text.result c.from_residual-in_err-text.ensures.1 in
     let r = c.args.route.now in
     let a = state_of c.args.session.now in
@@ -58,12 +58,12 @@ returns-in_err-text-clause-world g c =
     let line = c.args.line.now in
     let answer = c.in_ok-answer.answer in
     let turn : WentDoing r (LineEnds r a (read_line line) (Ok answer) b) a b i j t u =
-    subst (λ (l : Result Line LineError). WentDoing r (LineEnds r a l (Ok answer) b) a b i j t u) c.in_ok-asked.ensures c.in_ok-answer.ensures.world in
+    subst (λ (l : Result Line LineError). WentDoing r (LineEnds r a l (Ok answer) b) a b i j t u) c.in_ok-asked.ensures c.in_ok-answer.ensures.did in
     rw (p.1, p.2) (stopped_as r Bool Memory (LineEnds r a (read_line line) (Ok answer) b) (AnswersLines {T = Bool} r a (line ∷ []) o o (Err Memory) b) c.args.session.now c.answer.new.self i j t u turn
     (λ k trace turned behind. line_untold r a b k line o answer trace turned behind))
 
-pub returns-clause-world : goal.returns-clause-world
-returns-clause-world g c =
+pub returns-clause-did : goal.returns-clause-did
+returns-clause-did g c =
     let r = c.args.route.now in
     let a = state_of c.args.session.now in
     let b = state_of c.answer.new.self in
@@ -80,12 +80,12 @@ returns-clause-world g c =
     let kept : has_pulled (read_line line) answer ≡ false → KeepsChanges r.image c.args.session.now.client c.answer.new.self.client i j =
     subst (λ (l : Result Line LineError). has_pulled l answer ≡ false → KeepsChanges r.image c.args.session.now.client c.answer.new.self.client i j) c.in_ok-asked.ensures c.in_ok-answer.ensures.records in
     let turn : WentDoing r (LineEnds r a (read_line line) (Ok answer) b) a b i j t u =
-    subst (λ (l : Result Line LineError). WentDoing r (LineEnds r a l (Ok answer) b) a b i j t u) c.in_ok-asked.ensures c.in_ok-answer.ensures.world in
+    subst (λ (l : Result Line LineError). WentDoing r (LineEnds r a l (Ok answer) b) a b i j t u) c.in_ok-asked.ensures c.in_ok-answer.ensures.did in
     ended_as r c.is_quit-quit.result (LineEnds r a (read_line line) (Ok answer) b) (AnswersLines r a (line ∷ []) o n (Ok c.is_quit-quit.result) b) c.args.session.now c.answer.new.self i j t u turn
     (λ k trace turned. ((line_answered r a b k line o n answer text.items trace turned c.in_ok-text.ensures adds, turned.1), notes_line r.image r c.args.session.now c.answer.new.self (read_line line) answer i j trace turned.0 kept))
 
-pub returns-in_err-write_all-clause-world : goal.returns-in_err-write_all-clause-world
-returns-in_err-write_all-clause-world g c =
+pub returns-in_err-write_all-clause-did : goal.returns-in_err-write_all-clause-did
+returns-in_err-write_all-clause-did g c =
     let p = err_from_is_err_and c.from_residual-in_err-write_all.result c.from_residual-in_err-write_all.ensures.1 in
     let r = c.args.route.now in
     let a = state_of c.args.session.now in
@@ -104,7 +104,7 @@ returns-in_err-write_all-clause-world g c =
     subst (λ (l : List ℕ). (count : ℕ) × (count ≤ length l) × Adds o n (take count l)) c.deref.ensures.value c.in_err-write_all.ensures.front in
     let writes : WritesFront (stop_of refused) text.items o n = cut_front refused text.items o n (cut.0, cut.2) in
     let turn : WentDoing r (LineEnds r a (read_line line) (Ok answer) b) a b i j t u =
-    subst (λ (l : Result Line LineError). WentDoing r (LineEnds r a l (Ok answer) b) a b i j t u) c.in_ok-asked.ensures c.in_ok-answer.ensures.world in
+    subst (λ (l : Result Line LineError). WentDoing r (LineEnds r a l (Ok answer) b) a b i j t u) c.in_ok-asked.ensures c.in_ok-answer.ensures.did in
     rw (p.1, p.2) (stopped_as r Bool (stop_of refused) (LineEnds r a (read_line line) (Ok answer) b) (AnswersLines {T = Bool} r a (line ∷ []) o n (Err (stop_of refused)) b) c.args.session.now c.answer.new.self i j t u turn
     (λ k trace turned behind. line_cut r (stop_of refused) a b k line o n answer text.items trace turned c.in_ok-text.ensures writes))
 

@@ -35,11 +35,11 @@ loop-reader-init g c =
       sink_same = refl;
       keeper_same = refl;
       kept = c.requires;
-      world = noting_none r (AnswersSoFar r a left left reader o o a) c.args.session.now (g.K.Keeper.images c.args.keeper.now) (beside (g.L.Link.tells c.args.link.now) (telling (g.R.Runner.runs c.args.runner.now) (g.R.Runner.faults c.args.runner.now))) c.requires.0 (so_far_none r a left o reader c.new-reader.ensures);
+      did = noting_none r (AnswersSoFar r a left left reader o o a) c.args.session.now (g.K.Keeper.images c.args.keeper.now) (beside (g.L.Link.tells c.args.link.now) (telling (g.R.Runner.runs c.args.runner.now) (g.R.Runner.faults c.args.runner.now))) c.requires.0 (so_far_none r a left o reader c.new-reader.ensures);
     }
 
-pub returns-in_err-end-clause-world : goal.returns-in_err-end-clause-world
-returns-in_err-end-clause-world g c =
+pub returns-in_err-end-clause-did : goal.returns-in_err-end-clause-did
+returns-in_err-end-clause-did g c =
     let x = err_from_is_err_and c.from_residual.result c.from_residual.ensures.1 in
     let r = c.args.route.now in
     let a = state_of c.args.session.now in
@@ -52,7 +52,7 @@ returns-in_err-end-clause-world g c =
     let old = c.loop-reader.reader in
     let lost = c.in_err-end.ensures.err in
     rw (x.1, x.2) (noting_as r {U = InputEnd} (Err Memory) (AnswersSoFar r a left mid old o m b) (AnswersInput r a left rest o m (Err Memory) b) c.args.session.now c.loop-reader.session (g.K.Keeper.images c.args.keeper.now) (g.K.Keeper.images c.loop-reader.keeper)
-    (beside (g.L.Link.tells c.args.link.now) (telling (g.R.Runner.runs c.args.runner.now) (g.R.Runner.faults c.args.runner.now))) (beside (g.L.Link.tells c.loop-reader.link) (telling (g.R.Runner.runs c.loop-reader.runner) (g.R.Runner.faults c.loop-reader.runner))) c.loop-reader.invariant.world
+    (beside (g.L.Link.tells c.args.link.now) (telling (g.R.Runner.runs c.args.runner.now) (g.R.Runner.faults c.args.runner.now))) (beside (g.L.Link.tells c.loop-reader.link) (telling (g.R.Runner.runs c.loop-reader.runner) (g.R.Runner.faults c.loop-reader.runner))) c.loop-reader.invariant.did
     (λ p so_far. so_far_lost r a left o mid rest old lost.0 b m p c.loop-reader.invariant.few lost.1 lost.2 so_far))
 
 pub returns-in_err-end-clause-input : goal.returns-in_err-end-clause-input
@@ -63,8 +63,8 @@ returns-in_err-end-clause-input g c =
     let lines = lost_in _ _ _ c.loop-reader.reader taken.0 lost.0 c.loop-reader.invariant.few lost.1 lost.2 taken.1 in
     rw x.1 (taken.0 ++ lines.0, lines.1, lines.2)
 
-pub returns-in-Some-Failed-clause-world : goal.returns-in-Some-Failed-clause-world
-returns-in-Some-Failed-clause-world g c =
+pub returns-in-Some-Failed-clause-did : goal.returns-in-Some-Failed-clause-did
+returns-in-Some-Failed-clause-did g c =
     let r = c.args.route.now in
     let a = state_of c.args.session.now in
     let b = state_of c.loop-reader.session in
@@ -79,7 +79,7 @@ returns-in-Some-Failed-clause-world g c =
     let ended : c.in_ok-end.end ≡ Some Failed = c.in-Some-Failed.is ∙ ap (λ (e : InputEnd). Some e) failed in
     let same : new ≡ old = c.in_ok-end.ensures.failed (ap Ok ended) in
     noting_as r {E = Stop} (Ok Failed) (AnswersSoFar r a left mid old o m b) (AnswersInput r a left rest o m (Ok Failed) b) c.args.session.now c.loop-reader.session (g.K.Keeper.images c.args.keeper.now) (g.K.Keeper.images c.loop-reader.keeper)
-    (beside (g.L.Link.tells c.args.link.now) (telling (g.R.Runner.runs c.args.runner.now) (g.R.Runner.faults c.args.runner.now))) (beside (g.L.Link.tells c.loop-reader.link) (telling (g.R.Runner.runs c.loop-reader.runner) (g.R.Runner.faults c.loop-reader.runner))) c.loop-reader.invariant.world
+    (beside (g.L.Link.tells c.args.link.now) (telling (g.R.Runner.runs c.args.runner.now) (g.R.Runner.faults c.args.runner.now))) (beside (g.L.Link.tells c.loop-reader.link) (telling (g.R.Runner.runs c.loop-reader.runner) (g.R.Runner.faults c.loop-reader.runner))) c.loop-reader.invariant.did
     (λ p so_far. so_far_failed r a left o mid rest old new c.in_ok-end.end b m p c.loop-reader.invariant.few c.in_ok-end.ensures.ok ended same c.loop-reader.invariant.no_line so_far)
 
 pub returns-in-Some-Failed-clause-input : goal.returns-in-Some-Failed-clause-input
@@ -92,8 +92,8 @@ returns-in-Some-Failed-clause-input g c =
     let same : new ≡ old = c.in_ok-end.ensures.failed (ap Ok ended) in
     (taken.0, failed_in _ _ _ old new taken.0 c.in_ok-end.end c.loop-reader.invariant.few c.in_ok-end.ensures.ok ended same c.loop-reader.invariant.no_line taken.1)
 
-pub returns-then-quit-clause-world : goal.returns-then-quit-clause-world
-returns-then-quit-clause-world g c =
+pub returns-then-quit-clause-did : goal.returns-then-quit-clause-did
+returns-then-quit-clause-did g c =
     let r = c.args.route.now in
     let a = state_of c.args.session.now in
     let b = state_of c.loop-reader.session in
@@ -114,7 +114,7 @@ returns-then-quit-clause-world g c =
     let new = c.read_piece.new.self in
     let quit : has_quit (whole_lines new.bytes) ≡ true = sym c.in_ok-quit.ensures.quit ∙ c.if-quit.true in
     noting_next r c.in_ok-quit.quit Read (AnswersSoFar r a left mid old o m b) (AnswersLines r b (up_to_quit (whole_lines new.bytes)) m n (Ok c.in_ok-quit.quit) d) (AnswersInput r a left rest o n (Ok Read) d) c.args.session.now c.loop-reader.session c.answer_lines.new.session i j l t u v
-    c.loop-reader.invariant.world c.in_ok-quit.ensures.world
+    c.loop-reader.invariant.did c.in_ok-quit.ensures.did
     (λ k p q first last. so_far_quits r a left o mid rest old new c.in_ok-end.end b d k m n p q c.loop-reader.invariant.few c.in_ok-end.ensures.ok quit first last.0 last.1)
 
 pub returns-then-quit-clause-input : goal.returns-then-quit-clause-input
@@ -123,8 +123,8 @@ returns-then-quit-clause-input g c =
     let new = c.read_piece.new.self in
     (taken.0 ++ up_to_quit (whole_lines new.bytes), quits_in _ _ _ c.loop-reader.reader new taken.0 c.in_ok-end.end c.loop-reader.invariant.few c.in_ok-end.ensures.ok (sym c.in_ok-quit.ensures.quit ∙ c.if-quit.true) taken.1)
 
-pub returns-in_err-quit-clause-world : goal.returns-in_err-quit-clause-world
-returns-in_err-quit-clause-world g c =
+pub returns-in_err-quit-clause-did : goal.returns-in_err-quit-clause-did
+returns-in_err-quit-clause-did g c =
     let x = err_from_is_err_and c.from_residual-in_err-quit.result c.from_residual-in_err-quit.ensures.1 in
     let r = c.args.route.now in
     let a = state_of c.args.session.now in
@@ -146,7 +146,7 @@ returns-in_err-quit-clause-world g c =
     let new = c.read_piece.new.self in
     let stop = c.in_err-quit.field-0.0 in
     rw (x.1, x.2) (noting_stops r {U = Bool} InputEnd (Err stop) stop (AnswersSoFar r a left mid old o m b) (AnswersLines {T = Bool} r b (up_to_quit (whole_lines new.bytes)) m n (Err stop) d) (AnswersInput r a left rest o n (Err stop) d) c.args.session.now c.loop-reader.session c.answer_lines.new.session i j l t u v
-    c.loop-reader.invariant.world c.in_err-quit.ensures.world
+    c.loop-reader.invariant.did c.in_err-quit.ensures.did
     (λ h p q first last. so_far_stops r a left o mid rest old new c.in_ok-end.end stop b d h m n p q c.loop-reader.invariant.few c.in_ok-end.ensures.ok first last))
 
 pub returns-in_err-quit-clause-input : goal.returns-in_err-quit-clause-input
@@ -157,8 +157,8 @@ returns-in_err-quit-clause-input g c =
     let lines = stops_in _ _ _ c.loop-reader.reader new taken.0 c.in_ok-end.end c.loop-reader.invariant.few c.in_ok-end.ensures.ok taken.1 in
     rw x.1 ((taken.0 ++ up_to_quit (whole_lines new.bytes)) ++ lines.0, lines.1, lines.2)
 
-pub returns-in_err-answer_last-clause-world : goal.returns-in_err-answer_last-clause-world
-returns-in_err-answer_last-clause-world g c =
+pub returns-in_err-answer_last-clause-did : goal.returns-in_err-answer_last-clause-did
+returns-in_err-answer_last-clause-did g c =
     let x = err_from_is_err_and c.from_residual-in_err-answer_last.result c.from_residual-in_err-answer_last.ensures.1 in
     let r = c.args.route.now in
     let a = state_of c.args.session.now in
@@ -190,10 +190,10 @@ returns-in_err-answer_last-clause-world g c =
     let ends : EndsAt rest final.count end = ends_at rest old.count new final c.in_ok-end.end end c.in-Some.is left_is c.in_ok-end.ensures.ok.ended in
     let so_far : KeptNoting r (AnswersSoFar r a left rest final o n d) c.args.session.now c.answer_lines.new.session i l t v =
     (noting_then r c.in_ok-quit.quit (AnswersSoFar r a left mid old o m b) (AnswersSoFar r a left rest final o n d) (AnswersLines r b (up_to_quit (whole_lines new.bytes)) m n (Ok c.in_ok-quit.quit) d) c.args.session.now c.loop-reader.session c.answer_lines.new.session i j l t u v
-    c.loop-reader.invariant.world c.in_ok-quit.ensures.world (λ k trace turn. turn.1)
+    c.loop-reader.invariant.did c.in_ok-quit.ensures.did (λ k trace turn. turn.1)
     (λ p q first last. so_far_more r a left o mid rest old new final c.in_ok-end.end b d m n p q c.loop-reader.invariant.few c.in_ok-end.ensures.ok left_is none first last.0)) in
     rw (x.1, x.2) (noting_stops r {U = Unit {0}} InputEnd (Err stop) stop (AnswersSoFar r a left rest final o n d) (AnswersLines {T = Unit {0}} r d (last_at end final.bytes) n k (Err stop) e) (AnswersInput r a left rest o k (Err stop) e) c.args.session.now c.answer_lines.new.session c.answer_last.new.session i l h t v w
-    so_far c.in_err-answer_last.ensures.world
+    so_far c.in_err-answer_last.ensures.did
     (λ f p q first last. all_stops r a left o rest final end stop d e f n k p q left_is.no_line ends first last))
 
 pub returns-in_err-answer_last-clause-input : goal.returns-in_err-answer_last-clause-input
@@ -204,8 +204,8 @@ returns-in_err-answer_last-clause-input g c =
     let lines = stops_in _ _ _ c.loop-reader.reader new taken.0 c.in_ok-end.end c.loop-reader.invariant.few c.in_ok-end.ensures.ok taken.1 in
     rw x.1 ((taken.0 ++ up_to_quit (whole_lines new.bytes)) ++ lines.0, lines.1, lines.2)
 
-pub returns-in-Some-clause-world : goal.returns-in-Some-clause-world
-returns-in-Some-clause-world g c =
+pub returns-in-Some-clause-did : goal.returns-in-Some-clause-did
+returns-in-Some-clause-did g c =
     let r = c.args.route.now in
     let a = state_of c.args.session.now in
     let b = state_of c.loop-reader.session in
@@ -236,10 +236,10 @@ returns-in-Some-clause-world g c =
     let ends : EndsAt rest final.count end = ends_at rest old.count new final c.in_ok-end.end end c.in-Some.is left_is c.in_ok-end.ensures.ok.ended in
     let so_far : KeptNoting r (AnswersSoFar r a left rest final o n d) c.args.session.now c.answer_lines.new.session i l t v =
     (noting_then r c.in_ok-quit.quit (AnswersSoFar r a left mid old o m b) (AnswersSoFar r a left rest final o n d) (AnswersLines r b (up_to_quit (whole_lines new.bytes)) m n (Ok c.in_ok-quit.quit) d) c.args.session.now c.loop-reader.session c.answer_lines.new.session i j l t u v
-    c.loop-reader.invariant.world c.in_ok-quit.ensures.world (λ k trace turn. turn.1)
+    c.loop-reader.invariant.did c.in_ok-quit.ensures.did (λ k trace turn. turn.1)
     (λ p q first last. so_far_more r a left o mid rest old new final c.in_ok-end.end b d m n p q c.loop-reader.invariant.few c.in_ok-end.ensures.ok left_is none first last.0)) in
     noting_next r done end (AnswersSoFar r a left rest final o n d) (AnswersLines r d (last_at end final.bytes) n k (Ok done) e) (AnswersInput r a left rest o k (Ok end) e) c.args.session.now c.answer_lines.new.session c.answer_last.new.session i l h t v w
-    so_far c.in_ok-answer_last.ensures.world
+    so_far c.in_ok-answer_last.ensures.did
     (λ f p q first last. all_answered r a left o rest final end d e f n k p q left_is.no_line ends first last.0 last.1)
 
 pub returns-in-Some-clause-input : goal.returns-in-Some-clause-input
@@ -295,9 +295,9 @@ loop-reader-preserved g c =
       sink_same = c.in_ok-quit.ensures.cause.never (λ is. absurd (cc (is))) ∙ c.loop-reader.invariant.sink_same;
       keeper_same = c.in_ok-quit.ensures.keeper.never (λ is. absurd (cc (is))) ∙ c.loop-reader.invariant.keeper_same;
       kept = c.in_ok-quit.ensures.kept;
-      world =
+      did =
           noting_then r c.in_ok-quit.quit (AnswersSoFar r a left mid old o m b) (AnswersSoFar r a left rest final o n d) (AnswersLines r b (up_to_quit (whole_lines new.bytes)) m n (Ok c.in_ok-quit.quit) d) c.args.session.now c.loop-reader.session c.answer_lines.new.session i j l t u v
-          c.loop-reader.invariant.world c.in_ok-quit.ensures.world (λ k trace turn. turn.1)
+          c.loop-reader.invariant.did c.in_ok-quit.ensures.did (λ k trace turn. turn.1)
           (λ p q first last. so_far_more r a left o mid rest old new final c.in_ok-end.end b d m n p q c.loop-reader.invariant.few c.in_ok-end.ensures.ok left_is none first last.0);
     }
 

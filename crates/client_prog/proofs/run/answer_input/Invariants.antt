@@ -20,7 +20,7 @@ invariant-loop-reader g l = record {
   sink_same : g.O.Sink.faults l.output ≡ g.O.Sink.faults l.fn.output;
   keeper_same : g.K.Keeper.faults l.keeper ≡ g.K.Keeper.faults l.fn.keeper;
   kept : IsKeptReady (g.K.Keeper.images l.keeper) l.route.image l.session.client;
-  world : KeptNoting l.route (AnswersSoFar l.route (state_of l.fn.session) (g.I.Source.left l.fn.input) (g.I.Source.left l.input) l.reader (g.O.Sink.written l.fn.output) (g.O.Sink.written l.output) (state_of l.session)) l.fn.session l.session (g.K.Keeper.images l.fn.keeper) (g.K.Keeper.images l.keeper) (beside (g.L.Link.tells l.fn.link) (telling (g.R.Runner.runs l.fn.runner) (g.R.Runner.faults l.fn.runner))) (beside (g.L.Link.tells l.link) (telling (g.R.Runner.runs l.runner) (g.R.Runner.faults l.runner)));
+  did : KeptNoting l.route (AnswersSoFar l.route (state_of l.fn.session) (g.I.Source.left l.fn.input) (g.I.Source.left l.input) l.reader (g.O.Sink.written l.fn.output) (g.O.Sink.written l.output) (state_of l.session)) l.fn.session l.session (g.K.Keeper.images l.fn.keeper) (g.K.Keeper.images l.keeper) (beside (g.L.Link.tells l.fn.link) (telling (g.R.Runner.runs l.fn.runner) (g.R.Runner.faults l.fn.runner))) (beside (g.L.Link.tells l.link) (telling (g.R.Runner.runs l.runner) (g.R.Runner.faults l.runner)));
 }
 
 abbrev pub decreases-loop-reader : goal.decreases-loop-reader

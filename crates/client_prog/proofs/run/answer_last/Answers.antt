@@ -11,8 +11,8 @@ use Rattle.client_prog.proofs.RunningLines.{answers_nothing}
 use Rattle.client_prog.proofs.RunningRecords.{done_none}
 use Rattle.client_prog.proofs.run.answer_last.Goals as goal
 
-pub returns-in-Failed-clause-world : goal.returns-in-Failed-clause-world
-returns-in-Failed-clause-world g c =
+pub returns-in-Failed-clause-did : goal.returns-in-Failed-clause-did
+returns-in-Failed-clause-did g c =
     let r = c.args.route.now in
     let a = state_of c.args.session.now in
     let o = g.O.Sink.written c.args.output.now in

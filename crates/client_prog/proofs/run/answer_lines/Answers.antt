@@ -29,7 +29,7 @@ loop-line-init g c =
       sink_same = refl;
       keeper_same = refl;
       kept = c.requires;
-      world = noting_none r (AnswersFront r a bytes bytes o o a) c.args.session.now (g.K.Keeper.images c.args.keeper.now) (beside (g.L.Link.tells c.args.link.now) (telling (g.R.Runner.runs c.args.runner.now) (g.R.Runner.faults c.args.runner.now))) c.requires.0 (front_none r a bytes o);
+      did = noting_none r (AnswersFront r a bytes bytes o o a) c.args.session.now (g.K.Keeper.images c.args.keeper.now) (beside (g.L.Link.tells c.args.link.now) (telling (g.R.Runner.runs c.args.runner.now) (g.R.Runner.faults c.args.runner.now))) c.requires.0 (front_none r a bytes o);
     }
 
 pub loop-line-preserved : goal.loop-line-preserved
@@ -64,13 +64,13 @@ loop-line-preserved g c =
       sink_same = c.in_ok-quit.ensures.cause.never (λ is. absurd (cc (is))) ∙ c.loop-line.invariant.sink_same;
       keeper_same = c.in_ok-quit.ensures.keeper.never (λ is. absurd (cc (is))) ∙ c.loop-line.invariant.keeper_same;
       kept = c.in_ok-quit.ensures.kept;
-      world = noting_then r done (AnswersFront r a bytes left o m b) (AnswersFront r a bytes behind o n d) (AnswersLines r b (line ∷ []) m n (Ok done) d) c.args.session.now c.loop-line.session c.answer.new.session i j l t u v
-          c.loop-line.invariant.world c.in_ok-quit.ensures.world (λ k trace turn. turn.1)
+      did = noting_then r done (AnswersFront r a bytes left o m b) (AnswersFront r a bytes behind o n d) (AnswersLines r b (line ∷ []) m n (Ok done) d) c.args.session.now c.loop-line.session c.answer.new.session i j l t u v
+          c.loop-line.invariant.did c.in_ok-quit.ensures.did (λ k trace turn. turn.1)
           (λ p q first last. front_line r a bytes o left behind line b d m n p q begins is goes_on first last.0);
     }
 
-pub returns-then-quit-clause-world : goal.returns-then-quit-clause-world
-returns-then-quit-clause-world g c =
+pub returns-then-quit-clause-did : goal.returns-then-quit-clause-did
+returns-then-quit-clause-did g c =
     let r = c.args.route.now in
     let a = state_of c.args.session.now in
     let b = state_of c.loop-line.session in
@@ -91,7 +91,7 @@ returns-then-quit-clause-world g c =
     let quit : quits line ≡ true = sym c.in_ok-quit.ensures.quit ∙ c.if-quit.true in
     let done = c.in_ok-quit.quit in
     noting_next r done true (AnswersFront r a bytes left o m b) (AnswersLines r b (line ∷ []) m n (Ok done) d) (AnswersLines r a (up_to_quit (whole_lines bytes)) o n (Ok true) d) c.args.session.now c.loop-line.session c.answer.new.session i j l t u v
-    c.loop-line.invariant.world c.in_ok-quit.ensures.world
+    c.loop-line.invariant.did c.in_ok-quit.ensures.did
     (λ k p q first last. (front_quits r a bytes o left line b d m n p q begins quit first last.0, last.1))
 
 pub returns-then-quit-clause-quit : goal.returns-then-quit-clause-quit
@@ -99,8 +99,8 @@ returns-then-quit-clause-quit g c =
     let lines = c.loop-line.invariant.cut in
     sym (one_quits c.args.reader.now.bytes c.loop-line.reader.bytes c.in-Some.line.now lines.0 lines.1 c.in-Some.ensures (sym c.in_ok-quit.ensures.quit ∙ c.if-quit.true))
 
-pub returns-in_err-quit-clause-world : goal.returns-in_err-quit-clause-world
-returns-in_err-quit-clause-world g c =
+pub returns-in_err-quit-clause-did : goal.returns-in_err-quit-clause-did
+returns-in_err-quit-clause-did g c =
     let e = err_from_is_err_and c.from_residual.result c.from_residual.ensures.1 in
     let r = c.args.route.now in
     let a = state_of c.args.session.now in
@@ -121,11 +121,11 @@ returns-in_err-quit-clause-world g c =
     let stop = c.in_err-quit.field-0.0 in
     let begins : BeginsWithLine left line = c.in-Some.ensures in
     rw (e.1, e.2) (noting_stops r {U = Bool} Bool (Err stop) stop (AnswersFront r a bytes left o m b) (AnswersLines {T = Bool} r b (line ∷ []) m n (Err stop) d) (AnswersLines {T = Bool} r a (up_to_quit (whole_lines bytes)) o n (Err stop) d) c.args.session.now c.loop-line.session c.answer.new.session i j l t u v
-    c.loop-line.invariant.world c.in_err-quit.ensures.world
+    c.loop-line.invariant.did c.in_err-quit.ensures.did
     (λ k p q first last. front_stops r a bytes o stop left line b d k m n p q begins first last))
 
-pub returns-clause-world : goal.returns-clause-world
-returns-clause-world g c =
+pub returns-clause-did : goal.returns-clause-did
+returns-clause-did g c =
     let r = c.args.route.now in
     let a = state_of c.args.session.now in
     let b = state_of c.loop-line.session in
@@ -135,7 +135,7 @@ returns-clause-world g c =
     let left = c.loop-line.reader.bytes in
     let none : parts left ≡ left ∷ [] = c.in_default.ensures in
     noting_as r {E = Stop} (Ok false) (AnswersFront r a bytes left o m b) (AnswersLines r a (up_to_quit (whole_lines bytes)) o m (Ok false) b) c.args.session.now c.loop-line.session (g.K.Keeper.images c.args.keeper.now) (g.K.Keeper.images c.loop-line.keeper)
-    (beside (g.L.Link.tells c.args.link.now) (telling (g.R.Runner.runs c.args.runner.now) (g.R.Runner.faults c.args.runner.now))) (beside (g.L.Link.tells c.loop-line.link) (telling (g.R.Runner.runs c.loop-line.runner) (g.R.Runner.faults c.loop-line.runner))) c.loop-line.invariant.world
+    (beside (g.L.Link.tells c.args.link.now) (telling (g.R.Runner.runs c.args.runner.now) (g.R.Runner.faults c.args.runner.now))) (beside (g.L.Link.tells c.loop-line.link) (telling (g.R.Runner.runs c.loop-line.runner) (g.R.Runner.faults c.loop-line.runner))) c.loop-line.invariant.did
     (λ p front. (front_done r a bytes o left b m p none front, refl))
 
 pub returns-clause-quit : goal.returns-clause-quit

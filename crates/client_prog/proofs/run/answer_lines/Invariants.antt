@@ -16,7 +16,7 @@ invariant-loop-line g l = record {
   sink_same : g.O.Sink.faults l.output ≡ g.O.Sink.faults l.fn.output;
   keeper_same : g.K.Keeper.faults l.keeper ≡ g.K.Keeper.faults l.fn.keeper;
   kept : IsKeptReady (g.K.Keeper.images l.keeper) l.route.image l.session.client;
-  world : KeptNoting l.route (AnswersFront l.route (state_of l.fn.session) l.fn.reader.bytes l.reader.bytes (g.O.Sink.written l.fn.output) (g.O.Sink.written l.output) (state_of l.session)) l.fn.session l.session (g.K.Keeper.images l.fn.keeper) (g.K.Keeper.images l.keeper) (beside (g.L.Link.tells l.fn.link) (telling (g.R.Runner.runs l.fn.runner) (g.R.Runner.faults l.fn.runner))) (beside (g.L.Link.tells l.link) (telling (g.R.Runner.runs l.runner) (g.R.Runner.faults l.runner)));
+  did : KeptNoting l.route (AnswersFront l.route (state_of l.fn.session) l.fn.reader.bytes l.reader.bytes (g.O.Sink.written l.fn.output) (g.O.Sink.written l.output) (state_of l.session)) l.fn.session l.session (g.K.Keeper.images l.fn.keeper) (g.K.Keeper.images l.keeper) (beside (g.L.Link.tells l.fn.link) (telling (g.R.Runner.runs l.fn.runner) (g.R.Runner.faults l.fn.runner))) (beside (g.L.Link.tells l.link) (telling (g.R.Runner.runs l.runner) (g.R.Runner.faults l.runner)));
 }
 
 abbrev pub decreases-loop-line : goal.decreases-loop-line

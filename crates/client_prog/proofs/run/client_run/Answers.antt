@@ -72,7 +72,7 @@ returns-in-Ok-open-clause-session g c =
     let went : WentNoting (route_of run) ended (RunAnswers (route_of run) (opened client.number client.log) left rest o n ended now) (record { client = client; folder = [] }) after i j t u =
     subst (λ (s : Sitting). WentNoting (route_of run) ended (RunAnswers (route_of run) (state_of s) left rest o n ended now) s after i j t u) c.new-session.ensures
     (subst (λ (r : Route). WentNoting r ended (RunAnswers r (state_of c.new-session.result) left rest o n ended now) c.new-session.result after i j t u) c.in-Ok.ensures
-    (subst (λ (told : Option Images). WentNoting c.in-Ok.route ended (RunAnswers c.in-Ok.route (state_of c.new-session.result) left rest o n ended now) c.new-session.result after told j t u) c.in-Ok-open.ensures.same c.run-ended.ensures.world)) in
+    (subst (λ (told : Option Images). WentNoting c.in-Ok.route ended (RunAnswers c.in-Ok.route (state_of c.new-session.result) left rest o n ended now) c.new-session.result after told j t u) c.in-Ok-open.ensures.same c.run-ended.ensures.did)) in
     subst (λ (f : Option Invocation). IfSome f (RanFrom i j left rest o n status t u)) (sym c.in-Some.ensures.form)
     (opened_ran run client i j left rest o n ended after status t u c.in-Ok-open.ensures.number c.in-Ok-open.ensures.journal
     (λ start told. c.in-Ok-open.ensures.only start (subst (λ (m : List ℕ). TellsKept i m run.client start) (sym at) told)) is went)

@@ -10,8 +10,8 @@ use Rattle.client_prog.proofs.RunningEnds.{run_stops, run_ends, run_closing}
 use Rattle.client_prog.proofs.RunningRecords.{stops_as, ends_as}
 use Rattle.client_prog.proofs.run.run.Goals as goal
 
-pub returns-in_err-end-clause-world : goal.returns-in_err-end-clause-world
-returns-in_err-end-clause-world g c =
+pub returns-in_err-end-clause-did : goal.returns-in_err-end-clause-did
+returns-in_err-end-clause-did g c =
     let x = err_from_is_err_and c.from_residual.result c.from_residual.ensures.1 in
     let r = c.args.route.now in
     let a = state_of c.args.session.now in
@@ -25,11 +25,11 @@ returns-in_err-end-clause-world g c =
     let left = g.I.Source.left c.args.input.now in
     let rest = g.I.Source.left c.answer_input.new.input in
     let stop = c.in_err-end.field-0.0 in
-    rw (x.1, x.2) (stops_as r {U = InputEnd} InputEnd (Err stop) stop (AnswersInput r a left rest o n (Err stop) b) (RunAnswers r a left rest o n (Err stop) b) c.args.session.now c.answer_input.new.session i j t u c.in_err-end.ensures.world
+    rw (x.1, x.2) (stops_as r {U = InputEnd} InputEnd (Err stop) stop (AnswersInput r a left rest o n (Err stop) b) (RunAnswers r a left rest o n (Err stop) b) c.args.session.now c.answer_input.new.session i j t u c.in_err-end.ensures.did
     (λ k p turn. run_stops r a left rest o stop n b k p turn))
 
-pub returns-clause-world : goal.returns-clause-world
-returns-clause-world g c =
+pub returns-clause-did : goal.returns-clause-did
+returns-clause-did g c =
     let r = c.args.route.now in
     let a = state_of c.args.session.now in
     let b = state_of c.answer_input.new.session in
@@ -43,11 +43,11 @@ returns-clause-world g c =
     let left = g.I.Source.left c.args.input.now in
     let rest = g.I.Source.left c.answer_input.new.input in
     let end = c.in_ok-end.end in
-    ends_as r end end (AnswersInput r a left rest o m (Ok end) b) (RunAnswers r a left rest o n (Ok end) b) c.args.session.now c.answer_input.new.session i j t u c.in_ok-end.ensures.world
+    ends_as r end end (AnswersInput r a left rest o m (Ok end) b) (RunAnswers r a left rest o n (Ok end) b) c.args.session.now c.answer_input.new.session i j t u c.in_ok-end.ensures.did
     (λ k p turn. run_ends r a left rest o end m n b k p turn c.in_ok-close.ensures.all)
 
-pub returns-in_err-close-clause-world : goal.returns-in_err-close-clause-world
-returns-in_err-close-clause-world g c =
+pub returns-in_err-close-clause-did : goal.returns-in_err-close-clause-did
+returns-in_err-close-clause-did g c =
     let x = err_from_is_err_and c.from_residual-in_err-close.result c.from_residual-in_err-close.ensures.1 in
     let r = c.args.route.now in
     let a = state_of c.args.session.now in
@@ -65,5 +65,5 @@ returns-in_err-close-clause-world g c =
     let stop = c.in_err-close.field-0.0 in
     let front = c.in_err-close.ensures.front in
     let other : stop ≢ Keeper = λ is. c.in_err-close.ensures.keeper (ap Err is) in
-    rw (x.1, x.2) (stops_as r InputEnd (Ok end) stop (AnswersInput r a left rest o m (Ok end) b) (RunAnswers r a left rest o n (Err stop) b) c.args.session.now c.answer_input.new.session i j t u c.in_ok-end.ensures.world
+    rw (x.1, x.2) (stops_as r InputEnd (Ok end) stop (AnswersInput r a left rest o m (Ok end) b) (RunAnswers r a left rest o n (Err stop) b) c.args.session.now c.answer_input.new.session i j t u c.in_ok-end.ensures.did
     (λ k p turn. run_closing r a left rest o end stop front.1.0 m n b k p front.0 other turn front.1.1))

@@ -19,8 +19,8 @@ use Rattle.client_core.proofs.client.Client.pull.Goals as goal
 
 -- ---- rows were taken
 
-pub returns-clause-world : goal.returns-clause-world
-returns-clause-world g c =
+pub returns-clause-did : goal.returns-clause-did
+returns-clause-did g c =
     let client = c.self.inside.number in
     let route = c.args.route.now in
     let before = c.self.inside.log in
@@ -37,7 +37,7 @@ returns-clause-world g c =
     next_keeps route.image client after None r i l (none_added i) (subst (λ (n : List ℕ). Told i l (KeepsNext n client after None r)) c.bytes.ensures.value c.keep_log-kept.ensures.kept) in
     subst (λ (self : Client). Went self.number (is_some route.surrogate) route.image (PullEnds self.number route self.log end after) self.log after i l t u) c.self.view_is
     (subst (λ (e : PullEnd). Went client (is_some route.surrogate) route.image (PullEnds client route before e after) before after i l t u) (sym c.pulled_end.ensures)
-    (pulled_went client route before after i l t u count r save (c.in-Pulled.ensures.world i keeps)))
+    (pulled_went client route before after i l t u count r save (c.in-Pulled.ensures.did i keeps)))
 
 pub returns-clause-cause : goal.returns-clause-cause
 returns-clause-cause g c =
@@ -89,7 +89,7 @@ returns-clause-honest g c =
     let r = c.keep_log-kept.result in
     let end = c.pulled_end.result in
     let l = g.K.Keeper.images c.keep_log-kept.new.keeper in
-    pull_not_other c.args.self.now.number route c.args.self.now.log after (is_some route.surrogate) route.image end i l t u (returns-clause-world g c)
+    pull_not_other c.args.self.now.number route c.args.self.now.log after (is_some route.surrogate) route.image end i l t u (returns-clause-did g c)
 
 pub returns-clause-fresh : goal.returns-clause-fresh
 returns-clause-fresh g c = λ calm.
@@ -109,8 +109,8 @@ returns-clause-fresh g c = λ calm.
 
 -- ---- nothing was changed
 
-pub returns-in_default-clause-world : goal.returns-in_default-clause-world
-returns-in_default-clause-world g c =
+pub returns-in_default-clause-did : goal.returns-in_default-clause-did
+returns-in_default-clause-did g c =
     let client = c.self.inside.number in
     let route = c.args.route.now in
     let before = c.self.inside.log in
@@ -121,7 +121,7 @@ returns-in_default-clause-world g c =
     let keeps : IsKept i route.image client before = subst (λ (self : Client). IsKept i route.image self.number self.log) (sym c.self.view_is) c.requires.0 in
     let end = c.pull_log.result in
     subst (λ (self : Client). Went self.number (is_some route.surrogate) route.image (PullEnds self.number route self.log end after) self.log after i i t u) c.self.view_is
-    (unpulled_went client route before after i t u end (unpulled end c.in_default.not-Pulled) c.pull_log.ensures.leaves (c.pull_log.ensures.world i keeps))
+    (unpulled_went client route before after i t u end (unpulled end c.in_default.not-Pulled) c.pull_log.ensures.leaves (c.pull_log.ensures.did i keeps))
 
 pub returns-in_default-clause-cause : goal.returns-in_default-clause-cause
 returns-in_default-clause-cause g c =
@@ -156,7 +156,7 @@ returns-in_default-clause-honest g c =
     let i = g.K.Keeper.images c.args.keeper.now in
     let t : LinkTelling = g.L.Link.tells c.args.link.now in
     let u : LinkTelling = g.L.Link.tells c.pull_log.new.link in
-    pull_not_other c.args.self.now.number route c.args.self.now.log after (is_some route.surrogate) route.image c.pull_log.result i i t u (returns-in_default-clause-world g c)
+    pull_not_other c.args.self.now.number route c.args.self.now.log after (is_some route.surrogate) route.image c.pull_log.result i i t u (returns-in_default-clause-did g c)
 
 pub returns-in_default-clause-fresh : goal.returns-in_default-clause-fresh
 returns-in_default-clause-fresh g c = λ calm.

@@ -41,7 +41,7 @@ loop-entry-init g c =
       keeps = keeps_none route.image client before i keeps;
       current = ready_current route.image client before c.self.inside.journal i keeps ready;
       acks = acks_none route.image client before c.self.inside.journal i;
-      world = acked_none client route before i (g.L.Link.tells c.args.link.now) keeps;
+      did = acked_none client route before i (g.L.Link.tells c.args.link.now) keeps;
     }
 
 pub ship-requires-clause-valid : goal.ship-requires-clause-valid
@@ -62,8 +62,8 @@ ship-requires-clause-made g c =
 
 -- ---- memory was wanted in a shipping
 
-pub returns-in-Err-clause-world : goal.returns-in-Err-clause-world
-returns-in-Err-clause-world g c =
+pub returns-in-Err-clause-did : goal.returns-in-Err-clause-did
+returns-in-Err-clause-did g c =
     let client = c.self.inside.number in
     let route = c.args.route.now in
     let before = c.self.inside.log in
@@ -77,7 +77,7 @@ returns-in-Err-clause-world g c =
     let first : IsFirst entry mid.pending = first_is mid.pending entry c.in-Some.ensures.entry in
     let v : LinkTelling = g.L.Link.tells c.ship.new.link in
     subst (λ (self : Client). Went self.number (is_some route.surrogate) route.image (SyncEnds self.number route self.log Memory mid) self.log mid i j t v) c.self.view_is
-    (sync_breaks client route before mid entry c.in-Some.ensures.log first i j keeps t u v c.loop-entry.invariant.world c.in-Err._refused c.in-Err.ensures.shipped)
+    (sync_breaks client route before mid entry c.in-Some.ensures.log first i j keeps t u v c.loop-entry.invariant.did c.in-Err._refused c.in-Err.ensures.shipped)
 
 pub returns-in-Err-clause-keeps : goal.returns-in-Err-clause-keeps
 returns-in-Err-clause-keeps g c =
@@ -118,7 +118,7 @@ returns-in-Err-clause-honest g c =
     let j = g.K.Keeper.images c.loop-entry.keeper in
     let t : LinkTelling = g.L.Link.tells c.args.link.now in
     let u : LinkTelling = g.L.Link.tells c.loop-entry.link in
-    went_true client (is_some route.surrogate) route before mid Memory route.image i j t (g.L.Link.tells c.ship.new.link) (returns-in-Err-clause-world g c)
+    went_true client (is_some route.surrogate) route before mid Memory route.image i j t (g.L.Link.tells c.ship.new.link) (returns-in-Err-clause-did g c)
 
 pub returns-in-Err-clause-complete : goal.returns-in-Err-clause-complete
 returns-in-Err-clause-complete g c = λ calm sound.
@@ -130,7 +130,7 @@ returns-in-Err-clause-complete g c = λ calm sound.
     let j = g.K.Keeper.images c.loop-entry.keeper in
     let t : LinkTelling = g.L.Link.tells c.args.link.now in
     let u : LinkTelling = g.L.Link.tells c.loop-entry.link in
-    went_complete client (is_some route.surrogate) route before mid Memory route.image i j t (g.L.Link.tells c.ship.new.link) (returns-in-Err-clause-world g c) (g.K.Keeper.faults c.args.keeper.now) (g.K.Keeper.faults c.loop-entry.keeper) (returns-in-Err-clause-cause g c) calm sound
+    went_complete client (is_some route.surrogate) route before mid Memory route.image i j t (g.L.Link.tells c.ship.new.link) (returns-in-Err-clause-did g c) (g.K.Keeper.faults c.args.keeper.now) (g.K.Keeper.faults c.loop-entry.keeper) (returns-in-Err-clause-cause g c) calm sound
 
 pub returns-in-Err-clause-settled : goal.returns-in-Err-clause-settled
 returns-in-Err-clause-settled g c = λ none sound.
@@ -150,8 +150,8 @@ returns-in-Err-clause-number g c =
 
 -- ---- an entry was not accepted
 
-pub returns-in-Some-end_by-clause-world : goal.returns-in-Some-end_by-clause-world
-returns-in-Some-end_by-clause-world g c =
+pub returns-in-Some-end_by-clause-did : goal.returns-in-Some-end_by-clause-did
+returns-in-Some-end_by-clause-did g c =
     let client = c.self.inside.number in
     let route = c.args.route.now in
     let before = c.self.inside.log in
@@ -167,7 +167,7 @@ returns-in-Some-end_by-clause-world g c =
     let came = c.in-Ok.reply in
     let end = c.in-Some-end_by.end in
     subst (λ (self : Client). Went self.number (is_some route.surrogate) route.image (SyncEnds self.number route self.log end mid) self.log mid i j t v) c.self.view_is
-    (sync_ends client route before mid entry c.in-Some.ensures.log first i j keeps t u v c.loop-entry.invariant.world came end c.in-Ok.ensures.shipped c.in-Some-end_by.ensures)
+    (sync_ends client route before mid entry c.in-Some.ensures.log first i j keeps t u v c.loop-entry.invariant.did came end c.in-Ok.ensures.shipped c.in-Some-end_by.ensures)
 
 pub returns-in-Some-end_by-clause-keeps : goal.returns-in-Some-end_by-clause-keeps
 returns-in-Some-end_by-clause-keeps g c =
@@ -223,7 +223,7 @@ returns-in-Some-end_by-clause-honest g c =
     let j = g.K.Keeper.images c.loop-entry.keeper in
     let t : LinkTelling = g.L.Link.tells c.args.link.now in
     let u : LinkTelling = g.L.Link.tells c.loop-entry.link in
-    went_true client (is_some route.surrogate) route before mid c.in-Some-end_by.end route.image i j t (g.L.Link.tells c.ship.new.link) (returns-in-Some-end_by-clause-world g c)
+    went_true client (is_some route.surrogate) route before mid c.in-Some-end_by.end route.image i j t (g.L.Link.tells c.ship.new.link) (returns-in-Some-end_by-clause-did g c)
 
 pub returns-in-Some-end_by-clause-complete : goal.returns-in-Some-end_by-clause-complete
 returns-in-Some-end_by-clause-complete g c = λ calm sound.
@@ -235,7 +235,7 @@ returns-in-Some-end_by-clause-complete g c = λ calm sound.
     let j = g.K.Keeper.images c.loop-entry.keeper in
     let t : LinkTelling = g.L.Link.tells c.args.link.now in
     let u : LinkTelling = g.L.Link.tells c.loop-entry.link in
-    went_complete client (is_some route.surrogate) route before mid c.in-Some-end_by.end route.image i j t (g.L.Link.tells c.ship.new.link) (returns-in-Some-end_by-clause-world g c) (g.K.Keeper.faults c.args.keeper.now) (g.K.Keeper.faults c.loop-entry.keeper) (returns-in-Some-end_by-clause-cause g c) calm sound
+    went_complete client (is_some route.surrogate) route before mid c.in-Some-end_by.end route.image i j t (g.L.Link.tells c.ship.new.link) (returns-in-Some-end_by-clause-did g c) (g.K.Keeper.faults c.args.keeper.now) (g.K.Keeper.faults c.loop-entry.keeper) (returns-in-Some-end_by-clause-cause g c) calm sound
 
 pub returns-in-Some-end_by-clause-settled : goal.returns-in-Some-end_by-clause-settled
 returns-in-Some-end_by-clause-settled g c = λ none sound.
@@ -314,8 +314,8 @@ loop-entry-smaller g c =
 
 -- ---- what was acknowledged could not be kept
 
-pub returns-in-Err-keep_log-clause-world : goal.returns-in-Err-keep_log-clause-world
-returns-in-Err-keep_log-clause-world g c =
+pub returns-in-Err-keep_log-clause-did : goal.returns-in-Err-keep_log-clause-did
+returns-in-Err-keep_log-clause-did g c =
     let client = c.self.inside.number in
     let route = c.args.route.now in
     let before = c.self.inside.log in
@@ -347,7 +347,7 @@ returns-in-Err-keep_log-clause-world g c =
     subst (λ (self : Client). Went self.number (is_some route.surrogate) route.image (SyncEnds self.number route self.log c.unkept_end.result next) self.log next i l t v) c.self.view_is
     (subst (λ (end : SyncEnd). Went client (is_some route.surrogate) route.image (SyncEnds client route before end next) before next i l t v) (sym c.unkept_end.ensures)
     (subst (λ (log : Log). Went client (is_some route.surrogate) route.image (SyncEnds client route before (unkept_end refused) log) before log i l t v) is
-    (sync_unkept client route before mid entry c.in-Some.ensures.log first i j keeps t u v c.loop-entry.invariant.world on.0 on.2 goes done l refused kept)))
+    (sync_unkept client route before mid entry c.in-Some.ensures.log first i j keeps t u v c.loop-entry.invariant.did on.0 on.2 goes done l refused kept)))
 
 pub returns-in-Err-keep_log-clause-keeps : goal.returns-in-Err-keep_log-clause-keeps
 returns-in-Err-keep_log-clause-keeps g c =
@@ -411,7 +411,7 @@ returns-in-Err-keep_log-clause-honest g c =
     let j = g.K.Keeper.images c.loop-entry.keeper in
     let t : LinkTelling = g.L.Link.tells c.args.link.now in
     let u : LinkTelling = g.L.Link.tells c.loop-entry.link in
-    went_true client (is_some route.surrogate) route before c.acknowledge.new.self c.unkept_end.result route.image i (g.K.Keeper.images c.keep_log.new.keeper) t (g.L.Link.tells c.ship.new.link) (returns-in-Err-keep_log-clause-world g c)
+    went_true client (is_some route.surrogate) route before c.acknowledge.new.self c.unkept_end.result route.image i (g.K.Keeper.images c.keep_log.new.keeper) t (g.L.Link.tells c.ship.new.link) (returns-in-Err-keep_log-clause-did g c)
 
 pub returns-in-Err-keep_log-clause-complete : goal.returns-in-Err-keep_log-clause-complete
 returns-in-Err-keep_log-clause-complete g c = λ calm sound.
@@ -423,7 +423,7 @@ returns-in-Err-keep_log-clause-complete g c = λ calm sound.
     let j = g.K.Keeper.images c.loop-entry.keeper in
     let t : LinkTelling = g.L.Link.tells c.args.link.now in
     let u : LinkTelling = g.L.Link.tells c.loop-entry.link in
-    went_complete client (is_some route.surrogate) route before c.acknowledge.new.self c.unkept_end.result route.image i (g.K.Keeper.images c.keep_log.new.keeper) t (g.L.Link.tells c.ship.new.link) (returns-in-Err-keep_log-clause-world g c) (g.K.Keeper.faults c.args.keeper.now) (g.K.Keeper.faults c.keep_log.new.keeper) (returns-in-Err-keep_log-clause-cause g c) calm sound
+    went_complete client (is_some route.surrogate) route before c.acknowledge.new.self c.unkept_end.result route.image i (g.K.Keeper.images c.keep_log.new.keeper) t (g.L.Link.tells c.ship.new.link) (returns-in-Err-keep_log-clause-did g c) (g.K.Keeper.faults c.args.keeper.now) (g.K.Keeper.faults c.keep_log.new.keeper) (returns-in-Err-keep_log-clause-cause g c) calm sound
 
 pub returns-in-Err-keep_log-clause-settled : goal.returns-in-Err-keep_log-clause-settled
 returns-in-Err-keep_log-clause-settled g c = λ none sound.
@@ -484,14 +484,14 @@ loop-entry-preserved g c =
           (sym (c.in_default-keep_log.ensures.journal ∙ ap (λ (log : Log). journal_after {E = KeepError} journal (next_notes journal true log) log (Ok c.in_default-keep_log.field-0)) (sym is)))
           (acks_more route.image client before c.self.inside.journal mid journal c.in_default-keep_log.field-0 i j l c.loop-entry.invariant.acks (first_some mid.pending entry first) c.loop-entry.invariant.current
           (subst (λ (log : Log). Told j l (KeepsNext {E = KeepError} route.image client log (next_notes journal true log) (Ok c.in_default-keep_log.field-0))) (sym is) told)));
-      world = subst (λ (log : Log). WentSoFar client route before log i l t v) is
-          (acked_more client route before mid entry c.in-Some.ensures.log first i j keeps t u v c.loop-entry.invariant.world on.0 on.2 goes done l (Ok c.in_default-keep_log.field-0) kept);
+      did = subst (λ (log : Log). WentSoFar client route before log i l t v) is
+          (acked_more client route before mid entry c.in-Some.ensures.log first i j keeps t u v c.loop-entry.invariant.did on.0 on.2 goes done l (Ok c.in_default-keep_log.field-0) kept);
     }
 
 -- ---- nothing is pending
 
-pub returns-clause-world : goal.returns-clause-world
-returns-clause-world g c =
+pub returns-clause-did : goal.returns-clause-did
+returns-clause-did g c =
     let client = c.self.inside.number in
     let route = c.args.route.now in
     let before = c.self.inside.log in
@@ -503,7 +503,7 @@ returns-clause-world g c =
     let none = none_is mid.pending c.in_default.ensures.entry in
     subst (λ (self : Client). Went self.number (is_some route.surrogate) route.image (SyncEnds self.number route self.log (Synced c.acked.result) mid) self.log mid i j t u) c.self.view_is
     (subst (λ (n : ℕ). Went client (is_some route.surrogate) route.image (SyncEnds client route before (Synced n) mid) before mid i j t u) (sym c.acked.ensures.acked)
-    (sync_synced client route before mid i j t u none c.loop-entry.invariant.world))
+    (sync_synced client route before mid i j t u none c.loop-entry.invariant.did))
 
 pub returns-clause-keeps : goal.returns-clause-keeps
 returns-clause-keeps g c =
@@ -552,7 +552,7 @@ returns-clause-honest g c =
     let j = g.K.Keeper.images c.loop-entry.keeper in
     let t : LinkTelling = g.L.Link.tells c.args.link.now in
     let u : LinkTelling = g.L.Link.tells c.loop-entry.link in
-    went_true client (is_some route.surrogate) route before mid (Synced c.acked.result) route.image i j t u (returns-clause-world g c)
+    went_true client (is_some route.surrogate) route before mid (Synced c.acked.result) route.image i j t u (returns-clause-did g c)
 
 pub returns-clause-complete : goal.returns-clause-complete
 returns-clause-complete g c = λ calm sound.
@@ -564,7 +564,7 @@ returns-clause-complete g c = λ calm sound.
     let j = g.K.Keeper.images c.loop-entry.keeper in
     let t : LinkTelling = g.L.Link.tells c.args.link.now in
     let u : LinkTelling = g.L.Link.tells c.loop-entry.link in
-    went_complete client (is_some route.surrogate) route before mid (Synced c.acked.result) route.image i j t u (returns-clause-world g c) (g.K.Keeper.faults c.args.keeper.now) (g.K.Keeper.faults c.loop-entry.keeper) (returns-clause-cause g c) calm sound
+    went_complete client (is_some route.surrogate) route before mid (Synced c.acked.result) route.image i j t u (returns-clause-did g c) (g.K.Keeper.faults c.args.keeper.now) (g.K.Keeper.faults c.loop-entry.keeper) (returns-clause-cause g c) calm sound
 
 pub returns-clause-settled : goal.returns-clause-settled
 returns-clause-settled g c = λ none sound.

@@ -14,7 +14,7 @@ invariant-loop-entry g l = record {
   keeps : KeepsAcked l.initial.self-inside.log l.route.image l.client l.self-inside.log (g.K.Keeper.images l.fn.keeper) (g.K.Keeper.images l.keeper);
   current : JournalIsCurrent (g.K.Keeper.images l.keeper) l.route.image l.client l.self-inside.log l.self-inside.journal;
   acks : KeepsAcks l.route.image l.client l.initial.self-inside.log l.initial.self-inside.journal l.self-inside.log l.self-inside.journal (g.K.Keeper.images l.fn.keeper) (g.K.Keeper.images l.keeper);
-  world : WentSoFar l.client l.route l.initial.self-inside.log l.self-inside.log (g.K.Keeper.images l.fn.keeper) (g.K.Keeper.images l.keeper) (g.L.Link.tells l.fn.link) (g.L.Link.tells l.link);
+  did : WentSoFar l.client l.route l.initial.self-inside.log l.self-inside.log (g.K.Keeper.images l.fn.keeper) (g.K.Keeper.images l.keeper) (g.L.Link.tells l.fn.link) (g.L.Link.tells l.link);
 }
 
 abbrev pub decreases-loop-entry : goal.decreases-loop-entry

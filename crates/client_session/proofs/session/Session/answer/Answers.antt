@@ -20,8 +20,8 @@ use Rattle.client_session.proofs.Commanding.{run_went, run_caused, whatever}
 use Rattle.client_session.proofs.Recorded.{unless_pulled}
 use Rattle.client_session.proofs.session.Session.answer.Goals as goal
 
-pub returns-in-Err-clause-world : goal.returns-in-Err-clause-world
-returns-in-Err-clause-world g c =
+pub returns-in-Err-clause-did : goal.returns-in-Err-clause-did
+returns-in-Err-clause-did g c =
     let s = state_of c.args.self.now in
     let route = c.args.route.now in
     let i = g.K.Keeper.images c.args.keeper.now in
@@ -38,8 +38,8 @@ returns-in-Err-clause-cause g c =
     subst (λ (l : Result Line LineError). HasLineCause route s l (Ok (Some (Refused (faults.Line c.in-Err.refusal)))) s t t (g.K.Keeper.faults c.args.keeper.now) (g.K.Keeper.faults c.args.keeper.now)) (sym c.in-Err.is)
     (quietly_caused route i s (Err c.in-Err.refusal) (Ok (Some (Refused (faults.Line c.in-Err.refusal)))) s i (tells_quietly route.image i s c.requires.0 (Err c.in-Err.refusal) (Some (Refused (faults.Line c.in-Err.refusal))) (λ r. (refl, refl, refl))) t)
 
-pub returns-in-Ok-Put-clause-world : goal.returns-in-Ok-Put-clause-world
-returns-in-Ok-Put-clause-world g c =
+pub returns-in-Ok-Put-clause-did : goal.returns-in-Ok-Put-clause-did
+returns-in-Ok-Put-clause-did g c =
     let s = state_of c.args.self.now in
     let route = c.args.route.now in
     let i = g.K.Keeper.images c.args.keeper.now in
@@ -65,8 +65,8 @@ pub returns-in-Ok-Put-clause-kept : goal.returns-in-Ok-Put-clause-kept
 returns-in-Ok-Put-clause-kept g c =
     subst (λ (n : List ℕ). IfOk c.put.result (λ answer. IsKeptReady (g.K.Keeper.images c.put.new.keeper) n c.put.new.self.client)) c.bytes-image.ensures.value c.put.ensures.kept
 
-pub returns-in-Ok-Make-clause-world : goal.returns-in-Ok-Make-clause-world
-returns-in-Ok-Make-clause-world g c =
+pub returns-in-Ok-Make-clause-did : goal.returns-in-Ok-Make-clause-did
+returns-in-Ok-Make-clause-did g c =
     let s = state_of c.args.self.now in
     let route = c.args.route.now in
     let i = g.K.Keeper.images c.args.keeper.now in
@@ -92,8 +92,8 @@ pub returns-in-Ok-Make-clause-kept : goal.returns-in-Ok-Make-clause-kept
 returns-in-Ok-Make-clause-kept g c =
     subst (λ (n : List ℕ). IfOk c.make.result (λ answer. IsKeptReady (g.K.Keeper.images c.make.new.keeper) n c.make.new.self.client)) c.bytes-image.ensures.value c.make.ensures.kept
 
-pub returns-in-Ok-Remove-clause-world : goal.returns-in-Ok-Remove-clause-world
-returns-in-Ok-Remove-clause-world g c =
+pub returns-in-Ok-Remove-clause-did : goal.returns-in-Ok-Remove-clause-did
+returns-in-Ok-Remove-clause-did g c =
     let s = state_of c.args.self.now in
     let route = c.args.route.now in
     let i = g.K.Keeper.images c.args.keeper.now in
@@ -119,8 +119,8 @@ pub returns-in-Ok-Remove-clause-kept : goal.returns-in-Ok-Remove-clause-kept
 returns-in-Ok-Remove-clause-kept g c =
     subst (λ (n : List ℕ). IfOk c.remove.result (λ answer. IsKeptReady (g.K.Keeper.images c.remove.new.keeper) n c.remove.new.self.client)) c.bytes-image.ensures.value c.remove.ensures.kept
 
-pub returns-in-Ok-Move-clause-world : goal.returns-in-Ok-Move-clause-world
-returns-in-Ok-Move-clause-world g c =
+pub returns-in-Ok-Move-clause-did : goal.returns-in-Ok-Move-clause-did
+returns-in-Ok-Move-clause-did g c =
     let s = state_of c.args.self.now in
     let route = c.args.route.now in
     let i = g.K.Keeper.images c.args.keeper.now in
@@ -146,8 +146,8 @@ pub returns-in-Ok-Move-clause-kept : goal.returns-in-Ok-Move-clause-kept
 returns-in-Ok-Move-clause-kept g c =
     subst (λ (n : List ℕ). IfOk c.relocate.result (λ answer. IsKeptReady (g.K.Keeper.images c.relocate.new.keeper) n c.relocate.new.self.client)) c.bytes-image.ensures.value c.relocate.ensures.kept
 
-pub returns-in-Ok-Cat-clause-world : goal.returns-in-Ok-Cat-clause-world
-returns-in-Ok-Cat-clause-world g c =
+pub returns-in-Ok-Cat-clause-did : goal.returns-in-Ok-Cat-clause-did
+returns-in-Ok-Cat-clause-did g c =
     let s = state_of c.args.self.now in
     let route = c.args.route.now in
     let i = g.K.Keeper.images c.args.keeper.now in
@@ -164,8 +164,8 @@ returns-in-Ok-Cat-clause-cause g c =
     subst (λ (l : Result Line LineError). HasLineCause route s l c.cat.result s t t (g.K.Keeper.faults c.args.keeper.now) (g.K.Keeper.faults c.args.keeper.now)) (sym (c.in-Ok-Cat.is ∙ ap Ok c.in-Ok-Cat.field-0-is))
     (quietly_caused route i s (Ok (Cat c.in-Ok-Cat.path)) c.cat.result s i (told_quietly route.image i s c.requires.0 (Ok (Cat c.in-Ok-Cat.path)) _ c.cat.result (λ r. (refl, refl, refl)) c.cat.ensures.answer) t)
 
-pub returns-in-Ok-List-clause-world : goal.returns-in-Ok-List-clause-world
-returns-in-Ok-List-clause-world g c =
+pub returns-in-Ok-List-clause-did : goal.returns-in-Ok-List-clause-did
+returns-in-Ok-List-clause-did g c =
     let s = state_of c.args.self.now in
     let route = c.args.route.now in
     let i = g.K.Keeper.images c.args.keeper.now in
@@ -184,8 +184,8 @@ returns-in-Ok-List-clause-cause g c =
     (quietly_caused route i s (Ok (Ls c.in-Ok-List.path)) c.list.result s i (told_quietly route.image i s c.requires.0 (Ok (Ls c.in-Ok-List.path)) (Some (list_answer (tree_of s.client.log) s.folder c.in-Ok-List.path)) c.list.result (λ r. (refl, refl, refl))
     (subst (λ (word : Option (List ℕ)). IfOk c.list.result (λ given. given ≡ Some (list_answer (tree_of s.client.log) s.folder word))) c.as_ref.ensures.value c.list.ensures.answer)) t)
 
-pub returns-in-Ok-Enter-clause-world : goal.returns-in-Ok-Enter-clause-world
-returns-in-Ok-Enter-clause-world g c =
+pub returns-in-Ok-Enter-clause-did : goal.returns-in-Ok-Enter-clause-did
+returns-in-Ok-Enter-clause-did g c =
     let s = state_of c.args.self.now in
     let route = c.args.route.now in
     let i = g.K.Keeper.images c.args.keeper.now in
@@ -208,8 +208,8 @@ returns-in-Ok-Enter-clause-kept g c =
     let i = g.K.Keeper.images c.args.keeper.now in
     whatever c.enter.result (IsKeptReady i image c.enter.new.self.client) (subst (IsKeptReady i image) (sym c.enter.ensures.client) c.requires)
 
-pub returns-in-Ok-Status-clause-world : goal.returns-in-Ok-Status-clause-world
-returns-in-Ok-Status-clause-world g c =
+pub returns-in-Ok-Status-clause-did : goal.returns-in-Ok-Status-clause-did
+returns-in-Ok-Status-clause-did g c =
     let s = state_of c.args.self.now in
     let route = c.args.route.now in
     let i = g.K.Keeper.images c.args.keeper.now in
@@ -226,8 +226,8 @@ returns-in-Ok-Status-clause-cause g c =
     subst (λ (l : Result Line LineError). HasLineCause route s l (Ok (Some c.status.result)) s t t (g.K.Keeper.faults c.args.keeper.now) (g.K.Keeper.faults c.args.keeper.now)) (sym (c.in-Ok-Status.is ∙ ap Ok c.in-Ok-Status.field-0-is))
     (quietly_caused route i s (Ok Status) (Ok (Some c.status.result)) s i (status_quietly route.image i s c.requires.0 c.status.result c.status.ensures) t)
 
-pub returns-in-Ok-Empty-clause-world : goal.returns-in-Ok-Empty-clause-world
-returns-in-Ok-Empty-clause-world g c =
+pub returns-in-Ok-Empty-clause-did : goal.returns-in-Ok-Empty-clause-did
+returns-in-Ok-Empty-clause-did g c =
     let s = state_of c.args.self.now in
     let route = c.args.route.now in
     let i = g.K.Keeper.images c.args.keeper.now in
@@ -244,8 +244,8 @@ returns-in-Ok-Empty-clause-cause g c =
     subst (λ (l : Result Line LineError). HasLineCause route s l (Ok None) s t t (g.K.Keeper.faults c.args.keeper.now) (g.K.Keeper.faults c.args.keeper.now)) (sym (c.in-Ok-Empty.is ∙ ap Ok c.in-Ok-Empty.field-0-is))
     (quietly_caused route i s (Ok Empty) (Ok None) s i (silent_quietly route.image i s c.requires.0 (Ok Empty) (λ r. (refl, refl, refl))) t)
 
-pub returns-in-Ok-Quit-clause-world : goal.returns-in-Ok-Quit-clause-world
-returns-in-Ok-Quit-clause-world g c =
+pub returns-in-Ok-Quit-clause-did : goal.returns-in-Ok-Quit-clause-did
+returns-in-Ok-Quit-clause-did g c =
     let s = state_of c.args.self.now in
     let route = c.args.route.now in
     let i = g.K.Keeper.images c.args.keeper.now in
@@ -271,8 +271,8 @@ returns-in-Ok-List-clause-keeper g c = unkept c.list.result (g.K.Keeper.faults c
 pub returns-in-Ok-Enter-clause-keeper : goal.returns-in-Ok-Enter-clause-keeper
 returns-in-Ok-Enter-clause-keeper g c = unkept c.enter.result (g.K.Keeper.faults c.args.keeper.now) c.enter.ensures.memory
 
-pub returns-in-Ok-Run-clause-world : goal.returns-in-Ok-Run-clause-world
-returns-in-Ok-Run-clause-world g c =
+pub returns-in-Ok-Run-clause-did : goal.returns-in-Ok-Run-clause-did
+returns-in-Ok-Run-clause-did g c =
     let s = state_of c.args.self.now in
     let route = c.args.route.now in
     let i = g.K.Keeper.images c.args.keeper.now in
@@ -298,8 +298,8 @@ returns-in-Ok-Run-clause-cause g c =
 pub returns-in-Ok-Run-clause-runner : goal.returns-in-Ok-Run-clause-runner
 returns-in-Ok-Run-clause-runner g c = λ no. absurd (cc (sym (ap asks_to_run (c.in-Ok-Run.is ∙ ap Ok c.in-Ok-Run.field-0-is)) ∙ no))
 
-pub returns-in-Ok-Sync-clause-world : goal.returns-in-Ok-Sync-clause-world
-returns-in-Ok-Sync-clause-world g c =
+pub returns-in-Ok-Sync-clause-did : goal.returns-in-Ok-Sync-clause-did
+returns-in-Ok-Sync-clause-did g c =
     let s = state_of c.args.self.now in
     let route = c.args.route.now in
     let i = g.K.Keeper.images c.args.keeper.now in
@@ -307,7 +307,7 @@ returns-in-Ok-Sync-clause-world g c =
     let ran = telling (g.R.Runner.runs c.args.runner.now) (g.R.Runner.faults c.args.runner.now) in
     let t = beside (g.L.Link.tells c.args.link.now) ran in
     let u = beside (g.L.Link.tells c.sync.new.link) ran in
-    subst (λ (l : Result Line LineError). WentDoing route (LineEnds route s l c.sync.result (state_of c.sync.new.self)) s (state_of c.sync.new.self) i j t u) (sym (c.in-Ok-Sync.is ∙ ap Ok c.in-Ok-Sync.field-0-is)) (c.sync.ensures.world ran)
+    subst (λ (l : Result Line LineError). WentDoing route (LineEnds route s l c.sync.result (state_of c.sync.new.self)) s (state_of c.sync.new.self) i j t u) (sym (c.in-Ok-Sync.is ∙ ap Ok c.in-Ok-Sync.field-0-is)) (c.sync.ensures.did ran)
 
 pub returns-in-Ok-Sync-clause-cause : goal.returns-in-Ok-Sync-clause-cause
 returns-in-Ok-Sync-clause-cause g c =
@@ -318,8 +318,8 @@ returns-in-Ok-Sync-clause-cause g c =
     let u = beside (g.L.Link.tells c.sync.new.link) ran in
     subst (λ (l : Result Line LineError). HasLineCause route s l c.sync.result (state_of c.sync.new.self) t u (g.K.Keeper.faults c.args.keeper.now) (g.K.Keeper.faults c.sync.new.keeper)) (sym (c.in-Ok-Sync.is ∙ ap Ok c.in-Ok-Sync.field-0-is)) (c.sync.ensures.cause ran)
 
-pub returns-in-Ok-Pull-clause-world : goal.returns-in-Ok-Pull-clause-world
-returns-in-Ok-Pull-clause-world g c =
+pub returns-in-Ok-Pull-clause-did : goal.returns-in-Ok-Pull-clause-did
+returns-in-Ok-Pull-clause-did g c =
     let s = state_of c.args.self.now in
     let route = c.args.route.now in
     let i = g.K.Keeper.images c.args.keeper.now in
@@ -327,7 +327,7 @@ returns-in-Ok-Pull-clause-world g c =
     let ran = telling (g.R.Runner.runs c.args.runner.now) (g.R.Runner.faults c.args.runner.now) in
     let t = beside (g.L.Link.tells c.args.link.now) ran in
     let u = beside (g.L.Link.tells c.pull.new.link) ran in
-    subst (λ (l : Result Line LineError). WentDoing route (LineEnds route s l c.pull.result (state_of c.pull.new.self)) s (state_of c.pull.new.self) i j t u) (sym (c.in-Ok-Pull.is ∙ ap Ok c.in-Ok-Pull.field-0-is)) (c.pull.ensures.world ran)
+    subst (λ (l : Result Line LineError). WentDoing route (LineEnds route s l c.pull.result (state_of c.pull.new.self)) s (state_of c.pull.new.self) i j t u) (sym (c.in-Ok-Pull.is ∙ ap Ok c.in-Ok-Pull.field-0-is)) (c.pull.ensures.did ran)
 
 pub returns-in-Ok-Pull-clause-cause : goal.returns-in-Ok-Pull-clause-cause
 returns-in-Ok-Pull-clause-cause g c =

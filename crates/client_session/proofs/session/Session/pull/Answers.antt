@@ -9,8 +9,8 @@ use Rattle.client_session.proofs.Turning.{pull_went, pull_cause, pull_kept, both
 use Rattle.client_session.proofs.Recorded.{pull_records}
 use Rattle.client_session.proofs.session.Session.pull.Goals as goal
 
-pub returns-clause-world : goal.returns-clause-world
-returns-clause-world g c =
+pub returns-clause-did : goal.returns-clause-did
+returns-clause-did g c =
     let route = c.args.route.now in
     let before : SessionState = state_of (record { client = c.self.inside.client; folder = c.self.inside.folder }) in
     let after : SessionState = state_of (record { client = c.pull-end.new.self; folder = c.self.inside.folder }) in
@@ -21,7 +21,7 @@ returns-clause-world g c =
     let r = c.answered.result in
     λ runner.
     subst (λ (s : Sitting). WentDoing route (LineEnds route (state_of s) (Ok Pull) r after) (state_of s) after i j (beside t runner) (beside u runner)) c.self.view_is
-    (pull_went route before after i j t u c.pull-end.ensures.number refl c.pull-end.result c.is_pull_fault-fault.result c.pull_answer.result r c.pull_answer.ensures c.answered.ensures c.pull-end.ensures.world runner)
+    (pull_went route before after i j t u c.pull-end.ensures.number refl c.pull-end.result c.is_pull_fault-fault.result c.pull_answer.result r c.pull_answer.ensures c.answered.ensures c.pull-end.ensures.did runner)
 
 pub returns-clause-cause : goal.returns-clause-cause
 returns-clause-cause g c =

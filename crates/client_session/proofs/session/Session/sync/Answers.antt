@@ -9,8 +9,8 @@ use Rattle.client_session.proofs.Turning.{sync_went, sync_cause, sync_kept, both
 use Rattle.client_session.proofs.Recorded.{sync_records}
 use Rattle.client_session.proofs.session.Session.sync.Goals as goal
 
-pub returns-clause-world : goal.returns-clause-world
-returns-clause-world g c =
+pub returns-clause-did : goal.returns-clause-did
+returns-clause-did g c =
     let route = c.args.route.now in
     let before : SessionState = state_of (record { client = c.self.inside.client; folder = c.self.inside.folder }) in
     let after : SessionState = state_of (record { client = c.sync-end.new.self; folder = c.self.inside.folder }) in
@@ -21,7 +21,7 @@ returns-clause-world g c =
     let r = c.answered.result in
     λ runner.
     subst (λ (s : Sitting). WentDoing route (LineEnds route (state_of s) (Ok Sync) r after) (state_of s) after i j (beside t runner) (beside u runner)) c.self.view_is
-    (sync_went route before after i j t u c.sync-end.ensures.number refl c.sync-end.result c.is_sync_fault-fault.result c.sync_answer.result r c.sync_answer.ensures c.answered.ensures c.sync-end.ensures.world runner)
+    (sync_went route before after i j t u c.sync-end.ensures.number refl c.sync-end.result c.is_sync_fault-fault.result c.sync_answer.result r c.sync_answer.ensures c.answered.ensures c.sync-end.ensures.did runner)
 
 pub returns-clause-cause : goal.returns-clause-cause
 returns-clause-cause g c =
