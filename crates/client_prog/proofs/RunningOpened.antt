@@ -1,5 +1,5 @@
 -- A run that begins with what is kept of its client, and one that has no client to begin with.
-use Rattle.std.proofs.Common.{◌≡◌, ◌⊎◌, inl, inr, ℕ, ◌≤◌, List, [], length, Option, Some, None, Result, Ok, Err, IfOk, refl, sym, subst, arith}
+use Rattle.std.proofs.Common.{◌≡◌, ◌⊎◌, inl, inr, ℕ, ◌≤◌, List, [], length, Option, Some, None, Result, Ok, Err, IfOk, refl, sym, subst, ap, arith}
 use Rattle.std.specs.Prelude.{IfSome}
 use Rattle.outside.specs.Outside.{Told, Rose}
 use Rattle.outside.specs.Keeper.{Images}
@@ -22,7 +22,7 @@ use Rattle.client_session.proofs.Doing.{went_as}
 use Rattle.client_prog.specs.Opening.{status_unopened}
 use Rattle.client_prog.specs.Run.{status_of, route_of, IsInputRead}
 use Rattle.client_prog.specs.InsideRun.{NotesChanges, WentNoting, RunAnswers}
-use Rattle.client_prog.specs.Headline.{Around, Ran}
+use Rattle.client_prog.specs.Headline.{Around, Ran, RanFromSome}
 use Rattle.client_prog.proofs.RunningEnds.{EndsWell}
 use Rattle.client_prog.proofs.RunningLeaves.{RunRecords, ran, nothing_ran}
 use Rattle.client_prog.proofs.RunningRecords.{notes_recorded}
@@ -89,11 +89,11 @@ kept_so : {T E : Type 0} (r : Result T E) (P K : Type 0) → (P → K) → IfOk 
 kept_so (Ok done) P K to is = to is
 kept_so (Err e) P K to is = tt
 
-pub opened_ran : (run : Invocation) (client : Client) (i j : Option Images) (left rest o n : Option (List ℕ)) (ended : Result InputEnd Stop) (after : Sitting) (status : ℕ) (t u : Telling)
-    → client.number ≡ run.client → client.journal ≡ None → ((start : Log) → TellsKept i run.image run.client start → client.log ≡ start) → status ≡ status_of ended
+opened_from : (run : Invocation) (client : Client) (i j : Option Images) (left rest o n : Option (List ℕ)) (ended : Result InputEnd Stop) (after : Sitting) (status : ℕ) (t u : Telling)
+    → client.number ≡ run.client → client.journal ≡ None → status ≡ status_of ended
     → WentNoting (route_of run) ended (RunAnswers (route_of run) (opened client.number client.log) left rest o n ended (state_of after)) (record { client = client; folder = [] }) after i j t u
-    → RanFrom i j left rest o n status t u run
-opened_ran run client i j left rest o n ended after status t u number new only is went = λ start told.
+    → Ran run.client (route_of run) client.log (around left o i t) (around rest n j u) status
+opened_from run client i j left rest o n ended after status t u number new is went =
     let route = route_of run in
     let now = state_of after in
     let all : WentDoing route (RunRecords route (opened client.number client.log) left rest o n ended now i j) (opened client.number client.log) now i j t u =
@@ -104,10 +104,32 @@ opened_ran run client i j left rest o n ended after status t u number new only i
       kept_so ended (NotesChanges route.image client after.client i j trace) (ReplacesNone trace → Told i j (λ images later. AreRecorded client.number trace.changes (images route.image) (later route.image)))
           (λ noted. notes_recorded route.image client after.client i j trace new noted) both.1,
     )) in
-    let goes : WentDoing route (RunRecords route (opened run.client start) left rest o n ended now i j) (opened run.client start) now i j t u =
-    subst (λ (log : Log). WentDoing route (RunRecords route (opened run.client log) left rest o n ended now i j) (opened run.client log) now i j t u) (only start told)
-    (subst (λ (m : ℕ). WentDoing route (RunRecords route (opened m client.log) left rest o n ended now i j) (opened m client.log) now i j t u) number all) in
-    ran run.client route start (around left o i t) (around rest n j u) ended now goes.0 status is goes.1.goes
+    let goes : WentDoing route (RunRecords route (opened run.client client.log) left rest o n ended now i j) (opened run.client client.log) now i j t u =
+    subst (λ (m : ℕ). WentDoing route (RunRecords route (opened m client.log) left rest o n ended now i j) (opened m client.log) now i j t u) number all in
+    ran run.client route client.log (around left o i t) (around rest n j u) ended now goes.0 status is goes.1.goes
+
+pub opened_ran : (run : Invocation) (client : Client) (i j : Option Images) (left rest o n : Option (List ℕ)) (ended : Result InputEnd Stop) (after : Sitting) (status : ℕ) (t u : Telling)
+    → client.number ≡ run.client → client.journal ≡ None → ((start : Log) → TellsKept i run.image run.client start → client.log ≡ start) → status ≡ status_of ended
+    → WentNoting (route_of run) ended (RunAnswers (route_of run) (opened client.number client.log) left rest o n ended (state_of after)) (record { client = client; folder = [] }) after i j t u
+    → RanFrom i j left rest o n status t u run
+opened_ran run client i j left rest o n ended after status t u number new only is went = λ start told.
+    subst (λ (log : Log). Ran run.client (route_of run) log (around left o i t) (around rest n j u) status) (only start told)
+    (opened_from run client i j left rest o n ended after status t u number new is went)
+
+-- The same over any keeper.
+pub opened_some : (run : Invocation) (client : Client) (i j : Option Images) (left rest o n : Option (List ℕ)) (ended : Result InputEnd Stop) (after : Sitting) (status : ℕ) (t u : Telling)
+    → client.number ≡ run.client → client.journal ≡ None → IsKept i run.image run.client client.log → status ≡ status_of ended
+    → WentNoting (route_of run) ended (RunAnswers (route_of run) (opened client.number client.log) left rest o n ended (state_of after)) (record { client = client; folder = [] }) after i j t u
+    → RanFromSome run.client (route_of run) (around left o i t) (around rest n j u) status
+opened_some run client i j left rest o n ended after status t u number new kept is went =
+    inr (client.log, kept, opened_from run client i j left rest o n ended after status t u number new is went)
+
+pub unopened_some : (run : Invocation) (u : Unopened) (i j : Option Images) (left o : Option (List ℕ)) (status : ℕ) (t : Telling) → status ≡ status_unopened u → j ≡ i
+    → RanFromSome run.client (route_of run) (around left o i t) (around left o j t) status
+unopened_some run u i j left o status t is same = inl (ap (λ (k : Option Images). around left o k t) same, is_unopened u status is)
+
+pub wanted_some : (run : Invocation) (i : Option Images) (left o : Option (List ℕ)) (t : Telling) → RanFromSome run.client (route_of run) (around left o i t) (around left o i t) 7
+wanted_some run i left o t = inl (refl, inr (inr refl))
 
 stopped_ran : (stop : Stop) (run : Invocation) (i : Option Images) (left o : Option (List ℕ)) (status : ℕ) (t : Telling) → status ≡ status_of (Err stop) → RanFrom i i left left o o status t t run
 stopped_ran stop run i left o status t is = λ start told.

@@ -1,5 +1,5 @@
 -- What a whole run of a client leaves at the server and under its name, whatever the network lost, repeated or reordered.
-use Rattle.std.specs.Prelude.{◌≡◌, ◌≢◌, ℕ, ◌+◌, ◌*◌, ◌-◌, ◌≤◌, List, ◌++◌, length, drop, Option, None, Some, is_some, Result}
+use Rattle.std.specs.Prelude.{◌≡◌, ◌≢◌, ◌⊎◌, ℕ, ◌+◌, ◌*◌, ◌-◌, ◌≤◌, List, ◌++◌, length, drop, Option, None, Some, is_some, Result}
 use Rattle.std.specs.List.{count_by}
 use Rattle.outside.specs.Outside.{Told, RoseBy, Rose}
 use Rattle.outside.specs.Keeper.{Images}
@@ -21,6 +21,7 @@ use Rattle.client_prog.specs.declared.input.InputEnd.{InputEnd}
 use Rattle.client_prog.specs.declared.run.Stop.{Stop}
 use Rattle.client_core.specs.declared.route.Route.{Route}
 use Rattle.client_core.specs.Trace.{Trace, last_log}
+use Rattle.client_core.specs.Keeping.{IsKept}
 use Rattle.client_core.specs.Noting.{AreRecorded, ReplacesNone}
 use Rattle.client_core.specs.Goes.{Goes}
 use Rattle.shell_lang.specs.declared.answer.LineAnswer.{LineAnswer}
@@ -126,3 +127,10 @@ pub record Ran (client : ℕ) (route : Route) (start : Log) (around around_now :
   -- what it is in the world, where the link tells that
   pub told : ToldWorlds around.link around_now.link
       (WorldRan client route start after.client.log kept goes.trace answers around.link.troubles around_now.link.troubles)
+
+-- What a run comes to over any keeper. Either no client was opened, and the status tells why: then nothing was read, written, kept,
+-- run or asked. Or it ran from some log, which is kept under the name as far as the keeper tells.
+abbrev pub RanFromSome : ℕ → Route → Around → Around → ℕ → Type 0
+RanFromSome client route around around_now status =
+    ((around_now ≡ around) × ((status ≡ 5) ⊎ (status ≡ 6) ⊎ (status ≡ 7)))
+    ⊎ ((start : Log) × IsKept around.images route.image client start × Ran client route start around around_now status)

@@ -7,7 +7,7 @@ ghost use Rattle.client_core.specs.Keeping.{TellsKept, IsKeptOfNone};
 ghost use Rattle.cmd_capture.specs.Runs.{telling};
 ghost use Rattle.client_prog.specs.Words.{run_of};
 ghost use Rattle.client_prog.specs.Run.{is_status, route_of, IsInputRead};
-ghost use Rattle.client_prog.specs.Headline.{Ran};
+ghost use Rattle.client_prog.specs.Headline.{Ran, RanFromSome};
 ghost use Rattle.std.specs.Process.{exit_status};
 ghost use Rattle.program_words.specs.Pages.{page_asked};
 ghost use Rattle.client_prog.specs.declared.input.TheConstants.{MAX_INPUT};
@@ -211,6 +211,20 @@ pub fn answered<R: Eprint, I: Source, O: Sink, K: Keeper, J: Runner, L: Link>(
         (λ bytes. (start : Log) → TellsKept (K.images keeper.old) run.image run.client start → length bytes ≤ MAX_INPUT
         → (Rose (I.faults input.old) (I.faults input.new) → ⊥) → (Rose (O.faults output.old) (O.faults output.new) → ⊥)
         → (Rose (K.faults keeper.old) (K.faults keeper.new) → ⊥) → (exit_status result ≡ 0) ⊎ (exit_status result ≡ 7))) }
+    // over any keeper: from some log that it opened, if it opened one
+    ensures begun { IfSome (run_of (map string_bytes words.now)) (λ run. RanFromSome run.client (route_of run) (record {
+          left = I.left input.old;
+          written = O.written output.old;
+          images = K.images keeper.old;
+          runner = telling (J.runs runner.old) (J.faults runner.old);
+          link = L.tells link.old;
+        }) (record {
+          left = I.left input.new;
+          written = O.written output.new;
+          images = K.images keeper.new;
+          runner = telling (J.runs runner.new) (J.faults runner.new);
+          link = L.tells link.new;
+        }) (exit_status result)) }
     ensures session { IfSome (run_of (map string_bytes words.now)) (λ run. (start : Log)
         → TellsKept (K.images keeper.old) run.image run.client start
         → Ran run.client (route_of run) start (record {

@@ -14,7 +14,7 @@ ghost use Rattle.client_session.specs.Session.{IsText, state_of};
 ghost use Rattle.client_prog.specs.Opening.{status_unopened};
 ghost use Rattle.client_prog.specs.Run.{status_of, is_status, route_of, is_quit, quits, has_quit, up_to_quit, end_of};
 ghost use Rattle.client_prog.specs.Run.{closing_line, closing_at, IsInputRead};
-ghost use Rattle.client_prog.specs.Headline.{Ran};
+ghost use Rattle.client_prog.specs.Headline.{Ran, RanFromSome};
 ghost use Rattle.client_session.specs.Doing.{beside};
 ghost use Rattle.cmd_capture.specs.Runs.{telling};
 ghost use Rattle.client_prog.specs.InsideRun.{WentNoting, AnswersLines, HasUnfinished, TakesInput, AnswersInput, RunAnswers};
@@ -474,6 +474,20 @@ pub fn client_run<I: Source, O: Sink, K: Keeper, R: Runner, L: Link>(
         (λ bytes. (start : Log) → TellsKept (K.images keeper.old) run.image run.client start → length bytes ≤ MAX_INPUT
         → (Rose (I.faults input.old) (I.faults input.new) → ⊥) → (Rose (O.faults output.old) (O.faults output.new) → ⊥)
         → (Rose (K.faults keeper.old) (K.faults keeper.new) → ⊥) → (result ≡ 0) ⊎ (result ≡ 7))) }
+    // over any keeper: from some log that it opened, if it opened one
+    ensures begun { IfSome (run_of (map string_bytes words.now)) (λ run. RanFromSome run.client (route_of run) (record {
+          left = I.left input.old;
+          written = O.written output.old;
+          images = K.images keeper.old;
+          runner = telling (R.runs runner.old) (R.faults runner.old);
+          link = L.tells link.old;
+        }) (record {
+          left = I.left input.new;
+          written = O.written output.new;
+          images = K.images keeper.new;
+          runner = telling (R.runs runner.new) (R.faults runner.new);
+          link = L.tells link.new;
+        }) result) }
     ensures session { IfSome (run_of (map string_bytes words.now)) (λ run. (start : Log)
         → TellsKept (K.images keeper.old) run.image run.client start
         → Ran run.client (route_of run) start (record {

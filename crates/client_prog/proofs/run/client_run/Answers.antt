@@ -17,9 +17,10 @@ use Rattle.client_prog.specs.Run.{route_of, status_of, IsInputRead}
 use Rattle.cmd_capture.specs.Runs.{telling}
 use Rattle.client_session.specs.Doing.{beside}
 use Rattle.client_prog.specs.InsideRun.{WentNoting, RunAnswers}
+use Rattle.client_prog.specs.Headline.{RanFromSome}
 use Rattle.client_prog.proofs.Counting.{source_status, sink_status, keeper_status, source_unopened, sink_unopened, keeper_unopened, rises, rose}
 use Rattle.client_prog.proofs.RunningEnds.{is_read, ends_well}
-use Rattle.client_prog.proofs.RunningOpened.{not_six, image_is, is_unopened, none_read, RanFrom, opened_ran, wanted_ran, unopened_ran, EndsWellFrom, opened_well, wanted_well, unopened_well, opened_of_none}
+use Rattle.client_prog.proofs.RunningOpened.{not_six, image_is, is_unopened, none_read, RanFrom, around, opened_ran, opened_some, wanted_ran, wanted_some, unopened_ran, unopened_some, EndsWellFrom, opened_well, wanted_well, unopened_well, opened_of_none}
 use Rattle.client_prog.proofs.run.client_run.Goals as goal
 
 -- ---- memory was wanted for the route
@@ -226,3 +227,56 @@ returns-in-Err-clause-complete g c =
     let d = g.O.Sink.faults c.args.output.now in
     let p = g.K.Keeper.faults c.args.keeper.now in
     subst (λ (f : Option Invocation). IfSome f (EndsWellFrom i left a a d d p p 7)) (sym c.in-Some.ensures.form) (wanted_well run i left a a d d p p)
+
+-- ---- over any keeper
+
+pub returns-in-Err-clause-begun : goal.returns-in-Err-clause-begun
+returns-in-Err-clause-begun g c =
+    let words = c.in-Some.words in
+    let run : Invocation = record { client = words.client; image = words.image.now; server = words.server.now; surrogate = option_copied words.surrogate; work = words.work.now } in
+    let left = g.I.Source.left c.args.input.now in
+    let o = g.O.Sink.written c.args.output.now in
+    let i = g.K.Keeper.images c.args.keeper.now in
+    let t = beside (g.L.Link.tells c.args.link.now) (telling (g.R.Runner.runs c.args.runner.now) (g.R.Runner.faults c.args.runner.now)) in
+    subst (λ (f : Option Invocation). IfSome f (λ r. RanFromSome r.client (route_of r) (around left o i t) (around left o i t) 7)) (sym c.in-Some.ensures.form) (wanted_some run i left o t)
+
+pub returns-in-Ok-open-clause-begun : goal.returns-in-Ok-open-clause-begun
+returns-in-Ok-open-clause-begun g c =
+    let words = c.in-Some.words in
+    let run : Invocation = record { client = words.client; image = words.image.now; server = words.server.now; surrogate = option_copied words.surrogate; work = words.work.now } in
+    let left = g.I.Source.left c.args.input.now in
+    let o = g.O.Sink.written c.args.output.now in
+    let i = g.K.Keeper.images c.args.keeper.now in
+    let t = beside (g.L.Link.tells c.args.link.now) (telling (g.R.Runner.runs c.args.runner.now) (g.R.Runner.faults c.args.runner.now)) in
+    let at : c.bytes.result.now ≡ run.image = c.bytes.ensures.value ∙ ap (λ (r : Route). r.image) c.in-Ok.ensures in
+    let client = c.in-Ok-open.client in
+    let ended = c.run-ended.result in
+    let status = c.status_of.result in
+    let is : status ≡ status_of ended = c.status_of.ensures.status in
+    let rest = g.I.Source.left c.run-ended.new.input in
+    let n = g.O.Sink.written c.run-ended.new.output in
+    let j = g.K.Keeper.images c.run-ended.new.keeper in
+    let u = beside (g.L.Link.tells c.run-ended.new.link) (telling (g.R.Runner.runs c.run-ended.new.runner) (g.R.Runner.faults c.run-ended.new.runner)) in
+    let after = c.run-ended.new.session in
+    let now = state_of after in
+    let went : WentNoting (route_of run) ended (RunAnswers (route_of run) (opened client.number client.log) left rest o n ended now) (record { client = client; folder = [] }) after i j t u =
+    subst (λ (s : Sitting). WentNoting (route_of run) ended (RunAnswers (route_of run) (state_of s) left rest o n ended now) s after i j t u) c.new-session.ensures
+    (subst (λ (r : Route). WentNoting r ended (RunAnswers r (state_of c.new-session.result) left rest o n ended now) c.new-session.result after i j t u) c.in-Ok.ensures
+    (subst (λ (told : Option Images). WentNoting c.in-Ok.route ended (RunAnswers c.in-Ok.route (state_of c.new-session.result) left rest o n ended now) c.new-session.result after told j t u) c.in-Ok-open.ensures.same c.run-ended.ensures.did)) in
+    let kept : IsKept i run.image run.client client.log = subst (λ (m : List ℕ). IsKept i m run.client client.log) at c.in-Ok-open.ensures.kept in
+    subst (λ (f : Option Invocation). IfSome f (λ r. RanFromSome r.client (route_of r) (around left o i t) (around rest n j u) status)) (sym c.in-Some.ensures.form)
+    (opened_some run client i j left rest o n ended after status t u c.in-Ok-open.ensures.number c.in-Ok-open.ensures.journal kept is went)
+
+pub returns-in-Err-open-clause-begun : goal.returns-in-Err-open-clause-begun
+returns-in-Err-open-clause-begun g c =
+    let words = c.in-Some.words in
+    let run : Invocation = record { client = words.client; image = words.image.now; server = words.server.now; surrogate = option_copied words.surrogate; work = words.work.now } in
+    let left = g.I.Source.left c.args.input.now in
+    let o = g.O.Sink.written c.args.output.now in
+    let i = g.K.Keeper.images c.args.keeper.now in
+    let t = beside (g.L.Link.tells c.args.link.now) (telling (g.R.Runner.runs c.args.runner.now) (g.R.Runner.faults c.args.runner.now)) in
+    let unopened = c.in-Err-open.unopened in
+    let status = c.status_unopened.result in
+    let is : status ≡ status_unopened unopened = c.status_unopened.ensures.status in
+    let j = g.K.Keeper.images c.«open».new.keeper in
+    subst (λ (f : Option Invocation). IfSome f (λ r. RanFromSome r.client (route_of r) (around left o i t) (around left o j t) status)) (sym c.in-Some.ensures.form) (unopened_some run unopened i j left o status t is c.in-Err-open.ensures.same)
