@@ -22,6 +22,3 @@ pub use memory_port::MemPort;
 pub use port::Port;
 pub use sink::{Sink, write_all};
 pub use source::Source;
-
-#[cfg(test)]
-mod tests;

@@ -9,9 +9,6 @@ mod serving;
 mod words;
 
 pub use laws::{connections_are_counted, kept_images_are_served};
-pub use program::{served, server_main, server_program};
+pub use program::{NAME, PAGES, served, server_main, server_program};
 pub use run::server_run;
 pub use words::{RunWords, run_words};
-
-#[cfg(test)]
-mod tests;

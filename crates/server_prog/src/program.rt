@@ -55,13 +55,13 @@ Options:
 const VERSION: &str = "server 0.1.0\n";
 
 /// What the words may ask for in place of a run.
-pub(crate) const PAGES: Pages = Pages {
+pub const PAGES: Pages = Pages {
     help: HELP,
     version: VERSION,
 };
 
 /// The program's name, as standard error tells it.
-pub(crate) const NAME: &str = "server";
+pub const NAME: &str = "server";
 
 /// Runs the server with the words behind the program's name. Words that are no text are of no form.
 pub fn server_program<R: Print + Eprint + AllocGlobal + Env + Files<File = File> + Net + Clock>(

@@ -8,9 +8,6 @@ mod serving;
 mod words;
 
 pub use laws::{connections_are_counted, silence_has_its_cause, worlds_move_alone};
-pub use program::{served, surrogate_main, surrogate_program};
+pub use program::{NAME, PAGES, served, surrogate_main, surrogate_program};
 pub use run::surrogate_run;
 pub use words::{RunWords, run_words};
-
-#[cfg(test)]
-mod tests;

@@ -58,7 +58,7 @@ Options:
 const VERSION: &str = "surrogate 0.1.0\n";
 
 /// What the words may ask for in place of a run.
-pub(crate) const PAGES: Pages = Pages {
+pub const PAGES: Pages = Pages {
     help: HELP,
     version: VERSION,
 };
@@ -68,7 +68,7 @@ pub(crate) const PAGES: Pages = Pages {
 const COMMAND_SECONDS: u64 = 500;
 
 /// The program's name, as standard error tells it.
-pub(crate) const NAME: &str = "surrogate";
+pub const NAME: &str = "surrogate";
 
 /// Runs the surrogate with the words behind the program's name, as the process of this number. Words that are no text are of
 /// no form.

@@ -14,6 +14,3 @@ pub use laws::{
 };
 pub use link::{AskError, Link, LinkError, ask_eight};
 pub use settling::settle;
-
-#[cfg(test)]
-mod tests;

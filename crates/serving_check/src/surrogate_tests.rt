@@ -2,13 +2,12 @@ ghost use Rattle.std.specs.Prelude.{◌≡◌, None, IfSome, IfOk, IfErr};
 ghost use Rattle.wire_frames.specs.Frame.{IsValid, Echoes, Spells};
 ghost use Rattle.world_rules.specs.Asking.{IsReplyTo};
 
-use crate::program::{NAME, PAGES};
-use crate::surrogate_run;
 use cmd_capture::{Outcome, RawRow, RawRows, ScriptAnswer, ScriptRunner};
 use outside::{MemPort, MemSink};
 use program_words::page_shown;
 use std::alloc::{AllocError, Global};
 use std::test::Fail;
+use surrogate_prog::{NAME, PAGES, surrogate_run};
 use vol_tree::{Content, Node};
 use wire_frames::{Message, read, write};
 use world_rules::{Link, LinkError, Peer};

@@ -2,7 +2,7 @@ use Rattle.std.proofs.Common.{◌≡◌, subst, sym, Result, Ok, IfOk}
 use Rattle.wire_frames.specs.declared.message.Message.{Message}
 use Rattle.wire_frames.specs.declared.message.FrameError.{FrameError}
 use Rattle.world_rules.specs.Asking.{IsReplyTo}
-use Rattle.surrogate_prog.proofs.tests.reply_to.Goals as goal
+use Rattle.serving_check.proofs.surrogate_tests.reply_to.Goals as goal
 
 -- the bytes spell one message
 pub returns-in-Ok-clause-reply : goal.returns-in-Ok-clause-reply

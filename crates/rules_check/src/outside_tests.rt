@@ -1,4 +1,7 @@
-use crate::*;
+use outside::{
+    Failed, KeepError, KeepFail, Keeper, MemKeeper, MemPort, MemSink, MemSource, Port, PortError,
+    Sink, SinkError, Source, write_all,
+};
 use std::test::Fail;
 
 #[test]

@@ -1,7 +1,7 @@
 ghost use Rattle.std.specs.Prelude.{None};
 
-use crate::*;
 use std::test::Fail;
+use world_rules::{AskError, Link, LinkError, Peer, ask_eight};
 
 /// A link over which no reply ever comes, and in one ask there is no memory.
 #[derive(Drop)]

@@ -1,7 +1,6 @@
-use crate::program::{NAME, PAGES};
-use crate::{served, server_run};
 use outside::{KeepFail, Keeper, MemKeeper, MemPort, MemSink};
 use program_words::page_shown;
+use server_prog::{NAME, PAGES, served, server_run};
 use std::alloc::{AllocError, Global};
 use std::test::Fail;
 
