@@ -2,6 +2,8 @@
 #![tactic(auto)]
 
 #[cfg(test)]
+mod probe;
+#[cfg(test)]
 mod server_tests;
 #[cfg(test)]
 mod surrogate_tests;

@@ -1,7 +1,11 @@
+//! Runs of the server over ports in memory. Each scene ends its port, its keeper and its output itself, so that the tests
+//! hold numbers and truths alone.
+
+use crate::probe::{shows, words};
 use outside::{KeepFail, Keeper, MemKeeper, MemPort, MemSink};
-use program_words::page_shown;
 use server_prog::{NAME, PAGES, served, server_run};
 use std::alloc::{AllocError, Global};
+use std::rt::HostRuntime;
 use std::test::Fail;
 
 /// Entry 1 of client 1: `hello` and a line end is put at `a`, where nothing was.
@@ -33,21 +37,21 @@ const ACCEPTED: [u8; 15] = [0, 0, 0, 11, 1, 17, 1, 0, 0, 0, 0, 0, 0, 0, 1];
 /// The bytes had a false length.
 const BAD_LENGTH: [u8; 20] = [0, 0, 0, 16, 1, 31, 0, 0, 0, 0, 0, 0, 0, 0, 0, 1, 0, 0, 0, 0];
 
-fn words(alloc: Global, texts: &[&str]) -> Result<Vec<String>, AllocError> {
-    let mut words = Vec::new(alloc);
-    for text in texts {
-        words.push(String::from_str(alloc, text)?)?;
-    }
-    Ok(words)
-}
+/// How a run ends: its status, and whether it wrote what it has to write.
+type Ended = (u8, bool);
+
+/// How a run ends, and what its first three connections got: none where they were not answered, and else whether entry 1 of
+/// client 1 was accepted.
+type Served = (Ended, [Option<bool>; 3]);
 
 /// A port with as many connections, each with the store's frame.
 fn port_of_stores(alloc: Global, stores: usize, fails: &[u32]) -> Result<MemPort, AllocError> {
+    let fails = fails.to_vec(alloc)?;
     let mut frames = Vec::new(alloc);
     for _ in 0..stores {
         frames.push(STORE.to_vec(alloc)?)?;
     }
-    Ok(MemPort::new(alloc, frames, fails.to_vec(alloc)?))
+    Ok(MemPort::new(alloc, frames, fails))
 }
 
 /// A port with a connection for entry 1 and one for entry 2.
@@ -56,96 +60,162 @@ fn port_of_both(alloc: Global) -> Result<MemPort, AllocError> {
     Ok(MemPort::new(alloc, frames, Vec::new(alloc)))
 }
 
-/// Runs a server on these words over this port, of which nothing is kept, and gives its status and its output.
-fn run(alloc: Global, texts: &[&str], port: &mut MemPort) -> Result<(u8, MemSink), AllocError> {
-    let mut keeper = MemKeeper::new(alloc, Vec::new(alloc));
-    run_kept(alloc, texts, port, &mut keeper)
-}
-
-/// The same with what is kept.
-fn run_kept(
+/// Runs a server on these words over this port, and gives its status.
+fn run(
     alloc: Global,
     texts: &[&str],
     port: &mut MemPort,
     keeper: &mut MemKeeper,
-) -> Result<(u8, MemSink), AllocError> {
-    let mut output = MemSink::new(alloc, Vec::new(alloc));
-    let status = server_run(alloc, &words(alloc, texts)?, port, keeper, &mut output);
-    Ok((status, output))
+    output: &mut MemSink,
+) -> Result<u8, AllocError> {
+    let words = words(alloc, texts)?;
+    let status = server_run(alloc, &words, port, keeper, output);
+    drop(words);
+    Ok(status)
 }
 
-/// Whether the answer of this number is that entry 1 of client 1 is accepted.
-fn accepts(port: &MemPort, number: u32) -> bool {
-    port.answered(number) == Some(ACCEPTED.as_slice())
+/// Runs a server on these words over this port, and tells whether it wrote this.
+fn run_written(
+    alloc: Global,
+    texts: &[&str],
+    port: &mut MemPort,
+    keeper: &mut MemKeeper,
+    written: &[u8],
+) -> Result<Ended, AllocError> {
+    let mut output = MemSink::new(alloc, Vec::new(alloc));
+    let status = run(alloc, texts, port, keeper, &mut output);
+    let same = output.bytes() == written;
+    drop(output);
+    Ok((status?, same))
+}
+
+/// Runs a server on these words over this port, and gives its status, whatever it writes.
+fn run_quiet(
+    alloc: Global,
+    texts: &[&str],
+    port: &mut MemPort,
+    keeper: &mut MemKeeper,
+) -> Result<u8, AllocError> {
+    let mut output = MemSink::new(alloc, Vec::new(alloc));
+    let status = run(alloc, texts, port, keeper, &mut output);
+    drop(output);
+    status
+}
+
+/// Whether a connection was answered that entry 1 of client 1 is accepted; none where it was not answered.
+fn accepts(port: &MemPort, number: u32) -> Option<bool> {
+    match port.answered(number) {
+        Some(answer) => Some(answer == ACCEPTED.as_slice()),
+        None => None,
+    }
+}
+
+/// Runs a server over the port, which ends here, and over what is kept.
+fn serve_kept(
+    alloc: Global,
+    texts: &[&str],
+    mut port: MemPort,
+    keeper: &mut MemKeeper,
+    written: &[u8],
+) -> Result<Served, AllocError> {
+    let ended = run_written(alloc, texts, &mut port, keeper, written);
+    let answers = [accepts(&port, 0), accepts(&port, 1), accepts(&port, 2)];
+    drop(port);
+    Ok((ended?, answers))
+}
+
+/// Runs a server of which nothing is kept over as many connections, each with the store's frame.
+fn serve(
+    alloc: Global,
+    texts: &[&str],
+    stores: usize,
+    fails: &[u32],
+    written: &[u8],
+) -> Result<Served, AllocError> {
+    let port = port_of_stores(alloc, stores, fails)?;
+    let mut keeper = MemKeeper::new(alloc, Vec::new(alloc));
+    let served = serve_kept(alloc, texts, port, &mut keeper, written);
+    drop(keeper);
+    served
 }
 
 #[test]
 fn a_repeated_store_is_answered_twice(rt: HostRuntime) -> Result<(), Fail> {
-    let alloc = rt.alloc();
-    let mut port = port_of_stores(alloc, 2, &[])?;
-    let (status, output) = run(alloc, &["run", "l", "img", "2"], &mut port)?;
-    assert_eq!(rt; status, 0);
-    assert_eq!(rt; output.bytes(), b"served 2 faults 0\n".as_slice());
-    assert!(rt; accepts(&port, 0));
-    assert!(rt; accepts(&port, 1));
-    assert_eq!(rt; port.answered(2), None);
+    let texts = ["run", "l", "img", "2"];
+    let (ended, answers) = serve(rt.alloc(), &texts, 2, &[], b"served 2 faults 0\n")?;
+    assert_eq!(rt; ended, (0, true));
+    assert_eq!(rt; answers, [Some(true), Some(true), None]);
     Ok(())
+}
+
+/// How a run ends over a connection without a byte, and whether that is answered as a false length.
+fn serve_nothing(alloc: Global) -> Result<(Ended, bool), AllocError> {
+    let frames = vec![in alloc; Vec::new(alloc)]?;
+    let mut port = MemPort::new(alloc, frames, Vec::new(alloc));
+    let mut keeper = MemKeeper::new(alloc, Vec::new(alloc));
+    let texts = ["run", "l", "img", "1"];
+    let ended = run_written(
+        alloc,
+        &texts,
+        &mut port,
+        &mut keeper,
+        b"served 1 faults 0\n",
+    );
+    drop(keeper);
+    let same = port.answered(0) == Some(BAD_LENGTH.as_slice());
+    drop(port);
+    Ok((ended?, same))
 }
 
 #[test]
 fn bytes_of_no_form_are_answered(rt: HostRuntime) -> Result<(), Fail> {
-    let alloc = rt.alloc();
-    let frames = vec![in alloc; Vec::new(alloc)]?;
-    let mut port = MemPort::new(alloc, frames, Vec::new(alloc));
-    let (status, output) = run(alloc, &["run", "l", "img", "1"], &mut port)?;
-    assert_eq!(rt; status, 0);
-    assert_eq!(rt; output.bytes(), b"served 1 faults 0\n".as_slice());
-    assert_eq!(rt; port.answered(0), Some(BAD_LENGTH.as_slice()));
+    assert_eq!(rt; serve_nothing(rt.alloc())?, ((0, true), true));
     Ok(())
 }
 
 #[test]
 fn a_fault_ends_one_connection(rt: HostRuntime) -> Result<(), Fail> {
-    let alloc = rt.alloc();
+    let texts = ["run", "l", "img", "65536"];
     // The second take fails, and the answer of the third connection.
-    let mut port = port_of_stores(alloc, 4, &[2, 4])?;
-    let (status, output) = run(alloc, &["run", "l", "img", "65536"], &mut port)?;
-    assert_eq!(rt; status, 0);
-    assert_eq!(rt; output.bytes(), b"served 3 faults 2\n".as_slice());
-    assert!(rt; accepts(&port, 0));
-    assert_eq!(rt; port.answered(1), None);
-    assert!(rt; accepts(&port, 2));
+    let (ended, answers) = serve(rt.alloc(), &texts, 4, &[2, 4], b"served 3 faults 2\n")?;
+    assert_eq!(rt; ended, (0, true));
+    assert_eq!(rt; answers, [Some(true), None, Some(true)]);
     Ok(())
 }
 
 #[test]
 fn the_count_ends_the_serving(rt: HostRuntime) -> Result<(), Fail> {
-    let alloc = rt.alloc();
-    let mut port = port_of_stores(alloc, 3, &[])?;
-    let (status, output) = run(alloc, &["run", "l", "img", "2"], &mut port)?;
-    assert_eq!(rt; status, 0);
-    assert_eq!(rt; output.bytes(), b"served 2 faults 0\n".as_slice());
-    assert_eq!(rt; port.answered(2), None);
+    let texts = ["run", "l", "img", "2"];
+    let (ended, answers) = serve(rt.alloc(), &texts, 3, &[], b"served 2 faults 0\n")?;
+    assert_eq!(rt; ended, (0, true));
+    assert_eq!(rt; answers, [Some(true), Some(true), None]);
     Ok(())
+}
+
+/// How a run of one store ends whose output fails at once, and what its connection got.
+fn serve_untold(alloc: Global) -> Result<(Ended, Option<bool>), AllocError> {
+    let fails = [0].to_vec(alloc)?;
+    let mut port = port_of_stores(alloc, 1, &[])?;
+    let mut output = MemSink::new(alloc, fails);
+    let mut keeper = MemKeeper::new(alloc, Vec::new(alloc));
+    let texts = ["run", "l", "img", "1"];
+    let status = run(alloc, &texts, &mut port, &mut keeper, &mut output);
+    drop(keeper);
+    let is_empty = output.bytes().is_empty();
+    drop(output);
+    let answer = accepts(&port, 0);
+    drop(port);
+    Ok(((status?, is_empty), answer))
 }
 
 #[test]
 fn a_failing_sink_is_told(rt: HostRuntime) -> Result<(), Fail> {
-    let alloc = rt.alloc();
-    let mut port = port_of_stores(alloc, 1, &[])?;
-    let mut output = MemSink::new(alloc, [0].to_vec(alloc)?);
-    let words = words(alloc, &["run", "l", "img", "1"])?;
-    let mut keeper = MemKeeper::new(alloc, Vec::new(alloc));
-    let status = server_run(alloc, &words, &mut port, &mut keeper, &mut output);
-    assert_eq!(rt; status, 4);
-    assert_eq!(rt; output.bytes(), b"".as_slice());
-    assert!(rt; accepts(&port, 0));
+    assert_eq!(rt; serve_untold(rt.alloc())?, ((4, true), Some(true)));
     Ok(())
 }
 
 #[test]
 fn other_words_touch_nothing(rt: HostRuntime) -> Result<(), Fail> {
-    let alloc = rt.alloc();
     let forms: [&[&str]; 8] = [
         &[],
         &["run", "l", "img"],
@@ -157,71 +227,124 @@ fn other_words_touch_nothing(rt: HostRuntime) -> Result<(), Fail> {
         &["run", "l", "img", "65537"],
     ];
     for form in forms {
-        let mut port = port_of_stores(alloc, 1, &[])?;
-        let (status, output) = run(alloc, form, &mut port)?;
-        assert_eq!(rt; status, 2);
-        assert_eq!(rt; output.bytes(), b"".as_slice());
-        assert_eq!(rt; port.answered(0), None);
+        let (ended, answers) = serve(rt.alloc(), form, 1, &[], b"")?;
+        assert_eq!(rt; ended, (2, true));
+        assert_eq!(rt; answers, [None; 3]);
     }
     Ok(())
 }
 
-#[test]
-fn a_taken_store_is_kept_once(rt: HostRuntime) -> Result<(), Fail> {
-    let alloc = rt.alloc();
-    // Call 0 loads and call 1 saves; a second save would fail.
-    let fails = [KeepFail {
+/// A keeper one call of which fails.
+fn failing_keeper(alloc: Global, fail: KeepFail) -> Result<MemKeeper, AllocError> {
+    let fails = [fail].to_vec(alloc)?;
+    Ok(MemKeeper::new(alloc, fails))
+}
+
+/// What is kept, as a copy.
+fn copied_image(alloc: Global, keeper: &MemKeeper) -> Result<Vec<u8>, Fail> {
+    let image = keeper.image(b"img").ok_or("not kept")?;
+    Ok(image.to_vec(alloc)?)
+}
+
+/// A run of two stores whose second save would fail, and the image that it leaves.
+fn serve_two(alloc: Global) -> Result<(Served, Vec<u8>), Fail> {
+    let port = port_of_stores(alloc, 2, &[])?;
+    // Call 0 loads and call 1 saves.
+    let second_save = KeepFail {
         call: 2,
         leaves_new: true,
         part: 0,
-    }]
-    .to_vec(alloc)?;
-    let mut keeper = MemKeeper::new(alloc, fails);
-    let mut port = port_of_stores(alloc, 2, &[])?;
-    let (status, output) = run_kept(alloc, &["run", "l", "img", "2"], &mut port, &mut keeper)?;
-    assert_eq!(rt; status, 0);
-    assert_eq!(rt; output.bytes(), b"served 2 faults 0\n".as_slice());
-    assert!(rt; accepts(&port, 1));
+    };
+    let mut keeper = failing_keeper(alloc, second_save)?;
+    let texts = ["run", "l", "img", "2"];
+    let served = serve_kept(alloc, &texts, port, &mut keeper, b"served 2 faults 0\n");
+    let image = copied_image(alloc, &keeper);
+    drop(keeper);
+    let image = image?;
+    Ok((served?, image))
+}
+
+/// A run of one store over this image, and whether it leaves the image as it is.
+fn serve_from(alloc: Global, image: &[u8]) -> Result<(Served, bool), AllocError> {
+    let port = port_of_stores(alloc, 1, &[])?;
+    let mut keeper = MemKeeper::new(alloc, Vec::new(alloc));
+    let _ = keeper.save(b"img", image);
+    let texts = ["run", "l", "img", "1"];
+    let served = serve_kept(alloc, &texts, port, &mut keeper, b"served 1 faults 0\n");
+    let same = keeper.image(b"img") == Some(image);
+    drop(keeper);
+    Ok((served?, same))
+}
+
+/// The first run, the size of its image, and the next run over that image.
+fn serve_again(alloc: Global) -> Result<(Served, usize, (Served, bool)), Fail> {
+    let (first, image) = serve_two(alloc)?;
+    let size = image.len();
+    let next = serve_from(alloc, &image);
+    drop(image);
+    Ok((first, size, next?))
+}
+
+#[test]
+fn a_taken_store_is_kept_once(rt: HostRuntime) -> Result<(), Fail> {
+    let ((ended, answers), size, next) = serve_again(rt.alloc())?;
+    assert_eq!(rt; ended, (0, true));
+    assert_eq!(rt; answers, [Some(true), Some(true), None]);
+    assert_eq!(rt; size, ONE);
     // The next server has taken the store already.
-    let image = keeper.image(b"img").ok_or("not kept")?.to_vec(alloc)?;
-    assert_eq!(rt; image.len(), ONE);
-    let mut next = MemKeeper::new(alloc, Vec::new(alloc));
-    let _ = next.save(b"img", &image);
-    let mut port = port_of_stores(alloc, 1, &[])?;
-    let (status, _output) = run_kept(alloc, &["run", "l", "img", "1"], &mut port, &mut next)?;
-    assert_eq!(rt; status, 0);
-    assert!(rt; accepts(&port, 0));
-    assert_eq!(rt; next.image(b"img"), Some(image.as_slice()));
+    let ((ended, answers), same) = next;
+    assert_eq!(rt; ended, (0, true));
+    assert_eq!(rt; answers, [Some(true), None, None]);
+    assert!(rt; same);
     Ok(())
 }
 
 /// What a run keeps that takes so many connections of these.
 fn kept_after(alloc: Global, count: &str, mut port: MemPort) -> Result<Vec<u8>, Fail> {
     let mut keeper = MemKeeper::new(alloc, Vec::new(alloc));
-    let (_status, output) = run_kept(alloc, &["run", "l", "img", count], &mut port, &mut keeper)?;
-    drop(output);
-    let image = keeper.image(b"img").ok_or("not kept")?;
-    Ok(image.to_vec(alloc)?)
+    let status = run_quiet(alloc, &["run", "l", "img", count], &mut port, &mut keeper);
+    drop(port);
+    let image = copied_image(alloc, &keeper);
+    drop(keeper);
+    let image = image?;
+    status?;
+    Ok(image)
+}
+
+/// How many bytes one run keeps of both entries, and whether they are this image with the record of entry 2 behind it.
+fn keep_both(alloc: Global, image: &[u8]) -> Result<(usize, bool), Fail> {
+    // One run saves after entry 1, and appends entry 2.
+    let kept = kept_after(alloc, "2", port_of_both(alloc)?)?;
+    let is_behind = kept.starts_with(image) && kept.ends_with(&RECORD);
+    let size = kept.len();
+    drop(kept);
+    Ok((size, is_behind))
+}
+
+/// How many bytes one run keeps after entry 1; and how many of both entries, and whether the record stands behind the image.
+fn keep_one_and_both(alloc: Global) -> Result<(usize, (usize, bool)), Fail> {
+    let image = kept_after(alloc, "1", port_of_stores(alloc, 1, &[])?)?;
+    let size = image.len();
+    let both = keep_both(alloc, &image);
+    drop(image);
+    Ok((size, both?))
 }
 
 #[test]
 fn another_store_is_a_record_behind_the_image(rt: HostRuntime) -> Result<(), Fail> {
-    let alloc = rt.alloc();
-    let one = kept_after(alloc, "1", port_of_stores(alloc, 1, &[])?)?;
-    // One run saves after entry 1, and appends entry 2.
-    let two = kept_after(alloc, "2", port_of_both(alloc)?)?;
-    assert_eq!(rt; one.len(), ONE);
-    assert!(rt; two.starts_with(&one) && two.ends_with(&RECORD));
-    assert_eq!(rt; two.len(), ONE + RECORD.len());
+    let (one, both) = keep_one_and_both(rt.alloc())?;
+    assert_eq!(rt; one, ONE);
+    assert_eq!(rt; both, (ONE + RECORD.len(), true));
     Ok(())
 }
 
 /// The status of a run over both connections, and the numbers of the entries that were accepted in it, 0 for none.
-fn run_both(alloc: Global, keeper: &mut MemKeeper) -> Result<(u8, [u8; 2]), Fail> {
+fn run_both(alloc: Global, keeper: &mut MemKeeper) -> Result<(u8, [u8; 2]), AllocError> {
     let mut port = port_of_both(alloc)?;
-    let (status, output) = run_kept(alloc, &["run", "l", "img", "2"], &mut port, keeper)?;
-    drop(output);
-    Ok((status, [accepted(&port, 0), accepted(&port, 1)]))
+    let status = run_quiet(alloc, &["run", "l", "img", "2"], &mut port, keeper);
+    let accepted = [accepted(&port, 0), accepted(&port, 1)];
+    drop(port);
+    Ok((status?, accepted))
 }
 
 /// The number of the entry that an answer accepts; 0 where there is none.
@@ -242,18 +365,20 @@ fn length(keeper: &MemKeeper) -> usize {
 
 /// A run whose append fails behind so many bytes of the record, and the next one: the status of each, what it accepted, and
 /// the bytes that it leaves.
-fn cut_at(alloc: Global, part: u32) -> Result<[(u8, [u8; 2], usize); 2], Fail> {
+fn cut_at(alloc: Global, part: u32) -> Result<[((u8, [u8; 2]), usize); 2], AllocError> {
     // Call 0 loads, call 1 saves, and call 2 appends.
-    let fails = [KeepFail {
+    let append = KeepFail {
         call: 2,
         leaves_new: false,
         part,
-    }];
-    let mut keeper = MemKeeper::new(alloc, fails.to_vec(alloc)?);
-    let (status, first) = run_both(alloc, &mut keeper)?;
+    };
+    let mut keeper = failing_keeper(alloc, append)?;
+    let first = run_both(alloc, &mut keeper);
     let left = length(&keeper);
-    let (next_status, next) = run_both(alloc, &mut keeper)?;
-    Ok([(status, first, left), (next_status, next, length(&keeper))])
+    let next = run_both(alloc, &mut keeper);
+    let left_then = length(&keeper);
+    drop(keeper);
+    Ok([(first?, left), (next?, left_then)])
 }
 
 #[test]
@@ -261,75 +386,87 @@ fn a_torn_record_is_dropped(rt: HostRuntime) -> Result<(), Fail> {
     for part in 0..33 {
         let [first, next] = cut_at(rt.alloc(), part)?;
         // Entry 2 is answered in the next run alone.
-        assert_eq!(rt; first, (5, [1, 0], ONE + part as usize));
+        assert_eq!(rt; first, ((5, [1, 0]), ONE + part as usize));
         // A whole record has been taken; else entry 2 is taken now, and the first keeping of a run is a save.
         let then = if part == 32 { ONE + 32 } else { TWO };
-        assert_eq!(rt; next, (0, [1, 2], then));
+        assert_eq!(rt; next, ((0, [1, 2]), then));
     }
     Ok(())
+}
+
+/// A run of one store over a keeper whose call of this number fails, and whether nothing is kept.
+fn serve_unkept(alloc: Global, call: u32) -> Result<(Served, bool), AllocError> {
+    let port = port_of_stores(alloc, 1, &[])?;
+    let fail = KeepFail {
+        call,
+        leaves_new: false,
+        part: 0,
+    };
+    let mut keeper = failing_keeper(alloc, fail)?;
+    let served = serve_kept(alloc, &["run", "l", "img", "1"], port, &mut keeper, b"");
+    let is_new = keeper.image(b"img").is_none();
+    drop(keeper);
+    Ok((served?, is_new))
 }
 
 #[test]
 fn a_failing_keeper_answers_nothing(rt: HostRuntime) -> Result<(), Fail> {
-    let alloc = rt.alloc();
     for call in [0, 1] {
-        let fails = [KeepFail {
-            call,
-            leaves_new: false,
-            part: 0,
-        }]
-        .to_vec(alloc)?;
-        let mut keeper = MemKeeper::new(alloc, fails);
-        let mut port = port_of_stores(alloc, 1, &[])?;
-        let (status, output) = run_kept(alloc, &["run", "l", "img", "1"], &mut port, &mut keeper)?;
-        assert_eq!(rt; status, 5);
-        assert_eq!(rt; output.bytes(), b"".as_slice());
-        assert_eq!(rt; port.answered(0), None);
-        assert_eq!(rt; keeper.image(b"img"), None);
+        let ((ended, answers), is_new) = serve_unkept(rt.alloc(), call)?;
+        assert_eq!(rt; ended, (5, true));
+        assert_eq!(rt; answers, [None; 3]);
+        assert!(rt; is_new);
     }
     Ok(())
 }
 
+/// A run of one store over these bytes, and whether they are left as they are.
+fn serve_odd(alloc: Global, kept: &[u8]) -> Result<(Served, bool), AllocError> {
+    let port = port_of_stores(alloc, 1, &[])?;
+    let mut keeper = MemKeeper::new(alloc, Vec::new(alloc));
+    let _ = keeper.save(b"img", kept);
+    let served = serve_kept(alloc, &["run", "l", "img", "1"], port, &mut keeper, b"");
+    let same = keeper.image(b"img") == Some(kept);
+    drop(keeper);
+    Ok((served?, same))
+}
+
 #[test]
 fn what_is_no_image_is_not_served(rt: HostRuntime) -> Result<(), Fail> {
-    let alloc = rt.alloc();
-    let mut keeper = MemKeeper::new(alloc, Vec::new(alloc));
-    let _ = keeper.save(b"img", b"OSSI");
-    let mut port = port_of_stores(alloc, 1, &[])?;
-    let (status, output) = run_kept(alloc, &["run", "l", "img", "1"], &mut port, &mut keeper)?;
-    assert_eq!(rt; status, 6);
-    assert_eq!(rt; output.bytes(), b"".as_slice());
-    assert_eq!(rt; port.answered(0), None);
-    assert_eq!(rt; keeper.image(b"img"), Some(b"OSSI".as_slice()));
+    let ((ended, answers), same) = serve_odd(rt.alloc(), b"OSSI")?;
+    assert_eq!(rt; ended, (6, true));
+    assert_eq!(rt; answers, [None; 3]);
+    assert!(rt; same);
     Ok(())
 }
 
 #[test]
 fn each_page_has_its_text(rt: HostRuntime) -> Result<(), Fail> {
-    let alloc = rt.alloc();
-    let pages = [
-        ("--help", "Usage: server run LISTEN IMAGE COUNT\n"),
-        ("--version", "server 0.1.0\n"),
-    ];
-    for (word, text) in pages {
-        let mut output = MemSink::new(alloc, Vec::new(alloc));
-        let words = words(alloc, &[word])?;
-        let ended = page_shown(&rt, NAME, &PAGES, &words, &mut output);
-        assert!(rt; ended.is_some());
-        assert!(rt; output.bytes().starts_with(text.as_bytes()));
-    }
+    let help = "Usage: server run LISTEN IMAGE COUNT\n";
+    assert!(rt; shows(&rt, NAME, &PAGES, "--help", help)?);
+    assert!(rt; shows(&rt, NAME, &PAGES, "--version", "server 0.1.0\n")?);
     Ok(())
 }
 
-#[test]
-fn the_program_serves(rt: HostRuntime) -> Result<(), Fail> {
+/// Whether the program, over one store, writes its last line, and what its connection got.
+fn serve_program(rt: &HostRuntime) -> Result<(bool, Option<bool>), AllocError> {
     let alloc = rt.alloc();
     let words = words(alloc, &["run", "l", "img", "1"])?;
     let mut port = port_of_stores(alloc, 1, &[])?;
     let mut keeper = MemKeeper::new(alloc, Vec::new(alloc));
     let mut output = MemSink::new(alloc, Vec::new(alloc));
-    let _ended = served(&rt, alloc, &words, &mut port, &mut keeper, &mut output);
-    assert_eq!(rt; output.bytes(), b"served 1 faults 0\n".as_slice());
-    assert!(rt; accepts(&port, 0));
+    let _ended = served(rt, alloc, &words, &mut port, &mut keeper, &mut output);
+    drop(words);
+    drop(keeper);
+    let same = output.bytes() == b"served 1 faults 0\n".as_slice();
+    drop(output);
+    let answer = accepts(&port, 0);
+    drop(port);
+    Ok((same, answer))
+}
+
+#[test]
+fn the_program_serves(rt: HostRuntime) -> Result<(), Fail> {
+    assert_eq!(rt; serve_program(&rt)?, (true, Some(true)));
     Ok(())
 }

@@ -1,10 +1,12 @@
+//! Runs of the surrogate over ports in memory, with a script for what its commands leave. Each scene ends its port, its runner,
+//! its link and its output itself, so that the tests hold numbers and truths alone.
 ghost use Rattle.std.specs.Prelude.{◌≡◌, None, IfSome, IfOk, IfErr};
 ghost use Rattle.wire_frames.specs.Frame.{IsValid, Echoes, Spells};
 ghost use Rattle.world_rules.specs.Asking.{IsReplyTo};
 
+use crate::probe::{shows, words};
 use cmd_capture::{Outcome, RawRow, RawRows, ScriptAnswer, ScriptRunner};
 use outside::{MemPort, MemSink};
-use program_words::page_shown;
 use std::alloc::{AllocError, Global};
 use std::test::Fail;
 use surrogate_prog::{NAME, PAGES, surrogate_run};
@@ -155,14 +157,6 @@ fn run(
     (status, output)
 }
 
-fn words(alloc: Global, texts: &[&str]) -> Result<Vec<String>, AllocError> {
-    let mut words = Vec::new(alloc);
-    for text in texts {
-        words.push(String::from_str(alloc, text)?)?;
-    }
-    Ok(words)
-}
-
 fn port_of(alloc: Global, frames: &[&[u8]]) -> Result<MemPort, AllocError> {
     let mut held = Vec::new(alloc);
     for frame in frames {
@@ -171,23 +165,30 @@ fn port_of(alloc: Global, frames: &[&[u8]]) -> Result<MemPort, AllocError> {
     Ok(MemPort::new(alloc, held, Vec::new(alloc)))
 }
 
-/// Whether the surrogate answers these frames with these and ends with this line, over the link, where its runner does this.
+/// Whether the surrogate answers these frames with these and ends with this line, where its runner does this, and how many
+/// troubles its link to the server had, which is there or not.
 fn answers(
     alloc: Global,
+    dead: bool,
     frames: &[&[u8]],
     given: Vec<ScriptAnswer>,
-    link: &mut Server,
     replies: &[&[u8]],
     last: &[u8],
-) -> Result<bool, AllocError> {
+) -> Result<(bool, u64), AllocError> {
     match prepared(alloc, frames) {
         Ok((words, mut port)) => {
-            let (status, output) = run(alloc, &words, &mut port, given, link);
+            let mut link = link_to(alloc, dead);
+            let (status, output) = run(alloc, &words, &mut port, given, &mut link);
+            drop(words);
+            let troubles = link.troubles;
+            drop(link);
             let same = (0_u32..)
                 .zip(replies)
                 .all(|(number, reply)| port.answered(number) == Some(*reply));
             drop(port);
-            Ok(same && status == 0 && output.bytes() == last)
+            let ends = status == 0 && output.bytes() == last;
+            drop(output);
+            Ok((same && ends, troubles))
         }
         Err(error) => {
             drop(given);
@@ -237,14 +238,8 @@ fn is_answered(
     reply: &[u8],
 ) -> Result<bool, AllocError> {
     let given = outcome(alloc, status, names)?;
-    answers(
-        alloc,
-        &[&OPERATION],
-        given,
-        &mut link_to(alloc, false),
-        &[reply],
-        ONE,
-    )
+    let (same, _) = answers(alloc, false, &[&OPERATION], given, &[reply], ONE)?;
+    Ok(same)
 }
 
 #[test]
@@ -267,8 +262,8 @@ fn what_agrees_is_done_and_all_else_is_declined(rt: HostRuntime) -> Result<(), F
 fn what_was_not_run_is_declined(rt: HostRuntime) -> Result<(), Fail> {
     let alloc = rt.alloc();
     let given = one_run(alloc, ScriptAnswer::Fail)?;
-    let mut link = link_to(alloc, false);
-    assert!(rt; answers(alloc, &[&OPERATION], given, &mut link, &[&NOT_RUN], ONE)?);
+    let (same, _) = answers(alloc, false, &[&OPERATION], given, &[&NOT_RUN], ONE)?;
+    assert!(rt; same);
     Ok(())
 }
 
@@ -276,9 +271,8 @@ fn what_was_not_run_is_declined(rt: HostRuntime) -> Result<(), Fail> {
 fn a_silent_server_is_told(rt: HostRuntime) -> Result<(), Fail> {
     let alloc = rt.alloc();
     let given = outcome(alloc, 0, &[b"a"])?;
-    let mut link = link_to(alloc, true);
-    let told = answers(alloc, &[&OPERATION], given, &mut link, &[&NO_SERVER], ONE)?;
-    assert!(rt; told && link.troubles == 8);
+    let told = answers(alloc, true, &[&OPERATION], given, &[&NO_SERVER], ONE)?;
+    assert_eq!(rt; told, (true, 8));
     Ok(())
 }
 
@@ -286,9 +280,9 @@ fn a_silent_server_is_told(rt: HostRuntime) -> Result<(), Fail> {
 fn what_is_no_operation_is_malformed(rt: HostRuntime) -> Result<(), Fail> {
     let alloc = rt.alloc();
     let none = Vec::new(alloc);
-    let mut link = link_to(alloc, true);
     let replies: [&[u8]; 2] = [&NOT_FOR_IT, &BAD_LENGTH];
-    assert!(rt; answers(alloc, &[&PULL, b""], none, &mut link, &replies, TWO)?);
+    let (same, _) = answers(alloc, true, &[&PULL, b""], none, &replies, TWO)?;
+    assert!(rt; same);
     Ok(())
 }
 
@@ -298,9 +292,13 @@ fn is_refused(alloc: Global, texts: &[&str]) -> Result<bool, AllocError> {
     let mut port = port_of(alloc, &[&PULL])?;
     let mut link = link_to(alloc, true);
     let (status, output) = run(alloc, &words, &mut port, Vec::new(alloc), &mut link);
-    let refused = status == 2 && output.bytes().is_empty() && port.answered(0).is_none();
+    drop(words);
+    drop(link);
+    let is_untouched = port.answered(0).is_none();
     drop(port);
-    Ok(refused)
+    let is_empty = output.bytes().is_empty();
+    drop(output);
+    Ok(status == 2 && is_empty && is_untouched)
 }
 
 #[test]
@@ -321,17 +319,8 @@ fn other_words_touch_nothing(rt: HostRuntime) -> Result<(), Fail> {
 
 #[test]
 fn each_page_has_its_text(rt: HostRuntime) -> Result<(), Fail> {
-    let alloc = rt.alloc();
-    let pages = [
-        ("--help", "Usage: surrogate run LISTEN SERVER WORK COUNT\n"),
-        ("--version", "surrogate 0.1.0\n"),
-    ];
-    for (word, text) in pages {
-        let mut output = MemSink::new(alloc, Vec::new(alloc));
-        let words = words(alloc, &[word])?;
-        let ended = page_shown(&rt, NAME, &PAGES, &words, &mut output);
-        assert!(rt; ended.is_some());
-        assert!(rt; output.bytes().starts_with(text.as_bytes()));
-    }
+    let help = "Usage: surrogate run LISTEN SERVER WORK COUNT\n";
+    assert!(rt; shows(&rt, NAME, &PAGES, "--help", help)?);
+    assert!(rt; shows(&rt, NAME, &PAGES, "--version", "surrogate 0.1.0\n")?);
     Ok(())
 }
