@@ -1,6 +1,6 @@
-//! What the tests of both programs need: words, and the pages that words show.
+//! What the tests of both programs need: words, ports, and the pages that words show.
 
-use outside::MemSink;
+use outside::{MemPort, MemSink};
 use program_words::{Pages, page_shown};
 use std::alloc::{AllocError, Global};
 use std::rt::HostRuntime;
@@ -12,6 +12,16 @@ pub fn words(alloc: Global, texts: &[&str]) -> Result<Vec<String>, AllocError> {
         words.push(String::from_str(alloc, text)?)?;
     }
     Ok(words)
+}
+
+/// A port with these frames, whose calls of these numbers fail.
+pub fn port_of(alloc: Global, frames: &[&[u8]], fails: &[u32]) -> Result<MemPort, AllocError> {
+    let fails = fails.to_vec(alloc)?;
+    let mut held = Vec::new(alloc);
+    for frame in frames {
+        held.push(frame.to_vec(alloc)?)?;
+    }
+    Ok(MemPort::new(alloc, held, fails))
 }
 
 /// Whether the program of this name shows a page that begins so, where this is its only word.

@@ -1,7 +1,7 @@
 //! Runs of the server over ports in memory. Each scene ends its port, its keeper and its output itself, so that the tests
 //! hold numbers and truths alone.
 
-use crate::probe::{shows, words};
+use crate::probe::{port_of, shows, words};
 use outside::{KeepFail, Keeper, MemKeeper, MemPort, MemSink};
 use server_prog::{NAME, PAGES, served, server_run};
 use std::alloc::{AllocError, Global};
@@ -9,13 +9,13 @@ use std::rt::HostRuntime;
 use std::test::Fail;
 
 /// Entry 1 of client 1: `hello` and a line end is put at `a`, where nothing was.
-const STORE: [u8; 48] = [
+const STORE: &[u8] = &[
     0, 0, 0, 44, 1, 1, 1, 0, 0, 0, 0, 0, 0, 0, 1, 0, 0, 0, 1, 2, 0, 1, 97, 0, 0, 0, 6, 104, 101,
     108, 108, 111, 10, 0, 0, 0, 1, 0, 1, 97, 0, 0, 0, 0, 0, 0, 0, 0,
 ];
 
 /// Entry 2 of client 1: the same is put at `b`.
-const OTHER: [u8; 48] = [
+const OTHER: &[u8] = &[
     0, 0, 0, 44, 1, 1, 1, 0, 0, 0, 0, 0, 0, 0, 2, 0, 0, 0, 1, 2, 0, 1, 98, 0, 0, 0, 6, 104, 101,
     108, 108, 111, 10, 0, 0, 0, 1, 0, 1, 98, 0, 0, 0, 0, 0, 0, 0, 0,
 ];
@@ -43,22 +43,6 @@ type Ended = (u8, bool);
 /// How a run ends, and what its first three connections got: none where they were not answered, and else whether entry 1 of
 /// client 1 was accepted.
 type Served = (Ended, [Option<bool>; 3]);
-
-/// A port with as many connections, each with the store's frame.
-fn port_of_stores(alloc: Global, stores: usize, fails: &[u32]) -> Result<MemPort, AllocError> {
-    let fails = fails.to_vec(alloc)?;
-    let mut frames = Vec::new(alloc);
-    for _ in 0..stores {
-        frames.push(STORE.to_vec(alloc)?)?;
-    }
-    Ok(MemPort::new(alloc, frames, fails))
-}
-
-/// A port with a connection for entry 1 and one for entry 2.
-fn port_of_both(alloc: Global) -> Result<MemPort, AllocError> {
-    let frames = vec![in alloc; STORE.to_vec(alloc)?, OTHER.to_vec(alloc)?]?;
-    Ok(MemPort::new(alloc, frames, Vec::new(alloc)))
-}
 
 /// Runs a server on these words over this port, and gives its status.
 fn run(
@@ -124,15 +108,15 @@ fn serve_kept(
     Ok((ended?, answers))
 }
 
-/// Runs a server of which nothing is kept over as many connections, each with the store's frame.
+/// Runs a server of which nothing is kept over a port with these frames, whose calls of these numbers fail.
 fn serve(
     alloc: Global,
     texts: &[&str],
-    stores: usize,
+    frames: &[&[u8]],
     fails: &[u32],
     written: &[u8],
 ) -> Result<Served, AllocError> {
-    let port = port_of_stores(alloc, stores, fails)?;
+    let port = port_of(alloc, frames, fails)?;
     let mut keeper = MemKeeper::new(alloc, Vec::new(alloc));
     let served = serve_kept(alloc, texts, port, &mut keeper, written);
     drop(keeper);
@@ -142,7 +126,7 @@ fn serve(
 #[test]
 fn a_repeated_store_is_answered_twice(rt: HostRuntime) -> Result<(), Fail> {
     let texts = ["run", "l", "img", "2"];
-    let (ended, answers) = serve(rt.alloc(), &texts, 2, &[], b"served 2 faults 0\n")?;
+    let (ended, answers) = serve(rt.alloc(), &texts, &[STORE; 2], &[], b"served 2 faults 0\n")?;
     assert_eq!(rt; ended, (0, true));
     assert_eq!(rt; answers, [Some(true), Some(true), None]);
     Ok(())
@@ -150,8 +134,7 @@ fn a_repeated_store_is_answered_twice(rt: HostRuntime) -> Result<(), Fail> {
 
 /// How a run ends over a connection without a byte, and whether that is answered as a false length.
 fn serve_nothing(alloc: Global) -> Result<(Ended, bool), AllocError> {
-    let frames = vec![in alloc; Vec::new(alloc)]?;
-    let mut port = MemPort::new(alloc, frames, Vec::new(alloc));
+    let mut port = port_of(alloc, &[b""], &[])?;
     let mut keeper = MemKeeper::new(alloc, Vec::new(alloc));
     let texts = ["run", "l", "img", "1"];
     let ended = run_written(
@@ -177,7 +160,13 @@ fn bytes_of_no_form_are_answered(rt: HostRuntime) -> Result<(), Fail> {
 fn a_fault_ends_one_connection(rt: HostRuntime) -> Result<(), Fail> {
     let texts = ["run", "l", "img", "65536"];
     // The second take fails, and the answer of the third connection.
-    let (ended, answers) = serve(rt.alloc(), &texts, 4, &[2, 4], b"served 3 faults 2\n")?;
+    let (ended, answers) = serve(
+        rt.alloc(),
+        &texts,
+        &[STORE; 4],
+        &[2, 4],
+        b"served 3 faults 2\n",
+    )?;
     assert_eq!(rt; ended, (0, true));
     assert_eq!(rt; answers, [Some(true), None, Some(true)]);
     Ok(())
@@ -186,7 +175,7 @@ fn a_fault_ends_one_connection(rt: HostRuntime) -> Result<(), Fail> {
 #[test]
 fn the_count_ends_the_serving(rt: HostRuntime) -> Result<(), Fail> {
     let texts = ["run", "l", "img", "2"];
-    let (ended, answers) = serve(rt.alloc(), &texts, 3, &[], b"served 2 faults 0\n")?;
+    let (ended, answers) = serve(rt.alloc(), &texts, &[STORE; 3], &[], b"served 2 faults 0\n")?;
     assert_eq!(rt; ended, (0, true));
     assert_eq!(rt; answers, [Some(true), Some(true), None]);
     Ok(())
@@ -195,7 +184,7 @@ fn the_count_ends_the_serving(rt: HostRuntime) -> Result<(), Fail> {
 /// How a run of one store ends whose output fails at once, and what its connection got.
 fn serve_untold(alloc: Global) -> Result<(Ended, Option<bool>), AllocError> {
     let fails = [0].to_vec(alloc)?;
-    let mut port = port_of_stores(alloc, 1, &[])?;
+    let mut port = port_of(alloc, &[STORE], &[])?;
     let mut output = MemSink::new(alloc, fails);
     let mut keeper = MemKeeper::new(alloc, Vec::new(alloc));
     let texts = ["run", "l", "img", "1"];
@@ -227,7 +216,7 @@ fn other_words_touch_nothing(rt: HostRuntime) -> Result<(), Fail> {
         &["run", "l", "img", "65537"],
     ];
     for form in forms {
-        let (ended, answers) = serve(rt.alloc(), form, 1, &[], b"")?;
+        let (ended, answers) = serve(rt.alloc(), form, &[STORE], &[], b"")?;
         assert_eq!(rt; ended, (2, true));
         assert_eq!(rt; answers, [None; 3]);
     }
@@ -240,15 +229,17 @@ fn failing_keeper(alloc: Global, fail: KeepFail) -> Result<MemKeeper, AllocError
     Ok(MemKeeper::new(alloc, fails))
 }
 
-/// What is kept, as a copy.
-fn copied_image(alloc: Global, keeper: &MemKeeper) -> Result<Vec<u8>, Fail> {
-    let image = keeper.image(b"img").ok_or("not kept")?;
-    Ok(image.to_vec(alloc)?)
+/// What is kept, as a copy; no bytes where nothing is.
+fn copied_image(alloc: Global, keeper: &MemKeeper) -> Result<Vec<u8>, AllocError> {
+    match keeper.image(b"img") {
+        Some(image) => image.to_vec(alloc),
+        None => Ok(Vec::new(alloc)),
+    }
 }
 
 /// A run of two stores whose second save would fail, and the image that it leaves.
-fn serve_two(alloc: Global) -> Result<(Served, Vec<u8>), Fail> {
-    let port = port_of_stores(alloc, 2, &[])?;
+fn serve_two(alloc: Global) -> Result<(Served, Vec<u8>), AllocError> {
+    let port = port_of(alloc, &[STORE; 2], &[])?;
     // Call 0 loads and call 1 saves.
     let second_save = KeepFail {
         call: 2,
@@ -266,7 +257,7 @@ fn serve_two(alloc: Global) -> Result<(Served, Vec<u8>), Fail> {
 
 /// A run of one store over this image, and whether it leaves the image as it is.
 fn serve_from(alloc: Global, image: &[u8]) -> Result<(Served, bool), AllocError> {
-    let port = port_of_stores(alloc, 1, &[])?;
+    let port = port_of(alloc, &[STORE], &[])?;
     let mut keeper = MemKeeper::new(alloc, Vec::new(alloc));
     let _ = keeper.save(b"img", image);
     let texts = ["run", "l", "img", "1"];
@@ -277,7 +268,7 @@ fn serve_from(alloc: Global, image: &[u8]) -> Result<(Served, bool), AllocError>
 }
 
 /// The first run, the size of its image, and the next run over that image.
-fn serve_again(alloc: Global) -> Result<(Served, usize, (Served, bool)), Fail> {
+fn serve_again(alloc: Global) -> Result<(Served, usize, (Served, bool)), AllocError> {
     let (first, image) = serve_two(alloc)?;
     let size = image.len();
     let next = serve_from(alloc, &image);
@@ -300,7 +291,7 @@ fn a_taken_store_is_kept_once(rt: HostRuntime) -> Result<(), Fail> {
 }
 
 /// What a run keeps that takes so many connections of these.
-fn kept_after(alloc: Global, count: &str, mut port: MemPort) -> Result<Vec<u8>, Fail> {
+fn kept_after(alloc: Global, count: &str, mut port: MemPort) -> Result<Vec<u8>, AllocError> {
     let mut keeper = MemKeeper::new(alloc, Vec::new(alloc));
     let status = run_quiet(alloc, &["run", "l", "img", count], &mut port, &mut keeper);
     drop(port);
@@ -312,9 +303,9 @@ fn kept_after(alloc: Global, count: &str, mut port: MemPort) -> Result<Vec<u8>, 
 }
 
 /// How many bytes one run keeps of both entries, and whether they are this image with the record of entry 2 behind it.
-fn keep_both(alloc: Global, image: &[u8]) -> Result<(usize, bool), Fail> {
+fn keep_both(alloc: Global, image: &[u8]) -> Result<(usize, bool), AllocError> {
     // One run saves after entry 1, and appends entry 2.
-    let kept = kept_after(alloc, "2", port_of_both(alloc)?)?;
+    let kept = kept_after(alloc, "2", port_of(alloc, &[STORE, OTHER], &[])?)?;
     let is_behind = kept.starts_with(image) && kept.ends_with(&RECORD);
     let size = kept.len();
     drop(kept);
@@ -322,8 +313,8 @@ fn keep_both(alloc: Global, image: &[u8]) -> Result<(usize, bool), Fail> {
 }
 
 /// How many bytes one run keeps after entry 1; and how many of both entries, and whether the record stands behind the image.
-fn keep_one_and_both(alloc: Global) -> Result<(usize, (usize, bool)), Fail> {
-    let image = kept_after(alloc, "1", port_of_stores(alloc, 1, &[])?)?;
+fn keep_one_and_both(alloc: Global) -> Result<(usize, (usize, bool)), AllocError> {
+    let image = kept_after(alloc, "1", port_of(alloc, &[STORE], &[])?)?;
     let size = image.len();
     let both = keep_both(alloc, &image);
     drop(image);
@@ -340,7 +331,7 @@ fn another_store_is_a_record_behind_the_image(rt: HostRuntime) -> Result<(), Fai
 
 /// The status of a run over both connections, and the numbers of the entries that were accepted in it, 0 for none.
 fn run_both(alloc: Global, keeper: &mut MemKeeper) -> Result<(u8, [u8; 2]), AllocError> {
-    let mut port = port_of_both(alloc)?;
+    let mut port = port_of(alloc, &[STORE, OTHER], &[])?;
     let status = run_quiet(alloc, &["run", "l", "img", "2"], &mut port, keeper);
     let accepted = [accepted(&port, 0), accepted(&port, 1)];
     drop(port);
@@ -396,7 +387,7 @@ fn a_torn_record_is_dropped(rt: HostRuntime) -> Result<(), Fail> {
 
 /// A run of one store over a keeper whose call of this number fails, and whether nothing is kept.
 fn serve_unkept(alloc: Global, call: u32) -> Result<(Served, bool), AllocError> {
-    let port = port_of_stores(alloc, 1, &[])?;
+    let port = port_of(alloc, &[STORE], &[])?;
     let fail = KeepFail {
         call,
         leaves_new: false,
@@ -422,7 +413,7 @@ fn a_failing_keeper_answers_nothing(rt: HostRuntime) -> Result<(), Fail> {
 
 /// A run of one store over these bytes, and whether they are left as they are.
 fn serve_odd(alloc: Global, kept: &[u8]) -> Result<(Served, bool), AllocError> {
-    let port = port_of_stores(alloc, 1, &[])?;
+    let port = port_of(alloc, &[STORE], &[])?;
     let mut keeper = MemKeeper::new(alloc, Vec::new(alloc));
     let _ = keeper.save(b"img", kept);
     let served = serve_kept(alloc, &["run", "l", "img", "1"], port, &mut keeper, b"");
@@ -452,7 +443,7 @@ fn each_page_has_its_text(rt: HostRuntime) -> Result<(), Fail> {
 fn serve_program(rt: &HostRuntime) -> Result<(bool, Option<bool>), AllocError> {
     let alloc = rt.alloc();
     let words = words(alloc, &["run", "l", "img", "1"])?;
-    let mut port = port_of_stores(alloc, 1, &[])?;
+    let mut port = port_of(alloc, &[STORE], &[])?;
     let mut keeper = MemKeeper::new(alloc, Vec::new(alloc));
     let mut output = MemSink::new(alloc, Vec::new(alloc));
     let _ended = served(rt, alloc, &words, &mut port, &mut keeper, &mut output);

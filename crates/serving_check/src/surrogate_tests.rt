@@ -4,7 +4,7 @@ ghost use Rattle.std.specs.Prelude.{◌≡◌, None, IfSome, IfOk, IfErr};
 ghost use Rattle.wire_frames.specs.Frame.{IsValid, Echoes, Spells};
 ghost use Rattle.world_rules.specs.Asking.{IsReplyTo};
 
-use crate::probe::{shows, words};
+use crate::probe::{port_of, shows, words};
 use cmd_capture::{Outcome, RawRow, RawRows, ScriptAnswer, ScriptRunner};
 use outside::{MemPort, MemSink};
 use std::alloc::{AllocError, Global};
@@ -157,14 +157,6 @@ fn run(
     (status, output)
 }
 
-fn port_of(alloc: Global, frames: &[&[u8]]) -> Result<MemPort, AllocError> {
-    let mut held = Vec::new(alloc);
-    for frame in frames {
-        held.push(frame.to_vec(alloc)?)?;
-    }
-    Ok(MemPort::new(alloc, held, Vec::new(alloc)))
-}
-
 /// Whether the surrogate answers these frames with these and ends with this line, where its runner does this, and how many
 /// troubles its link to the server had, which is there or not.
 fn answers(
@@ -200,7 +192,7 @@ fn answers(
 /// The words of a surrogate, and a port with these frames.
 fn prepared(alloc: Global, frames: &[&[u8]]) -> Result<(Vec<String>, MemPort), AllocError> {
     let words = words(alloc, &["run", "l", "srv", "work", "9"])?;
-    let port = port_of(alloc, frames)?;
+    let port = port_of(alloc, frames, &[])?;
     Ok((words, port))
 }
 
@@ -289,7 +281,7 @@ fn what_is_no_operation_is_malformed(rt: HostRuntime) -> Result<(), Fail> {
 /// Whether a surrogate of these words ends with status 2, and answers nothing.
 fn is_refused(alloc: Global, texts: &[&str]) -> Result<bool, AllocError> {
     let words = words(alloc, texts)?;
-    let mut port = port_of(alloc, &[&PULL])?;
+    let mut port = port_of(alloc, &[&PULL], &[])?;
     let mut link = link_to(alloc, true);
     let (status, output) = run(alloc, &words, &mut port, Vec::new(alloc), &mut link);
     drop(words);

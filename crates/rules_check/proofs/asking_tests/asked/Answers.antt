@@ -2,4 +2,4 @@ use Rattle.world_rules.proofs.FirstPull.{first_pull}
 use Rattle.rules_check.proofs.asking_tests.asked.Goals as goal
 
 pub ask_eight-answer-requires : goal.ask_eight-answer-requires
-ask_eight-answer-requires g c = first_pull
+ask_eight-answer-requires c = first_pull
