@@ -39,7 +39,8 @@ pub fn origins_are_bytes()
 /// States that sketched effects have one spelling, and each spelling sketched effects.
 pub fn sketched_effects_are_spelled_once()
     ensures effect { (room : ℕ) → IsCodec (sketch_effect_at room) sketch_effect (SketchEffectFitsIn room) }
-    ensures effects_within { (most room : ℕ) → most < 2 ^ 32 → IsCodec (sketch_effects_within most room) sketch_effects (SketchEffectsFitWithin most room) }
+    ensures effects_within { (most room : ℕ) → most < 2 ^ 32
+        → IsCodec (sketch_effects_within most room) sketch_effects (SketchEffectsFitWithin most room) }
 {}
 
 /// States that, where the bytes end inside sketched effects, the field in which they end is the faulty one.

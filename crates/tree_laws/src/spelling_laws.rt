@@ -42,7 +42,8 @@ pub fn parts_are_spelled_in_bytes()
 /// States that, where the bytes end inside a value, the field in which they end is the faulty one.
 pub fn parts_end_with_their_bytes()
     ensures effect { (room : ℕ) → IsCut (effect_at room) effect effect_fields (EffectFitsIn room) }
-    ensures effects_within { (most room : ℕ) → most < 2 ^ 32 → IsCut (effects_within most room) effects effects_fields (EffectsFitWithin most room) }
+    ensures effects_within { (most room : ℕ) → most < 2 ^ 32
+        → IsCut (effects_within most room) effects effects_fields (EffectsFitWithin most room) }
     ensures effects { IsCut effects_at effects effects_fields EffectsFit }
     ensures bases { (touched : List FilePath) → length touched < 2 ^ 32 → IsCut (bases_at touched) bases bases_fields (AreBasesOf touched) }
     ensures rows { IsCut rows_at rows rows_fields IsTree }
