@@ -2,10 +2,11 @@
 
 ghost use Rattle.std.specs.Prelude.{◌<◌};
 
-use std::alloc::Global;
+use super::tests::{Answer, answer_of};
+use std::alloc::{AllocError, Global};
 use std::rt::HostRuntime;
 use std::test::Fail;
-use wire_frames::{FrameError, Message, echoes, read, write};
+use wire_frames::{Message, echoes, read, write};
 
 const PULL: [u8; 15] = [0, 0, 0, 11, 1, 3, 1, 0, 0, 0, 0, 0, 0, 0, 0];
 
@@ -30,7 +31,10 @@ fn is_written_as_read(alloc: Global, frame: &[u8]) -> Result<bool, Fail> {
     let message = read(alloc, frame).ok().ok_or("refused")?;
     let written = write(alloc, &message);
     drop(message);
-    Ok(written?.as_slice() == frame)
+    let written = written?;
+    let same = written.as_slice() == frame;
+    drop(written);
+    Ok(same)
 }
 
 #[test]
@@ -56,7 +60,7 @@ fn a_reply_answers_its_request(rt: HostRuntime) -> Result<(), Fail> {
 }
 
 /// Whether the reply that one frame spells answers the request that the other does.
-fn is_answered(alloc: Global, request: &[u8], reply: &[u8]) -> Result<bool, Fail> {
+pub(crate) fn is_answered(alloc: Global, request: &[u8], reply: &[u8]) -> Result<bool, Fail> {
     let request = read(alloc, request).ok().ok_or("refused")?;
     let answers = is_answer(alloc, &request, reply);
     drop(request);
@@ -70,62 +74,43 @@ fn is_answer(alloc: Global, request: &Message, reply: &[u8]) -> Result<bool, Fai
     Ok(answers)
 }
 
-/// Why the bytes are refused, if they are.
-fn refusal(alloc: Global, bytes: &[u8]) -> Option<FrameError> {
-    match read(alloc, bytes) {
-        Ok(message) => {
-            drop(message);
-            None
-        }
-        Err(refusal) => Some(refusal),
-    }
+/// What the reader says of more bytes than a frame has.
+fn answer_to_long(alloc: Global) -> Result<Answer, AllocError> {
+    let long = vec![in alloc; 0u8; 67_108_865]?;
+    let answer = answer_of(alloc, &long);
+    drop(long);
+    Ok(answer)
 }
 
 #[test]
 fn a_frame_has_its_length(rt: HostRuntime) -> Result<(), Fail> {
-    let long = vec![in rt.alloc(); 0u8; 67_108_865]?;
-    assert!(rt; matches!(refusal(rt.alloc(), &long), Some(FrameError::BadLength)));
-    assert!(rt;
-        matches!(
-            refusal(rt.alloc(), &PULL[..14]),
-            Some(FrameError::BadLength)
-        )
-    );
+    assert!(rt; answer_to_long(rt.alloc())? == Answer::BadLength);
+    assert!(rt; answer_of(rt.alloc(), &PULL[..14]) == Answer::BadLength);
     Ok(())
 }
 
 #[test]
 fn a_frame_has_version_and_kind(rt: HostRuntime) {
     let other = changed(&PULL, 4, 2);
-    assert!(rt; matches!(refusal(rt.alloc(), &other), Some(FrameError::BadVersion)));
+    assert!(rt; answer_of(rt.alloc(), &other) == Answer::BadVersion);
     let unknown = changed(&PULL, 5, 4);
-    assert!(rt; matches!(refusal(rt.alloc(), &unknown), Some(FrameError::BadKind)));
+    assert!(rt; answer_of(rt.alloc(), &unknown) == Answer::BadKind);
 }
 
 #[test]
 fn a_client_is_numbered_from_1_to_64(rt: HostRuntime) {
     let none = changed(&PULL, 6, 0);
-    assert!(rt; matches!(refusal(rt.alloc(), &none), Some(FrameError::BadClient)));
+    assert!(rt; answer_of(rt.alloc(), &none) == Answer::BadClient);
     let past = changed(&PULL, 6, 65);
-    assert!(rt; matches!(refusal(rt.alloc(), &past), Some(FrameError::BadClient)));
+    assert!(rt; answer_of(rt.alloc(), &past) == Answer::BadClient);
 }
 
 #[test]
 fn fields_are_whole_and_the_last_is_the_end(rt: HostRuntime) {
     let trailing = [0, 0, 0, 12, 1, 3, 1, 0, 0, 0, 0, 0, 0, 0, 0, 0];
-    assert!(rt;
-        matches!(
-            refusal(rt.alloc(), &trailing),
-            Some(FrameError::Trailing(15))
-        )
-    );
+    assert!(rt; answer_of(rt.alloc(), &trailing) == Answer::Trailing(15));
     let unnumbered = changed(&ACCEPTED, 14, 0);
-    assert!(rt;
-        matches!(
-            refusal(rt.alloc(), &unnumbered),
-            Some(FrameError::BadField(7))
-        )
-    );
+    assert!(rt; answer_of(rt.alloc(), &unnumbered) == Answer::Field(7));
 }
 
 /// The frame with another byte at a place.

@@ -6,16 +6,17 @@ ghost use Rattle.std.specs.List.{AllByRecursion};
 ghost use Rattle.file_paths.specs.Limits.{max_file};
 ghost use Rattle.tree_values.specs.Effects.{content_size};
 
+use super::by_hand::is_answered;
 use Answer::{BadClient, BadKind, BadLength, BadVersion, Field, Message, Trailing};
 use mod_log::{Entry, Origin, SketchEffects, sketch_entry};
 use std::alloc::{AllocError, Global};
 use std::test::Fail;
 use vol_tree::{Base, Bases, Content, Effect, Effects, Path, TryCopy};
-use wire_frames::{FrameError, echoes, operation_size, read, store_size, write};
+use wire_frames::{FrameError, operation_size, read, store_size, write};
 
 /// What the reader says of bytes.
 #[derive(Clone, Copy, Debug, PartialEq, Eq)]
-enum Answer {
+pub(crate) enum Answer {
     Message,
     BadLength,
     BadVersion,
@@ -95,9 +96,8 @@ const STORE_HEAD: &str = "01 01 01 0000000000000001";
 /// Version, kind, client, number and last number of a snapshot.
 const SNAPSHOT_HEAD: &str = "01 15 01 0000000000000000 0000000000000000";
 
-/// The bytes that the hexadecimal digits spell; other letters stand between them.
-fn bytes_of(alloc: Global, text: &str) -> Result<Vec<u8>, AllocError> {
-    let mut bytes = Vec::new(alloc);
+/// Appends the bytes that the hexadecimal digits spell; other letters stand between them.
+fn put_digits(bytes: &mut Vec<u8>, text: &str) -> Result<(), AllocError> {
     let mut high = None;
     for letter in text.bytes() {
         let digit = match letter {
@@ -114,19 +114,42 @@ fn bytes_of(alloc: Global, text: &str) -> Result<Vec<u8>, AllocError> {
             }
         };
     }
+    Ok(())
+}
+
+/// The bytes that the digits spell.
+fn bytes_of(alloc: Global, text: &str) -> Result<Vec<u8>, AllocError> {
+    let mut bytes = Vec::new(alloc);
+    put_digits(&mut bytes, text)?;
     Ok(bytes)
+}
+
+/// The bytes that the digits of all the texts spell.
+fn payload_of(alloc: Global, texts: &[&str]) -> Result<Vec<u8>, AllocError> {
+    let mut payload = Vec::new(alloc);
+    for text in texts {
+        put_digits(&mut payload, text)?;
+    }
+    Ok(payload)
+}
+
+/// Appends the frame that has this behind its length.
+fn put_frame(frame: &mut Vec<u8>, payload: &[u8]) -> Result<(), AllocError> {
+    let size = u32::try_from(payload.len()).unwrap_or(u32::MAX);
+    frame.extend_from_slice(&size.to_be_bytes())?;
+    frame.extend_from_slice(payload)?;
+    Ok(())
 }
 
 /// The frame that has this behind its length.
 fn framed(alloc: Global, payload: &[u8]) -> Result<Vec<u8>, AllocError> {
-    let size = u32::try_from(payload.len()).unwrap_or(u32::MAX);
-    let mut frame = Vec::from_slice(alloc, &size.to_be_bytes())?;
-    frame.extend_from_slice(payload)?;
+    let mut frame = Vec::new(alloc);
+    put_frame(&mut frame, payload)?;
     Ok(frame)
 }
 
 /// What the reader says of a frame.
-fn answer_of(alloc: Global, frame: &[u8]) -> Answer {
+pub(crate) fn answer_of(alloc: Global, frame: &[u8]) -> Answer {
     match read(alloc, frame) {
         Ok(message) => {
             drop(message);
@@ -142,11 +165,35 @@ fn answer_of(alloc: Global, frame: &[u8]) -> Answer {
     }
 }
 
-/// What the reader says of the frame with this head and this body.
-fn answer_to(alloc: Global, head: &str, body: &str) -> Result<Answer, AllocError> {
-    let mut payload = bytes_of(alloc, head)?;
-    payload.extend_from_slice(&bytes_of(alloc, body)?)?;
-    Ok(answer_of(alloc, &framed(alloc, &payload)?))
+/// What the reader says of the frame that has this behind its length.
+fn answer_to_payload(alloc: Global, payload: &[u8]) -> Result<Answer, AllocError> {
+    let frame = framed(alloc, payload)?;
+    let answer = answer_of(alloc, &frame);
+    drop(frame);
+    Ok(answer)
+}
+
+/// What the reader says of the frame of these texts.
+fn answer_to(alloc: Global, texts: &[&str]) -> Result<Answer, AllocError> {
+    let payload = payload_of(alloc, texts)?;
+    let answer = answer_to_payload(alloc, &payload);
+    drop(payload);
+    answer
+}
+
+/// The first of the bodies whose frame with this head gets another answer than the stated one.
+fn first_wrong_body(
+    alloc: Global,
+    head: &str,
+    bodies: &[(&str, Answer)],
+) -> Result<Option<usize>, AllocError> {
+    for place in 0..bodies.len() {
+        let (body, wanted) = bodies[place];
+        if answer_to(alloc, &[head, body])? != wanted {
+            return Ok(Some(place));
+        }
+    }
+    Ok(None)
 }
 
 /// The answer that a table states for a place: that of the first entry whose end is behind it.
@@ -157,51 +204,94 @@ fn stated(table: &[(usize, Answer)], place: usize) -> Option<Answer> {
         .map(|entry| entry.1)
 }
 
+/// What the reader says of the frame with a byte ff at a place.
+fn answer_to_spoilt(alloc: Global, frame: &[u8], place: usize) -> Result<Answer, AllocError> {
+    let mut other = Vec::from_slice(alloc, frame)?;
+    if let Some(byte) = other.get_mut(place) {
+        *byte = 255;
+    }
+    let answer = answer_of(alloc, &other);
+    drop(other);
+    Ok(answer)
+}
+
 /// The first place of a frame where a byte ff in place of its own gets another answer than the stated one.
 fn first_wrong_byte(
     alloc: Global,
-    text: &str,
+    frame: &[u8],
     table: &[(usize, Answer)],
 ) -> Result<Option<usize>, AllocError> {
-    let frame = bytes_of(alloc, text)?;
     for place in 0..frame.len() {
-        let mut other = frame.clone()?;
-        if let Some(byte) = other.get_mut(place) {
-            *byte = 255;
-        }
-        if Some(answer_of(alloc, &other)) != stated(table, place) {
+        if Some(answer_to_spoilt(alloc, frame, place)?) != stated(table, place) {
             return Ok(Some(place));
         }
     }
     Ok(None)
 }
 
-/// The first number of bytes, fewer than the frame has, with which its front is not refused for its length.
-fn first_wrong_cut(alloc: Global, text: &str) -> Result<Option<usize>, AllocError> {
+/// The same of the frame of these digits.
+fn first_wrong_byte_of(
+    alloc: Global,
+    text: &str,
+    table: &[(usize, Answer)],
+) -> Result<Option<usize>, AllocError> {
     let frame = bytes_of(alloc, text)?;
+    let wrong = first_wrong_byte(alloc, &frame, table);
+    drop(frame);
+    wrong
+}
+
+/// The first number of bytes, fewer than the frame has, with which its front is not refused for its length.
+fn first_wrong_cut(alloc: Global, frame: &[u8]) -> Option<usize> {
     for size in 0..frame.len() {
         if answer_of(alloc, &frame[..size]) != Answer::BadLength {
-            return Ok(Some(size));
+            return Some(size);
         }
     }
-    Ok(None)
+    None
+}
+
+/// The same of the frame of these digits.
+fn first_wrong_cut_of(alloc: Global, text: &str) -> Result<Option<usize>, AllocError> {
+    let frame = bytes_of(alloc, text)?;
+    let wrong = first_wrong_cut(alloc, &frame);
+    drop(frame);
+    Ok(wrong)
 }
 
 /// The first number of bytes, at least 4 and fewer than the frame has, with which its front gets another answer than
 /// the stated one once its length is that of the front.
 fn first_wrong_front(
     alloc: Global,
-    text: &str,
+    frame: &[u8],
     table: &[(usize, Answer)],
 ) -> Result<Option<usize>, AllocError> {
-    let frame = bytes_of(alloc, text)?;
     for size in 4..frame.len() {
-        let front = framed(alloc, &frame[4..size])?;
-        if Some(answer_of(alloc, &front)) != stated(table, size) {
+        if Some(answer_to_payload(alloc, &frame[4..size])?) != stated(table, size) {
             return Ok(Some(size));
         }
     }
     Ok(None)
+}
+
+/// The same of the frame of these digits.
+fn first_wrong_front_of(
+    alloc: Global,
+    text: &str,
+    table: &[(usize, Answer)],
+) -> Result<Option<usize>, AllocError> {
+    let frame = bytes_of(alloc, text)?;
+    let wrong = first_wrong_front(alloc, &frame, table);
+    drop(frame);
+    wrong
+}
+
+/// What the reader says of the frame of these digits.
+fn answer_to_digits(alloc: Global, text: &str) -> Result<Answer, AllocError> {
+    let frame = bytes_of(alloc, text)?;
+    let answer = answer_of(alloc, &frame);
+    drop(frame);
+    Ok(answer)
 }
 
 #[test]
@@ -209,8 +299,7 @@ fn example_frames_are_read(rt: HostRuntime) -> Result<(), Fail> {
     for text in [
         PULL, STORE, OPERATE, ACCEPTED, MALFORMED, SNAPSHOT, DONE, DECLINED,
     ] {
-        let frame = bytes_of(rt.alloc(), text)?;
-        assert_eq!(rt; answer_of(rt.alloc(), &frame), Message, "{text}");
+        assert_eq!(rt; answer_to_digits(rt.alloc(), text)?, Message, "{text}");
     }
     Ok(())
 }
@@ -226,156 +315,213 @@ fn copied_frame(alloc: Global, frame: &[u8]) -> Result<Vec<u8>, Fail> {
     Ok(written?)
 }
 
+/// Whether a copy of the message that the frame spells is written as the same frame.
+fn is_copied(alloc: Global, frame: &[u8]) -> Result<bool, Fail> {
+    let written = copied_frame(alloc, frame)?;
+    let same = written.as_slice() == frame;
+    drop(written);
+    Ok(same)
+}
+
+/// The same of the frame of these digits.
+fn is_copied_of(alloc: Global, text: &str) -> Result<bool, Fail> {
+    let frame = bytes_of(alloc, text)?;
+    let copied = is_copied(alloc, &frame);
+    drop(frame);
+    copied
+}
+
+/// The same of the frame that has this behind its length.
+fn is_payload_copied(alloc: Global, payload: &[u8]) -> Result<bool, Fail> {
+    let frame = framed(alloc, payload)?;
+    let copied = is_copied(alloc, &frame);
+    drop(frame);
+    copied
+}
+
+/// The same of the frame with this head and this body.
+fn is_body_copied(alloc: Global, head: &str, body: &str) -> Result<bool, Fail> {
+    let payload = payload_of(alloc, &[head, body])?;
+    let copied = is_payload_copied(alloc, &payload);
+    drop(payload);
+    copied
+}
+
+/// The first of the bodies with this head of which it is not so.
+fn first_other_body(alloc: Global, head: &str, bodies: &[&str]) -> Result<Option<usize>, Fail> {
+    for place in 0..bodies.len() {
+        if !is_body_copied(alloc, head, bodies[place])? {
+            return Ok(Some(place));
+        }
+    }
+    Ok(None)
+}
+
 #[test]
 fn copied_messages_are_written_as_they_were_read(rt: HostRuntime) -> Result<(), Fail> {
     for text in [
         PULL, STORE, OPERATE, ACCEPTED, MALFORMED, SNAPSHOT, STALE, GAP, DONE, DECLINED,
     ] {
-        let frame = bytes_of(rt.alloc(), text)?;
-        assert_eq!(rt; copied_frame(rt.alloc(), &frame)?, frame, "{text}");
+        assert!(rt; is_copied_of(rt.alloc(), text)?, "{text}");
     }
     Ok(())
 }
+
+/// Refusals of an entry that does not fit.
+const UNFIT: [&str; 8] = [
+    "01",
+    "02 000161",
+    "03 000161",
+    "04 000161",
+    "05 0000",
+    "06 000161 0003612f62",
+    "08 0000000000800001",
+    "0a 000161",
+];
 
 #[test]
 fn told_refusals_are_written_as_they_were_read(rt: HostRuntime) -> Result<(), Fail> {
-    let faults = [
-        (UNFIT_HEAD, "01"),
-        (UNFIT_HEAD, "02 000161"),
-        (UNFIT_HEAD, "03 000161"),
-        (UNFIT_HEAD, "04 000161"),
-        (UNFIT_HEAD, "05 0000"),
-        (UNFIT_HEAD, "06 000161 0003612f62"),
-        (FULL_HEAD, "07 00004000"),
-        (UNFIT_HEAD, "08 0000000000800001"),
-        (FULL_HEAD, "09 0000000002000001"),
-        (UNFIT_HEAD, "0a 000161"),
-    ];
-    for (head, fault) in faults {
-        let mut payload = bytes_of(rt.alloc(), head)?;
-        payload.extend_from_slice(&bytes_of(rt.alloc(), fault)?)?;
-        let frame = framed(rt.alloc(), &payload)?;
-        assert_eq!(rt; copied_frame(rt.alloc(), &frame)?, frame, "{fault}");
-    }
+    let full = ["07 00004000", "09 0000000002000001"];
+    assert_eq!(rt; first_other_body(rt.alloc(), UNFIT_HEAD, &UNFIT)?, None);
+    assert_eq!(rt; first_other_body(rt.alloc(), FULL_HEAD, &full)?, None);
     Ok(())
 }
+
+/// Causes of each kind.
+const CAUSES: [&str; 19] = [
+    "01 000102030405060708090a0b0c0d0e0f101112131415161718191a1b1c1d1e1f \
+        ff0102030405060708090a0b0c0d0e0f101112131415161718191a1b1c1d1e1f",
+    "02 01 00000000",
+    "02 02 00000003",
+    "03",
+    "04",
+    "05 00 01",
+    "05 01 00",
+    "06 00000002",
+    "07 0003612f62",
+    "08 000161",
+    "09 00000001 01",
+    "09 00000001 06 000161 0003612f62",
+    "09 00000001 07 00004000",
+    "09 00000001 09 0000000002000001",
+    "0a 12",
+    "0a 13",
+    "0a 14",
+    "0a 18",
+    "0b",
+];
 
 #[test]
 fn causes_are_written_as_they_were_read(rt: HostRuntime) -> Result<(), Fail> {
-    let causes = [
-        "01 000102030405060708090a0b0c0d0e0f101112131415161718191a1b1c1d1e1f \
-            ff0102030405060708090a0b0c0d0e0f101112131415161718191a1b1c1d1e1f",
-        "02 01 00000000",
-        "02 02 00000003",
-        "03",
-        "04",
-        "05 00 01",
-        "05 01 00",
-        "06 00000002",
-        "07 0003612f62",
-        "08 000161",
-        "09 00000001 01",
-        "09 00000001 06 000161 0003612f62",
-        "09 00000001 07 00004000",
-        "09 00000001 09 0000000002000001",
-        "0a 12",
-        "0a 13",
-        "0a 14",
-        "0a 18",
-        "0b",
-    ];
-    for cause in causes {
-        let mut payload = bytes_of(rt.alloc(), DECLINED_HEAD)?;
-        payload.extend_from_slice(&bytes_of(rt.alloc(), cause)?)?;
-        let frame = framed(rt.alloc(), &payload)?;
-        assert_eq!(rt; copied_frame(rt.alloc(), &frame)?, frame, "{cause}");
-    }
+    assert_eq!(rt; first_other_body(rt.alloc(), DECLINED_HEAD, &CAUSES)?, None);
     Ok(())
 }
+
+/// Causes that break a rule, and the answers.
+const FAULTY_CAUSES: [(&str, Answer); 19] = [
+    ("00", Field(15)),
+    ("0c", Field(15)),
+    ("ff", Field(15)),
+    (
+        "01 000102030405060708090a0b0c0d0e0f101112131415161718191a1b1c1d1e1f \
+            000102030405060708090a0b0c0d0e0f101112131415161718191a1b1c1d1e1f",
+        Field(48),
+    ),
+    ("02 00 00000000", Field(16)),
+    ("02 03 00000000", Field(16)),
+    ("02 01 00000001", Field(17)),
+    ("03 00", Trailing(16)),
+    ("05 07 07", Field(17)),
+    ("07 0001 2f", Field(18)),
+    ("08 0401", Field(18)),
+    ("09 00000001 00", Field(20)),
+    ("09 00000001 0b", Field(20)),
+    ("09 00000001 02 0001 2f", Field(23)),
+    ("0a 11", Field(16)),
+    ("0a 15", Field(16)),
+    ("0a 16", Field(16)),
+    ("0b 00", Trailing(16)),
+    ("", Field(15)),
+];
 
 #[test]
 fn causes_keep_their_rules(rt: HostRuntime) -> Result<(), Fail> {
-    let causes = [
-        ("00", Field(15)),
-        ("0c", Field(15)),
-        ("ff", Field(15)),
-        (
-            "01 000102030405060708090a0b0c0d0e0f101112131415161718191a1b1c1d1e1f \
-                000102030405060708090a0b0c0d0e0f101112131415161718191a1b1c1d1e1f",
-            Field(48),
-        ),
-        ("02 00 00000000", Field(16)),
-        ("02 03 00000000", Field(16)),
-        ("02 01 00000001", Field(17)),
-        ("03 00", Trailing(16)),
-        ("05 07 07", Field(17)),
-        ("07 0001 2f", Field(18)),
-        ("08 0401", Field(18)),
-        ("09 00000001 00", Field(20)),
-        ("09 00000001 0b", Field(20)),
-        ("09 00000001 02 0001 2f", Field(23)),
-        ("0a 11", Field(16)),
-        ("0a 15", Field(16)),
-        ("0a 16", Field(16)),
-        ("0b 00", Trailing(16)),
-        ("", Field(15)),
-    ];
-    for (cause, wanted) in causes {
-        assert_eq!(rt;
-            answer_to(rt.alloc(), DECLINED_HEAD, cause)?,
-            wanted,
-            "{cause}"
-        );
+    assert_eq!(rt;
+        first_wrong_body(rt.alloc(), DECLINED_HEAD, &FAULTY_CAUSES)?,
+        None
+    );
+    Ok(())
+}
+
+/// Status, command, sketches and base of an operation.
+type Operation = [&'static str; 4];
+
+/// The first of the operations that gets another answer than the stated one.
+fn first_wrong_operation(
+    alloc: Global,
+    operations: &[(Operation, Answer)],
+) -> Result<Option<usize>, AllocError> {
+    for place in 0..operations.len() {
+        let ([status, command, sketches, base], wanted) = operations[place];
+        if answer_to(alloc, &[OPERATE_HEAD, status, command, sketches, base])? != wanted {
+            return Ok(Some(place));
+        }
     }
+    Ok(None)
+}
+
+/// A command, and the base of one touched path.
+const COMMAND: &str = "00000002 2f63 0000 0000 0000 0000 0000";
+
+const BASE: &str = "00000001 000161 0000000000000000";
+
+#[test]
+fn operations_keep_their_rules(rt: HostRuntime) -> Result<(), Fail> {
+    let longer = "00000001 000161 0000000000000000 00";
+    let operations = [
+        (["00", COMMAND, "00000001 01 000161", BASE], Message),
+        (["ff", COMMAND, "00000001 01 000161", BASE], Message),
+        (["00", COMMAND, "00000000", BASE], Field(64)),
+        (["00", COMMAND, "00001001 01 000161", BASE], Field(64)),
+        (["00", COMMAND, "00000001 05 000161", BASE], Field(68)),
+        (["00", COMMAND, "00000001 01 000162", BASE], Field(76)),
+        (
+            ["00", COMMAND, "00000002 01 000161 01 000161", BASE],
+            Message,
+        ),
+        (["00", COMMAND, "00000001 01 000161", "00000000"], Field(72)),
+        (
+            ["00", COMMAND, "00000001 02 000161 00800001", BASE],
+            Field(72),
+        ),
+        (["00", COMMAND, "00000001 01 000161", longer], Trailing(87)),
+    ];
+    assert_eq!(rt; first_wrong_operation(rt.alloc(), &operations)?, None);
     Ok(())
 }
 
 #[test]
-fn operations_keep_their_rules(rt: HostRuntime) -> Result<(), Fail> {
-    let command = "00000002 2f63 0000 0000 0000 0000 0000";
-    let base = "00000001 000161 0000000000000000";
+fn commands_keep_their_rules(rt: HostRuntime) -> Result<(), Fail> {
+    let sketches = "00000001 01 000161";
+    let no_slash = "00000001 63 0000 0000 0000 0000 0000";
+    let zero = "00000002 2f00 0000 0000 0000 0000 0000";
+    let zero_argument = "00000002 2f63 0001 00000001 00 0000 0000 0000 0000";
     let operations = [
-        ("00", "00000001 01 000161", base, Message),
-        ("ff", "00000001 01 000161", base, Message),
-        ("00", "00000000", base, Field(64)),
-        ("00", "00001001 01 000161", base, Field(64)),
-        ("00", "00000001 05 000161", base, Field(68)),
-        ("00", "00000001 01 000162", base, Field(76)),
-        ("00", "00000002 01 000161 01 000161", base, Message),
-        ("00", "00000001 01 000161", "00000000", Field(72)),
-        ("00", "00000001 02 000161 00800001", base, Field(72)),
-        (
-            "00",
-            "00000001 01 000161",
-            "00000001 000161 0000000000000000 00",
-            Trailing(87),
-        ),
+        (["00", no_slash, sketches, BASE], Field(52)),
+        (["00", zero, sketches, BASE], Field(52)),
+        (["00", zero_argument, sketches, BASE], Field(60)),
+        (["00", "ffffffff 2f63", sketches, BASE], Field(52)),
     ];
-    for (status, sketches, base, wanted) in operations {
-        let body = format!(in rt.alloc(); "{status} {command} {sketches} {base}")?;
-        assert_eq!(rt;
-            answer_to(rt.alloc(), OPERATE_HEAD, body.as_str())?,
-            wanted,
-            "{body}"
-        );
+    assert_eq!(rt; first_wrong_operation(rt.alloc(), &operations)?, None);
+    Ok(())
+}
+
+/// Appends a line of so many of a letter.
+fn put_line(lines: &mut Vec<u8>, letter: u8, count: u32) -> Result<(), AllocError> {
+    for _ in 0..count {
+        lines.push(letter)?;
     }
-    let commands = [
-        ("00000001 63 0000 0000 0000 0000 0000", Field(52)),
-        ("00000002 2f00 0000 0000 0000 0000 0000", Field(52)),
-        (
-            "00000002 2f63 0001 00000001 00 0000 0000 0000 0000",
-            Field(60),
-        ),
-        ("ffffffff 2f63", Field(52)),
-    ];
-    for (command, wanted) in commands {
-        let body = format!(in rt.alloc(); "00 {command} 00000001 01 000161 {base}")?;
-        assert_eq!(rt;
-            answer_to(rt.alloc(), OPERATE_HEAD, body.as_str())?,
-            wanted,
-            "{command}"
-        );
-    }
+    lines.push(b'\n')?;
     Ok(())
 }
 
@@ -385,11 +531,29 @@ fn sorted_lines(alloc: Global) -> Result<Vec<u8>, AllocError> {
     let mut lines = Vec::new(alloc);
     for letter in b'a'..=b'l' {
         let count = if letter == b'l' { 16_662 } else { 16_666 };
-        let line = vec![in alloc; letter; count]?;
-        lines.extend_from_slice(&line)?;
-        lines.push(b'\n')?;
+        put_line(&mut lines, letter, count)?;
     }
     Ok(lines)
+}
+
+/// A put of these lines at `d/all`.
+fn effects_of(alloc: Global, lines: &[u8]) -> Result<Effects, Fail>
+    requires { length lines.now ≤ max_file }
+    ensures { IfOk result (AllByRecursion (λ effect. content_size effect ≤ max_file)) }
+{
+    let path = Path::read(alloc, b"d/all")?;
+    let content = Content::of(alloc, lines)?;
+    let mut effects = Effects::new(alloc);
+    effects.push(Effect::Put(path, content))?;
+    Ok(effects)
+}
+
+/// The base where `d/all` is untouched.
+fn untouched(alloc: Global) -> Result<Bases, Fail> {
+    let path = Path::read(alloc, b"d/all")?;
+    let mut base = Bases::new(alloc);
+    base.push(Base { path, version: 0 })?;
+    Ok(base)
 }
 
 /// Entry 14, which puts these lines at `d/all`, untouched before.
@@ -398,15 +562,8 @@ fn entry_of(alloc: Global, origin: &Origin, lines: &[u8]) -> Result<Entry, Fail>
     ensures made { IfOk result (λ entry. IsSome entry.origin) }
     ensures sizes { IfOk result (λ entry. AllByRecursion (λ effect. content_size effect ≤ max_file) entry.effects) }
 {
-    let path = Path::read(alloc, b"d/all").ok().ok_or("no path")?;
-    let content = Content::of(alloc, lines)?;
-    let mut base = Bases::new(alloc);
-    base.push(Base {
-        path: path.copy()?,
-        version: 0,
-    })?;
-    let mut effects = Effects::new(alloc);
-    effects.push(Effect::Put(path, content))?;
+    let effects = effects_of(alloc, lines)?;
+    let base = untouched(alloc)?;
     Ok(Entry {
         seq: 14,
         origin: Some(origin.copy()?),
@@ -415,8 +572,8 @@ fn entry_of(alloc: Global, origin: &Origin, lines: &[u8]) -> Result<Entry, Fail>
     })
 }
 
-/// The spelled sketched effects of an entry.
-fn sketches_of(alloc: Global, entry: &Entry) -> Result<Vec<u8>, AllocError>
+/// Whether the sketched effects of an entry are spelled so.
+fn is_sketched(alloc: Global, entry: &Entry, wanted: &[u8]) -> Result<bool, AllocError>
     requires made { IsSome entry.now.origin }
     requires sizes { AllByRecursion (λ effect. content_size effect ≤ max_file) entry.now.effects }
 {
@@ -424,52 +581,77 @@ fn sketches_of(alloc: Global, entry: &Entry) -> Result<Vec<u8>, AllocError>
     let mut spelling = Vec::new(alloc);
     let spelt = SketchEffects::spell(&sketched.effects, &mut spelling);
     drop(sketched);
+    let same = spelling.as_slice() == wanted;
+    drop(spelling);
     spelt?;
-    Ok(spelling)
+    Ok(same)
 }
 
-/// How long store and operation of such an entry are, and its spelled sketched effects.
-fn lengths_of(alloc: Global, origin: &Origin, lines: &[u8]) -> Result<(u64, u64, Vec<u8>), Fail>
+/// How long store and operation of such an entry are, and whether its sketched effects are spelled so.
+fn lengths_of(
+    alloc: Global,
+    origin: &Origin,
+    lines: &[u8],
+    wanted: &[u8],
+) -> Result<(u64, u64, bool), Fail>
     requires { length lines.now ≤ max_file }
 {
     let entry = entry_of(alloc, origin, lines)?;
     let store = store_size(&entry.effects, &entry.base);
     let operation = operation_size(alloc, &entry);
-    let sketches = sketches_of(alloc, &entry);
+    let same = is_sketched(alloc, &entry, wanted);
     drop(entry);
-    Ok((store, operation?, sketches?))
+    Ok((store, operation?, same?))
+}
+
+/// The same of the lines that the command makes, of which there are 200,000 bytes.
+fn lengths_of_lines(
+    alloc: Global,
+    origin: &Origin,
+    wanted: &[u8],
+) -> Result<(u64, u64, bool), Fail> {
+    let lines = sorted_lines(alloc)?;
+    let told = if lines.len() == 200_000 {
+        lengths_of(alloc, origin, &lines, wanted)
+    } else {
+        Err(Fail::from("other lines"))
+    };
+    drop(lines);
+    told
+}
+
+/// The same of the origin that the operation's frame spells from byte 15 to byte 140, and the sketched effects behind it.
+fn lengths_in(alloc: Global, frame: &[u8]) -> Result<(u64, u64, bool), Fail> {
+    let wanted = frame.get(140..316).ok_or("too short")?;
+    let (origin, next) = Origin::take(alloc, frame, 15).ok().ok_or("no origin")?;
+    let told = lengths_of_lines(alloc, &origin, wanted);
+    drop(origin);
+    let (store, operation, same) = told?;
+    Ok((store, operation, same && next == 140))
 }
 
 #[test]
 fn an_entry_is_sketched_as_the_operation(rt: HostRuntime) -> Result<(), Fail> {
     let frame = bytes_of(rt.alloc(), OPERATE)?;
-    let lines = sorted_lines(rt.alloc())?;
-    assert_eq!(rt; lines.len(), 200_000);
-    let taken = Origin::take(rt.alloc(), &frame, 15);
-    let (origin, next) = taken.ok().ok_or("no origin")?;
-    let lengths = lengths_of(rt.alloc(), &origin, &lines);
-    drop(origin);
-    let (store, operation, sketches) = lengths?;
-    assert_eq!(rt; (store, operation, next), (200_050, 335, 140));
-    assert_eq!(rt; Some(sketches.as_slice()), frame.get(140..316));
+    let told = lengths_in(rt.alloc(), &frame);
+    drop(frame);
+    assert!(rt; told? == (200_050, 335, true));
     Ok(())
 }
 
-/// Whether the reply that one frame spells answers the request that the other does.
-fn is_answered(alloc: Global, request: &str, reply: &str) -> Result<bool, Fail> {
-    let request = read(alloc, &bytes_of(alloc, request)?)
-        .ok()
-        .ok_or("refused")?;
-    let answers = answers_one(alloc, &request, reply);
+/// Whether the reply that one text spells answers the request that the other does.
+fn is_answered_by(alloc: Global, request: &str, reply: &str) -> Result<bool, Fail> {
+    let request = bytes_of(alloc, request)?;
+    let answered = is_frame_answered_by(alloc, &request, reply);
     drop(request);
-    answers
+    answered
 }
 
-fn answers_one(alloc: Global, request: &wire_frames::Message, reply: &str) -> Result<bool, Fail> {
-    let reply = read(alloc, &bytes_of(alloc, reply)?).ok().ok_or("refused")?;
-    let answers = echoes(request, &reply);
+fn is_frame_answered_by(alloc: Global, request: &[u8], reply: &str) -> Result<bool, Fail> {
+    let reply = bytes_of(alloc, reply)?;
+    let answered = is_answered(alloc, request, &reply);
     drop(reply);
-    Ok(answers)
+    answered
 }
 
 #[test]
@@ -490,31 +672,54 @@ fn operations_are_answered_by_done_and_declined(rt: HostRuntime) -> Result<(), F
         (OPERATE, OPERATE, false),
     ];
     for (request, reply, wanted) in rows {
-        assert_eq!(rt; is_answered(rt.alloc(), request, reply)?, wanted, "{reply}");
+        assert!(rt;
+            is_answered_by(rt.alloc(), request, reply)? == wanted,
+            "{reply}"
+        );
     }
     Ok(())
 }
 
+/// Whether the refusal says this.
+fn says(alloc: Global, refusal: FrameError, text: &str) -> Result<bool, AllocError> {
+    let said = refusal.to_string(alloc);
+    drop(refusal);
+    let said = said?;
+    let same = said.as_str() == text;
+    drop(said);
+    Ok(same)
+}
+
 #[test]
 fn refusals_have_texts(rt: HostRuntime) -> Result<(), Fail> {
-    let rows = [
-        (
-            FrameError::BadLength,
-            "the frame is too short, too long, or not as long as it says",
-        ),
-        (FrameError::BadVersion, "the frame has another version"),
-        (FrameError::BadKind, "the frame is of no known kind"),
-        (
-            FrameError::BadClient,
-            "the frame's client number does not fit its kind",
-        ),
-        (FrameError::BadField(15), "the field at byte 15 is faulty"),
-        (FrameError::Trailing(16), "bytes are left from byte 16 on"),
-        (FrameError::Memory, "out of memory"),
-    ];
-    for (refusal, text) in &rows {
-        assert_eq!(rt; refusal.to_string(rt.alloc())?.as_str(), *text);
-    }
+    let alloc = rt.alloc();
+    let length = "the frame is too short, too long, or not as long as it says";
+    assert!(rt; says(alloc, FrameError::BadLength, length)?);
+    assert!(rt;
+        says(
+            alloc,
+            FrameError::BadVersion,
+            "the frame has another version"
+        )?
+    );
+    assert!(rt; says(alloc, FrameError::BadKind, "the frame is of no known kind")?);
+    let client = "the frame's client number does not fit its kind";
+    assert!(rt; says(alloc, FrameError::BadClient, client)?);
+    assert!(rt;
+        says(
+            alloc,
+            FrameError::BadField(15),
+            "the field at byte 15 is faulty"
+        )?
+    );
+    assert!(rt;
+        says(
+            alloc,
+            FrameError::Trailing(16),
+            "bytes are left from byte 16 on"
+        )?
+    );
+    assert!(rt; says(alloc, FrameError::Memory, "out of memory")?);
     Ok(())
 }
 
@@ -523,48 +728,64 @@ fn cut_frames_have_another_length(rt: HostRuntime) -> Result<(), Fail> {
     for text in [
         PULL, STORE, OPERATE, ACCEPTED, MALFORMED, SNAPSHOT, DONE, DECLINED,
     ] {
-        assert_eq!(rt; first_wrong_cut(rt.alloc(), text)?, None, "{text}");
+        assert_eq!(rt; first_wrong_cut_of(rt.alloc(), text)?, None, "{text}");
     }
     Ok(())
 }
 
+/// The answers to the fronts of the store, each with the size behind the last one that gets it.
+const STORE_FRONTS: [(usize, Answer); 11] = [
+    (15, BadLength),
+    (19, Field(15)),
+    (20, Field(19)),
+    (22, Field(20)),
+    (23, Field(22)),
+    (27, Field(23)),
+    (33, Field(27)),
+    (37, Field(33)),
+    (39, Field(37)),
+    (40, Field(39)),
+    (48, Field(40)),
+];
+
+/// The answers to those of the snapshot.
+const SNAPSHOT_FRONTS: [(usize, Answer); 9] = [
+    (15, BadLength),
+    (23, Field(15)),
+    (27, Field(23)),
+    (29, Field(27)),
+    (30, Field(29)),
+    (38, Field(30)),
+    (39, Field(38)),
+    (43, Field(39)),
+    (49, Field(43)),
+];
+
 #[test]
 fn fronts_end_in_the_field_that_is_cut(rt: HostRuntime) -> Result<(), Fail> {
-    let store = [
-        (15, BadLength),
-        (19, Field(15)),
-        (20, Field(19)),
-        (22, Field(20)),
-        (23, Field(22)),
-        (27, Field(23)),
-        (33, Field(27)),
-        (37, Field(33)),
-        (39, Field(37)),
-        (40, Field(39)),
-        (48, Field(40)),
-    ];
-    let snapshot = [
-        (15, BadLength),
-        (23, Field(15)),
-        (27, Field(23)),
-        (29, Field(27)),
-        (30, Field(29)),
-        (38, Field(30)),
-        (39, Field(38)),
-        (43, Field(39)),
-        (49, Field(43)),
-    ];
     let malformed = [(15, BadLength), (16, Field(15)), (20, Field(16))];
-    assert_eq!(rt; first_wrong_front(rt.alloc(), STORE, &store)?, None);
-    assert_eq!(rt; first_wrong_front(rt.alloc(), SNAPSHOT, &snapshot)?, None);
-    assert_eq!(rt; first_wrong_front(rt.alloc(), MALFORMED, &malformed)?, None);
+    assert_eq!(rt;
+        first_wrong_front_of(rt.alloc(), STORE, &STORE_FRONTS)?,
+        None
+    );
+    assert_eq!(rt;
+        first_wrong_front_of(rt.alloc(), SNAPSHOT, &SNAPSHOT_FRONTS)?,
+        None
+    );
+    assert_eq!(rt;
+        first_wrong_front_of(rt.alloc(), MALFORMED, &malformed)?,
+        None
+    );
     let declined = [
         (15, BadLength),
         (16, Field(15)),
         (17, Field(16)),
         (18, Field(17)),
     ];
-    assert_eq!(rt; first_wrong_front(rt.alloc(), DECLINED, &declined)?, None);
+    assert_eq!(rt;
+        first_wrong_front_of(rt.alloc(), DECLINED, &declined)?,
+        None
+    );
     Ok(())
 }
 
@@ -589,192 +810,214 @@ fn fronts_of_an_operation_end_in_the_field_that_is_cut(rt: HostRuntime) -> Resul
     }
     sizes.extend_from_slice(&BEHIND_PARITIES)?;
     let table = fronts_of(rt.alloc(), &sizes)?;
-    assert_eq!(rt; first_wrong_front(rt.alloc(), OPERATE, &table)?, None);
+    assert_eq!(rt; first_wrong_front_of(rt.alloc(), OPERATE, &table)?, None);
     Ok(())
 }
+
+/// The answers to the acceptance with a byte ff in place of another, each with the place behind the last one that gets it.
+const ACCEPTED_BYTES: [(usize, Answer); 5] = [
+    (4, BadLength),
+    (5, BadVersion),
+    (6, BadKind),
+    (7, BadClient),
+    (15, Message),
+];
+
+/// The answers to the store.
+// 255 effects are allowed, and byte 33 is no kind of the second; the name of byte 22 is no longer that of the base.
+const STORE_BYTES: [(usize, Answer); 17] = [
+    (4, BadLength),
+    (5, BadVersion),
+    (6, BadKind),
+    (7, BadClient),
+    (15, Message),
+    (18, Field(15)),
+    (19, Field(33)),
+    (20, Field(19)),
+    (22, Field(22)),
+    (23, Field(37)),
+    (25, Field(23)),
+    (27, Field(27)),
+    (33, Message),
+    (37, Field(33)),
+    (39, Field(39)),
+    (40, Field(37)),
+    (48, Message),
+];
 
 #[test]
 fn spoilt_bytes_are_refused_in_their_field(rt: HostRuntime) -> Result<(), Fail> {
-    let accepted = [
-        (4, BadLength),
-        (5, BadVersion),
-        (6, BadKind),
-        (7, BadClient),
-        (15, Message),
-    ];
-    // 255 effects are allowed, and byte 33 is no kind of the second; the name of byte 22 is no longer that of the base.
-    let store = [
-        (4, BadLength),
-        (5, BadVersion),
-        (6, BadKind),
-        (7, BadClient),
-        (15, Message),
-        (18, Field(15)),
-        (19, Field(33)),
-        (20, Field(19)),
-        (22, Field(22)),
-        (23, Field(37)),
-        (25, Field(23)),
-        (27, Field(27)),
-        (33, Message),
-        (37, Field(33)),
-        (39, Field(39)),
-        (40, Field(37)),
-        (48, Message),
-    ];
-    assert_eq!(rt; first_wrong_byte(rt.alloc(), ACCEPTED, &accepted)?, None);
-    assert_eq!(rt; first_wrong_byte(rt.alloc(), STORE, &store)?, None);
+    assert_eq!(rt;
+        first_wrong_byte_of(rt.alloc(), ACCEPTED, &ACCEPTED_BYTES)?,
+        None
+    );
+    assert_eq!(rt; first_wrong_byte_of(rt.alloc(), STORE, &STORE_BYTES)?, None);
     Ok(())
 }
 
+/// Stores with too great counts or lengths, and the answers.
+const GREAT_STORES: [(&str, Answer); 6] = [
+    ("ffffffff 01 000161", Field(15)),
+    ("00001000 01 000161", Field(23)),
+    ("00000001 02 000161 ffffffff 6f6b", Field(23)),
+    ("00000001 02 000161 00800000 6f6b", Field(27)),
+    ("00000001 01 000161 ffffffff 000161", Field(23)),
+    ("00000001 01 ffff 61", Field(22)),
+];
+
 #[test]
 fn great_counts_have_too_few_bytes_behind(rt: HostRuntime) -> Result<(), Fail> {
-    let stores = [
-        ("ffffffff 01 000161", Field(15)),
-        ("00001000 01 000161", Field(23)),
-        ("00000001 02 000161 ffffffff 6f6b", Field(23)),
-        ("00000001 02 000161 00800000 6f6b", Field(27)),
-        ("00000001 01 000161 ffffffff 000161", Field(23)),
-        ("00000001 01 ffff 61", Field(22)),
-    ];
-    for (body, wanted) in stores {
-        assert_eq!(rt; answer_to(rt.alloc(), STORE_HEAD, body)?, wanted, "{body}");
-    }
-    for (body, wanted) in [("ffffffff 000161", Field(23)), ("00004000", Field(27))] {
-        assert_eq!(rt;
-            answer_to(rt.alloc(), SNAPSHOT_HEAD, body)?,
-            wanted,
-            "{body}"
-        );
-    }
+    assert_eq!(rt;
+        first_wrong_body(rt.alloc(), STORE_HEAD, &GREAT_STORES)?,
+        None
+    );
+    let snapshots = [("ffffffff 000161", Field(23)), ("00004000", Field(27))];
+    assert_eq!(rt;
+        first_wrong_body(rt.alloc(), SNAPSHOT_HEAD, &snapshots)?,
+        None
+    );
     Ok(())
 }
+
+/// Bases of a store that touches two paths, and the answers.
+const BASES: [(&str, Answer); 5] = [
+    (
+        "00000002 000164 0000000000000000 000165 0000000000000000",
+        Message,
+    ),
+    (
+        "00000002 000164 0000000000000000 000164 0000000000000000",
+        Field(42),
+    ),
+    (
+        "00000002 000165 0000000000000000 000164 0000000000000000",
+        Field(31),
+    ),
+    ("00000001 000164 0000000000000000", Field(27)),
+    (
+        "00000002 000164 0000000000000000 000165 0000000000000000 00",
+        Trailing(53),
+    ),
+];
 
 #[test]
 fn a_base_has_the_touched_paths_in_their_order(rt: HostRuntime) -> Result<(), Fail> {
     let made_and_removed = "01 01 01 0000000000000001 00000002 01 000164 03 000165";
-    let bases = [
-        (
-            "00000002 000164 0000000000000000 000165 0000000000000000",
-            Message,
-        ),
-        (
-            "00000002 000164 0000000000000000 000164 0000000000000000",
-            Field(42),
-        ),
-        (
-            "00000002 000165 0000000000000000 000164 0000000000000000",
-            Field(31),
-        ),
-        ("00000001 000164 0000000000000000", Field(27)),
-        (
-            "00000002 000164 0000000000000000 000165 0000000000000000 00",
-            Trailing(53),
-        ),
-    ];
-    for (base, wanted) in bases {
-        assert_eq!(rt;
-            answer_to(rt.alloc(), made_and_removed, base)?,
-            wanted,
-            "{base}"
-        );
-    }
+    assert_eq!(rt;
+        first_wrong_body(rt.alloc(), made_and_removed, &BASES)?,
+        None
+    );
     let twice = "01 01 01 0000000000000001 00000002 01 000164 03 000164";
     let doubled = "00000002 000164 0000000000000000 000164 0000000000000000";
-    assert_eq!(rt; answer_to(rt.alloc(), twice, doubled)?, Field(27));
+    assert_eq!(rt; answer_to(rt.alloc(), &[twice, doubled])?, Field(27));
     Ok(())
 }
 
+/// Rows of a snapshot, and the answers.
+const ROWS: [(&str, Answer); 11] = [
+    ("00000000", Message),
+    (
+        "00000002 000161 0000000000000001 00 000162 0000000000000001 00",
+        Message,
+    ),
+    (
+        "00000002 000162 0000000000000001 00 000161 0000000000000001 00",
+        Field(39),
+    ),
+    (
+        "00000002 000161 0000000000000001 00 000161 0000000000000001 00",
+        Field(39),
+    ),
+    ("00000001 0000 0000000000000001 00", Field(27)),
+    ("00000001 000161 0000000000000000 00", Field(30)),
+    ("00000001 000161 0000000000000001 03", Field(38)),
+    (
+        "00000002 000161 0000000000000001 01 0003612f62 0000000000000001 01",
+        Message,
+    ),
+    (
+        "00000002 000161 0000000000000001 00 0003612f62 0000000000000001 00",
+        Message,
+    ),
+    (
+        "00000002 000161 0000000000000001 00 0003612f62 0000000000000001 01",
+        Field(52),
+    ),
+    (
+        "00000001 0003612f62 0000000000000001 02 00000000",
+        Field(40),
+    ),
+];
+
 #[test]
 fn rows_are_those_of_a_tree(rt: HostRuntime) -> Result<(), Fail> {
-    let rows = [
-        ("00000000", Message),
-        (
-            "00000002 000161 0000000000000001 00 000162 0000000000000001 00",
-            Message,
-        ),
-        (
-            "00000002 000162 0000000000000001 00 000161 0000000000000001 00",
-            Field(39),
-        ),
-        (
-            "00000002 000161 0000000000000001 00 000161 0000000000000001 00",
-            Field(39),
-        ),
-        ("00000001 0000 0000000000000001 00", Field(27)),
-        ("00000001 000161 0000000000000000 00", Field(30)),
-        ("00000001 000161 0000000000000001 03", Field(38)),
-        (
-            "00000002 000161 0000000000000001 01 0003612f62 0000000000000001 01",
-            Message,
-        ),
-        (
-            "00000002 000161 0000000000000001 00 0003612f62 0000000000000001 00",
-            Message,
-        ),
-        (
-            "00000002 000161 0000000000000001 00 0003612f62 0000000000000001 01",
-            Field(52),
-        ),
-        (
-            "00000001 0003612f62 0000000000000001 02 00000000",
-            Field(40),
-        ),
-    ];
-    for (body, wanted) in rows {
-        assert_eq!(rt;
-            answer_to(rt.alloc(), SNAPSHOT_HEAD, body)?,
-            wanted,
-            "{body}"
-        );
-    }
+    assert_eq!(rt; first_wrong_body(rt.alloc(), SNAPSHOT_HEAD, &ROWS)?, None);
     Ok(())
 }
 
 #[test]
 fn effects_are_1_to_4096(rt: HostRuntime) -> Result<(), Fail> {
-    assert_eq!(rt;
-        answer_to(rt.alloc(), STORE_HEAD, "00000000 00000000")?,
-        Field(15)
-    );
+    let none = answer_to(rt.alloc(), &[STORE_HEAD, "00000000 00000000"])?;
+    assert_eq!(rt; none, Field(15));
     assert_eq!(rt; answer_to_folders(rt.alloc(), 4096)?, Message);
     assert_eq!(rt; answer_to_folders(rt.alloc(), 4097)?, Field(15));
     Ok(())
 }
 
-/// What the reader says of a store that makes the folder `a` so many times.
-fn answer_to_folders(alloc: Global, count: u32) -> Result<Answer, AllocError> {
-    let mut payload = bytes_of(alloc, STORE_HEAD)?;
+/// Appends a store that makes the folder `a` so many times.
+fn put_folders(payload: &mut Vec<u8>, count: u32) -> Result<(), AllocError> {
+    put_digits(payload, STORE_HEAD)?;
     payload.extend_from_slice(&count.to_be_bytes())?;
-    let effect = bytes_of(alloc, "01 000161")?;
     for _ in 0..count {
-        payload.extend_from_slice(&effect)?;
+        payload.extend_from_slice(&[1, 0, 1, b'a'])?;
     }
-    payload.extend_from_slice(&bytes_of(alloc, "00000001 000161 0000000000000000")?)?;
-    Ok(answer_of(alloc, &framed(alloc, &payload)?))
+    put_digits(payload, BASE)
+}
+
+/// What the reader says of such a store.
+fn answer_to_folders(alloc: Global, count: u32) -> Result<Answer, AllocError> {
+    let mut payload = Vec::new(alloc);
+    put_folders(&mut payload, count)?;
+    let answer = answer_to_payload(alloc, &payload);
+    drop(payload);
+    answer
 }
 
 #[test]
 fn contents_have_32_mib_together(rt: HostRuntime) -> Result<(), Fail> {
     assert_eq!(rt; answer_to_contents(rt.alloc(), "00000000")?, Message);
-    assert_eq!(rt;
-        answer_to_contents(rt.alloc(), "00000001 6f")?,
-        Field(33_554_487)
-    );
+    let more = answer_to_contents(rt.alloc(), "00000001 6f")?;
+    assert_eq!(rt; more, Field(33_554_487));
     Ok(())
 }
 
-/// What the reader says of a store that writes 8 MiB four times and then this content.
-fn answer_to_contents(alloc: Global, last: &str) -> Result<Answer, AllocError> {
-    let mut payload = bytes_of(alloc, STORE_HEAD)?;
-    payload.extend_from_slice(&bytes_of(alloc, "00000005")?)?;
-    let content = vec![in alloc; 0u8; 8_388_608]?;
+/// Appends a store that writes the content four times at `a`, and then one of these digits.
+fn put_contents(payload: &mut Vec<u8>, content: &[u8], last: &str) -> Result<(), AllocError> {
+    put_digits(payload, STORE_HEAD)?;
+    put_digits(payload, "00000005")?;
     for _ in 0..4 {
-        payload.extend_from_slice(&bytes_of(alloc, "02 000161 00800000")?)?;
-        payload.extend_from_slice(&content)?;
+        put_digits(payload, "02 000161 00800000")?;
+        payload.extend_from_slice(content)?;
     }
-    payload.extend_from_slice(&bytes_of(alloc, "02 000161")?)?;
-    payload.extend_from_slice(&bytes_of(alloc, last)?)?;
-    payload.extend_from_slice(&bytes_of(alloc, "00000001 000161 0000000000000000")?)?;
-    Ok(answer_of(alloc, &framed(alloc, &payload)?))
+    put_digits(payload, "02 000161")?;
+    put_digits(payload, last)?;
+    put_digits(payload, BASE)
+}
+
+/// Such a store of 8 MiB each.
+fn contents(alloc: Global, last: &str) -> Result<Vec<u8>, AllocError> {
+    let content = vec![in alloc; 0u8; 8_388_608]?;
+    let mut payload = Vec::new(alloc);
+    let done = put_contents(&mut payload, &content, last);
+    drop(content);
+    done?;
+    Ok(payload)
+}
+
+/// What the reader says of that store.
+fn answer_to_contents(alloc: Global, last: &str) -> Result<Answer, AllocError> {
+    let payload = contents(alloc, last)?;
+    let answer = answer_to_payload(alloc, &payload);
+    drop(payload);
+    answer
 }

@@ -3,7 +3,7 @@
 //! The sums over turned bits are those of a second reader, in Python: `tools/image_answers`.
 
 use crate::spoilt::Answer::{Bad, Read};
-use crate::spoilt::{Answer, Reader, answer_of, bytes_of, sum_of_answers};
+use crate::spoilt::{Answer, Reader, answer_of, bytes_of, put_digits, put_server, sum_of_answers};
 use crate::tests::{told, written};
 use std::alloc::{AllocError, Global};
 use std::rt::HostRuntime;
@@ -112,19 +112,32 @@ const BEHIND_TAKEN: [(&str, Answer); 11] = [
 fn bytes_in(alloc: Global, parts: &[&str]) -> Result<Vec<u8>, AllocError> {
     let mut bytes = Vec::new(alloc);
     for part in parts {
-        bytes.extend_from_slice(&bytes_of(alloc, part)?)?;
+        put_digits(&mut bytes, part)?;
     }
     Ok(bytes)
 }
 
-/// The server with its first record.
-fn server(alloc: Global) -> Result<Vec<u8>, AllocError> {
-    let mut bytes = bytes_of(alloc, SERVER_HEAD)?;
-    for _ in 0..62 {
-        bytes.extend_from_slice(&[0; 8])?;
-    }
-    bytes.extend_from_slice(&bytes_of(alloc, SERVER_REST)?)?;
+/// The server with its first record, and with what these digits spell behind it.
+fn server(alloc: Global, behind: &str) -> Result<Vec<u8>, AllocError> {
+    let mut bytes = Vec::new(alloc);
+    put_server(&mut bytes, SERVER_HEAD, SERVER_REST)?;
+    put_digits(&mut bytes, behind)?;
     Ok(bytes)
+}
+
+/// What the reader says of the bytes with what these digits spell behind them.
+fn answer_behind(
+    alloc: Global,
+    reader: Reader,
+    front: &[u8],
+    behind: &str,
+) -> Result<Answer, AllocError> {
+    let mut bytes = front.to_vec(alloc)?;
+    let done = put_digits(&mut bytes, behind);
+    let answer = answer_of(alloc, reader, &bytes);
+    drop(bytes);
+    done?;
+    Ok(answer)
 }
 
 /// The first of these that gets another answer behind the bytes.
@@ -135,13 +148,23 @@ fn first_wrong(
     cases: &[(&str, Answer)],
 ) -> Result<Option<usize>, AllocError> {
     for (i, (behind, answer)) in cases.iter().enumerate() {
-        let mut bytes = front.to_vec(alloc)?;
-        bytes.extend_from_slice(&bytes_of(alloc, behind)?)?;
-        if answer_of(alloc, reader, &bytes) != *answer {
+        if answer_behind(alloc, reader, front, behind)? != *answer {
             return Ok(Some(i));
         }
     }
     Ok(None)
+}
+
+/// The same of a client's image of these parts.
+fn first_wrong_client(
+    alloc: Global,
+    parts: &[&str],
+    cases: &[(&str, Answer)],
+) -> Result<Option<usize>, AllocError> {
+    let front = bytes_in(alloc, parts)?;
+    let wrong = first_wrong(alloc, Reader::Client, &front, cases);
+    drop(front);
+    wrong
 }
 
 /// The first size from one to another at which something else than this is read of a client.
@@ -159,26 +182,30 @@ fn first_other(
     Ok(None)
 }
 
+/// Whether these 103 bytes lead to the client at each size.
+fn leads_to_a_client(alloc: Global, bytes: &[u8]) -> Result<bool, Fail> {
+    let one = first_other(alloc, bytes, &[22, 51], [7, 2, 0, 0])? == None;
+    let two = first_other(alloc, bytes, &[51, 90], [7, 2, 1, 1])? == None;
+    let three = first_other(alloc, bytes, &[90, 103], [7, 2, 2, 2])? == None;
+    let all = bytes.len() == 103 && told(alloc, bytes)? == [7, 3, 1, 2];
+    Ok(one && two && three && all)
+}
+
 #[test]
 fn records_lead_from_an_image_to_a_client(rt: HostRuntime) -> Result<(), Fail> {
-    let alloc = rt.alloc();
-    let bytes = bytes_in(alloc, &[HEAD, LOGGED, ACKED])?;
-    assert!(rt; bytes.len() == 103);
-    assert!(rt; first_other(alloc, &bytes, &[22, 51], [7, 2, 0, 0])? == None);
-    assert!(rt; first_other(alloc, &bytes, &[51, 90], [7, 2, 1, 1])? == None);
-    assert!(rt; first_other(alloc, &bytes, &[90, 103], [7, 2, 2, 2])? == None);
-    assert!(rt; told(alloc, &bytes)? == [7, 3, 1, 2]);
-    assert!(rt; sum_of_answers(alloc, Reader::Client, &bytes)? == 1_115_519_367);
+    let bytes = bytes_in(rt.alloc(), &[HEAD, LOGGED, ACKED])?;
+    let leads = leads_to_a_client(rt.alloc(), &bytes);
+    let sum = sum_of_answers(rt.alloc(), Reader::Client, &bytes);
+    drop(bytes);
+    assert!(rt; leads?);
+    assert!(rt; sum? == 1_115_519_367);
     Ok(())
 }
 
 #[test]
 fn a_faulty_record_is_refused_at_its_field(rt: HostRuntime) -> Result<(), Fail> {
-    let alloc = rt.alloc();
-    let head = bytes_of(alloc, HEAD)?;
-    assert!(rt; first_wrong(alloc, Reader::Client, &head, &BEHIND_HEAD)? == None);
-    let logged = bytes_in(alloc, &[HEAD, LOGGED])?;
-    assert!(rt; first_wrong(alloc, Reader::Client, &logged, &BEHIND_LOGGED)? == None);
+    assert!(rt; first_wrong_client(rt.alloc(), &[HEAD], &BEHIND_HEAD)? == None);
+    assert!(rt; first_wrong_client(rt.alloc(), &[HEAD, LOGGED], &BEHIND_LOGGED)? == None);
     Ok(())
 }
 
@@ -188,9 +215,7 @@ const ONE_MORE: &str =
 
 /// What is said of a full log with one more entry, less the place where its record begins.
 fn refused_behind(alloc: Global, bytes: &[u8], behind: &str) -> Result<Option<usize>, AllocError> {
-    let mut more = bytes.to_vec(alloc)?;
-    more.extend_from_slice(&bytes_of(alloc, behind)?)?;
-    match answer_of(alloc, Reader::Client, &more) {
+    match answer_behind(alloc, Reader::Client, bytes, behind)? {
         Bad(place) => Ok((place as usize).checked_sub(bytes.len())),
         _ => Ok(None),
     }
@@ -198,18 +223,22 @@ fn refused_behind(alloc: Global, bytes: &[u8], behind: &str) -> Result<Option<us
 
 #[test]
 fn a_full_log_takes_no_record(rt: HostRuntime) -> Result<(), Fail> {
-    let alloc = rt.alloc();
-    let full = written(alloc, 1024)?;
-    assert!(rt; refused_behind(alloc, &full, ONE_MORE)? == Some(0));
+    let full = written(rt.alloc(), 1024)?;
+    let entry = refused_behind(rt.alloc(), &full, ONE_MORE);
     // a fault in the record comes first
-    assert!(rt; refused_behind(alloc, &full, "00000002 01 02")? == Some(5));
+    let fault = refused_behind(rt.alloc(), &full, "00000002 01 02");
+    drop(full);
+    assert!(rt; entry? == Some(0));
+    assert!(rt; fault? == Some(5));
     Ok(())
 }
 
 /// The last numbers of clients 1 and 64 and the number of rows that are read.
 fn taken(alloc: Global, bytes: &[u8]) -> Result<[u64; 3], Fail> {
     let image = read_server(alloc, bytes)?;
-    Ok([image.last[0], image.last[63], u64::from(image.tree.count())])
+    let taken = [image.last[0], image.last[63], u64::from(image.tree.count())];
+    drop(image);
+    Ok(taken)
 }
 
 /// The first size from one to another at which something else than this is read of a server.
@@ -227,27 +256,62 @@ fn first_other_server(
     Ok(None)
 }
 
+/// The first record that is answered wrongly behind the server's 543 bytes.
+fn first_wrong_server(alloc: Global) -> Result<Option<usize>, AllocError> {
+    let bytes = server(alloc, "")?;
+    let wrong = if bytes.len() == 543 {
+        first_wrong(alloc, Reader::Server, &bytes, &BEHIND_TAKEN)
+    } else {
+        Ok(Some(0))
+    };
+    drop(bytes);
+    wrong
+}
+
+/// Whether these bytes lead to the server at each size.
+fn leads_to_a_server(alloc: Global, bytes: &[u8]) -> Result<bool, Fail> {
+    let one = first_other_server(alloc, bytes, &[521, 543], [5, 258, 0])? == None;
+    let two = first_other_server(alloc, bytes, &[543, 572], [5, 259, 1])? == None;
+    Ok(one && two && taken(alloc, bytes)? == [6, 259, 2])
+}
+
 #[test]
 fn records_lead_from_an_image_to_a_server(rt: HostRuntime) -> Result<(), Fail> {
-    let alloc = rt.alloc();
-    let mut bytes = server(alloc)?;
-    assert!(rt; bytes.len() == 543);
-    assert!(rt; first_wrong(alloc, Reader::Server, &bytes, &BEHIND_TAKEN)? == None);
-    bytes.extend_from_slice(&bytes_of(alloc, TAKEN)?)?;
-    assert!(rt; first_other_server(alloc, &bytes, &[521, 543], [5, 258, 0])? == None);
-    assert!(rt; first_other_server(alloc, &bytes, &[543, 572], [5, 259, 1])? == None);
-    assert!(rt; taken(alloc, &bytes)? == [6, 259, 2]);
-    assert!(rt; sum_of_answers(alloc, Reader::Server, &bytes)? == 2_016_202_153);
+    assert!(rt; first_wrong_server(rt.alloc())? == None);
+    let bytes = server(rt.alloc(), TAKEN)?;
+    let leads = leads_to_a_server(rt.alloc(), &bytes);
+    let sum = sum_of_answers(rt.alloc(), Reader::Server, &bytes);
+    drop(bytes);
+    assert!(rt; leads?);
+    assert!(rt; sum? == 2_016_202_153);
     Ok(())
+}
+
+/// Whether the record of an acknowledged number is written so.
+fn is_acked_so(alloc: Global, number: u64, by_hand: &[u8]) -> Result<bool, AllocError> {
+    let written = write_client_record(alloc, &ClientRecord::Acked(number))?;
+    let same = written.as_slice() == by_hand;
+    drop(written);
+    Ok(same)
+}
+
+/// What is read of the client once the number 3 is put behind its two entries.
+fn told_behind(alloc: Global) -> Result<[u64; 4], Fail> {
+    let mut bytes = bytes_in(alloc, &[HEAD, LOGGED])?;
+    let done = put_acked(3, &mut bytes);
+    let told = told(alloc, &bytes);
+    drop(bytes);
+    let told = told?;
+    done?;
+    Ok(told)
 }
 
 #[test]
 fn a_number_is_written_as_by_hand(rt: HostRuntime) -> Result<(), Fail> {
-    let alloc = rt.alloc();
-    let by_hand = bytes_of(alloc, ACKED)?;
-    assert!(rt; write_client_record(alloc, &ClientRecord::Acked(3))? == by_hand);
-    let mut bytes = bytes_in(alloc, &[HEAD, LOGGED])?;
-    put_acked(3, &mut bytes)?;
-    assert!(rt; told(alloc, &bytes)? == [7, 3, 1, 2]);
+    let by_hand = bytes_of(rt.alloc(), ACKED)?;
+    let same = is_acked_so(rt.alloc(), 3, &by_hand);
+    drop(by_hand);
+    assert!(rt; same?);
+    assert!(rt; told_behind(rt.alloc())? == [7, 3, 1, 2]);
     Ok(())
 }

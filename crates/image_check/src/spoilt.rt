@@ -429,9 +429,8 @@ const SERVER_ONES: [(usize, Answer); 19] = [
     (564, Bad(563)),
 ];
 
-/// The bytes that the hexadecimal digits spell; other letters stand between them.
-pub(crate) fn bytes_of(alloc: Global, text: &str) -> Result<Vec<u8>, AllocError> {
-    let mut bytes = Vec::new(alloc);
+/// Appends the bytes that the hexadecimal digits spell; other letters stand between them.
+pub(crate) fn put_digits(bytes: &mut Vec<u8>, text: &str) -> Result<(), AllocError> {
     let mut high = None;
     for letter in text.bytes() {
         let digit = match letter {
@@ -448,16 +447,27 @@ pub(crate) fn bytes_of(alloc: Global, text: &str) -> Result<Vec<u8>, AllocError>
             }
         };
     }
+    Ok(())
+}
+
+/// The bytes that the digits spell.
+pub(crate) fn bytes_of(alloc: Global, text: &str) -> Result<Vec<u8>, AllocError> {
+    let mut bytes = Vec::new(alloc);
+    put_digits(&mut bytes, text)?;
     Ok(bytes)
+}
+
+/// Appends a server's image: this head, zeros as the last numbers of the clients 2 to 63, and this rest.
+pub(crate) fn put_server(bytes: &mut Vec<u8>, head: &str, rest: &str) -> Result<(), AllocError> {
+    put_digits(bytes, head)?;
+    bytes.extend_from_slice(&[0; 496])?;
+    put_digits(bytes, rest)
 }
 
 /// The server's image.
 fn server(alloc: Global) -> Result<Vec<u8>, AllocError> {
-    let mut bytes = bytes_of(alloc, SERVER_HEAD)?;
-    for _ in 0..62 {
-        bytes.extend_from_slice(&[0; 8])?;
-    }
-    bytes.extend_from_slice(&bytes_of(alloc, SERVER_REST)?)?;
+    let mut bytes = Vec::new(alloc);
+    put_server(&mut bytes, SERVER_HEAD, SERVER_REST)?;
     Ok(bytes)
 }
 
@@ -480,23 +490,33 @@ fn refusal(error: ImageError) -> Answer {
     }
 }
 
+/// What the reader of clients says of the bytes.
+fn answer_of_client(alloc: Global, bytes: &[u8]) -> Answer {
+    match read_client(alloc, bytes) {
+        Ok(image) => {
+            drop(image);
+            Read
+        }
+        Err(error) => refusal(error),
+    }
+}
+
+/// What the reader of servers says of the bytes.
+fn answer_of_server(alloc: Global, bytes: &[u8]) -> Answer {
+    match read_server(alloc, bytes) {
+        Ok(image) => {
+            drop(image);
+            Read
+        }
+        Err(error) => refusal(error),
+    }
+}
+
 /// What the reader says of the bytes.
 pub(crate) fn answer_of(alloc: Global, reader: Reader, bytes: &[u8]) -> Answer {
     match reader {
-        Reader::Client => match read_client(alloc, bytes) {
-            Ok(image) => {
-                drop(image);
-                Read
-            }
-            Err(error) => refusal(error),
-        },
-        Reader::Server => match read_server(alloc, bytes) {
-            Ok(image) => {
-                drop(image);
-                Read
-            }
-            Err(error) => refusal(error),
-        },
+        Reader::Client => answer_of_client(alloc, bytes),
+        Reader::Server => answer_of_server(alloc, bytes),
     }
 }
 
@@ -540,7 +560,9 @@ fn answer_with(
     if let Some(here) = other.get_mut(place) {
         *here = byte;
     }
-    Ok(answer_of(alloc, reader, &other))
+    let answer = answer_of(alloc, reader, &other);
+    drop(other);
+    Ok(answer)
 }
 
 /// The answer that a table states for a place: that of the first entry whose end is behind it.
@@ -604,6 +626,25 @@ struct Wanted<'a> {
     turned: u32,
 }
 
+/// Which of the changes of bytes gets another answer than the wanted one.
+fn wrong_change(
+    alloc: Global,
+    reader: Reader,
+    image: &[u8],
+    wanted: &Wanted<'_>,
+) -> Result<Option<&'static str>, AllocError> {
+    if first_wrong_byte(alloc, reader, image, Change::Zero, wanted.zeros)? != None {
+        return Ok(Some("a zero"));
+    }
+    if first_wrong_byte(alloc, reader, image, Change::Ones, wanted.ones)? != None {
+        return Ok(Some("ones"));
+    }
+    if first_wrong_byte(alloc, reader, image, Change::Complement, wanted.ones)? != None {
+        return Ok(Some("a complement"));
+    }
+    Ok(None)
+}
+
 /// Which of the answers to an image is not the wanted one.
 fn wrong(
     alloc: Global,
@@ -614,95 +655,122 @@ fn wrong(
     if first_wrong_front(alloc, reader, image, wanted.fields) != None {
         return Ok(Some("a front"));
     }
-    if first_wrong_byte(alloc, reader, image, Change::Zero, wanted.zeros)? != None {
-        return Ok(Some("a zero"));
-    }
-    if first_wrong_byte(alloc, reader, image, Change::Ones, wanted.ones)? != None {
-        return Ok(Some("ones"));
-    }
-    if first_wrong_byte(alloc, reader, image, Change::Complement, wanted.ones)? != None {
-        return Ok(Some("a complement"));
-    }
     if sum_of_answers(alloc, reader, image)? != wanted.turned {
         return Ok(Some("a turned bit"));
     }
-    Ok(None)
+    wrong_change(alloc, reader, image, wanted)
+}
+
+/// The same of the client's image of these digits.
+fn wrong_client(
+    alloc: Global,
+    text: &str,
+    wanted: &Wanted<'_>,
+) -> Result<Option<&'static str>, AllocError> {
+    let image = bytes_of(alloc, text)?;
+    let wrong = wrong(alloc, Reader::Client, &image, wanted);
+    drop(image);
+    wrong
+}
+
+/// The same of the server's image, whose fields begin there.
+fn wrong_server(alloc: Global, fields: &[u32]) -> Result<Option<&'static str>, AllocError> {
+    let image = server(alloc)?;
+    let wanted = Wanted {
+        fields,
+        zeros: &SERVER_ZEROS,
+        ones: &SERVER_ONES,
+        turned: 3_283_058_140,
+    };
+    let wrong = wrong(alloc, Reader::Server, &image, &wanted);
+    drop(image);
+    wrong
 }
 
 #[test]
 fn a_spoilt_client_is_refused_at_its_field(rt: HostRuntime) -> Result<(), Fail> {
-    let alloc = rt.alloc();
-    let image = bytes_of(alloc, CLIENT)?;
     let wanted = Wanted {
         fields: &CLIENT_FIELDS,
         zeros: &CLIENT_ZEROS,
         ones: &CLIENT_ONES,
         turned: 3_787_517_943,
     };
-    assert_eq!(rt; wrong(alloc, Reader::Client, &image, &wanted)?, None);
+    assert_eq!(rt; wrong_client(rt.alloc(), CLIENT, &wanted)?, None);
     Ok(())
 }
 
 #[test]
 fn a_spoilt_client_of_a_run_is_refused_at_its_field(rt: HostRuntime) -> Result<(), Fail> {
-    let alloc = rt.alloc();
-    let image = bytes_of(alloc, RUN)?;
     let wanted = Wanted {
         fields: &RUN_FIELDS,
         zeros: &RUN_ZEROS,
         ones: &RUN_ONES,
         turned: 1_270_409_147,
     };
-    assert_eq!(rt; wrong(alloc, Reader::Client, &image, &wanted)?, None);
+    assert_eq!(rt; wrong_client(rt.alloc(), RUN, &wanted)?, None);
     Ok(())
 }
 
 #[test]
 fn a_spoilt_new_client_is_refused_at_its_field(rt: HostRuntime) -> Result<(), Fail> {
-    let alloc = rt.alloc();
-    let image = bytes_of(alloc, NEW)?;
     let wanted = Wanted {
         fields: &NEW_FIELDS,
         zeros: &NEW_ZEROS,
         ones: &NEW_ONES,
         turned: 786_501_266,
     };
-    assert_eq!(rt; wrong(alloc, Reader::Client, &image, &wanted)?, None);
+    assert_eq!(rt; wrong_client(rt.alloc(), NEW, &wanted)?, None);
     Ok(())
 }
 
 #[test]
 fn a_spoilt_server_is_refused_at_its_field(rt: HostRuntime) -> Result<(), Fail> {
-    let alloc = rt.alloc();
-    let image = server(alloc)?;
-    let fields = server_fields(alloc)?;
-    let wanted = Wanted {
-        fields: &fields,
-        zeros: &SERVER_ZEROS,
-        ones: &SERVER_ONES,
-        turned: 3_283_058_140,
-    };
-    assert_eq!(rt; wrong(alloc, Reader::Server, &image, &wanted)?, None);
+    let fields = server_fields(rt.alloc())?;
+    let wrong = wrong_server(rt.alloc(), &fields);
+    drop(fields);
+    assert_eq!(rt; wrong?, None);
     Ok(())
+}
+
+/// Whether these are the bytes that were written.
+fn is_written(written: Result<Vec<u8>, AllocError>, bytes: &[u8]) -> Result<bool, AllocError> {
+    let written = written?;
+    let same = written.as_slice() == bytes;
+    drop(written);
+    Ok(same)
 }
 
 /// Whether a client's image is written as it was read.
 fn client_again(alloc: Global, bytes: &[u8]) -> Result<bool, Fail> {
     let image = read_client(alloc, bytes)?;
-    Ok(write_client(image.client, &image.log)?.as_slice() == bytes)
+    let written = write_client(image.client, &image.log);
+    drop(image);
+    Ok(is_written(written, bytes)?)
+}
+
+/// The same of the image of these digits.
+fn client_again_of(alloc: Global, text: &str) -> Result<bool, Fail> {
+    let bytes = bytes_of(alloc, text)?;
+    let again = client_again(alloc, &bytes);
+    drop(bytes);
+    again
 }
 
 /// Whether a server's image is written as it was read.
 fn server_again(alloc: Global, bytes: &[u8]) -> Result<bool, Fail> {
     let image = read_server(alloc, bytes)?;
-    Ok(write_server(&image.last, &image.tree)?.as_slice() == bytes)
+    let written = write_server(&image.last, &image.tree);
+    drop(image);
+    Ok(is_written(written, bytes)?)
 }
 
 #[test]
 fn what_is_read_is_written_again(rt: HostRuntime) -> Result<(), Fail> {
-    let alloc = rt.alloc();
-    assert!(rt; client_again(alloc, &bytes_of(alloc, CLIENT)?)?);
-    assert!(rt; client_again(alloc, &bytes_of(alloc, RUN)?)?);
-    assert!(rt; server_again(alloc, &server(alloc)?)?);
+    assert!(rt; client_again_of(rt.alloc(), CLIENT)?);
+    assert!(rt; client_again_of(rt.alloc(), RUN)?);
+    let bytes = server(rt.alloc())?;
+    let again = server_again(rt.alloc(), &bytes);
+    drop(bytes);
+    assert!(rt; again?);
     Ok(())
 }

@@ -29,13 +29,22 @@ fn hello(alloc: Global) -> Result<Effects, Fail>
     Ok(effects)
 }
 
+/// Logs so many puts.
+fn log_hellos(alloc: Global, log: &mut Log, count: u32) -> Result<(), Fail> {
+    for _ in 0..count {
+        let _ = append_hello(alloc, log)?;
+    }
+    Ok(())
+}
+
 /// The image of client 1 that has logged so many puts.
 pub(crate) fn written(alloc: Global, puts: u32) -> Result<Vec<u8>, Fail> {
     let mut log = Log::new(0, Tree::new(alloc));
-    for _ in 0..puts {
-        let _ = log.append(None, hello(alloc)?)?;
-    }
-    Ok(write_client(1, &log)?)
+    let logged = log_hellos(alloc, &mut log, puts);
+    let written = write_client(1, &log);
+    drop(log);
+    logged?;
+    Ok(written?)
 }
 
 /// What is read of an image: the client, the acknowledged number, how many entries are pending, and how many rows the tree has.
@@ -44,13 +53,23 @@ pub(crate) fn told(alloc: Global, bytes: &[u8]) -> Result<[u64; 4], Fail> {
     let client = u64::from(image.client);
     let pending = u64::from(image.log.pending());
     let rows = u64::from(image.log.tree().count());
-    Ok([client, image.log.acked(), pending, rows])
+    let told = [client, image.log.acked(), pending, rows];
+    drop(image);
+    Ok(told)
+}
+
+/// The number of one more put in the log.
+fn append_hello(alloc: Global, log: &mut Log) -> Result<u64, Fail> {
+    let effects = hello(alloc)?;
+    Ok(log.append(None, effects)?)
 }
 
 /// The number of the next entry of the client that is read.
 fn next_number(alloc: Global, bytes: &[u8]) -> Result<u64, Fail> {
     let mut image = read_client(alloc, bytes)?;
-    Ok(image.log.append(None, hello(alloc)?)?)
+    let number = append_hello(alloc, &mut image.log);
+    drop(image);
+    number
 }
 
 /// Why the bytes are no client's image.
@@ -73,22 +92,30 @@ struct Case<'a> {
     refused: u32,
 }
 
-/// The image with these bytes in place of its own.
-fn spoilt(alloc: Global, case: &Case<'_>) -> Result<Vec<u8>, AllocError> {
-    let mut spoilt = Vec::new(alloc);
+/// Appends the image with these bytes in place of its own.
+fn put_spoilt(spoilt: &mut Vec<u8>, case: &Case<'_>) -> Result<(), AllocError> {
     let place = case.place.min(case.image.len());
     spoilt.extend_from_slice(&case.image[..place])?;
     spoilt.extend_from_slice(case.bytes)?;
     let behind = (place + case.bytes.len().min(64)).min(case.image.len());
     spoilt.extend_from_slice(&case.image[behind..])?;
-    Ok(spoilt)
+    Ok(())
+}
+
+/// Whether the case is refused where it says.
+fn is_refused_so(alloc: Global, case: &Case<'_>) -> Result<bool, AllocError> {
+    let mut spoilt = Vec::new(alloc);
+    let done = put_spoilt(&mut spoilt, case);
+    let refusal = refusal_of(alloc, &spoilt);
+    drop(spoilt);
+    done?;
+    Ok(refusal == Some(ImageError::BadImage(case.refused)))
 }
 
 /// The first of these cases that is refused elsewhere, or not at all.
 fn first_wrong(alloc: Global, cases: &[Case<'_>]) -> Result<Option<usize>, AllocError> {
     for (i, case) in cases.iter().enumerate() {
-        let spoilt = spoilt(alloc, case)?;
-        if refusal_of(alloc, &spoilt) != Some(ImageError::BadImage(case.refused)) {
+        if !is_refused_so(alloc, case)? {
             return Ok(Some(i));
         }
     }
@@ -104,20 +131,26 @@ fn spoilt_case<'a>(image: &'a [u8], place: usize, bytes: &'a [u8], refused: u32)
     }
 }
 
+/// Whether the image of so many puts is this one.
+fn is_written(alloc: Global, puts: u32, image: &[u8]) -> Result<bool, Fail> {
+    let written = written(alloc, puts)?;
+    let same = written.as_slice() == image;
+    drop(written);
+    Ok(same)
+}
+
 #[test]
 fn the_smallest_image(rt: HostRuntime) -> Result<(), Fail> {
-    let alloc = rt.alloc();
-    assert!(rt; written(alloc, 0)?.as_slice() == EMPTY.as_slice());
-    assert!(rt; told(alloc, &EMPTY)? == [1, 0, 0, 0]);
+    assert!(rt; is_written(rt.alloc(), 0, &EMPTY)?);
+    assert!(rt; told(rt.alloc(), &EMPTY)? == [1, 0, 0, 0]);
     Ok(())
 }
 
 #[test]
 fn an_entry_is_kept(rt: HostRuntime) -> Result<(), Fail> {
-    let alloc = rt.alloc();
-    assert!(rt; written(alloc, 1)?.as_slice() == HELLO.as_slice());
-    assert!(rt; told(alloc, &HELLO)? == [1, 0, 1, 1]);
-    assert!(rt; next_number(alloc, &HELLO)? == 2);
+    assert!(rt; is_written(rt.alloc(), 1, &HELLO)?);
+    assert!(rt; told(rt.alloc(), &HELLO)? == [1, 0, 1, 1]);
+    assert!(rt; next_number(rt.alloc(), &HELLO)? == 2);
     Ok(())
 }
 
@@ -142,31 +175,73 @@ fn what_is_no_image(rt: HostRuntime) -> Result<(), Fail> {
     Ok(())
 }
 
-/// The image of a server with a folder `d`, and 258 as the last number of client 64; or of a new one.
-fn server(alloc: Global, is_new: bool) -> Result<Vec<u8>, Fail> {
+/// A tree with a folder `d`.
+fn tree(alloc: Global) -> Result<Tree, Fail> {
+    let make = Effect::Make(Path::read(alloc, b"d")?);
     let mut tree = Tree::new(alloc);
+    let made = tree.apply(&make);
+    drop(make);
+    let _ = made?;
+    Ok(tree)
+}
+
+/// The image of a server with this folder, and 258 as the last number of client 64.
+fn server(alloc: Global) -> Result<Vec<u8>, Fail> {
+    let tree = tree(alloc)?;
     let mut last = [0; 64];
-    if !is_new {
-        last[63] = 258;
-        let _ = tree.apply(&Effect::Make(Path::read(alloc, b"d")?))?;
-    }
-    Ok(write_server(&last, &tree)?)
+    last[63] = 258;
+    let written = write_server(&last, &tree);
+    drop(tree);
+    Ok(written?)
+}
+
+/// The image of a new server.
+fn new_server(alloc: Global) -> Result<Vec<u8>, AllocError> {
+    let tree = Tree::new(alloc);
+    let written = write_server(&[0; 64], &tree);
+    drop(tree);
+    written
+}
+
+/// Whether the tree has the folder.
+fn is_folder(alloc: Global, tree: &Tree) -> Result<bool, Fail> {
+    let folder = Path::read(alloc, b"d")?;
+    let is_folder = tree.is_folder(&folder);
+    drop(folder);
+    Ok(is_folder)
 }
 
 /// Whether the bytes are the image of the server that has the folder.
 fn has_folder(alloc: Global, bytes: &[u8]) -> Result<bool, Fail> {
     let image = read_server(alloc, bytes)?;
-    let folder = Path::read(alloc, b"d")?;
-    Ok(image.last[63] == 258 && image.last[0] == 0 && image.tree.is_folder(&folder))
+    let numbered = image.last[63] == 258 && image.last[0] == 0;
+    let has = is_folder(alloc, &image.tree);
+    drop(image);
+    Ok(has? && numbered)
+}
+
+/// Why the bytes are no server's image.
+fn server_refusal_of(alloc: Global, bytes: &[u8]) -> Option<ImageError> {
+    match read_server(alloc, bytes) {
+        Ok(image) => {
+            drop(image);
+            None
+        }
+        Err(refusal) => Some(refusal),
+    }
 }
 
 #[test]
 fn a_server_is_kept(rt: HostRuntime) -> Result<(), Fail> {
-    let alloc = rt.alloc();
-    let new = server(alloc, true)?;
-    assert!(rt; new.len() == 521);
-    assert!(rt; refusal_of(alloc, &new) == Some(ImageError::WrongKind));
-    assert!(rt; has_folder(alloc, &server(alloc, false)?)?);
-    assert!(rt; matches!(read_server(alloc, &EMPTY), Err(ImageError::WrongKind)));
+    let new = new_server(rt.alloc())?;
+    let (size, refusal) = (new.len(), refusal_of(rt.alloc(), &new));
+    drop(new);
+    assert!(rt; size == 521);
+    assert!(rt; refusal == Some(ImageError::WrongKind));
+    let kept = server(rt.alloc())?;
+    let has_folder = has_folder(rt.alloc(), &kept);
+    drop(kept);
+    assert!(rt; has_folder?);
+    assert!(rt; server_refusal_of(rt.alloc(), &EMPTY) == Some(ImageError::WrongKind));
     Ok(())
 }

@@ -6,6 +6,7 @@ ghost use Rattle.cmd_capture.specs.Spelling.{IsCommand, IsJob};
 ghost use Rattle.cmd_capture.specs.Rows.{AreJobRows};
 ghost use Rattle.mod_log.specs.Origin.{OriginFits};
 
+use super::tests::is_spelled_so;
 use cmd_capture::{
     Command, Job, Outcome, RawRow, RawRows, Runner, ScriptAnswer, ScriptRunner, Words, capture,
     job_print,
@@ -14,7 +15,7 @@ use mod_log::{Entry, Log, Origin, SketchEffect, SketchEntry, sketch_entry};
 use std::alloc::{AllocError, Global};
 use std::rt::HostRuntime;
 use std::test::Fail;
-use vol_tree::{Content, Effect, Effects, Node, Path, TakeError, Tree, TryCopy};
+use vol_tree::{Content, Effect, Effects, Node, Path, TakeError, Tree, TreeError, TryCopy};
 use work_area::{changes, job_of, rows_of};
 
 /// The entry of `/bin/sort a` with a variable, an input and a template, which ended with status 3 and put "b\n" at "s": the
@@ -47,11 +48,25 @@ fn sort(alloc: Global) -> Result<Command, Fail>
     Ok(capture(alloc, &words, &root)?)
 }
 
+/// A put of "b\n" at "a".
+fn put(alloc: Global) -> Result<Effect, Fail> {
+    let path = Path::read(alloc, b"a")?;
+    Ok(Effect::Put(path, Content::of(alloc, b"b\n")?))
+}
+
+fn apply(tree: &mut Tree, effect: &Effect) -> Result<(), TreeError> {
+    let undo = tree.apply(effect)?;
+    drop(undo);
+    Ok(())
+}
+
 /// A tree with "b\n" at "a".
 fn tree(alloc: Global) -> Result<Tree, Fail> {
+    let put = put(alloc)?;
     let mut tree = Tree::new(alloc);
-    let put = Effect::Put(Path::read(alloc, b"a")?, Content::of(alloc, b"b\n")?);
-    let _ = tree.apply(&put)?;
+    let applied = apply(&mut tree, &put);
+    drop(put);
+    applied?;
     Ok(tree)
 }
 
@@ -151,14 +166,6 @@ fn logged(alloc: Global, bytes: &[u8]) -> Result<Log, Fail> {
     }
 }
 
-/// The spelling of the first pending entry.
-fn spelled(alloc: Global, log: &Log) -> Result<Vec<u8>, Fail> {
-    let entry = log.entry(0).ok_or("no entry")?;
-    let mut bytes = Vec::new(alloc);
-    Entry::spell(entry, &mut bytes)?;
-    Ok(bytes)
-}
-
 /// The status of the entry that the bytes spell, and the place behind it.
 fn taken(alloc: Global, bytes: &[u8]) -> Result<(Option<u8>, usize), TakeError> {
     let (entry, next) = Entry::take(alloc, bytes, 0, 1)?;
@@ -172,12 +179,11 @@ fn taken(alloc: Global, bytes: &[u8]) -> Result<(Option<u8>, usize), TakeError> 
 
 #[test]
 fn an_entry_with_an_origin_is_spelled_and_taken(rt: HostRuntime) -> Result<(), Fail> {
-    let alloc = rt.alloc();
-    let log = logged(alloc, b"b\n")?;
-    let bytes = spelled(alloc, &log);
+    let log = logged(rt.alloc(), b"b\n")?;
+    let same = is_spelled_so(rt.alloc(), &log, &SORTED);
     drop(log);
-    assert_eq!(rt; bytes?.as_slice(), SORTED.as_slice());
-    assert!(rt; taken(alloc, &SORTED) == Ok((Some(3), 107)));
+    assert!(rt; same?);
+    assert!(rt; taken(rt.alloc(), &SORTED) == Ok((Some(3), 107)));
     Ok(())
 }
 
@@ -212,23 +218,29 @@ fn sketched(alloc: Global, log: &Log) -> Result<SketchEntry, Fail> {
     }
 }
 
-/// The length and the number of parities of the only sketch of the entry that puts so many bytes.
-fn sketch_of(alloc: Global, size: usize) -> Result<Option<(u32, usize)>, Fail> {
-    let bytes = vec![in alloc; b'x'; size]?;
-    let log = logged(alloc, bytes.as_slice())?;
-    let entry = sketched(alloc, &log);
-    drop(log);
-    let entry = entry?;
+/// The length and the number of parities of the only sketch of the entry, where it has one.
+fn told_of(entry: SketchEntry) -> Option<(u32, usize)> {
     let told = match entry.effects.as_slice() {
         [SketchEffect::Put(_, sketch)] => Some((sketch.len, sketch.parities.len())),
         _ => None,
     };
     drop(entry);
-    Ok(told)
+    told
+}
+
+/// A log with the entry that puts so many bytes.
+fn logged_of(alloc: Global, size: usize) -> Result<Log, Fail> {
+    let bytes = vec![in alloc; b'x'; size]?;
+    let log = logged(alloc, bytes.as_slice());
+    drop(bytes);
+    log
 }
 
 #[test]
 fn a_content_of_two_blocks_has_two_parities(rt: HostRuntime) -> Result<(), Fail> {
-    assert_eq!(rt; sketch_of(rt.alloc(), 200_000)?, Some((200_000, 2)));
+    let log = logged_of(rt.alloc(), 200_000)?;
+    let entry = sketched(rt.alloc(), &log);
+    drop(log);
+    assert!(rt; told_of(entry?) == Some((200_000, 2)));
     Ok(())
 }

@@ -4,7 +4,7 @@ use mod_log::{Entry, Log, LogError};
 use std::alloc::{AllocError, Global};
 use std::rt::HostRuntime;
 use std::test::Fail;
-use vol_tree::{Content, Effect, Effects, Path, Paths, TakeError, Tree, TryCopy};
+use vol_tree::{Content, Effect, Effects, Path, TakeError, Tree};
 
 /// The entry of a put of "hello\n" at "a", where there was nothing: the byte 0, one effect, one base.
 const HELLO: [u8; 34] = [
@@ -18,7 +18,7 @@ fn put(alloc: Global, bytes: &[u8]) -> Result<Effect, Fail> {
 }
 
 /// A put of "hello\n" at "a".
-fn hello(alloc: Global) -> Result<Effects, Fail>
+pub(crate) fn hello(alloc: Global) -> Result<Effects, Fail>
     ensures { IfOk result (λ effects. effects ≢ []) }
 {
     let mut effects = Effects::new(alloc);
@@ -26,15 +26,30 @@ fn hello(alloc: Global) -> Result<Effects, Fail>
     Ok(effects)
 }
 
+/// Pushes a put of no bytes at "a".
+fn push_put(alloc: Global, effects: &mut Effects) -> Result<(), Fail>
+    ensures { IfOk result (λ _. effects.new ≢ []) }
+{
+    let put = put(alloc, b"")?;
+    effects.push(put)?;
+    Ok(())
+}
+
+/// Pushes so many of them.
+fn push_puts(alloc: Global, effects: &mut Effects, count: usize) -> Result<(), Fail> {
+    for _ in 0..count {
+        push_put(alloc, effects)?;
+    }
+    Ok(())
+}
+
 /// So many puts of no bytes at "a", and one more.
-fn puts(alloc: Global, count: usize) -> Result<Effects, Fail>
+pub(crate) fn puts(alloc: Global, count: usize) -> Result<Effects, Fail>
     ensures { IfOk result (λ effects. effects ≢ []) }
 {
     let mut effects = Effects::new(alloc);
-    for _ in 0..count {
-        effects.push(put(alloc, b"")?)?;
-    }
-    effects.push(put(alloc, b"")?)?;
+    push_puts(alloc, &mut effects, count)?;
+    push_put(alloc, &mut effects)?;
     Ok(effects)
 }
 
@@ -48,11 +63,14 @@ fn base_version(log: &Log, i: u32) -> Result<u64, Fail> {
 /// The version of "a" in the base of the log.
 fn version_in_base(alloc: Global, log: &Log) -> Result<u64, Fail> {
     let path = Path::read(alloc, b"a")?;
-    Ok(log.base()?.version(&path))
+    let base = log.base();
+    let version = base.map(|base| base.version(&path));
+    drop(path);
+    Ok(version?)
 }
 
 /// Acknowledges the first pending entries: so many, or as many as there are.
-fn acknowledge_first(log: &mut Log, count: u32) {
+pub(crate) fn acknowledge_first(log: &mut Log, count: u32) {
     let count = count.min(log.pending());
     if count > 0 {
         let last = log.acked() + count as u64;
@@ -61,7 +79,7 @@ fn acknowledge_first(log: &mut Log, count: u32) {
 }
 
 /// Logs effects that no command made, and gives their number.
-fn log_effects(log: &mut Log, effects: Effects) -> Result<u64, Fail>
+pub(crate) fn log_effects(log: &mut Log, effects: Effects) -> Result<u64, Fail>
     requires { effects ≢ [] }
 {
     match log.append(None, effects) {
@@ -70,46 +88,85 @@ fn log_effects(log: &mut Log, effects: Effects) -> Result<u64, Fail>
     }
 }
 
+/// Logs puts of "hello\n" at "a", so many.
+fn log_hellos(alloc: Global, log: &mut Log, count: u32) -> Result<(), Fail> {
+    for _ in 0..count {
+        let effects = hello(alloc)?;
+        let _ = log_effects(log, effects)?;
+    }
+    Ok(())
+}
+
 /// A log in which "hello\n" is put at "a" so many times.
 fn logged(alloc: Global, count: u32) -> Result<Log, Fail> {
     let mut log = Log::new(0, Tree::new(alloc));
-    for _ in 0..count {
-        let effects = hello(alloc)?;
-        let _ = log_effects(&mut log, effects)?;
+    match log_hellos(alloc, &mut log, count) {
+        Ok(()) => Ok(log),
+        Err(fail) => {
+            drop(log);
+            Err(fail)
+        }
     }
-    Ok(log)
+}
+
+/// The versions on which three pending entries rest.
+fn base_versions(log: &Log) -> Result<[u64; 3], Fail> {
+    Ok([
+        base_version(log, 0)?,
+        base_version(log, 1)?,
+        base_version(log, 2)?,
+    ])
 }
 
 #[test]
 fn each_entry_rests_on_the_one_before(rt: HostRuntime) -> Result<(), Fail> {
     let log = logged(rt.alloc(), 3)?;
-    for i in 0..3u32 {
-        assert_eq!(rt; base_version(&log, i)?, i as u64);
-    }
+    let versions = base_versions(&log);
+    drop(log);
+    assert!(rt; versions? == [0, 1, 2]);
     Ok(())
+}
+
+/// The version of "a" in the base before the first pending entry is acknowledged.
+fn acknowledged(alloc: Global, log: &mut Log) -> Result<u64, Fail> {
+    let version = version_in_base(alloc, log)?;
+    acknowledge_first(log, 1);
+    Ok(version)
+}
+
+/// The versions of "a" in the base before each of three acknowledgements, and behind them.
+fn versions_in_base(alloc: Global, log: &mut Log) -> Result<[u64; 4], Fail> {
+    let first = acknowledged(alloc, log)?;
+    let second = acknowledged(alloc, log)?;
+    let third = acknowledged(alloc, log)?;
+    Ok([first, second, third, version_in_base(alloc, log)?])
 }
 
 #[test]
 fn each_acknowledged_entry_goes_into_the_base(rt: HostRuntime) -> Result<(), Fail> {
-    let alloc = rt.alloc();
-    let mut log = logged(alloc, 3)?;
-    for i in 0..3u32 {
-        assert_eq!(rt; version_in_base(alloc, &log)?, i as u64);
-        acknowledge_first(&mut log, 1);
-    }
-    assert_eq!(rt; version_in_base(alloc, &log)?, 3);
-    assert_eq!(rt; log.pending(), 0);
+    let mut log = logged(rt.alloc(), 3)?;
+    let versions = versions_in_base(rt.alloc(), &mut log);
+    let pending = log.pending();
+    drop(log);
+    assert!(rt; versions? == [0, 1, 2, 3]);
+    assert!(rt; pending == 0);
     Ok(())
+}
+
+/// The version of "a" in the base once two entries are acknowledged, and that on which the first pending entry then rests.
+fn acknowledged_two(alloc: Global, log: &mut Log) -> Result<(u64, u64), Fail> {
+    acknowledge_first(log, 2);
+    Ok((version_in_base(alloc, log)?, base_version(log, 0)?))
 }
 
 #[test]
 fn several_entries_are_acknowledged_at_once(rt: HostRuntime) -> Result<(), Fail> {
-    let alloc = rt.alloc();
-    let mut log = logged(alloc, 3)?;
-    acknowledge_first(&mut log, 2);
-    assert_eq!(rt; version_in_base(alloc, &log)?, 2);
-    assert_eq!(rt; base_version(&log, 0)?, 2);
-    assert!(rt; log.acked() == 2 && log.pending() == 1);
+    let mut log = logged(rt.alloc(), 3)?;
+    let versions = acknowledged_two(rt.alloc(), &mut log);
+    let (acked, pending) = (log.acked(), log.pending());
+    drop(log);
+    assert!(rt; versions? == (2, 2));
+    assert!(rt; acked == 2 && pending == 1);
     Ok(())
 }
 
@@ -117,114 +174,132 @@ fn several_entries_are_acknowledged_at_once(rt: HostRuntime) -> Result<(), Fail>
 fn full(log: &mut Log, effects: Effects) -> Option<(u32, u64)>
     requires { effects ≢ [] }
 {
-    match log.append(None, effects) {
-        Err(LogError::LogFull { entries, bytes }) => Some((entries, bytes)),
-        other => {
-            drop(other);
-            None
+    let appended = log.append(None, effects);
+    let counts = match &appended {
+        Err(LogError::LogFull { entries, bytes }) => Some((*entries, *bytes)),
+        _ => None,
+    };
+    drop(appended);
+    counts
+}
+
+/// The counts with which a log of 1,024 entries is full, and then the number of pending entries.
+fn fullness(alloc: Global) -> Result<(Option<(u32, u64)>, u32), Fail> {
+    let effects = hello(alloc)?;
+    match logged(alloc, 1024) {
+        Ok(mut log) => {
+            let counts = full(&mut log, effects);
+            let pending = log.pending();
+            drop(log);
+            Ok((counts, pending))
+        }
+        Err(fail) => {
+            drop(effects);
+            Err(fail)
         }
     }
 }
 
 #[test]
 fn holds_1024_entries(rt: HostRuntime) -> Result<(), Fail> {
-    let alloc = rt.alloc();
-    let effects = hello(alloc)?;
-    let mut log = logged(alloc, 1024)?;
-    assert_eq!(rt; full(&mut log, effects), Some((1024, 34_850)));
-    assert_eq!(rt; log.pending(), 1024);
+    let (counts, pending) = fullness(rt.alloc())?;
+    assert!(rt; counts == Some((1024, 34_850)));
+    assert!(rt; pending == 1024);
     Ok(())
 }
 
 /// The counts with which these effects are too large for an entry.
-fn too_large(log: &mut Log, effects: Effects) -> Option<(u32, u64)>
+pub(crate) fn too_large(log: &mut Log, effects: Effects) -> Option<(u32, u64)>
     requires { effects ≢ [] }
 {
-    match log.append(None, effects) {
-        Err(LogError::EntryTooLarge { effects, bytes }) => Some((effects, bytes)),
-        other => {
-            drop(other);
-            None
-        }
-    }
+    let appended = log.append(None, effects);
+    let counts = match &appended {
+        Err(LogError::EntryTooLarge { effects, bytes }) => Some((*effects, *bytes)),
+        _ => None,
+    };
+    drop(appended);
+    counts
+}
+
+/// The counts with which 4,097 effects are too large, and the number of the entry of 4,096 behind them.
+fn counts_and_number(alloc: Global, log: &mut Log) -> Result<(Option<(u32, u64)>, u64), Fail> {
+    let more = puts(alloc, 4096)?;
+    let counts = too_large(log, more);
+    let most = puts(alloc, 4095)?;
+    Ok((counts, log_effects(log, most)?))
 }
 
 #[test]
 fn holds_4096_effects_in_an_entry(rt: HostRuntime) -> Result<(), Fail> {
-    let alloc = rt.alloc();
-    let most = puts(alloc, 4095)?;
-    let more = puts(alloc, 4096)?;
-    let mut log = Log::new(0, Tree::new(alloc));
-    assert_eq!(rt; too_large(&mut log, more), Some((4097, 0)));
-    assert_eq!(rt; log_effects(&mut log, most)?, 1);
+    let mut log = Log::new(0, Tree::new(rt.alloc()));
+    let told = counts_and_number(rt.alloc(), &mut log);
+    drop(log);
+    assert!(rt; told? == (Some((4097, 0)), 1));
     Ok(())
 }
 
-/// The spelling of the first pending entry.
-fn spelled(alloc: Global, log: &Log) -> Result<Vec<u8>, Fail> {
+/// Whether the first pending entry is spelled so.
+pub(crate) fn is_spelled_so(alloc: Global, log: &Log, wanted: &[u8]) -> Result<bool, Fail> {
     let entry = log.entry(0).ok_or("no entry")?;
     let mut bytes = Vec::new(alloc);
-    Entry::spell(entry, &mut bytes)?;
-    Ok(bytes)
+    let done = Entry::spell(entry, &mut bytes);
+    let same = bytes.as_slice() == wanted;
+    drop(bytes);
+    done?;
+    Ok(same)
 }
 
 #[test]
 fn spells_an_entry(rt: HostRuntime) -> Result<(), Fail> {
-    let alloc = rt.alloc();
-    let log = logged(alloc, 1)?;
-    let bytes = spelled(alloc, &log)?;
-    assert_eq!(rt; bytes.as_slice(), HELLO.as_slice());
+    let log = logged(rt.alloc(), 1)?;
+    let same = is_spelled_so(rt.alloc(), &log, &HELLO);
+    drop(log);
+    assert!(rt; same?);
     Ok(())
 }
 
-#[test]
-fn takes_an_entry(rt: HostRuntime) -> Result<(), Fail> {
-    let alloc = rt.alloc();
-    let (entry, next) = Entry::take(alloc, &HELLO, 0, 7).ok().ok_or("refused")?;
-    assert!(rt; next == 34 && entry.seq == 7);
-    assert!(rt; matches!(entry.effects.as_slice(), [Effect::Put(_, _)]));
-    assert_eq!(rt; entry.base.len(), 1);
-    Ok(())
+/// Where the entry ends that the bytes spell as number 7, its number, whether it is of one put, and the count of its bases.
+fn taken(alloc: Global, bytes: &[u8]) -> Result<(usize, u64, bool, usize), TakeError> {
+    let (entry, next) = Entry::take(alloc, bytes, 0, 7)?;
+    let is_put = matches!(entry.effects.as_slice(), [Effect::Put(_, _)]);
+    let told = (next, entry.seq, is_put, entry.base.len());
+    drop(entry);
+    Ok(told)
 }
 
 #[test]
-fn refuses_the_first_faulty_field(rt: HostRuntime) -> Result<(), Fail> {
-    let alloc = rt.alloc();
+fn takes_an_entry(rt: HostRuntime) {
+    assert!(rt; taken(rt.alloc(), &HELLO) == Ok((34, 7, true, 1)));
+}
+
+#[test]
+fn refuses_the_first_faulty_field(rt: HostRuntime) {
     let mut bytes = HELLO;
     bytes[25] = b'b';
-    assert!(rt; matches!(Entry::take(alloc, &bytes, 0, 7), Err(TakeError::At(23))));
+    assert!(rt; taken(rt.alloc(), &bytes) == Err(TakeError::At(23)));
     bytes[0] = 2;
-    assert!(rt; matches!(Entry::take(alloc, &bytes, 0, 7), Err(TakeError::At(0))));
-    assert!(rt;
-        matches!(
-            Entry::take(alloc, &HELLO[..33], 0, 7),
-            Err(TakeError::At(26))
-        )
-    );
-    Ok(())
+    assert!(rt; taken(rt.alloc(), &bytes) == Err(TakeError::At(0)));
+    assert!(rt; taken(rt.alloc(), &HELLO[..33]) == Err(TakeError::At(26)));
 }
 
-/// What a refusal says.
-fn text_of(alloc: Global, refusal: LogError) -> Result<String, AllocError> {
-    let text = refusal.to_string(alloc);
+/// Whether the refusal says this.
+fn says(alloc: Global, refusal: LogError, text: &str) -> Result<bool, AllocError> {
+    let said = refusal.to_string(alloc);
     drop(refusal);
-    text
+    Ok(said?.as_str() == text)
 }
 
 #[test]
 fn refusals_say_what_was_counted(rt: HostRuntime) -> Result<(), Fail> {
-    let alloc = rt.alloc();
     let large = LogError::EntryTooLarge {
         effects: 4097,
         bytes: 6,
     };
-    let text = text_of(alloc, large)?;
-    assert_eq!(rt; text.as_str(), "an entry of 4097 effects with 6 bytes");
+    assert!(rt; says(rt.alloc(), large, "an entry of 4097 effects with 6 bytes")?);
     let full = LogError::LogFull {
         entries: 1024,
         bytes: 34850,
     };
-    let text = text_of(alloc, full)?;
-    assert_eq!(rt; text.as_str(), "1024 entries and 34850 bytes in the log");
+    assert!(rt; says(rt.alloc(), full, "1024 entries and 34850 bytes in the log")?);
     Ok(())
 }

@@ -9,41 +9,44 @@ use vol_tree::{
     Tree, TreeError, TryCopy, apply_all, undo_all,
 };
 
+/// The row of a file without content.
+fn row_of(alloc: Global, text: &[u8], version: u64) -> Result<Row, Fail> {
+    let path = Path::read(alloc, text)?;
+    let content = Content::of(alloc, b"")?;
+    Ok(Row {
+        path,
+        version,
+        node: Some(Node::File(content)),
+    })
+}
+
 /// Rows of these paths and versions, each a file without content.
 fn rows_of(alloc: Global, of: &[(&[u8], u64)]) -> Result<Rows, Fail> {
     let mut rows = Rows::new(alloc);
     for (text, version) in of {
-        let path = Path::read(alloc, text)?;
-        let content = Content::of(alloc, b"")?;
-        rows.push(Row {
-            path,
-            version: *version,
-            node: Some(Node::File(content)),
-        })?;
+        rows.push(row_of(alloc, text, *version)?)?;
     }
     Ok(rows)
 }
 
-/// The first row that breaks a rule of trees.
-fn bad_row(alloc: Global, rows: Rows) -> Option<RowsError> {
-    match Tree::from_rows(alloc, rows) {
+/// The first row of these that breaks a rule of trees.
+fn bad_row(alloc: Global, of: &[(&[u8], u64)]) -> Result<Option<u32>, Fail> {
+    match Tree::from_rows(alloc, rows_of(alloc, of)?) {
         Ok(tree) => {
             drop(tree);
-            None
+            Ok(None)
         }
-        Err(refused) => Some(refused),
+        Err(RowsError::BadRow(row)) => Ok(Some(row)),
+        Err(refused) => Err(refused.into()),
     }
 }
 
 #[test]
 fn refuses_rows(rt: HostRuntime) -> Result<(), Fail> {
     let alloc = rt.alloc();
-    let never = bad_row(alloc, rows_of(alloc, &[(b"a", 0)])?);
-    assert!(rt; matches!(never, Some(RowsError::BadRow(0))));
-    let alone = bad_row(alloc, rows_of(alloc, &[(b"d/x", 1)])?);
-    assert!(rt; matches!(alone, Some(RowsError::BadRow(0))));
-    let turned = bad_row(alloc, rows_of(alloc, &[(b"b", 1), (b"a", 1)])?);
-    assert!(rt; matches!(turned, Some(RowsError::BadRow(1))));
+    assert!(rt; bad_row(alloc, &[(b"a", 0)])? == Some(0));
+    assert!(rt; bad_row(alloc, &[(b"d/x", 1)])? == Some(0));
+    assert!(rt; bad_row(alloc, &[(b"b", 1), (b"a", 1)])? == Some(1));
     Ok(())
 }
 
@@ -114,12 +117,29 @@ fn applied(alloc: Global, effects: Effects) -> Result<(u32, u32), ApplyAllError>
     Ok((made, left))
 }
 
+/// How many rows there are once the folders of these texts are made, and once they are undone again.
+fn made(alloc: Global, texts: &[&[u8]]) -> Result<(u32, u32), Fail> {
+    let effects = makes(alloc, texts)?;
+    Ok(applied(alloc, effects)?)
+}
+
+/// The first folder of these that has no folder to be in.
+fn first_without_parent(alloc: Global, texts: &[&[u8]]) -> Result<Option<u32>, Fail> {
+    let effects = makes(alloc, texts)?;
+    match applied(alloc, effects) {
+        Err(ApplyAllError::At(place, TreeError::NoParent(parent))) => {
+            drop(parent);
+            Ok(Some(place))
+        }
+        Err(refused) => Err(refused.into()),
+        Ok(_) => Ok(None),
+    }
+}
+
 #[test]
 fn applies_all_or_none(rt: HostRuntime) -> Result<(), Fail> {
-    let alloc = rt.alloc();
-    assert!(rt; matches!(applied(alloc, makes(alloc, &[b"d", b"d/e"])?), Ok((2, 0))));
-    let refused = applied(alloc, makes(alloc, &[b"d", b"e/x"])?);
-    assert!(rt; matches!(refused, Err(ApplyAllError::At(1, TreeError::NoParent(_)))));
+    assert!(rt; made(rt.alloc(), &[b"d", b"d/e"])? == (2, 0));
+    assert!(rt; first_without_parent(rt.alloc(), &[b"d", b"e/x"])? == Some(1));
     Ok(())
 }
 

@@ -145,30 +145,55 @@ fn is_refused_so(
     }
 }
 
-/// Takes so many random steps with both trees, and keeps the plain rows before each that is not refused.
+/// Takes a step with the plain tree, and keeps its rows before where it is not refused.
+fn stepped(
+    plain: &mut PlainTree,
+    before: &mut Vec<Vec<PlainRow>>,
+    step: Step,
+    alloc: Global,
+) -> Result<Option<Refusal>, AllocError> {
+    let rows = Vec::from_slice(alloc, plain.rows())?;
+    let refusal = plain.apply(step)?;
+    if refusal.is_none() {
+        before.push(rows)?;
+    }
+    Ok(refusal)
+}
+
+/// Takes a step with the tree, which the plain one refuses so; whether both then have the same rows.
+fn is_the_same_step(
+    tree: &mut Tree,
+    undos: &mut Vec<Undo>,
+    paths: &[Path],
+    step: Step,
+    refusal: Option<Refusal>,
+) -> Result<bool, AllocError>
+    requires { CanUndoAll undos.old.items tree.old }
+    ensures { CanUndoAll undos.new.items tree.new }
+{
+    let effect = effect_of(tree.allocator(), paths, step)?;
+    let so = is_refused_so(tree, undos, paths, &effect, refusal);
+    drop(effect);
+    Ok(so)
+}
+
+/// Takes the steps with this plain tree, which has the first rows.
 fn is_the_same_forward(
     tree: &mut Tree,
     undos: &mut Vec<Undo>,
     paths: &[Path],
     before: &mut Vec<Vec<PlainRow>>,
-    steps: u32,
+    plain: &mut PlainTree,
 ) -> Result<bool, AllocError>
     requires { CanUndoAll undos.old.items tree.old }
     ensures { CanUndoAll undos.new.items tree.new }
 {
     let alloc = tree.allocator();
-    let mut plain = PlainTree::new(alloc, &FIRST_ROWS)?;
     let mut random = Random::new(3);
-    for _ in 0..steps {
+    for _ in 0..1_000 {
         let step = random.step();
-        let rows = Vec::from_slice(alloc, plain.rows())?;
-        let refusal = plain.apply(step)?;
-        if refusal.is_none() {
-            before.push(rows)?;
-        }
-        let effect = effect_of(alloc, paths, step)?;
-        let so = is_refused_so(tree, undos, paths, &effect, refusal);
-        drop(effect);
+        let refusal = stepped(plain, before, step, alloc)?;
+        let so = is_the_same_step(tree, undos, paths, step, refusal)?;
         if !so || !has_rows(tree, paths, plain.rows())? {
             return Ok(false);
         }
@@ -188,33 +213,70 @@ fn is_the_same_backward(
     for _ in 0..undos.len() {
         let _ = undo_last(tree, undos);
         let rows = before.pop().unwrap_or(Vec::new(tree.allocator()));
-        if !has_rows(tree, paths, &rows)? {
+        let same = has_rows(tree, paths, &rows);
+        drop(rows);
+        if !same? {
             return Ok(false);
         }
     }
     Ok(before.is_empty())
 }
 
-/// Takes 1,000 random steps, of which some are not refused, and undoes them; whether the tree is all the time as a plain one.
+/// Takes 1,000 random steps, and keeps the plain rows before each that is not refused.
+fn is_the_same_forth(
+    tree: &mut Tree,
+    undos: &mut Vec<Undo>,
+    paths: &[Path],
+    before: &mut Vec<Vec<PlainRow>>,
+) -> Result<bool, AllocError>
+    requires { CanUndoAll undos.old.items tree.old }
+    ensures { CanUndoAll undos.new.items tree.new }
+{
+    let mut plain = PlainTree::new(tree.allocator(), &FIRST_ROWS)?;
+    let same = is_the_same_forward(tree, undos, paths, before, &mut plain);
+    drop(plain);
+    same
+}
+
+/// Takes those steps, of which some are not refused, and undoes them; whether the tree is all the time as a plain one.
+fn is_the_same_back_and_forth(
+    tree: &mut Tree,
+    undos: &mut Vec<Undo>,
+    paths: &[Path],
+    before: &mut Vec<Vec<PlainRow>>,
+) -> Result<bool, AllocError>
+    requires { CanUndoAll undos.old.items tree.old }
+{
+    let forth = is_the_same_forth(tree, undos, paths, before)?;
+    let many = undos.len() > 100;
+    Ok(forth && many && is_the_same_backward(tree, undos, paths, before)?)
+}
+
+/// The same with the rows kept here.
 fn is_the_same(tree: &mut Tree, undos: &mut Vec<Undo>, paths: &[Path]) -> Result<bool, AllocError>
     requires { CanUndoAll undos.old.items tree.old }
 {
     let mut before = Vec::new(tree.allocator());
-    let forward = is_the_same_forward(tree, undos, paths, &mut before, 1_000)?;
-    let many = undos.len() > 100;
-    Ok(forward && many && is_the_same_backward(tree, undos, paths, &mut before)?)
+    let same = is_the_same_back_and_forth(tree, undos, paths, &mut before);
+    drop(before);
+    same
+}
+
+/// The same with a tree of the first rows.
+fn is_one_the_same(alloc: Global, paths: &[Path]) -> Result<bool, Fail> {
+    let mut tree = first_tree(alloc, paths)?;
+    let mut undos = Vec::new(alloc);
+    let same = is_the_same(&mut tree, &mut undos, paths);
+    drop(undos);
+    drop(tree);
+    Ok(same?)
 }
 
 #[test]
 fn the_tree_is_as_a_plain_one(rt: HostRuntime) -> Result<(), Fail> {
-    let alloc = rt.alloc();
-    let paths = all_paths(alloc)?;
-    let mut tree = first_tree(alloc, &paths)?;
-    let mut undos = Vec::new(alloc);
-    let outcome = is_the_same(&mut tree, &mut undos, &paths);
-    drop(undos);
-    drop(tree);
+    let paths = all_paths(rt.alloc())?;
+    let same = is_one_the_same(rt.alloc(), &paths);
     drop(paths);
-    assert!(rt; outcome?);
+    assert!(rt; same?);
     Ok(())
 }

@@ -1,6 +1,7 @@
 ghost use Rattle.vol_tree.specs.Undos.{CanUndoAll};
 
 use crate::kept::{apply_kept, undo_last};
+use Outcome::{Another, Applied, FileTooLarge, NotEmpty, RowsFull, TreeFull, VersionTop};
 use std::alloc::{AllocError, Global};
 use std::rt::HostRuntime;
 use std::test::Fail;
@@ -28,46 +29,55 @@ fn path(alloc: Global, text: &[u8]) -> Result<Path, Fail> {
 /// A content of so many bytes.
 fn content(alloc: Global, size: usize) -> Result<Content, Fail> {
     let bytes = vec![in alloc; b'x'; size]?;
-    Ok(Content::of(alloc, &bytes)?)
+    let content = Content::of(alloc, &bytes);
+    drop(bytes);
+    Ok(content?)
 }
 
-/// What an effect comes to: the name of its refusal, and the refusal's number where it has one.
-fn apply(tree: &mut Tree, effect: Effect) -> (&'static str, u64) {
+/// What an effect comes to.
+#[derive(Clone, Copy, PartialEq, Eq)]
+enum Outcome {
+    Applied,
+    NotEmpty,
+    RowsFull(u32),
+    FileTooLarge(u64),
+    TreeFull(u64),
+    VersionTop,
+    Another,
+}
+
+fn outcome_of(applied: &Result<Undo, TreeError>) -> Outcome {
+    match applied {
+        Ok(_) => Applied,
+        Err(TreeError::NotEmpty(_, _)) => NotEmpty,
+        Err(TreeError::RowsFull(rows)) => RowsFull(*rows),
+        Err(TreeError::FileTooLarge(bytes)) => FileTooLarge(*bytes),
+        Err(TreeError::TreeFull(bytes)) => TreeFull(*bytes),
+        Err(TreeError::VersionTop(_)) => VersionTop,
+        Err(_) => Another,
+    }
+}
+
+fn apply(tree: &mut Tree, effect: Effect) -> Outcome {
     let applied = tree.apply(&effect);
     drop(effect);
-    let outcome = match &applied {
-        Ok(_) => ("applied", 0),
-        Err(TreeError::NotEmpty(_, _)) => ("NotEmpty", 0),
-        Err(TreeError::RowsFull(rows)) => ("RowsFull", u64::from(*rows)),
-        Err(TreeError::FileTooLarge(bytes)) => ("FileTooLarge", *bytes),
-        Err(TreeError::TreeFull(bytes)) => ("TreeFull", *bytes),
-        Err(TreeError::VersionTop(_)) => ("VersionTop", 0),
-        Err(_) => ("another", 0),
-    };
+    let outcome = outcome_of(&applied);
     drop(applied);
     outcome
 }
 
-fn put(
-    tree: &mut Tree,
-    alloc: Global,
-    text: &[u8],
-    size: usize,
-) -> Result<(&'static str, u64), Fail> {
-    let content = content(alloc, size)?;
-    Ok(apply(tree, Effect::Put(path(alloc, text)?, content)))
+fn put(tree: &mut Tree, alloc: Global, text: &[u8], size: usize) -> Result<Outcome, Fail> {
+    let path = path(alloc, text)?;
+    let effect = Effect::Put(path, content(alloc, size)?);
+    Ok(apply(tree, effect))
 }
 
-fn make(tree: &mut Tree, alloc: Global, text: &[u8]) -> Result<(&'static str, u64), Fail> {
+fn make(tree: &mut Tree, alloc: Global, text: &[u8]) -> Result<Outcome, Fail> {
     Ok(apply(tree, Effect::Make(path(alloc, text)?)))
 }
 
-fn remove(tree: &mut Tree, alloc: Global, text: &[u8]) -> Result<(&'static str, u64), Fail> {
+fn remove(tree: &mut Tree, alloc: Global, text: &[u8]) -> Result<Outcome, Fail> {
     Ok(apply(tree, Effect::Remove(path(alloc, text)?)))
-}
-
-fn version(tree: &Tree, alloc: Global, text: &[u8]) -> Result<u64, Fail> {
-    Ok(tree.version(&path(alloc, text)?))
 }
 
 fn folder(alloc: Global, text: &[u8], version: u64) -> Result<Row, Fail> {
@@ -80,12 +90,12 @@ fn folder(alloc: Global, text: &[u8], version: u64) -> Result<Row, Fail> {
 }
 
 fn file(alloc: Global, text: &[u8], size: usize) -> Result<Row, Fail> {
-    let node = Some(Node::File(content(alloc, size)?));
     let path = path(alloc, text)?;
+    let content = content(alloc, size)?;
     Ok(Row {
         path,
         version: 1,
-        node,
+        node: Some(Node::File(content)),
     })
 }
 
@@ -116,13 +126,18 @@ fn bad_row(alloc: Global, rows: Rows) -> Option<u32> {
     }
 }
 
-/// The tree of the folder `d` with the files `x` and `y` of one byte.
-fn small(alloc: Global) -> Result<Tree, Fail> {
+/// The rows of the folder `d` with the files `x` and `y` of one byte.
+fn small_rows(alloc: Global) -> Result<Rows, Fail> {
     let mut rows = Rows::new(alloc);
     rows.push(folder(alloc, b"d", 1)?)?;
     rows.push(file(alloc, b"d/x", 1)?)?;
     rows.push(file(alloc, b"d/y", 1)?)?;
-    Ok(Tree::from_rows(alloc, rows)?)
+    Ok(rows)
+}
+
+/// The tree of these rows.
+fn small(alloc: Global) -> Result<Tree, Fail> {
+    Ok(Tree::from_rows(alloc, small_rows(alloc)?)?)
 }
 
 /// Whether a file of one byte stands at the path.
@@ -158,7 +173,7 @@ fn tree_without(alloc: Global, path: Path) -> Result<Tree, Fail> {
 /// Whether all could be removed, one after the other.
 fn are_removed(tree: &mut Tree, alloc: Global, texts: &[&[u8]]) -> Result<bool, Fail> {
     for text in texts {
-        if remove(tree, alloc, text)? != ("applied", 0) {
+        if remove(tree, alloc, text)? != Applied {
             return Ok(false);
         }
     }
@@ -174,12 +189,18 @@ fn lists_only_y(tree: &Tree, folder: &Path) -> Result<bool, AllocError> {
     Ok(is_one && is_y && tree.child(folder, 1).is_none())
 }
 
+/// The effect that moves a file.
+fn move_of(from: &Path, to: &Path) -> Result<Effect, AllocError> {
+    let from = from.copy()?;
+    Ok(Effect::Move(from, to.copy()?))
+}
+
 /// Whether a file of one byte is moved to a new path, both being touched by this.
 fn is_moved(tree: &mut Tree, from: &Path, to: &Path) -> Result<bool, AllocError> {
-    let outcome = apply(tree, Effect::Move(from.copy()?, to.copy()?));
+    let outcome = apply(tree, move_of(from, to)?);
     let is_carried = has_file(tree, to) && tree.get(from).is_none();
     let is_counted = tree.version(from) == 2 && tree.version(to) == 1;
-    Ok(outcome == ("applied", 0) && is_carried && is_counted)
+    Ok(outcome == Applied && is_carried && is_counted)
 }
 
 /// The path of a file in a folder, both named by their numbers.
@@ -190,14 +211,20 @@ fn path_in(alloc: Global, folder: u16, file: u16) -> Result<Path, Fail> {
     path(alloc, &text)
 }
 
+/// Appends the paths of a folder and of its 255 files.
+fn push_folder(alloc: Global, paths: &mut Vec<Path>, folder: u16) -> Result<(), Fail> {
+    paths.push(path(alloc, &name_of(folder))?)?;
+    for file in 0..255 {
+        paths.push(path_in(alloc, folder, file)?)?;
+    }
+    Ok(())
+}
+
 /// The paths of 64 folders with 255 files each, each folder before its files.
 fn full_paths(alloc: Global) -> Result<Vec<Path>, Fail> {
     let mut paths = Vec::new(alloc);
-    for number in 0..64 {
-        paths.push(path(alloc, &name_of(number))?)?;
-        for file in 0..255 {
-            paths.push(path_in(alloc, number, file)?)?;
-        }
+    for folder in 0..64 {
+        push_folder(alloc, &mut paths, folder)?;
     }
     Ok(paths)
 }
@@ -286,109 +313,214 @@ fn is_filled_and_emptied(
     Ok(filled && full && found && is_empty(tree)?)
 }
 
-/// How many bytes the rows' spelling has, where it is taken again whole, with as many rows.
-fn spelled_and_taken(alloc: Global, tree: &Tree) -> Result<usize, Fail> {
+/// Whether rows' spelling is taken again whole, with so many rows.
+fn is_taken(alloc: Global, spelling: &[u8], count: u32) -> Result<bool, TakeError> {
+    let (rows, next) = Rows::take(alloc, spelling, 0)?;
+    let is_whole = next == spelling.len() && rows.len() == count as usize;
+    drop(rows);
+    Ok(is_whole)
+}
+
+/// The spelling of the rows of a tree.
+fn spelling_of(alloc: Global, tree: &Tree) -> Result<Vec<u8>, AllocError> {
     let mut out = Vec::new(alloc);
     tree.spell_rows(&mut out)?;
-    let (rows, next) = Rows::take(alloc, &out, 0).ok().ok_or("refused")?;
-    let is_whole = next == out.len() && rows.len() == tree.count() as usize;
-    Ok(if is_whole { next } else { 0 })
+    Ok(out)
+}
+
+/// How many bytes the rows' spelling has, where it is taken again whole, with as many rows.
+fn spelled_and_taken(alloc: Global, tree: &Tree) -> Result<usize, Fail> {
+    let out = spelling_of(alloc, tree)?;
+    let taken = is_taken(alloc, &out, tree.count());
+    let size = out.len();
+    drop(out);
+    Ok(if taken? { size } else { 0 })
+}
+
+/// What a put of two bytes at `d/x` makes, and its undo.
+fn put_and_undone(alloc: Global, tree: &mut Tree) -> Result<((u32, u64), (u32, u64)), Fail> {
+    let x = path(alloc, b"d/x")?;
+    let told = put_and_undone_at(alloc, tree, &x);
+    drop(x);
+    told
+}
+
+fn put_and_undone_at(
+    alloc: Global,
+    tree: &mut Tree,
+    path: &Path,
+) -> Result<((u32, u64), (u32, u64)), Fail> {
+    let content = content(alloc, 2)?;
+    let put = Effect::Put(path.copy()?, content);
+    Ok(applied_and_undone(tree, put, path)?)
 }
 
 #[test]
 fn a_put_is_undone(rt: HostRuntime) -> Result<(), Fail> {
-    let alloc = rt.alloc();
-    let mut tree = small(alloc)?;
-    let content = content(alloc, 2)?;
-    let x = path(alloc, b"d/x")?;
-    let outcome = applied_and_undone(&mut tree, Effect::Put(x.copy()?, content), &x);
+    let mut tree = small(rt.alloc())?;
+    let told = put_and_undone(rt.alloc(), &mut tree);
     drop(tree);
-    drop(x);
-    assert_eq!(rt; outcome?, ((3, 2), (3, 1)));
+    assert!(rt; told? == ((3, 2), (3, 1)));
     Ok(())
+}
+
+/// What the removal of the folder `d` comes to, and whether it can be removed behind its files.
+fn removed_behind(alloc: Global, tree: &mut Tree) -> Result<(Outcome, bool), Fail> {
+    let first = remove(tree, alloc, b"d")?;
+    Ok((first, are_removed(tree, alloc, &[b"d/x", b"d/y", b"d"])?))
 }
 
 #[test]
 fn a_folder_is_removed_behind_what_it_holds(rt: HostRuntime) -> Result<(), Fail> {
-    let alloc = rt.alloc();
-    let mut tree = small(alloc)?;
-    assert_eq!(rt; remove(&mut tree, alloc, b"d")?, ("NotEmpty", 0));
-    assert!(rt; are_removed(&mut tree, alloc, &[b"d/x", b"d/y", b"d"])?);
-    assert_eq!(rt; tree.count(), 3);
+    let mut tree = small(rt.alloc())?;
+    let told = removed_behind(rt.alloc(), &mut tree);
+    let count = tree.count();
+    drop(tree);
+    assert!(rt; told? == (NotEmpty, true));
+    assert!(rt; count == 3);
     Ok(())
+}
+
+/// Whether `y` alone is listed in the folder `d`.
+fn lists_only_y_in_d(alloc: Global, tree: &Tree) -> Result<bool, Fail> {
+    let d = path(alloc, b"d")?;
+    let listed = lists_only_y(tree, &d);
+    drop(d);
+    Ok(listed?)
+}
+
+/// What the removal of `d/x` comes to, and whether `y` alone is listed in `d` then.
+fn removed_and_listed(alloc: Global, tree: &mut Tree) -> Result<(Outcome, bool), Fail> {
+    let outcome = remove(tree, alloc, b"d/x")?;
+    Ok((outcome, lists_only_y_in_d(alloc, tree)?))
 }
 
 #[test]
 fn removed_names_are_not_listed(rt: HostRuntime) -> Result<(), Fail> {
-    let alloc = rt.alloc();
-    let d = path(alloc, b"d")?;
-    let mut tree = small(alloc)?;
-    assert_eq!(rt; remove(&mut tree, alloc, b"d/x")?, ("applied", 0));
-    let outcome = lists_only_y(&tree, &d);
+    let mut tree = small(rt.alloc())?;
+    let told = removed_and_listed(rt.alloc(), &mut tree);
     drop(tree);
-    drop(d);
-    assert!(rt; outcome?);
+    assert!(rt; told? == (Applied, true));
     Ok(())
+}
+
+/// Whether the file at `d/x` is moved to the path.
+fn is_moved_to(alloc: Global, tree: &mut Tree, to: &Path) -> Result<bool, Fail> {
+    let x = path(alloc, b"d/x")?;
+    let moved = is_moved(tree, &x, to);
+    drop(x);
+    Ok(moved?)
+}
+
+/// The same of the path `z`.
+fn is_moved_to_z(alloc: Global, tree: &mut Tree) -> Result<bool, Fail> {
+    let z = path(alloc, b"z")?;
+    let moved = is_moved_to(alloc, tree, &z);
+    drop(z);
+    moved
 }
 
 #[test]
 fn a_move_carries_the_file(rt: HostRuntime) -> Result<(), Fail> {
-    let alloc = rt.alloc();
-    let (x, z) = (path(alloc, b"d/x")?, path(alloc, b"z")?);
-    let mut tree = small(alloc)?;
-    let outcome = is_moved(&mut tree, &x, &z);
+    let mut tree = small(rt.alloc())?;
+    let moved = is_moved_to_z(rt.alloc(), &mut tree);
     drop(tree);
-    drop((x, z));
-    assert!(rt; outcome?);
+    assert!(rt; moved?);
     Ok(())
+}
+
+/// The tree of the folder `d` at the last version.
+fn last_tree(alloc: Global) -> Result<Tree, Fail> {
+    let mut rows = Rows::new(alloc);
+    rows.push(folder(alloc, b"d", u64::MAX)?)?;
+    Ok(Tree::from_rows(alloc, rows)?)
 }
 
 #[test]
 fn the_last_version_is_not_passed(rt: HostRuntime) -> Result<(), Fail> {
-    let alloc = rt.alloc();
-    let mut rows = Rows::new(alloc);
-    rows.push(folder(alloc, b"d", u64::MAX)?)?;
-    let mut tree = Tree::from_rows(alloc, rows)?;
-    assert_eq!(rt; remove(&mut tree, alloc, b"d")?, ("VersionTop", 0));
+    let mut tree = last_tree(rt.alloc())?;
+    let outcome = remove(&mut tree, rt.alloc(), b"d");
+    drop(tree);
+    assert!(rt; outcome? == VersionTop);
     Ok(())
+}
+
+/// What a making of one more row comes to, and the removal and putting of one that is there.
+fn outcomes_when_full(alloc: Global, tree: &mut Tree) -> Result<[Outcome; 3], Fail> {
+    let made = make(tree, alloc, b"z")?;
+    let removed = remove(tree, alloc, b"aaaa")?;
+    Ok([made, removed, put(tree, alloc, b"aaaa", 1)?])
 }
 
 #[test]
 fn holds_16384_rows(rt: HostRuntime) -> Result<(), Fail> {
-    let alloc = rt.alloc();
-    let mut tree = Tree::from_rows(alloc, folders(alloc, 16_384)?)?;
-    assert_eq!(rt; make(&mut tree, alloc, b"z")?, ("RowsFull", 16_384));
-    assert_eq!(rt; remove(&mut tree, alloc, b"aaaa")?, ("applied", 0));
-    assert_eq!(rt; put(&mut tree, alloc, b"aaaa", 1)?, ("applied", 0));
-    assert_eq!(rt; tree.count(), 16_384);
+    let mut tree = Tree::from_rows(rt.alloc(), folders(rt.alloc(), 16_384)?)?;
+    let outcomes = outcomes_when_full(rt.alloc(), &mut tree);
+    let count = tree.count();
+    drop(tree);
+    assert!(rt; outcomes? == [RowsFull(16_384), Applied, Applied]);
+    assert!(rt; count == 16_384);
     Ok(())
+}
+
+/// What a making of the folder `d` above the row of this path makes, and its undo, and the version of that row then.
+fn made_above(alloc: Global, row: &Path) -> Result<(((u32, u64), (u32, u64)), u64), Fail> {
+    let mut tree = tree_without(alloc, row.copy()?)?;
+    let told = made_and_undone(alloc, &mut tree);
+    let below = tree.version(row);
+    drop(tree);
+    Ok((told?, below))
+}
+
+/// What a making of the folder `d` makes, and its undo.
+fn made_and_undone(alloc: Global, tree: &mut Tree) -> Result<((u32, u64), (u32, u64)), Fail> {
+    let d = path(alloc, b"d")?;
+    let told = made_and_undone_at(tree, &d);
+    drop(d);
+    told
+}
+
+fn made_and_undone_at(tree: &mut Tree, path: &Path) -> Result<((u32, u64), (u32, u64)), Fail> {
+    let make = Effect::Make(path.copy()?);
+    Ok(applied_and_undone(tree, make, path)?)
 }
 
 #[test]
 fn a_folder_is_made_above_a_row(rt: HostRuntime) -> Result<(), Fail> {
-    let alloc = rt.alloc();
-    let (d, x) = (path(alloc, b"d")?, path(alloc, b"d/x")?);
-    let mut tree = tree_without(alloc, x.copy()?)?;
-    let outcome = applied_and_undone(&mut tree, Effect::Make(d.copy()?), &d);
-    let below = tree.version(&x);
-    drop(tree);
-    drop((d, x));
-    assert_eq!(rt; below, 1);
-    assert_eq!(rt; outcome?, ((2, 1), (1, 0)));
+    let x = path(rt.alloc(), b"d/x")?;
+    let told = made_above(rt.alloc(), &x);
+    drop(x);
+    let (told, below) = told?;
+    assert!(rt; below == 1);
+    assert!(rt; told == ((2, 1), (1, 0)));
     Ok(())
+}
+
+/// Whether a tree is filled at these paths, refuses this effect then, and is emptied.
+fn is_filled_and_emptied_at(
+    alloc: Global,
+    paths: &[Path],
+    more: &Effect,
+) -> Result<bool, AllocError> {
+    let (mut tree, mut undos) = (Tree::new(alloc), Vec::new(alloc));
+    let outcome = is_filled_and_emptied(&mut tree, &mut undos, paths, more);
+    drop(undos);
+    drop(tree);
+    outcome
+}
+
+/// The same with the making of the folder `more`.
+fn holds_no_more(alloc: Global, paths: &[Path]) -> Result<bool, Fail> {
+    let more = Effect::Make(path(alloc, b"more")?);
+    let outcome = is_filled_and_emptied_at(alloc, paths, &more);
+    drop(more);
+    Ok(outcome?)
 }
 
 #[test]
 fn finds_each_of_16384_paths(rt: HostRuntime) -> Result<(), Fail> {
-    let alloc = rt.alloc();
-    let paths = full_paths(alloc)?;
-    let more = path(alloc, b"more")?;
-    let more = Effect::Make(more);
-    let (mut tree, mut undos) = (Tree::new(alloc), Vec::new(alloc));
-    let outcome = is_filled_and_emptied(&mut tree, &mut undos, &paths, &more);
-    drop(undos);
-    drop(tree);
-    drop(more);
+    let paths = full_paths(rt.alloc())?;
+    let outcome = holds_no_more(rt.alloc(), &paths);
     drop(paths);
     assert!(rt; outcome?);
     Ok(())
@@ -396,57 +528,63 @@ fn finds_each_of_16384_paths(rt: HostRuntime) -> Result<(), Fail> {
 
 #[test]
 fn refuses_the_row_past_16384(rt: HostRuntime) -> Result<(), Fail> {
-    let alloc = rt.alloc();
-    assert_eq!(rt; bad_row(alloc, folders(alloc, 16_385)?), Some(16_384));
-    assert!(rt;
-        matches!(
-            Rows::take(alloc, &[0, 0, 0x40, 1], 0),
-            Err(TakeError::At(0))
-        )
-    );
+    let rows = folders(rt.alloc(), 16_385)?;
+    assert!(rt; bad_row(rt.alloc(), rows) == Some(16_384));
+    let taken = is_taken(rt.alloc(), &[0, 0, 0x40, 1], 16_385);
+    assert!(rt; taken == Err(TakeError::At(0)));
     Ok(())
 }
 
 #[test]
 fn spells_and_takes_16384_rows(rt: HostRuntime) -> Result<(), Fail> {
-    let alloc = rt.alloc();
-    let tree = Tree::from_rows(alloc, folders(alloc, 16_384)?)?;
-    assert_eq!(rt; spelled_and_taken(alloc, &tree)?, 4 + 16_384 * 15);
+    let tree = Tree::from_rows(rt.alloc(), folders(rt.alloc(), 16_384)?)?;
+    let size = spelled_and_taken(rt.alloc(), &tree);
+    drop(tree);
+    assert!(rt; size? == 4 + 16_384 * 15);
     Ok(())
+}
+
+/// What the puts of a file of one byte more than the most and of one of the most come to.
+fn outcomes_of_large(alloc: Global, tree: &mut Tree) -> Result<[Outcome; 2], Fail> {
+    let more = put(tree, alloc, b"a", FILE + 1)?;
+    Ok([more, put(tree, alloc, b"a", FILE)?])
 }
 
 #[test]
 fn holds_a_file_of_8388608_bytes(rt: HostRuntime) -> Result<(), Fail> {
-    let alloc = rt.alloc();
-    let mut tree = Tree::new(alloc);
-    assert_eq!(rt;
-        put(&mut tree, alloc, b"a", FILE + 1)?,
-        ("FileTooLarge", 8_388_609)
-    );
-    assert_eq!(rt; put(&mut tree, alloc, b"a", FILE)?, ("applied", 0));
+    let mut tree = Tree::new(rt.alloc());
+    let outcomes = outcomes_of_large(rt.alloc(), &mut tree);
+    drop(tree);
+    assert!(rt; outcomes? == [FileTooLarge(8_388_609), Applied]);
     Ok(())
 }
 
 #[test]
 fn refuses_the_row_of_a_larger_file(rt: HostRuntime) -> Result<(), Fail> {
-    let alloc = rt.alloc();
-    assert_eq!(rt; bad_row(alloc, files(alloc, 0, FILE + 1)?), Some(0));
+    let rows = files(rt.alloc(), 0, FILE + 1)?;
+    assert!(rt; bad_row(rt.alloc(), rows) == Some(0));
     Ok(())
+}
+
+/// What a put of one byte beside the most in all files comes to, and once more behind one that makes room.
+fn outcomes_in_room(alloc: Global, tree: &mut Tree) -> Result<[Outcome; 3], Fail> {
+    let refused = put(tree, alloc, b"y", 1)?;
+    let smaller = put(tree, alloc, b"z", FILE - 1)?;
+    Ok([refused, smaller, put(tree, alloc, b"y", 1)?])
 }
 
 #[test]
 fn holds_files_of_33554432_bytes(rt: HostRuntime) -> Result<(), Fail> {
-    let alloc = rt.alloc();
-    let mut tree = Tree::from_rows(alloc, files(alloc, 3, FILE)?)?;
-    assert_eq!(rt; put(&mut tree, alloc, b"y", 1)?, ("TreeFull", 33_554_433));
-    assert_eq!(rt; put(&mut tree, alloc, b"z", FILE - 1)?, ("applied", 0));
-    assert_eq!(rt; put(&mut tree, alloc, b"y", 1)?, ("applied", 0));
+    let mut tree = Tree::from_rows(rt.alloc(), files(rt.alloc(), 3, FILE)?)?;
+    let outcomes = outcomes_in_room(rt.alloc(), &mut tree);
+    drop(tree);
+    assert!(rt; outcomes? == [TreeFull(33_554_433), Applied, Applied]);
     Ok(())
 }
 
 #[test]
 fn refuses_the_row_past_33554432_bytes(rt: HostRuntime) -> Result<(), Fail> {
-    let alloc = rt.alloc();
-    assert_eq!(rt; bad_row(alloc, files(alloc, 4, 1)?), Some(4));
+    let rows = files(rt.alloc(), 4, 1)?;
+    assert!(rt; bad_row(rt.alloc(), rows) == Some(4));
     Ok(())
 }
