@@ -213,18 +213,18 @@ pub fn answered<R: Eprint, I: Source, O: Sink, K: Keeper, J: Runner, L: Link>(
         → (Rose (K.faults keeper.old) (K.faults keeper.new) → ⊥) → (exit_status result ≡ 0) ⊎ (exit_status result ≡ 7))) }
     // over any keeper: from some log that it opened, if it opened one
     ensures begun { IfSome (run_of (map string_bytes words.now)) (λ run. RanFromSome run.client (route_of run) (record {
-          left = I.left input.old;
-          written = O.written output.old;
-          images = K.images keeper.old;
-          runner = telling (J.runs runner.old) (J.faults runner.old);
-          link = L.tells link.old;
-        }) (record {
-          left = I.left input.new;
-          written = O.written output.new;
-          images = K.images keeper.new;
-          runner = telling (J.runs runner.new) (J.faults runner.new);
-          link = L.tells link.new;
-        }) (exit_status result)) }
+      left = I.left input.old;
+      written = O.written output.old;
+      images = K.images keeper.old;
+      runner = telling (J.runs runner.old) (J.faults runner.old);
+      link = L.tells link.old;
+    }) (record {
+      left = I.left input.new;
+      written = O.written output.new;
+      images = K.images keeper.new;
+      runner = telling (J.runs runner.new) (J.faults runner.new);
+      link = L.tells link.new;
+    }) (exit_status result)) }
     ensures session { IfSome (run_of (map string_bytes words.now)) (λ run. (start : Log)
         → TellsKept (K.images keeper.old) run.image run.client start
         → Ran run.client (route_of run) start (record {

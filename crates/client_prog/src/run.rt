@@ -476,18 +476,18 @@ pub fn client_run<I: Source, O: Sink, K: Keeper, R: Runner, L: Link>(
         → (Rose (K.faults keeper.old) (K.faults keeper.new) → ⊥) → (result ≡ 0) ⊎ (result ≡ 7))) }
     // over any keeper: from some log that it opened, if it opened one
     ensures begun { IfSome (run_of (map string_bytes words.now)) (λ run. RanFromSome run.client (route_of run) (record {
-          left = I.left input.old;
-          written = O.written output.old;
-          images = K.images keeper.old;
-          runner = telling (R.runs runner.old) (R.faults runner.old);
-          link = L.tells link.old;
-        }) (record {
-          left = I.left input.new;
-          written = O.written output.new;
-          images = K.images keeper.new;
-          runner = telling (R.runs runner.new) (R.faults runner.new);
-          link = L.tells link.new;
-        }) result) }
+      left = I.left input.old;
+      written = O.written output.old;
+      images = K.images keeper.old;
+      runner = telling (R.runs runner.old) (R.faults runner.old);
+      link = L.tells link.old;
+    }) (record {
+      left = I.left input.new;
+      written = O.written output.new;
+      images = K.images keeper.new;
+      runner = telling (R.runs runner.new) (R.faults runner.new);
+      link = L.tells link.new;
+    }) result) }
     ensures session { IfSome (run_of (map string_bytes words.now)) (λ run. (start : Log)
         → TellsKept (K.images keeper.old) run.image run.client start
         → Ran run.client (route_of run) start (record {

@@ -84,350 +84,55 @@ const SERVER_FIELDS: [u32; 15] = [
     517, 521, 523, 524, 532, 533, 535, 538, 546, 547, 551, 552, 554, 555, 563,
 ];
 
-/// The answers to the image of client 7 with a zero in place of a byte, each with the place behind the last byte that gets it.
-const CLIENT_ZEROS: [(usize, Answer); 75] = [
-    (4, Bad(0)),
-    (5, Bad(4)),
-    (6, Bad(5)),
-    (17, Read),
-    (18, Bad(18)),
-    (19, Read),
-    (20, Bad(18)),
-    (21, Bad(20)),
-    (28, Read),
-    (29, Bad(21)),
-    (30, Bad(43)),
-    (31, Read),
-    (32, Bad(30)),
-    (35, Bad(32)),
-    (41, Read),
-    (43, Bad(169)),
-    (44, Bad(44)),
-    (47, Read),
-    (48, Bad(50)),
-    (52, Read),
-    (53, Bad(51)),
-    (54, Bad(53)),
-    (61, Read),
-    (62, Bad(54)),
-    (66, Read),
-    (67, Bad(71)),
-    (71, Read),
-    (72, Bad(68)),
-    (73, Bad(72)),
-    (74, Read),
-    (75, Bad(72)),
-    (76, Bad(75)),
-    (77, Bad(76)),
-    (78, Read),
-    (82, Bad(79)),
-    (85, Read),
-    (86, Bad(86)),
-    (91, Read),
-    (92, Bad(88)),
-    (93, Read),
-    (94, Bad(92)),
-    (95, Bad(94)),
-    (104, Read),
-    (105, Bad(103)),
-    (108, Bad(105)),
-    (120, Read),
-    (121, Bad(117)),
-    (122, Bad(121)),
-    (123, Read),
-    (124, Bad(126)),
-    (127, Bad(124)),
-    (128, Read),
-    (129, Bad(121)),
-    (130, Bad(129)),
-    (131, Bad(130)),
-    (132, Read),
-    (133, Bad(130)),
-    (136, Bad(133)),
-    (139, Read),
-    (140, Bad(136)),
-    (141, Read),
-    (142, Bad(140)),
-    (145, Bad(142)),
-    (152, Read),
-    (153, Bad(145)),
-    (154, Read),
-    (155, Bad(153)),
-    (156, Bad(155)),
-    (163, Read),
-    (164, Bad(156)),
-    (165, Read),
-    (166, Bad(164)),
-    (169, Bad(166)),
-    (175, Read),
-    (177, Bad(169)),
-];
+/// The answers to the image of client 7 with a zero in place of a byte: the place behind the last byte that gets it, and where it is
+/// refused, or + where it is read.
+const CLIENT_ZEROS: &str = "\
+    4:0 5:4 6:5 17:+ 18:18 19:+ 20:18 21:20 28:+ 29:21 30:43 31:+ 32:30 35:32 41:+ 43:169 44:44 47:+ 48:50 52:+ \
+    53:51 54:53 61:+ 62:54 66:+ 67:71 71:+ 72:68 73:72 74:+ 75:72 76:75 77:76 78:+ 82:79 85:+ 86:86 91:+ 92:88 \
+    93:+ 94:92 95:94 104:+ 105:103 108:105 120:+ 121:117 122:121 123:+ 124:126 127:124 128:+ 129:121 130:129 \
+    131:130 132:+ 133:130 136:133 139:+ 140:136 141:+ 142:140 145:142 152:+ 153:145 154:+ 155:153 156:155 163:+ \
+    164:156 165:+ 166:164 169:166 175:+ 177:169 ";
 
 /// The answers with 255 in place of a byte, and with the byte's bits turned round.
-const CLIENT_ONES: [(usize, Answer); 63] = [
-    (4, Bad(0)),
-    (5, Bad(4)),
-    (6, Bad(5)),
-    (14, Read),
-    (17, Bad(14)),
-    (18, Bad(63)),
-    (20, Bad(20)),
-    (21, Bad(30)),
-    (29, Read),
-    (30, Bad(29)),
-    (32, Bad(32)),
-    (33, Bad(43)),
-    (35, Bad(130)),
-    (43, Bad(169)),
-    (44, Bad(43)),
-    (46, Bad(44)),
-    (48, Bad(48)),
-    (51, Read),
-    (53, Bad(53)),
-    (62, Bad(156)),
-    (63, Bad(62)),
-    (66, Bad(63)),
-    (67, Bad(177)),
-    (68, Bad(67)),
-    (71, Bad(68)),
-    (72, Bad(88)),
-    (73, Bad(72)),
-    (75, Bad(75)),
-    (77, Bad(76)),
-    (79, Bad(79)),
-    (80, Bad(76)),
-    (82, Bad(103)),
-    (84, Bad(82)),
-    (86, Bad(86)),
-    (88, Read),
-    (92, Bad(88)),
-    (94, Bad(94)),
-    (95, Bad(92)),
-    (103, Bad(95)),
-    (105, Bad(105)),
-    (108, Bad(103)),
-    (116, Bad(108)),
-    (117, Bad(116)),
-    (120, Bad(117)),
-    (121, Bad(136)),
-    (122, Bad(121)),
-    (124, Bad(124)),
-    (127, Bad(121)),
-    (129, Bad(129)),
-    (130, Bad(153)),
-    (131, Bad(130)),
-    (133, Bad(133)),
-    (136, Bad(130)),
-    (140, Bad(136)),
-    (142, Bad(142)),
-    (145, Bad(140)),
-    (153, Bad(145)),
-    (155, Bad(155)),
-    (156, Bad(153)),
-    (164, Bad(156)),
-    (166, Bad(166)),
-    (169, Bad(164)),
-    (177, Bad(169)),
-];
+const CLIENT_ONES: &str = "\
+    4:0 5:4 6:5 14:+ 17:14 18:63 20:20 21:30 29:+ 30:29 32:32 33:43 35:130 43:169 44:43 46:44 48:48 51:+ 53:53 \
+    62:156 63:62 66:63 67:177 68:67 71:68 72:88 73:72 75:75 77:76 79:79 80:76 82:103 84:82 86:86 88:+ 92:88 94:94 \
+    95:92 103:95 105:105 108:103 116:108 117:116 120:117 121:136 122:121 124:124 127:121 129:129 130:153 131:130 \
+    133:133 136:130 140:136 142:142 145:140 153:145 155:155 156:153 164:156 166:166 169:164 177:169 ";
 
-/// The answers to the image of client 9 with a zero in place of a byte, each with the place behind the last byte that gets it.
-const RUN_ZEROS: [(usize, Answer); 67] = [
-    (4, Bad(0)),
-    (5, Bad(4)),
-    (6, Bad(5)),
-    (17, Read),
-    (18, Bad(18)),
-    (19, Read),
-    (20, Bad(18)),
-    (21, Bad(20)),
-    (28, Read),
-    (29, Bad(21)),
-    (30, Bad(34)),
-    (33, Read),
-    (34, Bad(34)),
-    (42, Read),
-    (43, Bad(43)),
-    (79, Read),
-    (89, Bad(80)),
-    (90, Read),
-    (91, Bad(99)),
-    (94, Read),
-    (95, Bad(99)),
-    (97, Bad(95)),
-    (100, Read),
-    (101, Bad(103)),
-    (102, Bad(101)),
-    (105, Read),
-    (106, Bad(111)),
-    (109, Read),
-    (111, Bad(110)),
-    (114, Read),
-    (115, Bad(119)),
-    (116, Bad(115)),
-    (119, Read),
-    (121, Bad(120)),
-    (126, Read),
-    (127, Bad(130)),
-    (128, Read),
-    (129, Bad(134)),
-    (130, Bad(129)),
-    (131, Read),
-    (133, Bad(132)),
-    (135, Bad(133)),
-    (138, Read),
-    (139, Bad(135)),
-    (140, Bad(139)),
-    (141, Read),
-    (143, Bad(142)),
-    (146, Read),
-    (147, Bad(147)),
-    (154, Read),
-    (155, Bad(151)),
-    (156, Read),
-    (157, Bad(155)),
-    (158, Bad(157)),
-    (170, Read),
-    (171, Bad(167)),
-    (172, Bad(171)),
-    (173, Read),
-    (174, Bad(171)),
-    (175, Bad(174)),
-    (178, Read),
-    (179, Bad(175)),
-    (180, Read),
-    (181, Bad(179)),
-    (182, Bad(181)),
-    (189, Read),
-    (190, Bad(182)),
-];
+/// The answers to the image of client 9 with a zero in place of a byte: the place behind the last byte that gets it, and where it is
+/// refused, or + where it is read.
+const RUN_ZEROS: &str = "\
+    4:0 5:4 6:5 17:+ 18:18 19:+ 20:18 21:20 28:+ 29:21 30:34 33:+ 34:34 42:+ 43:43 79:+ 89:80 90:+ 91:99 94:+ \
+    95:99 97:95 100:+ 101:103 102:101 105:+ 106:111 109:+ 111:110 114:+ 115:119 116:115 119:+ 121:120 126:+ \
+    127:130 128:+ 129:134 130:129 131:+ 133:132 135:133 138:+ 139:135 140:139 141:+ 143:142 146:+ 147:147 154:+ \
+    155:151 156:+ 157:155 158:157 170:+ 171:167 172:171 173:+ 174:171 175:174 178:+ 179:175 180:+ 181:179 182:181 \
+    189:+ 190:182 ";
 
 /// The answers with 255 in place of a byte, and with the byte's bits turned round.
-const RUN_ONES: [(usize, Answer); 61] = [
-    (4, Bad(0)),
-    (5, Bad(4)),
-    (6, Bad(5)),
-    (14, Read),
-    (17, Bad(14)),
-    (18, Bad(38)),
-    (20, Bad(20)),
-    (21, Bad(171)),
-    (29, Bad(182)),
-    (30, Bad(29)),
-    (32, Bad(30)),
-    (34, Bad(34)),
-    (38, Read),
-    (41, Bad(38)),
-    (42, Bad(190)),
-    (43, Bad(42)),
-    (76, Read),
-    (81, Bad(80)),
-    (89, Read),
-    (91, Bad(106)),
-    (95, Bad(95)),
-    (97, Read),
-    (101, Bad(101)),
-    (102, Read),
-    (104, Bad(104)),
-    (106, Bad(129)),
-    (110, Bad(110)),
-    (111, Read),
-    (115, Bad(115)),
-    (116, Read),
-    (120, Bad(120)),
-    (121, Read),
-    (125, Bad(125)),
-    (127, Bad(135)),
-    (129, Bad(129)),
-    (130, Read),
-    (132, Bad(135)),
-    (133, Bad(133)),
-    (135, Read),
-    (138, Bad(135)),
-    (139, Bad(151)),
-    (140, Bad(139)),
-    (142, Bad(142)),
-    (143, Bad(155)),
-    (145, Bad(143)),
-    (147, Bad(147)),
-    (151, Read),
-    (155, Bad(151)),
-    (157, Bad(157)),
-    (158, Bad(155)),
-    (166, Bad(158)),
-    (167, Bad(166)),
-    (170, Bad(167)),
-    (171, Bad(175)),
-    (172, Bad(171)),
-    (174, Bad(174)),
-    (175, Bad(171)),
-    (179, Bad(175)),
-    (181, Bad(181)),
-    (182, Bad(179)),
-    (190, Bad(182)),
-];
+const RUN_ONES: &str = "\
+    4:0 5:4 6:5 14:+ 17:14 18:38 20:20 21:171 29:182 30:29 32:30 34:34 38:+ 41:38 42:190 43:42 76:+ 81:80 89:+ \
+    91:106 95:95 97:+ 101:101 102:+ 104:104 106:129 110:110 111:+ 115:115 116:+ 120:120 121:+ 125:125 127:135 \
+    129:129 130:+ 132:135 133:133 135:+ 138:135 139:151 140:139 142:142 143:155 145:143 147:147 151:+ 155:151 \
+    157:157 158:155 166:158 167:166 170:167 171:175 172:171 174:174 175:171 179:175 181:181 182:179 190:182 ";
 
-/// The answers to the image of the new client with a zero in place of a byte, each with the place behind the last byte that gets it.
-const NEW_ZEROS: [(usize, Answer); 4] = [(4, Bad(0)), (5, Bad(4)), (6, Bad(5)), (22, Read)];
+/// The answers to the image of the new client with a zero in place of a byte: the place behind the last byte that gets it, and where it is
+/// refused, or + where it is read.
+const NEW_ZEROS: &str = "4:0 5:4 6:5 22:+ ";
 
 /// The answers with 255 in place of a byte, and with the byte's bits turned round.
-const NEW_ONES: [(usize, Answer); 7] = [
-    (4, Bad(0)),
-    (5, Bad(4)),
-    (6, Bad(5)),
-    (14, Read),
-    (17, Bad(14)),
-    (21, Bad(18)),
-    (22, Bad(22)),
-];
+const NEW_ONES: &str = "4:0 5:4 6:5 14:+ 17:14 21:18 22:22 ";
 
-/// The answers to the image of the server with a zero in place of a byte, each with the place behind the last byte that gets it.
-const SERVER_ZEROS: [(usize, Answer); 22] = [
-    (4, Bad(0)),
-    (5, Bad(4)),
-    (522, Read),
-    (523, Bad(521)),
-    (524, Bad(523)),
-    (531, Read),
-    (532, Bad(524)),
-    (533, Bad(546)),
-    (534, Read),
-    (535, Bad(533)),
-    (538, Bad(535)),
-    (545, Read),
-    (546, Bad(538)),
-    (547, Bad(547)),
-    (550, Read),
-    (551, Bad(553)),
-    (553, Read),
-    (554, Bad(552)),
-    (555, Bad(554)),
-    (562, Read),
-    (563, Bad(555)),
-    (564, Read),
-];
+/// The answers to the image of the server with a zero in place of a byte: the place behind the last byte that gets it, and where it is
+/// refused, or + where it is read.
+const SERVER_ZEROS: &str = "\
+    4:0 5:4 522:+ 523:521 524:523 531:+ 532:524 533:546 534:+ 535:533 538:535 545:+ 546:538 547:547 550:+ 551:553 \
+    553:+ 554:552 555:554 562:+ 563:555 564:+ ";
 
 /// The answers with 255 in place of a byte, and with the byte's bits turned round.
-const SERVER_ONES: [(usize, Answer); 19] = [
-    (4, Bad(0)),
-    (5, Bad(4)),
-    (517, Read),
-    (520, Bad(517)),
-    (521, Bad(564)),
-    (523, Bad(523)),
-    (524, Bad(533)),
-    (532, Read),
-    (533, Bad(532)),
-    (535, Bad(535)),
-    (536, Bad(546)),
-    (546, Read),
-    (547, Bad(546)),
-    (549, Bad(547)),
-    (551, Bad(551)),
-    (552, Read),
-    (554, Bad(554)),
-    (563, Read),
-    (564, Bad(563)),
-];
+const SERVER_ONES: &str = "\
+    4:0 5:4 517:+ 520:517 521:564 523:523 524:533 532:+ 533:532 535:535 536:546 546:+ 547:546 549:547 551:551 \
+    552:+ 554:554 563:+ 564:563 ";
 
 /// Appends the bytes that the hexadecimal digits spell; other letters stand between them.
 pub(crate) fn put_digits(bytes: &mut Vec<u8>, text: &str) -> Result<(), AllocError> {
@@ -566,11 +271,24 @@ fn answer_with(
 }
 
 /// The answer that a table states for a place: that of the first entry whose end is behind it.
-fn stated(table: &[(usize, Answer)], place: usize) -> Option<Answer> {
-    table
-        .iter()
-        .find(|entry| place < entry.0)
-        .map(|entry| entry.1)
+fn stated(table: &str, place: usize) -> Option<Answer> {
+    let mut end: u32 = 0;
+    let mut number: u32 = 0;
+    let mut is_read = false;
+    for letter in table.bytes() {
+        match letter {
+            b'0'..=b'9' => number = number.wrapping_mul(10).wrapping_add((letter - b'0') as u32),
+            b':' => {
+                end = number;
+                number = 0;
+                is_read = false;
+            }
+            b'+' => is_read = true,
+            _ if place < end as usize => return Some(if is_read { Read } else { Bad(number) }),
+            _ => number = 0,
+        }
+    }
+    None
 }
 
 /// The first place of the image where a changed byte gets another answer than the stated one.
@@ -579,7 +297,7 @@ fn first_wrong_byte(
     reader: Reader,
     image: &[u8],
     change: Change,
-    table: &[(usize, Answer)],
+    table: &str,
 ) -> Result<Option<usize>, AllocError> {
     for (place, byte) in image.iter().enumerate() {
         let byte = changed(change, *byte);
@@ -621,8 +339,8 @@ pub(crate) fn sum_of_answers(
 #[derive(Clone, Copy)]
 struct Wanted<'a> {
     fields: &'a [u32],
-    zeros: &'a [(usize, Answer)],
-    ones: &'a [(usize, Answer)],
+    zeros: &'a str,
+    ones: &'a str,
     turned: u32,
 }
 
@@ -678,8 +396,8 @@ fn wrong_server(alloc: Global, fields: &[u32]) -> Result<Option<&'static str>, A
     let image = server(alloc)?;
     let wanted = Wanted {
         fields,
-        zeros: &SERVER_ZEROS,
-        ones: &SERVER_ONES,
+        zeros: SERVER_ZEROS,
+        ones: SERVER_ONES,
         turned: 3_283_058_140,
     };
     let wrong = wrong(alloc, Reader::Server, &image, &wanted);
@@ -691,8 +409,8 @@ fn wrong_server(alloc: Global, fields: &[u32]) -> Result<Option<&'static str>, A
 fn a_spoilt_client_is_refused_at_its_field(rt: HostRuntime) -> Result<(), Fail> {
     let wanted = Wanted {
         fields: &CLIENT_FIELDS,
-        zeros: &CLIENT_ZEROS,
-        ones: &CLIENT_ONES,
+        zeros: CLIENT_ZEROS,
+        ones: CLIENT_ONES,
         turned: 3_787_517_943,
     };
     assert_eq!(rt; wrong_client(rt.alloc(), CLIENT, &wanted)?, None);
@@ -703,8 +421,8 @@ fn a_spoilt_client_is_refused_at_its_field(rt: HostRuntime) -> Result<(), Fail> 
 fn a_spoilt_client_of_a_run_is_refused_at_its_field(rt: HostRuntime) -> Result<(), Fail> {
     let wanted = Wanted {
         fields: &RUN_FIELDS,
-        zeros: &RUN_ZEROS,
-        ones: &RUN_ONES,
+        zeros: RUN_ZEROS,
+        ones: RUN_ONES,
         turned: 1_270_409_147,
     };
     assert_eq!(rt; wrong_client(rt.alloc(), RUN, &wanted)?, None);
@@ -715,8 +433,8 @@ fn a_spoilt_client_of_a_run_is_refused_at_its_field(rt: HostRuntime) -> Result<(
 fn a_spoilt_new_client_is_refused_at_its_field(rt: HostRuntime) -> Result<(), Fail> {
     let wanted = Wanted {
         fields: &NEW_FIELDS,
-        zeros: &NEW_ZEROS,
-        ones: &NEW_ONES,
+        zeros: NEW_ZEROS,
+        ones: NEW_ONES,
         turned: 786_501_266,
     };
     assert_eq!(rt; wrong_client(rt.alloc(), NEW, &wanted)?, None);
