@@ -3,9 +3,10 @@ ghost use Rattle.std.specs.Prelude.{IfSome};
 ghost use Rattle.world_rules.specs.Asking.{IsRequest};
 
 use super::bytes::bytes_of;
-use super::network::{Network, network_with};
-use super::tests::{EMPTY, PULL, left, operation};
+use super::network::{Network, leaving, network_of};
+use super::tests::{EMPTY, PULL, operation};
 use mem_net::Fate;
+use server_core::Server;
 use std::alloc::{AllocError, Global};
 use std::rt::HostRuntime;
 use std::test::Fail;
@@ -41,74 +42,122 @@ fn ask(alloc: Global, net: &mut Network, frame: &[u8]) -> Result<Vec<u8>, LinkEr
     }
 }
 
-/// The kind of each packet, in the order of sending.
-fn kinds(alloc: Global, net: &Network) -> Result<Vec<u8>, AllocError> {
-    let mut kinds = Vec::new(alloc);
-    for k in 0..u32::MAX {
-        match net.packet(k) {
-            Some(frame) => kinds.push(frame.get(5).copied().unwrap_or(0))?,
-            None => break,
-        }
-    }
-    Ok(kinds)
+/// What client 1 asks for.
+#[derive(Clone, Copy)]
+enum Asked {
+    /// An operation on nothing.
+    Operation,
+    /// All rows.
+    Pull,
 }
 
-/// The kinds of the packets once these frames were asked of client 1's network, and whether the last had a reply. The runs of
-/// the surrogate leave what the client's left.
-fn asked(alloc: Global, fates: Vec<Fate>, frames: &[&[u8]]) -> Result<(Vec<u8>, bool), Fail> {
-    let mut net = network_with(alloc, left(alloc, 0, b"hello\n")?, fates)?;
-    let mut replied = false;
-    for frame in frames {
-        replied = ask(alloc, &mut net, frame).is_ok();
+fn frame_of(alloc: Global, asked: Asked) -> Result<Vec<u8>, AllocError> {
+    match asked {
+        Asked::Operation => operation(alloc, EMPTY, 0),
+        Asked::Pull => bytes_of(alloc, PULL),
     }
-    let kinds = kinds(alloc, &net);
+}
+
+/// Asks for it; whether there was a reply.
+fn ask_for(alloc: Global, net: &mut Network, asked: Asked) -> Result<bool, AllocError> {
+    let frame = frame_of(alloc, asked)?;
+    let reply = ask(alloc, net, &frame);
+    drop(frame);
+    let replied = reply.is_ok();
+    drop(reply);
+    Ok(replied)
+}
+
+/// Asks for each; whether the last had a reply.
+fn ask_each(alloc: Global, net: &mut Network, asks: &[Asked]) -> Result<bool, AllocError> {
+    let mut replied = false;
+    for asked in asks {
+        replied = ask_for(alloc, net, *asked)?;
+    }
+    Ok(replied)
+}
+
+/// Whether the packets are of these kinds, in the order of sending.
+fn has_kinds(net: &Network, kinds: &[u8]) -> bool {
+    for k in 0..u32::MAX {
+        match net.packet(k) {
+            Some(frame) if frame.get(5) == kinds.get(k as usize) => {}
+            Some(_) => return false,
+            None => return k as usize == kinds.len(),
+        }
+    }
+    false
+}
+
+/// The network of client 1 with these fates. The runs of its surrogate leave what the client's left.
+fn network(alloc: Global, fates: Vec<Fate>) -> Result<Network, AllocError> {
+    match leaving(alloc, 0, &[("a", b"hello\n")]) {
+        Ok(runner) => network_of(alloc, Server::new(alloc), runner, fates),
+        Err(refused) => {
+            drop(fates);
+            Err(refused)
+        }
+    }
+}
+
+/// Whether the packets are of these kinds once client 1 asked for these over a network with these fates, and whether the
+/// last had a reply.
+fn sends(
+    alloc: Global,
+    fates: Vec<Fate>,
+    asks: &[Asked],
+    kinds: &[u8],
+) -> Result<(bool, bool), AllocError> {
+    let mut net = network(alloc, fates)?;
+    let replied = ask_each(alloc, &mut net, asks);
+    let same = has_kinds(&net, kinds);
     drop(net);
-    Ok((kinds?, replied))
+    Ok((same, replied?))
 }
 
 #[test]
 fn an_operation_is_handled_over_the_same_packets(rt: HostRuntime) -> Result<(), Fail> {
-    let alloc = rt.alloc();
-    let frame = operation(alloc, EMPTY, 0)?;
-    let seen = asked(alloc, Vec::new(alloc), &[&frame])?;
-    assert_eq!(rt; seen, (vec![in alloc; 2, 1, 17, 22]?, true));
+    let once = [Asked::Operation];
+    let seen = sends(rt.alloc(), Vec::new(rt.alloc()), &once, &[2, 1, 17, 22])?;
+    assert!(rt; seen == (true, true));
     // its own ask loses the store once, and skips the operation that comes late meanwhile
-    let fates = vec![in alloc; Fate::Pass, Fate::LoseRequest, Fate::Late(0), Fate::Pass]?;
-    let seen = asked(alloc, fates, &[&frame])?;
-    assert_eq!(rt; seen, (vec![in alloc; 2, 1, 1, 17, 22]?, true));
+    let fates = vec![in rt.alloc(); Fate::Pass, Fate::LoseRequest, Fate::Late(0), Fate::Pass]?;
+    let seen = sends(rt.alloc(), fates, &once, &[2, 1, 1, 17, 22])?;
+    assert!(rt; seen == (true, true));
     Ok(())
 }
 
 /// The second handling finds another job, in its copy and in the snapshot.
 #[test]
 fn an_operation_that_comes_twice_is_done_once(rt: HostRuntime) -> Result<(), Fail> {
-    let alloc = rt.alloc();
-    let frame = operation(alloc, EMPTY, 0)?;
-    let twice = vec![in alloc; 2, 1, 17, 22, 3, 21, 23]?;
-    let seen = asked(alloc, vec![in alloc; Fate::Twice]?, &[&frame])?;
-    assert_eq!(rt; seen, (twice, true));
+    let fates = vec![in rt.alloc(); Fate::Twice]?;
+    let seen = sends(
+        rt.alloc(),
+        fates,
+        &[Asked::Operation],
+        &[2, 1, 17, 22, 3, 21, 23],
+    )?;
+    assert!(rt; seen == (true, true));
     Ok(())
 }
 
 #[test]
 fn a_late_operation_is_handled_before_a_server_s_ask(rt: HostRuntime) -> Result<(), Fail> {
-    let alloc = rt.alloc();
-    let frame = operation(alloc, EMPTY, 0)?;
-    let pull = bytes_of(alloc, PULL)?;
-    let fates = vec![in alloc; Fate::LoseRequest, Fate::Late(0)]?;
-    let seen = asked(alloc, fates, &[&frame, &pull])?;
-    assert_eq!(rt; seen, (vec![in alloc; 2, 3, 1, 17, 22, 21]?, true));
+    let fates = vec![in rt.alloc(); Fate::LoseRequest, Fate::Late(0)]?;
+    let asks = [Asked::Operation, Asked::Pull];
+    let seen = sends(rt.alloc(), fates, &asks, &[2, 3, 1, 17, 22, 21])?;
+    assert!(rt; seen == (true, true));
     Ok(())
 }
 
 #[test]
 fn an_operation_whose_reply_is_lost_is_handled(rt: HostRuntime) -> Result<(), Fail> {
-    let alloc = rt.alloc();
-    let frame = operation(alloc, EMPTY, 0)?;
-    let seen = asked(alloc, vec![in alloc; Fate::LoseReply]?, &[&frame])?;
-    assert_eq!(rt; seen, (vec![in alloc; 2, 1, 17, 22]?, false));
-    let fates = vec![in alloc; Fate::LoseReply, Fate::Pass, Fate::Old(3)]?;
-    let seen = asked(alloc, fates, &[&frame, &frame])?;
-    assert_eq!(rt; seen, (vec![in alloc; 2, 1, 17, 22, 2]?, true));
+    let fates = vec![in rt.alloc(); Fate::LoseReply]?;
+    let seen = sends(rt.alloc(), fates, &[Asked::Operation], &[2, 1, 17, 22])?;
+    assert!(rt; seen == (true, false));
+    let fates = vec![in rt.alloc(); Fate::LoseReply, Fate::Pass, Fate::Old(3)]?;
+    let asks = [Asked::Operation, Asked::Operation];
+    let seen = sends(rt.alloc(), fates, &asks, &[2, 1, 17, 22, 2])?;
+    assert!(rt; seen == (true, true));
     Ok(())
 }

@@ -2,15 +2,13 @@
 //! computed the prints and the parities.
 
 use super::bytes::bytes_of;
-use super::network::{Network, network_of};
-use cmd_capture::{Outcome, RawRow, RawRows, ScriptAnswer, ScriptRunner};
+use super::network::{File, Network, leaving, network_of, replies};
+use cmd_capture::ScriptRunner;
 use server_core::Server;
 use std::alloc::{AllocError, Global};
 use std::rt::HostRuntime;
 use std::test::Fail;
-use surrogate_core::Surrogate;
-use vol_tree::{Content, Node, Path};
-use wire_frames::{read, write};
+use vol_tree::{Node, Path};
 
 /// Client 1's entry 1: `/bin/sh -c 'date > a'` on nothing, and of what it made the sketch of `OWN` at `a`.
 const STAMP: &str = "000000ce 01 02 01 0000000000000001 \
@@ -43,134 +41,113 @@ const OTHER_STAMP: &str = "0000000f 01 17 01 0000000000000001 07 000161";
 /// The replay differs first at `ccA1b2.o`.
 const OTHER_OBJECT: &str = "00000016 01 17 01 0000000000000001 07 0008 6363413162322e6f";
 
-/// A run that ended well, and left these files.
-fn left(alloc: Global, files: &[(&str, &[u8])]) -> Result<ScriptRunner, AllocError> {
-    let mut rows = RawRows::new(alloc);
-    for (name, bytes) in files {
-        let path = Content::of(alloc, name.as_bytes())?;
-        let node = Node::File(Content::of(alloc, bytes)?);
-        rows.push(RawRow { path, node })?;
-    }
-    let mut answers = Vec::new(alloc);
-    answers.push(ScriptAnswer::Give(Outcome { status: 0, rows }))?;
-    Ok(ScriptRunner::new(alloc, answers))
+/// Whether the server of the network has a file of these bytes at the path; where it has no file there, whether there are none.
+fn holds(alloc: Global, net: &Network, file: File) -> Result<bool, Fail> {
+    let path = Path::read(alloc, file.0.as_bytes())?;
+    let held = match net.server().tree().get(&path) {
+        Some(Node::File(content)) => content.bytes() == file.1,
+        _ => file.1.is_empty(),
+    };
+    drop(path);
+    Ok(held)
 }
 
-/// The bytes of the file that the server of the network has at the path; none where it has no file there.
-fn held(alloc: Global, net: &Network, name: &str) -> Result<Vec<u8>, Fail> {
-    let path = Path::read(alloc, name.as_bytes())?;
-    let mut bytes = Vec::new(alloc);
-    if let Some(Node::File(content)) = net.server().tree().get(&path) {
-        bytes.extend_from_slice(content.bytes())?;
-    }
-    Ok(bytes)
+/// The network of client 1 and a new server.
+fn network(alloc: Global) -> Result<Network, AllocError> {
+    let runner = ScriptRunner::new(alloc, Vec::new(alloc));
+    network_of(alloc, Server::new(alloc), runner, Vec::new(alloc))
 }
 
-/// The frame of the reply to the operation, whose run is given by the runner.
-fn answer(
+/// Whether the operation, whose run leaves these files, has this reply.
+fn is_replied(
     alloc: Global,
-    frame: &str,
-    runner: &mut ScriptRunner,
+    frame: &[u8],
+    files: &[File],
     net: &mut Network,
-) -> Result<Vec<u8>, Fail> {
-    let frame = bytes_of(alloc, frame)?;
-    let Ok(request) = read(alloc, &frame) else {
-        return Err(Fail::from("no frame"));
-    };
-    let mut surrogate = Surrogate::new(alloc);
-    let Ok(reply) = surrogate.serve(request, b"work", runner, net, b"server") else {
-        return Err(Fail::from("no memory"));
-    };
-    let written = write(alloc, &reply);
-    drop(reply);
-    Ok(written?)
+    reply: &str,
+) -> Result<bool, Fail> {
+    let mut runner = leaving(alloc, 0, files)?;
+    let told = replies(alloc, frame, &mut runner, net, reply);
+    drop(runner);
+    Ok(told?.0)
 }
 
-/// Whether the operation, whose run leaves these files, is answered so, and the server then has these bytes at the path.
+/// The same of the operation of these digits.
+fn is_replied_to(
+    alloc: Global,
+    operation: &str,
+    files: &[File],
+    net: &mut Network,
+    reply: &str,
+) -> Result<bool, Fail> {
+    let frame = bytes_of(alloc, operation)?;
+    let same = is_replied(alloc, &frame, files, net, reply);
+    drop(frame);
+    same
+}
+
+/// Whether it has this reply, and the server then has this file.
+fn replies_and_holds(
+    alloc: Global,
+    net: &mut Network,
+    operation: &str,
+    files: &[File],
+    reply: &str,
+    held: File,
+) -> Result<bool, Fail> {
+    let replied = is_replied_to(alloc, operation, files, net, reply)?;
+    Ok(replied && holds(alloc, net, held)?)
+}
+
+/// The same over a network of its own.
 fn is_answered(
     alloc: Global,
-    frame: &str,
-    files: &[(&str, &[u8])],
+    operation: &str,
+    files: &[File],
     reply: &str,
-    name: &str,
-    bytes: &[u8],
+    held: File,
 ) -> Result<bool, Fail> {
-    let (seen, held) = answered(alloc, frame, files, name)?;
-    let wanted = bytes_of(alloc, reply)?;
-    Ok(seen == wanted && held.as_slice() == bytes)
-}
-
-/// The frame of the reply to the operation, whose run leaves these files, and the bytes that the server then has at the path.
-fn answered(
-    alloc: Global,
-    frame: &str,
-    files: &[(&str, &[u8])],
-    name: &str,
-) -> Result<(Vec<u8>, Vec<u8>), Fail> {
-    let mut runner = left(alloc, files)?;
-    let mut net = match network_of(alloc, Server::new(alloc), Vec::new(alloc)) {
-        Ok(net) => net,
-        Err(refused) => {
-            drop(runner);
-            return Err(Fail::from(refused));
-        }
-    };
-    let seen = match answer(alloc, frame, &mut runner, &mut net) {
-        Ok(seen) => seen,
-        Err(fail) => {
-            drop(net);
-            drop(runner);
-            return Err(fail);
-        }
-    };
-    let bytes = held(alloc, &net, name);
+    let mut net = network(alloc)?;
+    let told = replies_and_holds(alloc, &mut net, operation, files, reply, held);
     drop(net);
-    drop(runner);
-    Ok((seen, bytes?))
+    told
 }
 
 /// Whether a run that leaves this content at `a` is done, with the client's content at the server.
 fn is_repaired(alloc: Global, content: &[u8]) -> Result<bool, Fail> {
-    is_answered(alloc, STAMP, &[("a", content)], DONE, "a", OWN)
+    is_answered(alloc, STAMP, &[("a", content)], DONE, ("a", OWN))
 }
 
 /// Whether one that leaves this content at `a` is declined there.
 fn is_declined(alloc: Global, content: &[u8]) -> Result<bool, Fail> {
-    is_answered(alloc, STAMP, &[("a", content)], OTHER_STAMP, "a", b"")
+    is_answered(alloc, STAMP, &[("a", content)], OTHER_STAMP, ("a", b""))
 }
 
 #[test]
 fn sixteen_symbols_are_repaired_on_the_way(rt: HostRuntime) -> Result<(), Fail> {
-    let alloc = rt.alloc();
-    assert!(rt; is_repaired(alloc, b"____________________klmnopqrstuvwxyz")?);
-    assert!(rt; is_repaired(alloc, b"________________________________wxyz")?);
+    assert!(rt; is_repaired(rt.alloc(), b"____________________klmnopqrstuvwxyz")?);
+    assert!(rt; is_repaired(rt.alloc(), b"________________________________wxyz")?);
     Ok(())
 }
 
 #[test]
 fn seventeen_symbols_and_another_length_are_declined(rt: HostRuntime) -> Result<(), Fail> {
-    let alloc = rt.alloc();
-    assert!(rt; is_declined(alloc, b"__________________________________yz")?);
-    assert!(rt; is_declined(alloc, b"0123456789abcdefghijklmnopqrstuvwxyz\n")?);
+    assert!(rt; is_declined(rt.alloc(), b"__________________________________yz")?);
+    assert!(rt; is_declined(rt.alloc(), b"0123456789abcdefghijklmnopqrstuvwxyz\n")?);
     Ok(())
 }
 
 #[test]
 fn a_temporary_name_of_the_replay_is_the_client_s(rt: HostRuntime) -> Result<(), Fail> {
-    let alloc = rt.alloc();
-    let files = [("ccZ9y8.o", b"hello\n".as_slice())];
-    assert!(rt; is_answered(alloc, OBJECT, &files, DONE, "ccA1b2.o", b"hello\n")?);
+    let files: [File; 1] = [("ccZ9y8.o", b"hello\n")];
+    assert!(rt; is_answered(rt.alloc(), OBJECT, &files, DONE, ("ccA1b2.o", b"hello\n"))?);
     Ok(())
 }
 
 /// Neither of two can be told to be the client's one.
 #[test]
 fn two_temporary_names_for_one_are_declined(rt: HostRuntime) -> Result<(), Fail> {
-    let alloc = rt.alloc();
-    let files = [
-        ("ccQ1q1.o", b"hallo\n".as_slice()),
-        ("ccZ9y8.o", b"hullo\n".as_slice()),
-    ];
-    assert!(rt; is_answered(alloc, OBJECT, &files, OTHER_OBJECT, "ccA1b2.o", b"")?);
+    let files: [File; 2] = [("ccQ1q1.o", b"hallo\n"), ("ccZ9y8.o", b"hullo\n")];
+    assert!(rt; is_answered(rt.alloc(), OBJECT, &files, OTHER_OBJECT, ("ccA1b2.o", b""))?);
     Ok(())
 }
