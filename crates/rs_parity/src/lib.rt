@@ -7,8 +7,6 @@ mod laws;
 mod parities;
 mod sketch;
 mod spelling;
-#[cfg(test)]
-mod vectors;
 
 pub use encoder::{PARITY, parity, symbol_at};
 pub use laws::{

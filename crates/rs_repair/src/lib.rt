@@ -7,8 +7,6 @@ mod content;
 mod elimination;
 mod errors;
 mod laws;
-#[cfg(test)]
-mod vectors;
 
 pub use content::repair;
 pub use laws::{near_contents_are_repaired, one_repair};

@@ -3,8 +3,9 @@
 //! The parities were computed in Python without a division: the 32 equations that make a word a code word, solved for the check
 //! symbols by elimination, with a field made of logarithms to the base 2. The print is the published SHA-256 of no bytes.
 
-use super::*;
 use byte_fields::TakeError;
+use rs_parity::{BLOCK, PARITY, Sketch, parity, sketch_of};
+use std::rt::HostRuntime;
 
 /// The parity of the block 01 02 03, whose last symbol is 0300.
 const OF_ODD_BLOCK: [u16; PARITY] = [

@@ -3,9 +3,10 @@
 //! The random cases were repaired in Python by another decoder: the parities from the 32 equations that make a word a code word, the
 //! errors from the extended algorithm of Euclid and Forney's formula, a field of logarithms to the base 2.
 
-use super::*;
 use rs_parity::{BLOCK, PARITY, Parities, Sketch, parity, sketch_of};
+use rs_repair::repair;
 use std::alloc::{AllocError, Global};
+use std::rt::HostRuntime;
 
 /// For each seed the digest of the repaired bytes of the case, or 0 where they are beyond repair.
 const REPAIRED: [u32; 300] = [
