@@ -13,7 +13,7 @@ use rs_parity::sketch_of;
 use std::alloc::{AllocError, Global};
 use std::env;
 use std::time::Instant;
-use temp_names::{rename, renaming};
+use temp_names::{Renamed, rename, renaming};
 use vol_tree::{Content, Node, Path, TryCopy};
 use work_area::{changes, rows_of};
 
@@ -77,11 +77,12 @@ fn objects(alloc: Global, files: u32) -> Result<RawRows, AllocError> {
     Ok(rows)
 }
 
-fn legal(alloc: Global, rows: &RawRows) -> Result<JobRows, anyhow::Error>
+fn legal(alloc: Global, rows: RawRows) -> Result<JobRows, anyhow::Error>
     ensures { IfOk result AreJobRows }
 {
-    let rows = rows_of(alloc, rows)?;
-    Ok(rows)
+    let legal = rows_of(alloc, &rows);
+    drop(rows);
+    Ok(legal?)
 }
 
 /// The rows as a runner gives them.
@@ -96,27 +97,101 @@ fn raw(alloc: Global, rows: &JobRows) -> Result<RawRows, AllocError> {
     Ok(raws)
 }
 
+/// The rows as they are after a run that left these.
+fn left_again(alloc: Global, rows: JobRows) -> Result<JobRows, anyhow::Error>
+    ensures { IfOk result AreJobRows }
+{
+    let raws = raw(alloc, &rows);
+    drop(rows);
+    legal(alloc, raws?)
+}
+
+fn templates_of(alloc: Global) -> Result<Templates, AllocError> {
+    let template = Content::of(alloc, b"cc??????.o")?;
+    let mut templates = Templates::new(alloc);
+    templates.push(template)?;
+    Ok(templates)
+}
+
+/// Which files get which names, and the nanoseconds in which that was found.
+#[derive(Drop)]
+struct Naming {
+    pairs: Vec<Renamed>,
+    nanos: u128,
+}
+
+fn time_naming(
+    rt: &HostRuntime,
+    effects: &SketchEffects,
+    job: &JobRows,
+    left: &JobRows,
+) -> Result<Naming, anyhow::Error> {
+    let templates = templates_of(rt.alloc())?;
+    let start = Instant::now(rt)?;
+    let pairs = renaming(rt.alloc(), &templates, effects, job, left)?;
+    let nanos = start.elapsed(rt)?.as_nanos();
+    Ok(Naming { pairs, nanos })
+}
+
+/// How many changes a run made, and the nanoseconds in which they were listed.
+#[derive(Clone, Copy, Debug)]
+struct Listing {
+    made: usize,
+    nanos: u128,
+}
+
+fn time_changes(
+    rt: &HostRuntime,
+    before: &JobRows,
+    after: &JobRows,
+) -> Result<Listing, anyhow::Error>
+    requires before { AreJobRows before.now }
+    requires after { AreJobRows after.now }
+{
+    let start = Instant::now(rt)?;
+    let list = changes(rt.alloc(), before, after)?;
+    let nanos = start.elapsed(rt)?.as_nanos();
+    Ok(Listing {
+        made: list.len(),
+        nanos,
+    })
+}
+
+/// Gives the files their names, makes the change list, and prints what was timed.
+fn measure_named(
+    rt: &HostRuntime,
+    files: u32,
+    job: &JobRows,
+    left: JobRows,
+    naming: &Naming,
+) -> Result<(), anyhow::Error>
+    requires { AreJobRows job.now }
+{
+    let start = Instant::now(rt)?;
+    let renamed = rename(rt.alloc(), left, &naming.pairs)?;
+    let moving = start.elapsed(rt)?.as_nanos();
+    let after = left_again(rt.alloc(), renamed)?;
+    let listing = time_changes(rt, job, &after);
+    drop(after);
+    let listing = listing?;
+    println!(rt;
+        "{files} {} {} {moving} {} {}",
+        naming.pairs.len(),
+        naming.nanos,
+        listing.made,
+        listing.nanos
+    )?;
+    Ok(())
+}
+
 /// Times a renaming of so many files.
 fn measure(rt: &HostRuntime, files: u32) -> Result<(), anyhow::Error> {
-    let alloc = rt.alloc();
-    let mut templates = Templates::new(alloc);
-    templates.push(Content::of(alloc, b"cc??????.o")?)?;
-    let effects = effects_of(alloc, files)?;
-    let job = legal(alloc, &folder(alloc)?)?;
-    let left = legal(alloc, &objects(alloc, files)?)?;
-    let start = Instant::now(rt)?;
-    let pairs = renaming(alloc, &templates, &effects, &job, &left)?;
-    let naming = start.elapsed(rt)?.as_nanos();
-    let start = Instant::now(rt)?;
-    let renamed = rename(alloc, left, &pairs)?;
-    let moving = start.elapsed(rt)?.as_nanos();
-    let after = legal(alloc, &raw(alloc, &renamed)?)?;
-    let start = Instant::now(rt)?;
-    let list = changes(alloc, &job, &after)?;
-    let changing = start.elapsed(rt)?.as_nanos();
-    let (found, made) = (pairs.len(), list.len());
-    println!(rt; "{files} {found} {naming} {moving} {made} {changing}")?;
-    Ok(())
+    let job = legal(rt.alloc(), folder(rt.alloc())?)?;
+    let left = legal(rt.alloc(), objects(rt.alloc(), files)?)?;
+    let effects = effects_of(rt.alloc(), files)?;
+    let naming = time_naming(rt, &effects, &job, &left);
+    drop(effects);
+    measure_named(rt, files, &job, left, &naming?)
 }
 
 fn main(rt: HostRuntime) -> Result<(), anyhow::Error> {

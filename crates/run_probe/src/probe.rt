@@ -144,20 +144,36 @@ impl Probe {
         input: &[u8],
         fails: Fails,
     ) -> Result<Vec<u8>, AllocError> {
-        let mut source = MemSource::new(self.alloc, input.to_vec(self.alloc)?, fails.source);
         let mut output = MemSink::new(self.alloc, fails.sink);
+        let ended = self.end_by(words, input, fails.source, &mut output);
+        let told = match ended {
+            Ok(status) => told_by(self.alloc, output.bytes(), status),
+            Err(refused) => Err(refused),
+        };
+        drop(output);
+        told
+    }
+
+    /// The status of a client that is started by these words, where these calls of its source fail.
+    fn end_by(
+        &mut self,
+        words: &[String],
+        input: &[u8],
+        source_fails: Vec<u32>,
+        output: &mut MemSink,
+    ) -> Result<u8, AllocError> {
+        let mut source = MemSource::new(self.alloc, input.to_vec(self.alloc)?, source_fails);
         let status = client_run(
             self.alloc,
             words,
             &mut source,
-            &mut output,
+            output,
             &mut self.keeper,
             &mut self.runner,
             &mut self.net,
         );
-        let mut told = output.bytes().to_vec(self.alloc)?;
-        write_text(&mut told, &format!(in self.alloc; "status {status}\n")?)?;
-        Ok(told)
+        drop(source);
+        Ok(status)
     }
 
     /// The troubles of the network, the server's last number of client 1, each packet that was sent, and each row of the
@@ -170,6 +186,13 @@ impl Probe {
     pub fn rows(&self) -> Result<Vec<u8>, AllocError> {
         rows_of_server(self.alloc, self.net.server())
     }
+}
+
+/// What was written, and the status in a line behind.
+fn told_by(alloc: Global, written: &[u8], status: u8) -> Result<Vec<u8>, AllocError> {
+    let mut told = written.to_vec(alloc)?;
+    write_text(&mut told, &format!(in alloc; "status {status}\n")?)?;
+    Ok(told)
 }
 
 /// A keeper of this image that does not fail.

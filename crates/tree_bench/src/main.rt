@@ -98,6 +98,14 @@ fn find_texts(map: &BTreeMap<Vec<u8>, u32>, texts: &[Vec<u8>], count: usize) -> 
     found
 }
 
+/// The tree of so many folders in the root, without files.
+fn folder_tree(alloc: Global, folders: u32) -> Result<Tree, anyhow::Error> {
+    let texts = folder_texts(alloc, folders)?;
+    let paths = paths_of(alloc, &texts);
+    drop(texts);
+    tree_of(alloc, &paths?)
+}
+
 /// The tree of these folders without files.
 fn tree_of(alloc: Global, folders: &[Path]) -> Result<Tree, anyhow::Error> {
     let mut tree = Tree::new(alloc);
@@ -118,29 +126,67 @@ fn map_of(alloc: Global, texts: &[Vec<u8>]) -> Result<BTreeMap<Vec<u8>, u32>, Al
     Ok(map)
 }
 
+/// What was counted while a time passed, and that time in nanoseconds.
+#[derive(Clone, Copy, Debug)]
+struct Timing {
+    count: usize,
+    nanos: u128,
+}
+
+/// What was counted since `start`.
+fn timed(rt: &HostRuntime, start: Instant, count: usize) -> Result<Timing, anyhow::Error> {
+    let nanos = start.elapsed(rt)?.as_nanos();
+    Ok(Timing { count, nanos })
+}
+
+fn time_finds(rt: &HostRuntime, tree: &Tree, paths: &[Path]) -> Result<Timing, anyhow::Error> {
+    let start = Instant::now(rt)?;
+    timed(rt, start, find(tree, paths, FINDS))
+}
+
+fn time_puts(rt: &HostRuntime, tree: &mut Tree, puts: &[Effect]) -> Result<Timing, anyhow::Error> {
+    let start = Instant::now(rt)?;
+    timed(rt, start, apply(tree, puts, PUTS))
+}
+
+/// Times look-ups of the texts in a map of them.
+fn time_texts(rt: &HostRuntime, texts: &[Vec<u8>]) -> Result<Timing, anyhow::Error> {
+    let map = map_of(rt.alloc(), texts)?;
+    let start = Instant::now(rt)?;
+    timed(rt, start, find_texts(&map, texts, FINDS))
+}
+
+/// Puts the files at these paths into the tree, and prints what was timed of that tree, and of the texts in a map.
+fn measure_files(
+    rt: &HostRuntime,
+    tree: &mut Tree,
+    texts: &[Vec<u8>],
+    paths: &[Path],
+) -> Result<(), anyhow::Error> {
+    let puts = puts_of(rt.alloc(), paths)?;
+    let made = apply(tree, &puts, puts.len());
+    let finds = time_finds(rt, tree, paths);
+    let applied = time_puts(rt, tree, &puts);
+    drop(puts);
+    let (finds, applied) = (finds?, applied?);
+    let known = time_texts(rt, texts)?;
+    let count = tree.count();
+    println!(rt;
+        "{count} {made} {} {} {} {} {} {}",
+        finds.count, finds.nanos, applied.count, applied.nanos, known.count, known.nanos
+    )?;
+    Ok(())
+}
+
 /// Times a tree of so many rows, `folders` of which are folders.
 fn measure(rt: &HostRuntime, folders: u32, rows: u32) -> Result<(), anyhow::Error>
     requires { 0 < folders }
 {
     let alloc = rt.alloc();
-    let mut tree = tree_of(alloc, &paths_of(alloc, &folder_texts(alloc, folders)?)?)?;
+    let mut tree = folder_tree(alloc, folders)?;
     let texts = file_texts(alloc, folders, rows.saturating_sub(folders))?;
     let paths = paths_of(alloc, &texts)?;
-    let puts = puts_of(alloc, &paths)?;
-    let made = apply(&mut tree, &puts, puts.len());
-    let start = Instant::now(rt)?;
-    let found = find(&tree, &paths, FINDS);
-    let finding = start.elapsed(rt)?.as_nanos();
-    let start = Instant::now(rt)?;
-    let applied = apply(&mut tree, &puts, PUTS);
-    let putting = start.elapsed(rt)?.as_nanos();
-    let map = map_of(alloc, &texts)?;
-    let start = Instant::now(rt)?;
-    let known = find_texts(&map, &texts, FINDS);
-    let knowing = start.elapsed(rt)?.as_nanos();
-    let count = tree.count();
-    println!(rt; "{count} {made} {found} {finding} {applied} {putting} {known} {knowing}")?;
-    Ok(())
+    measure_files(rt, &mut tree, &texts, &paths)
 }
 
 fn main(rt: HostRuntime) -> Result<(), anyhow::Error> {
