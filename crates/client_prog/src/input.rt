@@ -28,7 +28,7 @@ pub enum InputEnd {
 }
 
 /// Reads an input piece by piece and cuts it into lines, so that each can be answered before more is waited for.
-#[derive(Debug, Drop)]
+#[derive(Drop)]
 pub(crate) struct LineReader {
     buffer: LineBuffer,
     count: usize,

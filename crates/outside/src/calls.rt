@@ -3,7 +3,7 @@ ghost use Rattle.outside.specs.Outside.{raised};
 ghost use Rattle.outside.specs.Memory.{one_more};
 
 /// The calls that were made of an object in memory, and its faults. Each count stands still at its type's end.
-#[derive(Clone, Copy, Debug)]
+#[derive(Clone, Copy)]
 pub(crate) struct Calls {
     pub(crate) made: u64,
     pub(crate) faults: u64,

@@ -15,7 +15,7 @@ use std::alloc::AllocError;
 use store_image::{MAX_RECORDS, ServerRecord, write_server_record};
 
 /// What this run has kept of the server.
-#[derive(Clone, Copy, Debug)]
+#[derive(Clone, Copy)]
 pub(crate) enum Journal {
     /// Nothing yet. What an earlier run has left may end in a torn record.
     Unsaved,

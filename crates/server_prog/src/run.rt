@@ -20,7 +20,7 @@ use std::alloc::Global;
 use store_image::{ImageError, read_server};
 
 /// Why a run ended without its last line.
-#[derive(Clone, Copy, Debug)]
+#[derive(Clone, Copy)]
 pub(crate) enum Stopped {
     /// The sink failed.
     Sink,

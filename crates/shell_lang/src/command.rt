@@ -12,7 +12,7 @@ use std::alloc::{AllocError, Global};
 use vol_tree::{Content, TryCopy};
 
 /// What the first word of a line names.
-#[derive(Copy, Clone, Debug, Drop)]
+#[derive(Copy, Clone, Drop)]
 pub(crate) enum Command {
     Put,
     Make,

@@ -17,7 +17,7 @@ use surrogate_core::Surrogate;
 use world_rules::Link;
 
 /// Why a run ended without its last line.
-#[derive(Clone, Copy, Debug)]
+#[derive(Clone, Copy)]
 pub(crate) enum Stopped {
     /// The sink failed.
     Sink,

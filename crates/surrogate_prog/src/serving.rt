@@ -15,7 +15,7 @@ use wire_frames::{FrameError, Message, malformed, read, write};
 use world_rules::Link;
 
 /// Whom a surrogate asks, and where it works.
-#[derive(Clone, Copy, Debug)]
+#[derive(Clone, Copy)]
 pub(crate) struct Route<'a> {
     /// Its server's address.
     pub(crate) server: &'a [u8],
