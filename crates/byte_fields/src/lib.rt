@@ -19,6 +19,3 @@ pub use laws::{
 pub use numbers::saturate_u32;
 pub use put::{put_u16, put_u32, put_u64};
 pub use records::{is_torn, take_until_end};
-
-#[cfg(test)]
-mod tests;

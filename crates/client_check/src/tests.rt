@@ -10,7 +10,7 @@ fn a_put_is_synced(rt: HostRuntime) -> Result<(), Fail> {
     let account = account_of(rt.alloc(), b"put a hello\nsync\n")?;
     let wanted = b"logged 1\nsynced 1\nacknowledged 1 pending 0\nstatus 0\ntroubles 0\nlast 1\n\
         sent 1 Store 1 a 0\nsent 1 Accepted 1\nrow a 1 file 6\nhello\n";
-    assert_eq!(rt; account.as_slice(), wanted.as_slice());
+    assert!(rt; account.as_slice() == wanted.as_slice());
     Ok(())
 }
 
@@ -18,7 +18,7 @@ fn a_put_is_synced(rt: HostRuntime) -> Result<(), Fail> {
 fn the_last_line_needs_no_end(rt: HostRuntime) -> Result<(), Fail> {
     let told = told(rt.alloc(), b"put a hello\nsync")?;
     let wanted = b"logged 1\nsynced 1\nacknowledged 1 pending 0\nstatus 0\n";
-    assert_eq!(rt; told.as_slice(), wanted.as_slice());
+    assert!(rt; told.as_slice() == wanted.as_slice());
     Ok(())
 }
 
@@ -31,7 +31,7 @@ fn a_lost_reply_is_asked_for_again(rt: HostRuntime) -> Result<(), Fail> {
     let wanted = b"logged 1\nsynced 1\nacknowledged 1 pending 0\nstatus 0\ntroubles 1\nlast 1\n\
         sent 1 Store 1 a 0\nsent 1 Accepted 1\nsent 1 Store 1 a 0\nsent 1 Accepted 1\n\
         row a 1 file 6\nhello\n";
-    assert_eq!(rt; account.as_slice(), wanted.as_slice());
+    assert!(rt; account.as_slice() == wanted.as_slice());
     Ok(())
 }
 
@@ -43,7 +43,7 @@ fn a_lost_request_is_sent_again(rt: HostRuntime) -> Result<(), Fail> {
     let wanted = b"logged 1\nsynced 1\nacknowledged 1 pending 0\nstatus 0\ntroubles 2\nlast 1\n\
         sent 1 Store 1 a 0\nsent 1 Store 1 a 0\nsent 1 Store 1 a 0\nsent 1 Accepted 1\n\
         row a 1 file 6\nhello\n";
-    assert_eq!(rt; account.as_slice(), wanted.as_slice());
+    assert!(rt; account.as_slice() == wanted.as_slice());
     Ok(())
 }
 
@@ -51,7 +51,7 @@ fn a_lost_request_is_sent_again(rt: HostRuntime) -> Result<(), Fail> {
 fn an_empty_input_is_closed(rt: HostRuntime) -> Result<(), Fail> {
     let account = account_of(rt.alloc(), b"")?;
     let wanted = b"acknowledged 0 pending 0\nstatus 0\ntroubles 0\nlast 0\n";
-    assert_eq!(rt; account.as_slice(), wanted.as_slice());
+    assert!(rt; account.as_slice() == wanted.as_slice());
     Ok(())
 }
 
@@ -63,7 +63,7 @@ fn entries_on_one_path_are_synced_in_order(rt: HostRuntime) -> Result<(), Fail> 
         b"logged 1\nlogged 2\nlogged 3\nsynced 3\nacknowledged 3 pending 0\nstatus 0\ntroubles 0\nlast 3\n\
         sent 1 Store 1 a 0\nsent 1 Accepted 1\nsent 1 Store 2 a 1\nsent 1 Accepted 2\n\
         sent 1 Store 3 a 2\nsent 1 Accepted 3\nrow a 3 file 2\ny\n";
-    assert_eq!(rt; account.as_slice(), wanted.as_slice());
+    assert!(rt; account.as_slice() == wanted.as_slice());
     Ok(())
 }
 
@@ -117,28 +117,28 @@ fn told_by_sink(alloc: Global, input: &[u8], call: u32) -> Result<Vec<u8>, Alloc
 #[test]
 fn a_failing_source_ends_the_run(rt: HostRuntime) -> Result<(), Fail> {
     let told = told_by_source(rt.alloc(), b"put a hello\n", 0)?;
-    assert_eq!(rt; told.as_slice(), b"status 3\n".as_slice());
+    assert!(rt; told.as_slice() == b"status 3\n".as_slice());
     Ok(())
 }
 
 #[test]
 fn whole_lines_before_a_fault_are_answered(rt: HostRuntime) -> Result<(), Fail> {
     let told = told_by_source(rt.alloc(), b"put a hello\nput b", 1)?;
-    assert_eq!(rt; told.as_slice(), b"logged 1\nstatus 3\n".as_slice());
+    assert!(rt; told.as_slice() == b"logged 1\nstatus 3\n".as_slice());
     Ok(())
 }
 
 #[test]
 fn a_failing_sink_ends_the_run(rt: HostRuntime) -> Result<(), Fail> {
     let told = told_by_sink(rt.alloc(), b"put a hello\nsync\n", 1)?;
-    assert_eq!(rt; told.as_slice(), b"logged 1\nstatus 4\n".as_slice());
+    assert!(rt; told.as_slice() == b"logged 1\nstatus 4\n".as_slice());
     Ok(())
 }
 
 #[test]
 fn a_sink_that_fails_at_once_gets_nothing(rt: HostRuntime) -> Result<(), Fail> {
     let told = told_by_sink(rt.alloc(), b"", 0)?;
-    assert_eq!(rt; told.as_slice(), b"status 4\n".as_slice());
+    assert!(rt; told.as_slice() == b"status 4\n".as_slice());
     Ok(())
 }
 
@@ -148,7 +148,7 @@ fn a_sink_that_fails_at_once_gets_nothing(rt: HostRuntime) -> Result<(), Fail> {
 fn a_file_is_shown(rt: HostRuntime) -> Result<(), Fail> {
     let told = told(rt.alloc(), b"put a hello\ncat a\n")?;
     let wanted = b"logged 1\n6\nhello\nacknowledged 0 pending 1\nstatus 0\n";
-    assert_eq!(rt; told.as_slice(), wanted.as_slice());
+    assert!(rt; told.as_slice() == wanted.as_slice());
     Ok(())
 }
 
@@ -157,7 +157,7 @@ fn a_folder_that_is_not_empty_stays(rt: HostRuntime) -> Result<(), Fail> {
     let told = told(rt.alloc(), b"mkdir d\nput d/x y\nrm d\n")?;
     let wanted =
         b"logged 1\nlogged 2\nrefused NotEmpty d d/x\nacknowledged 0 pending 2\nstatus 0\n";
-    assert_eq!(rt; told.as_slice(), wanted.as_slice());
+    assert!(rt; told.as_slice() == wanted.as_slice());
     Ok(())
 }
 
@@ -170,7 +170,7 @@ fn moves_and_listings(rt: HostRuntime) -> Result<(), Fail> {
     let wanted =
         b"logged 1\nrefused IsFolder d\nlogged 2\nlogged 3\nrefused Exists g\nrefused Exists f\n\
         refused RootFixed\nlogged 4\n2\nd d\nf g\n1\nf h\nacknowledged 0 pending 4\nstatus 0\n";
-    assert_eq!(rt; told.as_slice(), wanted.as_slice());
+    assert!(rt; told.as_slice() == wanted.as_slice());
     Ok(())
 }
 
@@ -183,7 +183,7 @@ fn words_are_refused(rt: HostRuntime) -> Result<(), Fail> {
     let wanted =
         b"refused WrongCount 1\nrefused BadWord 1\nrefused OpenQuote\nrefused UnknownWord\n\
         refused BadName 1\nrefused Missing a\nrefused Missing a\nacknowledged 0 pending 0\nstatus 0\n";
-    assert_eq!(rt; told.as_slice(), wanted.as_slice());
+    assert!(rt; told.as_slice() == wanted.as_slice());
     Ok(())
 }
 
@@ -197,7 +197,7 @@ fn paths_are_resolved_in_the_current_folder(rt: HostRuntime) -> Result<(), Fail>
     let wanted = b"logged 1\nat /d\nlogged 2\n1\nf a b\n1\nd d\nrefused BadWord 1\n10\ntwo words\n\
         refused Missing d/a b/c\nrefused NotFolder d/a b\nrefused IsFolder /\nrefused IsFolder d\nat /\n\
         refused NotFolder d/a b\nacknowledged 0 pending 2\nacknowledged 0 pending 2\nstatus 0\n";
-    assert_eq!(rt; told.as_slice(), wanted.as_slice());
+    assert!(rt; told.as_slice() == wanted.as_slice());
     Ok(())
 }
 
@@ -210,7 +210,7 @@ fn a_removed_current_folder_is_missing(rt: HostRuntime) -> Result<(), Fail> {
     let wanted =
         b"logged 1\nlogged 2\nlogged 3\n0\nat /d\nlogged 4\nrefused Missing d\nrefused NoParent d\n\
         acknowledged 0 pending 4\nstatus 0\n";
-    assert_eq!(rt; told.as_slice(), wanted.as_slice());
+    assert!(rt; told.as_slice() == wanted.as_slice());
     Ok(())
 }
 
@@ -219,9 +219,9 @@ fn lines_behind_quit_are_not_handled(rt: HostRuntime) -> Result<(), Fail> {
     let alloc = rt.alloc();
     let wanted = b"logged 1\nacknowledged 0 pending 1\nstatus 0\n".as_slice();
     let whole = told(alloc, b"put a x\nquit\nput b y\nsync\n")?;
-    assert_eq!(rt; whole.as_slice(), wanted);
+    assert!(rt; whole.as_slice() == wanted);
     let without_end = told(alloc, b"put a x\nquit")?;
-    assert_eq!(rt; without_end.as_slice(), wanted);
+    assert!(rt; without_end.as_slice() == wanted);
     Ok(())
 }
 
@@ -253,7 +253,7 @@ fn the_log_takes_1024_entries(rt: HostRuntime) -> Result<(), Fail> {
     let alloc = rt.alloc();
     let told = told(alloc, &puts(alloc, 1_025)?)?;
     let wanted = answers_of_a_full_log(alloc)?;
-    assert_eq!(rt; told.as_slice(), wanted.as_slice());
+    assert!(rt; told.as_slice() == wanted.as_slice());
     Ok(())
 }
 
@@ -270,7 +270,7 @@ fn the_largest_file_is_logged(rt: HostRuntime) -> Result<(), Fail> {
     let alloc = rt.alloc();
     let told = told(alloc, &put_of(alloc, 8_388_607)?)?;
     let wanted = b"logged 1\nacknowledged 0 pending 1\nstatus 0\n";
-    assert_eq!(rt; told.as_slice(), wanted.as_slice());
+    assert!(rt; told.as_slice() == wanted.as_slice());
     Ok(())
 }
 
@@ -279,7 +279,7 @@ fn a_file_of_one_byte_more_is_too_large(rt: HostRuntime) -> Result<(), Fail> {
     let alloc = rt.alloc();
     let told = told(alloc, &put_of(alloc, 8_388_608)?)?;
     let wanted = b"refused FileTooLarge 8388609\nacknowledged 0 pending 0\nstatus 0\n";
-    assert_eq!(rt; told.as_slice(), wanted.as_slice());
+    assert!(rt; told.as_slice() == wanted.as_slice());
     Ok(())
 }
 
@@ -294,21 +294,21 @@ fn told_past(alloc: Global, count: usize, more: &[u8]) -> Result<Vec<u8>, AllocE
 fn an_input_of_the_limit_is_answered(rt: HostRuntime) -> Result<(), Fail> {
     let told = told_past(rt.alloc(), 16_777_216, b"")?;
     let wanted = b"acknowledged 0 pending 0\nstatus 0\n";
-    assert_eq!(rt; told.as_slice(), wanted.as_slice());
+    assert!(rt; told.as_slice() == wanted.as_slice());
     Ok(())
 }
 
 #[test]
 fn an_input_past_the_limit_is_not_closed(rt: HostRuntime) -> Result<(), Fail> {
     let told = told_past(rt.alloc(), 16_777_217, b"")?;
-    assert_eq!(rt; told.as_slice(), b"status 8\n".as_slice());
+    assert!(rt; told.as_slice() == b"status 8\n".as_slice());
     Ok(())
 }
 
 #[test]
 fn the_line_that_a_byte_past_the_limit_ends_is_not_handled(rt: HostRuntime) -> Result<(), Fail> {
     let told = told_past(rt.alloc(), 16_777_212, b"quit\n")?;
-    assert_eq!(rt; told.as_slice(), b"status 8\n".as_slice());
+    assert!(rt; told.as_slice() == b"status 8\n".as_slice());
     Ok(())
 }
 
@@ -316,6 +316,6 @@ fn the_line_that_a_byte_past_the_limit_ends_is_not_handled(rt: HostRuntime) -> R
 fn a_line_that_quits_ends_the_input_before_the_limit(rt: HostRuntime) -> Result<(), Fail> {
     let told = told_past(rt.alloc(), 16_777_211, b"quit\n\n")?;
     let wanted = b"acknowledged 0 pending 0\nstatus 0\n";
-    assert_eq!(rt; told.as_slice(), wanted.as_slice());
+    assert!(rt; told.as_slice() == wanted.as_slice());
     Ok(())
 }

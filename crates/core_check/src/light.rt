@@ -110,8 +110,8 @@ fn asked(alloc: Global, mood: Mood) -> Result<(u64, u32), Fail> {
 #[test]
 fn a_light_entry_is_asked_of_the_surrogate_first(rt: HostRuntime) -> Result<(), Fail> {
     let alloc = rt.alloc();
-    assert_eq!(rt; asked(alloc, Mood::Does)?, (2_221, 0));
-    assert_eq!(rt; asked(alloc, Mood::Declines)?, (22_212, 0));
-    assert_eq!(rt; asked(alloc, Mood::Sleeps)?, (222_111_111_112, 0));
+    assert!(rt; asked(alloc, Mood::Does)? == (2_221, 0));
+    assert!(rt; asked(alloc, Mood::Declines)? == (22_212, 0));
+    assert!(rt; asked(alloc, Mood::Sleeps)? == (222_111_111_112, 0));
     Ok(())
 }

@@ -214,19 +214,19 @@ fn logs_and_syncs(rt: HostRuntime) -> Result<(), Fail> {
     let alloc = rt.alloc();
     let route = route(alloc)?;
     let mut client = Client::new(alloc, 7);
-    assert_eq!(rt; client.number(), 7);
+    assert!(rt; client.number() == 7);
     let put = put_two(alloc, &mut client);
     assert!(rt; client.keep(b"image", &mut Quiet).is_ok());
     let mut dead = Dead { troubles: 0 };
-    assert_eq!(rt; synced(&mut client, &route, &mut dead), (b'u', 1));
-    assert_eq!(rt; dead.troubles, 8);
-    assert_eq!(rt; client.log().pending(), 2);
+    assert!(rt; synced(&mut client, &route, &mut dead) == (b'u', 1));
+    assert!(rt; dead.troubles == 8);
+    assert!(rt; client.log().pending() == 2);
     let mut willing = Willing { alloc, ahead: 0 };
-    assert_eq!(rt; synced(&mut client, &route, &mut willing), (b's', 2));
-    assert_eq!(rt; client.log().pending(), 0);
+    assert!(rt; synced(&mut client, &route, &mut willing) == (b's', 2));
+    assert!(rt; client.log().pending() == 0);
     drop(client);
     drop(route);
-    assert_eq!(rt; put?, (1, 2));
+    assert!(rt; put? == (1, 2));
     Ok(())
 }
 
@@ -236,19 +236,19 @@ fn pulls(rt: HostRuntime) -> Result<(), Fail> {
     let route = route(alloc)?;
     let mut client = Client::new(alloc, 64);
     let mut willing = Willing { alloc, ahead: 0 };
-    assert_eq!(rt; pulled(&mut client, &route, &mut willing), (b'p', 0));
+    assert!(rt; pulled(&mut client, &route, &mut willing) == (b'p', 0));
     let mut dead = Dead { troubles: 0 };
-    assert_eq!(rt; pulled(&mut client, &route, &mut dead), (b'u', 0));
+    assert!(rt; pulled(&mut client, &route, &mut dead) == (b'u', 0));
     let first = put(alloc, &mut client, b"a", b"x\n");
-    assert_eq!(rt; pulled(&mut client, &route, &mut dead), (b'w', 1));
-    assert_eq!(rt; dead.troubles, 8);
-    assert_eq!(rt; synced(&mut client, &route, &mut willing), (b's', 1));
-    assert_eq!(rt; pulled(&mut client, &route, &mut willing), (b'o', 1));
+    assert!(rt; pulled(&mut client, &route, &mut dead) == (b'w', 1));
+    assert!(rt; dead.troubles == 8);
+    assert!(rt; synced(&mut client, &route, &mut willing) == (b's', 1));
+    assert!(rt; pulled(&mut client, &route, &mut willing) == (b'o', 1));
     willing.ahead = 2;
-    assert_eq!(rt; pulled(&mut client, &route, &mut willing), (b'l', 31));
-    assert_eq!(rt; client.log().tree().count(), 1);
+    assert!(rt; pulled(&mut client, &route, &mut willing) == (b'l', 31));
+    assert!(rt; client.log().tree().count() == 1);
     drop(client);
     drop(route);
-    assert_eq!(rt; first?, 1);
+    assert!(rt; first? == 1);
     Ok(())
 }

@@ -299,7 +299,7 @@ fn example_frames_are_read(rt: HostRuntime) -> Result<(), Fail> {
     for text in [
         PULL, STORE, OPERATE, ACCEPTED, MALFORMED, SNAPSHOT, DONE, DECLINED,
     ] {
-        assert_eq!(rt; answer_to_digits(rt.alloc(), text)?, Message, "{text}");
+        assert!(rt; answer_to_digits(rt.alloc(), text)? == Message, "{text}");
     }
     Ok(())
 }
@@ -382,8 +382,8 @@ const UNFIT: [&str; 8] = [
 #[test]
 fn told_refusals_are_written_as_they_were_read(rt: HostRuntime) -> Result<(), Fail> {
     let full = ["07 00004000", "09 0000000002000001"];
-    assert_eq!(rt; first_other_body(rt.alloc(), UNFIT_HEAD, &UNFIT)?, None);
-    assert_eq!(rt; first_other_body(rt.alloc(), FULL_HEAD, &full)?, None);
+    assert!(rt; first_other_body(rt.alloc(), UNFIT_HEAD, &UNFIT)? == None);
+    assert!(rt; first_other_body(rt.alloc(), FULL_HEAD, &full)? == None);
     Ok(())
 }
 
@@ -413,7 +413,7 @@ const CAUSES: [&str; 19] = [
 
 #[test]
 fn causes_are_written_as_they_were_read(rt: HostRuntime) -> Result<(), Fail> {
-    assert_eq!(rt; first_other_body(rt.alloc(), DECLINED_HEAD, &CAUSES)?, None);
+    assert!(rt; first_other_body(rt.alloc(), DECLINED_HEAD, &CAUSES)? == None);
     Ok(())
 }
 
@@ -446,10 +446,7 @@ const FAULTY_CAUSES: [(&str, Answer); 19] = [
 
 #[test]
 fn causes_keep_their_rules(rt: HostRuntime) -> Result<(), Fail> {
-    assert_eq!(rt;
-        first_wrong_body(rt.alloc(), DECLINED_HEAD, &FAULTY_CAUSES)?,
-        None
-    );
+    assert!(rt; first_wrong_body(rt.alloc(), DECLINED_HEAD, &FAULTY_CAUSES)? == None);
     Ok(())
 }
 
@@ -496,7 +493,7 @@ fn operations_keep_their_rules(rt: HostRuntime) -> Result<(), Fail> {
         ),
         (["00", COMMAND, "00000001 01 000161", longer], Trailing(87)),
     ];
-    assert_eq!(rt; first_wrong_operation(rt.alloc(), &operations)?, None);
+    assert!(rt; first_wrong_operation(rt.alloc(), &operations)? == None);
     Ok(())
 }
 
@@ -512,7 +509,7 @@ fn commands_keep_their_rules(rt: HostRuntime) -> Result<(), Fail> {
         (["00", zero_argument, sketches, BASE], Field(60)),
         (["00", "ffffffff 2f63", sketches, BASE], Field(52)),
     ];
-    assert_eq!(rt; first_wrong_operation(rt.alloc(), &operations)?, None);
+    assert!(rt; first_wrong_operation(rt.alloc(), &operations)? == None);
     Ok(())
 }
 
@@ -728,7 +725,7 @@ fn cut_frames_have_another_length(rt: HostRuntime) -> Result<(), Fail> {
     for text in [
         PULL, STORE, OPERATE, ACCEPTED, MALFORMED, SNAPSHOT, DONE, DECLINED,
     ] {
-        assert_eq!(rt; first_wrong_cut_of(rt.alloc(), text)?, None, "{text}");
+        assert!(rt; first_wrong_cut_of(rt.alloc(), text)? == None, "{text}");
     }
     Ok(())
 }
@@ -764,28 +761,16 @@ const SNAPSHOT_FRONTS: [(usize, Answer); 9] = [
 #[test]
 fn fronts_end_in_the_field_that_is_cut(rt: HostRuntime) -> Result<(), Fail> {
     let malformed = [(15, BadLength), (16, Field(15)), (20, Field(16))];
-    assert_eq!(rt;
-        first_wrong_front_of(rt.alloc(), STORE, &STORE_FRONTS)?,
-        None
-    );
-    assert_eq!(rt;
-        first_wrong_front_of(rt.alloc(), SNAPSHOT, &SNAPSHOT_FRONTS)?,
-        None
-    );
-    assert_eq!(rt;
-        first_wrong_front_of(rt.alloc(), MALFORMED, &malformed)?,
-        None
-    );
+    assert!(rt; first_wrong_front_of(rt.alloc(), STORE, &STORE_FRONTS)? == None);
+    assert!(rt; first_wrong_front_of(rt.alloc(), SNAPSHOT, &SNAPSHOT_FRONTS)? == None);
+    assert!(rt; first_wrong_front_of(rt.alloc(), MALFORMED, &malformed)? == None);
     let declined = [
         (15, BadLength),
         (16, Field(15)),
         (17, Field(16)),
         (18, Field(17)),
     ];
-    assert_eq!(rt;
-        first_wrong_front_of(rt.alloc(), DECLINED, &declined)?,
-        None
-    );
+    assert!(rt; first_wrong_front_of(rt.alloc(), DECLINED, &declined)? == None);
     Ok(())
 }
 
@@ -810,7 +795,7 @@ fn fronts_of_an_operation_end_in_the_field_that_is_cut(rt: HostRuntime) -> Resul
     }
     sizes.extend_from_slice(&BEHIND_PARITIES)?;
     let table = fronts_of(rt.alloc(), &sizes)?;
-    assert_eq!(rt; first_wrong_front_of(rt.alloc(), OPERATE, &table)?, None);
+    assert!(rt; first_wrong_front_of(rt.alloc(), OPERATE, &table)? == None);
     Ok(())
 }
 
@@ -847,11 +832,8 @@ const STORE_BYTES: [(usize, Answer); 17] = [
 
 #[test]
 fn spoilt_bytes_are_refused_in_their_field(rt: HostRuntime) -> Result<(), Fail> {
-    assert_eq!(rt;
-        first_wrong_byte_of(rt.alloc(), ACCEPTED, &ACCEPTED_BYTES)?,
-        None
-    );
-    assert_eq!(rt; first_wrong_byte_of(rt.alloc(), STORE, &STORE_BYTES)?, None);
+    assert!(rt; first_wrong_byte_of(rt.alloc(), ACCEPTED, &ACCEPTED_BYTES)? == None);
+    assert!(rt; first_wrong_byte_of(rt.alloc(), STORE, &STORE_BYTES)? == None);
     Ok(())
 }
 
@@ -867,15 +849,9 @@ const GREAT_STORES: [(&str, Answer); 6] = [
 
 #[test]
 fn great_counts_have_too_few_bytes_behind(rt: HostRuntime) -> Result<(), Fail> {
-    assert_eq!(rt;
-        first_wrong_body(rt.alloc(), STORE_HEAD, &GREAT_STORES)?,
-        None
-    );
+    assert!(rt; first_wrong_body(rt.alloc(), STORE_HEAD, &GREAT_STORES)? == None);
     let snapshots = [("ffffffff 000161", Field(23)), ("00004000", Field(27))];
-    assert_eq!(rt;
-        first_wrong_body(rt.alloc(), SNAPSHOT_HEAD, &snapshots)?,
-        None
-    );
+    assert!(rt; first_wrong_body(rt.alloc(), SNAPSHOT_HEAD, &snapshots)? == None);
     Ok(())
 }
 
@@ -903,13 +879,10 @@ const BASES: [(&str, Answer); 5] = [
 #[test]
 fn a_base_has_the_touched_paths_in_their_order(rt: HostRuntime) -> Result<(), Fail> {
     let made_and_removed = "01 01 01 0000000000000001 00000002 01 000164 03 000165";
-    assert_eq!(rt;
-        first_wrong_body(rt.alloc(), made_and_removed, &BASES)?,
-        None
-    );
+    assert!(rt; first_wrong_body(rt.alloc(), made_and_removed, &BASES)? == None);
     let twice = "01 01 01 0000000000000001 00000002 01 000164 03 000164";
     let doubled = "00000002 000164 0000000000000000 000164 0000000000000000";
-    assert_eq!(rt; answer_to(rt.alloc(), &[twice, doubled])?, Field(27));
+    assert!(rt; answer_to(rt.alloc(), &[twice, doubled])? == Field(27));
     Ok(())
 }
 
@@ -951,16 +924,16 @@ const ROWS: [(&str, Answer); 11] = [
 
 #[test]
 fn rows_are_those_of_a_tree(rt: HostRuntime) -> Result<(), Fail> {
-    assert_eq!(rt; first_wrong_body(rt.alloc(), SNAPSHOT_HEAD, &ROWS)?, None);
+    assert!(rt; first_wrong_body(rt.alloc(), SNAPSHOT_HEAD, &ROWS)? == None);
     Ok(())
 }
 
 #[test]
 fn effects_are_1_to_4096(rt: HostRuntime) -> Result<(), Fail> {
     let none = answer_to(rt.alloc(), &[STORE_HEAD, "00000000 00000000"])?;
-    assert_eq!(rt; none, Field(15));
-    assert_eq!(rt; answer_to_folders(rt.alloc(), 4096)?, Message);
-    assert_eq!(rt; answer_to_folders(rt.alloc(), 4097)?, Field(15));
+    assert!(rt; none == Field(15));
+    assert!(rt; answer_to_folders(rt.alloc(), 4096)? == Message);
+    assert!(rt; answer_to_folders(rt.alloc(), 4097)? == Field(15));
     Ok(())
 }
 
@@ -985,9 +958,9 @@ fn answer_to_folders(alloc: Global, count: u32) -> Result<Answer, AllocError> {
 
 #[test]
 fn contents_have_32_mib_together(rt: HostRuntime) -> Result<(), Fail> {
-    assert_eq!(rt; answer_to_contents(rt.alloc(), "00000000")?, Message);
+    assert!(rt; answer_to_contents(rt.alloc(), "00000000")? == Message);
     let more = answer_to_contents(rt.alloc(), "00000001 6f")?;
-    assert_eq!(rt; more, Field(33_554_487));
+    assert!(rt; more == Field(33_554_487));
     Ok(())
 }
 

@@ -8,8 +8,6 @@ ghost use Rattle.gf_65536.specs.Field.{gf_mul, gf_pow, remainder};
 ghost use Rattle.gf_65536.specs.Inside.{HasMultiples};
 
 mod laws;
-#[cfg(test)]
-mod vectors;
 
 pub use laws::{only_product, order_of_two, power_laws, product_laws, sum_laws};
 

@@ -287,10 +287,7 @@ fn statuses_go_first(rt: HostRuntime) -> Result<(), Fail> {
         logged: 0,
         replayed: 1,
     };
-    assert_eq!(rt;
-        judged(alloc, &case)?.as_slice(),
-        b"status \x00\x01".as_slice()
-    );
+    assert!(rt; judged(alloc, &case)?.as_slice() == b"status \x00\x01".as_slice());
     Ok(())
 }
 

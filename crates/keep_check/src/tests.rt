@@ -17,10 +17,7 @@ fn without_input_nothing_is_kept(rt: HostRuntime) -> Result<(), Fail> {
     let told = probe.run(b"");
     let is_kept = probe.image().is_some();
     drop(probe);
-    assert_eq!(rt;
-        told?.as_slice(),
-        b"acknowledged 0 pending 0\nstatus 0\n".as_slice()
-    );
+    assert!(rt; told?.as_slice() == b"acknowledged 0 pending 0\nstatus 0\n".as_slice());
     assert!(rt; !is_kept);
     Ok(())
 }
@@ -52,7 +49,7 @@ fn an_unanswered_entry_is_synced_by_the_next_run(rt: HostRuntime) -> Result<(), 
     let told = told_by_two(alloc, fates, b"put a hello\nsync\n", b"sync\n")?;
     let wanted = b"logged 1\nunanswered 1\nacknowledged 0 pending 1\nstatus 0\n\
         synced 1\nacknowledged 1 pending 0\nstatus 0\nrow a 1 file 6\nhello\n";
-    assert_eq!(rt; told.as_slice(), wanted.as_slice());
+    assert!(rt; told.as_slice() == wanted.as_slice());
     Ok(())
 }
 
@@ -222,14 +219,12 @@ fn nothing_answered_is_lost_and_nothing_is_applied_twice(rt: HostRuntime) -> Res
         ),
     ];
     for (stop, first, old, new) in rows {
-        assert_eq!(rt;
-            told_around(alloc, stop, false)?.as_slice(),
-            wanted(alloc, first, old)?.as_slice(),
+        assert!(rt;
+            told_around(alloc, stop, false)?.as_slice() == wanted(alloc, first, old)?.as_slice(),
             "{stop:?} old"
         );
-        assert_eq!(rt;
-            told_around(alloc, stop, true)?.as_slice(),
-            wanted(alloc, first, new)?.as_slice(),
+        assert!(rt;
+            told_around(alloc, stop, true)?.as_slice() == wanted(alloc, first, new)?.as_slice(),
             "{stop:?} new"
         );
     }
@@ -293,12 +288,12 @@ fn images_that_are_no_clients_or_anothers_are_not_opened(rt: HostRuntime) -> Res
     let image = image_of(alloc, 3, 0)?;
     let own = b"acknowledged 0 pending 1\nacknowledged 0 pending 1\nstatus 0\n".as_slice();
     let unopened = b"status 6\n".as_slice();
-    assert_eq!(rt; status_over(alloc, "3", &image)?.as_slice(), own);
-    assert_eq!(rt; status_over(alloc, "4", &image)?.as_slice(), unopened);
+    assert!(rt; status_over(alloc, "3", &image)?.as_slice() == own);
+    assert!(rt; status_over(alloc, "4", &image)?.as_slice() == unopened);
     let server = image_of_server(alloc)?;
-    assert_eq!(rt; status_over(alloc, "3", &server)?.as_slice(), unopened);
+    assert!(rt; status_over(alloc, "3", &server)?.as_slice() == unopened);
     let cut = &image[..image.len().saturating_sub(1)];
-    assert_eq!(rt; status_over(alloc, "3", cut)?.as_slice(), unopened);
+    assert!(rt; status_over(alloc, "3", cut)?.as_slice() == unopened);
     Ok(())
 }
 
@@ -308,7 +303,7 @@ fn a_new_server_is_behind_an_old_image(rt: HostRuntime) -> Result<(), Fail> {
     let image = image_of(alloc, 1, 3)?;
     let told = told_over(alloc, "1", &image, b"sync\n")?;
     let behind = b"behind 4 0\nacknowledged 3 pending 1\nstatus 0\n";
-    assert_eq!(rt; told.as_slice(), behind.as_slice());
+    assert!(rt; told.as_slice() == behind.as_slice());
     Ok(())
 }
 
@@ -322,7 +317,7 @@ fn entries_of_a_client_that_lost_its_image_are_dropped(rt: HostRuntime) -> Resul
     drop(probe);
     let wanted = b"logged 1\nsynced 1\nacknowledged 1 pending 0\nstatus 0\n\
         logged 1\nsynced 1\nacknowledged 1 pending 0\nstatus 0\nrow a 1 file 2\nx\n";
-    assert_eq!(rt; told?.as_slice(), wanted.as_slice());
+    assert!(rt; told?.as_slice() == wanted.as_slice());
     Ok(())
 }
 
@@ -362,19 +357,13 @@ fn kept_after(alloc: Global, input: &[u8]) -> Result<Vec<u8>, AllocError> {
 fn later_changes_are_appended(rt: HostRuntime) -> Result<(), Fail> {
     let alloc = rt.alloc();
     let mut wanted = image_of(alloc, 1, 0)?;
-    assert_eq!(rt;
-        kept_after(alloc, b"put a x\n")?.as_slice(),
-        wanted.as_slice()
-    );
+    assert!(rt; kept_after(alloc, b"put a x\n")?.as_slice() == wanted.as_slice());
     wanted.extend_from_slice(SECOND_PUT)?;
-    assert_eq!(rt;
-        kept_after(alloc, b"put a x\nput b y\n")?.as_slice(),
-        wanted.as_slice()
-    );
+    assert!(rt; kept_after(alloc, b"put a x\nput b y\n")?.as_slice() == wanted.as_slice());
     wanted.extend_from_slice(FIRST_ACKED)?;
     wanted.extend_from_slice(SECOND_ACKED)?;
     let kept = kept_after(alloc, b"put a x\nput b y\nsync\n")?;
-    assert_eq!(rt; kept.as_slice(), wanted.as_slice());
+    assert!(rt; kept.as_slice() == wanted.as_slice());
     Ok(())
 }
 
@@ -405,14 +394,8 @@ fn size_after(alloc: Global, record: usize) -> Result<usize, AllocError> {
 fn a_record_past_the_limit_saves_the_image(rt: HostRuntime) -> Result<(), Fail> {
     let alloc = rt.alloc();
     let image = kept_after(alloc, b"put a x\n")?.len();
-    assert_eq!(rt;
-        size_after(alloc, MAX_RECORDS)?,
-        image.saturating_add(MAX_RECORDS)
-    );
-    assert_eq!(rt;
-        size_after(alloc, MAX_RECORDS + 1)?,
-        image.saturating_add(MAX_RECORDS - 4)
-    );
+    assert!(rt; size_after(alloc, MAX_RECORDS)? == image.saturating_add(MAX_RECORDS));
+    assert!(rt; size_after(alloc, MAX_RECORDS + 1)? == image.saturating_add(MAX_RECORDS - 4));
     Ok(())
 }
 
@@ -447,13 +430,12 @@ fn a_torn_record_is_dropped(rt: HostRuntime) -> Result<(), Fail> {
     let size = SECOND_PUT.len() as u32;
     let torn = b"logged 1\nstatus 5\nlogged 2\nsynced 2\nacknowledged 2 pending 0\nstatus 0\n";
     for part in 0..size {
-        assert_eq!(rt;
-            told_around_part(alloc, part)?.as_slice(),
-            torn.as_slice(),
+        assert!(rt;
+            told_around_part(alloc, part)?.as_slice() == torn.as_slice(),
             "{part}"
         );
     }
     let whole = b"logged 1\nstatus 5\nlogged 3\nsynced 3\nacknowledged 3 pending 0\nstatus 0\n";
-    assert_eq!(rt; told_around_part(alloc, size)?.as_slice(), whole.as_slice());
+    assert!(rt; told_around_part(alloc, size)?.as_slice() == whole.as_slice());
     Ok(())
 }

@@ -4,7 +4,5 @@
 
 mod list;
 mod part;
-#[cfg(test)]
-mod tests;
 
 pub use list::PartedList;

@@ -17,6 +17,3 @@ pub use keeper::FileKeeper;
 pub use link::TcpLink;
 pub use port::TcpPort;
 pub use streams::{StdSink, StdSource};
-
-#[cfg(test)]
-mod tests;

@@ -66,12 +66,7 @@ impl<'a, N: Net + Clock> TcpLink<'a, N> {
 
     /// Sends the frame over a new connection, and gives the frame that comes back; none where its first byte has not come within
     /// so many seconds.
-    pub(crate) fn exchange(
-        &self,
-        address: &[u8],
-        frame: &[u8],
-        seconds: u64,
-    ) -> io::Result<Option<Vec<u8>>> {
+    fn exchange(&self, address: &[u8], frame: &[u8], seconds: u64) -> io::Result<Option<Vec<u8>>> {
         let stream = connect(self.net, address)?;
         let mut stream = Paced::start(stream, self.net)?;
         let reply = converse(self.alloc, &mut stream, frame, seconds);
@@ -215,7 +210,7 @@ fn failure_of(refused: &FrameError) -> LinkError {
 }
 
 /// Connects to the first address of a peer that answers.
-pub(crate) fn connect<N: Net>(net: &N, address: &[u8]) -> io::Result<N::Stream> {
+fn connect<N: Net>(net: &N, address: &[u8]) -> io::Result<N::Stream> {
     let Ok(address) = str::from_utf8(address) else {
         return Err(io::Error::from(ErrorKind::InvalidInput));
     };

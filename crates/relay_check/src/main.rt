@@ -1,10 +1,13 @@
 //! A client, its surrogate and their server over TCP on this machine. The program starts itself as all three: a command that the
-//! client has run is run again by the surrogate, which has the server take what it made.
+//! client has run is run again by the surrogate, which has the server take what it made. Then a client alone, whose surrogate is
+//! this very process.
 #![tactic(auto)]
 
 mod frames;
+mod link;
 
 use frames::{ANSWERS, OTHER_STATUS, PULL};
+use link::show_port;
 use program_words::given_words;
 use std::fs::{self, File};
 use std::io::{self, ErrorKind, Read, Write};
@@ -43,7 +46,7 @@ fn main(rt: HostRuntime) -> io::Result<ExitCode> {
     let words = given_words(&rt)?;
     let process = process::id(rt.process());
     match words.split_first() {
-        None => show(&rt),
+        None => show(&rt, process),
         Some((program, rest)) if program.as_str() == SURROGATE => {
             Ok(surrogate_main(&rt, process, rest))
         }
@@ -51,20 +54,32 @@ fn main(rt: HostRuntime) -> io::Result<ExitCode> {
     }
 }
 
-/// Starts a server, a surrogate that asks it, and a client of both.
+/// Shows both, and removes what each left.
 fn show<R: Processes + Files<File = File> + Env + AllocGlobal + Net + Clock + Print>(
     rt: &R,
+    process: u32,
 ) -> io::Result<ExitCode> {
     forget(rt);
-    let address = free_address(rt)?;
-    let shown = show_at(rt, &address);
-    drop(address);
+    let shown = show_all_three(rt);
+    forget(rt);
+    shown?;
+    let shown = show_port(rt, process);
     for folder in [NEAR, FAR] {
         let _removed = fs::remove_dir(rt, folder);
     }
     forget(rt);
     shown?;
     Ok(ExitCode::SUCCESS)
+}
+
+/// Starts a server, a surrogate that asks it, and a client of both.
+fn show_all_three<R: Processes + Files + Env + AllocGlobal + Net + Clock + Print>(
+    rt: &R,
+) -> io::Result<()> {
+    let address = free_address(rt)?;
+    let shown = show_at(rt, &address);
+    drop(address);
+    shown
 }
 
 /// A server at this address takes three connections: the surrogate's store, and before and after it one that asks for all rows.

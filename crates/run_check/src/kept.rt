@@ -66,10 +66,7 @@ fn the_image_tells_the_command(rt: HostRuntime) -> Result<(), Fail> {
     let stopped = stopped(alloc, &mut probe);
     drop(probe);
     let (told, is_wanted) = stopped?;
-    assert_eq!(rt;
-        told.as_slice(),
-        b"logged 1\nlogged 2 status 3\nstatus 3\n".as_slice()
-    );
+    assert!(rt; told.as_slice() == b"logged 1\nlogged 2 status 3\nstatus 3\n".as_slice());
     assert!(rt; is_wanted);
     Ok(())
 }
@@ -88,7 +85,7 @@ fn a_run_that_was_kept_is_synced_by_the_next_client(rt: HostRuntime) -> Result<(
     let wanted = b"2\nx\nsynced 2\nacknowledged 2 pending 0\nstatus 0\ntroubles 0\nlast 2\n\
         sent 1 Store 1 a 0\nsent 1 Accepted 1\nsent 1 Store 2 b 0\nsent 1 Accepted 2\n\
         row a 1 file 2\nx\nrow b 1 file 2\nx\n";
-    assert_eq!(rt; account.as_slice(), wanted.as_slice());
+    assert!(rt; account.as_slice() == wanted.as_slice());
     Ok(())
 }
 
@@ -127,7 +124,7 @@ fn a_run_whose_keeping_fails_may_be_kept(rt: HostRuntime) -> Result<(), Fail> {
         acknowledged 0 pending 2\nsynced 2\nacknowledged 2 pending 0\nstatus 0\ntroubles 0\nlast 2\n\
         sent 1 Store 1 a 0\nsent 1 Accepted 1\nsent 1 Store 2 b 0\nsent 1 Accepted 2\n\
         row a 1 file 2\nx\nrow b 1 file 2\nx\n";
-    assert_eq!(rt; told.as_slice(), wanted.as_slice());
+    assert!(rt; told.as_slice() == wanted.as_slice());
     Ok(())
 }
 
@@ -137,6 +134,6 @@ fn a_run_whose_keeping_fails_may_be_lost(rt: HostRuntime) -> Result<(), Fail> {
     let wanted = b"logged 1\nstatus 5\n\
         acknowledged 0 pending 1\nsynced 1\nacknowledged 1 pending 0\nstatus 0\ntroubles 0\nlast 1\n\
         sent 1 Store 1 a 0\nsent 1 Accepted 1\nrow a 1 file 2\nx\n";
-    assert_eq!(rt; told.as_slice(), wanted.as_slice());
+    assert!(rt; told.as_slice() == wanted.as_slice());
     Ok(())
 }

@@ -1,4 +1,4 @@
-//! Tests of whole runs of the client whose lines run commands.
+//! Tests of whole runs of the client whose lines run commands, and of those that ship operations to a surrogate.
 #![tactic(auto)]
 
 #[cfg(test)]
@@ -7,3 +7,9 @@ mod giving;
 mod kept;
 #[cfg(test)]
 mod lines;
+#[cfg(test)]
+mod loads;
+#[cfg(test)]
+mod realistic;
+#[cfg(test)]
+mod shipping;

@@ -53,7 +53,7 @@ fn a_run_that_leaves_its_rows_logs_nothing(rt: HostRuntime) -> Result<(), Fail> 
     let account = account_of(rt.alloc(), b"run -- /bin/true\n")?;
     let wanted =
         b"nothing logged status 0\nacknowledged 0 pending 0\nstatus 0\ntroubles 0\nlast 0\n";
-    assert_eq!(rt; account.as_slice(), wanted.as_slice());
+    assert!(rt; account.as_slice() == wanted.as_slice());
     Ok(())
 }
 
@@ -64,7 +64,7 @@ fn the_status_of_a_run_without_changes_is_told(rt: HostRuntime) -> Result<(), Fa
     let account = account_giving(rt.alloc(), 7, &left, input)?;
     let wanted = b"logged 1\nnothing logged status 7\nnothing logged status 0\n\
         acknowledged 0 pending 1\nstatus 0\ntroubles 0\nlast 0\n";
-    assert_eq!(rt; account.as_slice(), wanted.as_slice());
+    assert!(rt; account.as_slice() == wanted.as_slice());
     Ok(())
 }
 
@@ -88,7 +88,7 @@ fn what_cannot_be_run_is_not_run(rt: HostRuntime) -> Result<(), Fail> {
     let account = account_failing(rt.alloc(), b"run -- /bin/true\nrun -- /bin/true\n")?;
     let wanted = b"not run\nnothing logged status 0\nacknowledged 0 pending 0\nstatus 0\n\
         troubles 0\nlast 0\n";
-    assert_eq!(rt; account.as_slice(), wanted.as_slice());
+    assert!(rt; account.as_slice() == wanted.as_slice());
     Ok(())
 }
 
@@ -99,7 +99,7 @@ fn odd_trees_are_not_logged(rt: HostRuntime) -> Result<(), Fail> {
     for (first, second) in [("a", ".."), ("a", "a"), ("b", "a")] {
         let left = [(first, Some("x")), (second, Some("x"))];
         let account = account_giving(alloc, 0, &left, b"run -- /bin/true\n")?;
-        assert_eq!(rt; account.as_slice(), wanted, "{first} {second}");
+        assert!(rt; account.as_slice() == wanted, "{first} {second}");
     }
     Ok(())
 }
@@ -111,7 +111,7 @@ fn what_is_made_beside_the_inputs_clashes(rt: HostRuntime) -> Result<(), Fail> {
     let account = account_giving(rt.alloc(), 0, &left, input)?;
     let wanted = b"logged 1\nlogged 2\nclash b\n2\ny\nacknowledged 0 pending 2\nstatus 0\n\
         troubles 0\nlast 0\n";
-    assert_eq!(rt; account.as_slice(), wanted.as_slice());
+    assert!(rt; account.as_slice() == wanted.as_slice());
     Ok(())
 }
 
@@ -121,7 +121,7 @@ fn the_removal_of_a_folder_with_more_than_the_inputs_clashes(rt: HostRuntime) ->
     let account = account_giving(rt.alloc(), 0, &[], input)?;
     let wanted = b"logged 1\nlogged 2\nlogged 3\nclash d\n2\nf x\nf y\nacknowledged 0 pending 3\n\
         status 0\ntroubles 0\nlast 0\n";
-    assert_eq!(rt; account.as_slice(), wanted.as_slice());
+    assert!(rt; account.as_slice() == wanted.as_slice());
     Ok(())
 }
 
@@ -136,7 +136,7 @@ fn refused_commands_are_not_run(rt: HostRuntime) -> Result<(), Fail> {
     let wanted = b"refused NoProgram\nrefused BadOption 0\nrefused BadInput 0\nrefused BadEnv 0\n\
         refused BadTemplate 0\nrefused NotAbsolute\nrefused NoInput 0\nlogged 1 status 0\n\
         acknowledged 0 pending 1\nstatus 0\ntroubles 0\nlast 0\n";
-    assert_eq!(rt; account.as_slice(), wanted.as_slice());
+    assert!(rt; account.as_slice() == wanted.as_slice());
     Ok(())
 }
 
@@ -146,7 +146,7 @@ fn nothing_is_run_in_a_folder_that_is_gone(rt: HostRuntime) -> Result<(), Fail> 
     let account = account_giving(rt.alloc(), 0, &[("a", Some("x"))], input)?;
     let wanted = b"logged 1\nat /d\nlogged 2\nrefused NoFolder d\nacknowledged 0 pending 2\n\
         status 0\ntroubles 0\nlast 0\n";
-    assert_eq!(rt; account.as_slice(), wanted.as_slice());
+    assert!(rt; account.as_slice() == wanted.as_slice());
     Ok(())
 }
 
@@ -168,7 +168,7 @@ fn changes_that_the_log_refuses_are_not_made(rt: HostRuntime) -> Result<(), Fail
     let account = account_past_the_last(rt.alloc(), b"run -- /bin/true\nls\n")?;
     let wanted = b"refused LastNumber\n0\nacknowledged 18446744073709551615 pending 0\nstatus 0\n\
         troubles 0\nlast 0\n";
-    assert_eq!(rt; account.as_slice(), wanted.as_slice());
+    assert!(rt; account.as_slice() == wanted.as_slice());
     Ok(())
 }
 
@@ -185,7 +185,7 @@ fn what_a_run_changed_is_synced(rt: HostRuntime) -> Result<(), Fail> {
         troubles 0\nlast 3\nsent 1 Store 1 a 0\nsent 1 Accepted 1\nsent 1 Store 2 b 0\n\
         sent 1 Accepted 2\nsent 1 Store 3 b 1 a 1 c 0 c/d 0\nsent 1 Accepted 3\n\
         row a 2 file 2\nz\nrow b 2 nothing\nrow c 1 folder\nrow c/d 1 file 2\nw\n";
-    assert_eq!(rt; account.as_slice(), wanted.as_slice());
+    assert!(rt; account.as_slice() == wanted.as_slice());
     Ok(())
 }
 
@@ -198,7 +198,7 @@ fn a_folder_that_became_a_file_is_removed_first(rt: HostRuntime) -> Result<(), F
         troubles 0\nlast 3\nsent 1 Store 1 d 0\nsent 1 Accepted 1\nsent 1 Store 2 d/x 0\n\
         sent 1 Accepted 2\nsent 1 Store 3 d/x 1 d 1\nsent 1 Accepted 3\n\
         row d 3 file 2\nz\nrow d/x 2 nothing\n";
-    assert_eq!(rt; account.as_slice(), wanted.as_slice());
+    assert!(rt; account.as_slice() == wanted.as_slice());
     Ok(())
 }
 
@@ -224,7 +224,7 @@ fn a_run_in_a_folder_is_given_the_folder(rt: HostRuntime) -> Result<(), Fail> {
     let account = account_giving(rt.alloc(), 1, &[("d", None)], input)?;
     let wanted = b"logged 1\nlogged 2\nlogged 3\nat /d\nlogged 4 status 1\n0\n2\nd d\nf e\n\
         acknowledged 0 pending 4\nstatus 0\ntroubles 0\nlast 0\n";
-    assert_eq!(rt; account.as_slice(), wanted.as_slice());
+    assert!(rt; account.as_slice() == wanted.as_slice());
     Ok(())
 }
 
@@ -239,6 +239,6 @@ fn a_run_is_made_once_where_its_reply_is_lost(rt: HostRuntime) -> Result<(), Fai
         b"logged 1 status 0\nsynced 1\nnothing logged status 0\nacknowledged 1 pending 0\nstatus 0\n\
         troubles 1\nlast 1\nsent 1 Store 1 a 0\nsent 1 Accepted 1\nsent 1 Store 1 a 0\n\
         sent 1 Accepted 1\nrow a 1 file 2\nx\n";
-    assert_eq!(rt; account.as_slice(), wanted.as_slice());
+    assert!(rt; account.as_slice() == wanted.as_slice());
     Ok(())
 }

@@ -1,5 +1,7 @@
-//! Tests of programs that are run as jobs.
+//! Tests of programs that are run as jobs, and of builds that two runners do, one after the other.
 #![tactic(auto)]
 
+#[cfg(test)]
+mod builds;
 #[cfg(test)]
 mod tests;

@@ -1,11 +1,11 @@
 // What no contract says: what becomes of programs that are started, and of the folders that they leave.
 use child_runner::ChildRunner;
-use cmd_capture::{Command, Env, Job, JobRow, JobRows, Outcome, Runner, Templates, Words};
+use cmd_capture::{Command, Job, JobRow, JobRows, Outcome, Runner, Words, capture};
 use std::alloc::AllocError;
 use std::test::Fail;
 use std::time::{Duration, Instant};
 use std::{fs, process};
-use vol_tree::{Content, Node, Path, Paths};
+use vol_tree::{Content, Node, Path};
 
 /// A process that cannot be: its number is above those that the system gives.
 const GONE: &str = "run-4194305-0";
@@ -14,44 +14,52 @@ fn content(rt: &HostRuntime, text: &str) -> Result<Content, AllocError> {
     Content::of(rt.alloc(), text.as_bytes())
 }
 
-/// The command that runs the script as the shell `program`, in the folder `cwd`, with one variable.
-fn command(rt: &HostRuntime, program: &str, cwd: &str, script: &str) -> Result<Command, Fail> {
-    let mut args = Words::new(rt.alloc());
-    for word in ["-c", script, "name", "two words"] {
-        args.push(content(rt, word)?)?;
+/// The words that run the script as the shell `program`, with one variable.
+fn words(rt: &HostRuntime, program: &str, script: &str) -> Result<Words, AllocError> {
+    let mut words = Words::new(rt.alloc());
+    for word in [
+        "env=PATH=/usr/bin:/bin",
+        "--",
+        program,
+        "-c",
+        script,
+        "name",
+        "two words",
+    ] {
+        words.push(content(rt, word)?)?;
     }
-    let mut env = Env::new(rt.alloc());
-    env.set(content(rt, "PATH")?, content(rt, "/usr/bin:/bin")?)?;
-    Ok(Command {
-        program: content(rt, program)?,
-        args,
-        cwd: Path::read(rt.alloc(), cwd.as_bytes())?,
-        env,
-        inputs: Paths::new(rt.alloc()),
-        templates: Templates::new(rt.alloc()),
-    })
+    Ok(words)
+}
+
+/// The command of these words in the folder `cwd`.
+fn captured(rt: &HostRuntime, words: &Words, cwd: &str) -> Result<Command, Fail> {
+    let cwd = Path::read(rt.alloc(), cwd.as_bytes())?;
+    let captured = capture(rt.alloc(), words, &cwd);
+    drop(cwd);
+    Ok(captured?)
+}
+
+fn push_row(rt: &HostRuntime, rows: &mut JobRows, path: &str, node: Node) -> Result<(), Fail> {
+    let path = Path::read(rt.alloc(), path.as_bytes())?;
+    rows.push(JobRow { path, node })?;
+    Ok(())
 }
 
 /// A folder `a` and a file `a/b`.
 fn rows(rt: &HostRuntime) -> Result<JobRows, Fail> {
     let mut rows = JobRows::new(rt.alloc());
-    rows.push(JobRow {
-        path: Path::read(rt.alloc(), b"a")?,
-        node: Node::Folder,
-    })?;
-    rows.push(JobRow {
-        path: Path::read(rt.alloc(), b"a/b")?,
-        node: Node::File(content(rt, "old")?),
-    })?;
+    push_row(rt, &mut rows, "a", Node::Folder)?;
+    push_row(rt, &mut rows, "a/b", Node::File(content(rt, "old")?))?;
     Ok(rows)
 }
 
 fn job(rt: &HostRuntime, program: &str, cwd: &str, script: &str) -> Result<Job, Fail> {
+    let words = words(rt, program, script)?;
+    let command = captured(rt, &words, cwd);
+    drop(words);
+    let command = command?;
     let rows = rows(rt)?;
-    Ok(Job {
-        command: command(rt, program, cwd, script)?,
-        rows,
-    })
+    Ok(Job { command, rows })
 }
 
 /// The status and the rows, folders with `/` behind them and files with their contents.
@@ -76,12 +84,24 @@ fn count(rt: &HostRuntime, folder: &str) -> Result<usize, Fail> {
     Ok(fs::read_dir(rt, folder)?.count())
 }
 
-/// Runs the job in `work`, where it leaves nothing, and shows what came of it, with the count of a fault.
-fn ran_as(rt: &HostRuntime, work: &str, job: &Job) -> Result<String, Fail> {
-    ran_within(rt, work, job, None)
+/// What came of the job in `work`, with the count of a fault.
+fn told(
+    rt: &HostRuntime,
+    runner: &mut ChildRunner<HostRuntime>,
+    work: &str,
+    job: &Job,
+) -> Result<String, Fail> {
+    match runner.run(work.as_bytes(), job) {
+        Ok(outcome) => {
+            let text = shown(rt, &outcome);
+            drop(outcome);
+            text
+        }
+        Err(error) => Ok(format!(in rt.alloc(); "{error}, {}", runner.faults())?),
+    }
 }
 
-/// The same, where the job may run no longer than this.
+/// Runs the job in `work`, where it leaves nothing, and shows what came of it.
 fn ran_within(
     rt: &HostRuntime,
     work: &str,
@@ -89,24 +109,44 @@ fn ran_within(
     longest: Option<Duration>,
 ) -> Result<String, Fail> {
     let mut runner = ChildRunner::new(rt, process::id(rt.process()), longest);
-    let text = match runner.run(work.as_bytes(), job) {
-        Ok(outcome) => shown(rt, &outcome)?,
-        Err(error) => format!(in rt.alloc(); "{error}, {}", runner.faults())?,
-    };
+    let text = told(rt, &mut runner, work, job);
+    drop(runner);
+    let text = text?;
     fs::remove_dir(rt, work)?;
     Ok(text)
 }
 
+/// Runs the script in the shell `program`, in the folder `cwd` of what `work` has.
+fn ran_in(
+    rt: &HostRuntime,
+    work: &str,
+    program: &str,
+    cwd: &str,
+    script: &str,
+) -> Result<String, Fail> {
+    let job = job(rt, program, cwd, script)?;
+    let text = ran_within(rt, work, &job, None);
+    drop(job);
+    text
+}
+
 /// Runs the script in the shell.
 fn ran(rt: &HostRuntime, work: &str, script: &str) -> Result<String, Fail> {
+    ran_in(rt, work, "/bin/sh", "", script)
+}
+
+/// Runs the script in the shell, where it may run two seconds.
+fn ran_briefly(rt: &HostRuntime, work: &str, script: &str) -> Result<String, Fail> {
     let job = job(rt, "/bin/sh", "", script)?;
-    ran_as(rt, work, &job)
+    let text = ran_within(rt, work, &job, Some(Duration::from_secs(2)));
+    drop(job);
+    text
 }
 
 #[test]
 fn the_shell_makes_a_file(rt: HostRuntime) -> Result<(), Fail> {
     let text = ran(&rt, "work_made", "printf new > c; exit 3")?;
-    assert_eq!(rt; text.as_str(), "3 a/ a/b=old c=new");
+    assert!(rt; text.as_str() == "3 a/ a/b=old c=new");
     Ok(())
 }
 
@@ -114,17 +154,16 @@ fn the_shell_makes_a_file(rt: HostRuntime) -> Result<(), Fail> {
 fn a_child_writes_removes_and_makes_folders(rt: HostRuntime) -> Result<(), Fail> {
     let script = "rm a/b && mkdir a/b && printf 1 > a/b/c && mkdir -p a.d/e && printf 2 > a/z";
     let text = ran(&rt, "work_changed", script)?;
-    assert_eq!(rt; text.as_str(), "0 a/ a/b/ a/b/c=1 a/z=2 a.d/ a.d/e/");
+    assert!(rt; text.as_str() == "0 a/ a/b/ a/b/c=1 a/z=2 a.d/ a.d/e/");
     Ok(())
 }
 
 #[test]
 fn it_has_its_words_and_variables_in_its_folder(rt: HostRuntime) -> Result<(), Fail> {
     let script = "printf '%s,' $0 \"$@\" > w; printf '%s,' $PATH \"$HOME\" $(cat) > v; echo x";
-    let job = job(&rt, "/bin/sh", "a", script)?;
-    let text = ran_as(&rt, "work_words", &job)?;
+    let text = ran_in(&rt, "work_words", "/bin/sh", "a", script)?;
     let wanted = "0 a/ a/b=old a/v=/usr/bin:/bin,, a/w=name,two words,";
-    assert_eq!(rt; text.as_str(), wanted);
+    assert!(rt; text.as_str() == wanted);
     Ok(())
 }
 
@@ -140,16 +179,15 @@ fn what_is_no_outcome_is_a_fault(rt: HostRuntime) -> Result<(), Fail> {
         "truncate -s 33554430 c",
     ] {
         let text = ran(&rt, "work_fault", script)?;
-        assert_eq!(rt; text.as_str(), "the run failed, 1");
+        assert!(rt; text.as_str() == "the run failed, 1");
     }
     Ok(())
 }
 
 #[test]
 fn what_does_not_exist_is_not_started(rt: HostRuntime) -> Result<(), Fail> {
-    let job = job(&rt, "/bin/no-such-program", "", "")?;
-    let text = ran_as(&rt, "work_missing", &job)?;
-    assert_eq!(rt; text.as_str(), "the run failed, 1");
+    let text = ran_in(&rt, "work_missing", "/bin/no-such-program", "", "")?;
+    assert!(rt; text.as_str() == "the run failed, 1");
     Ok(())
 }
 
@@ -161,9 +199,8 @@ fn what_runs_too_long_is_ended(rt: HostRuntime) -> Result<(), Fail> {
         ("kill -9 $$", "the run failed, 1"),
         ("sleep 0.1; printf 1 > c; exit 3", "3 a/ a/b=old c=1"),
     ] {
-        let job = job(&rt, "/bin/sh", "", script)?;
-        let text = ran_within(&rt, "work_long", &job, Some(Duration::from_secs(2)))?;
-        assert_eq!(rt; text.as_str(), wanted);
+        let text = ran_briefly(&rt, "work_long", script)?;
+        assert!(rt; text.as_str() == wanted);
     }
     assert!(rt; start.elapsed(&rt)? < Duration::from_secs(30));
     Ok(())
@@ -183,40 +220,20 @@ fn it_reads_2000_files_and_32_folders(rt: HostRuntime) -> Result<(), Fail> {
     let script = "p=a; for i in 1 2 3 4 5 6 7; do p=$p/a/a/a/a; done; mkdir -p $p/a/a/a; \
         i=0; while [ $i -lt 2000 ]; do : > f$i; i=$((i + 1)); done";
     let text = ran(&rt, "work_many", script)?;
-    assert_eq!(rt;
-        text.as_bytes().iter().filter(|b| **b == b'=').count(),
-        2001
-    );
-    assert_eq!(rt;
-        text.as_bytes().iter().filter(|b| **b == b' ').count(),
-        2001 + 32
-    );
+    assert!(rt; text.as_bytes().iter().filter(|b| **b == b'=').count() == 2001);
+    assert!(rt; text.as_bytes().iter().filter(|b| **b == b' ').count() == 2001 + 32);
     Ok(())
 }
 
-/// Runs the shell in `work`, and tells whether it was run.
-fn is_run(
-    rt: &HostRuntime,
-    runner: &mut ChildRunner<HostRuntime>,
-    work: &str,
-) -> Result<bool, Fail> {
+/// Whether two runners of the process `number` run the shell in `work`.
+fn both_run(rt: &HostRuntime, number: u32, work: &str) -> Result<bool, Fail> {
     let job = job(rt, "/bin/sh", "", "exit 0")?;
-    Ok(runner.run(work.as_bytes(), &job).is_ok())
-}
-
-#[test]
-fn two_runners_have_one_work(rt: HostRuntime) -> Result<(), Fail> {
-    let number = process::id(rt.process());
-    let folder = format!(in rt.alloc(); "work_two/run-{number}-0")?;
-    fs::create_dir_all(&rt, folder.as_str())?;
-    let mut one = ChildRunner::new(&rt, number, None);
-    let mut other = ChildRunner::new(&rt, number, None);
-    assert!(rt; is_run(&rt, &mut one, "work_two")?);
-    assert!(rt; is_run(&rt, &mut other, "work_two")?);
-    assert_eq!(rt; count(&rt, "work_two")?, 1);
-    fs::remove_dir(&rt, folder.as_str())?;
-    fs::remove_dir(&rt, "work_two")?;
-    Ok(())
+    let mut one = ChildRunner::new(rt, number, None);
+    let mut other = ChildRunner::new(rt, number, None);
+    let first = one.run(work.as_bytes(), &job).is_ok();
+    let second = other.run(work.as_bytes(), &job).is_ok();
+    drop(job);
+    Ok(first && second)
 }
 
 /// Makes the folder in `work`.
@@ -226,17 +243,42 @@ fn make(rt: &HostRuntime, work: &str, name: &str) -> Result<(), Fail> {
     Ok(())
 }
 
+/// Removes the empty folder in `work`.
+fn remove(rt: &HostRuntime, work: &str, name: &str) -> Result<(), Fail> {
+    let folder = format!(in rt.alloc(); "{work}/{name}")?;
+    fs::remove_dir(rt, folder.as_str())?;
+    Ok(())
+}
+
+#[test]
+fn two_runners_have_one_work(rt: HostRuntime) -> Result<(), Fail> {
+    let number = process::id(rt.process());
+    let left = format!(in rt.alloc(); "run-{number}-0")?;
+    make(&rt, "work_two", left.as_str())?;
+    assert!(rt; both_run(&rt, number, "work_two")?);
+    assert!(rt; count(&rt, "work_two")? == 1);
+    remove(&rt, "work_two", left.as_str())?;
+    fs::remove_dir(&rt, "work_two")?;
+    Ok(())
+}
+
+/// Whether a runner of the process `number` clears the folder.
+fn is_cleared(rt: &HostRuntime, number: u32, work: &str) -> bool {
+    let mut runner = ChildRunner::new(rt, number, None);
+    runner.clear(work.as_bytes()).is_ok()
+}
+
 #[test]
 fn folders_of_processes_that_are_gone_are_removed(rt: HostRuntime) -> Result<(), Fail> {
     let number = process::id(rt.process());
-    let mut runner = ChildRunner::new(&rt, number, None);
-    assert_eq!(rt; runner.clear(b"work_left"), Ok(()));
+    assert!(rt; is_cleared(&rt, number, "work_left"));
     let own = format!(in rt.alloc(); "run-{number}-0")?;
     for name in [GONE, own.as_str(), "run-04194305-0", "run-4194305-0x"] {
         make(&rt, "work_left", name)?;
     }
-    assert_eq!(rt; runner.clear(b"work_left"), Ok(()));
-    assert_eq!(rt; count(&rt, "work_left")?, 3);
+    drop(own);
+    assert!(rt; is_cleared(&rt, number, "work_left"));
+    assert!(rt; count(&rt, "work_left")? == 3);
     fs::remove_dir_all(&rt, "work_left")?;
     Ok(())
 }

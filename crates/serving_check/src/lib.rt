@@ -1,6 +1,8 @@
-//! Tests of the server program and of the surrogate program over ports in memory.
+//! Tests of the server program and of the surrogate program over ports in memory, and of the real edge over peers of its own.
 #![tactic(auto)]
 
+#[cfg(test)]
+mod edge_tests;
 #[cfg(test)]
 mod probe;
 #[cfg(test)]

@@ -127,8 +127,8 @@ fn serve(
 fn a_repeated_store_is_answered_twice(rt: HostRuntime) -> Result<(), Fail> {
     let texts = ["run", "l", "img", "2"];
     let (ended, answers) = serve(rt.alloc(), &texts, &[STORE; 2], &[], b"served 2 faults 0\n")?;
-    assert_eq!(rt; ended, (0, true));
-    assert_eq!(rt; answers, [Some(true), Some(true), None]);
+    assert!(rt; ended == (0, true));
+    assert!(rt; answers == [Some(true), Some(true), None]);
     Ok(())
 }
 
@@ -152,7 +152,7 @@ fn serve_nothing(alloc: Global) -> Result<(Ended, bool), AllocError> {
 
 #[test]
 fn bytes_of_no_form_are_answered(rt: HostRuntime) -> Result<(), Fail> {
-    assert_eq!(rt; serve_nothing(rt.alloc())?, ((0, true), true));
+    assert!(rt; serve_nothing(rt.alloc())? == ((0, true), true));
     Ok(())
 }
 
@@ -167,8 +167,8 @@ fn a_fault_ends_one_connection(rt: HostRuntime) -> Result<(), Fail> {
         &[2, 4],
         b"served 3 faults 2\n",
     )?;
-    assert_eq!(rt; ended, (0, true));
-    assert_eq!(rt; answers, [Some(true), None, Some(true)]);
+    assert!(rt; ended == (0, true));
+    assert!(rt; answers == [Some(true), None, Some(true)]);
     Ok(())
 }
 
@@ -176,8 +176,8 @@ fn a_fault_ends_one_connection(rt: HostRuntime) -> Result<(), Fail> {
 fn the_count_ends_the_serving(rt: HostRuntime) -> Result<(), Fail> {
     let texts = ["run", "l", "img", "2"];
     let (ended, answers) = serve(rt.alloc(), &texts, &[STORE; 3], &[], b"served 2 faults 0\n")?;
-    assert_eq!(rt; ended, (0, true));
-    assert_eq!(rt; answers, [Some(true), Some(true), None]);
+    assert!(rt; ended == (0, true));
+    assert!(rt; answers == [Some(true), Some(true), None]);
     Ok(())
 }
 
@@ -199,7 +199,7 @@ fn serve_untold(alloc: Global) -> Result<(Ended, Option<bool>), AllocError> {
 
 #[test]
 fn a_failing_sink_is_told(rt: HostRuntime) -> Result<(), Fail> {
-    assert_eq!(rt; serve_untold(rt.alloc())?, ((4, true), Some(true)));
+    assert!(rt; serve_untold(rt.alloc())? == ((4, true), Some(true)));
     Ok(())
 }
 
@@ -217,8 +217,8 @@ fn other_words_touch_nothing(rt: HostRuntime) -> Result<(), Fail> {
     ];
     for form in forms {
         let (ended, answers) = serve(rt.alloc(), form, &[STORE], &[], b"")?;
-        assert_eq!(rt; ended, (2, true));
-        assert_eq!(rt; answers, [None; 3]);
+        assert!(rt; ended == (2, true));
+        assert!(rt; answers == [None; 3]);
     }
     Ok(())
 }
@@ -279,13 +279,13 @@ fn serve_again(alloc: Global) -> Result<(Served, usize, (Served, bool)), AllocEr
 #[test]
 fn a_taken_store_is_kept_once(rt: HostRuntime) -> Result<(), Fail> {
     let ((ended, answers), size, next) = serve_again(rt.alloc())?;
-    assert_eq!(rt; ended, (0, true));
-    assert_eq!(rt; answers, [Some(true), Some(true), None]);
-    assert_eq!(rt; size, ONE);
+    assert!(rt; ended == (0, true));
+    assert!(rt; answers == [Some(true), Some(true), None]);
+    assert!(rt; size == ONE);
     // The next server has taken the store already.
     let ((ended, answers), same) = next;
-    assert_eq!(rt; ended, (0, true));
-    assert_eq!(rt; answers, [Some(true), None, None]);
+    assert!(rt; ended == (0, true));
+    assert!(rt; answers == [Some(true), None, None]);
     assert!(rt; same);
     Ok(())
 }
@@ -324,8 +324,8 @@ fn keep_one_and_both(alloc: Global) -> Result<(usize, (usize, bool)), AllocError
 #[test]
 fn another_store_is_a_record_behind_the_image(rt: HostRuntime) -> Result<(), Fail> {
     let (one, both) = keep_one_and_both(rt.alloc())?;
-    assert_eq!(rt; one, ONE);
-    assert_eq!(rt; both, (ONE + RECORD.len(), true));
+    assert!(rt; one == ONE);
+    assert!(rt; both == (ONE + RECORD.len(), true));
     Ok(())
 }
 
@@ -377,10 +377,10 @@ fn a_torn_record_is_dropped(rt: HostRuntime) -> Result<(), Fail> {
     for part in 0..33 {
         let [first, next] = cut_at(rt.alloc(), part)?;
         // Entry 2 is answered in the next run alone.
-        assert_eq!(rt; first, ((5, [1, 0]), ONE + part as usize));
+        assert!(rt; first == ((5, [1, 0]), ONE + part as usize));
         // A whole record has been taken; else entry 2 is taken now, and the first keeping of a run is a save.
         let then = if part == 32 { ONE + 32 } else { TWO };
-        assert_eq!(rt; next, ((0, [1, 2]), then));
+        assert!(rt; next == ((0, [1, 2]), then));
     }
     Ok(())
 }
@@ -404,8 +404,8 @@ fn serve_unkept(alloc: Global, call: u32) -> Result<(Served, bool), AllocError> 
 fn a_failing_keeper_answers_nothing(rt: HostRuntime) -> Result<(), Fail> {
     for call in [0, 1] {
         let ((ended, answers), is_new) = serve_unkept(rt.alloc(), call)?;
-        assert_eq!(rt; ended, (5, true));
-        assert_eq!(rt; answers, [None; 3]);
+        assert!(rt; ended == (5, true));
+        assert!(rt; answers == [None; 3]);
         assert!(rt; is_new);
     }
     Ok(())
@@ -425,8 +425,8 @@ fn serve_odd(alloc: Global, kept: &[u8]) -> Result<(Served, bool), AllocError> {
 #[test]
 fn what_is_no_image_is_not_served(rt: HostRuntime) -> Result<(), Fail> {
     let ((ended, answers), same) = serve_odd(rt.alloc(), b"OSSI")?;
-    assert_eq!(rt; ended, (6, true));
-    assert_eq!(rt; answers, [None; 3]);
+    assert!(rt; ended == (6, true));
+    assert!(rt; answers == [None; 3]);
     assert!(rt; same);
     Ok(())
 }
@@ -458,6 +458,6 @@ fn serve_program(rt: &HostRuntime) -> Result<(bool, Option<bool>), AllocError> {
 
 #[test]
 fn the_program_serves(rt: HostRuntime) -> Result<(), Fail> {
-    assert_eq!(rt; serve_program(&rt)?, (true, Some(true)));
+    assert!(rt; serve_program(&rt)? == (true, Some(true)));
     Ok(())
 }

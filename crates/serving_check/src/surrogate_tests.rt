@@ -264,7 +264,7 @@ fn a_silent_server_is_told(rt: HostRuntime) -> Result<(), Fail> {
     let alloc = rt.alloc();
     let given = outcome(alloc, 0, &[b"a"])?;
     let told = answers(alloc, true, &[&OPERATION], given, &[&NO_SERVER], ONE)?;
-    assert_eq!(rt; told, (true, 8));
+    assert!(rt; told == (true, 8));
     Ok(())
 }
 

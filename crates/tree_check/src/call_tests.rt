@@ -91,7 +91,7 @@ fn counts(alloc: Global) -> Result<(usize, usize, u32), Fail> {
 
 #[test]
 fn lends_rows_names_and_copies(rt: HostRuntime) -> Result<(), Fail> {
-    assert_eq!(rt; counts(rt.alloc())?, (1, 1, 1));
+    assert!(rt; counts(rt.alloc())? == (1, 1, 1));
     Ok(())
 }
 
@@ -160,7 +160,7 @@ fn rows_of_a_tree_are_taken_and_spelled(rt: HostRuntime) -> Result<(), Fail> {
     let bytes = [
         0, 0, 0, 1, 0, 1, b'a', 0, 0, 0, 0, 0, 0, 0, 1, 2, 0, 0, 0, 1, b'x',
     ];
-    assert_eq!(rt; rows_again(alloc, &bytes)?.as_slice(), bytes.as_slice());
+    assert!(rt; rows_again(alloc, &bytes)?.as_slice() == bytes.as_slice());
     assert!(rt; matches!(Rows::take(alloc, &bytes[..20], 0), Err(TakeError::At(20))));
     Ok(())
 }

@@ -1,10 +1,12 @@
-//! Tests of the volume tree at its limits and of its calls, and of paths and values in bytes.
+//! Tests of the volume tree at its limits and of its calls, of paths and values in bytes, and of the lists in parts below it.
 #![tactic(auto)]
 
 #[cfg(test)]
 mod call_tests;
 #[cfg(test)]
 mod kept;
+#[cfg(test)]
+mod lists;
 #[cfg(test)]
 mod path_tests;
 #[cfg(test)]

@@ -26,7 +26,7 @@ fn bases_are_taken_and_spelled(rt: HostRuntime) -> Result<(), Fail> {
     let bytes = [0, 0, 0, 1, 0, 1, b'a', 0, 0, 0, 0, 0, 0, 0, 7];
     let (out, next) = bases_again(rt.alloc(), &bytes)?;
     assert!(rt; next == 15);
-    assert_eq!(rt; out.as_slice(), bytes.as_slice());
+    assert!(rt; out.as_slice() == bytes.as_slice());
     Ok(())
 }
 
@@ -42,9 +42,9 @@ fn takes_effects(alloc: Global, bytes: &[u8], most: u32, room: usize) -> Result<
 fn effects_are_taken_within_their_limits(rt: HostRuntime) {
     let alloc = rt.alloc();
     let put = [0, 0, 0, 1, 2, 0, 1, b'a', 0, 0, 0, 2, b'h', b'i'];
-    assert_eq!(rt; takes_effects(alloc, &put, 1, 2), Ok(1));
-    assert_eq!(rt; takes_effects(alloc, &put, 0, 2), Err(TakeError::At(0)));
-    assert_eq!(rt; takes_effects(alloc, &put, 1, 1), Err(TakeError::At(8)));
+    assert!(rt; takes_effects(alloc, &put, 1, 2) == Ok(1));
+    assert!(rt; takes_effects(alloc, &put, 0, 2) == Err(TakeError::At(0)));
+    assert!(rt; takes_effects(alloc, &put, 1, 1) == Err(TakeError::At(8)));
 }
 
 const NOT_EMPTY: [u8; 9] = [6, 0, 1, b'a', 0, 3, b'a', b'/', b'b'];
@@ -69,10 +69,10 @@ fn refusals_are_taken_and_spelled(rt: HostRuntime) -> Result<(), Fail> {
     let alloc = rt.alloc();
     let (out, next) = refusal_again(alloc, &NOT_EMPTY)?;
     assert!(rt; next == 9);
-    assert_eq!(rt; out.as_slice(), NOT_EMPTY.as_slice());
+    assert!(rt; out.as_slice() == NOT_EMPTY.as_slice());
     let (out, next) = refusal_again(alloc, &ROWS_FULL)?;
     assert!(rt; next == 5);
-    assert_eq!(rt; out.as_slice(), ROWS_FULL.as_slice());
+    assert!(rt; out.as_slice() == ROWS_FULL.as_slice());
     Ok(())
 }
 
@@ -90,12 +90,9 @@ fn fault_of(alloc: Global, bytes: &[u8], allowed: &[u8]) -> Option<TakeError> {
 #[test]
 fn refusals_are_taken_where_they_are_allowed(rt: HostRuntime) {
     let alloc = rt.alloc();
-    assert_eq!(rt; fault_of(alloc, &ROWS_FULL, &[9, 7]), None);
-    assert_eq!(rt;
-        fault_of(alloc, &ROWS_FULL, &[6, 9]),
-        Some(TakeError::At(0))
-    );
-    assert_eq!(rt; fault_of(alloc, &[11], &[11]), Some(TakeError::At(0)));
+    assert!(rt; fault_of(alloc, &ROWS_FULL, &[9, 7]) == None);
+    assert!(rt; fault_of(alloc, &ROWS_FULL, &[6, 9]) == Some(TakeError::At(0)));
+    assert!(rt; fault_of(alloc, &[11], &[11]) == Some(TakeError::At(0)));
 }
 
 /// How many paths a move and a making of its target touch.
@@ -116,6 +113,6 @@ fn touched(alloc: Global) -> Result<usize, Fail> {
 
 #[test]
 fn lists_touched_paths(rt: HostRuntime) -> Result<(), Fail> {
-    assert_eq!(rt; touched(rt.alloc())?, 2);
+    assert!(rt; touched(rt.alloc())? == 2);
     Ok(())
 }

@@ -32,8 +32,8 @@ fn four_reads(alloc: Global) -> Result<([Result<usize, Failed>; 4], [u8; 3]), Al
 #[test]
 fn a_named_read_takes_nothing(rt: HostRuntime) -> Result<(), Fail> {
     let (reads, held) = four_reads(rt.alloc())?;
-    assert_eq!(rt; reads, [Ok(3), Err(Failed), Ok(2), Ok(0)]);
-    assert_eq!(rt; held, *b"dec");
+    assert!(rt; reads == [Ok(3), Err(Failed), Ok(2), Ok(0)]);
+    assert!(rt; held == *b"dec");
     Ok(())
 }
 
@@ -54,8 +54,8 @@ fn three_writes(alloc: Global, held: &[u8]) -> Result<(Writes, bool), AllocError
 #[test]
 fn a_named_write_adds_nothing(rt: HostRuntime) -> Result<(), Fail> {
     let ((texts, piece), same) = three_writes(rt.alloc(), b"one three")?;
-    assert_eq!(rt; texts, [Ok(()), Err(SinkError::Failed)]);
-    assert_eq!(rt; piece, Ok(5));
+    assert!(rt; texts == [Ok(()), Err(SinkError::Failed)]);
+    assert!(rt; piece == Ok(5));
     assert!(rt; same);
     Ok(())
 }
@@ -109,10 +109,10 @@ fn takes_and_answers(
 #[test]
 fn a_named_take_uses_up_its_frame(rt: HostRuntime) -> Result<(), Fail> {
     let (taken, answers, answered) = takes_and_answers(rt.alloc())?;
-    assert_eq!(rt; taken, [true; 5]);
+    assert!(rt; taken == [true; 5]);
     let failed = Err(PortError::Failed);
-    assert_eq!(rt; answers, [failed, Ok(()), failed]);
-    assert_eq!(rt; answered, [true; 2]);
+    assert!(rt; answers == [failed, Ok(()), failed]);
+    assert!(rt; answered == [true; 2]);
     Ok(())
 }
 
@@ -160,8 +160,8 @@ fn saves(alloc: Global) -> Result<([Result<(), KeepError>; 4], [bool; 4]), Alloc
 fn a_named_save_leaves_the_old_image_or_the_new(rt: HostRuntime) -> Result<(), Fail> {
     let (saved, images) = saves(rt.alloc())?;
     let failed = Err(KeepError::Failed);
-    assert_eq!(rt; saved, [Ok(()), failed, failed, Ok(())]);
-    assert_eq!(rt; images, [true; 4]);
+    assert!(rt; saved == [Ok(()), failed, failed, Ok(())]);
+    assert!(rt; images == [true; 4]);
     Ok(())
 }
 
@@ -202,8 +202,8 @@ fn a_named_append_leaves_a_front_of_its_piece(rt: HostRuntime) -> Result<(), Fai
         Ok(()),
         Ok(()),
     ];
-    assert_eq!(rt; kept, expected);
-    assert_eq!(rt; images, [true; 3]);
+    assert!(rt; kept == expected);
+    assert!(rt; images == [true; 3]);
     Ok(())
 }
 

@@ -1,67 +1,28 @@
-//! A client of this machine whose surrogate, in this very process, asks a server in memory. The program starts itself as the client: a
-//! command that it has run is run again by the surrogate, and what passes between surrogate and server is shown.
-#![tactic(auto)]
+//! A client whose surrogate, in this very process, asks a server in memory: a command that the client has run is run again by the
+//! surrogate, and what passes between surrogate and server is shown.
 
+use crate::{FAR, INPUT, NEAR};
 use child_runner::ChildRunner;
-use program_words::given_words;
 use real_edge::{StdSink, TcpPort};
 use run_probe::{Network, account_of_network, network};
 use server_core::Server;
 use std::alloc::Global;
-use std::fs::{self, File};
+use std::fs::File;
 use std::io::{self, Write};
 use std::net::Net;
-use std::process::{self, Child, ExitCode, Processes};
+use std::process::{Child, Processes};
 use std::rt::{Env, Files};
 use std::time::{Clock, Duration};
 use surrogate_prog::surrogate_run;
-use tcp_probe::{
-    CLIENT, IMAGE, address_of, bound, command_of, forget, free_address, print_ended, run_as,
-    spawned,
-};
-
-/// The folder in which the client runs commands.
-const NEAR: &str = "near";
-
-/// The folder in which the surrogate does.
-const FAR: &str = "far";
-
-/// What the client is to do: a command makes a file that is longer than itself, and is shipped.
-const INPUT: &[u8] =
-    b"run env=PATH=/usr/bin:/bin -- /bin/sh -c 'printf %0300d 7 > a'\nsync\nquit\n";
+use tcp_probe::{CLIENT, IMAGE, address_of, bound, command_of, free_address, print_ended, spawned};
 
 /// How many seconds the surrogate's command may run.
 const COMMAND_SECONDS: u64 = 60;
 
-/// With words it is the client. Without any it shows what a client's operation comes to.
-fn main(rt: HostRuntime) -> io::Result<ExitCode> {
-    let words = given_words(&rt)?;
-    let process = process::id(rt.process());
-    if words.is_empty() {
-        return show(&rt, process);
-    }
-    Ok(run_as(&rt, process, &words))
-}
-
-/// Serves a client that is started, and removes what was left.
-fn show<R: Processes + Files<File = File> + Env + AllocGlobal + Net + Clock + Print>(
-    rt: &R,
-    process: u32,
-) -> io::Result<ExitCode> {
-    forget(rt);
-    let shown = show_port(rt, process);
-    for folder in [NEAR, FAR] {
-        let _removed = fs::remove_dir(rt, folder);
-    }
-    forget(rt);
-    shown?;
-    Ok(ExitCode::SUCCESS)
-}
-
-fn show_port<R: Processes + Files<File = File> + Env + AllocGlobal + Net + Clock + Print>(
-    rt: &R,
-    process: u32,
-) -> io::Result<()> {
+/// A client is started whose surrogate serves it here.
+pub(crate) fn show_port<
+    R: Processes + Files<File = File> + Env + AllocGlobal + Net + Clock + Print,
+>(rt: &R, process: u32) -> io::Result<()> {
     let mut port = bound(rt)?;
     let shown = show_network(rt, process, &mut port);
     drop(port);

@@ -87,7 +87,7 @@ fn lines_are_read(rt: HostRuntime) -> Result<(), Fail> {
     );
     let rows: [(&[u8], u8); 4] = [(b"", b'e'), (b"ls", b'l'), (b"pull", b'p'), (b"quit", b'q')];
     for (line, expected) in rows {
-        assert_eq!(rt; letter(alloc, line)?, expected);
+        assert!(rt; letter(alloc, line)? == expected);
     }
     Ok(())
 }
@@ -114,7 +114,7 @@ fn lines_are_refused(rt: HostRuntime) -> Result<(), Fail> {
         (b"pull x", b"refused WrongCount 1\n"),
     ];
     for (line, text) in &rows {
-        assert_eq!(rt; refusal_of(alloc, *line)?.as_slice(), *text);
+        assert!(rt; refusal_of(alloc, *line)?.as_slice() == *text);
     }
     Ok(())
 }
@@ -365,7 +365,7 @@ fn lines_are_cut(rt: HostRuntime) -> Result<(), Fail> {
     buffer.add(b"c\nd")?;
     assert!(rt; matches!(buffer.first_line(), Some(line) if line == b"bc".as_slice()));
     buffer.pass(3);
-    assert_eq!(rt; buffer.bytes(), b"d".as_slice());
+    assert!(rt; buffer.bytes() == b"d".as_slice());
     Ok(())
 }
 
@@ -373,7 +373,7 @@ fn lines_are_cut(rt: HostRuntime) -> Result<(), Fail> {
 fn puts_have_a_line_end(rt: HostRuntime) -> Result<(), Fail> {
     let alloc = rt.alloc();
     let content = put_content(alloc, &Content::of(alloc, b"x y")?)?;
-    assert_eq!(rt; content.bytes(), b"x y\n".as_slice());
+    assert!(rt; content.bytes() == b"x y\n".as_slice());
     Ok(())
 }
 
@@ -394,7 +394,7 @@ fn a_child_is_copied(rt: HostRuntime) -> Result<(), Fail> {
         return Err(Fail::from("want of memory"));
     };
     assert!(rt; copied.folder);
-    assert_eq!(rt; copied.name.bytes(), b"hi".as_slice());
+    assert!(rt; copied.name.bytes() == b"hi".as_slice());
     Ok(())
 }
 
@@ -407,7 +407,7 @@ fn children_are_copied(rt: HostRuntime) -> Result<(), Fail> {
     let Ok(copied) = copied else {
         return Err(Fail::from("want of memory"));
     };
-    assert_eq!(rt; copied.len(), 1);
+    assert!(rt; copied.len() == 1);
     assert!(rt; matches!(copied.get(0), Some(child) if child.name.bytes() == b"hi".as_slice()));
     Ok(())
 }
@@ -422,7 +422,7 @@ fn refusals_have_texts(rt: HostRuntime) -> Result<(), Fail> {
         (LineError::Memory, "out of memory"),
     ];
     for (refusal, text) in &rows {
-        assert_eq!(rt; refusal.to_string(rt.alloc())?.as_str(), *text);
+        assert!(rt; refusal.to_string(rt.alloc())?.as_str() == *text);
     }
     Ok(())
 }

@@ -1,8 +1,12 @@
-// What no contract says: which connections are made, and what becomes of a call of a peer that failed.
-use crate::link::connect;
-use crate::{TcpLink, TcpPort};
+//! The real edge over peers of this process: which connections are made, and what becomes of a call of a peer that failed. Each
+//! link and each port ends in the function that made it, so that the tests hold truths alone.
+ghost use Rattle.std.specs.Prelude.{IfOk};
+ghost use Rattle.wire_frames.specs.declared.message.Message.TheVariants.{Pull};
+ghost use Rattle.wire_frames.specs.Frame.{Spells};
+
 use outside::{Port, PortError};
-use std::alloc::Global;
+use real_edge::{TcpLink, TcpPort};
+use std::alloc::{AllocError, Global};
 use std::io::{self, ErrorKind, Read, Write};
 use std::net::{
     IpAddr, Ipv4Addr, Net, OpenListener, OpenStream, Shutdown, SocketAddr, TcpListener,
@@ -10,9 +14,16 @@ use std::net::{
 use std::os::fd::{AsRawFd, RawFd};
 use std::test::Fail;
 use std::time::{Clock, Duration, Instant};
+use wire_frames::{Message, write};
+use world_rules::{Link, Peer};
 
-/// What a peer sends.
-const SENT: &[u8] = b"\0\0\0\x02hi";
+/// What a peer sends: the rows of a server without any, as it answers entry 1 of client 1's pull.
+const SENT: &[u8] = &[
+    0, 0, 0, 23, 1, 21, 1, 0, 0, 0, 0, 0, 0, 0, 1, 0, 0, 0, 0, 0, 0, 0, 0, 0, 0, 0, 0,
+];
+
+/// How many bytes the pull has.
+const PULL_BYTES: usize = 15;
 
 /// A peer that takes so many bytes, and no more, and gives what it sends.
 #[derive(Drop)]
@@ -138,48 +149,75 @@ fn address_of(number: u8) -> SocketAddr {
     SocketAddr::new(IpAddr::V4(Ipv4Addr::new(127, 0, 0, number)), 7001)
 }
 
+/// Whether what a peer sends is taken, whether the answer is then taken whole, of which it takes so many bytes, and whether a
+/// second answer is.
+fn answered(rt: &HostRuntime, room: usize) -> Result<[bool; 3], Fail> {
+    let others = Others { room };
+    let mut port = TcpPort::bind(rt.alloc(), &others, "127.0.0.1:7001")?;
+    let taken = port.take();
+    let came = matches!(&taken, Ok(Some(frame)) if frame.as_slice() == SENT);
+    drop(taken);
+    let first = port.answer(SENT);
+    let second = port.answer(SENT);
+    drop(port);
+    Ok([came, first == Ok(()), second == Ok(())])
+}
+
 #[test]
 fn an_answer_that_is_not_taken_whole_is_a_fault(rt: HostRuntime) -> Result<(), Fail> {
-    for (room, answered) in [(6, Ok(())), (5, Err(PortError::Failed))] {
-        let others = Others { room };
-        let mut port = TcpPort::bind(rt.alloc(), &others, "127.0.0.1:7001")?;
-        assert_eq!(rt; port.take(), Ok(Some(SENT.to_vec(rt.alloc())?)));
-        assert_eq!(rt; port.answer(SENT), answered);
-        assert_eq!(rt; port.answer(SENT), Err(PortError::Failed));
-    }
+    assert!(rt; answered(&rt, SENT.len())? == [true, true, false]);
+    assert!(rt; answered(&rt, SENT.len() - 1)? == [true, false, false]);
     Ok(())
+}
+
+/// The frame of a pull.
+fn pull(alloc: Global) -> Result<Vec<u8>, AllocError>
+    ensures { IfOk result (λ bytes. Spells (Pull 1 1) bytes.items) }
+{
+    let request = Message::Pull {
+        client: 1,
+        number: 1,
+    };
+    let frame = write(alloc, &request);
+    drop(request);
+    frame
+}
+
+/// Whether what comes back to a pull, over a new link, is what peers send.
+fn is_pulled<N: Net + Clock>(alloc: Global, net: &N, address: &str) -> Result<bool, AllocError> {
+    let frame = pull(alloc)?;
+    let mut link = TcpLink::new(alloc, net);
+    let reply = link.ask(Peer::Server, address.as_bytes(), &frame);
+    drop(frame);
+    drop(link);
+    let is_pulled = matches!(&reply, Ok(bytes) if bytes.as_slice() == SENT);
+    drop(reply);
+    Ok(is_pulled)
 }
 
 #[test]
 fn a_request_is_sent_once(rt: HostRuntime) -> Result<(), Fail> {
-    let others = Others { room: SENT.len() };
-    let reply = exchanged(rt.alloc(), &others, "127.0.0.4:7001")?;
-    assert_eq!(rt; reply.as_deref(), Some(SENT));
+    let others = Others { room: PULL_BYTES };
+    assert!(rt; is_pulled(rt.alloc(), &others, "127.0.0.4:7001")?);
     Ok(())
-}
-
-/// What comes back to a request over a new link within a second.
-fn exchanged<N: Net + Clock>(alloc: Global, net: &N, address: &str) -> io::Result<Option<Vec<u8>>> {
-    let link = TcpLink::new(alloc, net);
-    link.exchange(address.as_bytes(), SENT, 1)
 }
 
 /// A listener has connections made for it, which it does not take.
 #[test]
-fn a_silent_peer_is_waited_for_as_long_as_was_said(rt: HostRuntime) -> Result<(), Fail> {
+fn a_silent_server_is_waited_for_five_seconds(rt: HostRuntime) -> Result<(), Fail> {
     let listener = TcpListener::bind(&rt, "127.0.0.1:0")?;
     let number = listener.local_addr()?.port();
     let address = format!(in rt.alloc(); "127.0.0.1:{number}")?;
     let start = Instant::now(&rt)?;
-    assert_eq!(rt; exchanged(rt.alloc(), &rt, address.as_str())?, None);
-    assert!(rt; start.elapsed(&rt)? >= Duration::from_secs(1));
+    assert!(rt; !is_pulled(rt.alloc(), &rt, address.as_str())?);
+    assert!(rt; start.elapsed(&rt)? >= Duration::from_secs(5));
     Ok(())
 }
 
 #[test]
 fn the_last_of_four_addresses_is_tried(rt: HostRuntime) -> Result<(), Fail> {
-    let others = Others { room: 0 };
-    assert!(rt; connect(&others, b"peer:7001").is_ok());
-    assert!(rt; connect(&others, b"127.0.0.3:7001").is_err());
+    let others = Others { room: PULL_BYTES };
+    assert!(rt; is_pulled(rt.alloc(), &others, "peer:7001")?);
+    assert!(rt; !is_pulled(rt.alloc(), &others, "127.0.0.3:7001")?);
     Ok(())
 }

@@ -1,6 +1,6 @@
 //! Each call that takes memory, and many changes beside a plain vector. Each list ends in the function that made it.
 
-use super::*;
+use parted_list::PartedList;
 use std::alloc::{AllocError, Global};
 use std::rt::HostRuntime;
 use std::test::Fail;

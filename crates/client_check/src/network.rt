@@ -99,7 +99,7 @@ fn an_entry_on_what_another_client_changed_is_stale(rt: HostRuntime) -> Result<(
         troubles 0\nlast 1\nsent 1 Store 1 b 0\nsent 1 Accepted 1\nsent 1 Store 2 a 0\n\
         sent 2 Store 1 a 0\nsent 2 Accepted 1\nsent 1 Stale 2\n\
         row a 1 file 2\nz\nrow b 1 file 2\nx\n";
-    assert_eq!(rt; account.as_slice(), wanted.as_slice());
+    assert!(rt; account.as_slice() == wanted.as_slice());
     Ok(())
 }
 
@@ -113,7 +113,7 @@ fn a_folder_that_another_client_filled_stays(rt: HostRuntime) -> Result<(), Fail
         troubles 0\nlast 1\nsent 1 Store 1 d 0\nsent 1 Accepted 1\nsent 1 Store 2 d 1\n\
         sent 2 Store 1 d/z 0\nsent 2 Accepted 1\nsent 1 Unfit 2\n\
         row d 1 folder\nrow d/z 1 file 2\ny\n";
-    assert_eq!(rt; account.as_slice(), wanted.as_slice());
+    assert!(rt; account.as_slice() == wanted.as_slice());
     Ok(())
 }
 
@@ -122,7 +122,7 @@ fn nothing_is_pulled_while_entries_are_pending(rt: HostRuntime) -> Result<(), Fa
     let account = account_of(rt.alloc(), b"put a x\npull\n")?;
     let wanted =
         b"logged 1\nrefused Pending 1\nacknowledged 0 pending 1\nstatus 0\ntroubles 0\nlast 0\n";
-    assert_eq!(rt; account.as_slice(), wanted.as_slice());
+    assert!(rt; account.as_slice() == wanted.as_slice());
     Ok(())
 }
 
@@ -133,7 +133,7 @@ fn another_clients_row_is_pulled(rt: HostRuntime) -> Result<(), Fail> {
     let account = account_on(alloc, server, Vec::new(alloc), b"pull\ncat a\n")?;
     let wanted = b"pulled 1\n2\nz\nacknowledged 0 pending 0\nstatus 0\ntroubles 0\nlast 0\n\
         sent 1 Pull 0\nsent 1 Snapshot 0\nrow a 1 file 2\nz\n";
-    assert_eq!(rt; account.as_slice(), wanted.as_slice());
+    assert!(rt; account.as_slice() == wanted.as_slice());
     Ok(())
 }
 
@@ -145,7 +145,7 @@ fn a_server_that_took_more_is_not_pulled(rt: HostRuntime) -> Result<(), Fail> {
     let wanted =
         b"other last 5\nrefused Missing a\nacknowledged 0 pending 0\nstatus 0\ntroubles 0\nlast 5\n\
         sent 1 Pull 0\nsent 1 Snapshot 0\nrow a 5 file 2\nz\n";
-    assert_eq!(rt; account.as_slice(), wanted.as_slice());
+    assert!(rt; account.as_slice() == wanted.as_slice());
     Ok(())
 }
 
@@ -167,7 +167,7 @@ fn a_request_that_comes_twice_is_taken_once(rt: HostRuntime) -> Result<(), Fail>
     let behind = behind_a_put(alloc, vec![in alloc; Fate::Twice]?)?;
     let wanted = b"troubles 0\nlast 1\nsent 1 Store 1 a 0\nsent 1 Accepted 1\nsent 1 Accepted 1\n\
         row a 1 file 6\nhello\n";
-    assert_eq!(rt; behind.as_slice(), wanted.as_slice());
+    assert!(rt; behind.as_slice() == wanted.as_slice());
     Ok(())
 }
 
@@ -178,7 +178,7 @@ fn an_old_reply_is_the_answer(rt: HostRuntime) -> Result<(), Fail> {
     // the second store is not handled
     let wanted = b"troubles 2\nlast 1\nsent 1 Store 1 a 0\nsent 1 Accepted 1\nsent 1 Store 1 a 0\n\
         row a 1 file 6\nhello\n";
-    assert_eq!(rt; behind.as_slice(), wanted.as_slice());
+    assert!(rt; behind.as_slice() == wanted.as_slice());
     Ok(())
 }
 
@@ -189,7 +189,7 @@ fn a_reply_that_was_lost_twice_is_the_answer(rt: HostRuntime) -> Result<(), Fail
     let behind = behind_a_put(alloc, fates)?;
     let wanted = b"troubles 3\nlast 1\nsent 1 Store 1 a 0\nsent 1 Accepted 1\n\
         sent 1 Store 1 a 0\nsent 1 Accepted 1\nsent 1 Store 1 a 0\nrow a 1 file 6\nhello\n";
-    assert_eq!(rt; behind.as_slice(), wanted.as_slice());
+    assert!(rt; behind.as_slice() == wanted.as_slice());
     Ok(())
 }
 
@@ -199,7 +199,7 @@ fn an_old_packet_that_is_no_reply_is_a_lost_request(rt: HostRuntime) -> Result<(
     let behind = behind_a_put(alloc, vec![in alloc; Fate::Old(0), Fate::Old(9)]?)?;
     let wanted = b"troubles 2\nlast 1\nsent 1 Store 1 a 0\nsent 1 Store 1 a 0\nsent 1 Store 1 a 0\n\
         sent 1 Accepted 1\nrow a 1 file 6\nhello\n";
-    assert_eq!(rt; behind.as_slice(), wanted.as_slice());
+    assert!(rt; behind.as_slice() == wanted.as_slice());
     Ok(())
 }
 
@@ -210,7 +210,7 @@ fn a_late_request_is_taken_once(rt: HostRuntime) -> Result<(), Fail> {
     // the second ask sends its store, then the first one comes, and then the second
     let wanted = b"troubles 1\nlast 1\nsent 1 Store 1 a 0\nsent 1 Store 1 a 0\nsent 1 Accepted 1\n\
         sent 1 Accepted 1\nrow a 1 file 6\nhello\n";
-    assert_eq!(rt; behind.as_slice(), wanted.as_slice());
+    assert!(rt; behind.as_slice() == wanted.as_slice());
     Ok(())
 }
 
@@ -220,7 +220,7 @@ fn a_late_request_that_was_taken_changes_nothing(rt: HostRuntime) -> Result<(), 
     let behind = behind_a_put(alloc, vec![in alloc; Fate::LoseReply, Fate::Late(0)]?)?;
     let wanted = b"troubles 1\nlast 1\nsent 1 Store 1 a 0\nsent 1 Accepted 1\nsent 1 Store 1 a 0\n\
         sent 1 Accepted 1\nsent 1 Accepted 1\nrow a 1 file 6\nhello\n";
-    assert_eq!(rt; behind.as_slice(), wanted.as_slice());
+    assert!(rt; behind.as_slice() == wanted.as_slice());
     Ok(())
 }
 
@@ -233,7 +233,7 @@ fn a_late_request_of_an_earlier_entry_changes_nothing(rt: HostRuntime) -> Result
         b"logged 1\nlogged 2\nsynced 2\nacknowledged 2 pending 0\nstatus 0\ntroubles 0\nlast 2\n\
         sent 1 Store 1 a 0\nsent 1 Accepted 1\nsent 1 Store 2 a 1\nsent 1 Accepted 1\n\
         sent 1 Accepted 2\nrow a 2 file 2\ny\n";
-    assert_eq!(rt; account.as_slice(), wanted.as_slice());
+    assert!(rt; account.as_slice() == wanted.as_slice());
     Ok(())
 }
 
@@ -266,6 +266,6 @@ fn a_full_server_takes_no_new_path(rt: HostRuntime) -> Result<(), Fail> {
     let alloc = rt.alloc();
     let told = told_on(alloc, full_server(alloc)?, b"put new x\nsync\n")?;
     let wanted = b"logged 1\nfull 1 0 RowsFull 16384\nacknowledged 0 pending 1\nstatus 0\n";
-    assert_eq!(rt; told.as_slice(), wanted.as_slice());
+    assert!(rt; told.as_slice() == wanted.as_slice());
     Ok(())
 }

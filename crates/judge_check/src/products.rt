@@ -1,6 +1,7 @@
 //! Values from outside: worked by hand, or computed by a program in another language.
 
-use super::*;
+use gf_65536::{add, inv, mul, pow};
+use std::rt::HostRuntime;
 
 /// Two factors and their product in hex, and so on: computed in Python by discrete logarithms to the base 2 (a table filled by
 /// doubling 65,535 times) and compared there with the long division of the polynomial product.
@@ -75,14 +76,14 @@ fn told_products() -> u32 {
 
 #[test]
 fn products_from_outside(rt: HostRuntime) {
-    assert_eq!(rt; told_products(), COUNT);
+    assert!(rt; told_products() == COUNT);
 }
 
 #[test]
 fn worked_by_hand(rt: HostRuntime) {
-    assert_eq!(rt; mul(0x8000, 2), 0x100B);
-    assert_eq!(rt; mul(0x1234, 0x0100), 0x04AD);
-    assert_eq!(rt; inv(2), 0x8805);
-    assert_eq!(rt; pow(2, 65_535), 1);
-    assert_eq!(rt; add(0x1234, 0x00FF), 0x12CB);
+    assert!(rt; mul(0x8000, 2) == 0x100B);
+    assert!(rt; mul(0x1234, 0x0100) == 0x04AD);
+    assert!(rt; inv(2) == 0x8805);
+    assert!(rt; pow(2, 65_535) == 1);
+    assert!(rt; add(0x1234, 0x00FF) == 0x12CB);
 }

@@ -53,12 +53,12 @@ fn asked(without_memory: u64) -> (Option<AskError>, u64, u64) {
 
 #[test]
 fn eight_asks_are_made(rt: HostRuntime) -> Result<(), Fail> {
-    assert_eq!(rt; asked(9), (Some(AskError::Troubles), 8, 8));
+    assert!(rt; asked(9) == (Some(AskError::Troubles), 8, 8));
     Ok(())
 }
 
 #[test]
 fn want_of_memory_ends_the_asking(rt: HostRuntime) -> Result<(), Fail> {
-    assert_eq!(rt; asked(3), (Some(AskError::Memory), 3, 2));
+    assert!(rt; asked(3) == (Some(AskError::Memory), 3, 2));
     Ok(())
 }

@@ -165,7 +165,7 @@ fn a_store_that_comes_twice_is_taken_once(rt: HostRuntime) -> Result<(), Fail> {
         ROW_OF_1,
         &[0],
     ];
-    assert_eq!(rt; told.as_slice(), joined(alloc, wanted)?.as_slice());
+    assert!(rt; told.as_slice() == joined(alloc, wanted)?.as_slice());
     Ok(())
 }
 
@@ -176,7 +176,7 @@ fn what_is_lost_is_a_trouble(rt: HostRuntime) -> Result<(), Fail> {
     let told = told(alloc, fates, &[STORE, STORE])?;
     // the first was not handled, the second was
     let wanted: &[&[u8]] = &[FAILED, FAILED, SENT, STORE, STORE, ACCEPTED, &[2]];
-    assert_eq!(rt; told.as_slice(), joined(alloc, wanted)?.as_slice());
+    assert!(rt; told.as_slice() == joined(alloc, wanted)?.as_slice());
     Ok(())
 }
 
@@ -199,7 +199,7 @@ fn an_old_reply_answers(rt: HostRuntime) -> Result<(), Fail> {
         PULL,
         &[2],
     ];
-    assert_eq!(rt; told.as_slice(), joined(alloc, wanted)?.as_slice());
+    assert!(rt; told.as_slice() == joined(alloc, wanted)?.as_slice());
     Ok(())
 }
 
@@ -218,7 +218,7 @@ fn a_late_store_is_taken(rt: HostRuntime) -> Result<(), Fail> {
         ROW_OF_1,
         &[1],
     ];
-    assert_eq!(rt; told.as_slice(), joined(alloc, wanted)?.as_slice());
+    assert!(rt; told.as_slice() == joined(alloc, wanted)?.as_slice());
     Ok(())
 }
 
@@ -243,7 +243,7 @@ fn another_clients_store_is_injected(rt: HostRuntime) -> Result<(), Fail> {
         ROW_OF_2,
         &[0],
     ];
-    assert_eq!(rt; told.as_slice(), joined(alloc, wanted)?.as_slice());
+    assert!(rt; told.as_slice() == joined(alloc, wanted)?.as_slice());
     Ok(())
 }
 
@@ -286,10 +286,7 @@ fn eight_lost_requests_are_unanswered(rt: HostRuntime) -> Result<(), Fail> {
         STORE,
         &[8],
     ];
-    assert_eq!(rt;
-        told_of_eight(alloc, 8)?.as_slice(),
-        joined(alloc, wanted)?.as_slice()
-    );
+    assert!(rt; told_of_eight(alloc, 8)?.as_slice() == joined(alloc, wanted)?.as_slice());
     Ok(())
 }
 
@@ -297,10 +294,7 @@ fn eight_lost_requests_are_unanswered(rt: HostRuntime) -> Result<(), Fail> {
 fn one_lost_request_is_sent_again(rt: HostRuntime) -> Result<(), Fail> {
     let alloc = rt.alloc();
     let wanted: &[&[u8]] = &[ACCEPTED, SENT, STORE, STORE, ACCEPTED, &[1]];
-    assert_eq!(rt;
-        told_of_eight(alloc, 1)?.as_slice(),
-        joined(alloc, wanted)?.as_slice()
-    );
+    assert!(rt; told_of_eight(alloc, 1)?.as_slice() == joined(alloc, wanted)?.as_slice());
     Ok(())
 }
 
@@ -331,7 +325,7 @@ fn a_repeated_store_is_taken_once(rt: HostRuntime) -> Result<(), Fail> {
     let alloc = rt.alloc();
     let answered = answered(alloc, &[PULL, STORE, STORE, PULL])?;
     let wanted: &[&[u8]] = &[NO_ROWS, ACCEPTED, ACCEPTED, ROW_OF_1];
-    assert_eq!(rt; answered.as_slice(), joined(alloc, wanted)?.as_slice());
+    assert!(rt; answered.as_slice() == joined(alloc, wanted)?.as_slice());
     Ok(())
 }
 
@@ -340,6 +334,6 @@ fn what_is_no_request_is_malformed(rt: HostRuntime) -> Result<(), Fail> {
     let alloc = rt.alloc();
     let answered = answered(alloc, &[ACCEPTED, &PULL[..14]])?;
     let wanted: &[&[u8]] = &[NOT_FOR_A_SERVER, BAD_LENGTH];
-    assert_eq!(rt; answered.as_slice(), joined(alloc, wanted)?.as_slice());
+    assert!(rt; answered.as_slice() == joined(alloc, wanted)?.as_slice());
     Ok(())
 }

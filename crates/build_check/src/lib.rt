@@ -1,5 +1,0 @@
-//! Tests of builds that two runners do, one after the other.
-#![tactic(auto)]
-
-#[cfg(test)]
-mod tests;

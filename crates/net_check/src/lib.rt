@@ -1,8 +1,0 @@
-//! Tests of whole runs of the client over a network in memory that repeats, reorders and loses messages, on servers to
-//! which other clients have written and write.
-#![tactic(auto)]
-
-#[cfg(test)]
-mod frames;
-#[cfg(test)]
-mod tests;
