@@ -70,7 +70,9 @@ fn write_message(alloc: Global, text: &mut Vec<u8>, message: &Message) -> Result
     if let Message::Store { base, .. } = message {
         for base in base.as_slice() {
             let path = base.path.text()?;
-            write_named(alloc, text, " ", &path, base.version)?;
+            let named = write_named(alloc, text, " ", &path, base.version);
+            drop(path);
+            named?;
         }
     }
     write_text(text, "\n")
@@ -98,17 +100,26 @@ fn write_rows(alloc: Global, text: &mut Vec<u8>, server: &Server) -> Result<(), 
 
 fn write_each(alloc: Global, text: &mut Vec<u8>, rows: &[Row]) -> Result<(), AllocError> {
     for row in rows {
-        let path = row.path.text()?;
-        write_named(alloc, text, "row ", &path, row.version)?;
-        match &row.node {
-            None => write_text(text, " nothing\n")?,
-            Some(Node::Folder) => write_text(text, " folder\n")?,
-            Some(Node::File(content)) => {
-                let size = content.bytes().len();
-                write_text(text, &format!(in alloc; " file {size}\n")?)?;
-                text.extend_from_slice(content.bytes())?;
-            }
-        }
+        write_row(alloc, text, row)?;
     }
     Ok(())
+}
+
+fn write_row(alloc: Global, text: &mut Vec<u8>, row: &Row) -> Result<(), AllocError> {
+    let path = row.path.text()?;
+    let named = write_named(alloc, text, "row ", &path, row.version);
+    drop(path);
+    named?;
+    match &row.node {
+        None => write_text(text, " nothing\n"),
+        Some(Node::Folder) => write_text(text, " folder\n"),
+        Some(Node::File(content)) => write_file(alloc, text, content.bytes()),
+    }
+}
+
+/// How many bytes a file has, and these behind a line end.
+fn write_file(alloc: Global, text: &mut Vec<u8>, bytes: &[u8]) -> Result<(), AllocError> {
+    let size = bytes.len();
+    write_text(text, &format!(in alloc; " file {size}\n")?)?;
+    text.extend_from_slice(bytes)
 }
