@@ -6,13 +6,13 @@ here=$(cd "$(dirname "$0")" && pwd)
 work=$(mktemp -d -p /dev/shm 2>/dev/null || mktemp -d)
 trap 'rm -rf "$work"' EXIT
 head -c 8388608 /dev/urandom > "$work/content"
-cd "$here/../../crates/parity_bench"
+cd "$here/../../crates/repair_bench"
 rt run > "$work/built" 2>&1 || { cat "$work/built"; exit 1; }
 if ! command -v par2 > /dev/null; then
     echo "par2 is not installed, so it is left out"
 fi
 for turn in 1 2 3 4 5; do
-    out/parity_bench measure "$work/content" | awk '{ print "ours", $2 }'
+    out/repair_bench measure "$work/content" 0 0 | awk '{ print "ours", $1 }'
     if command -v par2 > /dev/null; then
         rm -f "$work"/*.par2
         begin=$(date +%s%N)

@@ -5,10 +5,10 @@ set -eu
 here=$(cd "$(dirname "$0")" && pwd)
 log=$(mktemp)
 trap 'rm -f "$log"' EXIT
-cd "$here/../../crates/wire_bench"
+cd "$here/../../crates/server_bench"
 rt run > "$log" 2>&1 || { cat "$log"; exit 1; }
 for turn in 1 2 3 4 5; do
-    out/wire_bench measure
+    out/server_bench frames
 done | awk '
     $4 != $2 * $3 { print "a frame was not written as long as it was read"; exit 1 }
     { frame = $1 " " $2

@@ -1,6 +1,6 @@
 //! Times the repair of a file. With the words `measure PATH BLOCKS SYMBOLS` it changes so many symbols in each of the first blocks, and
 //! prints the nanoseconds of the file's sketch, those of the repair, and whether the repair gave the file; with no word it does
-//! nothing. `bench/repair/run.sh` compares it with a decoder in C.
+//! nothing. `bench/repair/run.sh` compares the repair with a decoder in C, and `bench/parity/run.sh` the sketch with `par2 create`.
 #![tactic(auto)]
 
 use rs_parity::{BLOCK, sketch_of};

@@ -3,11 +3,15 @@
 //! names come in an order in which neighbours are far apart. For each round it prints the rows, the folders, how many stores
 //! made the rows, how many were timed for rows that stand, how many of them were accepted and their nanoseconds, the same
 //! for new rows, and the bytes and the nanoseconds of the answers to pulls. `bench/server/run.sh` makes figures of it. With
-//! no word it does nothing.
+//! the word `frames` it times the reading and the writing of frames, of which `bench/wire/run.sh` makes figures. With no
+//! word it does nothing.
 #![tactic(auto)]
 
 ghost use Rattle.std.specs.Prelude.{◌<◌};
 
+mod frames;
+
+use frames::measure_frames;
 use server_core::Server;
 use std::alloc::{AllocError, Global};
 use std::env;
@@ -245,14 +249,19 @@ fn measure(
     Ok(())
 }
 
+/// Times servers with 10 and with 16,000 rows, in one folder and in 64.
+fn measure_servers(rt: &HostRuntime) -> Result<(), anyhow::Error> {
+    measure(rt, 100, 10, 1, 10)?;
+    measure(rt, 100, 10, 64, 10)?;
+    measure(rt, 5, 16_000, 1, 300)?;
+    measure(rt, 5, 16_000, 64, 300)
+}
+
 fn main(rt: HostRuntime) -> Result<(), anyhow::Error> {
-    let mut words = env::args(&rt)?;
-    let wanted = words.any(|word| word.as_str() == "measure");
-    if !wanted {
-        return Ok(());
+    let mut words = env::args(&rt)?.skip(1);
+    match words.next() {
+        Some(word) if word.as_str() == "measure" => measure_servers(&rt),
+        Some(word) if word.as_str() == "frames" => measure_frames(&rt),
+        _ => Ok(()),
     }
-    measure(&rt, 100, 10, 1, 10)?;
-    measure(&rt, 100, 10, 64, 10)?;
-    measure(&rt, 5, 16_000, 1, 300)?;
-    measure(&rt, 5, 16_000, 64, 300)
 }

@@ -1,13 +1,8 @@
-//! Times the reading and the writing of frames. With the word `measure` it does so for stores of three sizes and for
-//! snapshots of three. It prints a line for each: its name, the frame's bytes, how often it was read and written, the
-//! bytes that were written, and the nanoseconds of the reading and of the writing. `bench/wire/run.sh` makes figures of
-//! them. With no word it does nothing.
-#![tactic(auto)]
+//! Times the reading and the writing of frames: stores of three sizes, and snapshots of three.
 
 ghost use Rattle.wire_frames.specs.Frame.{IsValid};
 
 use std::alloc::{AllocError, Global};
-use std::env;
 use std::time::Instant;
 use wire_frames::{FrameError, Message, read, write};
 
@@ -145,12 +140,9 @@ fn measure_snapshots(rt: &HostRuntime) -> Result<(), anyhow::Error> {
     measure(rt, "snapshot", &snapshot(rt.alloc(), 16_384)?, 8)
 }
 
-fn main(rt: HostRuntime) -> Result<(), anyhow::Error> {
-    let mut words = env::args(&rt)?;
-    let wanted = words.any(|word| word.as_str() == "measure");
-    if !wanted {
-        return Ok(());
-    }
-    measure_stores(&rt)?;
-    measure_snapshots(&rt)
+/// Prints a line for each frame: its name, its bytes, how often it was read and written, the bytes that were written, and the
+/// nanoseconds of the reading and of the writing.
+pub(crate) fn measure_frames(rt: &HostRuntime) -> Result<(), anyhow::Error> {
+    measure_stores(rt)?;
+    measure_snapshots(rt)
 }
