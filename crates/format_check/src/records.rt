@@ -2,9 +2,9 @@
 //!
 //! The sums over turned bits are those of a second reader, in Python: `tools/image_answers`.
 
+use crate::images::{told, written};
 use crate::spoilt::Answer::{Bad, Read};
 use crate::spoilt::{Answer, Reader, answer_of, bytes_of, put_digits, put_server, sum_of_answers};
-use crate::tests::{told, written};
 use std::alloc::{AllocError, Global};
 use std::rt::HostRuntime;
 use std::test::Fail;
