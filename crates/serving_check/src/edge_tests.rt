@@ -149,9 +149,11 @@ fn address_of(number: u8) -> SocketAddr {
     SocketAddr::new(IpAddr::V4(Ipv4Addr::new(127, 0, 0, number)), 7001)
 }
 
-/// Whether what a peer sends is taken, whether the answer is then taken whole, of which it takes so many bytes, and whether a
-/// second answer is.
-fn answered(rt: &HostRuntime, room: usize) -> Result<[bool; 3], Fail> {
+/// What becomes of an answer: of the first one, of which a peer takes so many bytes, and of a second one.
+type Answered = (Result<(), PortError>, Result<(), PortError>);
+
+/// Whether what a peer sends is taken, and what becomes of two answers to it.
+fn answered(rt: &HostRuntime, room: usize) -> Result<(bool, Answered), Fail> {
     let others = Others { room };
     let mut port = TcpPort::bind(rt.alloc(), &others, "127.0.0.1:7001")?;
     let taken = port.take();
@@ -160,13 +162,14 @@ fn answered(rt: &HostRuntime, room: usize) -> Result<[bool; 3], Fail> {
     let first = port.answer(SENT);
     let second = port.answer(SENT);
     drop(port);
-    Ok([came, first == Ok(()), second == Ok(())])
+    Ok((came, (first, second)))
 }
 
 #[test]
 fn an_answer_that_is_not_taken_whole_is_a_fault(rt: HostRuntime) -> Result<(), Fail> {
-    assert!(rt; answered(&rt, SENT.len())? == [true, true, false]);
-    assert!(rt; answered(&rt, SENT.len() - 1)? == [true, false, false]);
+    let fault = Err(PortError::Failed);
+    assert!(rt; answered(&rt, SENT.len())? == (true, (Ok(()), fault)));
+    assert!(rt; answered(&rt, SENT.len() - 1)? == (true, (fault, fault)));
     Ok(())
 }
 
