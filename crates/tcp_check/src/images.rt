@@ -23,7 +23,7 @@ const NOWHERE: &str = "nowhere/image";
 const NO_FOLDER: &str = "nowhere";
 
 /// A device that takes no byte.
-const FULL: &str = "/dev/full";
+pub(crate) const FULL: &str = "/dev/full";
 
 /// Runs a client, then one that cannot keep what it logs, since the disk is full, and one that goes on from the first.
 pub(crate) fn fill_the_disk<R: Processes + Files + Env + AllocGlobal + Net + Clock + Print>(

@@ -1,15 +1,21 @@
-//! Clients of a server in this program over TCP, what strangers are to a server, images that two programs want, and pieces
-//! that are appended to one. The program starts itself as the client.
+//! Clients and servers over TCP. First a server in this program: its clients, what strangers are to it, images that two programs
+//! want, and pieces that are appended to one. Then the programs with their words, as they are started: a server at a free address,
+//! at one in use and with a full output, and clients on bad streams and under hands. The program starts itself as the client and as
+//! the server.
 #![tactic(auto)]
 
+mod clients;
 mod images;
+mod servers;
 mod serving;
 mod strangers;
 
+use clients::{refuse_words, run_on_a_folder, run_on_a_full_output, show_versions, type_lines};
 use images::{append_pieces, fill_the_disk, fill_the_servers_disk, share_an_image};
 use outside::{MemKeeper, Port};
 use program_words::given_words;
 use real_edge::TcpPort;
+use servers::{serve_at_a_free_address, serve_at_an_address_in_use, serve_with_a_full_output};
 use serving::{serve, serve_a_client_from};
 use std::fs::File;
 use std::io;
@@ -20,20 +26,30 @@ use std::time::Clock;
 use strangers::{FALSE_REPLIES, call_all, print_answers};
 use tcp_probe::{CLIENT, bound, forget, print_ended, run_as, run_lone_client, start_client_at};
 
-/// With words it is the client, as the first one says. Without any it shows what clients and servers meet.
+/// With words it is the client or the server, as the first one says. Without any it shows what both meet, and how both end.
 fn main(rt: HostRuntime) -> io::Result<ExitCode> {
     let words = given_words(&rt)?;
     if words.is_empty() {
-        show_all(&rt)
+        show_all(&rt)?;
+        Ok(ExitCode::SUCCESS)
     } else {
         Ok(run_as(&rt, process::id(rt.process()), &words))
     }
 }
 
-/// Shows what clients and servers meet.
 fn show_all<R: Processes + Files<File = File> + Env + AllocGlobal + Net + Clock + Print>(
     rt: &R,
-) -> io::Result<ExitCode> {
+) -> io::Result<()> {
+    show_meetings(rt)?;
+    show_programs(rt)?;
+    forget(rt);
+    Ok(())
+}
+
+/// Shows what clients and servers meet.
+fn show_meetings<R: Processes + Files<File = File> + Env + AllocGlobal + Net + Clock + Print>(
+    rt: &R,
+) -> io::Result<()> {
     serve_a_client(rt)?;
     serve_strangers(rt)?;
     mislead_a_client(rt)?;
@@ -41,9 +57,21 @@ fn show_all<R: Processes + Files<File = File> + Env + AllocGlobal + Net + Clock 
     fill_the_disk(rt)?;
     fill_the_servers_disk(rt)?;
     share_an_image(rt)?;
-    append_pieces(rt)?;
-    forget(rt);
-    Ok(ExitCode::SUCCESS)
+    append_pieces(rt)
+}
+
+/// Shows how the programs end.
+fn show_programs<R: Processes + Files<File = File> + Env + AllocGlobal + Net + Clock + Print>(
+    rt: &R,
+) -> io::Result<()> {
+    refuse_words(rt)?;
+    show_versions(rt)?;
+    serve_at_a_free_address(rt)?;
+    serve_at_an_address_in_use(rt)?;
+    serve_with_a_full_output(rt)?;
+    run_on_a_folder(rt)?;
+    run_on_a_full_output(rt)?;
+    type_lines(rt)
 }
 
 /// Serves one client that puts a file and ships it.

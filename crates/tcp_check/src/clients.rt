@@ -1,4 +1,5 @@
 // Clients as programs.
+use crate::images::FULL;
 use std::fs::File;
 use std::io;
 use std::io::{ErrorKind, Read, Write};
@@ -20,9 +21,6 @@ const TYPED: [(&[u8], u32); 4] = [
 
 /// The most bytes of a line that is shown.
 const LONGEST_LINE: usize = 1_000;
-
-/// A device that takes no byte.
-const FULL: &str = "/dev/full";
 
 /// Runs a client on words of no form.
 pub(crate) fn refuse_words<R: Processes + Files + Env + AllocGlobal + Print>(
