@@ -54,22 +54,29 @@ fn main(rt: HostRuntime) -> io::Result<ExitCode> {
     }
 }
 
-/// Shows both, and removes what each left.
+/// Shows both, and removes what they left, also where one of them fails.
 fn show<R: Processes + Files<File = File> + Env + AllocGlobal + Net + Clock + Print>(
     rt: &R,
     process: u32,
 ) -> io::Result<ExitCode> {
     forget(rt);
-    let shown = show_all_three(rt);
-    forget(rt);
-    shown?;
-    let shown = show_port(rt, process);
+    let shown = show_both(rt, process);
     for folder in [NEAR, FAR] {
         let _removed = fs::remove_dir(rt, folder);
     }
     forget(rt);
     shown?;
     Ok(ExitCode::SUCCESS)
+}
+
+/// The second begins without what the first left.
+fn show_both<R: Processes + Files<File = File> + Env + AllocGlobal + Net + Clock + Print>(
+    rt: &R,
+    process: u32,
+) -> io::Result<()> {
+    show_all_three(rt)?;
+    forget(rt);
+    show_port(rt, process)
 }
 
 /// Starts a server, a surrogate that asks it, and a client of both.
