@@ -6,10 +6,10 @@ here=$(cd "$(dirname "$0")" && pwd)
 work=$(mktemp -d)
 trap 'rm -rf "$work"' EXIT
 cc -O2 -o "$work/tables" "$here/tables.c"
-cd "$here/../../crates/field_bench"
+cd "$here/../../crates/repair_bench"
 rt run > "$work/built" 2>&1 || { cat "$work/built"; exit 1; }
 for turn in 1 2 3 4 5; do
-    out/field_bench measure | sed 's/^/ours /'
+    out/repair_bench products | sed 's/^/ours /'
     "$work/tables" | sed 's/^/theirs /'
 done | awk '
     { sum[$1] = $2; speed = $4 / $3 * 1000; if (speed > best[$1]) best[$1] = speed }

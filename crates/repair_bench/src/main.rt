@@ -1,8 +1,12 @@
 //! Times the repair of a file. With the words `measure PATH BLOCKS SYMBOLS` it changes so many symbols in each of the first blocks, and
-//! prints the nanoseconds of the file's sketch, those of the repair, and whether the repair gave the file; with no word it does
-//! nothing. `bench/repair/run.sh` compares the repair with a decoder in C, and `bench/parity/run.sh` the sketch with `par2 create`.
+//! prints the nanoseconds of the file's sketch, those of the repair, and whether the repair gave the file. With the word `products` it
+//! times products in the field, and with no word it does nothing. `bench/repair/run.sh` compares the repair with a decoder in C,
+//! `bench/parity/run.sh` the sketch with `par2 create`, and `bench/field/run.sh` the products with tables in C.
 #![tactic(auto)]
 
+mod products;
+
+use products::measure_products;
 use rs_parity::{BLOCK, sketch_of};
 use rs_repair::repair;
 use std::alloc::{AllocError, Global};
@@ -27,42 +31,53 @@ fn damaged(alloc: Global, content: &[u8], blocks: u8, symbols: u8) -> Result<Vec
     Ok(bytes)
 }
 
-fn main(rt: HostRuntime) -> Result<(), anyhow::Error> {
-    let mut words = env::args(&rt)?.skip(1);
-    let (Some(verb), Some(path), Some(blocks), Some(symbols)) = (
-        words.next(),
-        words.next(),
-        words.next(),
-        words.next(),
-    ) else {
-        return Ok(());
-    };
-    if verb.as_str() != "measure" {
-        return Ok(());
-    }
-    let content = fs::read(&rt, path.as_str())?;
+/// Repairs the file at the path.
+fn measure_repair(
+    rt: &HostRuntime,
+    path: &str,
+    blocks: u8,
+    symbols: u8,
+) -> Result<(), anyhow::Error> {
+    let content = fs::read(rt, path)?;
     if content.len() > MAX_LEN {
         println!(rt; "too long")?;
         return Ok(());
     }
-    let blocks = blocks.parse::<u8>()?;
-    let symbols = symbols.parse::<u8>()?;
     let changed = damaged(rt.alloc(), &content, blocks, symbols)?;
-    let start = Instant::now(&rt)?;
+    let start = Instant::now(rt)?;
     let sketch = sketch_of(rt.alloc(), &content)?;
-    let sketched = start.elapsed(&rt)?.as_nanos();
-    let start = Instant::now(&rt)?;
+    let sketched = start.elapsed(rt)?.as_nanos();
+    let start = Instant::now(rt)?;
     let repaired = repair(rt.alloc(), &changed, &sketch)?;
-    let nanoseconds = start.elapsed(&rt)?.as_nanos();
-    match repaired {
-        None => println!(rt; "{sketched} {nanoseconds} none")?,
-        Some(bytes) => {
-            if bytes == content {
-                println!(rt; "{sketched} {nanoseconds} same")?;
-            } else {
-                println!(rt; "{sketched} {nanoseconds} other")?;
-            }
-        }
+    let nanoseconds = start.elapsed(rt)?.as_nanos();
+    let outcome = match &repaired {
+        None => "none",
+        Some(bytes) if *bytes == content => "same",
+        Some(_) => "other",
+    };
+    println!(rt; "{sketched} {nanoseconds} {outcome}")?;
+    Ok(())
+}
+
+fn main(rt: HostRuntime) -> Result<(), anyhow::Error> {
+    let mut words = env::args(&rt)?.skip(1);
+    let Some(verb) = words.next() else {
+        return Ok(());
+    };
+    if verb.as_str() == "products" {
+        return measure_products(&rt);
+    }
+    let (Some(path), Some(blocks), Some(symbols)) = (words.next(), words.next(), words.next())
+    else {
+        return Ok(());
+    };
+    if verb.as_str() == "measure" {
+        measure_repair(
+            &rt,
+            path.as_str(),
+            blocks.parse::<u8>()?,
+            symbols.parse::<u8>()?,
+        )?;
     }
     Ok(())
 }

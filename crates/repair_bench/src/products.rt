@@ -1,9 +1,6 @@
-//! Times products in the field GF(2^16). With the word `measure` it prints a checksum of the products and how many
-//! nanoseconds they took together; with no word it does nothing. `bench/field/run.sh` compares it with a program in C.
-#![tactic(auto)]
+//! Times products in the field GF(2^16).
 
 use gf_65536::mul;
-use std::env;
 use std::time::Instant;
 
 /// How many products are timed.
@@ -20,15 +17,11 @@ fn sum_of_products(count: u32) -> u16 {
     sum
 }
 
-fn main(rt: HostRuntime) -> Result<(), anyhow::Error> {
-    let mut words = env::args(&rt)?;
-    let wanted = words.any(|word| word.as_str() == "measure");
-    if !wanted {
-        return Ok(());
-    }
-    let start = Instant::now(&rt)?;
+/// Prints a checksum of the products, how many nanoseconds they took together, and how many there are.
+pub(crate) fn measure_products(rt: &HostRuntime) -> Result<(), anyhow::Error> {
+    let start = Instant::now(rt)?;
     let sum = sum_of_products(PRODUCTS);
-    let nanoseconds = start.elapsed(&rt)?.as_nanos();
+    let nanoseconds = start.elapsed(rt)?.as_nanos();
     println!(rt; "{sum:04x} {nanoseconds} {PRODUCTS}")?;
     Ok(())
 }
