@@ -289,7 +289,10 @@ fn records_lead_from_an_image_to_a_server(rt: HostRuntime) -> Result<(), Fail> {
 
 /// Whether the record of an acknowledged number is written so.
 fn is_acked_so(alloc: Global, number: u64, by_hand: &[u8]) -> Result<bool, AllocError> {
-    let written = write_client_record(alloc, &ClientRecord::Acked(number))?;
+    let record = ClientRecord::Acked(number);
+    let written = write_client_record(alloc, &record);
+    drop(record);
+    let written = written?;
     let same = written.as_slice() == by_hand;
     drop(written);
     Ok(same)
