@@ -5,7 +5,7 @@ ghost use Rattle.cmd_capture.specs.Spelling.{IsCommand};
 ghost use Rattle.cmd_capture.specs.Rows.{AreJobRows};
 
 use cmd_capture::{Command, Job, JobRows, RawRow, RawRows, Words, capture};
-use std::alloc::Global;
+use std::alloc::{AllocError, Global};
 use std::rt::HostRuntime;
 use std::test::Fail;
 use vol_tree::{Content, Effect, Effects, Node, Path, Tree};
@@ -67,14 +67,29 @@ fn fill(alloc: Global, tree: &mut Tree, other: &[u8]) -> Result<(), Fail> {
     apply(tree, put(alloc, other, b"2")?)
 }
 
+/// Adds the text of the path.
+fn put_path(path: &Path, out: &mut Vec<u8>) -> Result<(), AllocError> {
+    let text = path.text()?;
+    let done = out.extend_from_slice(text.bytes());
+    drop(text);
+    done
+}
+
 /// The texts of the job's paths, each with a line end.
-fn paths(alloc: Global, job: &Job) -> Result<Vec<u8>, Fail> {
+fn paths(alloc: Global, job: &Job) -> Result<Vec<u8>, AllocError> {
     let mut texts = Vec::new(alloc);
     for row in job.rows.as_slice() {
-        texts.extend_from_slice(row.path.text()?.bytes())?;
-        texts.extend_from_slice(b"\n")?;
+        put_path(&row.path, &mut texts)?;
+        texts.push(b'\n')?;
     }
     Ok(texts)
+}
+
+/// The text of the path.
+fn path_text(alloc: Global, path: &Path) -> Result<Vec<u8>, AllocError> {
+    let mut text = Vec::new(alloc);
+    put_path(path, &mut text)?;
+    Ok(text)
 }
 
 /// The paths of a command's job in a tree, or why it has none.
@@ -86,12 +101,12 @@ fn told(alloc: Global, tree: &Tree, line: &[u8], cwd: &[u8]) -> Result<Vec<u8>, 
         Ok(job) => {
             let texts = paths(alloc, &job);
             drop(job);
-            texts
+            Ok(texts?)
         }
         Err(JobError::NoFolder(folder)) => {
-            let text = folder.text();
+            let text = path_text(alloc, &folder);
             drop(folder);
-            Ok(text?.bytes().to_vec(alloc)?)
+            Ok(text?)
         }
         Err(JobError::NoInput(i)) => Ok(
             format!(in alloc; "no input {i}")?.as_bytes().to_vec(alloc)?,
@@ -130,20 +145,30 @@ fn a_job_has_the_folder_its_inputs_and_what_lies_above(rt: HostRuntime) -> Resul
     Ok(())
 }
 
-fn raw(alloc: Global, text: &[u8], content: Option<&[u8]>) -> Result<RawRow, Fail> {
-    let path = Content::of(alloc, text)?;
+/// A path and the content of a file, or none of a folder.
+type Plain<'a> = (&'a [u8], Option<&'a [u8]>);
+
+fn raw(alloc: Global, row: Plain<'_>) -> Result<RawRow, AllocError> {
+    let (text, content) = row;
     let node = match content {
         None => Node::Folder,
         Some(bytes) => Node::File(Content::of(alloc, bytes)?),
     };
+    let path = Content::of(alloc, text)?;
     Ok(RawRow { path, node })
+}
+
+fn raws(alloc: Global, plain: &[Plain<'_>]) -> Result<RawRows, AllocError> {
+    let mut raws = RawRows::new(alloc);
+    for row in plain {
+        raws.push(raw(alloc, *row)?)?;
+    }
+    Ok(raws)
 }
 
 /// Two rows of folders, and the first of them that is odd.
 fn odd_row(alloc: Global, first: &[u8], second: &[u8]) -> Result<Option<u32>, Fail> {
-    let mut raws = RawRows::new(alloc);
-    raws.push(raw(alloc, first, None)?)?;
-    raws.push(raw(alloc, second, None)?)?;
+    let raws = raws(alloc, &[(first, None), (second, None)])?;
     let rows = rows_of(alloc, &raws);
     drop(raws);
     match rows {
@@ -182,19 +207,14 @@ fn legal(alloc: Global, raws: RawRows) -> Result<JobRows, Fail>
 fn a_folder(alloc: Global) -> Result<JobRows, Fail>
     ensures { IfOk result AreJobRows }
 {
-    let mut raws = RawRows::new(alloc);
-    raws.push(raw(alloc, b"d", None)?)?;
-    raws.push(raw(alloc, b"d/x", Some(b"1"))?)?;
-    legal(alloc, raws)
+    legal(alloc, raws(alloc, &[(b"d", None), (b"d/x", Some(b"1"))])?)
 }
 
 /// The file d.
 fn a_file(alloc: Global) -> Result<JobRows, Fail>
     ensures { IfOk result AreJobRows }
 {
-    let mut raws = RawRows::new(alloc);
-    raws.push(raw(alloc, b"d", Some(b"2"))?)?;
-    legal(alloc, raws)
+    legal(alloc, raws(alloc, &[(b"d", Some(b"2"))])?)
 }
 
 /// What an effect is, as a letter and the names of its path.

@@ -2,21 +2,14 @@
 
 ghost use Rattle.std.specs.Prelude.{IfOk};
 
+use crate::tests::{path, put, put_path};
 use cmd_capture::{JobRow, JobRows, Templates};
 use mod_log::{SketchEffect, SketchEffects};
-use rs_parity::sketch_of;
-use std::alloc::Global;
+use std::alloc::{AllocError, Global};
 use std::rt::HostRuntime;
 use std::test::Fail;
 use temp_names::{Renamed, fits, rename, renaming};
 use vol_tree::{Content, Node, Path};
-
-fn path(alloc: Global, text: &[u8]) -> Result<Path, Fail> {
-    match Path::read(alloc, text) {
-        Ok(path) => Ok(path),
-        Err(_refused) => Err(Fail::from("no path")),
-    }
-}
 
 /// Whether the template stands for the name.
 fn is_fit(alloc: Global, template: &[u8], name: &[u8]) -> Result<bool, Fail> {
@@ -28,16 +21,20 @@ fn is_fit(alloc: Global, template: &[u8], name: &[u8]) -> Result<bool, Fail> {
 
 #[test]
 fn templates_stand_for_whole_names(rt: HostRuntime) -> Result<(), Fail> {
-    let alloc = rt.alloc();
-    assert!(rt; is_fit(alloc, b"cc????.o", b"ccA1b2.o")?);
-    assert!(rt; !is_fit(alloc, b"cc????.o", b"ccA1b.o")?);
-    assert!(rt; !is_fit(alloc, b"cc????.o", b"ccA1_2.o")?);
-    assert!(rt; !is_fit(alloc, b"cc????.o", b"ccA1b2.oo")?);
-    assert!(rt; !is_fit(alloc, b"cc????.o", b"CcA1b2.o")?);
-    assert!(rt; !is_fit(alloc, b"cc????.o", b"cc????.o")?);
-    assert!(rt; is_fit(alloc, b"sort??????", b"sortv8QK0z")?);
-    assert!(rt; !is_fit(alloc, b"sort??????", b"sort")?);
-    assert!(rt; !is_fit(alloc, b"", b"a")?);
+    let rows: [(&[u8], &[u8], bool); 9] = [
+        (b"cc????.o", b"ccA1b2.o", true),
+        (b"cc????.o", b"ccA1b.o", false),
+        (b"cc????.o", b"ccA1_2.o", false),
+        (b"cc????.o", b"ccA1b2.oo", false),
+        (b"cc????.o", b"CcA1b2.o", false),
+        (b"cc????.o", b"cc????.o", false),
+        (b"sort??????", b"sortv8QK0z", true),
+        (b"sort??????", b"sort", false),
+        (b"", b"a", false),
+    ];
+    for (template, name, expected) in rows {
+        assert!(rt; is_fit(rt.alloc(), template, name)? == expected);
+    }
     Ok(())
 }
 
@@ -76,24 +73,15 @@ fn puts(alloc: Global, line: &[u8]) -> Result<SketchEffects, Fail> {
     let mut effects = SketchEffects::new(alloc);
     for word in line.split(|b| *b == b' ') {
         if let Some(at) = word.iter().position(|b| *b == b'=') {
-            let content = &word[at + 1..];
-            if content.len() > 8_388_608 {
-                return Err(Fail::from("no content"));
-            }
-            let sketch = sketch_of(alloc, content)?;
-            let path = path(alloc, &word[..at])?;
-            effects.push(SketchEffect::Put(path, sketch))?;
+            effects.push(put(alloc, &word[..at], &word[at + 1..])?)?;
         }
     }
     Ok(effects)
 }
 
 /// Adds the path and a space.
-fn tell_path(path: &Path, out: &mut Vec<u8>) -> Result<(), Fail> {
-    let text = path.text()?;
-    let done = out.extend_from_slice(text.bytes());
-    drop(text);
-    done?;
+fn tell_path(path: &Path, out: &mut Vec<u8>) -> Result<(), AllocError> {
+    put_path(path, out)?;
     out.push(b' ')?;
     Ok(())
 }
@@ -108,16 +96,22 @@ fn tell_pairs(alloc: Global, pairs: &[Renamed]) -> Result<Vec<u8>, Fail> {
     Ok(out)
 }
 
-/// The path and the first byte of each row, with spaces behind them; `/` for a folder.
-fn tell_rows(alloc: Global, rows: &JobRows) -> Result<Vec<u8>, Fail> {
+/// Adds the path and the content of the row, with spaces behind them; `/` for a folder.
+fn tell_row(row: &JobRow, out: &mut Vec<u8>) -> Result<(), AllocError> {
+    tell_path(&row.path, out)?;
+    match &row.node {
+        Node::Folder => out.push(b'/')?,
+        Node::File(content) => out.extend_from_slice(content.bytes())?,
+    }
+    out.push(b' ')?;
+    Ok(())
+}
+
+/// The rows, told one after the other.
+fn tell_rows(alloc: Global, rows: &JobRows) -> Result<Vec<u8>, AllocError> {
     let mut out = Vec::new(alloc);
     for row in rows.as_slice() {
-        tell_path(&row.path, &mut out)?;
-        match &row.node {
-            Node::Folder => out.push(b'/')?,
-            Node::File(content) => out.extend_from_slice(content.bytes())?,
-        }
-        out.push(b' ')?;
+        tell_row(row, &mut out)?;
     }
     Ok(out)
 }

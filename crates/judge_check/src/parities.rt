@@ -5,7 +5,9 @@
 
 use byte_fields::TakeError;
 use rs_parity::{BLOCK, PARITY, Sketch, parity, sketch_of};
+use std::alloc::{AllocError, Global};
 use std::rt::HostRuntime;
+use std::test::Fail;
 
 /// The parity of the block 01 02 03, whose last symbol is 0300.
 const OF_ODD_BLOCK: [u16; PARITY] = [
@@ -51,36 +53,68 @@ fn parity_of_a_whole_block(rt: HostRuntime) {
 }
 
 #[test]
-fn sketch_of_nothing(rt: HostRuntime) {
-    let sketch = sketch_of(rt.alloc(), &[]).expect(&rt, "there is memory");
-    assert!(rt; sketch.len == 0);
-    assert!(rt; sketch.print == OF_NOTHING);
-    assert!(rt; sketch.parities.len() == 0);
+fn sketch_of_nothing(rt: HostRuntime) -> Result<(), Fail> {
+    let sketch = sketch_of(rt.alloc(), &[])?;
+    let told = (sketch.len, sketch.parities.len());
+    let print = sketch.print;
+    drop(sketch);
+    assert!(rt; told == (0, 0));
+    assert!(rt; print == OF_NOTHING);
+    Ok(())
+}
+
+/// How many parities a copy of the sketch has, and whether the second is that of zero bytes.
+fn told_of_copy(sketch: &Sketch) -> Result<(usize, bool), AllocError> {
+    let copied = sketch.copy()?;
+    let told = (
+        copied.parities.len(),
+        copied.parities.get(1) == Some(&[0; PARITY]),
+    );
+    drop(copied);
+    Ok(told)
 }
 
 #[test]
-fn one_parity_per_block(rt: HostRuntime) {
+fn one_parity_per_block(rt: HostRuntime) -> Result<(), Fail> {
     let bytes = [0; BLOCK + 1];
-    let one = sketch_of(rt.alloc(), &bytes[..BLOCK]).expect(&rt, "there is memory");
-    let two = sketch_of(rt.alloc(), &bytes).expect(&rt, "there is memory");
-    let copied = two.copy().expect(&rt, "there is memory");
-    assert!(rt; one.parities.len() == 1);
-    assert!(rt; two.parities.len() == 2);
-    assert!(rt; copied.parities.get(1) == Some(&[0; PARITY]));
+    let one = sketch_of(rt.alloc(), &bytes[..BLOCK])?;
+    let count = one.parities.len();
+    drop(one);
+    let two = sketch_of(rt.alloc(), &bytes)?;
+    let told = told_of_copy(&two);
+    drop(two);
+    assert!(rt; count == 1);
+    assert!(rt; told? == (2, true));
+    Ok(())
+}
+
+/// The spelling of the sketch of "hello\n".
+fn spelled(alloc: Global) -> Result<Vec<u8>, AllocError> {
+    let sketch = sketch_of(alloc, b"hello\n")?;
+    let mut bytes = Vec::new(alloc);
+    let done = Sketch::spell(&sketch, &mut bytes);
+    drop(sketch);
+    done?;
+    Ok(bytes)
+}
+
+/// Where the sketch ends that the bytes spell, its length, and whether its first parity is that of "hello\n".
+fn taken(alloc: Global, bytes: &[u8]) -> Result<(usize, u32, bool), TakeError> {
+    let (sketch, next) = Sketch::take(alloc, bytes, 0)?;
+    let told = (next, sketch.len, sketch.parities.get(0) == Some(&OF_TEXT));
+    drop(sketch);
+    Ok(told)
 }
 
 #[test]
-fn spelled_and_taken(rt: HostRuntime) {
-    let sketch = sketch_of(rt.alloc(), b"hello\n").expect(&rt, "there is memory");
-    let mut bytes = Vec::new(rt.alloc());
-    Sketch::spell(&sketch, &mut bytes).expect(&rt, "there is memory");
-    let (taken, next) = Sketch::take(rt.alloc(), &bytes, 0).expect(&rt, "it was spelled");
-    assert!(rt; next == 100);
-    assert!(rt; taken.len == 6);
-    assert!(rt; taken.parities.get(0) == Some(&OF_TEXT));
-    let _last = bytes.pop();
-    let cut = Sketch::take(rt.alloc(), &bytes, 0).err();
-    assert!(rt; cut == Some(TakeError::At(98)));
+fn spelled_and_taken(rt: HostRuntime) -> Result<(), Fail> {
+    let bytes = spelled(rt.alloc())?;
+    let whole = taken(rt.alloc(), &bytes);
+    let cut = taken(rt.alloc(), bytes.get(..99).unwrap_or(&bytes));
+    drop(bytes);
+    assert!(rt; whole == Ok((100, 6, true)));
+    assert!(rt; cut == Err(TakeError::At(98)));
+    Ok(())
 }
 
 #[test]

@@ -7,6 +7,7 @@ use rs_parity::{BLOCK, PARITY, Parities, Sketch, parity, sketch_of};
 use rs_repair::repair;
 use std::alloc::{AllocError, Global};
 use std::rt::HostRuntime;
+use std::test::Fail;
 
 /// For each seed the digest of the repaired bytes of the case, or 0 where they are beyond repair.
 const REPAIRED: [u32; 300] = [
@@ -91,18 +92,27 @@ fn case(alloc: Global, seed: u32) -> Result<u32, AllocError> {
         check[k] = check[k] ^ (state >> 16) as u16;
     }
     let sketch = sketch_with(alloc, len as u32, check)?;
-    Ok(match repair(alloc, &content[..len], &sketch)? {
-        Some(bytes) => digest_of(&bytes),
-        None => 0,
-    })
+    let repaired = repair(alloc, &content[..len], &sketch);
+    drop(sketch);
+    match repaired? {
+        Some(bytes) => {
+            let digest = digest_of(&bytes);
+            drop(bytes);
+            Ok(digest)
+        }
+        None => Ok(0),
+    }
 }
 
 #[test]
-fn random_cases(rt: HostRuntime) {
+fn random_cases(rt: HostRuntime) -> Result<(), Fail> {
     for seed in 0..300u32 {
-        let repaired = case(rt.alloc(), seed).expect(&rt, "there is memory");
-        assert!(rt; repaired == REPAIRED[seed as usize], "seed {seed}");
+        assert!(rt;
+            case(rt.alloc(), seed)? == REPAIRED[seed as usize],
+            "seed {seed}"
+        );
     }
+    Ok(())
 }
 
 /// A sketch of one block with this parity.
@@ -116,63 +126,97 @@ fn sketch_with(alloc: Global, len: u32, check: [u16; PARITY]) -> Result<Sketch, 
     })
 }
 
-#[test]
-fn sixteen_symbols_and_no_more(rt: HostRuntime) {
-    let mut bytes = [0; 40];
-    let sketch = sketch_of(rt.alloc(), &bytes).expect(&rt, "there is memory");
-    for i in 0..16 {
-        bytes[2 * i + 1] = 1;
-    }
-    let near = repair(rt.alloc(), &bytes, &sketch).expect(&rt, "there is memory");
-    let shorter = repair(rt.alloc(), &[0; 39], &sketch).expect(&rt, "there is memory");
-    bytes[33] = 1;
-    let far = repair(rt.alloc(), &bytes, &sketch).expect(&rt, "there is memory");
-    assert!(rt; near.expect(&rt, "it is near").as_slice() == [0; 40].as_slice());
-    assert!(rt; shorter.is_none());
-    assert!(rt; far.is_none());
+/// Whether the content is repaired to these bytes; without any, whether it is beyond repair.
+fn is_repaired(
+    alloc: Global,
+    content: &[u8],
+    sketch: &Sketch,
+    wanted: Option<&[u8]>,
+) -> Result<bool, AllocError> {
+    let repaired = repair(alloc, content, sketch)?;
+    let same = match (&repaired, wanted) {
+        (Some(bytes), Some(wanted)) => bytes.as_slice() == wanted,
+        (None, None) => true,
+        (Some(_), None) | (None, Some(_)) => false,
+    };
+    drop(repaired);
+    Ok(same)
+}
+
+/// The same by a sketch of one block.
+fn is_block_repaired(
+    alloc: Global,
+    content: &[u8],
+    len: u32,
+    check: [u16; PARITY],
+    wanted: Option<&[u8]>,
+) -> Result<bool, AllocError> {
+    let sketch = sketch_with(alloc, len, check)?;
+    let same = is_repaired(alloc, content, &sketch, wanted);
+    drop(sketch);
+    same
 }
 
 #[test]
-fn each_block_for_itself(rt: HostRuntime) {
-    let mut bytes = [0; BLOCK + 40];
-    let sketch = sketch_of(rt.alloc(), &bytes).expect(&rt, "there is memory");
+fn sixteen_symbols_and_no_more(rt: HostRuntime) -> Result<(), Fail> {
+    let zeros = [0; 40];
+    let sketch = sketch_of(rt.alloc(), &zeros)?;
+    let mut bytes = zeros;
+    for i in 0..16 {
+        bytes[2 * i + 1] = 1;
+    }
+    let near = is_repaired(rt.alloc(), &bytes, &sketch, Some(&zeros));
+    let shorter = is_repaired(rt.alloc(), &zeros[..39], &sketch, None);
+    bytes[33] = 1;
+    let far = is_repaired(rt.alloc(), &bytes, &sketch, None);
+    drop(sketch);
+    assert!(rt; near? && shorter? && far?);
+    Ok(())
+}
+
+#[test]
+fn each_block_for_itself(rt: HostRuntime) -> Result<(), Fail> {
+    let zeros = [0; BLOCK + 40];
+    let sketch = sketch_of(rt.alloc(), &zeros)?;
+    let mut bytes = zeros;
     for i in 0..16 {
         bytes[8000 * i] = 7;
         bytes[BLOCK + 2 * i + 1] = 1;
     }
-    let near = repair(rt.alloc(), &bytes, &sketch).expect(&rt, "there is memory");
+    let near = is_repaired(rt.alloc(), &bytes, &sketch, Some(&zeros));
     bytes[BLOCK + 33] = 1;
-    let far = repair(rt.alloc(), &bytes, &sketch).expect(&rt, "there is memory");
-    let near = near.expect(&rt, "it is near");
-    assert!(rt; near.len() == BLOCK + 40);
-    assert!(rt; near.iter().all(|b| *b == 0));
-    assert!(rt; far.is_none());
+    let far = is_repaired(rt.alloc(), &bytes, &sketch, None);
+    drop(sketch);
+    assert!(rt; near? && far?);
+    Ok(())
 }
 
 #[test]
-fn the_byte_behind_an_odd_last_one(rt: HostRuntime) {
+fn the_byte_behind_an_odd_last_one(rt: HostRuntime) -> Result<(), Fail> {
+    let alloc = rt.alloc();
     let check = parity(&[0, 0, 0, 1]);
-    let even = sketch_with(rt.alloc(), 4, check).expect(&rt, "there is memory");
-    let odd = sketch_with(rt.alloc(), 3, check).expect(&rt, "there is memory");
-    let whole = repair(rt.alloc(), &[0, 9, 0, 0], &even).expect(&rt, "there is memory");
-    let padded = repair(rt.alloc(), &[0, 9, 0], &odd).expect(&rt, "there is memory");
-    let own = sketch_of(rt.alloc(), &[1, 2, 3]).expect(&rt, "there is memory");
-    let short = repair(rt.alloc(), &[9, 9, 9], &own).expect(&rt, "there is memory");
-    assert!(rt; whole.expect(&rt, "it is near").as_slice() == [0, 0, 0, 1].as_slice());
-    assert!(rt; padded.is_none());
-    assert!(rt; short.expect(&rt, "it is near").as_slice() == [1, 2, 3].as_slice());
+    assert!(rt; is_block_repaired(alloc, &[0, 9, 0, 0], 4, check, Some(&[0, 0, 0, 1]))?);
+    assert!(rt; is_block_repaired(alloc, &[0, 9, 0], 3, check, None)?);
+    let own = sketch_of(alloc, &[1, 2, 3])?;
+    let short = is_repaired(alloc, &[9, 9, 9], &own, Some(&[1, 2, 3]));
+    drop(own);
+    assert!(rt; short?);
+    Ok(())
 }
 
 #[test]
-fn changed_parities(rt: HostRuntime) {
+fn changed_parities(rt: HostRuntime) -> Result<(), Fail> {
     let bytes = [5; 40];
     let mut check = parity(&bytes);
     check[31] = check[31] ^ 1;
-    let changed = sketch_with(rt.alloc(), 40, check).expect(&rt, "there is memory");
-    let mut missing = sketch_of(rt.alloc(), &bytes).expect(&rt, "there is memory");
-    missing.parities = Parities::new(rt.alloc());
-    let beyond = repair(rt.alloc(), &bytes, &changed).expect(&rt, "there is memory");
-    let none = repair(rt.alloc(), &bytes, &missing).expect(&rt, "there is memory");
-    assert!(rt; beyond.is_none());
-    assert!(rt; none.is_none());
+    assert!(rt; is_block_repaired(rt.alloc(), &bytes, 40, check, None)?);
+    let missing = Sketch {
+        len: 40,
+        print: [0; 32],
+        parities: Parities::new(rt.alloc()),
+    };
+    let beyond = is_repaired(rt.alloc(), &bytes, &missing, None);
+    drop(missing);
+    assert!(rt; beyond?);
+    Ok(())
 }

@@ -28,7 +28,7 @@ struct Case<'a> {
     replayed: u8,
 }
 
-fn path(alloc: Global, text: &[u8]) -> Result<Path, Fail> {
+pub(crate) fn path(alloc: Global, text: &[u8]) -> Result<Path, Fail> {
     match Path::read(alloc, text) {
         Ok(path) => Ok(path),
         Err(_refused) => Err(Fail::from("no path")),
@@ -97,20 +97,25 @@ fn job(alloc: Global, command: &Command) -> Result<Job, Fail>
     }
 }
 
+/// A `Put` of the content at the path.
+pub(crate) fn put(alloc: Global, path_text: &[u8], content: &[u8]) -> Result<SketchEffect, Fail> {
+    if content.len() > 8_388_608 {
+        return Err(Fail::from("no content"));
+    }
+    let path = path(alloc, path_text)?;
+    let sketch = sketch_of(alloc, content)?;
+    Ok(SketchEffect::Put(path, sketch))
+}
+
 /// The effect of a word.
 fn effect(alloc: Global, word: &[u8]) -> Result<SketchEffect, Fail> {
     if let Some(rest) = word.strip_prefix(b"-") {
         return Ok(SketchEffect::Remove(path(alloc, rest)?));
     }
-    let Some(at) = word.iter().position(|b| *b == b'=') else {
-        return Ok(SketchEffect::Make(path(alloc, word)?));
-    };
-    let content = &word[at + 1..];
-    if content.len() > 8_388_608 {
-        return Err(Fail::from("no content"));
+    match word.iter().position(|b| *b == b'=') {
+        Some(at) => put(alloc, &word[..at], &word[at + 1..]),
+        None => Ok(SketchEffect::Make(path(alloc, word)?)),
     }
-    let sketch = sketch_of(alloc, content)?;
-    Ok(SketchEffect::Put(path(alloc, &word[..at])?, sketch))
 }
 
 fn effects(alloc: Global, line: &[u8]) -> Result<SketchEffects, Fail> {
@@ -165,49 +170,62 @@ fn entry(alloc: Global, command: Command, case: &Case<'_>) -> Result<SketchEntry
     }
 }
 
+/// Adds the path.
+pub(crate) fn put_path(path: &Path, out: &mut Vec<u8>) -> Result<(), AllocError> {
+    let text = path.text()?;
+    let done = out.extend_from_slice(text.bytes());
+    drop(text);
+    done
+}
+
 /// Adds the path, behind `-` where it is removed, the content behind `=`, and a space.
-fn tell_effect(effect: &Effect, out: &mut Vec<u8>) -> Result<(), Fail> {
+fn tell_effect(effect: &Effect, out: &mut Vec<u8>) -> Result<(), AllocError> {
     match effect {
-        Effect::Make(path) => out.extend_from_slice(path.text()?.bytes())?,
+        Effect::Make(path) => put_path(path, out)?,
         Effect::Put(path, content) => {
-            out.extend_from_slice(path.text()?.bytes())?;
+            put_path(path, out)?;
             out.push(b'=')?;
             out.extend_from_slice(content.bytes())?;
         }
         Effect::Remove(path) => {
             out.push(b'-')?;
-            out.extend_from_slice(path.text()?.bytes())?;
+            put_path(path, out)?;
         }
-        Effect::Move(from, _to) => out.extend_from_slice(from.text()?.bytes())?,
+        Effect::Move(from, _to) => put_path(from, out)?,
     }
     out.push(b' ')?;
     Ok(())
 }
 
-/// A letter for the verdict, and then what it holds.
-fn told(alloc: Global, verdict: &Verdict) -> Result<Vec<u8>, Fail> {
-    let mut out = Vec::new(alloc);
+/// Adds a word for the verdict, and then what it holds.
+fn tell(verdict: &Verdict, out: &mut Vec<u8>) -> Result<(), AllocError> {
     match verdict {
         Verdict::Agree(effects) => {
             out.extend_from_slice(b"agree ")?;
             for effect in effects.as_slice() {
-                tell_effect(effect, &mut out)?;
+                tell_effect(effect, out)?;
             }
+            Ok(())
         }
         Verdict::Status { logged, replayed } => {
             out.extend_from_slice(b"status ")?;
-            out.push(*logged)?;
-            out.push(*replayed)?;
+            out.extend_from_slice(&[*logged, *replayed])
         }
         Verdict::OddTree(i) => {
             out.extend_from_slice(b"odd ")?;
-            out.extend_from_slice(&i.to_be_bytes())?;
+            out.extend_from_slice(&i.to_be_bytes())
         }
         Verdict::Mismatch(path) => {
             out.extend_from_slice(b"mismatch ")?;
-            out.extend_from_slice(path.text()?.bytes())?;
+            put_path(path, out)
         }
     }
+}
+
+/// A word for the verdict, and then what it holds.
+fn told(alloc: Global, verdict: &Verdict) -> Result<Vec<u8>, AllocError> {
+    let mut out = Vec::new(alloc);
+    tell(verdict, &mut out)?;
     Ok(out)
 }
 
@@ -222,7 +240,7 @@ fn judged_of(alloc: Global, entry: SketchEntry, job: Job, outcome: Outcome) -> R
     let verdict = verdict?;
     let text = told(alloc, &verdict);
     drop(verdict);
-    text
+    Ok(text?)
 }
 
 /// The entry of a case and the job of its command.
