@@ -68,7 +68,7 @@ fn fill(alloc: Global, tree: &mut Tree, other: &[u8]) -> Result<(), Fail> {
 }
 
 /// Adds the text of the path.
-fn put_path(path: &Path, out: &mut Vec<u8>) -> Result<(), AllocError> {
+fn put_path_text(path: &Path, out: &mut Vec<u8>) -> Result<(), AllocError> {
     let text = path.text()?;
     let done = out.extend_from_slice(text.bytes());
     drop(text);
@@ -79,7 +79,7 @@ fn put_path(path: &Path, out: &mut Vec<u8>) -> Result<(), AllocError> {
 fn paths(alloc: Global, job: &Job) -> Result<Vec<u8>, AllocError> {
     let mut texts = Vec::new(alloc);
     for row in job.rows.as_slice() {
-        put_path(&row.path, &mut texts)?;
+        put_path_text(&row.path, &mut texts)?;
         texts.push(b'\n')?;
     }
     Ok(texts)
@@ -88,7 +88,7 @@ fn paths(alloc: Global, job: &Job) -> Result<Vec<u8>, AllocError> {
 /// The text of the path.
 fn path_text(alloc: Global, path: &Path) -> Result<Vec<u8>, AllocError> {
     let mut text = Vec::new(alloc);
-    put_path(path, &mut text)?;
+    put_path_text(path, &mut text)?;
     Ok(text)
 }
 

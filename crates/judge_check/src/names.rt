@@ -2,7 +2,7 @@
 
 ghost use Rattle.std.specs.Prelude.{IfOk};
 
-use crate::tests::{path, put, put_path};
+use crate::tests::{path, put, put_path_text};
 use cmd_capture::{JobRow, JobRows, Templates};
 use mod_log::{SketchEffect, SketchEffects};
 use std::alloc::{AllocError, Global};
@@ -81,7 +81,7 @@ fn puts(alloc: Global, line: &[u8]) -> Result<SketchEffects, Fail> {
 
 /// Adds the path and a space.
 fn tell_path(path: &Path, out: &mut Vec<u8>) -> Result<(), AllocError> {
-    put_path(path, out)?;
+    put_path_text(path, out)?;
     out.push(b' ')?;
     Ok(())
 }

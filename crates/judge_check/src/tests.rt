@@ -171,7 +171,7 @@ fn entry(alloc: Global, command: Command, case: &Case<'_>) -> Result<SketchEntry
 }
 
 /// Adds the path.
-pub(crate) fn put_path(path: &Path, out: &mut Vec<u8>) -> Result<(), AllocError> {
+pub(crate) fn put_path_text(path: &Path, out: &mut Vec<u8>) -> Result<(), AllocError> {
     let text = path.text()?;
     let done = out.extend_from_slice(text.bytes());
     drop(text);
@@ -181,17 +181,17 @@ pub(crate) fn put_path(path: &Path, out: &mut Vec<u8>) -> Result<(), AllocError>
 /// Adds the path, behind `-` where it is removed, the content behind `=`, and a space.
 fn tell_effect(effect: &Effect, out: &mut Vec<u8>) -> Result<(), AllocError> {
     match effect {
-        Effect::Make(path) => put_path(path, out)?,
+        Effect::Make(path) => put_path_text(path, out)?,
         Effect::Put(path, content) => {
-            put_path(path, out)?;
+            put_path_text(path, out)?;
             out.push(b'=')?;
             out.extend_from_slice(content.bytes())?;
         }
         Effect::Remove(path) => {
             out.push(b'-')?;
-            put_path(path, out)?;
+            put_path_text(path, out)?;
         }
-        Effect::Move(from, _to) => put_path(from, out)?,
+        Effect::Move(from, _to) => put_path_text(from, out)?,
     }
     out.push(b' ')?;
     Ok(())
@@ -217,7 +217,7 @@ fn tell(verdict: &Verdict, out: &mut Vec<u8>) -> Result<(), AllocError> {
         }
         Verdict::Mismatch(path) => {
             out.extend_from_slice(b"mismatch ")?;
-            put_path(path, out)
+            put_path_text(path, out)
         }
     }
 }
