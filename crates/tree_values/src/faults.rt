@@ -147,7 +147,7 @@ fn spell_number(number: u8, out: &mut Vec<u8>) -> Result<(), AllocError>
 }
 
 /// Appends the number of a refusal that names a number of rows, and that number.
-#[tactic(auto, using(byte_fields::proofs::Fronts::front_none, byte_fields::proofs::Fronts::front_before, byte_fields::proofs::Fronts::front_second))]
+#[tactic(auto, using(byte_fields::proofs::Fronts::front_none, byte_fields::proofs::Fronts::front_before))]
 fn spell_count(number: u8, rows: u32, out: &mut Vec<u8>) -> Result<(), AllocError>
     ensures ok { OnOk result (out.new.items ≡ out.old.items ++ (number ∷ digits w32 rows)) }
     ensures err { OnErr result (IsFront out.old.items out.new.items (number ∷ digits w32 rows)) }
@@ -158,7 +158,7 @@ fn spell_count(number: u8, rows: u32, out: &mut Vec<u8>) -> Result<(), AllocErro
 }
 
 /// Appends the number of a refusal that names a number of bytes, and that number.
-#[tactic(auto, using(byte_fields::proofs::Fronts::front_none, byte_fields::proofs::Fronts::front_before, byte_fields::proofs::Fronts::front_second))]
+#[tactic(auto, using(byte_fields::proofs::Fronts::front_none, byte_fields::proofs::Fronts::front_before))]
 fn spell_size(number: u8, size: u64, out: &mut Vec<u8>) -> Result<(), AllocError>
     ensures ok { OnOk result (out.new.items ≡ out.old.items ++ (number ∷ digits w64 size)) }
     ensures err { OnErr result (IsFront out.old.items out.new.items (number ∷ digits w64 size)) }

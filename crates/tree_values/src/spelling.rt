@@ -52,7 +52,7 @@ impl Effect {
 }
 
 /// Appends a kind that names a path, and the path.
-#[tactic(auto, using(byte_fields::proofs::Fronts::front_none, byte_fields::proofs::Fronts::front_behind_kind, byte_fields::proofs::Fronts::front_before, byte_fields::proofs::Fronts::front_second))]
+#[tactic(auto, using(byte_fields::proofs::Fronts::front_none, byte_fields::proofs::Fronts::front_second))]
 pub(crate) fn spell_path(kind: u8, value: &Path, out: &mut Vec<u8>) -> Result<(), AllocError>
     ensures ok { OnOk result (out.new.items ≡ out.old.items ++ (kind ∷ path value.now)) }
     ensures err { OnErr result (IsFront out.old.items out.new.items (kind ∷ path value.now)) }
@@ -63,7 +63,6 @@ pub(crate) fn spell_path(kind: u8, value: &Path, out: &mut Vec<u8>) -> Result<()
 }
 
 /// Appends a kind that names two paths, and the paths.
-#[tactic(auto, using(byte_fields::proofs::Fronts::front_none, byte_fields::proofs::Fronts::front_all, byte_fields::proofs::Fronts::front_first, byte_fields::proofs::Fronts::front_before, byte_fields::proofs::Fronts::front_second, byte_fields::proofs::Fronts::front_behind_kind))]
 pub(crate) fn spell_paths(
     kind: u8,
     first: &Path,
@@ -73,21 +72,18 @@ pub(crate) fn spell_paths(
     ensures ok { OnOk result (out.new.items ≡ out.old.items ++ (kind ∷ (path first.now ++ path second.now))) }
     ensures err { OnErr result (IsFront out.old.items out.new.items (kind ∷ (path first.now ++ path second.now))) }
 {
-    out.push(kind)?;
-    Path::spell(first, out)?;
+    spell_path(kind, first, out)?;
     Path::spell(second, out)?;
     Ok(())
 }
 
 /// Appends the kind of a put, its path and its content.
-#[tactic(auto, using(byte_fields::proofs::Fronts::front_none, byte_fields::proofs::Fronts::front_all, byte_fields::proofs::Fronts::front_first, byte_fields::proofs::Fronts::front_before, byte_fields::proofs::Fronts::front_second, byte_fields::proofs::Fronts::front_behind_kind))]
 fn spell_put(at: &Path, value: &Content, out: &mut Vec<u8>) -> Result<(), AllocError>
     requires { length value.now ≤ max_file }
     ensures ok { OnOk result (out.new.items ≡ out.old.items ++ (2 ∷ (path at.now ++ content value.now))) }
     ensures err { OnErr result (IsFront out.old.items out.new.items (2 ∷ (path at.now ++ content value.now))) }
 {
-    out.push(2)?;
-    Path::spell(at, out)?;
+    spell_path(2, at, out)?;
     Content::spell(value, out)?;
     Ok(())
 }
@@ -98,7 +94,7 @@ impl Effects {
     /// # Errors
     ///
     /// `AllocError` where memory runs out. A front of the spelling is then appended.
-    #[tactic(auto, using(byte_fields::proofs::Fronts::front_none, byte_fields::proofs::Fronts::front_all, byte_fields::proofs::Fronts::front_first, byte_fields::proofs::Fronts::front_before, byte_fields::proofs::Fronts::front_second))]
+    #[tactic(auto, using(byte_fields::proofs::Fronts::front_none, byte_fields::proofs::Fronts::front_second))]
     pub fn spell(value: &Effects, out: &mut Vec<u8>) -> Result<(), AllocError>
         requires { EffectsFit value.now }
         ensures ok { OnOk result (out.new.items ≡ out.old.items ++ effects value.now) }
@@ -117,7 +113,7 @@ impl Base {
     /// # Errors
     ///
     /// `AllocError` where memory runs out. A front of the spelling is then appended.
-    #[tactic(auto, using(byte_fields::proofs::Fronts::front_none, byte_fields::proofs::Fronts::front_all, byte_fields::proofs::Fronts::front_first, byte_fields::proofs::Fronts::front_before, byte_fields::proofs::Fronts::front_second))]
+    #[tactic(auto, using(byte_fields::proofs::Fronts::front_first, byte_fields::proofs::Fronts::front_before))]
     pub fn spell(value: &Base, out: &mut Vec<u8>) -> Result<(), AllocError>
         ensures ok { OnOk result (out.new.items ≡ out.old.items ++ base value.now) }
         ensures err { OnErr result (IsFront out.old.items out.new.items (base value.now)) }
@@ -143,7 +139,7 @@ impl Bases {
     /// # Errors
     ///
     /// `AllocError` where memory runs out. A front of the spelling is then appended.
-    #[tactic(auto, using(byte_fields::proofs::Fronts::front_none, byte_fields::proofs::Fronts::front_all, byte_fields::proofs::Fronts::front_first, byte_fields::proofs::Fronts::front_before, byte_fields::proofs::Fronts::front_second))]
+    #[tactic(auto, using(byte_fields::proofs::Fronts::front_none, byte_fields::proofs::Fronts::front_second))]
     pub fn spell(value: &Bases, out: &mut Vec<u8>) -> Result<(), AllocError>
         ensures ok { OnOk result (out.new.items ≡ out.old.items ++ bases value.now) }
         ensures err { OnErr result (IsFront out.old.items out.new.items (bases value.now)) }
@@ -156,7 +152,7 @@ impl Bases {
 }
 
 /// Appends what stands at a path: a byte for its kind, and a file's content.
-#[tactic(auto, using(byte_fields::proofs::Fronts::front_none, byte_fields::proofs::Fronts::front_all, byte_fields::proofs::Fronts::front_first, byte_fields::proofs::Fronts::front_before, byte_fields::proofs::Fronts::front_second))]
+#[tactic(auto, using(byte_fields::proofs::Fronts::front_none, byte_fields::proofs::Fronts::front_second))]
 fn spell_node(value: Option<&Node>, out: &mut Vec<u8>) -> Result<(), AllocError>
     requires { node_size (option_copied value) ≤ max_file }
     ensures ok { OnOk result (out.new.items ≡ out.old.items ++ node (option_copied value.entry)) }
@@ -174,7 +170,7 @@ fn spell_node(value: Option<&Node>, out: &mut Vec<u8>) -> Result<(), AllocError>
 }
 
 /// Appends a row's path, its version and what stands at the path.
-#[tactic(auto, using(byte_fields::proofs::Fronts::front_none, byte_fields::proofs::Fronts::front_all, byte_fields::proofs::Fronts::front_first, byte_fields::proofs::Fronts::front_before, byte_fields::proofs::Fronts::front_second, byte_fields::proofs::Fronts::front_third))]
+#[tactic(auto, using(byte_fields::proofs::Fronts::front_first, byte_fields::proofs::Fronts::front_before, byte_fields::proofs::Fronts::front_third))]
 pub fn spell_row(
     path: &Path,
     version: u64,
@@ -199,7 +195,6 @@ impl Row {
     /// # Errors
     ///
     /// `AllocError` where memory runs out. A front of the spelling is then appended.
-    #[tactic(auto, using(byte_fields::proofs::Fronts::front_none, byte_fields::proofs::Fronts::front_all, byte_fields::proofs::Fronts::front_first, byte_fields::proofs::Fronts::front_before, byte_fields::proofs::Fronts::front_second))]
     pub fn spell(value: &Row, out: &mut Vec<u8>) -> Result<(), AllocError>
         requires { node_size value.now.node ≤ max_file }
         ensures ok { OnOk result (out.new.items ≡ out.old.items ++ row value.now) }
@@ -215,7 +210,7 @@ impl Rows {
     /// # Errors
     ///
     /// `AllocError` where memory runs out. A front of the spelling is then appended.
-    #[tactic(auto, using(byte_fields::proofs::Fronts::front_none, byte_fields::proofs::Fronts::front_all, byte_fields::proofs::Fronts::front_first, byte_fields::proofs::Fronts::front_before, byte_fields::proofs::Fronts::front_second))]
+    #[tactic(auto, using(byte_fields::proofs::Fronts::front_none, byte_fields::proofs::Fronts::front_second))]
     pub fn spell(value: &Rows, out: &mut Vec<u8>) -> Result<(), AllocError>
         requires { IsTree value.now }
         ensures ok { OnOk result (out.new.items ≡ out.old.items ++ rows value.now) }

@@ -169,7 +169,7 @@ impl Tree {
     /// # Errors
     ///
     /// `AllocError` where memory runs out. A front of the spelling is then appended.
-    #[tactic(auto, using(byte_fields::proofs::Fronts::front_none, byte_fields::proofs::Fronts::front_first, byte_fields::proofs::Fronts::front_before, byte_fields::proofs::Fronts::front_second))]
+    #[tactic(auto, using(byte_fields::proofs::Fronts::front_none, byte_fields::proofs::Fronts::front_second))]
     pub fn spell_rows(&self, out: &mut Vec<u8>) -> Result<(), AllocError>
         ensures rows { OnOk result (out.new.items ≡ out.old.items ++ spelled_rows self.now) }
         ensures err { OnErr result (IsFront out.old.items out.new.items (spelled_rows self.now)) }
