@@ -6,3 +6,4 @@ pub mod Captured
 pub mod Cutting
 pub mod Breaking
 pub mod Passing
+pub mod Halves

@@ -22,6 +22,9 @@ behind_args c = path c.cwd ++ behind_cwd c
 abbrev behind_program : Command → List ℕ
 behind_program c = counted content c.args ++ behind_args c
 
+pub front_program : (c : Command) (old new : List ℕ) → IsFront old new (content c.program) → IsFront old new (command c)
+front_program c old new f = front_first old new (content c.program) (behind_program c) f
+
 module _ (c : Command) (old out : List ℕ) (program : out ≡ old ++ content c.program) where
   past_program : (new : List ℕ) → IsFront out new (behind_program c) → IsFront old new (command c)
   past_program new f = front_second old out new (content c.program) (behind_program c) program f

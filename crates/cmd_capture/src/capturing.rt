@@ -12,7 +12,7 @@ ghost use Rattle.cmd_capture.specs.Rules as rules_of_parts;
 ghost use Rattle.cmd_capture.specs.Capture as rules;
 ghost use Rattle.cmd_capture.specs.Capture.{capture, options, program_words};
 
-use crate::command::{Command, Templates, Words};
+use crate::command::{Command, Setting, Start, Templates, Words};
 use crate::environment::Env;
 use crate::limits::MAX_COMMAND;
 use crate::rules::{is_absolute, is_template, is_text};
@@ -282,6 +282,37 @@ fn check_texts(options: &[Content], texts: &[Content]) -> Result<(), CaptureErro
     Ok(())
 }
 
+/// The first half of a command, of copies.
+fn start_of(
+    alloc: Global,
+    program: &Content,
+    args: &[Content],
+    cwd: &Path,
+) -> Result<Start, AllocError>
+    ensures { IfOk result (λ start. start ≡ record { program = program.now; args = args.now; cwd = cwd.now }) }
+{
+    Ok(Start {
+        program: program.copy()?,
+        args: copies_of(alloc, args)?,
+        cwd: cwd.copy()?,
+    })
+}
+
+/// The other half, of options with these inputs.
+fn setting_of(alloc: Global, options: &[Content], inputs: Paths) -> Result<Setting, AllocError>
+    ensures { IfOk result (λ setting. setting ≡ record {
+      env = fold rules.set_variable [] (filter_map rules.variable_of options.now);
+      inputs = inputs;
+      templates = filter_map (rules.behind rules.tmp_mark) options.now;
+    }) }
+{
+    Ok(Setting {
+        inputs,
+        env: env_of(alloc, options)?,
+        templates: templates_of(alloc, options)?,
+    })
+}
+
 /// The command of a program and its arguments, and of options with these inputs.
 fn command_of(
     alloc: Global,
@@ -300,14 +331,9 @@ fn command_of(
       templates = filter_map (rules.behind rules.tmp_mark) options.now;
     }) }
 {
-    Ok(Command {
-        inputs,
-        program: program.copy()?,
-        args: copies_of(alloc, args)?,
-        cwd: cwd.copy()?,
-        env: env_of(alloc, options)?,
-        templates: templates_of(alloc, options)?,
-    })
+    let setting = setting_of(alloc, options, inputs)?;
+    let start = start_of(alloc, program, args, cwd)?;
+    Ok(start.joined(setting))
 }
 
 /// The number of bytes of the command's spelling.

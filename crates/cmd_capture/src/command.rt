@@ -1,5 +1,7 @@
 //! A command and its parts.
 
+ghost use Rattle.std.specs.Prelude.{◌≡◌, IfOk};
+
 use crate::environment::Env;
 use std::alloc::AllocError;
 use vol_tree::{Content, List, Path, Paths, TryCopy};
@@ -27,15 +29,77 @@ pub struct Command {
     pub templates: Templates,
 }
 
-impl TryCopy for Command {
-    fn copy(&self) -> Result<Command, AllocError> {
-        Ok(Command {
+/// The first half of a command: what is started, with which arguments, and in which folder.
+#[derive(Drop)]
+pub(crate) struct Start {
+    pub program: Content,
+    pub args: Words,
+    pub cwd: Path,
+}
+
+/// The other half: what is set for the program, and what is said of its files.
+#[derive(Drop)]
+pub(crate) struct Setting {
+    pub env: Env,
+    pub inputs: Paths,
+    pub templates: Templates,
+}
+
+impl Start {
+    /// The command of both halves.
+    pub(crate) fn joined(self, setting: Setting) -> Command
+        ensures { result ≡ record {
+          program = self.program;
+          args = self.args;
+          cwd = self.cwd;
+          env = setting.env;
+          inputs = setting.inputs;
+          templates = setting.templates;
+        } }
+    {
+        Command {
+            program: self.program,
+            args: self.args,
+            cwd: self.cwd,
+            env: setting.env,
+            inputs: setting.inputs,
+            templates: setting.templates,
+        }
+    }
+}
+
+impl Command {
+    /// A copy of the first half.
+    fn start(&self) -> Result<Start, AllocError>
+        ensures { IfOk result (λ start. start ≡ record { program = self.now.program; args = self.now.args; cwd = self.now.cwd }) }
+    {
+        Ok(Start {
             program: self.program.copy()?,
             args: self.args.copy()?,
             cwd: self.cwd.copy()?,
+        })
+    }
+
+    /// A copy of the other half.
+    fn setting(&self) -> Result<Setting, AllocError>
+        ensures { IfOk result (λ setting. setting ≡ record {
+          env = self.now.env;
+          inputs = self.now.inputs;
+          templates = self.now.templates;
+        }) }
+    {
+        Ok(Setting {
             env: self.env.copy()?,
             inputs: self.inputs.copy()?,
             templates: self.templates.copy()?,
         })
+    }
+}
+
+impl TryCopy for Command {
+    fn copy(&self) -> Result<Command, AllocError> {
+        let start = self.start()?;
+        let setting = self.setting()?;
+        Ok(start.joined(setting))
     }
 }

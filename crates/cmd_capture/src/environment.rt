@@ -1,5 +1,4 @@
 //! Variables with their values, which contracts see as the list of pairs.
-#![tactic(auto, using(byte_fields::proofs::Fronts::front_none, byte_fields::proofs::Fronts::front_all, byte_fields::proofs::Fronts::front_first, byte_fields::proofs::Fronts::front_before, byte_fields::proofs::Fronts::front_second,))]
 
 ghost use Rattle.std.specs.Prelude.{◌≡◌, ◌≤◌, [], ◌++◌, length, slice_get, option_map, OnOk, OnErr};
 ghost use Rattle.std.specs.List.{flat_map};
@@ -89,7 +88,6 @@ impl Env {
     }
 
     /// Adds the key and the value of each pair, in their order.
-    #[tactic(auto)]
     fn put_pairs(&self, out: &mut Vec<u8>) -> Result<(), AllocError>
         ensures ok { OnOk result (out.new.items ≡ out.old.items ++ flat_map spelling.variable self.now) }
         ensures err { OnErr result (IsFront out.old.items out.new.items (flat_map spelling.variable self.now)) }

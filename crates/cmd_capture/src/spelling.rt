@@ -1,5 +1,4 @@
 //! Appending the spellings of commands and jobs.
-#![tactic(auto, using(byte_fields::proofs::Fronts::front_none, byte_fields::proofs::Fronts::front_all, byte_fields::proofs::Fronts::front_first, byte_fields::proofs::Fronts::front_before, byte_fields::proofs::Fronts::front_second,))]
 
 ghost use Rattle.std.specs.Prelude.{◌≡◌, ◌++◌, length, OnOk, OnErr, Some};
 ghost use Rattle.std.specs.List.{flat_map};
@@ -50,6 +49,7 @@ fn put_count32(out: &mut Vec<u8>, count: usize) -> Result<(), AllocError>
 }
 
 /// The bytes, behind their number.
+#[tactic(auto, using(byte_fields::proofs::Fronts::front_none, byte_fields::proofs::Fronts::front_before))]
 pub(crate) fn put_text(out: &mut Vec<u8>, bytes: &[u8]) -> Result<(), AllocError>
     ensures ok { OnOk result (out.new.items ≡ out.old.items ++ content bytes.now) }
     ensures err { OnErr result (IsFront out.old.items out.new.items (content bytes.now)) }
@@ -68,7 +68,6 @@ fn put_template(out: &mut Vec<u8>, bytes: &[u8]) -> Result<(), AllocError>
     Ok(())
 }
 
-#[tactic(auto)]
 fn put_all_texts(out: &mut Vec<u8>, texts: &[Content]) -> Result<(), AllocError>
     ensures ok { OnOk result (out.new.items ≡ out.old.items ++ flat_map content texts.now) }
     ensures err { OnErr result (IsFront out.old.items out.new.items (flat_map content texts.now)) }
@@ -79,7 +78,6 @@ fn put_all_texts(out: &mut Vec<u8>, texts: &[Content]) -> Result<(), AllocError>
     Ok(())
 }
 
-#[tactic(auto)]
 fn put_all_paths(out: &mut Vec<u8>, paths: &[Path]) -> Result<(), AllocError>
     ensures ok { OnOk result (out.new.items ≡ out.old.items ++ flat_map path paths.now) }
     ensures err { OnErr result (IsFront out.old.items out.new.items (flat_map path paths.now)) }
@@ -90,7 +88,6 @@ fn put_all_paths(out: &mut Vec<u8>, paths: &[Path]) -> Result<(), AllocError>
     Ok(())
 }
 
-#[tactic(auto)]
 fn put_all_templates(out: &mut Vec<u8>, templates: &[Content]) -> Result<(), AllocError>
     ensures ok { OnOk result (out.new.items ≡ out.old.items ++ flat_map spelling.template templates.now) }
     ensures err { OnErr result (IsFront out.old.items out.new.items (flat_map spelling.template templates.now)) }
@@ -149,6 +146,7 @@ impl Command {
 }
 
 /// Appends what stands at a path: a byte for its kind, and a file's content.
+#[tactic(auto, using(byte_fields::proofs::Fronts::front_none, byte_fields::proofs::Fronts::front_second))]
 fn put_node(out: &mut Vec<u8>, node: &Node) -> Result<(), AllocError>
     ensures ok { OnOk result (out.new.items ≡ out.old.items ++ spelling.job_node node.now) }
     ensures err { OnErr result (IsFront out.old.items out.new.items (spelling.job_node node.now)) }

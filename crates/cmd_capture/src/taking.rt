@@ -1,14 +1,14 @@
 //! Taking commands and jobs from the bytes that spell them, with the place of the first faulty field.
 
 ghost use Rattle.std.specs.Prelude.{◌≡◌, ◌&&◌, false, [], take, IfOk};
-ghost use Rattle.byte_fields.specs.Field.{Gives, each_at};
+ghost use Rattle.byte_fields.specs.Field.{Gives, each_at, three};
 ghost use Rattle.file_paths.specs.Reading.{path_at};
 ghost use Rattle.cmd_capture.specs.Environment.{has_key};
 ghost use Rattle.cmd_capture.specs.Rules.{is_text, is_program, is_key, is_pattern};
 ghost use Rattle.cmd_capture.specs.Reading.{bytes_at, text_at, template_at, is_new_key, variable_at, with_pair, variables_at, alike_at};
 ghost use Rattle.cmd_capture.specs.Reading.{counted_at, parts_at, command_at, job_file_at, job_node_at, job_row_at, job_rows_at, job_at};
 
-use crate::command::{Command, Templates, Words};
+use crate::command::{Command, Setting, Start, Templates, Words};
 use crate::environment::Env;
 use crate::job::{Job, JobRow, JobRows};
 use crate::limits::MAX_COMMAND;
@@ -234,26 +234,40 @@ fn templates_at(alloc: Global, bytes: &[u8], at: usize) -> Result<(Templates, us
     Ok((Templates::from_vec(items), next))
 }
 
-/// The parts of a command one after the other.
-#[tactic(auto, unfolding(crate::specs::Reading::parts_at))]
-fn parts_at(alloc: Global, bytes: &[u8], at: usize) -> Result<(Command, usize), TakeError>
-    ensures { Gives result (parts_at bytes.now at) }
+/// The program, its arguments and its folder.
+fn start_at(alloc: Global, bytes: &[u8], at: usize) -> Result<(Start, usize), TakeError>
+    ensures { Gives result (three (bytes_at is_program) (λ _. counted_at text_at) (λ _ _. path_at)
+        (λ program args cwd. record { program = program; args = args; cwd = cwd }) bytes.now at) }
 {
     let (program, args_start) = program_at(alloc, bytes, at)?;
     let (args, cwd_start) = args_at(alloc, bytes, args_start)?;
-    let (cwd, env_start) = Path::take(alloc, bytes, cwd_start)?;
-    let (env, inputs_start) = variables_at(alloc, bytes, env_start)?;
+    let (cwd, next) = Path::take(alloc, bytes, cwd_start)?;
+    Ok((Start { program, args, cwd }, next))
+}
+
+/// The variables, inputs and templates.
+fn setting_at(alloc: Global, bytes: &[u8], at: usize) -> Result<(Setting, usize), TakeError>
+    ensures { Gives result (three variables_at (λ _. counted_at path_at) (λ _ _. counted_at template_at)
+        (λ env inputs templates. record { env = env; inputs = inputs; templates = templates }) bytes.now at) }
+{
+    let (env, inputs_start) = variables_at(alloc, bytes, at)?;
     let (inputs, templates_start) = inputs_at(alloc, bytes, inputs_start)?;
     let (templates, next) = templates_at(alloc, bytes, templates_start)?;
-    let command = Command {
-        program,
-        args,
-        cwd,
+    let setting = Setting {
         env,
         inputs,
         templates,
     };
-    Ok((command, next))
+    Ok((setting, next))
+}
+
+/// The parts of a command one after the other.
+fn parts_at(alloc: Global, bytes: &[u8], at: usize) -> Result<(Command, usize), TakeError>
+    ensures { Gives result (parts_at bytes.now at) }
+{
+    let (start, middle) = start_at(alloc, bytes, at)?;
+    let (setting, next) = setting_at(alloc, bytes, middle)?;
+    Ok((start.joined(setting), next))
 }
 
 impl Command {

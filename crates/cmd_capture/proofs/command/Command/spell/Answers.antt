@@ -1,6 +1,11 @@
 use Rattle.byte_fields.proofs.Fronts.{on_error}
-use Rattle.cmd_capture.proofs.Passing.{front_args, front_cwd, front_env, front_inputs, front_templates}
+use Rattle.cmd_capture.proofs.Passing.{front_program, front_args, front_cwd, front_env, front_inputs, front_templates}
 use Rattle.cmd_capture.proofs.command.Command.spell.Goals as goal
+
+pub returns-in_err-put_text-clause-err : goal.returns-in_err-put_text-clause-err
+returns-in_err-put_text-clause-err c =
+    on_error c.from_residual.result
+    (front_program c.args.value.now c.args.out.now.items c.put_text.new.out.items (rw c.bytes.ensures.value at c.in_err-put_text.ensures.err))
 
 pub returns-in_err-put_texts-clause-err : goal.returns-in_err-put_texts-clause-err
 returns-in_err-put_texts-clause-err c =
