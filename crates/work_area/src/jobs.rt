@@ -98,6 +98,32 @@ fn first_missing(tree: &Tree, inputs: &[Path]) -> Option<usize>
     inputs.iter().position(|input| is_missing(tree, input))
 }
 
+/// The rows of the tree that are rows of the job.
+fn rows_of_job(alloc: Global, tree: &Tree, command: &Command) -> Result<JobRows, AllocError>
+    ensures rows { IfOk result (λ rows. rows ≡ filter_map (rules.job_row_of command.now) tree.now) }
+    ensures tree { IsTree tree.now }
+{
+    let rows = tree.rows()?;
+    job_rows(alloc, rows.as_slice(), command)
+}
+
+/// The job of a command of which nothing is missing.
+fn formed_job(alloc: Global, tree: &Tree, command: &Command) -> Result<Job, AllocError>
+    requires { IsCommand command.now }
+    ensures job { IfOk result (λ job. job ≡ record { command = command.now; rows = filter_map (rules.job_row_of command.now) tree.now }) }
+    ensures rows { IfOk result (λ job. AreJobRows job.rows) }
+    ensures fits { IfOk result IsJob }
+{
+    let rows = rows_of_job(alloc, tree, command)?;
+    match command.copy() {
+        Ok(command) => Ok(Job { command, rows }),
+        Err(e) => {
+            drop(rows);
+            Err(e)
+        }
+    }
+}
+
 /// The command with the rows that it starts on.
 pub fn job_of(alloc: Global, tree: &Tree, command: &Command) -> Result<Job, JobError>
     requires { IsCommand command.now }
@@ -112,9 +138,5 @@ pub fn job_of(alloc: Global, tree: &Tree, command: &Command) -> Result<Job, JobE
     if let Some(i) = first_missing(tree, command.inputs.as_slice()) {
         return Err(JobError::NoInput(saturate_u32(i)));
     }
-    let rows = tree.rows()?;
-    Ok(Job {
-        command: command.copy()?,
-        rows: job_rows(alloc, rows.as_slice(), command)?,
-    })
+    Ok(formed_job(alloc, tree, command)?)
 }
