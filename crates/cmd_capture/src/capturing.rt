@@ -1,7 +1,7 @@
 //! A command from its words.
 
 ghost use Rattle.std.specs.Prelude.{◌≡◌, ◌≢◌, ◌+◌, ◌||◌, ◌==◌, true, false, [], Some, None, Ok, Err, length, slice_index_or, position};
-ghost use Rattle.std.specs.Prelude.{option_map, IfOk, IfErr, OnOk};
+ghost use Rattle.std.specs.Prelude.{is_some, option_map, IfOk, IfErr, OnOk};
 ghost use Rattle.std.specs.List.{fold, filter_map};
 ghost use Rattle.std.specs.Option.{option_copied, option_to_list};
 ghost use Rattle.byte_fields.specs.Numbers.{as_u32};
@@ -67,12 +67,17 @@ fn behind<'a>(mark: &[u8], word: &'a [u8]) -> Option<&'a [u8]>
     word.strip_prefix(mark)
 }
 
+/// Whether the word begins with the mark.
+fn has_mark(mark: &[u8], word: &[u8]) -> bool
+    ensures { result ≡ is_some (rules.behind mark.now word.now) }
+{
+    behind(mark, word).is_some()
+}
+
 fn is_unknown(word: &[u8]) -> bool
     ensures { result ≡ rules.is_unknown word.now }
 {
-    behind(b"in=", word).is_none()
-        && behind(b"env=", word).is_none()
-        && behind(b"tmp=", word).is_none()
+    !has_mark(b"in=", word) && !has_mark(b"env=", word) && !has_mark(b"tmp=", word)
 }
 
 fn first_equals(text: &[u8]) -> Option<usize>
@@ -332,8 +337,13 @@ fn command_of(
     }) }
 {
     let setting = setting_of(alloc, options, inputs)?;
-    let start = start_of(alloc, program, args, cwd)?;
-    Ok(start.joined(setting))
+    match start_of(alloc, program, args, cwd) {
+        Ok(start) => Ok(start.joined(setting)),
+        Err(error) => {
+            drop(setting);
+            Err(error)
+        }
+    }
 }
 
 /// The number of bytes of the command's spelling.

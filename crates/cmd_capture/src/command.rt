@@ -68,38 +68,37 @@ impl Start {
     }
 }
 
-impl Command {
-    /// A copy of the first half.
-    fn start(&self) -> Result<Start, AllocError>
-        ensures { IfOk result (λ start. start ≡ record { program = self.now.program; args = self.now.args; cwd = self.now.cwd }) }
-    {
-        Ok(Start {
-            program: self.program.copy()?,
-            args: self.args.copy()?,
-            cwd: self.cwd.copy()?,
-        })
-    }
+/// A first half of copies.
+fn start_of(program: &Content, args: &Words, cwd: &Path) -> Result<Start, AllocError>
+    ensures { IfOk result (λ start. start ≡ record { program = program.now; args = args.now; cwd = cwd.now }) }
+{
+    Ok(Start {
+        program: program.copy()?,
+        args: args.copy()?,
+        cwd: cwd.copy()?,
+    })
+}
 
-    /// A copy of the other half.
-    fn setting(&self) -> Result<Setting, AllocError>
-        ensures { IfOk result (λ setting. setting ≡ record {
-          env = self.now.env;
-          inputs = self.now.inputs;
-          templates = self.now.templates;
-        }) }
-    {
-        Ok(Setting {
-            env: self.env.copy()?,
-            inputs: self.inputs.copy()?,
-            templates: self.templates.copy()?,
-        })
-    }
+/// Another half of copies.
+fn setting_of(env: &Env, inputs: &Paths, templates: &Templates) -> Result<Setting, AllocError>
+    ensures { IfOk result (λ setting. setting ≡ record { env = env.now; inputs = inputs.now; templates = templates.now }) }
+{
+    Ok(Setting {
+        env: env.copy()?,
+        inputs: inputs.copy()?,
+        templates: templates.copy()?,
+    })
 }
 
 impl TryCopy for Command {
     fn copy(&self) -> Result<Command, AllocError> {
-        let start = self.start()?;
-        let setting = self.setting()?;
-        Ok(start.joined(setting))
+        let start = start_of(&self.program, &self.args, &self.cwd)?;
+        match setting_of(&self.env, &self.inputs, &self.templates) {
+            Ok(setting) => Ok(start.joined(setting)),
+            Err(error) => {
+                drop(start);
+                Err(error)
+            }
+        }
     }
 }

@@ -54,10 +54,14 @@ impl TryCopy for JobRow {
 
 impl TryCopy for Job {
     fn copy(&self) -> Result<Job, AllocError> {
-        Ok(Job {
-            command: self.command.copy()?,
-            rows: self.rows.copy()?,
-        })
+        let command = self.command.copy()?;
+        match self.rows.copy() {
+            Ok(rows) => Ok(Job { command, rows }),
+            Err(error) => {
+                drop(command);
+                Err(error)
+            }
+        }
     }
 }
 

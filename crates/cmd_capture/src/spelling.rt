@@ -1,6 +1,6 @@
 //! Appending the spellings of commands and jobs.
 
-ghost use Rattle.std.specs.Prelude.{◌≡◌, ◌++◌, length, OnOk, OnErr, Some};
+ghost use Rattle.std.specs.Prelude.{◌≡◌, [], ◌∷◌, ◌++◌, length, OnOk, OnErr, Some};
 ghost use Rattle.std.specs.List.{flat_map};
 ghost use Rattle.std.specs.Int.{w8, w16, w32};
 ghost use Rattle.byte_fields.specs.Field.{digits, IsFront};
@@ -145,20 +145,34 @@ impl Command {
     }
 }
 
+/// Appends a byte for the kind of what stands at a path.
+fn put_kind(out: &mut Vec<u8>, kind: u8) -> Result<(), AllocError>
+    ensures ok { OnOk result (out.new.items ≡ out.old.items ++ kind ∷ []) }
+    ensures err { OnErr result (out.new.items ≡ out.old.items) }
+{
+    out.push(kind)?;
+    Ok(())
+}
+
+/// Appends a file: its kind and its content.
+fn put_file(out: &mut Vec<u8>, file: &Content) -> Result<(), AllocError>
+    ensures ok { OnOk result (out.new.items ≡ out.old.items ++ 2 ∷ content file.now) }
+    ensures err { OnErr result (IsFront out.old.items out.new.items (2 ∷ content file.now)) }
+{
+    put_kind(out, 2)?;
+    put_text(out, file.bytes())?;
+    Ok(())
+}
+
 /// Appends what stands at a path: a byte for its kind, and a file's content.
-#[tactic(auto, using(byte_fields::proofs::Fronts::front_none, byte_fields::proofs::Fronts::front_second))]
 fn put_node(out: &mut Vec<u8>, node: &Node) -> Result<(), AllocError>
     ensures ok { OnOk result (out.new.items ≡ out.old.items ++ spelling.job_node node.now) }
     ensures err { OnErr result (IsFront out.old.items out.new.items (spelling.job_node node.now)) }
 {
     match node {
-        Node::Folder => out.push(1)?,
-        Node::File(content) => {
-            out.push(2)?;
-            put_text(out, content.bytes())?;
-        }
+        Node::Folder => put_kind(out, 1),
+        Node::File(file) => put_file(out, file),
     }
-    Ok(())
 }
 
 impl JobRow {

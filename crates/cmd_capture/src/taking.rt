@@ -347,7 +347,12 @@ impl Job {
         ensures { Gives result (job_at bytes.now at) }
     {
         let (command, middle) = Command::take(alloc, bytes, at)?;
-        let (rows, next) = job_rows_at(alloc, bytes, middle)?;
-        Ok((Job { command, rows }, next))
+        match job_rows_at(alloc, bytes, middle) {
+            Ok((rows, next)) => Ok((Job { command, rows }, next)),
+            Err(error) => {
+                drop(command);
+                Err(error)
+            }
+        }
     }
 }
