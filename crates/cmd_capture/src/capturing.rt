@@ -288,7 +288,7 @@ fn check_texts(options: &[Content], texts: &[Content]) -> Result<(), CaptureErro
 }
 
 /// The first half of a command, of copies.
-fn start_of(
+fn start_from(
     alloc: Global,
     program: &Content,
     args: &[Content],
@@ -304,7 +304,7 @@ fn start_of(
 }
 
 /// The other half, of options with these inputs.
-fn setting_of(alloc: Global, options: &[Content], inputs: Paths) -> Result<Setting, AllocError>
+fn setting_from(alloc: Global, options: &[Content], inputs: Paths) -> Result<Setting, AllocError>
     ensures { IfOk result (λ setting. setting ≡ record {
       env = fold rules.set_variable [] (filter_map rules.variable_of options.now);
       inputs = inputs;
@@ -336,8 +336,8 @@ fn command_of(
       templates = filter_map (rules.behind rules.tmp_mark) options.now;
     }) }
 {
-    let setting = setting_of(alloc, options, inputs)?;
-    match start_of(alloc, program, args, cwd) {
+    let setting = setting_from(alloc, options, inputs)?;
+    match start_from(alloc, program, args, cwd) {
         Ok(start) => Ok(start.joined(setting)),
         Err(error) => {
             drop(setting);

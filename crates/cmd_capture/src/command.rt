@@ -69,7 +69,7 @@ impl Start {
 }
 
 /// A first half of copies.
-fn start_of(program: &Content, args: &Words, cwd: &Path) -> Result<Start, AllocError>
+fn copy_start(program: &Content, args: &Words, cwd: &Path) -> Result<Start, AllocError>
     ensures { IfOk result (λ start. start ≡ record { program = program.now; args = args.now; cwd = cwd.now }) }
 {
     Ok(Start {
@@ -80,7 +80,7 @@ fn start_of(program: &Content, args: &Words, cwd: &Path) -> Result<Start, AllocE
 }
 
 /// Another half of copies.
-fn setting_of(env: &Env, inputs: &Paths, templates: &Templates) -> Result<Setting, AllocError>
+fn copy_setting(env: &Env, inputs: &Paths, templates: &Templates) -> Result<Setting, AllocError>
     ensures { IfOk result (λ setting. setting ≡ record { env = env.now; inputs = inputs.now; templates = templates.now }) }
 {
     Ok(Setting {
@@ -92,8 +92,8 @@ fn setting_of(env: &Env, inputs: &Paths, templates: &Templates) -> Result<Settin
 
 impl TryCopy for Command {
     fn copy(&self) -> Result<Command, AllocError> {
-        let start = start_of(&self.program, &self.args, &self.cwd)?;
-        match setting_of(&self.env, &self.inputs, &self.templates) {
+        let start = copy_start(&self.program, &self.args, &self.cwd)?;
+        match copy_setting(&self.env, &self.inputs, &self.templates) {
             Ok(setting) => Ok(start.joined(setting)),
             Err(error) => {
                 drop(start);
