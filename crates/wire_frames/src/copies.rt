@@ -8,64 +8,64 @@ impl TryCopy for Message {
     fn copy(&self) -> Result<Message, AllocError> {
         let client = self.client();
         let number = self.number();
-        match self {
-            Message::Store { effects, base, .. } => Ok(Message::Store {
+        Ok(match self {
+            Message::Store { effects, base, .. } => Message::Store {
                 client,
                 number,
                 effects: effects.copy()?,
                 base: base.copy()?,
-            }),
-            Message::Operate { entry, .. } => Ok(Message::Operate {
+            },
+            Message::Operate { entry, .. } => Message::Operate {
                 client,
                 entry: entry.copy()?,
-            }),
-            Message::Pull { .. } => Ok(Message::Pull { client, number }),
-            Message::Accepted { .. } => Ok(Message::Accepted { client, number }),
+            },
+            Message::Pull { .. } => Message::Pull { client, number },
+            Message::Accepted { .. } => Message::Accepted { client, number },
             Message::Stale {
                 path,
                 theirs,
                 ours,
                 ..
-            } => Ok(Message::Stale {
+            } => Message::Stale {
                 client,
                 number,
                 path: path.copy()?,
                 theirs: *theirs,
                 ours: *ours,
-            }),
-            Message::Unfit { index, fault, .. } => Ok(Message::Unfit {
+            },
+            Message::Unfit { index, fault, .. } => Message::Unfit {
                 client,
                 number,
                 index: *index,
                 fault: fault.copy()?,
-            }),
-            Message::Gap { last, .. } => Ok(Message::Gap {
+            },
+            Message::Gap { last, .. } => Message::Gap {
                 client,
                 number,
                 last: *last,
-            }),
-            Message::Snapshot { last, rows, .. } => Ok(Message::Snapshot {
+            },
+            Message::Snapshot { last, rows, .. } => Message::Snapshot {
                 client,
                 number,
                 last: *last,
                 rows: rows.copy()?,
-            }),
-            Message::Done { .. } => Ok(Message::Done { client, number }),
-            Message::Declined { cause, .. } => Ok(Message::Declined {
+            },
+            Message::Done { .. } => Message::Done { client, number },
+            Message::Declined { cause, .. } => Message::Declined {
                 client,
                 number,
                 cause: cause.copy()?,
-            }),
-            Message::Full { index, fault, .. } => Ok(Message::Full {
+            },
+            Message::Full { index, fault, .. } => Message::Full {
                 client,
                 number,
                 index: *index,
                 fault: fault.copy()?,
-            }),
-            Message::Malformed { code, offset } => Ok(Message::Malformed {
+            },
+            Message::Malformed { code, offset } => Message::Malformed {
                 code: *code,
                 offset: *offset,
-            }),
-        }
+            },
+        })
     }
 }
