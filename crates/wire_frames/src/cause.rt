@@ -32,30 +32,30 @@ pub enum Cause {
 
 impl TryCopy for Cause {
     fn copy(&self) -> Result<Cause, AllocError> {
-        Ok(match self {
-            Cause::OtherJob { logged, found } => Cause::OtherJob {
+        match self {
+            Cause::OtherJob { logged, found } => Ok(Cause::OtherJob {
                 logged: *logged,
                 found: *found,
-            },
-            Cause::NoJob { code, index } => Cause::NoJob {
+            }),
+            Cause::NoJob { code, index } => Ok(Cause::NoJob {
                 code: *code,
                 index: *index,
-            },
-            Cause::NoServer => Cause::NoServer,
-            Cause::NotRun => Cause::NotRun,
-            Cause::Status { logged, replayed } => Cause::Status {
+            }),
+            Cause::NoServer => Ok(Cause::NoServer),
+            Cause::NotRun => Ok(Cause::NotRun),
+            Cause::Status { logged, replayed } => Ok(Cause::Status {
                 logged: *logged,
                 replayed: *replayed,
-            },
-            Cause::OddTree(index) => Cause::OddTree(*index),
-            Cause::Mismatch(path) => Cause::Mismatch(path.copy()?),
-            Cause::Clash(path) => Cause::Clash(path.copy()?),
-            Cause::NotFit { index, fault } => Cause::NotFit {
+            }),
+            Cause::OddTree(index) => Ok(Cause::OddTree(*index)),
+            Cause::Mismatch(path) => Ok(Cause::Mismatch(path.copy()?)),
+            Cause::Clash(path) => Ok(Cause::Clash(path.copy()?)),
+            Cause::NotFit { index, fault } => Ok(Cause::NotFit {
                 index: *index,
                 fault: fault.copy()?,
-            },
-            Cause::Refused(kind) => Cause::Refused(*kind),
-            Cause::NoMemory => Cause::NoMemory,
-        })
+            }),
+            Cause::Refused(kind) => Ok(Cause::Refused(*kind)),
+            Cause::NoMemory => Ok(Cause::NoMemory),
+        }
     }
 }

@@ -17,53 +17,44 @@ type Taken = Result<(Cause, usize), TakeError>;
 
 impl Cause {
     /// Appends the spelling: a byte for the number of the cause, and what it tells.
-    #[tactic(auto, using(std::proofs::Common::append_assoc, crate::proofs::CauseLaws::fault_is_spelled))]
+    #[tactic(auto, using(crate::proofs::CauseLaws::fault_is_spelled))]
     pub(crate) fn spell(value: &Cause, out: &mut Vec<u8>) -> Result<(), AllocError>
         requires { CauseFits value.now }
         ensures { OnOk result (out.new.items ≡ out.old.items ++ cause value.now) }
     {
         match value {
             Cause::OtherJob { logged, found } => {
-                out.push(1)?;
+                out.extend_from_slice(&[1])?;
                 out.extend_from_slice(logged)?;
-                out.extend_from_slice(found)?;
+                out.extend_from_slice(found)
             }
             Cause::NoJob { code, index } => {
-                out.push(2)?;
-                out.push(*code)?;
-                put_u32(out, *index)?;
+                out.extend_from_slice(&[2, *code])?;
+                put_u32(out, *index)
             }
-            Cause::NoServer => out.push(3)?,
-            Cause::NotRun => out.push(4)?,
-            Cause::Status { logged, replayed } => {
-                out.push(5)?;
-                out.push(*logged)?;
-                out.push(*replayed)?;
-            }
+            Cause::NoServer => out.extend_from_slice(&[3]),
+            Cause::NotRun => out.extend_from_slice(&[4]),
+            Cause::Status { logged, replayed } => out.extend_from_slice(&[5, *logged, *replayed]),
             Cause::OddTree(index) => {
-                out.push(6)?;
-                put_u32(out, *index)?;
+                out.extend_from_slice(&[6])?;
+                put_u32(out, *index)
             }
             Cause::Mismatch(path) => {
-                out.push(7)?;
-                Path::spell(path, out)?;
+                out.extend_from_slice(&[7])?;
+                Path::spell(path, out)
             }
             Cause::Clash(path) => {
-                out.push(8)?;
-                Path::spell(path, out)?;
+                out.extend_from_slice(&[8])?;
+                Path::spell(path, out)
             }
             Cause::NotFit { index, fault } => {
-                out.push(9)?;
+                out.extend_from_slice(&[9])?;
                 put_u32(out, *index)?;
-                TreeError::spell(fault, out)?;
+                TreeError::spell(fault, out)
             }
-            Cause::Refused(kind) => {
-                out.push(10)?;
-                out.push(*kind)?;
-            }
-            Cause::NoMemory => out.push(11)?,
+            Cause::Refused(kind) => out.extend_from_slice(&[10, *kind]),
+            Cause::NoMemory => out.extend_from_slice(&[11]),
         }
-        Ok(())
     }
 
     /// Takes the cause at the place, and gives the place after it.

@@ -10,14 +10,12 @@ use std::alloc::{AllocError, Global};
 use vol_tree::{Bases, MAX_EFFECTS, MAX_FILES};
 
 /// Appends the spelling: the origin, the sketched effects and the base list. The number is not spelled.
-#[tactic(auto, using(std::proofs::Common::append_assoc))]
 pub(crate) fn spell_operation(value: &SketchEntry, out: &mut Vec<u8>) -> Result<(), AllocError>
     ensures { OnOk result (out.new.items ≡ out.old.items ++ operation value.now) }
 {
     Origin::spell(&value.origin, out)?;
     SketchEffects::spell(&value.effects, out)?;
-    Bases::spell(&value.base, out)?;
-    Ok(())
+    Bases::spell(&value.base, out)
 }
 
 /// Takes the operation of this number at the place, and gives the place after it.

@@ -20,7 +20,7 @@ const SHORT_FRAME: usize = 64;
 /// How many bytes the spelling of most rows is shorter than, apart from the content.
 const ROW_ROOM: usize = 64;
 
-#[tactic(auto, using(std::proofs::Common::append_assoc, crate::proofs::FaultLaws::unfit_is_spelled, crate::proofs::FaultLaws::full_is_spelled))]
+#[tactic(auto, using(crate::proofs::FaultLaws::unfit_is_spelled, crate::proofs::FaultLaws::full_is_spelled))]
 fn spell_body(message: &Message, out: &mut Vec<u8>) -> Result<(), AllocError>
     requires { BodyFits message.now }
     ensures { OnOk result (out.new.items ≡ out.old.items ++ body message.now) }
@@ -28,7 +28,7 @@ fn spell_body(message: &Message, out: &mut Vec<u8>) -> Result<(), AllocError>
     match message {
         Message::Store { effects, base, .. } => {
             Effects::spell(effects, out)?;
-            Bases::spell(base, out)?;
+            Bases::spell(base, out)
         }
         Message::Stale {
             path,
@@ -38,40 +38,35 @@ fn spell_body(message: &Message, out: &mut Vec<u8>) -> Result<(), AllocError>
         } => {
             Path::spell(path, out)?;
             put_u64(out, *theirs)?;
-            put_u64(out, *ours)?;
+            put_u64(out, *ours)
         }
         Message::Unfit { index, fault, .. } | Message::Full { index, fault, .. } => {
             put_u32(out, *index)?;
-            TreeError::spell(fault, out)?;
+            TreeError::spell(fault, out)
         }
-        Message::Gap { last, .. } => put_u64(out, *last)?,
+        Message::Gap { last, .. } => put_u64(out, *last),
         Message::Malformed { code, offset } => {
-            out.push(*code)?;
-            put_u32(out, *offset)?;
+            out.extend_from_slice(&[*code])?;
+            put_u32(out, *offset)
         }
         Message::Snapshot { last, rows, .. } => {
             put_u64(out, *last)?;
-            Rows::spell(rows, out)?;
+            Rows::spell(rows, out)
         }
-        Message::Operate { entry, .. } => spell_operation(entry, out)?,
-        Message::Declined { cause, .. } => Cause::spell(cause, out)?,
-        Message::Pull { .. } | Message::Accepted { .. } | Message::Done { .. } => {}
+        Message::Operate { entry, .. } => spell_operation(entry, out),
+        Message::Declined { cause, .. } => Cause::spell(cause, out),
+        Message::Pull { .. } | Message::Accepted { .. } | Message::Done { .. } => Ok(()),
     }
-    Ok(())
 }
 
 /// What follows the length.
-#[tactic(auto, using(std::proofs::Common::append_assoc))]
 fn spell_payload(message: &Message, out: &mut Vec<u8>) -> Result<(), AllocError>
     requires { BodyFits message.now }
     ensures { OnOk result (out.new.items ≡ out.old.items ++ payload message.now) }
 {
-    out.push(FRAME_VERSION)?;
-    out.push(message.kind().code())?;
-    out.push(message.client())?;
+    out.extend_from_slice(&[FRAME_VERSION, message.kind().code(), message.client()])?;
     put_u64(out, message.number())?;
-    spell_body(message, out)?;
-    Ok(())
+    spell_body(message, out)
 }
 
 /// Sets the length of a frame, for which its first four bytes keep the place.
