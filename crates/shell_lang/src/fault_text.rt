@@ -20,23 +20,19 @@ use work_area::JobError;
 /// # Errors
 ///
 /// Want of memory; a part may have been added then.
-#[tactic(auto, using(std::proofs::Common::append_assoc))]
 pub fn put_fault_text(out: &mut Vec<u8>, fault: &Fault) -> Result<(), AllocError>
     ensures { OnOk result (out.new.items ≡ out.old.items ++ fault_text fault.now) }
 {
     out.extend_from_slice(fault_name(fault))?;
-    put_fault_values(out, fault)?;
-    Ok(())
+    put_fault_values(out, fault)
 }
 
 /// Adds the words of a refusal by the tree.
-#[tactic(auto, using(std::proofs::Common::append_assoc))]
 pub(crate) fn put_tree_fault(out: &mut Vec<u8>, fault: &TreeError) -> Result<(), AllocError>
     ensures { OnOk result (out.new.items ≡ out.old.items ++ tree_fault_text fault.now) }
 {
     out.extend_from_slice(tree_name(fault))?;
-    put_tree_values(out, fault)?;
-    Ok(())
+    put_tree_values(out, fault)
 }
 
 fn path_name(fault: &PathError) -> &'static [u8]
@@ -57,10 +53,9 @@ fn put_path_values(out: &mut Vec<u8>, fault: &PathError) -> Result<(), AllocErro
         PathError::BadName(n) | PathError::TooDeep(n) | PathError::TooLong(n) => put_number(
             out,
             u64::from(*n),
-        )?,
-        PathError::Memory => {}
+        ),
+        PathError::Memory => Ok(()),
     }
-    Ok(())
 }
 
 fn line_name(fault: &LineError) -> &'static [u8]
@@ -79,10 +74,9 @@ fn put_line_values(out: &mut Vec<u8>, fault: &LineError) -> Result<(), AllocErro
     ensures { OnOk result (out.new.items ≡ out.old.items ++ line_fault_values fault.now) }
 {
     match fault {
-        LineError::BadWord(n) | LineError::WrongCount(n) => put_number(out, u64::from(*n))?,
-        LineError::OpenQuote | LineError::UnknownWord | LineError::Memory => {}
+        LineError::BadWord(n) | LineError::WrongCount(n) => put_number(out, u64::from(*n)),
+        LineError::OpenQuote | LineError::UnknownWord | LineError::Memory => Ok(()),
     }
-    Ok(())
 }
 
 fn tree_name(fault: &TreeError) -> &'static [u8]
@@ -103,7 +97,6 @@ fn tree_name(fault: &TreeError) -> &'static [u8]
     }
 }
 
-#[tactic(auto, using(std::proofs::Common::append_assoc))]
 fn put_tree_values(out: &mut Vec<u8>, fault: &TreeError) -> Result<(), AllocError>
     ensures { OnOk result (out.new.items ≡ out.old.items ++ tree_fault_values fault.now) }
 {
@@ -112,16 +105,15 @@ fn put_tree_values(out: &mut Vec<u8>, fault: &TreeError) -> Result<(), AllocErro
         | TreeError::Exists(path)
         | TreeError::Missing(path)
         | TreeError::IsFolder(path)
-        | TreeError::VersionTop(path) => put_path(out, path)?,
+        | TreeError::VersionTop(path) => put_path(out, path),
         TreeError::NotEmpty(path, child) => {
             put_path(out, path)?;
-            put_path(out, child)?;
+            put_path(out, child)
         }
-        TreeError::RowsFull(n) => put_number(out, u64::from(*n))?,
-        TreeError::FileTooLarge(n) | TreeError::TreeFull(n) => put_number(out, *n)?,
-        TreeError::RootFixed | TreeError::Memory => {}
+        TreeError::RowsFull(n) => put_number(out, u64::from(*n)),
+        TreeError::FileTooLarge(n) | TreeError::TreeFull(n) => put_number(out, *n),
+        TreeError::RootFixed | TreeError::Memory => Ok(()),
     }
-    Ok(())
 }
 
 fn log_name(fault: &LogError) -> &'static [u8]
@@ -136,7 +128,6 @@ fn log_name(fault: &LogError) -> &'static [u8]
     }
 }
 
-#[tactic(auto, using(std::proofs::Common::append_assoc))]
 fn put_log_values(out: &mut Vec<u8>, fault: &LogError) -> Result<(), AllocError>
     ensures { OnOk result (out.new.items ≡ out.old.items ++ log_fault_values fault.now) }
 {
@@ -150,12 +141,11 @@ fn put_log_values(out: &mut Vec<u8>, fault: &LogError) -> Result<(), AllocError>
             bytes,
         } => {
             put_number(out, u64::from(*count))?;
-            put_number(out, *bytes)?;
+            put_number(out, *bytes)
         }
-        LogError::Tree(_, fault) => put_tree_values(out, fault)?,
-        LogError::LastNumber | LogError::Memory => {}
+        LogError::Tree(_, fault) => put_tree_values(out, fault),
+        LogError::LastNumber | LogError::Memory => Ok(()),
     }
-    Ok(())
 }
 
 fn capture_name(fault: &CaptureError) -> &'static [u8]
@@ -182,11 +172,10 @@ fn put_capture_values(out: &mut Vec<u8>, fault: &CaptureError) -> Result<(), All
         | CaptureError::BadInput(i)
         | CaptureError::BadEnv(i)
         | CaptureError::BadTemplate(i)
-        | CaptureError::ZeroByte(i) => put_number(out, u64::from(*i))?,
-        CaptureError::CommandTooLong(n) => put_number(out, *n)?,
-        CaptureError::NoProgram | CaptureError::NotAbsolute | CaptureError::Memory => {}
+        | CaptureError::ZeroByte(i) => put_number(out, u64::from(*i)),
+        CaptureError::CommandTooLong(n) => put_number(out, *n),
+        CaptureError::NoProgram | CaptureError::NotAbsolute | CaptureError::Memory => Ok(()),
     }
-    Ok(())
 }
 
 fn job_name(fault: &JobError) -> &'static [u8]
@@ -203,11 +192,10 @@ fn put_job_values(out: &mut Vec<u8>, fault: &JobError) -> Result<(), AllocError>
     ensures { OnOk result (out.new.items ≡ out.old.items ++ job_fault_values fault.now) }
 {
     match fault {
-        JobError::NoFolder(path) => put_path(out, path)?,
-        JobError::NoInput(i) => put_number(out, u64::from(*i))?,
-        JobError::Memory => {}
+        JobError::NoFolder(path) => put_path(out, path),
+        JobError::NoInput(i) => put_number(out, u64::from(*i)),
+        JobError::Memory => Ok(()),
     }
-    Ok(())
 }
 
 fn fault_name(fault: &Fault) -> &'static [u8]
@@ -229,14 +217,13 @@ fn put_fault_values(out: &mut Vec<u8>, fault: &Fault) -> Result<(), AllocError>
     ensures { OnOk result (out.new.items ≡ out.old.items ++ fault_values fault.now) }
 {
     match fault {
-        Fault::Path(fault) => put_path_values(out, fault)?,
-        Fault::Line(fault) => put_line_values(out, fault)?,
-        Fault::Tree(fault) => put_tree_values(out, fault)?,
-        Fault::Log(fault) => put_log_values(out, fault)?,
-        Fault::Capture(fault) => put_capture_values(out, fault)?,
-        Fault::Job(fault) => put_job_values(out, fault)?,
-        Fault::NotFolder(path) => put_path(out, path)?,
-        Fault::Pending(n) => put_number(out, u64::from(*n))?,
+        Fault::Path(fault) => put_path_values(out, fault),
+        Fault::Line(fault) => put_line_values(out, fault),
+        Fault::Tree(fault) => put_tree_values(out, fault),
+        Fault::Log(fault) => put_log_values(out, fault),
+        Fault::Capture(fault) => put_capture_values(out, fault),
+        Fault::Job(fault) => put_job_values(out, fault),
+        Fault::NotFolder(path) => put_path(out, path),
+        Fault::Pending(n) => put_number(out, u64::from(*n)),
     }
-    Ok(())
 }

@@ -6,7 +6,7 @@ ghost use Rattle.shell_lang.specs.Texts.{answer_name, answer_values, answer_body
 
 use crate::answer::{Child, Fault, LineAnswer};
 use crate::fault_text::{put_fault_text, put_tree_fault};
-use crate::value::{put_decimal, put_number, put_path};
+use crate::value::{put_decimal, put_number, put_path, put_path_text};
 use std::alloc::{AllocError, Global};
 use vol_tree::{Path, TreeError};
 
@@ -54,27 +54,26 @@ fn answer_name(answer: &LineAnswer) -> &'static [u8]
 }
 
 /// What follows in the same line.
-#[tactic(auto, using(std::proofs::Common::append_assoc))]
 fn put_values(out: &mut Vec<u8>, answer: &LineAnswer) -> Result<(), AllocError>
     ensures { OnOk result (out.new.items ≡ out.old.items ++ answer_values answer.now) }
 {
     match answer {
-        LineAnswer::Text(content) => put_decimal(out, content.bytes().len() as u64)?,
-        LineAnswer::Listing(children) => put_decimal(out, children.len() as u64)?,
-        LineAnswer::At(path) => out.extend_from_slice(path.text()?.bytes())?,
+        LineAnswer::Text(content) => put_decimal(out, content.bytes().len() as u64),
+        LineAnswer::Listing(children) => put_decimal(out, children.len() as u64),
+        LineAnswer::At(path) => put_path_text(out, path),
         LineAnswer::Logged { seq: n }
         | LineAnswer::Unanswered { seq: n }
         | LineAnswer::Synced(n)
-        | LineAnswer::OtherLast(n) => put_number(out, *n)?,
-        LineAnswer::Ran { seq, status } => put_ran(out, *seq, *status)?,
-        LineAnswer::Nothing { status } => put_number(out, u64::from(*status))?,
-        LineAnswer::Pulled(n) | LineAnswer::OddTree(n) => put_number(out, u64::from(*n))?,
-        LineAnswer::Clash(path) => put_path(out, path)?,
-        LineAnswer::NotRun | LineAnswer::PullUnanswered => {}
-        LineAnswer::Status { acked, pending } => put_status(out, *acked, *pending)?,
+        | LineAnswer::OtherLast(n) => put_number(out, *n),
+        LineAnswer::Ran { seq, status } => put_ran(out, *seq, *status),
+        LineAnswer::Nothing { status } => put_number(out, u64::from(*status)),
+        LineAnswer::Pulled(n) | LineAnswer::OddTree(n) => put_number(out, u64::from(*n)),
+        LineAnswer::Clash(path) => put_path(out, path),
+        LineAnswer::NotRun | LineAnswer::PullUnanswered => Ok(()),
+        LineAnswer::Status { acked, pending } => put_status(out, *acked, *pending),
         LineAnswer::Behind { seq, last } => {
             put_number(out, *seq)?;
-            put_number(out, *last)?;
+            put_number(out, *last)
         }
         LineAnswer::Stale {
             seq,
@@ -83,52 +82,44 @@ fn put_values(out: &mut Vec<u8>, answer: &LineAnswer) -> Result<(), AllocError>
             ours,
         } => {
             put_number(out, *seq)?;
-            put_versions(out, path, *theirs, *ours)?;
+            put_versions(out, path, *theirs, *ours)
         }
-        LineAnswer::Older { path, theirs, ours } => put_versions(out, path, *theirs, *ours)?,
+        LineAnswer::Older { path, theirs, ours } => put_versions(out, path, *theirs, *ours),
         LineAnswer::Unfit { seq, index, fault } | LineAnswer::Full { seq, index, fault } => {
-            put_refused_effect(out, *seq, *index, fault)?
+            put_refused_effect(out, *seq, *index, fault)
         }
-        LineAnswer::Refused(fault) => put_fault(out, fault)?,
+        LineAnswer::Refused(fault) => put_fault(out, fault),
     }
-    Ok(())
 }
 
 /// The number of a command's entry, and the command's status.
-#[tactic(auto, using(std::proofs::Common::append_assoc))]
 fn put_ran(out: &mut Vec<u8>, seq: u64, status: u8) -> Result<(), AllocError>
     ensures { OnOk result (out.new.items ≡ out.old.items ++ (number seq ++ (codes " status" ++ number status))) }
 {
     put_number(out, seq)?;
     out.extend_from_slice(b" status")?;
-    put_number(out, u64::from(status))?;
-    Ok(())
+    put_number(out, u64::from(status))
 }
 
 /// The acknowledged number, and how many entries are pending.
-#[tactic(auto, using(std::proofs::Common::append_assoc))]
 fn put_status(out: &mut Vec<u8>, acked: u64, pending: u32) -> Result<(), AllocError>
     ensures { OnOk result (out.new.items ≡ out.old.items ++ (number acked ++ (codes " pending" ++ number pending))) }
 {
     put_number(out, acked)?;
     out.extend_from_slice(b" pending")?;
-    put_number(out, u64::from(pending))?;
-    Ok(())
+    put_number(out, u64::from(pending))
 }
 
 /// A path and its two versions.
-#[tactic(auto, using(std::proofs::Common::append_assoc))]
 fn put_versions(out: &mut Vec<u8>, path: &Path, theirs: u64, ours: u64) -> Result<(), AllocError>
     ensures { OnOk result (out.new.items ≡ out.old.items ++ (path_value path.now ++ (number theirs ++ number ours))) }
 {
     put_path(out, path)?;
     put_number(out, theirs)?;
-    put_number(out, ours)?;
-    Ok(())
+    put_number(out, ours)
 }
 
 /// An entry's number, the index of its refused effect, and the refusal.
-#[tactic(auto, using(std::proofs::Common::append_assoc))]
 fn put_refused_effect(
     out: &mut Vec<u8>,
     seq: u64,
@@ -139,19 +130,16 @@ fn put_refused_effect(
 {
     put_number(out, seq)?;
     put_number(out, u64::from(index))?;
-    out.push(b' ')?;
-    put_tree_fault(out, fault)?;
-    Ok(())
+    out.extend_from_slice(b" ")?;
+    put_tree_fault(out, fault)
 }
 
 /// A space and the refusal.
-#[tactic(auto, using(std::proofs::Common::append_assoc))]
 fn put_fault(out: &mut Vec<u8>, fault: &Fault) -> Result<(), AllocError>
     ensures { OnOk result (out.new.items ≡ out.old.items ++ 32 ∷ fault_text fault.now) }
 {
-    out.push(b' ')?;
-    put_fault_text(out, fault)?;
-    Ok(())
+    out.extend_from_slice(b" ")?;
+    put_fault_text(out, fault)
 }
 
 /// What follows the first line.
@@ -159,11 +147,10 @@ fn put_body(out: &mut Vec<u8>, answer: &LineAnswer) -> Result<(), AllocError>
     ensures { OnOk result (out.new.items ≡ out.old.items ++ answer_body answer.now) }
 {
     match answer {
-        LineAnswer::Text(content) => out.extend_from_slice(content.bytes())?,
-        LineAnswer::Listing(children) => put_children(out, children.as_slice())?,
-        _ => {}
+        LineAnswer::Text(content) => out.extend_from_slice(content.bytes()),
+        LineAnswer::Listing(children) => put_children(out, children.as_slice()),
+        _ => Ok(()),
     }
-    Ok(())
 }
 
 /// The lines of the children.
@@ -177,13 +164,10 @@ fn put_children(out: &mut Vec<u8>, children: &[Child]) -> Result<(), AllocError>
 }
 
 /// The letter of the kind, the name and a line end.
-#[tactic(auto, using(std::proofs::Common::append_assoc))]
 fn put_child(out: &mut Vec<u8>, child: &Child) -> Result<(), AllocError>
     ensures { OnOk result (out.new.items ≡ out.old.items ++ child_line child.now) }
 {
-    out.push(if child.folder { b'd' } else { b'f' })?;
-    out.push(b' ')?;
+    out.extend_from_slice(if child.folder { b"d " } else { b"f " })?;
     out.extend_from_slice(child.name.bytes())?;
-    out.push(b'\n')?;
-    Ok(())
+    out.extend_from_slice(b"\n")
 }

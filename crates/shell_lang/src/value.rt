@@ -1,6 +1,7 @@
 //! The values of answers, added to bytes.
 
 ghost use Rattle.std.specs.Prelude.{◌≡◌, ◌∷◌, ◌++◌, OnOk, decimal};
+ghost use Rattle.file_paths.specs.Path.{path_text};
 ghost use Rattle.shell_lang.specs.Faults.{shown_path, number, spaced_path as path_value};
 
 use std::alloc::AllocError;
@@ -24,13 +25,12 @@ pub fn put_decimal(out: &mut Vec<u8>, n: u64) -> Result<(), AllocError>
 /// # Errors
 ///
 /// Want of memory; a part may have been added then.
-#[tactic(auto, using(std::proofs::Common::append_assoc), unfolding(crate::specs::Faults::number))]
+#[tactic(auto, unfolding(crate::specs::Faults::number))]
 pub fn put_number(out: &mut Vec<u8>, n: u64) -> Result<(), AllocError>
     ensures { OnOk result (out.new.items ≡ out.old.items ++ number n) }
 {
-    out.push(b' ')?;
-    put_decimal(out, n)?;
-    Ok(())
+    out.extend_from_slice(b" ")?;
+    put_decimal(out, n)
 }
 
 /// Adds a space and the path, the root as `/`.
@@ -38,13 +38,12 @@ pub fn put_number(out: &mut Vec<u8>, n: u64) -> Result<(), AllocError>
 /// # Errors
 ///
 /// Want of memory; a part may have been added then.
-#[tactic(auto, using(std::proofs::Common::append_assoc), unfolding(crate::specs::Faults::spaced_path))]
+#[tactic(auto, unfolding(crate::specs::Faults::spaced_path))]
 pub fn put_path(out: &mut Vec<u8>, path: &Path) -> Result<(), AllocError>
     ensures { OnOk result (out.new.items ≡ out.old.items ++ path_value path.now) }
 {
-    out.push(b' ')?;
-    put_shown_path(out, path)?;
-    Ok(())
+    out.extend_from_slice(b" ")?;
+    put_shown_path(out, path)
 }
 
 /// Adds the path, and the root as `/`.
@@ -52,8 +51,15 @@ fn put_shown_path(out: &mut Vec<u8>, path: &Path) -> Result<(), AllocError>
     ensures { OnOk result (out.new.items ≡ out.old.items ++ shown_path path.now) }
 {
     match path.names() {
-        [] => out.push(b'/')?,
-        _ => out.extend_from_slice(path.text()?.bytes())?,
+        [] => out.extend_from_slice(b"/"),
+        _ => put_path_text(out, path),
     }
-    Ok(())
+}
+
+/// Adds the names of the path, joined by `/`.
+pub(crate) fn put_path_text(out: &mut Vec<u8>, path: &Path) -> Result<(), AllocError>
+    ensures { OnOk result (out.new.items ≡ out.old.items ++ path_text path.now) }
+{
+    let text = path.text()?;
+    out.extend_from_slice(text.bytes())
 }
