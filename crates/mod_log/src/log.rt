@@ -19,7 +19,7 @@ ghost use Rattle.mod_log.specs.Inside.{entry_with, room_refusals, log_error, Are
 use crate::limits::{MAX_ENTRIES, MAX_LOG};
 use crate::origin::{Origin, copy_of as copy_of_origin, put_made_by};
 use crate::sizes::{contents_size, entry_size};
-use std::alloc::AllocError;
+use std::alloc::{AllocError, Global};
 use std::marker::Model;
 use thiserror::Error;
 use vol_tree::{
@@ -422,16 +422,16 @@ fn rolled_back(tree: &Tree, pending: &[Pending]) -> Result<Tree, AllocError>
     let mut base = tree.copy()?;
     let count = pending.len();
     for i in 0..count {
-        let undos = copy_of(&pending[count - 1 - i].undos)?;
+        let undos = copy_of(base.allocator(), &pending[count - 1 - i].undos)?;
         undo_all(&mut base, undos);
     }
     Ok(base)
 }
 
-fn copy_of(undos: &Vec<Undo>) -> Result<Vec<Undo>, AllocError>
-    ensures { IfOk result (λ copied. copied.items ≡ undos.now.items) }
+fn copy_of(alloc: Global, undos: &[Undo]) -> Result<Vec<Undo>, AllocError>
+    ensures { IfOk result (λ copied. copied.items ≡ undos.now) }
 {
-    let mut copied = Vec::with_capacity(*undos.allocator(), undos.len())?;
+    let mut copied = Vec::with_capacity(alloc, undos.len())?;
     for undo in undos {
         push_copy(&mut copied, undo)?;
     }
