@@ -1,10 +1,11 @@
 // A client's log, which contracts see as the acknowledged number, the base tree and the pending entries.
-ghost use Rattle.std.specs.Prelude.{◌≡◌, ◌≢◌, ℕ, ◌+◌, ◌<◌, ◌≤◌, List, [], ◌∷◌, ◌++◌, length, false, ◌||◌, nat_le, nat_lt, Ok, Err};
+ghost use Rattle.std.specs.Prelude.{◌≡◌, ◌≢◌, ℕ, ◌+◌, ◌<◌, ◌≤◌, List, [], ◌∷◌, ◌++◌, length, map, false, ◌||◌, nat_le, nat_lt, Ok, Err};
 ghost use Rattle.std.specs.Prelude.{Some, IfSome, IfOk, IfErr, OnOk, OnErr, slice_get};
 ghost use Rattle.std.specs.List.{sum_by};
 ghost use Rattle.std.specs.Option.{option_copied};
 ghost use Rattle.byte_fields.specs.Numbers.{as_u64};
 ghost use Rattle.byte_fields.specs.Field.{IsFront};
+ghost use Rattle.tree_values.specs.Tree.{version_at};
 ghost use Rattle.tree_values.specs.Effects.{base_of as bases_of, contents_size as contents_total};
 ghost use Rattle.tree_values.specs.Spelling.{EffectsFit};
 ghost use Rattle.file_paths.specs.Refusals.{when, unless_refused};
@@ -18,12 +19,12 @@ ghost use Rattle.mod_log.specs.Inside.{entry_with, room_refusals, log_error, Are
 use crate::limits::{MAX_ENTRIES, MAX_LOG};
 use crate::origin::{Origin, copy_of as copy_of_origin, put_made_by};
 use crate::sizes::{contents_size, entry_size};
-use std::alloc::AllocError;
+use std::alloc::{AllocError, Global};
 use std::marker::Model;
 use thiserror::Error;
 use vol_tree::{
-    ApplyAllError, Base, Bases, Effects, MAX_EFFECTS, MAX_FILES, Tree, TreeError, TryCopy, Undo,
-    apply_all, undo_all,
+    ApplyAllError, Base, Bases, Effects, MAX_EFFECTS, MAX_FILES, Path, Tree, TreeError, TryCopy,
+    Undo, apply_all, undo_all,
 };
 
 /// Effects that are applied or refused together, and the versions that they rest on.
@@ -86,15 +87,33 @@ impl From<ApplyAllError> for LogError {
 
 impl TryCopy for Entry {
     fn copy(&self) -> Result<Entry, AllocError> {
-        let effects = self.effects.copy()?;
-        let base = self.base.copy()?;
         let origin = copy_of_origin(&self.origin)?;
-        Ok(Entry {
-            seq: self.seq,
-            origin,
-            effects,
-            base,
-        })
+        match copies_of(&self.effects, &self.base) {
+            Ok((effects, base)) => Ok(Entry {
+                seq: self.seq,
+                origin,
+                effects,
+                base,
+            }),
+            Err(refusal) => {
+                drop(origin);
+                Err(refusal)
+            }
+        }
+    }
+}
+
+fn copies_of(effects: &Effects, base: &Bases) -> Result<(Effects, Bases), AllocError>
+    ensures effects { IfOk result (λ copies. copies.0 ≡ effects.now) }
+    ensures base { IfOk result (λ copies. copies.1 ≡ base.now) }
+{
+    let base = base.copy()?;
+    match effects.copy() {
+        Ok(effects) => Ok((effects, base)),
+        Err(refusal) => {
+            drop(base);
+            Err(refusal)
+        }
     }
 }
 
@@ -104,7 +123,6 @@ impl Entry {
     /// # Errors
     ///
     /// `AllocError` where memory runs out. A front of the spelling is then appended.
-    #[tactic(auto, using(byte_fields::proofs::Fronts::front_none, byte_fields::proofs::Fronts::front_first, byte_fields::proofs::Fronts::front_second, byte_fields::proofs::Fronts::front_before, byte_fields::proofs::Fronts::front_third, byte_fields::proofs::Fronts::front_behind_kind))]
     pub fn spell(value: &Entry, out: &mut Vec<u8>) -> Result<(), AllocError>
         requires { EffectsFit value.now.effects }
         ensures ok { OnOk result (out.new.items ≡ out.old.items ++ spelled value.now) }
@@ -112,8 +130,7 @@ impl Entry {
     {
         put_made_by(out, &value.origin)?;
         Effects::spell(&value.effects, out)?;
-        Bases::spell(&value.base, out)?;
-        Ok(())
+        Bases::spell(&value.base, out)
     }
 }
 
@@ -243,8 +260,13 @@ impl Log {
     {
         check_size(effects)?;
         let base = base_of(&self.tree, effects)?;
-        let size = self.size_in_room(origin, effects, &base)?;
-        Ok((base, size))
+        match self.size_in_room(origin, effects, &base) {
+            Ok(size) => Ok((base, size)),
+            Err(refusal) => {
+                drop(base);
+                Err(refusal)
+            }
+        }
     }
 
     /// Logs the next entry of this size, for which there is room.
@@ -275,8 +297,8 @@ impl Log {
                 self.size += size;
                 Ok(seq)
             }
-            Err(refused) => {
-                undo_all(&mut self.tree, refused.undos);
+            Err(undos) => {
+                undo_all(&mut self.tree, undos);
                 Err(LogError::Memory)
             }
         }
@@ -366,14 +388,30 @@ pub fn base_of(tree: &Tree, effects: &Effects) -> Result<Bases, AllocError>
     ensures { IfOk result (λ bases. bases ≡ bases_of effects.now tree.now) }
 {
     let touched = effects.touched()?;
+    let bases = versions_of(touched.as_slice(), tree);
+    drop(touched);
+    bases
+}
+
+/// The paths with their versions in the tree.
+fn versions_of(paths: &[Path], tree: &Tree) -> Result<Bases, AllocError>
+    ensures { IfOk result (λ bases. bases ≡ map (λ path. record { path = path; version = version_at tree.now path }) paths.now) }
+{
     let mut bases = Bases::new(tree.allocator());
-    for path in touched.as_slice() {
-        bases.push(Base {
-            path: path.copy()?,
-            version: tree.version(path),
-        })?;
+    for path in paths {
+        push_version(&mut bases, path, tree)?;
     }
     Ok(bases)
+}
+
+/// Adds the path with its version in the tree.
+fn push_version(bases: &mut Bases, path: &Path, tree: &Tree) -> Result<(), AllocError>
+    ensures { OnOk result (bases.new ≡ bases.old ++ record { path = path.now; version = version_at tree.now path.now } ∷ []) }
+{
+    bases.push(Base {
+        path: path.copy()?,
+        version: tree.version(path),
+    })
 }
 
 /// A copy of the tree once all these entries are undone, the last first.
@@ -384,20 +422,28 @@ fn rolled_back(tree: &Tree, pending: &[Pending]) -> Result<Tree, AllocError>
     let mut base = tree.copy()?;
     let count = pending.len();
     for i in 0..count {
-        let undos = copy_of(&pending[count - 1 - i].undos)?;
+        let undos = copy_of(base.allocator(), &pending[count - 1 - i].undos)?;
         undo_all(&mut base, undos);
     }
     Ok(base)
 }
 
-fn copy_of(undos: &Vec<Undo>) -> Result<Vec<Undo>, AllocError>
-    ensures { IfOk result (λ copied. copied.items ≡ undos.now.items) }
+fn copy_of(alloc: Global, undos: &[Undo]) -> Result<Vec<Undo>, AllocError>
+    ensures { IfOk result (λ copied. copied.items ≡ undos.now) }
 {
-    let mut copied = Vec::with_capacity(*undos.allocator(), undos.len())?;
+    let mut copied = Vec::with_capacity(alloc, undos.len())?;
     for undo in undos {
-        copied.push(undo.copy()?)?;
+        push_copy(&mut copied, undo)?;
     }
     Ok(copied)
+}
+
+/// Adds a copy of the undo.
+fn push_copy(undos: &mut Vec<Undo>, undo: &Undo) -> Result<(), AllocError>
+    ensures { OnOk result (undos.new.items ≡ undos.old.items ++ undo.now ∷ []) }
+{
+    undos.push(undo.copy()?)?;
+    Ok(())
 }
 
 /// The bytes of all these spelled entries.
@@ -411,15 +457,19 @@ fn total_size(pending: &[Pending]) -> u64
     size
 }
 
-/// Adds it last, or gives it back.
-fn push(pending: &mut Vec<Pending>, kept: Pending) -> Result<(), Pending>
+/// Adds it last, or gives its undos back.
+fn push(pending: &mut Vec<Pending>, kept: Pending) -> Result<(), Vec<Undo>>
     ensures ok { OnOk result (pending.new.items ≡ pending.old.items ++ kept ∷ []) }
-    ensures err { IfErr result (λ refused. refused ≡ kept) }
+    ensures err { IfErr result (λ undos. undos ≡ kept.undos) }
     ensures unchanged { OnErr result (pending.new.items ≡ pending.old.items) }
 {
     match pending.push(kept) {
         Ok(()) => Ok(()),
-        Err(refused) => Err(refused.value),
+        Err(refused) => {
+            let Pending { entry, undos, .. } = refused.value;
+            drop(entry);
+            Err(undos)
+        }
     }
 }
 

@@ -1,7 +1,7 @@
 //! What made an entry, in bytes and from them.
 
-ghost use Rattle.std.specs.Prelude.{◌≡◌, ◌++◌, IfOk, OnOk, OnErr, length};
-ghost use Rattle.byte_fields.specs.Field.{Gives, IsFront};
+ghost use Rattle.std.specs.Prelude.{◌≡◌, ◌∷◌, ◌++◌, IfOk, OnOk, OnErr, length};
+ghost use Rattle.byte_fields.specs.Field.{Gives, IsFront, span_at};
 ghost use Rattle.byte_fields.specs.Codec.{IsBytes};
 ghost use Rattle.cmd_capture.specs.Spelling.{IsCommand};
 ghost use Rattle.mod_log.specs.Origin.{origin as spelled, made_by, OriginFits};
@@ -52,15 +52,13 @@ impl Origin {
     /// # Errors
     ///
     /// `AllocError` where memory runs out. A front of the spelling is then appended.
-    #[tactic(auto, using(byte_fields::proofs::Fronts::front_none, byte_fields::proofs::Fronts::front_first, byte_fields::proofs::Fronts::front_before, byte_fields::proofs::Fronts::front_second, byte_fields::proofs::Fronts::front_third))]
     pub fn spell(value: &Origin, out: &mut Vec<u8>) -> Result<(), AllocError>
         ensures ok { OnOk result (out.new.items ≡ out.old.items ++ spelled value.now) }
         ensures err { OnErr result (IsFront out.old.items out.new.items (spelled value.now)) }
     {
         out.extend_from_slice(&value.job_print)?;
         out.push(value.status)?;
-        Command::spell(&value.command, out)?;
-        Ok(())
+        Command::spell(&value.command, out)
     }
 
     /// Takes the origin at the place, and gives the place after it.
@@ -72,9 +70,7 @@ impl Origin {
     pub fn take(alloc: Global, bytes: &[u8], at: usize) -> Result<(Origin, usize), TakeError>
         ensures { Gives result (origin_at bytes.now at) }
     {
-        let (span, after_print) = span_at(bytes, at, 32)?;
-        let mut job_print = [0; 32];
-        job_print.copy_from_slice(span);
+        let (job_print, after_print) = print_at(bytes, at)?;
         let (status, after_status) = u8_at(bytes, after_print)?;
         let (command, next) = Command::take(alloc, bytes, after_status)?;
         Ok((
@@ -88,25 +84,40 @@ impl Origin {
     }
 }
 
+/// Takes the print of a job, and gives the place after it.
+fn print_at(bytes: &[u8], at: usize) -> Result<([u8; 32], usize), TakeError>
+    ensures { Gives result (span_at 32 bytes.now at) }
+{
+    let (span, next) = span_at(bytes, at, 32)?;
+    let mut print = [0; 32];
+    print.copy_from_slice(span);
+    Ok((print, next))
+}
+
 /// States what the type of a slice says of its numbers. It takes no time.
 fn are_bytes(bytes: &[u8])
     ensures { IsBytes bytes.now }
 {}
 
 /// Appends what made an entry: a byte 0, or a byte 1 and the origin.
-#[tactic(auto, using(byte_fields::proofs::Fronts::front_none, byte_fields::proofs::Fronts::front_all, byte_fields::proofs::Fronts::front_first, byte_fields::proofs::Fronts::front_before, byte_fields::proofs::Fronts::front_second, byte_fields::proofs::Fronts::front_behind_kind))]
 pub(crate) fn put_made_by(out: &mut Vec<u8>, origin: &Option<Origin>) -> Result<(), AllocError>
     ensures ok { OnOk result (out.new.items ≡ out.old.items ++ made_by origin.now) }
     ensures err { OnErr result (IsFront out.old.items out.new.items (made_by origin.now)) }
 {
     match origin {
         None => out.push(0)?,
-        Some(origin) => {
-            out.push(1)?;
-            Origin::spell(origin, out)?;
-        }
+        Some(origin) => put_origin(origin, out)?,
     }
     Ok(())
+}
+
+/// Appends a byte 1 and the origin.
+fn put_origin(origin: &Origin, out: &mut Vec<u8>) -> Result<(), AllocError>
+    ensures ok { OnOk result (out.new.items ≡ out.old.items ++ (1 ∷ spelled origin.now)) }
+    ensures err { OnErr result (IsFront out.old.items out.new.items (1 ∷ spelled origin.now)) }
+{
+    out.push(1)?;
+    Origin::spell(origin, out)
 }
 
 /// Takes what made an entry, and gives the place after it.

@@ -8,6 +8,7 @@ ghost use Rattle.std.specs.Cmp.Lexicographic.{pointwise};
 ghost use Rattle.tree_values.specs.Inside.{add_new};
 ghost use Rattle.tree_values.specs.Effects.{distinct};
 ghost use Rattle.mod_log.specs.Sketched.{sketch_paths, sketches_touch, sketched_size};
+ghost use Rattle.mod_log.specs.declared.sketched.SketchEffect.TheVariants.{Put, Move};
 
 use rs_parity::Sketch;
 use std::alloc::{AllocError, Global};
@@ -27,13 +28,24 @@ impl TryCopy for SketchEffect {
     fn copy(&self) -> Result<SketchEffect, AllocError> {
         match self {
             SketchEffect::Make(path) => Ok(SketchEffect::Make(path.copy()?)),
-            SketchEffect::Put(path, sketch) => {
-                Ok(SketchEffect::Put(path.copy()?, sketch.copy()?))
-            }
+            SketchEffect::Put(path, sketch) => copy_put(path, sketch),
             SketchEffect::Remove(path) => Ok(SketchEffect::Remove(path.copy()?)),
-            SketchEffect::Move(from, to) => Ok(SketchEffect::Move(from.copy()?, to.copy()?)),
+            SketchEffect::Move(from, to) => copy_move(from, to),
         }
     }
+}
+
+fn copy_put(path: &Path, sketch: &Sketch) -> Result<SketchEffect, AllocError>
+    ensures { IfOk result (λ copied. copied ≡ Put path.now sketch.now) }
+{
+    Ok(SketchEffect::Put(path.copy()?, sketch.copy()?))
+}
+
+/// A move from and to equal paths.
+pub(crate) fn copy_move(from: &Path, to: &Path) -> Result<SketchEffect, AllocError>
+    ensures { IfOk result (λ copied. copied ≡ Move from.now to.now) }
+{
+    Ok(SketchEffect::Move(from.copy()?, to.copy()?))
 }
 
 impl SketchEffect {

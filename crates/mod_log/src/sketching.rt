@@ -1,18 +1,19 @@
 //! An entry with sketches in its contents' places.
 
-ghost use Rattle.std.specs.Prelude.{◌≡◌, ◌≤◌, Some, IfOk};
+ghost use Rattle.std.specs.Prelude.{◌≡◌, ◌≤◌, length, Some, IfOk};
 ghost use Rattle.std.specs.Option.{IsSome};
 ghost use Rattle.std.specs.List.{AllByRecursion};
 ghost use Rattle.file_paths.specs.Limits.{max_file};
 ghost use Rattle.tree_values.specs.Effects.{content_size};
+ghost use Rattle.tree_values.specs.declared.node.Effect.TheVariants.{Put};
 ghost use Rattle.mod_log.specs.Sketched.{IsSketchedAs, AreSketchedAs, IsSketchOf};
 
 use crate::log::Entry;
 use crate::origin::Origin;
-use crate::sketched::{SketchEffect, SketchEffects};
+use crate::sketched::{SketchEffect, SketchEffects, copy_move};
 use rs_parity::sketch_of;
 use std::alloc::{AllocError, Global};
-use vol_tree::{Bases, Effect, TryCopy};
+use vol_tree::{Bases, Content, Effect, Path, TryCopy};
 
 /// An entry that a command made, as it is sent in place of its contents.
 #[derive(Debug, Drop)]
@@ -27,12 +28,45 @@ pub struct SketchEntry {
 
 impl TryCopy for SketchEntry {
     fn copy(&self) -> Result<SketchEntry, AllocError> {
-        Ok(SketchEntry {
-            seq: self.seq,
-            origin: self.origin.copy()?,
-            base: self.base.copy()?,
-            effects: self.effects.copy()?,
-        })
+        let effects = self.effects.copy()?;
+        sketched(self.seq, &self.origin, &self.base, effects)
+    }
+}
+
+/// The entry of these effects, with copies of the origin and of the base list.
+fn sketched(
+    seq: u64,
+    origin: &Origin,
+    base: &Bases,
+    effects: SketchEffects,
+) -> Result<SketchEntry, AllocError>
+    ensures { IfOk result (λ made. made ≡ record { seq = seq; origin = origin.now; base = base.now; effects = effects }) }
+{
+    match copies_of(origin, base) {
+        Ok((origin, base)) => Ok(SketchEntry {
+            seq,
+            origin,
+            base,
+            effects,
+        }),
+        Err(refusal) => {
+            drop(effects);
+            Err(refusal)
+        }
+    }
+}
+
+fn copies_of(origin: &Origin, base: &Bases) -> Result<(Origin, Bases), AllocError>
+    ensures origin { IfOk result (λ copies. copies.0 ≡ origin.now) }
+    ensures base { IfOk result (λ copies. copies.1 ≡ base.now) }
+{
+    let base = base.copy()?;
+    match origin.copy() {
+        Ok(origin) => Ok((origin, base)),
+        Err(refusal) => {
+            drop(base);
+            Err(refusal)
+        }
     }
 }
 
@@ -59,14 +93,7 @@ fn sketch_made_entry(
     ensures { IfOk result (IsSketchOf entry.now) }
 {
     let effects = sketch_effects(alloc, entry.effects.as_slice())?;
-    let base = entry.base.copy()?;
-    let origin = origin.copy()?;
-    Ok(SketchEntry {
-        seq: entry.seq,
-        origin,
-        base,
-        effects,
-    })
+    sketched(entry.seq, origin, &entry.base, effects)
 }
 
 /// The effects with the sketches of their contents in their places.
@@ -88,11 +115,18 @@ fn sketch_effect(alloc: Global, effect: &Effect) -> Result<SketchEffect, AllocEr
 {
     match effect {
         Effect::Make(path) => Ok(SketchEffect::Make(path.copy()?)),
-        Effect::Put(path, content) => {
-            let sketch = sketch_of(alloc, content.bytes())?;
-            Ok(SketchEffect::Put(path.copy()?, sketch))
-        }
+        Effect::Put(path, content) => sketch_put(alloc, path, content),
         Effect::Remove(path) => Ok(SketchEffect::Remove(path.copy()?)),
-        Effect::Move(from, to) => Ok(SketchEffect::Move(from.copy()?, to.copy()?)),
+        Effect::Move(from, to) => copy_move(from, to),
     }
+}
+
+/// A put with the sketch of the content in the content's place.
+fn sketch_put(alloc: Global, path: &Path, content: &Content) -> Result<SketchEffect, AllocError>
+    requires { length content.now ≤ max_file }
+    ensures { IfOk result (IsSketchedAs (Put path.now content.now)) }
+{
+    let path = path.copy()?;
+    let sketch = sketch_of(alloc, content.bytes())?;
+    Ok(SketchEffect::Put(path, sketch))
 }

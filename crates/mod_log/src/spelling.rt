@@ -1,8 +1,10 @@
 //! Spelling sketched effects in bytes, and taking them from the bytes.
 
-ghost use Rattle.std.specs.Prelude.{◌≡◌, ◌++◌, ◌<◌, ◌^◌, length, OnOk, OnErr};
+ghost use Rattle.std.specs.Prelude.{◌≡◌, ◌++◌, ◌∷◌, ◌<◌, ◌^◌, length, OnOk, OnErr};
 ghost use Rattle.byte_fields.specs.Field.{Gives, IsFront, one, two};
 ghost use Rattle.file_paths.specs.Reading.{path_at};
+ghost use Rattle.file_paths.specs.Spelling.{path};
+ghost use Rattle.rs_parity.specs.Spelling.{sketch_spelling};
 ghost use Rattle.mod_log.specs.Spelling.{sketch_effect, sketch_effects};
 ghost use Rattle.mod_log.specs.Reading.{sketch_put_at, sketch_effect_at, sketch_room_after, sketch_effects_within};
 ghost use Rattle.mod_log.specs.declared.sketched.SketchEffect.TheVariants.{Make, Remove, Move};
@@ -19,32 +21,16 @@ impl SketchEffect {
     /// # Errors
     ///
     /// `AllocError` where memory runs out. A front of the spelling is then appended.
-    #[tactic(auto, using(byte_fields::proofs::Fronts::front_none, byte_fields::proofs::Fronts::front_all, byte_fields::proofs::Fronts::front_first, byte_fields::proofs::Fronts::front_before, byte_fields::proofs::Fronts::front_second, byte_fields::proofs::Fronts::front_behind_kind))]
     pub fn spell(value: &SketchEffect, out: &mut Vec<u8>) -> Result<(), AllocError>
         ensures ok { OnOk result (out.new.items ≡ out.old.items ++ sketch_effect value.now) }
         ensures err { OnErr result (IsFront out.old.items out.new.items (sketch_effect value.now)) }
     {
         match value {
-            SketchEffect::Make(path) => {
-                out.push(1)?;
-                Path::spell(path, out)?;
-            }
-            SketchEffect::Put(path, sketch) => {
-                out.push(2)?;
-                Path::spell(path, out)?;
-                Sketch::spell(sketch, out)?;
-            }
-            SketchEffect::Remove(path) => {
-                out.push(3)?;
-                Path::spell(path, out)?;
-            }
-            SketchEffect::Move(from, to) => {
-                out.push(4)?;
-                Path::spell(from, out)?;
-                Path::spell(to, out)?;
-            }
+            SketchEffect::Make(path) => put_path(1, path, out),
+            SketchEffect::Put(path, sketch) => put_sketched(path, sketch, out),
+            SketchEffect::Remove(path) => put_path(3, path, out),
+            SketchEffect::Move(from, to) => put_paths(from, to, out),
         }
-        Ok(())
     }
 
     /// Takes the sketched effect at the place, where there is still room for so many bytes of content, and gives the
@@ -72,6 +58,33 @@ impl SketchEffect {
             _ => Err(TakeError::At(at)),
         }
     }
+}
+
+/// Appends a kind and the path that it names.
+fn put_path(kind: u8, value: &Path, out: &mut Vec<u8>) -> Result<(), AllocError>
+    ensures ok { OnOk result (out.new.items ≡ out.old.items ++ (kind ∷ path value.now)) }
+    ensures err { OnErr result (IsFront out.old.items out.new.items (kind ∷ path value.now)) }
+{
+    out.push(kind)?;
+    Path::spell(value, out)
+}
+
+/// Appends the kind of a put, its path and the sketch of its content.
+fn put_sketched(at: &Path, sketch: &Sketch, out: &mut Vec<u8>) -> Result<(), AllocError>
+    ensures ok { OnOk result (out.new.items ≡ out.old.items ++ (2 ∷ (path at.now ++ sketch_spelling sketch.now))) }
+    ensures err { OnErr result (IsFront out.old.items out.new.items (2 ∷ (path at.now ++ sketch_spelling sketch.now))) }
+{
+    put_path(2, at, out)?;
+    Sketch::spell(sketch, out)
+}
+
+/// Appends the kind of a move and its paths.
+fn put_paths(from: &Path, to: &Path, out: &mut Vec<u8>) -> Result<(), AllocError>
+    ensures ok { OnOk result (out.new.items ≡ out.old.items ++ (4 ∷ (path from.now ++ path to.now))) }
+    ensures err { OnErr result (IsFront out.old.items out.new.items (4 ∷ (path from.now ++ path to.now))) }
+{
+    put_path(4, from, out)?;
+    Path::spell(to, out)
 }
 
 fn make_at(alloc: Global, bytes: &[u8], at: usize) -> Result<(SketchEffect, usize), TakeError>
@@ -143,15 +156,13 @@ impl SketchEffects {
     /// # Errors
     ///
     /// `AllocError` where memory runs out. A front of the spelling is then appended.
-    #[tactic(auto, using(byte_fields::proofs::Fronts::front_none, byte_fields::proofs::Fronts::front_all, byte_fields::proofs::Fronts::front_first, byte_fields::proofs::Fronts::front_before, byte_fields::proofs::Fronts::front_second, byte_fields::proofs::Fronts::front_behind_kind))]
     pub fn spell(value: &SketchEffects, out: &mut Vec<u8>) -> Result<(), AllocError>
         ensures ok { OnOk result (out.new.items ≡ out.old.items ++ sketch_effects value.now) }
         ensures err { OnErr result (IsFront out.old.items out.new.items (sketch_effects value.now)) }
     {
         let items = value.as_slice();
         put_u32(out, value.len() as u32)?;
-        put_each(items, out)?;
-        Ok(())
+        put_each(items, out)
     }
 
     /// Takes 1 to `most` sketched effects, for contents of at most `room` bytes together, from the place, and gives

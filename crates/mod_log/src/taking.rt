@@ -53,7 +53,26 @@ fn take_changes(
     ensures { Gives result (two effects_at (λ es. bases_at (distinct (touched_all es))) (λ es bs. (es, bs)) bytes.now at) }
 {
     let (effects, middle) = Effects::take(alloc, bytes, at)?;
+    match take_bases(alloc, bytes, middle, &effects) {
+        Ok((base, next)) => Ok(((effects, base), next)),
+        Err(fault) => {
+            drop(effects);
+            Err(fault)
+        }
+    }
+}
+
+/// Takes the versions of just the paths that the effects touch, and gives the place after them.
+fn take_bases(
+    alloc: Global,
+    bytes: &[u8],
+    at: usize,
+    effects: &Effects,
+) -> Result<(Bases, usize), TakeError>
+    ensures { Gives result (bases_at (distinct (touched_all effects.now)) bytes.now at) }
+{
     let touched = effects.touched()?;
-    let (base, next) = Bases::take(alloc, bytes, middle, &touched)?;
-    Ok(((effects, base), next))
+    let taken = Bases::take(alloc, bytes, at, &touched);
+    drop(touched);
+    taken
 }

@@ -182,14 +182,23 @@ pub(crate) fn log_behind(
     ensures { Gives result (behind_records client_records_at with_record first bytes.now start) }
 {
     let mut log = first;
-    let mut ahead = log.tree().copy()?;
-    match take_records(alloc, bytes, start, &mut log, &mut ahead) {
+    match take_behind(alloc, bytes, start, &mut log) {
         Ok(torn) => Ok((log, torn)),
         Err(fault) => {
             drop(log);
             Err(fault)
         }
     }
+}
+
+/// The log takes the whole records from the place on, and the place where a torn tail begins is given.
+fn take_behind(alloc: Global, bytes: &[u8], start: usize, log: &mut Log) -> Result<usize, TakeError>
+    ensures { GivesInto log.new (with_records log.old) result (client_records_at log.old bytes.now start) }
+{
+    let mut ahead = log.tree().copy()?;
+    let taken = take_records(alloc, bytes, start, log, &mut ahead);
+    drop(ahead);
+    taken
 }
 
 /// What a record of a server tells goes into the server.

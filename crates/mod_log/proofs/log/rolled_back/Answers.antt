@@ -10,5 +10,5 @@ undo_all-requires c =
     let next : suc k ≡ length c.args.pending.now - c.loop-i.i = omega arith in
     let back = one_back c.args.pending.now k c.args.tree.now c.requires (omega arith) c.index-pending-count.result in
     let base = ap (λ n. rolled_back (drop n c.args.pending.now) c.args.tree.now) next ∙ sym c.loop-i.invariant in
-    let undos = sym c.in_ok-undos.ensures in
+    let undos = sym (c.in_ok-undos.ensures ∙ c.deref.ensures.value) in
     subst (CanUndoAll c.in_ok-undos.undos.items) base (subst (λ u. CanUndoAll u (rolled_back (drop (suc k) c.args.pending.now) c.args.tree.now)) undos back.0)
