@@ -1,0 +1,5 @@
+mod Framing
+mod Moving
+mod Pieces
+mod Sending
+mod Turns

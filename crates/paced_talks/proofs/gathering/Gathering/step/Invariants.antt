@@ -1,0 +1,9 @@
+use Rattle.std.specs.Prelude.{◌-◌, length}
+use Rattle.paced_talks.specs.Talks.{Loses}
+use Rattle.paced_talks.proofs.gathering.Gathering.step.Given as goal
+
+abbrev pub invariant-loop-place : goal.invariant-loop-place
+invariant-loop-place g l = Loses (length l.fn.self.talks.items) (length l.self.talks.items) l.fn.self.lost l.self.lost
+
+abbrev pub decreases-loop-place : goal.decreases-loop-place
+decreases-loop-place g l = length l.self.talks.items - l.place
