@@ -1,3 +1,5 @@
 pub mod Found
+pub mod Names
+pub mod Starting
 pub mod Variables
 pub mod Waiting

@@ -4,13 +4,19 @@ ghost use Rattle.tree_values.specs.Tree.{node_size};
 ghost use Rattle.tree_values.specs.Limits.{max_rows, max_files};
 ghost use Rattle.child_runner.specs.Found.{raw_size, IsSmall};
 
-use crate::faults::too_much;
+use crate::trouble::Trouble;
 use cmd_capture::{RawRow, RawRows};
 use file_paths::Content;
 use std::alloc::Global;
-use std::io;
 use std::marker::Model;
 use tree_values::{MAX_FILES, MAX_ROWS, Node};
+
+/// What is told of a folder with more rows, and of one with more bytes.
+pub(crate) const TOO_MANY_ROWS: &str = "more than 16,384 files and folders";
+
+pub(crate) const TOO_MANY_BYTES: &str = "more than 33,554,432 bytes in files";
+
+const _: () = prove!(MAX_ROWS == 16_384 && MAX_FILES == 33_554_432);
 
 /// The rows that were found so far: at most [`MAX_ROWS`], with at most [`MAX_FILES`] bytes in all files.
 #[derive(Drop)]
@@ -57,7 +63,7 @@ impl Found {
     }
 
     /// Adds a folder.
-    pub(crate) fn add_folder(&mut self, path: Content) -> io::Result<()>
+    pub(crate) fn add_folder(&mut self, path: Content) -> Result<(), Trouble>
         ensures one { OnOk result (length self.new ≡ length self.old + 1) }
         ensures few { OnOk result (length self.new ≤ max_rows) }
     {
@@ -65,7 +71,7 @@ impl Found {
     }
 
     /// Adds a file.
-    pub(crate) fn add_file(&mut self, path: Content, content: Content) -> io::Result<()>
+    pub(crate) fn add_file(&mut self, path: Content, content: Content) -> Result<(), Trouble>
         ensures one { OnOk result (length self.new ≡ length self.old + 1) }
         ensures few { OnOk result (length self.new ≤ max_rows) }
     {
@@ -75,13 +81,16 @@ impl Found {
 
     /// Adds what stands at the path, where there is room.
     #[tactic(auto, using(crate::proofs::Sizes::raw_size_more))]
-    fn add(&mut self, path: Content, node: Node, size: usize) -> io::Result<()>
+    fn add(&mut self, path: Content, node: Node, size: usize) -> Result<(), Trouble>
         requires { size ≡ node_size (Some node) }
         ensures added { OnOk result (self.new ≡ self.old ++ record { path = path; node = node } ∷ []) }
         ensures few { OnOk result (length self.new ≤ max_rows) }
     {
-        if self.rows_left() == 0 || size > self.bytes_left() {
-            return Err(too_much());
+        if self.rows_left() == 0 {
+            return Err(Trouble::Told(TOO_MANY_ROWS));
+        }
+        if size > self.bytes_left() {
+            return Err(Trouble::Told(TOO_MANY_BYTES));
         }
         self.rows.push(RawRow { path, node })?;
         self.bytes += size;

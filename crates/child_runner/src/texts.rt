@@ -1,16 +1,16 @@
 // Names and words as the platform takes them.
 ghost use Rattle.std.specs.Prelude.{◌≡◌, ◌∷◌, ◌++◌, IfOk, string_bytes};
 
+use crate::trouble::Trouble;
 use std::alloc::{AllocError, Global};
-use std::io::{self, ErrorKind};
 
 /// The platform takes names and words of text alone.
-pub(crate) fn text_of(bytes: &[u8]) -> io::Result<&str>
+pub(crate) fn text_of(bytes: &[u8]) -> Result<&str, Trouble>
     ensures { IfOk result (λ text. text.now ≡ bytes.now) }
 {
     match str::from_utf8(bytes) {
         Ok(text) => Ok(text),
-        Err(_) => Err(io::Error::from(ErrorKind::InvalidFilename)),
+        Err(_) => Err(Trouble::Told("a name or a word is no text of UTF-8")),
     }
 }
 

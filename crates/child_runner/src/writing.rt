@@ -1,33 +1,85 @@
-// The rows of a job, written down.
+// The rows of a job, written down, each with the same time of change.
+ghost use Rattle.std.specs.Prelude.{◌≡◌, Some, IfSome};
+ghost use Rattle.std.specs.Time.{system_time_nanos};
+ghost use Rattle.child_runner.specs.Waiting.{input_nanos};
+
 use crate::texts::{place_in, text_of};
+use crate::trouble::{Trouble, answered, refused};
 use cmd_capture::JobRow;
 use std::alloc::AllocGlobal;
 use std::fs::{self, File, Files};
 use std::io::{self, Write};
+use std::time::{Duration, SystemTime, UNIX_EPOCH};
 use tree_values::Node;
 
-/// Makes the folders and files of the rows in the folder, in their order.
-pub(crate) fn write_rows<R: Files + AllocGlobal>(
+/// When all inputs of a run were changed, in seconds since 1970: 1 January 2000, 00:00 UTC.
+pub const INPUT_SECONDS: u64 = 946_684_800;
+
+/// Makes the folders and files of the rows in the folder, in their order, and gives all of them one time.
+pub(crate) fn write_rows<R: Files<File = File> + AllocGlobal>(
     host: &R,
     folder: &str,
     rows: &[JobRow],
-) -> io::Result<()> {
+) -> Result<(), Trouble> {
     for row in rows {
         write_row(host, folder, row)?;
     }
-    Ok(())
+    // what is made in a folder changes its time, and so folders come behind all that they hold
+    for row in rows.iter().rev() {
+        date_folder(host, folder, row)?;
+    }
+    answered(host.alloc(), "date", folder, set_time(host, folder))
 }
 
-fn write_row<R: Files + AllocGlobal>(host: &R, folder: &str, row: &JobRow) -> io::Result<()> {
+fn write_row<R: Files<File = File> + AllocGlobal>(
+    host: &R,
+    folder: &str,
+    row: &JobRow,
+) -> Result<(), Trouble> {
     let text = row.path.text()?;
-    let place = place_in(host.alloc(), folder, text_of(text.bytes())?)?;
-    match &row.node {
+    let path = text_of(text.bytes())?;
+    let place = place_in(host.alloc(), folder, path)?;
+    let written = match &row.node {
         Node::Folder => fs::create_dir(host, place.as_str()),
         Node::File(content) => write_file(host, place.as_str(), content.bytes()),
-    }
+    };
+    answered(host.alloc(), "make", path, written)
 }
 
 /// Writes a file that was not there.
-fn write_file<R: Files>(host: &R, place: &str, bytes: &[u8]) -> io::Result<()> {
-    File::create_new(host, place)?.write_all(bytes)
+fn write_file<R: Files<File = File>>(host: &R, place: &str, bytes: &[u8]) -> io::Result<()> {
+    let mut file = File::create_new(host, place)?;
+    file.write_all(bytes)?;
+    file.set_modified(input_time())
+}
+
+/// Gives the row its time, where it is a folder.
+fn date_folder<R: Files<File = File> + AllocGlobal>(
+    host: &R,
+    folder: &str,
+    row: &JobRow,
+) -> Result<(), Trouble> {
+    match &row.node {
+        Node::Folder => {
+            let text = row.path.text()?;
+            let path = text_of(text.bytes())?;
+            let place = place_in(host.alloc(), folder, path)?;
+            match set_time(host, place.as_str()) {
+                Ok(()) => Ok(()),
+                Err(error) => Err(refused(host.alloc(), "date", path, error)),
+            }
+        }
+        Node::File(_) => Ok(()),
+    }
+}
+
+fn set_time<R: Files<File = File>>(host: &R, folder: &str) -> io::Result<()> {
+    File::open(host, folder)?.set_modified(input_time())
+}
+
+/// The time of change of all inputs.
+fn input_time() -> SystemTime
+    ensures { system_time_nanos result ≡ input_nanos }
+{
+    UNIX_EPOCH + Duration::from_secs(INPUT_SECONDS)
 }

@@ -11,8 +11,8 @@ use cmd_capture::{Command, Job, Outcome, Runner, Words, capture, job_print};
 use mod_log::{Log, Origin, SketchEntry, sketch_entry};
 use replay_judge::{Verdict, judge};
 use std::alloc::Global;
+use std::fs;
 use std::test::Fail;
-use std::{fs, process};
 use vol_tree::{Content, Effect, Effects, Node, Path, Tree};
 use work_area::{changes, job_of, rows_of};
 
@@ -73,7 +73,7 @@ fn command(alloc: Global, script: &[u8]) -> Result<Command, Fail>
 
 /// Runs the job by a runner of its own in `work`, where it leaves nothing.
 fn ran(rt: &HostRuntime, work: &str, job: &Job) -> Result<Outcome, Fail> {
-    let mut runner = ChildRunner::new(rt, process::id(rt.process()), None);
+    let mut runner = ChildRunner::at_client(rt, "client");
     let outcome = runner.run(work.as_bytes(), job)?;
     match fs::remove_dir(rt, work) {
         Ok(()) => Ok(outcome),

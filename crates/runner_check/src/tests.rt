@@ -2,13 +2,12 @@
 use child_runner::ChildRunner;
 use cmd_capture::{Command, Job, JobRow, JobRows, Outcome, Runner, Words, capture};
 use std::alloc::AllocError;
+use std::fs::{self, File, Permissions};
+use std::os::unix::fs::{PermissionsExt, symlink};
 use std::test::Fail;
 use std::time::{Duration, Instant};
-use std::{fs, process};
+use std::{env, io, thread};
 use vol_tree::{Content, Node, Path};
-
-/// A process that cannot be: its number is above those that the system gives.
-const GONE: &str = "run-4194305-0";
 
 fn content(rt: &HostRuntime, text: &str) -> Result<Content, AllocError> {
     Content::of(rt.alloc(), text.as_bytes())
@@ -101,14 +100,17 @@ fn told(
     }
 }
 
-/// Runs the job in `work`, where it leaves nothing, and shows what came of it.
-fn ran_within(
+/// Runs the job in `work`, where it leaves nothing, and shows what came of it. At a surrogate it may run `longest`.
+fn ran_job(
     rt: &HostRuntime,
     work: &str,
     job: &Job,
     longest: Option<Duration>,
 ) -> Result<String, Fail> {
-    let mut runner = ChildRunner::new(rt, process::id(rt.process()), longest);
+    let mut runner = match longest {
+        Some(longest) => ChildRunner::at_surrogate(rt, "surrogate", longest),
+        None => ChildRunner::at_client(rt, "client"),
+    };
     let text = told(rt, &mut runner, work, job);
     drop(runner);
     let text = text?;
@@ -125,7 +127,7 @@ fn ran_in(
     script: &str,
 ) -> Result<String, Fail> {
     let job = job(rt, program, cwd, script)?;
-    let text = ran_within(rt, work, &job, None);
+    let text = ran_job(rt, work, &job, None);
     drop(job);
     text
 }
@@ -135,10 +137,10 @@ fn ran(rt: &HostRuntime, work: &str, script: &str) -> Result<String, Fail> {
     ran_in(rt, work, "/bin/sh", "", script)
 }
 
-/// Runs the script in the shell, where it may run two seconds.
-fn ran_briefly(rt: &HostRuntime, work: &str, script: &str) -> Result<String, Fail> {
-    let job = job(rt, "/bin/sh", "", script)?;
-    let text = ran_within(rt, work, &job, Some(Duration::from_secs(2)));
+/// Runs the script in the shell `program` at a surrogate, where it may run two seconds.
+fn ran_far(rt: &HostRuntime, work: &str, program: &str, script: &str) -> Result<String, Fail> {
+    let job = job(rt, program, "", script)?;
+    let text = ran_job(rt, work, &job, Some(Duration::from_secs(2)));
     drop(job);
     text
 }
@@ -158,11 +160,13 @@ fn a_child_writes_removes_and_makes_folders(rt: HostRuntime) -> Result<(), Fail>
     Ok(())
 }
 
+/// Its input is the empty device, whatever this process reads.
 #[test]
 fn it_has_its_words_and_variables_in_its_folder(rt: HostRuntime) -> Result<(), Fail> {
-    let script = "printf '%s,' $0 \"$@\" > w; printf '%s,' $PATH \"$HOME\" $(cat) > v; echo x";
+    let script = "printf '%s,' $0 \"$@\" > w; readlink /proc/$$/fd/0 | tr '\\n' , > v; \
+        printf '%s,' $PATH \"$HOME\" $(cat) >> v; echo x";
     let text = ran_in(&rt, "work_words", "/bin/sh", "a", script)?;
-    let wanted = "0 a/ a/b=old a/v=/usr/bin:/bin,, a/w=name,two words,";
+    let wanted = "0 a/ a/b=old a/v=/dev/null,/usr/bin:/bin,, a/w=name,two words,";
     assert!(rt; text.as_str() == wanted);
     Ok(())
 }
@@ -191,18 +195,163 @@ fn what_does_not_exist_is_not_started(rt: HostRuntime) -> Result<(), Fail> {
     Ok(())
 }
 
-#[test]
-fn what_runs_too_long_is_ended(rt: HostRuntime) -> Result<(), Fail> {
-    let start = Instant::now(&rt)?;
-    for (script, wanted) in [
-        ("printf 1 > c; exec sleep 40", "the run failed, 1"),
-        ("kill -9 $$", "the run failed, 1"),
-        ("sleep 0.1; printf 1 > c; exit 3", "3 a/ a/b=old c=1"),
-    ] {
-        let text = ran_briefly(&rt, "work_long", script)?;
-        assert!(rt; text.as_str() == wanted);
+/// Whether the process whose number stands in the file has ended; its parent may still have to ask for it. The file is removed.
+fn has_ended(rt: &HostRuntime, file: &str) -> Result<bool, Fail> {
+    let number = fs::read_to_string(rt, file)?;
+    fs::remove_file(rt, file)?;
+    let status = format!(in rt.alloc(); "/proc/{}/status", number.trim())?;
+    for _ in 0..100 {
+        match fs::read_to_string(rt, status.as_str()) {
+            Ok(text) if !text.contains("State:\tZ") => thread::sleep(rt, Duration::from_millis(20)),
+            _ => return Ok(true),
+        }
     }
+    Ok(false)
+}
+
+#[test]
+fn what_runs_too_long_is_ended_with_its_group(rt: HostRuntime) -> Result<(), Fail> {
+    let start = Instant::now(&rt)?;
+    let script = "echo $$ > ../../long_own; sleep 40 & echo $! > ../../long_child; exec sleep 40";
+    let text = ran_far(&rt, "work_long", "/bin/sh", script)?;
+    assert!(rt; text.as_str() == "the run failed, 1");
+    assert!(rt; has_ended(&rt, "long_own")?);
+    assert!(rt; has_ended(&rt, "long_child")?);
     assert!(rt; start.elapsed(&rt)? < Duration::from_secs(30));
+    Ok(())
+}
+
+#[test]
+fn what_is_left_of_a_group_ends_at_a_surrogate(rt: HostRuntime) -> Result<(), Fail> {
+    let script = "sleep 40 & echo $! > ../../group_child; printf '%s,' $0 \"$@\" > c; exit 3";
+    let text = ran_far(&rt, "work_group", "/bin/sh", script)?;
+    assert!(rt; text.as_str() == "3 a/ a/b=old c=name,two words,");
+    assert!(rt; has_ended(&rt, "group_child")?);
+    let text = ran_far(&rt, "work_group", "/bin/sh", "kill -9 $$")?;
+    assert!(rt; text.as_str() == "the run failed, 1");
+    Ok(())
+}
+
+/// A file of no form that the system runs, and one that no one may run.
+#[test]
+fn what_cannot_be_started_is_not_run_at_a_surrogate(rt: HostRuntime) -> Result<(), Fail> {
+    fs::write(&rt, "no_form", "exit 0\n")?;
+    fs::set_permissions(&rt, "no_form", Permissions::from_mode(0o755))?;
+    let here = env::current_dir(&rt)?;
+    let no_form = format!(in rt.alloc(); "{}/no_form", here.as_str())?;
+    for program in [no_form.as_str(), "/etc/passwd", "/bin/no-such-program"] {
+        let text = ran_far(&rt, "work_form", program, "")?;
+        assert!(rt; text.as_str() == "the run failed, 1");
+    }
+    fs::remove_file(&rt, "no_form")?;
+    Ok(())
+}
+
+/// What it prints is more than a pipe holds, and what it leaves running holds the pipe open.
+#[test]
+fn what_prints_much_and_leaves_a_program_is_not_waited_for(rt: HostRuntime) -> Result<(), Fail> {
+    let start = Instant::now(&rt)?;
+    let text = ran(
+        &rt,
+        "work_print",
+        "sleep 9 & printf '%70000s\\n' .; printf 1 > c",
+    )?;
+    assert!(rt; text.as_str() == "0 a/ a/b=old c=1");
+    assert!(rt; start.elapsed(&rt)? < Duration::from_secs(8));
+    Ok(())
+}
+
+#[test]
+fn inputs_have_one_time_and_the_folder_is_its_owner_s(rt: HostRuntime) -> Result<(), Fail> {
+    let script = "t=$(stat -c %Y . a a/b); printf '%s,' $t $(stat -c %a .) > a/b";
+    let text = ran(&rt, "work_times", script)?;
+    assert!(rt; text.as_str() == "0 a/ a/b=946684800,946684800,946684800,700,");
+    Ok(())
+}
+
+/// Files that their owner may not write, or not read, are read all the same, and 100,000 bytes are all read.
+#[test]
+fn files_are_read_whole(rt: HostRuntime) -> Result<(), Fail> {
+    let script = "chmod 444 a/b; : > n; chmod 000 n; printf '%100000s' . > s";
+    let text = ran(&rt, "work_whole", script)?;
+    assert!(rt; text.starts_with("0 a/ a/b=old n= s= "));
+    assert!(rt; text.len() == 19 + 100_000 - 1);
+    Ok(())
+}
+
+/// A file without the folder that it stands in.
+#[test]
+fn what_cannot_be_written_is_a_fault(rt: HostRuntime) -> Result<(), Fail> {
+    let mut rows = JobRows::new(rt.alloc());
+    push_row(&rt, &mut rows, "a/b", Node::File(content(&rt, "old")?))?;
+    let whole = job(&rt, "/bin/sh", "", "exit 0")?;
+    let job = Job { rows, ..whole };
+    let text = ran_job(&rt, "work_odd", &job, None);
+    drop(job);
+    assert!(rt; text?.as_str() == "the run failed, 1");
+    Ok(())
+}
+
+/// Puts a pipe and a file in each other's place, some ten thousand times a second, and ends with the folder, or after two seconds.
+/// (Where the machine has no such program, nothing is put there.)
+const SWAPS: &str = "[ -p ../swap_p ] || mkfifo ../swap_p; rm -f ../swap_on; : > ../swap_f; : > z; \
+    perl -e '$end = time + 2; open F, q(>../swap_on); while (time < $end) { \
+    for (q(../swap_p), q(../swap_f)) { \
+    unlink q(../swap_t); link $_, q(../swap_t); rename q(../swap_t), q(z) or exit } }' 2> ../swap_e & \
+    for i in $(seq 50); do [ -e ../swap_on ] && break; sleep 0.02; done";
+
+/// What it leaves running puts a pipe in a file's place while the folder is read, and nobody writes to it.
+#[test]
+fn a_pipe_in_a_file_s_place_is_not_waited_for(rt: HostRuntime) -> Result<(), Fail> {
+    let start = Instant::now(&rt)?;
+    for _ in 0..8 {
+        let mut runner = ChildRunner::at_client(&rt, "client");
+        let job = job(&rt, "/bin/sh", "", SWAPS)?;
+        let text = told(&rt, &mut runner, "work_swap", &job);
+        drop(runner);
+        drop(job);
+        drop(text?);
+    }
+    assert!(rt; start.elapsed(&rt)? < Duration::from_secs(40));
+    thread::sleep(&rt, Duration::from_secs(2));
+    fs::remove_dir_all(&rt, "work_swap")?;
+    Ok(())
+}
+
+/// What one command left running writes on, and no other command finds it.
+#[test]
+fn a_loop_left_running_meets_no_other_job(rt: HostRuntime) -> Result<(), Fail> {
+    let loops =
+        "(for i in $(seq 15); do echo x > late; echo x > $PWD/late; sleep 0.1; done) 2> ../late & echo a > c";
+    let mut runner = ChildRunner::at_client(&rt, "client");
+    let first = job(&rt, "/bin/sh", "", loops)?;
+    let text = told(&rt, &mut runner, "work_late", &first);
+    drop(first);
+    assert!(rt; text?.starts_with("0 a/ a/b=old c=a\n"));
+    let second = job(&rt, "/bin/sh", "", "sleep 0.3; printf b > b")?;
+    let text = told(&rt, &mut runner, "work_late", &second);
+    drop(second);
+    assert!(rt; text?.as_str() == "0 a/ a/b=old b=b");
+    thread::sleep(&rt, Duration::from_millis(1500));
+    assert!(rt; runner.clear(b"work_late").is_ok());
+    fs::remove_file(&rt, "work_late/late")?;
+    fs::remove_dir(&rt, "work_late")?;
+    Ok(())
+}
+
+/// A folder that refuses its removal, and a link to a folder elsewhere, which keeps its rights and what it holds.
+#[test]
+fn a_link_is_removed_as_a_link(rt: HostRuntime) -> Result<(), Fail> {
+    fs::create_dir(&rt, "linked_to")?;
+    fs::write(&rt, "linked_to/kept", "")?;
+    fs::set_permissions(&rt, "linked_to", Permissions::from_mode(0o750))?;
+    let script =
+        "ln -s ../../linked_to l; mkdir d; ln -s ../../../linked_to d/l; : > d/f; chmod 500 d";
+    let text = ran(&rt, "work_linked", script)?;
+    assert!(rt; text.as_str() == "the run failed, 1");
+    assert!(rt; fs::metadata(&rt, "linked_to")?.permissions().mode() & 0o777 == 0o750);
+    fs::remove_file(&rt, "linked_to/kept")?;
+    fs::remove_dir(&rt, "linked_to")?;
     Ok(())
 }
 
@@ -225,60 +374,109 @@ fn it_reads_2000_files_and_32_folders(rt: HostRuntime) -> Result<(), Fail> {
     Ok(())
 }
 
-/// Whether two runners of the process `number` run the shell in `work`.
-fn both_run(rt: &HostRuntime, number: u32, work: &str) -> Result<bool, Fail> {
-    let job = job(rt, "/bin/sh", "", "exit 0")?;
-    let mut one = ChildRunner::new(rt, number, None);
-    let mut other = ChildRunner::new(rt, number, None);
-    let first = one.run(work.as_bytes(), &job).is_ok();
-    let second = other.run(work.as_bytes(), &job).is_ok();
+/// The job that tells the name of its folder.
+fn name_job(rt: &HostRuntime) -> Result<Job, Fail> {
+    job(rt, "/bin/sh", "", "rm -r a; printf ${PWD##*/} > n")
+}
+
+/// The name of the folder in which a runner of its own runs that job.
+fn name_in(rt: &HostRuntime, work: &str) -> Result<String, Fail> {
+    let job = name_job(rt)?;
+    let mut runner = ChildRunner::at_client(rt, "client");
+    let text = told(rt, &mut runner, work, &job);
+    drop(runner);
     drop(job);
-    Ok(first && second)
+    let text = text?;
+    match text.strip_prefix("0 n=") {
+        Some(name) => Ok(String::from_str(rt.alloc(), name)?),
+        None => Err(Fail::from("no name")),
+    }
+}
+
+/// Locks the file, which is made where it is missing.
+fn locked(rt: &HostRuntime, place: &str) -> Result<File, Fail> {
+    let file = File::options().write(true).create(true).open(rt, place)?;
+    match file.try_lock() {
+        Ok(()) => Ok(file),
+        Err(error) => {
+            drop(file);
+            Err(Fail::from(io::Error::from(error)))
+        }
+    }
+}
+
+#[test]
+fn a_job_has_one_name_unless_it_is_taken(rt: HostRuntime) -> Result<(), Fail> {
+    let name = name_in(&rt, "work_name")?;
+    assert!(rt; name.len() == 20 && name.starts_with("run-"));
+    assert!(rt; name_in(&rt, "work_name")? == name);
+    let next = format!(in rt.alloc(); "{name}-1")?;
+    let lock = format!(in rt.alloc(); "work_name/{name}.lock")?;
+    let held = locked(&rt, lock.as_str())?;
+    assert!(rt; name_in(&rt, "work_name")? == next);
+    drop(held);
+    assert!(rt; name_in(&rt, "work_name")? == name);
+    // what a run left that was cut off, and what cannot be removed as a folder
+    let folder = format!(in rt.alloc(); "work_name/{name}")?;
+    fs::create_dir(&rt, folder.as_str())?;
+    assert!(rt; name_in(&rt, "work_name")? == name);
+    fs::write(&rt, folder.as_str(), "")?;
+    assert!(rt; name_in(&rt, "work_name")? == next);
+    fs::remove_file(&rt, folder.as_str())?;
+    make(&rt, "work_name", name.as_str())?;
+    make(&rt, "work_name", next.as_str())?;
+    assert!(rt; is_cleared(&rt, "work_name"));
+    fs::remove_dir(&rt, "work_name")?;
+    Ok(())
+}
+
+/// Whether a runner clears the folder.
+fn is_cleared(rt: &HostRuntime, work: &str) -> bool {
+    let mut runner = ChildRunner::at_surrogate(rt, "surrogate", Duration::from_secs(2));
+    runner.clear(work.as_bytes()).is_ok()
+}
+
+#[test]
+fn what_runs_left_is_cleared_and_nothing_else(rt: HostRuntime) -> Result<(), Fail> {
+    fs::write(&rt, "work_file", "")?;
+    assert!(rt; !is_cleared(&rt, "work_file"));
+    fs::remove_file(&rt, "work_file")?;
+    assert!(rt; is_cleared(&rt, "work_left"));
+    for name in [
+        "run-0123456789abcdef/c",
+        "run-0123456789abcdef-12",
+        "run-fedcba9876543210-1/c",
+    ] {
+        make(&rt, "work_left", name)?;
+    }
+    drop(locked(&rt, "work_left/run-0123456789abcdef.lock")?);
+    drop(locked(&rt, "work_left/run-0000000000000000-7.lock")?);
+    let held = locked(&rt, "work_left/run-fedcba9876543210-1.lock")?;
+    let others = [
+        "run-0123456789abcdef-01",
+        "run-0123456789abcdef-",
+        "run-0123456789ABCDEF",
+        "run-0123456789abcde",
+        "run-4194305-0",
+        "other",
+    ];
+    for name in others {
+        make(&rt, "work_left", name)?;
+    }
+    symlink(&rt, "other", "work_left/run-1111111111111111")?;
+    assert!(rt; is_cleared(&rt, "work_left"));
+    assert!(rt; count(&rt, "work_left")? == others.len() + 3);
+    assert!(rt; fs::exists(&rt, "work_left/run-fedcba9876543210-1/c")?);
+    drop(held);
+    assert!(rt; is_cleared(&rt, "work_left"));
+    assert!(rt; count(&rt, "work_left")? == others.len() + 1);
+    fs::remove_dir_all(&rt, "work_left")?;
+    Ok(())
 }
 
 /// Makes the folder in `work`.
 fn make(rt: &HostRuntime, work: &str, name: &str) -> Result<(), Fail> {
     let folder = format!(in rt.alloc(); "{work}/{name}")?;
     fs::create_dir_all(rt, folder.as_str())?;
-    Ok(())
-}
-
-/// Removes the empty folder in `work`.
-fn remove(rt: &HostRuntime, work: &str, name: &str) -> Result<(), Fail> {
-    let folder = format!(in rt.alloc(); "{work}/{name}")?;
-    fs::remove_dir(rt, folder.as_str())?;
-    Ok(())
-}
-
-#[test]
-fn two_runners_have_one_work(rt: HostRuntime) -> Result<(), Fail> {
-    let number = process::id(rt.process());
-    let left = format!(in rt.alloc(); "run-{number}-0")?;
-    make(&rt, "work_two", left.as_str())?;
-    assert!(rt; both_run(&rt, number, "work_two")?);
-    assert!(rt; count(&rt, "work_two")? == 1);
-    remove(&rt, "work_two", left.as_str())?;
-    fs::remove_dir(&rt, "work_two")?;
-    Ok(())
-}
-
-/// Whether a runner of the process `number` clears the folder.
-fn is_cleared(rt: &HostRuntime, number: u32, work: &str) -> bool {
-    let mut runner = ChildRunner::new(rt, number, None);
-    runner.clear(work.as_bytes()).is_ok()
-}
-
-#[test]
-fn folders_of_processes_that_are_gone_are_removed(rt: HostRuntime) -> Result<(), Fail> {
-    let number = process::id(rt.process());
-    assert!(rt; is_cleared(&rt, number, "work_left"));
-    let own = format!(in rt.alloc(); "run-{number}-0")?;
-    for name in [GONE, own.as_str(), "run-04194305-0", "run-4194305-0x"] {
-        make(&rt, "work_left", name)?;
-    }
-    drop(own);
-    assert!(rt; is_cleared(&rt, number, "work_left"));
-    assert!(rt; count(&rt, "work_left")? == 3);
-    fs::remove_dir_all(&rt, "work_left")?;
     Ok(())
 }

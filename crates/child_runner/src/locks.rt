@@ -1,0 +1,134 @@
+// The lock that a run holds while it lasts.
+use crate::names::lock_place;
+use crate::trouble::{Trouble, answered, refused};
+use std::alloc::AllocGlobal;
+use std::fs::{self, File, Files, Metadata, TryLockError};
+use std::io::ErrorKind;
+use std::os::unix::fs::{MetadataExt, OpenOptionsExt};
+
+/// What the owner of a lock may do with its file, and no other user.
+pub const LOCK_RIGHTS: u32 = 0o600;
+
+/// How often a lock is opened anew whose file another program has just removed.
+const MAX_OPENED: u32 = 64;
+
+/// A lock that no other program holds. It ends with this value.
+#[derive(Drop)]
+pub(crate) struct Lock {
+    place: String,
+    file: File,
+}
+
+impl Lock {
+    /// Takes the lock beside the folder; none where another holds it, or what is no lock stands there.
+    pub(crate) fn take<R: Files<File = File> + AllocGlobal>(
+        host: &R,
+        folder: &str,
+    ) -> Result<Option<Lock>, Trouble> {
+        let place = lock_place(host.alloc(), folder)?;
+        match take_at(host, place.as_str()) {
+            Ok(Some(file)) => Ok(Some(Lock { place, file })),
+            Ok(None) => Ok(None),
+            Err(error) => {
+                drop(place);
+                Err(error)
+            }
+        }
+    }
+
+    /// Removes the file, while the lock is still held: who opened it meanwhile sees that it is gone, and opens another.
+    pub(crate) fn remove<R: Files + AllocGlobal>(self, host: &R) -> Result<(), Trouble> {
+        let removed = match is_there(host, self.place.as_str(), &self.file) {
+            true => fs::remove_file(host, self.place.as_str()),
+            false => Ok(()),
+        };
+        let removed = answered(host.alloc(), "remove", self.place.as_str(), removed);
+        drop(self);
+        removed
+    }
+
+    /// The number of the device that it stands on.
+    pub(crate) fn device<R: AllocGlobal>(&self, host: &R) -> Result<u64, Trouble> {
+        let seen = self.file.metadata();
+        Ok(answered(host.alloc(), "look at", self.place.as_str(), seen)?.dev())
+    }
+}
+
+/// Locks the file at the place. Between its opening and its locking another program may have removed it, so that it is no longer
+/// what stands there: then whatever stands there now is opened.
+fn take_at<R: Files<File = File> + AllocGlobal>(
+    host: &R,
+    place: &str,
+) -> Result<Option<File>, Trouble> {
+    for _ in 0..MAX_OPENED {
+        let Some(file) = open_at(host, place)? else {
+            return Ok(None);
+        };
+        if !is_locked(host, place, &file)? {
+            return Ok(None);
+        }
+        if is_there(host, place, &file) {
+            return Ok(Some(file));
+        }
+    }
+    Ok(None)
+}
+
+/// Whether the file was not locked by another, and is now.
+fn is_locked<R: AllocGlobal>(host: &R, place: &str, file: &File) -> Result<bool, Trouble> {
+    match file.try_lock() {
+        Ok(()) => Ok(true),
+        Err(TryLockError::WouldBlock) => Ok(false),
+        Err(TryLockError::Error(error)) => Err(refused(host.alloc(), "lock", place, error)),
+    }
+}
+
+/// Opens the file of a lock, which is made where nothing stands there; none where what stands there is another's, or no file.
+fn open_at<R: Files<File = File> + AllocGlobal>(
+    host: &R,
+    place: &str,
+) -> Result<Option<File>, Trouble> {
+    for _ in 0..MAX_OPENED {
+        let made = File::options()
+            .read(true)
+            .write(true)
+            .create_new(true)
+            .mode(LOCK_RIGHTS)
+            .open(host, place);
+        match made {
+            Err(error) if error.kind() == ErrorKind::AlreadyExists => {}
+            made => return Ok(Some(answered(host.alloc(), "make", place, made)?)),
+        }
+        if !is_file(host, place) {
+            return Ok(None);
+        }
+        match File::options().read(true).write(true).open(host, place) {
+            Ok(file) => return Ok(Some(file)),
+            Err(error) if error.kind() == ErrorKind::NotFound => {}
+            Err(error) if error.kind() == ErrorKind::PermissionDenied => return Ok(None),
+            Err(error) => return Err(refused(host.alloc(), "open", place, error)),
+        }
+    }
+    Ok(None)
+}
+
+/// Whether a file stands there, or nothing any more.
+fn is_file<R: Files>(host: &R, place: &str) -> bool {
+    match fs::symlink_metadata(host, place) {
+        Ok(seen) => seen.is_file(),
+        Err(error) => error.kind() == ErrorKind::NotFound,
+    }
+}
+
+/// Whether the open file is what stands at the place.
+fn is_there<R: Files>(host: &R, place: &str, file: &File) -> bool {
+    match (file.metadata(), fs::symlink_metadata(host, place)) {
+        (Ok(opened), Ok(seen)) => are_same(&opened, &seen),
+        (Ok(_) | Err(_), Ok(_) | Err(_)) => false,
+    }
+}
+
+/// Whether both are of one thing.
+pub(crate) fn are_same(one: &Metadata, other: &Metadata) -> bool {
+    one.dev() == other.dev() && one.ino() == other.ino()
+}

@@ -1,0 +1,103 @@
+// Why a job is not run.
+ghost use Rattle.std.specs.Prelude.{◌≡◌, ◌≤◌};
+ghost use Rattle.outside.specs.Outside.{raised};
+
+use std::alloc::{AllocError, AllocFailed, Global};
+use std::fmt::{self, Display, Formatter};
+use std::io::{self, ErrorKind};
+use std::time::Duration;
+
+/// What a run came to that is no outcome.
+#[derive(Debug, Drop)]
+pub(crate) enum Trouble {
+    /// Memory ran out.
+    Memory,
+    /// The system refused what was to be done with what has this name.
+    Refused {
+        doing: &'static str,
+        name: String,
+        error: io::Error,
+    },
+    /// What has this name is not as it has to be.
+    Odd {
+        name: String,
+        is: &'static str,
+    },
+    /// The run is not as it has to be.
+    Told(&'static str),
+    /// It took longer than it may.
+    Long {
+        what: &'static str,
+        longest: Duration,
+    },
+}
+
+impl From<AllocError> for Trouble {
+    fn from(_: AllocError) -> Trouble {
+        Trouble::Memory
+    }
+}
+
+impl<T: Drop> From<AllocFailed<T>> for Trouble {
+    fn from(_: AllocFailed<T>) -> Trouble {
+        Trouble::Memory
+    }
+}
+
+impl Display for Trouble {
+    fn fmt<W: fmt::Write>(&self, f: &mut Formatter<W>) -> fmt::Result {
+        match self {
+            Trouble::Memory => write!(f, "out of memory"),
+            Trouble::Refused { doing, name, error } => write!(f, "cannot {doing} {name}: {error}"),
+            Trouble::Odd { name, is } => write!(f, "{name:?} {is}"),
+            Trouble::Told(what) => write!(f, "{what}"),
+            Trouble::Long { what, longest } => {
+                write!(f, "{what} longer than {} s", longest.as_secs())
+            }
+        }
+    }
+}
+
+/// The system refused what was to be done with what has this name.
+pub(crate) fn refused(alloc: Global, doing: &'static str, name: &str, error: io::Error) -> Trouble {
+    if error.kind() == ErrorKind::OutOfMemory {
+        drop(error);
+        return Trouble::Memory;
+    }
+    match String::from_str(alloc, name) {
+        Ok(name) => Trouble::Refused { doing, name, error },
+        Err(_) => {
+            drop(error);
+            Trouble::Memory
+        }
+    }
+}
+
+/// What has this name is not as it has to be.
+pub(crate) fn odd(alloc: Global, name: &str, is: &'static str) -> Trouble {
+    match String::from_str(alloc, name) {
+        Ok(name) => Trouble::Odd { name, is },
+        Err(_) => Trouble::Memory,
+    }
+}
+
+/// What the system answered to what was to be done with what has this name.
+pub(crate) fn answered<T>(
+    alloc: Global,
+    doing: &'static str,
+    name: &str,
+    answer: io::Result<T>,
+) -> Result<T, Trouble> {
+    match answer {
+        Ok(value) => Ok(value),
+        Err(error) => Err(refused(alloc, doing, name, error)),
+    }
+}
+
+/// Counts a call that failed. The count stands still at the end of its type.
+pub(crate) fn count_fault(faults: &mut u64)
+    ensures raised { faults.new ≡ raised 1 faults.old }
+    ensures later { faults.old ≤ faults.new }
+{
+    *faults = faults.saturating_add(1);
+}
