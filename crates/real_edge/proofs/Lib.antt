@@ -1,3 +1,3 @@
 mod Echoing
-mod Framing
+mod Limiting
 mod Pacing

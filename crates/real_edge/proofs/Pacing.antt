@@ -1,9 +1,11 @@
 -- Calls that are made again within one window of a connection's time, or two.
-use Rattle.std.proofs.Common.{◌≡◌, inl, inr, ℕ, ◌∙◌, List, ◌++◌, take, Option, None, Some, Result, Ok, Err, refl, sym, subst, ap, arith}
+use Rattle.std.proofs.Common.{◌≡◌, inl, inr, ℕ, ◌∙◌, ◌≤◌, min, List, ◌++◌, length, take, drop, Option, None, Some, Result, Ok, Err, refl, sym, subst, ap, arith}
 use Rattle.std.proofs.KnownBytes.{Keeps-trans}
+use Rattle.std.proofs.lemmas.List.{length-take, take-append-drop, take-append-le}
+use Rattle.std.specs.Io.{WritesAtMost}
 use Rattle.std.specs.Io.KnownBytes.{Keeps, Appends, Consumes, ReadConsumes, WriteAppends}
-use Rattle.real_edge.specs.declared.pace.Window.{Window}
-use Rattle.real_edge.specs.Pace.{after_bytes, LeadsOn}
+use Rattle.paced_talks.specs.declared.window.Window.{Window}
+use Rattle.paced_talks.specs.Window.{after_bytes, LeadsOn}
 
 -- ---- known bytes
 
@@ -30,6 +32,17 @@ reads_then a b c (Err e) buf first second = Keeps-trans a b c first second
 pub writes_then : {E : Type 0} (a b c : Option (List ℕ)) (r : Result ℕ E) (buf : List ℕ) → Keeps a b → WriteAppends b c r buf → WriteAppends a c r buf
 writes_then a b c (Ok n) buf first second = keeps_appends a b c (take n buf) first second
 writes_then a b c (Err e) buf first second = Keeps-trans a b c first second
+
+-- a write that was offered a piece alone is one of the whole
+pub piece_written : {E : Type 0} (a b : Option (List ℕ)) (r : Result ℕ E) (most : ℕ) (buf : List ℕ) → WritesAtMost r (take most buf)
+    → WriteAppends a b r (take most buf) → WriteAppends a b r buf
+piece_written a b (Ok n) most buf few appends =
+    subst (Appends a b) (sym (ap (take n) (sym (take-append-drop most buf)) ∙ take-append-le n (take most buf) (drop most buf) few)) appends
+piece_written a b (Err e) most buf few appends = appends
+
+pub piece_short : {E : Type 0} (r : Result ℕ E) (most : ℕ) (buf : List ℕ) → WritesAtMost r (take most buf) → WritesAtMost r buf
+piece_short (Ok n) most buf few = let long : length (take most buf) ≡ min most (length buf) = length-take most buf in omega (arith, few, long)
+piece_short (Err e) most buf few = tt
 
 -- ---- windows
 

@@ -1,10 +1,9 @@
--- For how long the first byte of an answer is waited for.
-use Rattle.std.specs.Prelude.{ℕ, ◌/◌, min, Bool, false, ◌==◌, ◌&&◌, if◌then◌else◌, Option, None, Some}
+-- For how long an address is waited for.
+use Rattle.std.specs.Prelude.{◌≡◌, ◌⊎◌, ℕ, ◌/◌, min, List, if◌then◌else◌, Option, None, Some, Result, Ok, Err}
 use Rattle.world_rules.specs.declared.asking.Peer.{Peer}
 use Rattle.world_rules.specs.declared.asking.Peer.TheVariants.{Server, Surrogate}
-use Rattle.wire_frames.specs.declared.head.Head.{Head}
-use Rattle.real_edge.specs.declared.link.About.{About}
-use Rattle.real_edge.specs.Pace.{window_seconds, window_pace}
+use Rattle.real_edge.specs.Addresses.{is_among, with_address, without_address}
+use Rattle.paced_talks.specs.Window.{window_seconds, window_pace}
 
 -- for how many seconds a surrogate may run a command and answer
 abbrev pub command_seconds : ℕ
@@ -18,22 +17,32 @@ most_buffered = 262144
 abbrev pub in_buffers : ℕ → ℕ
 in_buffers bytes = min bytes most_buffered / window_pace
 
--- the entry is the one that the request with this head is about
-abbrev pub is_about : Option About → Head → Bool
-is_about None request = false
-is_about (Some entry) request = (entry.client == request.client) && (entry.number == request.number)
+-- for how many milliseconds an address that refused a connection is left alone
+abbrev pub pause_millis : ℕ
+pause_millis = 250
 
--- for how many seconds an ask waits, where the surrogate was silent of an entry
-abbrev pub patience : Option About → Peer → Head → ℕ
-patience silent Server request = window_seconds
-patience silent Surrogate request = if is_about silent request then window_seconds else command_seconds
+-- for how long an ask of the address is put off, where these refused a connection
+abbrev pub pause : List ℕ → List (List ℕ) → ℕ
+pause address refused = if is_among address refused then pause_millis else 0
 
--- of which entry the surrogate was silent, after an ask to which no byte came in time
-abbrev pub after_silence : Option About → Peer → Head → Option About
-after_silence silent Server request = silent
-after_silence silent Surrogate request = Some (record { client = request.client; number = request.number })
+-- for how many seconds an ask of the address waits, where these addresses of surrogates were silent
+abbrev pub patience : Peer → List ℕ → List (List ℕ) → ℕ
+patience Server address silent = window_seconds
+patience Surrogate address silent = if is_among address silent then window_seconds else command_seconds
+
+-- which are silent after an ask of the address to which no byte came in time
+abbrev pub after_silence : Peer → List ℕ → List (List ℕ) → List (List ℕ)
+after_silence Server address silent = silent
+after_silence Surrogate address silent = with_address address silent
 
 -- and after an answer
-abbrev pub silent_after_answer : Option About → Peer → Option About
-silent_after_answer silent Server = silent
-silent_after_answer silent Surrogate = None
+abbrev pub after_answer : Peer → List ℕ → List (List ℕ) → List (List ℕ)
+after_answer Server address silent = silent
+after_answer Surrogate address silent = without_address address silent
+
+-- which were silent, after an ask of the address of which this came: an answer, none in time, or a connection that failed; memory may
+-- be wanted for one more
+abbrev pub RemembersSilence : {T E : Type 0} → Peer → List ℕ → Result (Option T) E → List (List ℕ) → List (List ℕ) → Type 0
+RemembersSilence to address (Ok (Some reply)) old new = new ≡ after_answer to address old
+RemembersSilence to address (Ok None) old new = (new ≡ after_silence to address old) ⊎ (new ≡ old)
+RemembersSilence to address (Err e) old new = new ≡ old

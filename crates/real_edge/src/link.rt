@@ -1,22 +1,25 @@
 // Asks over TCP.
-ghost use Rattle.std.specs.Prelude.{◌≡◌, ◌≤◌, None, IfOk, OnOk};
+ghost use Rattle.std.specs.Prelude.{◌≡◌, ◌≤◌, ◌⊎◌, None, Some, Ok, IfOk, OnOk};
 ghost use Rattle.outside.specs.Outside.{Told, Rose, HasCause, CountsFault};
 ghost use Rattle.wire_frames.specs.declared.message.Message.{Message};
 ghost use Rattle.wire_frames.specs.Frame.{Spells};
 ghost use Rattle.world_rules.specs.World.{World};
 ghost use Rattle.world_rules.specs.Asking.{IsRequest, IsReplyTo, AsksOnce, IsDirect};
-ghost use Rattle.real_edge.specs.Pace.{HasWaited};
-ghost use Rattle.real_edge.specs.Patience.{patience, in_buffers, is_about, after_silence, silent_after_answer};
+ghost use Rattle.paced_talks.specs.Window.{HasWaited};
+ghost use Rattle.real_edge.specs.Addresses.{without_address};
+ghost use Rattle.real_edge.specs.Patience.{patience, in_buffers, pause, after_silence, after_answer, RemembersSilence};
 ghost use Rattle.real_edge.specs.Inside.{IsEchoTo};
 
+use crate::addresses::Addresses;
 use crate::faults::count_fault;
-use crate::frames::read_frame;
-use crate::pace::{Paced, WINDOW_PACE, WINDOW_SECONDS};
+use crate::pace::Paced;
+use crate::telling::{Teller, ToldStream, Untold};
+use paced_talks::{WINDOW_PACE, WINDOW_SECONDS, read_frame};
 use std::alloc::Global;
-use std::io;
 use std::io::{ErrorKind, Read, Write};
 use std::net::{Net, OpenStream, TcpStream, ToSocketAddrs};
 use std::time::{Clock, Duration};
+use std::{io, thread};
 use wire_frames::{FrameError, Head, head_of, read};
 use world_rules::{Link, LinkError, Peer};
 
@@ -34,44 +37,45 @@ const CONNECT_SECONDS: u64 = 10;
 /// The most addresses of one name that are tried.
 const MOST_ADDRESSES: usize = 4;
 
-/// The entry that a request is about.
-#[derive(Clone, Copy)]
-struct About {
-    client: u8,
-    number: u64,
-}
+/// How long an address that refused a connection is left alone before the next ask, in milliseconds: a peer that is started again is
+/// back by the last try.
+const PAUSE_MILLIS: u64 = 250;
 
-/// Asks over TCP, each over a connection of its own. The entry of which the surrogate was `silent` is remembered, so that a
-/// surrogate that is gone costs one long wait for each entry, and no eight.
+/// Asks over TCP, each over a connection of its own, and tells how that goes on. Addresses that were `silent` are remembered, so that a
+/// surrogate that is gone costs one long wait, and no more until it answers; and those that `refused` a connection are left alone for
+/// a moment before the next ask.
 #[derive(Drop)]
-pub struct TcpLink<'a, N: Net + Clock> {
+pub struct TcpLink<'a, N: Net + Clock, T: Teller + Drop = Untold> {
     alloc: Global,
     net: &'a N,
-    silent: Option<About>,
+    teller: T,
+    silent: Addresses,
+    refused: Addresses,
     troubles: u64,
 }
 
-impl<'a, N: Net + Clock> TcpLink<'a, N> {
-    /// A link without trouble yet. It opens nothing.
-    pub fn new(alloc: Global, net: &'a N) -> TcpLink<'a, N>
+impl<'a, N: Net + Clock> TcpLink<'a, N, Untold> {
+    /// A link without trouble yet, which tells nobody. It opens nothing.
+    pub fn new(alloc: Global, net: &'a N) -> TcpLink<'a, N, Untold>
+        ensures { result.troubles ≡ 0 }
+    {
+        TcpLink::telling(alloc, net, Untold)
+    }
+}
+
+impl<'a, N: Net + Clock, T: Teller + Drop> TcpLink<'a, N, T> {
+    /// A link without trouble yet, which tells this one how its asks go on. It opens nothing.
+    pub fn telling(alloc: Global, net: &'a N, teller: T) -> TcpLink<'a, N, T>
         ensures { result.troubles ≡ 0 }
     {
         TcpLink {
             alloc,
             net,
-            silent: None,
+            teller,
+            silent: Addresses::new(alloc),
+            refused: Addresses::new(alloc),
             troubles: 0,
         }
-    }
-
-    /// Sends the frame over a new connection, and gives the frame that comes back; none where its first byte has not come within
-    /// so many seconds.
-    fn exchange(&self, address: &[u8], frame: &[u8], seconds: u64) -> io::Result<Option<Vec<u8>>> {
-        let stream = connect(self.net, address)?;
-        let mut stream = Paced::start(stream, self.net)?;
-        let reply = converse(self.alloc, &mut stream, frame, seconds);
-        drop(stream);
-        reply
     }
 
     /// Asks once, and gives the frame that comes back where it spells a reply to the request.
@@ -96,33 +100,131 @@ impl<'a, N: Net + Clock> TcpLink<'a, N> {
     ) -> Result<Vec<u8>, LinkError>
         ensures reply { IfOk result (λ bytes. IsEchoTo request bytes.items) }
         ensures troubles { self.new.troubles ≡ self.old.troubles }
+        // whoever answers is silent no more
+        ensures answered { IfOk result (λ _. self.new.silent ≡ after_answer to address.now self.old.silent) }
+        // memory may be wanted for an address
+        ensures silent { (self.new.silent ≡ after_answer to address.now self.old.silent)
+            ⊎ (self.new.silent ≡ after_silence to address.now self.old.silent) ⊎ (self.new.silent ≡ self.old.silent) }
     {
-        let seconds = patience(self.silent, to, request) + in_buffers(frame.len());
-        match self.exchange(address, frame, seconds) {
-            Ok(Some(bytes)) => {
-                self.silent = after_answer(self.silent, to);
-                match check_echo(self.alloc, request, &bytes) {
-                    Ok(()) => Ok(bytes),
-                    Err(refused) => Err(refused),
-                }
-            }
-            Ok(None) => {
-                self.silent = after_silence(self.silent, to, request);
-                Err(LinkError::Failed)
-            }
-            Err(error) => Err(refusal_of(error)),
-        }
+        thread::sleep(
+            self.net,
+            Duration::from_millis(pause(&self.refused, address)),
+        );
+        let seconds = patience(&self.silent, to, address) + in_buffers(frame.len());
+        self.teller.begin(to, request, frame);
+        let came = exchange(
+            self.alloc,
+            self.net,
+            &mut self.teller,
+            address,
+            frame,
+            seconds,
+        );
+        note_refusal(&mut self.refused, address, &came);
+        note_silence(&mut self.silent, to, address, &came);
+        let reply = echoed(self.alloc, request, came);
+        tell_end(&mut self.teller, &reply);
+        reply
     }
 }
 
-/// For how many seconds an ask waits for the first byte of its answer, where the surrogate was silent of an entry.
-fn patience(silent: Option<About>, to: Peer, request: Head) -> u64
-    ensures { result ≡ patience silent to request }
+/// Tells that an ask is over, and what came.
+fn tell_end<T: Teller>(teller: &mut T, reply: &Result<Vec<u8>, LinkError>) {
+    match reply {
+        Ok(bytes) => teller.end(Some(bytes.as_slice())),
+        Err(_) => teller.end(None),
+    }
+}
+
+/// Remembers whether the address refused the connection of its last ask.
+fn note_refusal(refused: &mut Addresses, address: &[u8], came: &io::Result<Option<Vec<u8>>>)
+    ensures { IfOk came.now (λ _. refused.new ≡ without_address address.now refused.old) }
+{
+    refused.forget(address);
+    if let Err(error) = came
+        && error.kind() == ErrorKind::ConnectionRefused
+    {
+        refused.remember(address);
+    }
+}
+
+/// Remembers whether the address was silent.
+fn note_silence(
+    silent: &mut Addresses,
+    to: Peer,
+    address: &[u8],
+    came: &io::Result<Option<Vec<u8>>>,
+)
+    ensures { RemembersSilence to address.now came.now silent.old silent.new }
+{
+    if to == Peer::Server {
+        return;
+    }
+    match came {
+        Ok(Some(_)) => silent.forget(address),
+        Ok(None) => silent.remember(address),
+        Err(_) => {}
+    }
+}
+
+/// What came of an ask, where it spells a reply to the request with this head.
+fn echoed(
+    alloc: Global,
+    request: Head,
+    came: io::Result<Option<Vec<u8>>>,
+) -> Result<Vec<u8>, LinkError>
+    ensures reply { IfOk result (λ bytes. IsEchoTo request bytes.items) }
+    ensures some { IfOk result (λ bytes. came ≡ Ok (Some bytes)) }
+{
+    match came {
+        Ok(Some(bytes)) => match check_echo(alloc, request, &bytes) {
+            Ok(()) => Ok(bytes),
+            Err(refused) => {
+                drop(bytes);
+                Err(refused)
+            }
+        },
+        Ok(None) => Err(LinkError::Failed),
+        Err(error) => Err(refusal_of(error)),
+    }
+}
+
+/// How many milliseconds pass before an ask of the address, where these refused a connection.
+fn pause(refused: &Addresses, address: &[u8]) -> u64
+    ensures { result ≡ pause address.now refused.now }
+{
+    if refused.contains(address) {
+        PAUSE_MILLIS
+    } else {
+        0
+    }
+}
+
+/// Sends the frame over a new connection, and gives the frame that comes back; none where its first byte has not come within so
+/// many seconds.
+fn exchange<N: Net + Clock, T: Teller>(
+    alloc: Global,
+    net: &N,
+    teller: &mut T,
+    address: &[u8],
+    frame: &[u8],
+    seconds: u64,
+) -> io::Result<Option<Vec<u8>>> {
+    let stream = connect(net, address)?;
+    let mut stream = Paced::start(stream, net)?;
+    let reply = converse(alloc, &mut stream, teller, frame, seconds);
+    drop(stream);
+    reply
+}
+
+/// For how many seconds an ask of the address waits for the first byte of its answer, where these were silent.
+fn patience(silent: &Addresses, to: Peer, address: &[u8]) -> u64
+    ensures { result ≡ patience to address.now silent.now }
 {
     match to {
         Peer::Server => WINDOW_SECONDS,
         Peer::Surrogate => {
-            if is_about(silent, request) {
+            if silent.contains(address) {
                 WINDOW_SECONDS
             } else {
                 COMMAND_SECONDS
@@ -138,53 +240,41 @@ fn in_buffers(bytes: usize) -> u64
     (bytes as u64).min(MOST_BUFFERED) / WINDOW_PACE
 }
 
-/// Whether the request is about this entry.
-fn is_about(entry: Option<About>, request: Head) -> bool
-    ensures { result ≡ is_about entry request }
-{
-    match entry {
-        Some(about) => about.client == request.client && about.number == request.number,
-        None => false,
-    }
-}
-
-/// Of which entry the surrogate was silent, after an ask to which no byte came in time.
-fn after_silence(silent: Option<About>, to: Peer, request: Head) -> Option<About>
-    ensures { result ≡ after_silence silent to request }
-{
-    match to {
-        Peer::Server => silent,
-        Peer::Surrogate => Some(About {
-            client: request.client,
-            number: request.number,
-        }),
-    }
-}
-
-/// Of which entry it was silent, after an answer.
-fn after_answer(silent: Option<About>, to: Peer) -> Option<About>
-    ensures { result ≡ silent_after_answer silent to }
-{
-    match to {
-        Peer::Server => silent,
-        Peer::Surrogate => None,
-    }
-}
-
 /// Sends the frame, and reads the one that comes back once the peer has worked; none where that takes longer than so many seconds.
-fn converse<S: Read + Write + OpenStream + Drop, C: Clock>(
+fn converse<S: Read + Write + OpenStream + Drop, C: Clock, T: Teller>(
     alloc: Global,
     stream: &mut Paced<'_, S, C>,
+    teller: &mut T,
     frame: &[u8],
     seconds: u64,
 ) -> io::Result<Option<Vec<u8>>>
     ensures { IfOk result (λ reply. reply ≡ None → HasWaited seconds stream.new.window) }
 {
-    stream.write_all(frame)?;
-    if !stream.wait(seconds)? {
+    send(stream, teller, frame)?;
+    if !stream.wait(seconds, teller)? {
         return Ok(None);
     }
-    Ok(Some(read_frame(alloc, stream)?))
+    Ok(Some(receive(alloc, stream, teller)?))
+}
+
+/// Sends the frame, and tells how much of it went.
+fn send<S: Read + Write, T: Teller>(
+    stream: &mut S,
+    teller: &mut T,
+    frame: &[u8],
+) -> io::Result<()> {
+    let mut told = ToldStream { stream, teller };
+    told.write_all(frame)
+}
+
+/// Reads a frame, and tells how much of it came.
+fn receive<S: Read + Write, T: Teller>(
+    alloc: Global,
+    stream: &mut S,
+    teller: &mut T,
+) -> io::Result<Vec<u8>> {
+    let mut told = ToldStream { stream, teller };
+    read_frame(alloc, &mut told)
 }
 
 /// Refuses bytes that spell no reply to the request with this head.
@@ -232,7 +322,7 @@ fn refusal_of(error: io::Error) -> LinkError {
     }
 }
 
-impl<'a, N: Net + Clock> Link for TcpLink<'a, N> {
+impl<'a, N: Net + Clock, T: Teller + Drop> Link for TcpLink<'a, N, T> {
     ghost tells = { λ l. record { world = None; troubles = l.troubles } };
 
     ghost keeps = { λ _ _. Unit {0} };

@@ -1,34 +1,27 @@
 // Connections over TCP.
-ghost use Rattle.std.specs.Prelude.{◌≡◌, ◌-◌, ◌↔◌, None, Ok, Err, IfOk, OnOk, OnErr, IsErr};
-ghost use Rattle.std.specs.Io.KnownBytes.{Appends};
+ghost use Rattle.std.specs.Prelude.{◌≡◌, ◌-◌, ◌↔◌, None, Ok, Err, IfOk, OnErr};
 ghost use Rattle.outside.specs.Outside.{Told, CountsFault};
 ghost use Rattle.outside.specs.Port.{AddsTalks, talks_begun, AnswersLast};
-ghost use Rattle.real_edge.specs.Pace.{StartsBy, of_request};
 ghost use Rattle.real_edge.specs.Port.{connections};
 
+use crate::connections::Connections;
 use crate::faults::count_fault;
-use crate::frames::{MAX_FRAME, read_frame};
-use crate::pace::Paced;
-use crate::wants::next_connection;
 use outside::{Port, PortError};
 use std::alloc::Global;
 use std::io;
-use std::io::{ErrorKind, Read, Write};
-use std::net::{Net, OpenListener, OpenStream, TcpListener};
+use std::net::Net;
 use std::time::Clock;
 
 /// How many connections a port takes.
 const CONNECTIONS: u32 = 65_536;
 
-/// Takes connections over TCP, each with one frame and its answer.
+/// Takes connections over TCP, each with one frame and its answer. The frames of many come in side by side, and their answers go
+/// out so: the first one that is whole is taken first, and no peer is waited for while another one is there.
 #[derive(Drop)]
 pub struct TcpPort<'a, N: Net + Clock> {
-    alloc: Global,
-    net: &'a N,
-    listener: N::Listener,
+    connections: Connections<'a, N>,
     /// The address at which it listens.
     pub address: &'a str,
-    talk: Option<Paced<'a, N::Stream, N>>,
     left: u32,
     faults: u64,
 }
@@ -43,11 +36,8 @@ impl<'a, N: Net + Clock> TcpPort<'a, N> {
         ensures { IfOk result (λ port. (port.left ≡ connections) × (port.faults ≡ 0) × (port.address.now ≡ address.now)) }
     {
         Ok(TcpPort {
-            alloc,
-            net,
-            listener: TcpListener::bind(net, address)?,
+            connections: Connections::listen(alloc, net, address)?,
             address,
-            talk: None,
             left: CONNECTIONS,
             faults: 0,
         })
@@ -59,68 +49,13 @@ impl<'a, N: Net + Clock> TcpPort<'a, N> {
     ///
     /// The platform's.
     pub fn number(&self) -> io::Result<u16> {
-        Ok(self.listener.local_addr()?.port())
+        self.connections.number()
     }
 
-    /// Waits for the next connection, whose time starts then.
-    fn next_talk(&self) -> io::Result<Paced<'a, N::Stream, N>>
-        ensures { IfOk result (λ talk. StartsBy of_request talk.window) }
-    {
-        let stream = next_connection(&self.listener, self.net)?;
-        Paced::start_request(stream, self.net)
+    /// Takes no connection more, sends what is left of the answers, and lets their peers end.
+    pub fn finish(self) {
+        self.connections.finish();
     }
-
-    /// Waits for the next connection, and reads its frame.
-    fn accept(&self) -> io::Result<(Paced<'a, N::Stream, N>, Vec<u8>)> {
-        let mut talk = self.next_talk()?;
-        match read_frame(self.alloc, &mut talk) {
-            Ok(frame) => Ok((talk, frame)),
-            Err(error) => {
-                drop(talk);
-                Err(error)
-            }
-        }
-    }
-}
-
-/// Sends the frame over the connection, where there is one, and closes it.
-fn reply<S: Read + Write + OpenStream + Drop, C: Clock>(
-    talk: Option<Paced<'_, S, C>>,
-    frame: &[u8],
-) -> io::Result<()>
-    ensures { talk.entry ≡ None → IsErr result }
-{
-    let Some(mut talk) = talk else {
-        return Err(io::Error::from(ErrorKind::NotConnected));
-    };
-    match send(&mut talk, frame) {
-        Ok(()) => {
-            let _parted = part(talk);
-            Ok(())
-        }
-        Err(error) => {
-            drop(talk);
-            Err(error)
-        }
-    }
-}
-
-/// Sends the frame. The time before, in which its own node worked, is not the peer's.
-fn send<S: Read + Write + OpenStream + Drop, C: Clock>(
-    talk: &mut Paced<'_, S, C>,
-    frame: &[u8],
-) -> io::Result<()>
-    ensures { OnOk result (Appends (S.contents talk.old.stream) (S.contents talk.new.stream) frame.now) }
-{
-    talk.restart()?;
-    talk.write_all(frame)
-}
-
-/// Reads what the peer still sends until it closes, or for a moment, since a connection that is closed before may lose its
-/// answer.
-fn part<S: Read + Write + OpenStream + Drop, C: Clock>(talk: Paced<'_, S, C>) -> io::Result<u64> {
-    let rest = talk.part()?;
-    io::copy(&mut rest.take(MAX_FRAME as u64), &mut io::sink())
 }
 
 /// What came of a connection, where a failure is counted. Want of memory for a frame ends its connection alone.
@@ -151,10 +86,8 @@ impl<'a, N: Net + Clock> Port for TcpPort<'a, N> {
             return Ok(None);
         }
         self.left -= 1;
-        self.talk = None;
-        let came = self.accept();
-        let (talk, frame) = counted(came, &mut self.faults)?;
-        self.talk = Some(talk);
+        let came = self.connections.take();
+        let frame = counted(came, &mut self.faults)?;
         Ok(Some(frame))
     }
 
@@ -163,7 +96,7 @@ impl<'a, N: Net + Clock> Port for TcpPort<'a, N> {
         ensures talks { Told None None (AnswersLast frame.now result) }
         ensures cause { CountsFault PortError.Failed self.old.faults self.new.faults result }
     {
-        let sent = reply(self.talk.take(), frame);
+        let sent = self.connections.answer(frame);
         counted(sent, &mut self.faults)
     }
 }

@@ -1,45 +1,63 @@
 // The standard streams as a source and a sink.
-ghost use Rattle.std.specs.Prelude.{◌≡◌, ◌<◌, ◌≤◌, ℕ, List, None, length, IfOk};
+ghost use Rattle.std.specs.Prelude.{◌≡◌, ◌<◌, ◌≤◌, ◌↔◌, ℕ, List, None, length, IfOk};
 ghost use Rattle.std.specs.Io.KnownBytes.{ReadConsumes, WriteAppends};
 ghost use Rattle.outside.specs.Outside.{Told, Reads, Writes, CountsFault};
 
-use crate::faults::count_fault;
+use crate::trouble::{Trouble, Troubles};
 use outside::{Failed, Sink, SinkError, Source};
-use std::io::{Read, Write};
+use std::io::{self, ErrorKind, Read, Write};
+
+/// What the streams are called.
+const INPUT: &str = "standard input";
+
+const OUTPUT: &str = "standard output";
 
 /// A reader, as standard input. It gives the bytes that the reader gives, and ends where the reader ends.
 #[derive(Drop)]
 pub struct StdSource<R: Read + Drop> {
     reader: R,
-    faults: u64,
+    troubles: Troubles,
 }
 
 impl<R: Read + Drop> StdSource<R> {
     /// The bytes that the reader gives.
     pub fn new(reader: R) -> StdSource<R>
-        ensures { result.faults ≡ 0 }
+        ensures { result.troubles.count ≡ 0 }
     {
-        StdSource { reader, faults: 0 }
+        StdSource {
+            reader,
+            troubles: Troubles::none(),
+        }
+    }
+
+    /// What failed last; none where no call has failed.
+    pub fn trouble(&self) -> Option<&Trouble>
+        ensures { (result ≡ None) ↔ (self.now.troubles.count ≡ 0) }
+    {
+        self.troubles.last()
     }
 }
 
 impl<R: Read + Drop> Source for StdSource<R> {
     ghost left = { λ _. None };
 
-    ghost faults = { λ s. s.faults };
+    ghost faults = { λ s. s.troubles.count };
 
     fn read(&mut self, buf: &mut [u8]) -> Result<usize, Failed>
         requires { 0 < length buf.old }
         ensures within { IfOk result (λ count. count ≤ length buf.old) }
         ensures bytes { Told {A = List ℕ} None None (λ old new. Reads old new buf.new result) }
-        ensures cause { CountsFault (record {}) self.old.faults self.new.faults result }
+        ensures cause { CountsFault (record {}) self.old.troubles.count self.new.troubles.count result }
 
         ensures reader { ReadConsumes (R.remaining self.old.reader) (R.remaining self.new.reader) result buf.new }
     {
         match self.reader.read(buf) {
             Ok(count) => Ok(count),
-            Err(_) => {
-                count_fault(&mut self.faults);
+            Err(error) => {
+                self.troubles.count(Trouble::OfStream {
+                    stream: INPUT,
+                    error,
+                });
                 Err(Failed)
             }
         }
@@ -50,38 +68,51 @@ impl<R: Read + Drop> Source for StdSource<R> {
 #[derive(Drop)]
 pub struct StdSink<W: Write + Drop> {
     writer: W,
-    faults: u64,
+    troubles: Troubles,
 }
 
 impl<W: Write + Drop> StdSink<W> {
     /// What is written goes to the writer.
     pub fn new(writer: W) -> StdSink<W>
-        ensures { result.faults ≡ 0 }
+        ensures { result.troubles.count ≡ 0 }
     {
-        StdSink { writer, faults: 0 }
+        StdSink {
+            writer,
+            troubles: Troubles::none(),
+        }
+    }
+
+    /// What failed last; none where no call has failed.
+    pub fn trouble(&self) -> Option<&Trouble>
+        ensures { (result ≡ None) ↔ (self.now.troubles.count ≡ 0) }
+    {
+        self.troubles.last()
     }
 }
 
 impl<W: Write + Drop> Sink for StdSink<W> {
     ghost written = { λ _. None };
 
-    ghost faults = { λ s. s.faults };
+    ghost faults = { λ s. s.troubles.count };
 
     /// A write that takes nothing is a fault, too.
     fn write(&mut self, piece: &[u8]) -> Result<usize, SinkError>
         requires { 0 < length piece.now }
         ensures within { IfOk result (λ count. (0 < count) × (count ≤ length piece.now)) }
         ensures bytes { Told {A = List ℕ} None None (λ old new. Writes old new piece.now result) }
-        ensures cause { CountsFault SinkError.Failed self.old.faults self.new.faults result }
+        ensures cause { CountsFault SinkError.Failed self.old.troubles.count self.new.troubles.count result }
 
         ensures writer { WriteAppends (W.contents self.old.writer) (W.contents self.new.writer) result piece.now }
     {
-        match self.writer.write(piece) {
-            Ok(count) if count > 0 => Ok(count),
-            _ => {
-                count_fault(&mut self.faults);
-                Err(SinkError::Failed)
-            }
-        }
+        let error = match self.writer.write(piece) {
+            Ok(count) if count > 0 => return Ok(count),
+            Ok(_) => io::Error::from(ErrorKind::WriteZero),
+            Err(error) => error,
+        };
+        self.troubles.count(Trouble::OfStream {
+            stream: OUTPUT,
+            error,
+        });
+        Err(SinkError::Failed)
     }
 }

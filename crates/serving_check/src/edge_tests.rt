@@ -7,6 +7,7 @@ ghost use Rattle.wire_frames.specs.Frame.{Spells};
 use outside::{Port, PortError};
 use real_edge::{TcpLink, TcpPort};
 use std::alloc::{AllocError, Global};
+use std::cell::Cell;
 use std::io::{self, ErrorKind, Read, Write};
 use std::net::{
     IpAddr, Ipv4Addr, Net, OpenListener, OpenStream, Shutdown, SocketAddr, TcpListener,
@@ -22,18 +23,25 @@ const SENT: &[u8] = &[
     0, 0, 0, 23, 1, 21, 1, 0, 0, 0, 0, 0, 0, 0, 1, 0, 0, 0, 0, 0, 0, 0, 0, 0, 0, 0, 0,
 ];
 
+/// Linux's number of a connection that was broken off before it was taken.
+const LOST: i32 = 103;
+
 /// How many bytes the pull has.
 const PULL_BYTES: usize = 15;
 
-/// A peer that takes so many bytes, and no more, and gives what it sends.
+/// A peer that takes so many bytes, and no more, and gives what it sends. Behind that it ends, or is silent.
 #[derive(Drop)]
 struct Other {
     room: usize,
     gives: &'static [u8],
+    is_silent: bool,
 }
 
 impl Read for Other {
     fn read(&mut self, buf: &mut [u8]) -> io::Result<usize> {
+        if self.gives.is_empty() && self.is_silent {
+            return Err(io::Error::from(ErrorKind::WouldBlock));
+        }
         let count = self.gives.len().min(buf.len());
         buf[..count].copy_from_slice(&self.gives[..count]);
         self.gives = &self.gives[count..];
@@ -58,6 +66,10 @@ impl Write for Other {
 
 impl OpenStream for Other {
     fn shutdown(&self, _how: Shutdown) -> io::Result<()> {
+        Ok(())
+    }
+
+    fn set_nonblocking(&self, _nonblocking: bool) -> io::Result<()> {
         Ok(())
     }
 
@@ -106,6 +118,7 @@ impl Net for Others {
         Ok(Other {
             room: self.room,
             gives: SENT,
+            is_silent: false,
         })
     }
 
@@ -124,8 +137,13 @@ impl OpenListener for Others {
         let other = Other {
             room: self.room,
             gives: SENT,
+            is_silent: false,
         };
         Ok((other, address_of(4)))
+    }
+
+    fn set_nonblocking(&self, _nonblocking: bool) -> io::Result<()> {
+        Ok(())
     }
 }
 
@@ -170,6 +188,95 @@ fn an_answer_that_is_not_taken_whole_is_a_fault(rt: HostRuntime) -> Result<(), F
     let fault = Err(PortError::Failed);
     assert!(rt; answered(&rt, SENT.len())? == (true, (Ok(()), fault)));
     assert!(rt; answered(&rt, SENT.len() - 1)? == (true, (fault, fault)));
+    Ok(())
+}
+
+/// A listener to which come, one after the other, a connection that is lost before it is taken, a peer that sends nothing, and one
+/// that sends a frame.
+#[derive(Drop)]
+struct Door {
+    came: Cell<u8>,
+}
+
+impl OpenListener for Door {
+    type Stream = Other;
+
+    fn accept(&self) -> io::Result<(Other, SocketAddr)> {
+        let number = self.came.get();
+        self.came.set(number.saturating_add(1));
+        let gives = match number {
+            0 => return Err(io::Error::from_raw_os_error(LOST)),
+            1 => &[],
+            2 => SENT,
+            _ => return Err(io::Error::from(ErrorKind::WouldBlock)),
+        };
+        let other = Other {
+            room: 0,
+            gives,
+            is_silent: true,
+        };
+        Ok((other, address_of(number)))
+    }
+
+    fn set_nonblocking(&self, _nonblocking: bool) -> io::Result<()> {
+        Ok(())
+    }
+}
+
+impl AsRawFd for Door {
+    fn as_raw_fd(&self) -> RawFd {
+        -1
+    }
+}
+
+/// A network with such a listener.
+struct Town;
+
+impl Net for Town {
+    type Stream = Other;
+
+    type Listener = Door;
+
+    fn bind(&self, _address: SocketAddr) -> io::Result<Door> {
+        Ok(Door { came: Cell::new(0) })
+    }
+
+    fn connect(&self, _address: SocketAddr) -> io::Result<Other> {
+        Err(io::Error::from(ErrorKind::Unsupported))
+    }
+
+    fn connect_timeout(&self, _address: SocketAddr, _wait: Duration) -> io::Result<Other> {
+        Err(io::Error::from(ErrorKind::Unsupported))
+    }
+
+    fn lookup_host(&self, _host: &str, _port: u16, _found: &mut [SocketAddr]) -> io::Result<usize> {
+        Err(io::Error::from(ErrorKind::Unsupported))
+    }
+}
+
+impl Clock for Town {
+    fn monotonic(&self) -> io::Result<Duration> {
+        Ok(Duration::from_secs(1))
+    }
+
+    fn since_1970(&self) -> io::Result<Duration> {
+        Ok(Duration::from_secs(1))
+    }
+}
+
+/// Whether the first frame that is taken is the one that comes.
+fn is_taken(alloc: Global) -> Result<bool, Fail> {
+    let mut port = TcpPort::bind(alloc, &Town, "127.0.0.1:7001")?;
+    let taken = port.take();
+    drop(port);
+    let is_taken = matches!(&taken, Ok(Some(frame)) if frame.as_slice() == SENT);
+    drop(taken);
+    Ok(is_taken)
+}
+
+#[test]
+fn a_lost_connection_and_a_silent_peer_hold_nothing_up(rt: HostRuntime) -> Result<(), Fail> {
+    assert!(rt; is_taken(rt.alloc())?);
     Ok(())
 }
 

@@ -4,8 +4,14 @@
 #[cfg(test)]
 mod edge_tests;
 #[cfg(test)]
+mod keeper_tests;
+#[cfg(test)]
+mod link_tests;
+#[cfg(test)]
 mod probe;
 #[cfg(test)]
 mod server_tests;
 #[cfg(test)]
 mod surrogate_tests;
+#[cfg(test)]
+mod telling_tests;

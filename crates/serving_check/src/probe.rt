@@ -3,7 +3,6 @@
 use outside::{MemPort, MemSink};
 use program_words::{Pages, page_shown};
 use std::alloc::{AllocError, Global};
-use std::rt::HostRuntime;
 
 /// Words of these texts.
 pub fn words(alloc: Global, texts: &[&str]) -> Result<Vec<String>, AllocError> {
@@ -24,18 +23,11 @@ pub fn port_of(alloc: Global, frames: &[&[u8]], fails: &[u32]) -> Result<MemPort
     Ok(MemPort::new(alloc, held, fails))
 }
 
-/// Whether the program of this name shows a page that begins so, where this is its only word.
-pub fn shows(
-    rt: &HostRuntime,
-    name: &str,
-    pages: &Pages,
-    word: &str,
-    head: &str,
-) -> Result<bool, AllocError> {
-    let alloc = rt.alloc();
+/// Whether a program with these pages shows one that begins so, where this is its only word.
+pub fn shows(alloc: Global, pages: &Pages, word: &str, head: &str) -> Result<bool, AllocError> {
     let words = words(alloc, &[word])?;
     let mut output = MemSink::new(alloc, Vec::new(alloc));
-    let is_shown = page_shown(rt, name, pages, &words, &mut output).is_some();
+    let is_shown = page_shown(pages, &words, &mut output).is_some();
     drop(words);
     let begins = output.bytes().starts_with(head.as_bytes());
     drop(output);

@@ -9,7 +9,7 @@ use cmd_capture::{Outcome, RawRow, RawRows, ScriptAnswer, ScriptRunner};
 use outside::{MemPort, MemSink};
 use std::alloc::{AllocError, Global};
 use std::test::Fail;
-use surrogate_prog::{NAME, PAGES, surrogate_run};
+use surrogate_prog::{PAGES, surrogate_run};
 use vol_tree::{Content, Node};
 use wire_frames::{Message, read, write};
 use world_rules::{Link, LinkError, Peer};
@@ -309,10 +309,17 @@ fn other_words_touch_nothing(rt: HostRuntime) -> Result<(), Fail> {
     Ok(())
 }
 
+/// What the surrogate says of its version.
+const VERSION: &str = "\
+surrogate 0.1.0
+frames: version 1
+kit: rattle-kit-13f logic dac8208d650f15bf
+";
+
 #[test]
 fn each_page_has_its_text(rt: HostRuntime) -> Result<(), Fail> {
     let help = "Usage: surrogate run LISTEN SERVER WORK COUNT\n";
-    assert!(rt; shows(&rt, NAME, &PAGES, "--help", help)?);
-    assert!(rt; shows(&rt, NAME, &PAGES, "--version", "surrogate 0.1.0\n")?);
+    assert!(rt; shows(rt.alloc(), &PAGES, "--help", help)?);
+    assert!(rt; shows(rt.alloc(), &PAGES, "--version", VERSION)?);
     Ok(())
 }

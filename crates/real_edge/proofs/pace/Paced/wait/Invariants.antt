@@ -1,5 +1,5 @@
 use Rattle.std.specs.Prelude.{◌≡◌}
-use Rattle.real_edge.specs.Pace.{waiting, StartsBy}
+use Rattle.paced_talks.specs.Window.{waiting, StartsBy}
 use Rattle.real_edge.proofs.pace.Paced.wait.Given as goal
 
 abbrev pub invariant-loop : goal.invariant-loop

@@ -1,5 +1,5 @@
 use Rattle.std.specs.Io.KnownBytes.{Keeps}
-use Rattle.real_edge.specs.Pace.{LeadsOn}
+use Rattle.paced_talks.specs.Window.{LeadsOn}
 use Rattle.real_edge.proofs.pace.PacedWrite.write.Given as goal
 
 abbrev pub invariant-loop : goal.invariant-loop
