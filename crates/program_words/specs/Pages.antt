@@ -2,7 +2,6 @@
 use Rattle.std.specs.Prelude.{◌≡◌, ◌≤◌, ◌⊎◌, ℕ, List, [], ◌∷◌, length, take, Option, None, Some, if◌then◌else◌, codes}
 use Rattle.std.specs.Str.{bytes_eq}
 use Rattle.outside.specs.Outside.{Adds}
-use Rattle.program_words.specs.Status.{code}
 use Rattle.program_words.specs.declared.pages.Page.{Page}
 use Rattle.program_words.specs.declared.pages.Page.TheVariants.{Help, Version}
 use Rattle.program_words.specs.declared.pages.Pages.{Pages}
@@ -28,7 +27,3 @@ abbrev pub Shows : Status → List ℕ → Option (List ℕ) → Option (List �
 Shows Done text old new = Adds old new text
 Shows status text old new =
     ((status ≡ SinkFailed) ⊎ (status ≡ NoMemory)) × ((count : ℕ) × (count ≤ length text) × Adds old new (take count text))
-
--- the page was shown, and the program ended with how that went
-abbrev pub ShowsPage : Pages → Page → ℕ → Option (List ℕ) → Option (List ℕ) → Type 0
-ShowsPage pages page exit old new = (status : Status) × (exit ≡ code status) × Shows status (page_text pages page) old new

@@ -33,3 +33,15 @@ pub fn checked_words(given: io::Result<Vec<String>>) -> Result<Vec<String>, Stat
         Err(_) => Err(Status::NoForm),
     }
 }
+
+/// The variable by which a program is told to log, and what it has to be.
+const LOG: (&str, &str) = ("HAURPIKO_LOG", "1");
+
+/// Whether the environment asks for a line about each request.
+pub fn is_logged<R: Env + AllocGlobal>(rt: &R) -> bool {
+    let (name, yes) = LOG;
+    match env::var(rt, name) {
+        Ok(value) => value.as_str() == yes,
+        Err(_) => false,
+    }
+}

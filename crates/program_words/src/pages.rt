@@ -1,14 +1,12 @@
 // The pages that words may ask for.
 ghost use Rattle.std.specs.Prelude.{◌≡◌, ◌⊎◌, ◌↔◌, None, IfSome, map};
 ghost use Rattle.std.specs.String.{string_bytes};
-ghost use Rattle.std.specs.Process.{exit_status};
 ghost use Rattle.outside.specs.Outside.{RisesWhere};
 ghost use Rattle.program_words.specs.Status.{code};
-ghost use Rattle.program_words.specs.Pages.{page_of, page_asked, page_text, Shows, ShowsPage};
+ghost use Rattle.program_words.specs.Pages.{page_of, page_asked, page_text, Shows};
 
-use crate::{Status, end};
+use crate::Status;
 use outside::{Sink, SinkError, write_all};
-use std::process::ExitCode;
 
 /// A text about a program that its words may ask for.
 #[derive(Clone, Copy, Debug, PartialEq, Eq)]
@@ -71,27 +69,17 @@ pub fn show<O: Sink>(output: &mut O, text: &str) -> Status
     }
 }
 
-/// Shows the page that the words ask for, and ends the program; `None` where they ask for none.
-pub fn page_shown<R: Eprint, O: Sink>(
-    rt: &R,
-    program: &str,
-    pages: &Pages,
-    words: &[String],
-    output: &mut O,
-) -> Option<ExitCode>
+/// Shows the page that the words ask for, and says how that ended; `None` where they ask for none.
+pub fn page_shown<O: Sink>(pages: &Pages, words: &[String], output: &mut O) -> Option<Status>
     ensures asked { result ≡ None ↔ page_asked (map string_bytes words.now) ≡ None }
-    ensures shows { IfSome result
-        (λ exit. IfSome (page_asked (map string_bytes words.now))
-        (λ page. ShowsPage pages.now page (exit_status exit) (O.written output.old) (O.written output.new))) }
-    ensures known { IfSome result (λ exit. (exit_status exit ≡ 0) ⊎ ((exit_status exit ≡ 4) ⊎ (exit_status exit ≡ 7))) }
-    ensures cause { IfSome result (λ exit. RisesWhere (exit_status exit ≡ 4) (O.faults output.old) (O.faults output.new)) }
+    ensures shows { IfSome result (λ status. IfSome (page_asked (map string_bytes words.now))
+        (λ page. Shows status (page_text pages.now page) (O.written output.old) (O.written output.new))) }
+    ensures known { IfSome result (λ status. (code status ≡ 0) ⊎ ((code status ≡ 4) ⊎ (code status ≡ 7))) }
+    ensures cause { IfSome result (λ status. RisesWhere (code status ≡ 4) (O.faults output.old) (O.faults output.new)) }
     ensures untouched { result ≡ None → (O.written output.new ≡ O.written output.old) × (O.faults output.new ≡ O.faults output.old) }
 {
     match page_asked(words) {
-        Some(page) => {
-            let status = show(output, pages.text(page));
-            Some(end(rt, program, status.code()))
-        }
+        Some(page) => Some(show(output, pages.text(page))),
         None => None,
     }
 }

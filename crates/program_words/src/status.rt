@@ -1,4 +1,4 @@
-ghost use Rattle.std.specs.Prelude.{◌≡◌};
+ghost use Rattle.std.specs.Prelude.{◌≡◌, ◌<◌, MatchOption};
 ghost use Rattle.program_words.specs.Status.{code};
 
 /// How a program ended.
@@ -25,6 +25,24 @@ pub enum Status {
 }
 
 impl Status {
+    /// The status for which a number stands.
+    pub fn of(number: u8) -> Option<Status>
+        ensures { MatchOption result (code Status.TooLong < number) (λ status. code status ≡ number) }
+    {
+        match number {
+            0 => Some(Status::Done),
+            1 => Some(Status::CannotListen),
+            2 => Some(Status::NoForm),
+            3 => Some(Status::SourceFailed),
+            4 => Some(Status::SinkFailed),
+            5 => Some(Status::KeeperFailed),
+            6 => Some(Status::OtherImage),
+            7 => Some(Status::NoMemory),
+            8 => Some(Status::TooLong),
+            _ => None,
+        }
+    }
+
     /// The number that stands for it.
     pub fn code(self) -> u8
         ensures { result ≡ code self }
@@ -39,6 +57,21 @@ impl Status {
             Status::OtherImage => 6,
             Status::NoMemory => 7,
             Status::TooLong => 8,
+        }
+    }
+
+    /// Why a program ends with it, where it is the same in every program and run.
+    pub fn reason(self) -> Option<&'static str> {
+        match self {
+            Status::NoForm => Some("see --help"),
+            Status::NoMemory => Some("memory ran out"),
+            Status::Done
+            | Status::CannotListen
+            | Status::SourceFailed
+            | Status::SinkFailed
+            | Status::KeeperFailed
+            | Status::OtherImage
+            | Status::TooLong => None,
         }
     }
 }
