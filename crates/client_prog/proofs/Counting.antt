@@ -52,7 +52,7 @@ not_keeper sinks.Memory is = absurd (cc (is))
 
 -- ---- what a count says of a status
 
-other_status : (n p q : ℕ) (status : ℕ) → (status ≡ n → ⊥) → q ≡ p → RisesWhere (status ≡ n) p q
+pub other_status : (n p q : ℕ) (status : ℕ) → (status ≡ n → ⊥) → q ≡ p → RisesWhere (status ≡ n) p q
 other_status n p q status other same = record { later = omega (arith, same); once = λ is. absurd (other is); never = λ no. same }
 
 pub sink_status : (p q status : ℕ) (ended : Result InputEnd Stop) → status ≡ status_of ended → CountsFault stops.Sink p q ended → RisesWhere (status ≡ 4) p q
@@ -102,3 +102,9 @@ rises p q counts so = let up : q ≡ raised 1 p = counts.once so in omega (arith
 
 pub rose : {T E : Type 0} (f : E) (p q : ℕ) (r : Result T E) → CountsFault f p q r → r ≡ Err f → Rose p q
 rose f p q r counts is = let up : q ≡ raised 1 p = counts.once is in omega (arith, up)
+
+-- no fault of the keeper is counted where what is kept is no client's
+pub same_at_six : {T : Type 0} (p q status : ℕ) (u : Unopened) → status ≡ status_unopened u → CountsFault {T = T} Keeper p q (Err u) → status ≡ 6 → q ≡ p
+same_at_six p q status Keeper is counts six = absurd (omega (arith, is, six))
+same_at_six p q status Image is counts six = counts.never (λ is. absurd (cc (is)))
+same_at_six p q status Memory is counts six = absurd (omega (arith, is, six))

@@ -12,3 +12,4 @@ pub mod RunningOpened
 pub mod RunningPeers
 pub mod RunningPieces
 pub mod RunningRecords
+pub mod Completing

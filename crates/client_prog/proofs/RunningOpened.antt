@@ -23,6 +23,10 @@ use Rattle.client_prog.specs.Opening.{status_unopened}
 use Rattle.client_prog.specs.Run.{status_of, route_of, IsInputRead}
 use Rattle.client_prog.specs.InsideRun.{NotesChanges, WentNoting, RunAnswers}
 use Rattle.client_prog.specs.Headline.{Around, Ran, RanFromSome}
+use Rattle.client_prog.specs.Ending.{Faults, SessionEnds}
+use Rattle.client_prog.proofs.Counting.{other_status}
+use Rattle.client_core.specs.declared.route.Route.{Route}
+use Rattle.std.proofs.Math.Nat.{le_refl}
 use Rattle.client_prog.proofs.RunningEnds.{EndsWell}
 use Rattle.client_prog.proofs.RunningLeaves.{RunRecords, ran, nothing_ran}
 use Rattle.client_prog.proofs.RunningRecords.{notes_recorded}
@@ -46,6 +50,19 @@ not_six (Ok TooLong) status is six = omega (arith, is, six)
 not_six (Err stops.Sink) status is six = omega (arith, is, six)
 not_six (Err stops.Keeper) status is six = omega (arith, is, six)
 not_six (Err stops.Memory) status is six = omega (arith, is, six)
+
+pub not_two : (ended : Result InputEnd Stop) (status : ℕ) → status ≡ status_of ended → status ≡ 2 → ⊥
+not_two (Ok Read) status is two = omega (arith, is, two)
+not_two (Ok Failed) status is two = omega (arith, is, two)
+not_two (Ok TooLong) status is two = omega (arith, is, two)
+not_two (Err stops.Sink) status is two = omega (arith, is, two)
+not_two (Err stops.Keeper) status is two = omega (arith, is, two)
+not_two (Err stops.Memory) status is two = omega (arith, is, two)
+
+pub unopened_not_two : (u : Unopened) (status : ℕ) → status ≡ status_unopened u → status ≡ 2 → ⊥
+unopened_not_two Keeper status is two = omega (arith, is, two)
+unopened_not_two Image status is two = omega (arith, is, two)
+unopened_not_two Memory status is two = omega (arith, is, two)
 
 pub image_is : (u : Unopened) (status : ℕ) → status ≡ status_unopened u → status ≡ 6 → u ≡ Image
 image_is Keeper status is six = absurd (omega (arith, is, six))
@@ -167,6 +184,30 @@ unopened_well run u i None a b c d e f status is rose image = tt
 unopened_well run Keeper i (Some l) a b c d e f status is rose image = λ start told short calm quiet sound. absurd (sound (rose refl))
 unopened_well run Image i (Some l) a b c d e f status is rose image = λ start told short calm quiet sound. absurd (image refl start told)
 unopened_well run Memory i (Some l) a b c d e f status is rose image = λ start told short calm quiet sound. inr is
+
+-- ---- memory was wanted for the route
+
+-- what the words of a session say whose number and route are these
+abbrev pub named : ℕ → Route → Invocation
+named number route = record { client = number; image = route.image; server = route.server; surrogate = route.surrogate; work = route.work }
+
+pub wanted_ends : (run : Invocation) (i : Option Images) (left o : Option (List ℕ)) (t : Telling) (faults : Faults) → SessionEnds run.client (route_of run) 7 (around left o i t) (around left o i t) faults faults
+wanted_ends run i left o t faults = record {
+  known = refl;
+  formed = λ two. omega (arith, two);
+  unopened = λ six. (refl, refl);
+  image = λ six. absurd (omega (arith, six));
+  no_image = λ none. inr (inr refl);
+  later = le_refl t.link.troubles;
+  runner_later = le_refl t.runner.faults;
+  source = other_status 3 faults.source faults.source 7 (λ is. omega (arith, is)) refl;
+  sink = other_status 4 faults.sink faults.sink 7 (λ is. omega (arith, is)) refl;
+  keeper = other_status 5 faults.keeper faults.keeper 7 (λ is. omega (arith, is)) refl;
+  input = none_read Memory 7 left refl;
+  complete = wanted_well run i left faults.source faults.source faults.sink faults.sink faults.keeper faults.keeper;
+  begun = wanted_some run i left o t;
+  session = wanted_ran run i left o t;
+}
 
 -- ---- opening
 

@@ -43,7 +43,7 @@ pub record Leaves (client : ℕ) (start log kept : Log) (entries : List Entry) (
   -- what is kept and the world fit together, so that the next run may begin here; and so does the log in memory
   pub in_step : InStep client kept new
   pub in_memory : InStep client log new
-  -- the server's last entry is not before the acknowledged one, at most one behind it, and none that is not kept
+  -- the server's last entry is not before the acknowledged one, at most one more than it, and none that is not kept
   pub not_lower : kept.acked ≤ last_taken client new
   pub not_higher : last_taken client new ≤ kept.acked + 1
   pub within : last_taken client new ≤ kept.acked + length kept.pending
@@ -52,11 +52,11 @@ pub record Leaves (client : ℕ) (start log kept : Log) (entries : List Entry) (
   -- of the client's entries the server took those after the last that it had, up to that one, in order and each once
   pub once : own client taken ≡ entries_between client start.acked (last_taken client old) (last_taken client new)
       (start.pending ++ entries)
-  -- at each path whose version was that of the client's tree when the run began, and that no other client wrote in it, the server
-  -- holds what the kept tree was after that entry: the node, and the version, which counts the writes
+  -- at each path whose version was, when the run began, that of the client's tree after its last taken entry, and that no other client
+  -- wrote in it, the server holds what the kept tree was after that entry: the node, and the version, which counts the writes
   pub spared : (path : FilePath) → version_at old.served.volume path ≡ version_at (tree_at (last_taken client old) start) path
       → OthersSpare client path taken → IsSameAt client kept new path
-  -- where nobody else wrote, the server holds that tree
+  -- where the server held the client's tree after its last taken entry, and nobody else wrote, it holds the kept tree after that entry
   pub alone : old.served.volume ≡ tree_at (last_taken client old) start → AreAllOf client taken
       → new.served.volume ≡ tree_at (last_taken client new) kept
 
@@ -93,7 +93,8 @@ pub record WorldRan (client : ℕ) (route : Route) (start last kept : Log) (trac
   -- and none meets older rows, where the link had no trouble
   pub fresh : InStep client start old → HasNoCollision client (start.pending ++ trace.entries) new.packets → (Rose troubles now → ⊥)
       → (path : FilePath) (theirs ours : ℕ) → IsIn (Some (Older path theirs ours)) answers → ⊥
-  -- where the client's tree was served, nobody else wrote, and the link had no trouble, every sync came through
+  -- where the client's tree after its last taken entry was served, nobody else wrote, and the link had no trouble, every sync came
+  -- through
   pub calm : (begun : InStep client start old) (distinct : HasNoCollision client (start.pending ++ trace.entries) new.packets)
       → old.served.volume ≡ tree_at (last_taken client old) start → AreAllOf client (leaves begun distinct).taken
       → (Rose troubles now → ⊥) → (answer : Option LineAnswer) → IsIn answer answers → LeavesPending answer → ⊥

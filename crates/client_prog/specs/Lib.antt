@@ -9,3 +9,5 @@ pub mod Laws
 pub mod Opening
 pub mod Run
 pub mod Words
+pub mod Ending
+pub mod Completing

@@ -1,5 +1,6 @@
 ghost use Rattle.client_prog.specs.Composing.{RunsCompose, StoresNeverCollide, MovesLeave};
 ghost use Rattle.client_prog.specs.Contents.{DistinctContentsNeverCollide, DistinctContentsLeave};
+ghost use Rattle.client_prog.specs.Completing.{LastSyncsComplete};
 ghost use Rattle.client_prog.specs.Laws.{QuitIsTheLast, AllCountWithoutQuit};
 
 /// Law: the lines of a session end with the first that quits, and all of them count where none does.
@@ -21,4 +22,10 @@ pub fn runs_compose()
 pub fn distinct_contents_leave()
     ensures apart { DistinctContentsNeverCollide }
     ensures leaves { DistinctContentsLeave }
+{}
+
+/// Law: where the client's tree was served at first, nobody else wrote, no content that was sent is taken for another, and the last
+/// eight asks did not fail, nothing is pending behind a sync that is the last line.
+pub fn last_syncs_complete()
+    ensures { LastSyncsComplete }
 {}

@@ -1,27 +1,21 @@
 // The program: the client over the standard streams and TCP.
-ghost use Rattle.std.specs.Prelude.{◌≡◌, ◌↔◌, None, IsTrue, map, ◌⊎◌, ◌≤◌, IfSome, length};
+ghost use Rattle.std.specs.Prelude.{◌≡◌, ◌↔◌, None, IsTrue, map};
 ghost use Rattle.std.specs.String.{string_bytes};
-ghost use Rattle.outside.specs.Outside.{Told, RisesWhere, Rose};
-ghost use Rattle.mod_log.specs.Log.{Log};
-ghost use Rattle.client_core.specs.Keeping.{TellsKept, IsKeptOfNone};
-ghost use Rattle.cmd_capture.specs.Runs.{telling};
-ghost use Rattle.client_prog.specs.Words.{run_of};
-ghost use Rattle.client_prog.specs.Run.{is_status, route_of, IsInputRead};
-ghost use Rattle.client_prog.specs.Headline.{Ran, RanFromSome};
 ghost use Rattle.std.specs.Process.{exit_status};
 ghost use Rattle.program_words.specs.Pages.{page_asked};
-ghost use Rattle.client_prog.specs.declared.input.TheConstants.{MAX_INPUT};
+ghost use Rattle.client_prog.specs.Words.{run_of};
+ghost use Rattle.client_prog.specs.Run.{is_status};
 
+use crate::reasons::{Failures, Troubled, end_shown, end_told};
 use crate::run::client_run;
 use crate::words::run_words;
 use child_runner::ChildRunner;
 use cmd_capture::Runner;
-use outside::{Keeper, Sink, Source};
-use program_words::{Pages, checked_words, end, given_words, page_shown};
-use real_edge::{FileKeeper, StdSink, StdSource, TcpLink};
-use std::alloc::Global;
+use outside::{Sink, Source};
+use program_words::{Pages, checked_words, end_plainly, given_words, hold_places, page_shown};
+use real_edge::{ClientTeller, FileKeeper, Prompting, StdSink, StdSource, TcpLink, Terminals};
 use std::fs::File;
-use std::io;
+use std::io::{self, Read};
 use std::net::Net;
 use std::process::{ExitCode, Processes};
 use std::rt::{Env, Files};
@@ -59,7 +53,8 @@ Answers:
   logged N status S the program ended with S, and what it changed is entry N
   nothing logged status S
                     it ended with S, and changed nothing
-  not run           the program could not be started, fed or read: look at WORK
+  not run           it could not be started, fed or read, or a signal ended it:
+                    standard error says which, and nothing changed
   odd tree I        it left what is no tree of files, at row I; nothing changed
   clash PATH        it would touch what it was not given at PATH: add an in=PATH
   refused FAULT     nothing changed; FAULT tells what is wrong
@@ -71,23 +66,35 @@ Answers:
   unanswered N      eight tries failed: look at SERVER, and sync again later
   behind N LAST     the server has lost entries: is it on its own image?
   other last LAST   NUMBER was used with another image: take another one; or,
-                    where LAST is less than A, the server is not on its own image
+                    where LAST is less than A, the server is not on its own
+                    image
   older PATH ..     the server has lost something: is it on its own image?
 
 NUMBER is the client's number, from 1 to 64. It goes with one IMAGE, the file in
 which the client is kept from run to run; where there is none the client is new.
-Of a number that was used with another image the server drops what it had before,
-and answers 'synced': ask 'pull' first. IMAGE.new and IMAGE.lock belong to IMAGE,
-and no other program has it meanwhile. SERVER is the server's address, with a
-port. SURROGATE is the address of a surrogate, or - for none. Where there is one,
-'sync' sends it the command of a run, if that is shorter than what the run
-changed, to be run again near the server; where nothing comes of it, or something
-else, the server is sent what was changed. WORK is the folder in which programs
-run, each in a folder of its own that is removed behind it.
+Of a number that was used with another image the server drops what it had
+before, and answers 'synced': ask 'pull' first. IMAGE.new and IMAGE.lock belong
+to IMAGE, and no other program has it meanwhile. IMAGE is made for its owner
+alone, with the rights 0600; rights that you give it stay. SERVER is the
+server's address, with a port. SURROGATE is the address of a surrogate, or - for
+none. Where there is one, 'sync' sends it the command of a run, if that is
+shorter than what the run changed, to be run again near the server; where
+nothing comes of it, or something else, the server is sent what was changed.
+WORK is the folder in which programs run, each in a folder of its own that is
+removed behind it. Name the same WORK to the client and to its surrogate, on one
+machine too: a program is run in the same place then, so that what it makes is
+the same where it names that place.
+
+Standard error has what belongs to no answer: what a program prints as it runs,
+why a program was not run, which way each entry with a command went at 'sync',
+and why the client ends with a status that is not 0. Where standard error is a
+terminal, a line there shows how a sync or a pull goes on that takes longer than
+a second; it is cleared when that is over. Where standard input and output are
+terminals, too, it shows '> ' before each line.
 
 Examples:
   client run 1 client.image 127.0.0.1:7001 - work
-  client run 1 client.image 127.0.0.1:7001 127.0.0.1:7002 work
+  client run 1 client.image 127.0.0.1:7001 127.0.0.1:7002 /var/tmp/haurpiko
 
 The client ends with one of these statuses:
   0  the input was read to its end or to 'quit', and every line was answered
@@ -102,10 +109,14 @@ The client ends with one of these statuses:
 
 Options:
   --help      shows this text
-  --version   shows the version
+  --version   shows the version, the formats and the kit
 ";
 
-const VERSION: &str = "client 0.1.0\n";
+const VERSION: &str = "\
+client 0.1.0
+frames: version 1; images: written and read: version 1
+kit: rattle-kit-13f logic dac8208d650f15bf
+";
 
 /// What the words may ask for in place of a run.
 const PAGES: Pages = Pages {
@@ -114,133 +125,115 @@ const PAGES: Pages = Pages {
 };
 
 /// The program's name, as standard error tells it.
-const NAME: &str = "client";
+pub(crate) const NAME: &str = "client";
 
-/// Runs the client with the words behind the program's name, as the process with this number. Words that are no text are of no
+/// Runs the client with the words behind the program's name, whose streams are these terminals. Words that are no text are of no
 /// form.
 pub fn client_program<
     R: Input + Print + Eprint + AllocGlobal + Env + Files<File = File> + Processes + Net + Clock,
->(rt: &R, process: u32) -> ExitCode
+>(rt: &R, terminals: Terminals) -> ExitCode
     ensures { IsTrue (is_status (exit_status result)) }
 {
     match checked_words(given_words(rt)) {
-        Ok(words) => client_main(rt, process, &words),
-        Err(status) => end(rt, NAME, status.code()),
+        Ok(words) => client_main(rt, terminals, &words),
+        Err(status) => end_plainly(rt, NAME, status),
     }
 }
 
-/// Runs the client with these words over the standard streams, as the process with this number, and ends with its status. What
-/// processes that are gone left in the work folder is removed first.
+/// Runs the client with these words over the standard streams, and ends with its status. The places of standard streams that are
+/// closed are held before anything is opened. Where its streams are terminals, standard error shows a prompt, and how an ask goes on
+/// that takes long.
 ///
 /// `--help` and `--version`, as the only word, are answered on standard output. Where the status is not 0, standard
-/// error says so.
+/// error says so, and why.
 pub fn client_main<
     R: Input + Print + Eprint + AllocGlobal + Files<File = File> + Processes + Net + Clock,
->(rt: &R, process: u32, words: &[String]) -> ExitCode
+>(rt: &R, terminals: Terminals, words: &[String]) -> ExitCode
     ensures form { exit_status result ≡ 2 ↔ (page_asked (map string_bytes words.now) ≡ None)
         × (run_of (map string_bytes words.now) ≡ None) }
     ensures known { IsTrue (is_status (exit_status result)) }
 {
+    hold_places(rt);
     let mut output = StdSink::new(io::writer(rt));
-    if let Some(ended) = page_shown(rt, NAME, &PAGES, words, &mut output) {
-        return ended;
-    }
-    let mut input = StdSource::new(rt.reader());
-    let mut keeper = FileKeeper::new(rt.alloc(), rt);
-    let mut runner = ChildRunner::new(rt, process, None);
-    clear_work(&mut runner, words);
-    let mut link = TcpLink::new(rt.alloc(), rt);
-    answered(
-        rt,
-        rt.alloc(),
-        words,
-        &mut input,
-        &mut output,
-        &mut keeper,
-        &mut runner,
-        &mut link,
-    )
+    let ended = match page_shown(&PAGES, words, &mut output) {
+        Some(status) => end_shown(rt, status, &output),
+        None => run_client(rt, terminals, words, &mut output),
+    };
+    drop(output);
+    ended
 }
 
-/// Removes what processes that are gone left in the work folder of these words. Where that fails, it stays.
-fn clear_work<R: AllocGlobal + Files<File = File> + Processes + Clock>(
+/// Runs the client on its words over standard input, files, programs and TCP, and ends the program with the status of the run. What
+/// runs of programs that were killed left in the work folder is removed first.
+fn run_client<
+    R: Input + Eprint + AllocGlobal + Files<File = File> + Processes + Net + Clock,
+    O: Sink + Troubled,
+>(rt: &R, terminals: Terminals, words: &[String], output: &mut O) -> ExitCode
+    ensures form { exit_status result ≡ 2 ↔ run_of (map string_bytes words.now) ≡ None }
+    ensures known { IsTrue (is_status (exit_status result)) }
+{
+    let typed = Prompting::new(rt, rt.reader(), terminals.is_typed);
+    run_over(rt, terminals, words, typed, output)
+}
+
+/// The same over what this reader gives.
+fn run_over<
+    R: Eprint + AllocGlobal + Files<File = File> + Processes + Net + Clock,
+    I: Read + Drop,
+    O: Sink + Troubled,
+>(rt: &R, terminals: Terminals, words: &[String], reader: I, output: &mut O) -> ExitCode
+    ensures form { exit_status result ≡ 2 ↔ run_of (map string_bytes words.now) ≡ None }
+    ensures known { IsTrue (is_status (exit_status result)) }
+{
+    let mut input = StdSource::new(reader);
+    let mut runner = ChildRunner::at_client(rt, NAME);
+    clear_work(&mut runner, words);
+    let mut link = link_over(rt, terminals);
+    let ended = answered(rt, words, &mut input, output, &mut runner, &mut link);
+    drop(link);
+    drop(runner);
+    drop(input);
+    ended
+}
+
+/// A link that tells of its asks on standard error.
+fn link_over<'a, R: Eprint + AllocGlobal + Net + Clock>(
+    rt: &'a R,
+    terminals: Terminals,
+) -> TcpLink<'a, R, ClientTeller<'a, R>> {
+    let teller = ClientTeller::new(rt, NAME, terminals.is_shown);
+    TcpLink::telling(rt.alloc(), rt, teller)
+}
+
+/// Runs the client on its words over these objects and files, and ends the program with the status of the run, and why.
+fn answered<
+    R: Eprint + AllocGlobal + Files<File = File>,
+    I: Source + Troubled,
+    O: Sink + Troubled,
+    J: Runner,
+    L: Link,
+>(rt: &R, words: &[String], input: &mut I, output: &mut O, runner: &mut J, link: &mut L) -> ExitCode
+    ensures form { exit_status result ≡ 2 ↔ run_of (map string_bytes words.now) ≡ None }
+    ensures known { IsTrue (is_status (exit_status result)) }
+{
+    let mut keeper = FileKeeper::new(rt.alloc(), rt);
+    let status = client_run(rt.alloc(), words, input, output, &mut keeper, runner, link);
+    let failures = Failures {
+        input: input.trouble(),
+        output: output.trouble(),
+        keeper: keeper.trouble(),
+    };
+    let ended = end_told(rt, words, status, &failures);
+    drop(keeper);
+    ended
+}
+
+/// Removes what runs left in the work folder of these words. Where that fails, it stays.
+fn clear_work<R: AllocGlobal + Files<File = File> + Processes + Clock + Eprint>(
     runner: &mut ChildRunner<'_, R>,
     words: &[String],
 ) {
     if let Some(run) = run_words(words) {
         let _cleared = runner.clear(run.work);
     }
-}
-
-/// Runs the client on its words over these objects, and ends the program with the status of the run.
-pub fn answered<R: Eprint, I: Source, O: Sink, K: Keeper, J: Runner, L: Link>(
-    rt: &R,
-    alloc: Global,
-    words: &[String],
-    input: &mut I,
-    output: &mut O,
-    keeper: &mut K,
-    runner: &mut J,
-    link: &mut L,
-) -> ExitCode
-    ensures form { exit_status result ≡ 2 ↔ run_of (map string_bytes words.now) ≡ None }
-    ensures known { IsTrue (is_status (exit_status result)) }
-    ensures untouched { run_of (map string_bytes words.now) ≡ None → (I.left input.new ≡ I.left input.old)
-        × (I.faults input.new ≡ I.faults input.old) × (O.written output.new ≡ O.written output.old)
-        × (O.faults output.new ≡ O.faults output.old) × (K.images keeper.new ≡ K.images keeper.old)
-        × (K.faults keeper.new ≡ K.faults keeper.old) × (J.runs runner.new ≡ J.runs runner.old)
-        × (J.faults runner.new ≡ J.faults runner.old) × (L.tells link.new ≡ L.tells link.old) }
-    // what is kept of no such client is left as it is, and nothing else is touched
-    ensures unopened { exit_status result ≡ 6 → (I.left input.new ≡ I.left input.old) × (I.faults input.new ≡ I.faults input.old)
-        × (O.written output.new ≡ O.written output.old) × (O.faults output.new ≡ O.faults output.old)
-        × (K.images keeper.new ≡ K.images keeper.old) × (J.runs runner.new ≡ J.runs runner.old)
-        × (J.faults runner.new ≡ J.faults runner.old) × (L.tells link.new ≡ L.tells link.old) }
-    ensures image { IfSome (run_of (map string_bytes words.now)) (λ run. exit_status result ≡ 6 → (start : Log)
-        → TellsKept (K.images keeper.old) run.image run.client start → ⊥) }
-    ensures no_image { IfSome (run_of (map string_bytes words.now)) (λ run. IsKeptOfNone (K.images keeper.old) run.image run.client
-        → (exit_status result ≡ 5) ⊎ (exit_status result ≡ 6) ⊎ (exit_status result ≡ 7)) }
-    // no count of faults or troubles falls
-    ensures later { (L.tells link.old).troubles ≤ (L.tells link.new).troubles }
-    ensures runner_later { J.faults runner.old ≤ J.faults runner.new }
-    // the source failed once where that ended the run, and else never; and so did the sink and the keeper
-    ensures source { RisesWhere (exit_status result ≡ 3) (I.faults input.old) (I.faults input.new) }
-    ensures sink { RisesWhere (exit_status result ≡ 4) (O.faults output.old) (O.faults output.new) }
-    ensures keeper { RisesWhere (exit_status result ≡ 5) (K.faults keeper.old) (K.faults keeper.new) }
-    ensures input { Told (I.left input.old) (I.left input.new) (IsInputRead (exit_status result)) }
-    ensures complete { IfSome (run_of (map string_bytes words.now)) (λ run. IfSome (I.left input.old)
-        (λ bytes. (start : Log) → TellsKept (K.images keeper.old) run.image run.client start → length bytes ≤ MAX_INPUT
-        → (Rose (I.faults input.old) (I.faults input.new) → ⊥) → (Rose (O.faults output.old) (O.faults output.new) → ⊥)
-        → (Rose (K.faults keeper.old) (K.faults keeper.new) → ⊥) → (exit_status result ≡ 0) ⊎ (exit_status result ≡ 7))) }
-    // over any keeper: from some log that it opened, if it opened one
-    ensures begun { IfSome (run_of (map string_bytes words.now)) (λ run. RanFromSome run.client (route_of run) (record {
-      left = I.left input.old;
-      written = O.written output.old;
-      images = K.images keeper.old;
-      runner = telling (J.runs runner.old) (J.faults runner.old);
-      link = L.tells link.old;
-    }) (record {
-      left = I.left input.new;
-      written = O.written output.new;
-      images = K.images keeper.new;
-      runner = telling (J.runs runner.new) (J.faults runner.new);
-      link = L.tells link.new;
-    }) (exit_status result)) }
-    ensures session { IfSome (run_of (map string_bytes words.now)) (λ run. (start : Log)
-        → TellsKept (K.images keeper.old) run.image run.client start
-        → Ran run.client (route_of run) start (record {
-          left = I.left input.old;
-          written = O.written output.old;
-          images = K.images keeper.old;
-          runner = telling (J.runs runner.old) (J.faults runner.old);
-          link = L.tells link.old;
-        }) (record {
-          left = I.left input.new;
-          written = O.written output.new;
-          images = K.images keeper.new;
-          runner = telling (J.runs runner.new) (J.faults runner.new);
-          link = L.tells link.new;
-        }) (exit_status result)) }
-{
-    let status = client_run(alloc, words, input, output, keeper, runner, link);
-    end(rt, NAME, status)
 }

@@ -1,25 +1,22 @@
 // A run of the client over its input.
-ghost use Rattle.std.specs.Prelude.{◌≡◌, ◌≢◌, ◌⊎◌, ◌↔◌, ◌≤◌, ◌∷◌, ℕ, [], false, None, Some, Ok, Err, IfOk, OnOk, OnErr};
-ghost use Rattle.std.specs.Prelude.{IfSome, IsTrue, take, length, map};
+ghost use Rattle.std.specs.Prelude.{◌≡◌, ◌≢◌, ◌≤◌, ◌∷◌, ℕ, [], false, Ok, Err, IfOk, OnOk, OnErr, IsTrue, take, map};
 ghost use Rattle.std.specs.Option.{option_copied};
 ghost use Rattle.std.specs.String.{string_bytes};
-ghost use Rattle.outside.specs.Outside.{Told, Adds, CountsFault, RisesWhere, Rose};
-ghost use Rattle.mod_log.specs.Log.{Log};
-ghost use Rattle.client_core.specs.Keeping.{IsKeptReady, TellsKept, IsKeptOfNone};
+ghost use Rattle.outside.specs.Outside.{Adds, CountsFault, RisesWhere};
+ghost use Rattle.client_core.specs.Keeping.{IsKeptReady};
 ghost use Rattle.shell_lang.specs.Lines.{whole_lines, last_line};
 ghost use Rattle.shell_lang.specs.Commands.{read_line};
 ghost use Rattle.client_prog.specs.Input.{last_at};
-ghost use Rattle.client_prog.specs.Words.{run_of};
 ghost use Rattle.client_session.specs.Session.{IsText, state_of};
 ghost use Rattle.client_prog.specs.Opening.{status_unopened};
 ghost use Rattle.client_prog.specs.Run.{status_of, is_status, route_of, is_quit, quits, has_quit, up_to_quit, end_of};
-ghost use Rattle.client_prog.specs.Run.{closing_line, closing_at, IsInputRead};
-ghost use Rattle.client_prog.specs.Headline.{Ran, RanFromSome};
+ghost use Rattle.client_prog.specs.Run.{closing_line, closing_at};
+ghost use Rattle.client_prog.specs.Ending.{SessionEnds, ClientEnds};
 ghost use Rattle.client_session.specs.Doing.{beside};
 ghost use Rattle.cmd_capture.specs.Runs.{telling};
 ghost use Rattle.client_prog.specs.InsideRun.{WentNoting, AnswersLines, HasUnfinished, TakesInput, AnswersInput, RunAnswers};
 
-use crate::input::{InputEnd, LineReader, MAX_INPUT};
+use crate::input::{InputEnd, LineReader};
 use crate::opening::{Unopened, open};
 use crate::words::{RunWords, run_words};
 use client_core::Route;
@@ -423,59 +420,32 @@ fn address(alloc: Global, word: Option<&[u8]>) -> Result<Option<Content>, AllocE
     }
 }
 
-/// Runs the client on its words: opens what is kept of it, reads lines, answers each before it reads on, and ships what they
-/// log to the server, or, where the words name a surrogate, as an operation to that. The client is kept after each change, before
-/// the line is answered and before more is asked. Its commands are run by the runner, in the work folder of the words.
+/// Runs the session of the client of this number: opens what is kept of it, reads lines, answers each before it reads on, and ships
+/// what they log to the server, or, where the route has a surrogate, as an operation to that. The client is kept after each change,
+/// before the line is answered and before more is asked. Its commands are run by the runner, in the work folder of the route.
 /// The status that it gives:
 ///
 /// - 0: every line was answered, up to the first that quits where one does, and the output ends with
 ///   `acknowledged A pending P`;
-/// - 2: the words are of no form, and nothing was touched;
 /// - 3: the source failed; the whole lines before were answered, and none of them quits;
 /// - 4: the sink failed;
 /// - 5: the keeper failed; the last line that was handled is not answered;
 /// - 6: what is kept is no client's image, or another client's, and nothing was touched;
 /// - 7: memory ran out;
 /// - 8: the input has more than 16,777,216 bytes; the whole lines within them were answered, and none of them quits.
-pub fn client_run<I: Source, O: Sink, K: Keeper, R: Runner, L: Link>(
+pub fn session_run<I: Source, O: Sink, K: Keeper, R: Runner, L: Link>(
     alloc: Global,
-    words: &[String],
+    number: u8,
+    route: &Route,
     input: &mut I,
     output: &mut O,
     keeper: &mut K,
     runner: &mut R,
     link: &mut L,
 ) -> u8
-    ensures form { result ≡ 2 ↔ run_of (map string_bytes words.now) ≡ None }
-    ensures known { IsTrue (is_status result) }
-    ensures untouched { run_of (map string_bytes words.now) ≡ None → (I.left input.new ≡ I.left input.old)
-        × (I.faults input.new ≡ I.faults input.old) × (O.written output.new ≡ O.written output.old)
-        × (O.faults output.new ≡ O.faults output.old) × (K.images keeper.new ≡ K.images keeper.old)
-        × (K.faults keeper.new ≡ K.faults keeper.old) × (R.runs runner.new ≡ R.runs runner.old)
-        × (R.faults runner.new ≡ R.faults runner.old) × (L.tells link.new ≡ L.tells link.old) }
-    // what is kept of no such client is left as it is, and nothing else is touched
-    ensures unopened { result ≡ 6 → (I.left input.new ≡ I.left input.old) × (I.faults input.new ≡ I.faults input.old)
-        × (O.written output.new ≡ O.written output.old) × (O.faults output.new ≡ O.faults output.old)
-        × (K.images keeper.new ≡ K.images keeper.old) × (R.runs runner.new ≡ R.runs runner.old)
-        × (R.faults runner.new ≡ R.faults runner.old) × (L.tells link.new ≡ L.tells link.old) }
-    ensures image { IfSome (run_of (map string_bytes words.now)) (λ run. result ≡ 6 → (start : Log)
-        → TellsKept (K.images keeper.old) run.image run.client start → ⊥) }
-    ensures no_image { IfSome (run_of (map string_bytes words.now)) (λ run. IsKeptOfNone (K.images keeper.old) run.image run.client
-        → (result ≡ 5) ⊎ (result ≡ 6) ⊎ (result ≡ 7)) }
-    // no count of faults or troubles falls
-    ensures later { (L.tells link.old).troubles ≤ (L.tells link.new).troubles }
-    ensures runner_later { R.faults runner.old ≤ R.faults runner.new }
-    // the source failed once where that ended the run, and else never; and so did the sink and the keeper
-    ensures source { RisesWhere (result ≡ 3) (I.faults input.old) (I.faults input.new) }
-    ensures sink { RisesWhere (result ≡ 4) (O.faults output.old) (O.faults output.new) }
-    ensures keeper { RisesWhere (result ≡ 5) (K.faults keeper.old) (K.faults keeper.new) }
-    ensures input { Told (I.left input.old) (I.left input.new) (IsInputRead result) }
-    ensures complete { IfSome (run_of (map string_bytes words.now)) (λ run. IfSome (I.left input.old)
-        (λ bytes. (start : Log) → TellsKept (K.images keeper.old) run.image run.client start → length bytes ≤ MAX_INPUT
-        → (Rose (I.faults input.old) (I.faults input.new) → ⊥) → (Rose (O.faults output.old) (O.faults output.new) → ⊥)
-        → (Rose (K.faults keeper.old) (K.faults keeper.new) → ⊥) → (result ≡ 0) ⊎ (result ≡ 7))) }
-    // over any keeper: from some log that it opened, if it opened one
-    ensures begun { IfSome (run_of (map string_bytes words.now)) (λ run. RanFromSome run.client (route_of run) (record {
+    requires low { 1 ≤ number }
+    requires high { number ≤ 64 }
+    ensures { SessionEnds number route.now result (record {
       left = I.left input.old;
       written = O.written output.old;
       images = K.images keeper.old;
@@ -487,37 +457,23 @@ pub fn client_run<I: Source, O: Sink, K: Keeper, R: Runner, L: Link>(
       images = K.images keeper.new;
       runner = telling (R.runs runner.new) (R.faults runner.new);
       link = L.tells link.new;
-    }) result) }
-    ensures session { IfSome (run_of (map string_bytes words.now)) (λ run. (start : Log)
-        → TellsKept (K.images keeper.old) run.image run.client start
-        → Ran run.client (route_of run) start (record {
-          left = I.left input.old;
-          written = O.written output.old;
-          images = K.images keeper.old;
-          runner = telling (R.runs runner.old) (R.faults runner.old);
-          link = L.tells link.old;
-        }) (record {
-          left = I.left input.new;
-          written = O.written output.new;
-          images = K.images keeper.new;
-          runner = telling (R.runs runner.new) (R.faults runner.new);
-          link = L.tells link.new;
-        }) result) }
+    }) (record {
+      source = I.faults input.old;
+      sink = O.faults output.old;
+      keeper = K.faults keeper.old;
+    }) (record {
+      source = I.faults input.new;
+      sink = O.faults output.new;
+      keeper = K.faults keeper.new;
+    }) }
 {
-    let Some(words) = run_words(words) else {
-        return 2;
-    };
-    let route = match route_of(alloc, &words) {
-        Ok(route) => route,
-        Err(_refused) => return 7,
-    };
-    match open(alloc, words.client, route.image.bytes(), keeper) {
+    match open(alloc, number, route.image.bytes(), keeper) {
         Ok(client) => {
             let mut session = Session::new(alloc, client);
             let ended = run(
                 alloc,
                 &mut session,
-                &route,
+                route,
                 input,
                 output,
                 keeper,
@@ -525,12 +481,63 @@ pub fn client_run<I: Source, O: Sink, K: Keeper, R: Runner, L: Link>(
                 link,
             );
             drop(session);
-            drop(route);
             status_of(ended)
         }
-        Err(unopened) => {
+        Err(unopened) => status_unopened(unopened),
+    }
+}
+
+/// Runs the client on its words: the session that they ask for. Status 2: the words are of no form, and nothing was touched. The
+/// others are those of the session.
+pub fn client_run<I: Source, O: Sink, K: Keeper, R: Runner, L: Link>(
+    alloc: Global,
+    words: &[String],
+    input: &mut I,
+    output: &mut O,
+    keeper: &mut K,
+    runner: &mut R,
+    link: &mut L,
+) -> u8
+    ensures { ClientEnds (map string_bytes words.now) result (record {
+      left = I.left input.old;
+      written = O.written output.old;
+      images = K.images keeper.old;
+      runner = telling (R.runs runner.old) (R.faults runner.old);
+      link = L.tells link.old;
+    }) (record {
+      left = I.left input.new;
+      written = O.written output.new;
+      images = K.images keeper.new;
+      runner = telling (R.runs runner.new) (R.faults runner.new);
+      link = L.tells link.new;
+    }) (record {
+      source = I.faults input.old;
+      sink = O.faults output.old;
+      keeper = K.faults keeper.old;
+    }) (record {
+      source = I.faults input.new;
+      sink = O.faults output.new;
+      keeper = K.faults keeper.new;
+    }) }
+{
+    let Some(words) = run_words(words) else {
+        return 2;
+    };
+    match route_of(alloc, &words) {
+        Ok(route) => {
+            let status = session_run(
+                alloc,
+                words.client,
+                &route,
+                input,
+                output,
+                keeper,
+                runner,
+                link,
+            );
             drop(route);
-            status_unopened(unopened)
+            status
         }
+        Err(_refused) => 7,
     }
 }

@@ -4,11 +4,13 @@
 mod journal;
 mod laws;
 mod program;
+mod reasons;
 mod run;
 mod serving;
 mod words;
 
 pub use laws::{connections_are_counted, kept_images_are_served};
-pub use program::{NAME, PAGES, served, server_main, server_program};
+pub use program::{PAGES, served, server_main, server_program};
+pub use reasons::Troubled;
 pub use run::server_run;
 pub use words::{RunWords, run_words};

@@ -6,11 +6,15 @@ ghost use Rattle.program_words.specs.Pages.{page_asked};
 ghost use Rattle.server_prog.specs.Run.{is_exit, Ends};
 ghost use Rattle.server_prog.specs.Words.{server_run_of};
 
+use crate::reasons::{Troubled, end_told};
 use crate::run::server_run;
 use crate::words::{RunWords, run_words};
 use outside::{Keeper, Port, Sink};
-use program_words::{Pages, Status, checked_words, end, given_words, page_shown};
-use real_edge::{FileKeeper, StdSink, TcpPort};
+use program_words::{
+    Pages, Status, checked_words, end_plainly, given_words, hold_places, is_logged, page_shown,
+    tell_listening,
+};
+use real_edge::{FileKeeper, LoggedPort, StdSink, TcpPort};
 use std::alloc::Global;
 use std::fs::File;
 use std::io;
@@ -22,17 +26,23 @@ use std::time::Clock;
 const HELP: &str = "\
 Usage: server run LISTEN IMAGE COUNT
 
-Listens at LISTEN, takes one frame of each connection, and answers it before the
-next one. At its end it writes 'served K faults F': K frames were taken, and F
-calls of the network failed. A fault ends one connection alone. A peer that is
-slow or silent holds up the others.
+Listens at LISTEN, takes one frame of each connection, and answers it before it
+takes the next one. Frames come in and answers go out side by side: a peer that
+is slow or silent holds up no other. At its end it writes 'served K faults F': K
+frames were taken, and F calls of the network failed. A fault ends one
+connection alone.
 
 LISTEN is an address with a port. IMAGE names the file in which the server is
 kept, before it answers; where there is none the server is new. IMAGE.new and
-IMAGE.lock belong to it, and no other program has it meanwhile. COUNT is how many
-connections are taken, from 1 to 65536: one for each change that a client syncs,
-one for each pull, and one for each stranger. A server that has ended goes on from
-its image.
+IMAGE.lock belong to it, and no other program has it meanwhile. IMAGE is made
+for its owner alone, with the rights 0600; rights that you give it stay. COUNT
+is how many connections are taken, from 1 to 65536: one for each change that a
+client syncs, one for each pull, and one for each stranger. A server that has
+ended goes on from its image.
+
+Standard error says where the server listens, and why it ends with a status
+that is not 0. With HAURPIKO_LOG=1 in the environment it has a line for each
+request, too.
 
 Example:
   server run 127.0.0.1:7001 server.image 100
@@ -49,10 +59,14 @@ The server ends with one of these statuses:
 
 Options:
   --help      shows this text
-  --version   shows the version
+  --version   shows the version, the formats and the kit
 ";
 
-const VERSION: &str = "server 0.1.0\n";
+const VERSION: &str = "\
+server 0.1.0
+frames: version 1; images: written and read: version 1
+kit: rattle-kit-13f logic dac8208d650f15bf
+";
 
 /// What the words may ask for in place of a run.
 pub const PAGES: Pages = Pages {
@@ -61,7 +75,7 @@ pub const PAGES: Pages = Pages {
 };
 
 /// The program's name, as standard error tells it.
-pub const NAME: &str = "server";
+pub(crate) const NAME: &str = "server";
 
 /// Runs the server with the words behind the program's name. Words that are no text are of no form.
 pub fn server_program<R: Print + Eprint + AllocGlobal + Env + Files<File = File> + Net + Clock>(
@@ -71,15 +85,16 @@ pub fn server_program<R: Print + Eprint + AllocGlobal + Env + Files<File = File>
 {
     match checked_words(given_words(rt)) {
         Ok(words) => server_main(rt, &words),
-        Err(status) => end(rt, NAME, status.code()),
+        Err(status) => end_plainly(rt, NAME, status),
     }
 }
 
-/// Runs the server with these words over TCP and standard output, and ends with its status.
+/// Runs the server with these words over TCP and standard output, and ends with its status. The places of standard streams that are
+/// closed are held before anything is opened.
 ///
-/// `--help` and `--version`, as the only word, are answered on standard output. Where the status is not 0, standard error
-/// says so, or why the server cannot listen.
-pub fn server_main<R: Print + Eprint + AllocGlobal + Files<File = File> + Net + Clock>(
+/// `--help` and `--version`, as the only word, are answered on standard output. Standard error says where the server listens, or
+/// why it cannot. Where the status is not 0, standard error says so, and why.
+pub fn server_main<R: Print + Eprint + AllocGlobal + Env + Files<File = File> + Net + Clock>(
     rt: &R,
     words: &[String],
 ) -> ExitCode
@@ -87,19 +102,37 @@ pub fn server_main<R: Print + Eprint + AllocGlobal + Files<File = File> + Net + 
         × (server_run_of (map string_bytes words.now) ≡ None) }
     ensures known { IsTrue (is_exit (exit_status result)) }
 {
+    hold_places(rt);
     let mut output = StdSink::new(io::writer(rt));
-    if let Some(ended) = page_shown(rt, NAME, &PAGES, words, &mut output) {
-        return ended;
+    let ended = answer_words(rt, words, &mut output);
+    drop(output);
+    ended
+}
+
+/// Shows the page that the words ask for, or runs the server.
+fn answer_words<
+    R: Eprint + AllocGlobal + Env + Files<File = File> + Net + Clock,
+    O: Sink + Troubled,
+>(rt: &R, words: &[String], output: &mut O) -> ExitCode
+    ensures form { exit_status result ≡ 2 ↔ (page_asked (map string_bytes words.now) ≡ None)
+        × (server_run_of (map string_bytes words.now) ≡ None) }
+    ensures known { IsTrue (is_exit (exit_status result)) }
+{
+    if let Some(status) = page_shown(&PAGES, words, output) {
+        return end_told(rt, words, status.code(), None, output.trouble());
     }
     let Some(run) = run_words(words) else {
-        return end(rt, NAME, Status::NoForm.code());
+        return end_plainly(rt, NAME, Status::NoForm);
     };
     let bound = TcpPort::bind(rt.alloc(), rt, run.address);
-    serve_bound(rt, words, &run, bound, &mut output)
+    serve_bound(rt, words, &run, bound, output)
 }
 
 /// Runs the server over the port that was bound at the address of its words. Where none was, it says so, and ends with status 1.
-fn serve_bound<R: Eprint + AllocGlobal + Files<File = File> + Net + Clock, O: Sink>(
+fn serve_bound<
+    R: Eprint + AllocGlobal + Env + Files<File = File> + Net + Clock,
+    O: Sink + Troubled,
+>(
     rt: &R,
     words: &[String],
     run: &RunWords<'_>,
@@ -115,20 +148,42 @@ fn serve_bound<R: Eprint + AllocGlobal + Files<File = File> + Net + Clock, O: Si
     ensures known { IsTrue (is_exit (exit_status result)) }
 {
     match bound {
-        Ok(mut port) => {
-            let mut keeper = FileKeeper::new(rt.alloc(), rt);
-            served(rt, rt.alloc(), words, &mut port, &mut keeper, output)
+        Ok(port) => {
+            tell_listening(rt, NAME, run.address, port.number());
+            let (ended, port) = serve_over(rt, words, run, port, output);
+            port.finish();
+            ended
         }
         Err(error) => {
             let address = run.address;
-            let _ = eprintln!(rt; "server: cannot listen at {address}: {error}");
+            let _ = eprintln!(rt; "{NAME}: cannot listen at {address}: {error}");
             ExitCode::from(Status::CannotListen.code())
         }
     }
 }
 
-/// Runs the server on its words over these objects, and ends the program with the status of the run.
-pub fn served<R: Eprint, P: Port, K: Keeper, O: Sink>(
+/// Runs the server over this port, which tells its requests where the environment asks for that, and gives the port back.
+fn serve_over<
+    R: Eprint + AllocGlobal + Env + Files<File = File> + Clock,
+    P: Port + Drop,
+    O: Sink + Troubled,
+>(rt: &R, words: &[String], run: &RunWords<'_>, port: P, output: &mut O) -> (ExitCode, P)
+    requires said { server_run_of (map string_bytes words.now) ≡ Some (record
+        { address = run.now.address.now; image = run.now.image.now; count = run.now.count }) }
+    ensures bound { exit_status result.0 ≢ 1 }
+    ensures form { exit_status result.0 ≢ 2 }
+    ensures known { IsTrue (is_exit (exit_status result.0)) }
+{
+    let mut logged = LoggedPort::new(rt, NAME, port, is_logged(rt));
+    let mut keeper = FileKeeper::new(rt.alloc(), rt);
+    let ended = served(rt, rt.alloc(), words, &mut logged, &mut keeper, output);
+    drop(keeper);
+    (ended, logged.into_port())
+}
+
+/// Runs the server on its words over these objects, and ends the program with the status of the run. Where it is not 0, standard
+/// error says why.
+pub fn served<R: Eprint, P: Port, K: Keeper + Troubled, O: Sink + Troubled>(
     rt: &R,
     alloc: Global,
     words: &[String],
@@ -152,5 +207,6 @@ pub fn served<R: Eprint, P: Port, K: Keeper, O: Sink>(
           sink_faults = O.faults output.new;
         }) }
 {
-    end(rt, NAME, server_run(alloc, words, port, keeper, output))
+    let status = server_run(alloc, words, port, keeper, output);
+    end_told(rt, words, status, keeper.trouble(), output.trouble())
 }

@@ -3,11 +3,13 @@
 
 mod laws;
 mod program;
+mod reasons;
 mod run;
 mod serving;
 mod words;
 
 pub use laws::{connections_are_counted, silence_has_its_cause, worlds_move_alone};
-pub use program::{NAME, PAGES, served, surrogate_main, surrogate_program};
+pub use program::{PAGES, served, surrogate_main, surrogate_program};
+pub use reasons::Troubled;
 pub use run::surrogate_run;
 pub use words::{RunWords, run_words};

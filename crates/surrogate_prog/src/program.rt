@@ -7,13 +7,17 @@ ghost use Rattle.surrogate_prog.specs.Serving.{told};
 ghost use Rattle.surrogate_prog.specs.Run.{is_surrogate_exit, SurrogateEnds};
 ghost use Rattle.surrogate_prog.specs.Words.{surrogate_run_of};
 
+use crate::reasons::{Troubled, end_told};
 use crate::run::surrogate_run;
 use crate::words::{RunWords, run_words};
 use child_runner::ChildRunner;
 use cmd_capture::Runner;
 use outside::{Port, Sink};
-use program_words::{Pages, Status, checked_words, end, given_words, page_shown};
-use real_edge::{StdSink, TcpLink, TcpPort};
+use program_words::{
+    Pages, Status, checked_words, end_plainly, given_words, hold_places, is_logged, page_shown,
+    tell_listening,
+};
+use real_edge::{LoggedPort, StdSink, TcpLink, TcpPort};
 use std::alloc::Global;
 use std::fs::File;
 use std::io;
@@ -26,22 +30,32 @@ use world_rules::Link;
 const HELP: &str = "\
 Usage: surrogate run LISTEN SERVER WORK COUNT
 
-Listens at LISTEN, takes one frame of each connection, and answers it before the
-next one. A frame has a command that a client has run: it is run again here, on the
-server's files, and where what it makes agrees with the client's the server is
-asked to take it. At its end it writes 'served K faults F': K frames were taken,
-and F calls of the network failed. A fault ends one connection alone. A command
-that runs long, or a peer that is slow, holds up the others. A command may run for
-500 seconds: then it is ended, and its client is told that it was not run.
+Listens at LISTEN, takes one frame of each connection, and answers it before it
+takes the next one. A frame has a command that a client has run: it is run again
+here, on the server's files, and where what it makes agrees with the client's
+the server is asked to take it. At its end it writes 'served K faults F': K
+frames were taken, and F calls of the network failed. A fault ends one
+connection alone. Frames come in and answers go out side by side: a peer that is
+slow or silent holds up no other. But commands run one after the other, and one
+that runs long holds up the others. It may run for 500 seconds: then it is
+ended, and its client is told that it was not run.
 
-LISTEN is an address with a port, and SERVER that of the server. WORK is a folder:
-each command runs in a new folder in it, with the rights of this program, and the
-folder is removed once the command has ended. COUNT is how many connections are
-taken, from 1 to 65536. Nothing is kept: a surrogate begins anew, and asks the
-server for its files.
+LISTEN is an address with a port, and SERVER that of the server. WORK is a
+folder: each command runs in a folder of its own in it, with the rights of this
+program, and that is removed once the command has ended. Name the same WORK to
+the surrogate and to its clients, on one machine too: a command is run in the
+same place then, so that what it makes is the same where it names that place.
+What a surrogate left that was killed is removed at the next start with its
+WORK. COUNT is how many connections are taken, from 1 to 65536. Nothing is kept:
+a surrogate begins anew, and asks the server for its files.
+
+Standard error says where the surrogate listens, why a command was not run, and
+why the surrogate ends with a status that is not 0. What commands print is
+dropped. With HAURPIKO_LOG=1 in the environment it has a line for each request,
+too.
 
 Example:
-  surrogate run 127.0.0.1:7002 127.0.0.1:7001 work 100
+  surrogate run 127.0.0.1:7002 127.0.0.1:7001 /var/tmp/haurpiko 100
 
 The surrogate ends with one of these statuses:
   0  COUNT connections were taken, or none is left
@@ -52,10 +66,14 @@ The surrogate ends with one of these statuses:
 
 Options:
   --help      shows this text
-  --version   shows the version
+  --version   shows the version, the formats and the kit
 ";
 
-const VERSION: &str = "surrogate 0.1.0\n";
+const VERSION: &str = "\
+surrogate 0.1.0
+frames: version 1
+kit: rattle-kit-13f logic dac8208d650f15bf
+";
 
 /// What the words may ask for in place of a run.
 pub const PAGES: Pages = Pages {
@@ -68,47 +86,64 @@ pub const PAGES: Pages = Pages {
 const COMMAND_SECONDS: u64 = 500;
 
 /// The program's name, as standard error tells it.
-pub const NAME: &str = "surrogate";
+pub(crate) const NAME: &str = "surrogate";
 
-/// Runs the surrogate with the words behind the program's name, as the process of this number. Words that are no text are of
-/// no form.
+/// Runs the surrogate with the words behind the program's name. Words that are no text are of no form.
 pub fn surrogate_program<
     R: Print + Eprint + AllocGlobal + Env + Files<File = File> + Net + Clock + Processes,
->(rt: &R, process: u32) -> ExitCode
+>(rt: &R) -> ExitCode
     ensures { IsTrue (is_surrogate_exit (exit_status result)) }
 {
     match checked_words(given_words(rt)) {
-        Ok(words) => surrogate_main(rt, process, &words),
-        Err(status) => end(rt, NAME, status.code()),
+        Ok(words) => surrogate_main(rt, &words),
+        Err(status) => end_plainly(rt, NAME, status),
     }
 }
 
-/// Runs the surrogate with these words over TCP and standard output, as the process of this number, and ends with its status.
+/// Runs the surrogate with these words over TCP and standard output, and ends with its status. The places of standard streams that
+/// are closed are held before anything is opened, and what a surrogate left in the work folder that was killed is removed first.
 ///
-/// `--help` and `--version`, as the only word, are answered on standard output. Where the status is not 0, standard error
-/// says so, or why the surrogate cannot listen.
+/// `--help` and `--version`, as the only word, are answered on standard output. Standard error says where the surrogate listens, or
+/// why it cannot. Where the status is not 0, standard error says so, and why.
 pub fn surrogate_main<
-    R: Print + Eprint + AllocGlobal + Files<File = File> + Net + Clock + Processes,
->(rt: &R, process: u32, words: &[String]) -> ExitCode
+    R: Print + Eprint + AllocGlobal + Env + Files<File = File> + Net + Clock + Processes,
+>(rt: &R, words: &[String]) -> ExitCode
     ensures form { exit_status result ≡ 2 ↔ (page_asked (map string_bytes words.now) ≡ None)
         × (surrogate_run_of (map string_bytes words.now) ≡ None) }
     ensures known { IsTrue (is_surrogate_exit (exit_status result)) }
 {
+    hold_places(rt);
     let mut output = StdSink::new(io::writer(rt));
-    if let Some(ended) = page_shown(rt, NAME, &PAGES, words, &mut output) {
-        return ended;
+    let ended = answer_words(rt, words, &mut output);
+    drop(output);
+    ended
+}
+
+/// Shows the page that the words ask for, or runs the surrogate.
+fn answer_words<
+    R: Eprint + AllocGlobal + Env + Files<File = File> + Net + Clock + Processes,
+    O: Sink + Troubled,
+>(rt: &R, words: &[String], output: &mut O) -> ExitCode
+    ensures form { exit_status result ≡ 2 ↔ (page_asked (map string_bytes words.now) ≡ None)
+        × (surrogate_run_of (map string_bytes words.now) ≡ None) }
+    ensures known { IsTrue (is_surrogate_exit (exit_status result)) }
+{
+    if let Some(status) = page_shown(&PAGES, words, output) {
+        return end_told(rt, status.code(), output.trouble());
     }
     let Some(run) = run_words(words) else {
-        return end(rt, NAME, Status::NoForm.code());
+        return end_plainly(rt, NAME, Status::NoForm);
     };
     let bound = TcpPort::bind(rt.alloc(), rt, run.address);
-    serve_bound(rt, process, words, &run, bound, &mut output)
+    serve_bound(rt, words, &run, bound, output)
 }
 
 /// Runs the surrogate over the port that was bound at the address of its words. Where none was, it says so, and ends with status 1.
-fn serve_bound<R: Eprint + AllocGlobal + Files<File = File> + Net + Clock + Processes, O: Sink>(
+fn serve_bound<
+    R: Eprint + AllocGlobal + Env + Files<File = File> + Net + Clock + Processes,
+    O: Sink + Troubled,
+>(
     rt: &R,
-    process: u32,
     words: &[String],
     run: &RunWords<'_>,
     bound: io::Result<TcpPort<'_, R>>,
@@ -123,30 +158,52 @@ fn serve_bound<R: Eprint + AllocGlobal + Files<File = File> + Net + Clock + Proc
     ensures known { IsTrue (is_surrogate_exit (exit_status result)) }
 {
     match bound {
-        Ok(mut port) => {
-            let mut link = TcpLink::new(rt.alloc(), rt);
-            let longest = Duration::from_secs(COMMAND_SECONDS);
-            let mut runner = ChildRunner::new(rt, process, Some(longest));
-            served(
-                rt,
-                rt.alloc(),
-                words,
-                &mut port,
-                &mut link,
-                &mut runner,
-                output,
-            )
+        Ok(port) => {
+            tell_listening(rt, NAME, run.address, port.number());
+            let (ended, port) = serve_over(rt, words, run, port, output);
+            port.finish();
+            ended
         }
         Err(error) => {
             let address = run.address;
-            let _ = eprintln!(rt; "surrogate: cannot listen at {address}: {error}");
+            let _ = eprintln!(rt; "{NAME}: cannot listen at {address}: {error}");
             ExitCode::from(Status::CannotListen.code())
         }
     }
 }
 
-/// Runs the surrogate on its words over these objects, and ends the program with the status of the run.
-pub fn served<E: Eprint, P: Port, L: Link, R: Runner, O: Sink>(
+/// Runs the surrogate over this port, which tells its requests where the environment asks for that, and gives the port back. What runs
+/// left in the work folder that were cut off is removed first.
+fn serve_over<
+    R: Eprint + AllocGlobal + Env + Files<File = File> + Net + Clock + Processes,
+    P: Port + Drop,
+    O: Sink + Troubled,
+>(rt: &R, words: &[String], run: &RunWords<'_>, port: P, output: &mut O) -> (ExitCode, P)
+    requires said { surrogate_run_of (map string_bytes words.now) ≡ Some (record
+        { address = run.now.address.now; server = run.now.server.now; work = run.now.work.now; count = run.now.count }) }
+    ensures bound { exit_status result.0 ≢ 1 }
+    ensures form { exit_status result.0 ≢ 2 }
+    ensures known { IsTrue (is_surrogate_exit (exit_status result.0)) }
+{
+    let mut logged = LoggedPort::new(rt, NAME, port, is_logged(rt));
+    let mut link = TcpLink::new(rt.alloc(), rt);
+    let mut runner = ChildRunner::at_surrogate(rt, NAME, Duration::from_secs(COMMAND_SECONDS));
+    let _cleared = runner.clear(run.work.as_bytes());
+    let ended = served(
+        rt,
+        rt.alloc(),
+        words,
+        &mut logged,
+        &mut link,
+        &mut runner,
+        output,
+    );
+    (ended, logged.into_port())
+}
+
+/// Runs the surrogate on its words over these objects, and ends the program with the status of the run. Where it is not 0, standard
+/// error says why.
+pub fn served<E: Eprint, P: Port, L: Link, R: Runner, O: Sink + Troubled>(
     rt: &E,
     alloc: Global,
     words: &[String],
@@ -169,9 +226,6 @@ pub fn served<E: Eprint, P: Port, L: Link, R: Runner, O: Sink>(
           sink_faults = O.faults output.new;
         }) }
 {
-    end(
-        rt,
-        NAME,
-        surrogate_run(alloc, words, port, link, runner, output),
-    )
+    let status = surrogate_run(alloc, words, port, link, runner, output);
+    end_told(rt, status, output.trouble())
 }

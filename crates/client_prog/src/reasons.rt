@@ -1,0 +1,105 @@
+// Why the client ends.
+ghost use Rattle.std.specs.Prelude.{◌≡◌};
+ghost use Rattle.std.specs.Process.{exit_status};
+ghost use Rattle.program_words.specs.Status.{code};
+
+use crate::input::MAX_INPUT;
+use crate::program::NAME;
+use crate::words::run_words;
+use program_words::{Status, end, tell, tell_plainly};
+use real_edge::{StdSink, StdSource, Trouble};
+use std::io::{Read, Write};
+use std::process::ExitCode;
+
+/// What can say what its call met that failed last.
+pub(crate) trait Troubled {
+    /// What that call met; `None` where it is not known, or none has failed.
+    fn trouble(&self) -> Option<&Trouble>;
+}
+
+impl<R: Read + Drop> Troubled for StdSource<R> {
+    fn trouble(&self) -> Option<&Trouble> {
+        StdSource::trouble(self)
+    }
+}
+
+impl<W: Write + Drop> Troubled for StdSink<W> {
+    fn trouble(&self) -> Option<&Trouble> {
+        StdSink::trouble(self)
+    }
+}
+
+/// What the calls met that failed last, where one did.
+#[derive(Clone, Copy)]
+pub(crate) struct Failures<'a> {
+    pub(crate) input: Option<&'a Trouble>,
+    pub(crate) output: Option<&'a Trouble>,
+    pub(crate) keeper: Option<&'a Trouble>,
+}
+
+/// Ends the program where a page was shown, and that ended so. Where the output failed, standard error says why.
+pub(crate) fn end_shown<R: Eprint, W: Write + Drop>(
+    rt: &R,
+    status: Status,
+    output: &StdSink<W>,
+) -> ExitCode
+    ensures { exit_status result ≡ code status }
+{
+    let failures = Failures {
+        input: None,
+        output: output.trouble(),
+        keeper: None,
+    };
+    end_told(rt, &[], status.code(), &failures)
+}
+
+/// Ends the program with the status of its run. Where it is not 0, standard error says why, where that is known.
+pub(crate) fn end_told<R: Eprint>(
+    rt: &R,
+    words: &[String],
+    status: u8,
+    failures: &Failures<'_>,
+) -> ExitCode
+    ensures { exit_status result ≡ status }
+{
+    if let Some(status) = Status::of(status) {
+        tell_why(rt, words, status, failures);
+    }
+    end(rt, NAME, status)
+}
+
+/// Tells why a run ended with this status.
+fn tell_why<R: Eprint>(rt: &R, words: &[String], status: Status, failures: &Failures<'_>) {
+    match status {
+        Status::SourceFailed => tell_trouble(rt, failures.input),
+        Status::SinkFailed => tell_trouble(rt, failures.output),
+        Status::KeeperFailed => tell_trouble(rt, failures.keeper),
+        Status::OtherImage => tell_image(rt, words),
+        Status::TooLong => tell_length(rt),
+        Status::Done | Status::CannotListen | Status::NoForm | Status::NoMemory => {
+            tell_plainly(rt, NAME, status);
+        }
+    }
+}
+
+/// Tells what a call met.
+fn tell_trouble<R: Eprint>(rt: &R, trouble: Option<&Trouble>) {
+    if let Some(trouble) = trouble {
+        tell(rt, NAME, trouble);
+    }
+}
+
+/// Tells that the image of the words is none of this client's.
+fn tell_image<R: Eprint>(rt: &R, words: &[String]) {
+    let Some(run) = run_words(words) else {
+        return;
+    };
+    if let Ok(image) = str::from_utf8(run.image) {
+        let _ = eprintln!(rt; "{NAME}: {image} is no client's image, or another number's");
+    }
+}
+
+/// Tells that the input is too long.
+fn tell_length<R: Eprint>(rt: &R) {
+    let _ = eprintln!(rt; "{NAME}: the input has more than {MAX_INPUT} bytes");
+}
