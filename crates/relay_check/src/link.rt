@@ -1,7 +1,7 @@
 //! A client whose surrogate, in this very process, asks a server in memory: a command that the client has run is run again by the
 //! surrogate, and what passes between surrogate and server is shown.
 
-use crate::{FAR, INPUT, NEAR};
+use crate::{FAR, INPUT, NEAR, SURROGATE};
 use child_runner::ChildRunner;
 use real_edge::{StdSink, TcpPort};
 use run_probe::{Network, account_of_network, network};
@@ -21,36 +21,31 @@ const COMMAND_SECONDS: u64 = 60;
 
 /// A client is started whose surrogate serves it here.
 pub(crate) fn show_port<
-    R: Processes + Files<File = File> + Env + AllocGlobal + Net + Clock + Print,
->(rt: &R, process: u32) -> io::Result<()> {
+    R: Processes + Files<File = File> + Env + AllocGlobal + Net + Clock + Print + Eprint,
+>(rt: &R) -> io::Result<()> {
     let mut port = bound(rt)?;
-    let shown = show_network(rt, process, &mut port);
+    let shown = show_network(rt, &mut port);
     drop(port);
     shown
 }
 
 /// The server is new and in memory, and the surrogate asks it there.
-fn show_network<R: Processes + Files<File = File> + Env + AllocGlobal + Net + Clock + Print>(
-    rt: &R,
-    process: u32,
-    port: &mut TcpPort<'_, R>,
-) -> io::Result<()> {
+fn show_network<
+    R: Processes + Files<File = File> + Env + AllocGlobal + Net + Clock + Print + Eprint,
+>(rt: &R, port: &mut TcpPort<'_, R>) -> io::Result<()> {
     let alloc = rt.alloc();
     let mut net = network(alloc, Server::new(alloc), Vec::new(alloc), Vec::new(alloc))?;
-    let shown = show_client(rt, process, port, &mut net);
+    let shown = show_client(rt, port, &mut net);
     drop(net);
     shown
 }
 
 /// Prints what the surrogate and the client tell, and then what the server had and has.
-fn show_client<R: Processes + Files<File = File> + Env + AllocGlobal + Net + Clock + Print>(
-    rt: &R,
-    process: u32,
-    port: &mut TcpPort<'_, R>,
-    net: &mut Network,
-) -> io::Result<()> {
+fn show_client<
+    R: Processes + Files<File = File> + Env + AllocGlobal + Net + Clock + Print + Eprint,
+>(rt: &R, port: &mut TcpPort<'_, R>, net: &mut Network) -> io::Result<()> {
     let client = start_client(rt, port)?;
-    match serve_one(rt, process, port, net) {
+    match serve_one(rt, port, net) {
         Ok(()) => print_ended(rt, CLIENT, client)?,
         Err(error) => {
             drop(client);
@@ -86,14 +81,13 @@ fn start_client_of<R: Processes + Files + Env + AllocGlobal + Net + Clock>(
 }
 
 /// The surrogate serves one connection at the port, runs its command for real, and asks the server over the network.
-fn serve_one<R: Processes + Files<File = File> + AllocGlobal + Net + Clock + Print>(
+fn serve_one<R: Processes + Files<File = File> + AllocGlobal + Net + Clock + Print + Eprint>(
     rt: &R,
-    process: u32,
     port: &mut TcpPort<'_, R>,
     net: &mut Network,
 ) -> io::Result<()> {
     let words = surrogate_words(rt.alloc())?;
-    let mut runner = ChildRunner::new(rt, process, Some(Duration::from_secs(COMMAND_SECONDS)));
+    let mut runner = ChildRunner::at_surrogate(rt, SURROGATE, Duration::from_secs(COMMAND_SECONDS));
     let mut output = StdSink::new(io::writer(rt));
     let status = surrogate_run(rt.alloc(), &words, port, net, &mut runner, &mut output);
     drop(words);

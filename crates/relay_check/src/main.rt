@@ -1,66 +1,62 @@
 //! A client, its surrogate and their server over TCP on this machine. The program starts itself as all three: a command that the
-//! client has run is run again by the surrogate, which has the server take what it made. Then a client alone, whose surrogate is
-//! this very process.
+//! client has run is run again by the surrogate, which has the server take what it made. What standard error is told of that, also
+//! of what cannot be done; an answer that is lost; one folder for both; and what a surrogate left that was killed. Then a client
+//! alone, whose surrogate is this very process.
 #![tactic(auto)]
 
+mod asking;
+mod clearing;
 mod frames;
 mod link;
+mod scenes;
+mod twice;
 
-use frames::{ANSWERS, OTHER_STATUS, PULL};
+use asking::{ask, start, start_client};
+use clearing::show_clearing;
+use frames::{OTHER_STATUS, PULL};
 use link::show_port;
 use program_words::given_words;
+use scenes::{LINES, LOSS, show_scene};
 use std::fs::{self, File};
-use std::io::{self, ErrorKind, Read, Write};
+use std::io;
 use std::net::Net;
-use std::process::{self, Child, ExitCode, Processes};
+use std::process::{ExitCode, Processes};
 use std::rt::{Env, Files};
-use std::thread;
-use std::time::{Clock, Duration};
+use std::time::Clock;
 use surrogate_prog::surrogate_main;
 use tcp_probe::{
-    CLIENT, IMAGE, SERVED, SERVER, call_on, command_of, forget, free_address, print_ended, run_as,
-    spawned,
+    CLIENT, SERVED, SERVER, forget, free_address, print_ended, print_ended_at, run_as,
 };
+use twice::show_one_folder;
 
 /// The first word of this program where it is the surrogate.
-const SURROGATE: &str = "surrogate";
+pub(crate) const SURROGATE: &str = "surrogate";
 
 /// The folder in which the client runs commands.
-const NEAR: &str = "near";
+pub(crate) const NEAR: &str = "near";
 
 /// The folder in which the surrogate does.
-const FAR: &str = "far";
+pub(crate) const FAR: &str = "far";
 
 /// What the client is to do: a command makes a file that is longer than itself, and is shipped.
-const INPUT: &[u8] =
+pub(crate) const INPUT: &[u8] =
     b"run env=PATH=/usr/bin:/bin -- /bin/sh -c 'printf %0300d 7 > a'\nsync\nquit\n";
-
-/// How often a peer is called until it listens.
-const CALLS: usize = 200;
-
-/// How many milliseconds are waited in between.
-const BETWEEN_MILLIS: u64 = 50;
 
 /// With words it is the client, the server or the surrogate, as the first one says. Without any it shows what becomes of a command.
 fn main(rt: HostRuntime) -> io::Result<ExitCode> {
     let words = given_words(&rt)?;
-    let process = process::id(rt.process());
     match words.split_first() {
-        None => show(&rt, process),
-        Some((program, rest)) if program.as_str() == SURROGATE => {
-            Ok(surrogate_main(&rt, process, rest))
-        }
-        Some(_) => Ok(run_as(&rt, process, &words)),
+        None => show(&rt),
+        Some((program, rest)) if program.as_str() == SURROGATE => Ok(surrogate_main(&rt, rest)),
+        Some(_) => Ok(run_as(&rt, &words)),
     }
 }
 
-/// Shows both, and removes what they left, also where one of them fails.
-fn show<R: Processes + Files<File = File> + Env + AllocGlobal + Net + Clock + Print>(
+/// Shows all, and removes what that left, also where one part fails.
+fn show<R: Processes + Files<File = File> + Env + AllocGlobal + Net + Clock + Print + Eprint>(
     rt: &R,
-    process: u32,
 ) -> io::Result<ExitCode> {
-    forget(rt);
-    let shown = show_both(rt, process);
+    let shown = show_all(rt);
     for folder in [NEAR, FAR] {
         let _removed = fs::remove_dir(rt, folder);
     }
@@ -69,14 +65,18 @@ fn show<R: Processes + Files<File = File> + Env + AllocGlobal + Net + Clock + Pr
     Ok(ExitCode::SUCCESS)
 }
 
-/// The second begins without what the first left.
-fn show_both<R: Processes + Files<File = File> + Env + AllocGlobal + Net + Clock + Print>(
+/// Each part begins without what the one before left.
+fn show_all<R: Processes + Files<File = File> + Env + AllocGlobal + Net + Clock + Print + Eprint>(
     rt: &R,
-    process: u32,
 ) -> io::Result<()> {
-    show_all_three(rt)?;
     forget(rt);
-    show_port(rt, process)
+    show_all_three(rt)?;
+    show_scene(rt, &LINES)?;
+    show_scene(rt, &LOSS)?;
+    show_one_folder(rt)?;
+    show_clearing(rt)?;
+    forget(rt);
+    show_port(rt)
 }
 
 /// Starts a server, a surrogate that asks it, and a client of both.
@@ -96,7 +96,7 @@ fn show_at<R: Processes + Files + Env + AllocGlobal + Net + Clock + Print>(
 ) -> io::Result<()> {
     let started = start(rt, SERVER, &["run", server, SERVED, "3"])?;
     match show_surrogate(rt, server) {
-        Ok(()) => print_ended(rt, SERVER, started),
+        Ok(()) => print_ended_at(rt, SERVER, server, started),
         Err(error) => {
             drop(started);
             Err(error)
@@ -124,21 +124,12 @@ fn ask_surrogate<R: Processes + Files + Env + AllocGlobal + Net + Clock + Print>
 ) -> io::Result<()> {
     let started = start(rt, SURROGATE, &["run", address, server, FAR, "4"])?;
     match ask_all(rt, address, server) {
-        Ok(()) => print_ended(rt, SURROGATE, started),
+        Ok(()) => print_ended_at(rt, SURROGATE, address, started),
         Err(error) => {
             drop(started);
             Err(error)
         }
     }
-}
-
-fn start<R: Processes + Files + Env + AllocGlobal>(
-    rt: &R,
-    program: &str,
-    words: &[&str],
-) -> io::Result<Child<R::Started>> {
-    let command = command_of(rt, program, words)?;
-    spawned(rt, command)
 }
 
 fn ask_all<R: Processes + Files + Env + AllocGlobal + Net + Clock + Print>(
@@ -158,49 +149,6 @@ fn run_client<R: Processes + Files + Env + AllocGlobal + Print>(
     server: &str,
     surrogate: &str,
 ) -> io::Result<()> {
-    let mut client = start(rt, CLIENT, &["run", "1", IMAGE, server, surrogate, NEAR])?;
-    if let Some(mut stdin) = client.stdin.take() {
-        let _written = stdin.write_all(INPUT);
-    }
+    let client = start_client(rt, server, surrogate, NEAR, INPUT)?;
     print_ended(rt, CLIENT, client)
-}
-
-/// Asks once the peer listens, and prints the answer.
-fn ask<R: AllocGlobal + Net + Clock + Print>(
-    rt: &R,
-    name: &str,
-    address: &str,
-    frame: &[u8],
-) -> io::Result<()> {
-    for _ in 0..CALLS {
-        match call_on(rt, address, frame) {
-            Ok(stream) => return print_answer(rt, name, stream),
-            Err(_) => thread::sleep(rt, Duration::from_millis(BETWEEN_MILLIS)),
-        }
-    }
-    Err(io::Error::from(ErrorKind::TimedOut))
-}
-
-fn print_answer<R: AllocGlobal + Print, S: Read + Drop>(
-    rt: &R,
-    name: &str,
-    mut stream: S,
-) -> io::Result<()> {
-    let mut answer = Vec::new(rt.alloc());
-    let taken = stream.read_to_end(&mut answer);
-    drop(stream);
-    match taken {
-        Ok(_count) => print_known(rt, name, &answer),
-        Err(error) => Err(error),
-    }
-}
-
-/// Prints what an answer is, where it is a known one.
-fn print_known<R: Print>(rt: &R, name: &str, answer: &[u8]) -> io::Result<()> {
-    for (known, text) in ANSWERS {
-        if known == answer {
-            return println!(rt; "{name}: {text}");
-        }
-    }
-    println!(rt; "{name}: something else")
 }

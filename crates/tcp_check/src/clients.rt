@@ -1,6 +1,5 @@
 // Clients as programs.
-use crate::images::FULL;
-use std::fs::File;
+use std::fs::{self, File};
 use std::io;
 use std::io::{ErrorKind, Read, Write};
 use std::net::Net;
@@ -8,16 +7,31 @@ use std::process::{Child, Command, OpenProcess, Processes};
 use std::rt::{Env, Files};
 use std::time::Clock;
 use tcp_probe::{
-    CLIENT, SERVER, command_of, forget, lone_client_command, print_ended, spawned, started, type_to,
+    CLIENT, LOCK, SERVER, command_of, forget, lone_client_by, lone_client_command, print_ended,
+    spawned, started, type_to,
 };
 
-/// What is typed to a client, and of how many lines the answer is.
-const TYPED: [(&[u8], u32); 4] = [
+/// What is typed to a client, and of how many lines the answer is. A program that reads its input does not take what is typed.
+const TYPED: [(&[u8], u32); 5] = [
     (b"put a hello\n", 1),
     (b"cat a\n", 2),
+    (b"run -- /bin/cat\n", 1),
     (b"status\n", 1),
     (b"quit\n", 1),
 ];
+
+/// Starts a program with a closed output, and one with a closed input.
+const WITHOUT_OUTPUT: &str = "exec \"$@\" >&-";
+
+const WITHOUT_INPUT: &str = "exec \"$@\" <&-";
+
+/// A file with an input, and how many bytes it has: one more than an input may have.
+const LONG: &str = "long";
+
+const LONG_BYTES: u64 = 16_777_217;
+
+/// A device that takes no byte.
+const FULL: &str = "/dev/full";
 
 /// The most bytes of a line that is shown.
 const LONGEST_LINE: usize = 1_000;
@@ -58,18 +72,19 @@ pub(crate) fn run_on_a_folder<
     forget(rt);
     println!(rt; "-- clients on bad streams")?;
     let command = lone_client_command(rt)?;
-    let client = on_a_folder(rt, command)?;
+    let client = with_input(rt, command, ".")?;
     print_ended(rt, CLIENT, client)
 }
 
-/// Starts a program whose input is a folder.
-fn on_a_folder<R: Processes + Files<File = File>>(
+/// Starts a program whose input is at this path.
+fn with_input<R: Processes + Files<File = File>>(
     rt: &R,
     mut command: Command,
+    path: &str,
 ) -> io::Result<Child<R::Started>> {
-    match File::open(rt, ".") {
-        Ok(folder) => {
-            command.stdin(folder);
+    match File::open(rt, path) {
+        Ok(file) => {
+            command.stdin(file);
             spawned(rt, command)
         }
         Err(error) => {
@@ -104,6 +119,58 @@ pub(crate) fn with_a_full_output<R: Processes + Files<File = File>>(
             Err(error)
         }
     }
+}
+
+/// Runs a client whose output is closed. What it opens first does not get what it answers.
+pub(crate) fn run_on_a_closed_output<
+    R: Processes + Files<File = File> + Env + AllocGlobal + Net + Clock + Print,
+>(rt: &R) -> io::Result<()> {
+    forget(rt);
+    let mut client = lone_client_by(rt, WITHOUT_OUTPUT)?;
+    type_to(&mut client);
+    print_ended(rt, CLIENT, client)?;
+    print_length(rt, LOCK)
+}
+
+/// Prints how many bytes a file has.
+pub(crate) fn print_length<R: Files + Print>(rt: &R, file: &str) -> io::Result<()> {
+    let bytes = fs::metadata(rt, file)?.len();
+    println!(rt; "{file}: {bytes} bytes")
+}
+
+/// Runs a client whose input is closed, which is empty then.
+pub(crate) fn run_on_a_closed_input<
+    R: Processes + Files<File = File> + Env + AllocGlobal + Net + Clock + Print,
+>(rt: &R) -> io::Result<()> {
+    forget(rt);
+    let client = lone_client_by(rt, WITHOUT_INPUT)?;
+    print_ended(rt, CLIENT, client)
+}
+
+/// Runs a client whose input is too long by a byte.
+pub(crate) fn run_on_a_long_input<
+    R: Processes + Files<File = File> + Env + AllocGlobal + Net + Clock + Print,
+>(rt: &R) -> io::Result<()> {
+    forget(rt);
+    let made = make_long(rt);
+    let shown = made.and_then(|()| run_on_long(rt));
+    let _removed = fs::remove_file(rt, LONG);
+    shown
+}
+
+fn make_long<R: Files<File = File>>(rt: &R) -> io::Result<()> {
+    let file = File::create(rt, LONG)?;
+    let made = file.set_len(LONG_BYTES);
+    drop(file);
+    made
+}
+
+fn run_on_long<R: Processes + Files<File = File> + Env + AllocGlobal + Net + Clock + Print>(
+    rt: &R,
+) -> io::Result<()> {
+    let command = lone_client_command(rt)?;
+    let client = with_input(rt, command, LONG)?;
+    print_ended(rt, CLIENT, client)
 }
 
 /// Types line after line to a client, each once the one before it is answered.

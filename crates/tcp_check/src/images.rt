@@ -1,18 +1,17 @@
-// Images on a full disk, images that two programs want, and pieces behind an image.
+// Images that cannot be written, images that two programs want, images of others, and pieces behind an image.
 use crate::serving::serve_a_client_from;
 use outside::{KeepError, Keeper};
 use real_edge::FileKeeper;
 use std::fs::{self, File};
 use std::io;
 use std::net::Net;
-use std::os::unix::fs::symlink;
 use std::process::Processes;
 use std::rt::{Env, Files};
 use std::time::Clock;
-use tcp_probe::{IMAGE, SERVED, forget, run_lone_client};
-
-/// The file beside a client's image that a save writes.
-const BESIDE: &str = "image.new";
+use tcp_probe::{
+    CLIENT, IMAGE, SERVED, SERVER, WORK, command_of, forget, free_address, lone_client_by,
+    print_ended, print_ended_at, run_lone_client, spawned, type_to,
+};
 
 /// The file beside a server's image that a save writes.
 const SERVED_BESIDE: &str = "served.new";
@@ -22,29 +21,29 @@ const NOWHERE: &str = "nowhere/image";
 
 const NO_FOLDER: &str = "nowhere";
 
-/// A device that takes no byte.
-pub(crate) const FULL: &str = "/dev/full";
+/// Starts a program whose files can take no byte, as on a full disk.
+const WITHOUT_ROOM: &str = "trap '' XFSZ; ulimit -f 0; exec \"$@\"";
 
-/// Runs a client, then one that cannot keep what it logs, since the disk is full, and one that goes on from the first.
+/// Runs a client, then one that cannot keep what it logs, since its files take no byte, and one that goes on from the first.
 pub(crate) fn fill_the_disk<R: Processes + Files + Env + AllocGlobal + Net + Clock + Print>(
     rt: &R,
 ) -> io::Result<()> {
     forget(rt);
     println!(rt; "-- a client on a full disk")?;
     run_lone_client(rt)?;
-    symlink(rt, FULL, BESIDE)?;
-    run_lone_client(rt)?;
-    fs::remove_file(rt, BESIDE)?;
+    let mut client = lone_client_by(rt, WITHOUT_ROOM)?;
+    type_to(&mut client);
+    print_ended(rt, CLIENT, client)?;
     run_lone_client(rt)
 }
 
-/// Serves a client while the disk is full: the server ends before it answers.
-pub(crate) fn fill_the_servers_disk<
+/// Serves a client while the server's image cannot be written: the server ends before it answers.
+pub(crate) fn serve_unkept<
     R: Processes + Files<File = File> + Env + AllocGlobal + Net + Clock + Print,
 >(rt: &R) -> io::Result<()> {
     forget(rt);
-    println!(rt; "-- a server on a full disk")?;
-    symlink(rt, FULL, SERVED_BESIDE)?;
+    println!(rt; "-- a server that cannot keep")?;
+    fs::create_dir(rt, SERVED_BESIDE)?;
     let mut keeper = FileKeeper::new(rt.alloc(), rt);
     let shown = serve_and_load(rt, &mut keeper);
     drop(keeper);
@@ -56,8 +55,20 @@ fn serve_and_load<R: Processes + Files<File = File> + Env + AllocGlobal + Net + 
     keeper: &mut FileKeeper<'_, R>,
 ) -> io::Result<()> {
     serve_a_client_from(rt, keeper)?;
-    fs::remove_file(rt, SERVED_BESIDE)?;
+    print_trouble(rt, keeper)?;
+    fs::remove_dir(rt, SERVED_BESIDE)?;
     print_load(rt, SERVED, keeper)
+}
+
+/// Prints what the keeper's call met that failed last.
+fn print_trouble<R: Files<File = File> + Print>(
+    rt: &R,
+    keeper: &FileKeeper<'_, R>,
+) -> io::Result<()> {
+    match keeper.trouble() {
+        Some(trouble) => println!(rt; "keeper: {trouble}"),
+        None => println!(rt; "keeper: no trouble"),
+    }
 }
 
 /// Runs a client on an image that another keeper has, and again once it is free.
@@ -86,9 +97,17 @@ fn hold_the_image<R: Processes + Files<File = File> + Env + AllocGlobal + Net + 
 
 fn print_another_load<R: Files<File = File> + AllocGlobal + Print>(rt: &R) -> io::Result<()> {
     let mut keeper = FileKeeper::new(rt.alloc(), rt);
-    let printed = print_load(rt, IMAGE, &mut keeper);
+    let printed = print_refused_load(rt, &mut keeper);
     drop(keeper);
     printed
+}
+
+fn print_refused_load<R: Files<File = File> + Print>(
+    rt: &R,
+    keeper: &mut FileKeeper<'_, R>,
+) -> io::Result<()> {
+    print_load(rt, IMAGE, keeper)?;
+    print_trouble(rt, keeper)
 }
 
 fn print_load<R: Files<File = File> + Print>(
@@ -105,6 +124,49 @@ fn print_load<R: Files<File = File> + Print>(
     };
     drop(loaded);
     println!(rt; "keeper: {came}")
+}
+
+/// Runs a server on an image that a keeper has.
+pub(crate) fn share_a_served_image<
+    R: Processes + Files<File = File> + Env + AllocGlobal + Net + Clock + Print,
+>(rt: &R) -> io::Result<()> {
+    let mut keeper = FileKeeper::new(rt.alloc(), rt);
+    let loaded = print_load(rt, SERVED, &mut keeper);
+    let shown = loaded.and_then(|()| run_server(rt));
+    drop(keeper);
+    shown
+}
+
+/// Runs a server at a free address that nobody calls, and prints how it ends.
+fn run_server<R: Processes + Files + Env + AllocGlobal + Net + Clock + Print>(
+    rt: &R,
+) -> io::Result<()> {
+    let address = free_address(rt)?;
+    let shown = run_server_at(rt, &address);
+    drop(address);
+    shown
+}
+
+pub(crate) fn run_server_at<R: Processes + Files + Env + AllocGlobal + Print>(
+    rt: &R,
+    address: &str,
+) -> io::Result<()> {
+    let command = command_of(rt, SERVER, &["run", address, SERVED, "1"])?;
+    let server = spawned(rt, command)?;
+    print_ended_at(rt, SERVER, address, server)
+}
+
+/// Runs a client on the image of another number, and a server on what is no image.
+pub(crate) fn run_on_other_images<R: Processes + Files + Env + AllocGlobal + Net + Clock + Print>(
+    rt: &R,
+) -> io::Result<()> {
+    println!(rt; "-- images of others")?;
+    let words = ["run", "2", IMAGE, "127.0.0.1:1", "-", WORK];
+    let command = command_of(rt, CLIENT, &words)?;
+    let client = spawned(rt, command)?;
+    print_ended(rt, CLIENT, client)?;
+    fs::write(rt, SERVED, b"no image")?;
+    run_server(rt)
 }
 
 /// Saves an image and appends two pieces, and one more to an image in no folder.

@@ -10,17 +10,26 @@ mod servers;
 mod serving;
 mod strangers;
 
-use clients::{refuse_words, run_on_a_folder, run_on_a_full_output, show_versions, type_lines};
-use images::{append_pieces, fill_the_disk, fill_the_servers_disk, share_an_image};
+use clients::{
+    refuse_words, run_on_a_closed_input, run_on_a_closed_output, run_on_a_folder,
+    run_on_a_full_output, run_on_a_long_input, show_versions, type_lines,
+};
+use images::{
+    append_pieces, fill_the_disk, run_on_other_images, serve_unkept, share_a_served_image,
+    share_an_image,
+};
 use outside::{MemKeeper, Port};
 use program_words::given_words;
 use real_edge::TcpPort;
-use servers::{serve_at_a_free_address, serve_at_an_address_in_use, serve_with_a_full_output};
+use servers::{
+    serve_at_a_free_address, serve_at_an_address_in_use, serve_on_closed_streams,
+    serve_with_a_full_output,
+};
 use serving::{serve, serve_a_client_from};
 use std::fs::File;
 use std::io;
 use std::net::Net;
-use std::process::{self, ExitCode, Processes};
+use std::process::{ExitCode, Processes};
 use std::rt::{Env, Files};
 use std::time::Clock;
 use strangers::{FALSE_REPLIES, call_all, print_answers};
@@ -33,7 +42,7 @@ fn main(rt: HostRuntime) -> io::Result<ExitCode> {
         show_all(&rt)?;
         Ok(ExitCode::SUCCESS)
     } else {
-        Ok(run_as(&rt, process::id(rt.process()), &words))
+        Ok(run_as(&rt, &words))
     }
 }
 
@@ -55,8 +64,10 @@ fn show_meetings<R: Processes + Files<File = File> + Env + AllocGlobal + Net + C
     mislead_a_client(rt)?;
     miss_the_server(rt)?;
     fill_the_disk(rt)?;
-    fill_the_servers_disk(rt)?;
+    serve_unkept(rt)?;
     share_an_image(rt)?;
+    share_a_served_image(rt)?;
+    run_on_other_images(rt)?;
     append_pieces(rt)
 }
 
@@ -69,8 +80,12 @@ fn show_programs<R: Processes + Files<File = File> + Env + AllocGlobal + Net + C
     serve_at_a_free_address(rt)?;
     serve_at_an_address_in_use(rt)?;
     serve_with_a_full_output(rt)?;
+    serve_on_closed_streams(rt)?;
     run_on_a_folder(rt)?;
     run_on_a_full_output(rt)?;
+    run_on_a_closed_output(rt)?;
+    run_on_a_closed_input(rt)?;
+    run_on_a_long_input(rt)?;
     type_lines(rt)
 }
 

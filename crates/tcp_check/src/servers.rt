@@ -1,16 +1,17 @@
 // Servers as programs.
-use crate::clients::with_a_full_output;
+use crate::clients::{print_length, with_a_full_output};
+use crate::images::run_server_at;
 use real_edge::TcpPort;
 use std::fs::File;
 use std::io::ErrorKind;
 use std::net::Net;
-use std::process::{Child, OpenProcess, Processes};
+use std::process::{Child, Processes};
 use std::rt::{Env, Files};
 use std::time::{Clock, Duration};
 use std::{io, thread};
 use tcp_probe::{
-    SERVED, SERVER, address_of, bound, call_on, call_slowly, command_of, forget, free_address,
-    print_answer, print_ended, run_client, spawned,
+    SERVED, SERVED_LOCK, SERVER, address_of, bound, call_on, call_slowly, command_by, command_of,
+    forget, free_address, print_answer, print_ended_at, run_client, spawned,
 };
 
 /// How often a server is called until it listens.
@@ -22,7 +23,10 @@ const BETWEEN_MILLIS: u64 = 50;
 /// A request, which the slow stranger sends in two parts.
 const REQUEST: &[u8] = b"\0\0\0\x0b\x01\x03\x01\0\0\0\0\0\0\0\x01";
 
-/// Runs a server at a free address, which a stranger, a slow peer and a client call.
+/// Starts a server with a closed input and a closed output.
+const WITHOUT_STREAMS: &str = "exec \"$@\" <&- >&-";
+
+/// Runs a server at a free address, which a stranger, a slow peer and a client call. It logs its requests.
 pub(crate) fn serve_at_a_free_address<
     R: Processes + Files + Env + AllocGlobal + Net + Clock + Print,
 >(rt: &R) -> io::Result<()> {
@@ -38,9 +42,9 @@ fn serve_at<R: Processes + Files + Env + AllocGlobal + Net + Clock + Print>(
     rt: &R,
     address: &str,
 ) -> io::Result<()> {
-    let server = start_server(rt, address, "3")?;
+    let server = start_logged(rt, address)?;
     match call_thrice(rt, address) {
-        Ok(()) => print_ended(rt, SERVER, server),
+        Ok(()) => print_ended_at(rt, SERVER, address, server),
         Err(error) => {
             drop(server);
             Err(error)
@@ -48,13 +52,19 @@ fn serve_at<R: Processes + Files + Env + AllocGlobal + Net + Clock + Print>(
     }
 }
 
-fn start_server<R: Processes + Files + Env + AllocGlobal>(
+/// Starts a server that logs its requests.
+fn start_logged<R: Processes + Files + Env + AllocGlobal>(
     rt: &R,
     address: &str,
-    count: &str,
 ) -> io::Result<Child<R::Started>> {
-    let command = command_of(rt, SERVER, &["run", address, SERVED, count])?;
-    spawned(rt, command)
+    let mut command = command_of(rt, SERVER, &["run", address, SERVED, "3"])?;
+    match command.env("HAURPIKO_LOG", "1").map(|_| ()) {
+        Ok(()) => spawned(rt, command),
+        Err(refused) => {
+            drop(command);
+            Err(io::Error::from(refused))
+        }
+    }
 }
 
 fn call_thrice<R: Processes + Files + Env + AllocGlobal + Net + Clock + Print>(
@@ -81,8 +91,7 @@ fn call_once_it_listens<R: AllocGlobal + Net + Clock + Print>(
     Err(io::Error::from(ErrorKind::TimedOut))
 }
 
-/// Runs a server at an address at which this program listens. The error tells the number of the port, so the status alone is
-/// printed.
+/// Runs a server at an address at which this program listens.
 pub(crate) fn serve_at_an_address_in_use<
     R: Processes + Files + Env + AllocGlobal + Net + Clock + Print,
 >(rt: &R) -> io::Result<()> {
@@ -97,19 +106,37 @@ fn serve_beside<R: Processes + Files + Env + AllocGlobal + Net + Clock + Print>(
     port: &TcpPort<'_, R>,
 ) -> io::Result<()> {
     let address = address_of(rt.alloc(), port)?;
-    let server = start_server(rt, &address, "1");
+    let shown = run_server_at(rt, &address);
     drop(address);
-    print_status(rt, server?)
+    shown
 }
 
-fn print_status<R: AllocGlobal + Print, P: OpenProcess + Drop>(
+/// Runs a server whose input and output are closed. What it opens first does not get what it answers.
+pub(crate) fn serve_on_closed_streams<
+    R: Processes + Files + Env + AllocGlobal + Net + Clock + Print,
+>(rt: &R) -> io::Result<()> {
+    forget(rt);
+    let address = free_address(rt)?;
+    let shown = serve_without_streams(rt, &address);
+    drop(address);
+    shown?;
+    print_length(rt, SERVED_LOCK)
+}
+
+fn serve_without_streams<R: Processes + Files + Env + AllocGlobal + Net + Clock + Print>(
     rt: &R,
-    server: Child<P>,
+    address: &str,
 ) -> io::Result<()> {
-    let end = server.wait_with_output(rt.alloc())?;
-    let status = end.status;
-    drop(end);
-    println!(rt; "at an address in use: {status}")
+    let words = ["run", address, SERVED, "1"];
+    let command = command_by(rt, WITHOUT_STREAMS, SERVER, &words)?;
+    let server = spawned(rt, command)?;
+    match call_once_it_listens(rt, address) {
+        Ok(()) => print_ended_at(rt, SERVER, address, server),
+        Err(error) => {
+            drop(server);
+            Err(error)
+        }
+    }
 }
 
 /// Runs a server whose output is full.
@@ -129,7 +156,7 @@ fn serve_fully<R: Processes + Files<File = File> + Env + AllocGlobal + Net + Clo
     let command = command_of(rt, SERVER, &["run", address, SERVED, "1"])?;
     let server = with_a_full_output(rt, command)?;
     match call_once_it_listens(rt, address) {
-        Ok(()) => print_ended(rt, SERVER, server),
+        Ok(()) => print_ended_at(rt, SERVER, address, server),
         Err(error) => {
             drop(server);
             Err(error)

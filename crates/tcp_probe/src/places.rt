@@ -9,24 +9,27 @@ use std::{fs, io};
 /// The image of each client.
 pub const IMAGE: &str = "image";
 
+/// The lock of each client's image.
+pub const LOCK: &str = "image.lock";
+
 /// The image of each server that keeps one.
 pub const SERVED: &str = "served";
 
+/// The lock of each server's image.
+pub const SERVED_LOCK: &str = "served.lock";
+
+/// The folder in which each client runs programs.
+pub const WORK: &str = "work";
+
 /// All that belongs to both.
-const FILES: [&str; 6] = [
-    IMAGE,
-    "image.new",
-    "image.lock",
-    SERVED,
-    "served.new",
-    "served.lock",
-];
+const FILES: [&str; 6] = [IMAGE, "image.new", LOCK, SERVED, "served.new", SERVED_LOCK];
 
 /// Removes what a client or a server left.
 pub fn forget<R: Files>(rt: &R) {
     for file in FILES {
         let _removed = fs::remove_file(rt, file);
     }
+    let _removed = fs::remove_dir(rt, WORK);
 }
 
 /// A port at an address that was free.

@@ -1,10 +1,11 @@
 // This very program, started once more as the client or the server.
-use crate::places::{IMAGE, address_of, free_address};
+use crate::ending::print_ended;
+use crate::places::{IMAGE, WORK, address_of, free_address};
 use real_edge::TcpPort;
 use std::io::Write;
 use std::net::Net;
 use std::path::Path;
-use std::process::{Child, Command, OpenProcess, Output, Processes, Stdio};
+use std::process::{Child, Command, OpenProcess, Processes, Stdio};
 use std::rt::{Env, Files};
 use std::time::Clock;
 use std::{env, io};
@@ -14,6 +15,9 @@ pub const CLIENT: &str = "client";
 
 /// The first word of this program where it is the server.
 pub const SERVER: &str = "server";
+
+/// The shell.
+const SHELL: &str = "/bin/sh";
 
 /// How the name of a loader begins. Where one runs this program, it finds what it loads beside itself, and this program's
 /// name is the first word.
@@ -40,6 +44,43 @@ pub fn command_of<R: Files + Env + AllocGlobal>(
             Err(error)
         }
     }
+}
+
+/// A command that has the shell start this very program as another with these words, its streams in pipes. In the script `"$@"` is
+/// that program with its words.
+///
+/// # Errors
+///
+/// As `command_of`.
+pub fn command_by<R: Files + Env + AllocGlobal>(
+    rt: &R,
+    script: &str,
+    program: &str,
+    words: &[&str],
+) -> io::Result<Command> {
+    let mut command = Command::new(rt.alloc(), SHELL)?;
+    match add_script(rt, &mut command, script, program, words) {
+        Ok(()) => Ok(command),
+        Err(error) => {
+            drop(command);
+            Err(error)
+        }
+    }
+}
+
+fn add_script<R: Files + Env + AllocGlobal>(
+    rt: &R,
+    command: &mut Command,
+    script: &str,
+    program: &str,
+    words: &[&str],
+) -> io::Result<()> {
+    command.args(&["-c", script, SHELL])?;
+    let running = env::current_exe(rt)?;
+    let added = command.arg(running.as_path()).map(|_| ());
+    drop(running);
+    added?;
+    add_all(rt, command, program, words)
 }
 
 /// What starts this very program, or the loader that runs it.
@@ -92,7 +133,7 @@ fn add_folder<R: Env + AllocGlobal>(
 ///
 /// As `command_of`.
 pub fn client_command<R: Files + Env + AllocGlobal>(rt: &R, address: &str) -> io::Result<Command> {
-    command_of(rt, CLIENT, &["run", "1", IMAGE, address, "-", "work"])
+    command_of(rt, CLIENT, &["run", "1", IMAGE, address, "-", WORK])
 }
 
 /// A command that starts a client whose server does not listen.
@@ -107,6 +148,22 @@ pub fn lone_client_command<R: Files + Env + AllocGlobal + Net + Clock>(
     let command = client_command(rt, &address);
     drop(address);
     command
+}
+
+/// Starts a client whose server does not listen, by this script of the shell.
+///
+/// # Errors
+///
+/// As `command_of`, and the platform's.
+pub fn lone_client_by<R: Files + Env + AllocGlobal + Net + Clock + Processes>(
+    rt: &R,
+    script: &str,
+) -> io::Result<Child<R::Started>> {
+    let address = free_address(rt)?;
+    let words = ["run", "1", IMAGE, &address, "-", WORK];
+    let command = command_by(rt, script, CLIENT, &words);
+    drop(address);
+    spawned(rt, command?)
 }
 
 /// Starts a program.
@@ -178,27 +235,4 @@ pub fn run_lone_client<R: Processes + Files + Env + AllocGlobal + Net + Clock + 
     let command = lone_client_command(rt)?;
     let client = started(rt, command)?;
     print_ended(rt, CLIENT, client)
-}
-
-/// Waits for the end of a program, and prints what it wrote and its status.
-///
-/// # Errors
-///
-/// The platform's.
-pub fn print_ended<R: AllocGlobal + Print, P: OpenProcess + Drop>(
-    rt: &R,
-    program: &str,
-    child: Child<P>,
-) -> io::Result<()> {
-    let end = child.wait_with_output(rt.alloc())?;
-    let printed = print_end(rt, program, &end);
-    drop(end);
-    printed
-}
-
-fn print_end<R: Print>(rt: &R, program: &str, end: &Output) -> io::Result<()> {
-    io::writer(rt).write_all(&end.stdout)?;
-    io::writer(rt).write_all(&end.stderr)?;
-    let status = end.status;
-    println!(rt; "{program}: {status}")
 }

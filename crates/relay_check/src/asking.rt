@@ -1,0 +1,80 @@
+// Programs that are started, and asked.
+use crate::frames::ANSWERS;
+use std::io::{self, ErrorKind, Read, Write};
+use std::net::Net;
+use std::process::{Child, Processes};
+use std::rt::{Env, Files};
+use std::thread;
+use std::time::{Clock, Duration};
+use tcp_probe::{CLIENT, IMAGE, call_on, command_of, spawned};
+
+/// How often a peer is called until it listens.
+const CALLS: usize = 400;
+
+/// How many milliseconds are waited in between.
+const BETWEEN_MILLIS: u64 = 50;
+
+/// Starts this very program as another.
+pub(crate) fn start<R: Processes + Files + Env + AllocGlobal>(
+    rt: &R,
+    program: &str,
+    words: &[&str],
+) -> io::Result<Child<R::Started>> {
+    let command = command_of(rt, program, words)?;
+    spawned(rt, command)
+}
+
+/// Starts a client of this server and this surrogate, which runs commands in this folder, and types its input.
+pub(crate) fn start_client<R: Processes + Files + Env + AllocGlobal>(
+    rt: &R,
+    server: &str,
+    surrogate: &str,
+    folder: &str,
+    input: &[u8],
+) -> io::Result<Child<R::Started>> {
+    let mut client = start(rt, CLIENT, &["run", "1", IMAGE, server, surrogate, folder])?;
+    if let Some(mut stdin) = client.stdin.take() {
+        let _written = stdin.write_all(input);
+    }
+    Ok(client)
+}
+
+/// Asks once the peer listens, and prints the answer.
+pub(crate) fn ask<R: AllocGlobal + Net + Clock + Print>(
+    rt: &R,
+    name: &str,
+    address: &str,
+    frame: &[u8],
+) -> io::Result<()> {
+    for _ in 0..CALLS {
+        match call_on(rt, address, frame) {
+            Ok(stream) => return print_answer(rt, name, stream),
+            Err(_) => thread::sleep(rt, Duration::from_millis(BETWEEN_MILLIS)),
+        }
+    }
+    Err(io::Error::from(ErrorKind::TimedOut))
+}
+
+fn print_answer<R: AllocGlobal + Print, S: Read + Drop>(
+    rt: &R,
+    name: &str,
+    mut stream: S,
+) -> io::Result<()> {
+    let mut answer = Vec::new(rt.alloc());
+    let taken = stream.read_to_end(&mut answer);
+    drop(stream);
+    match taken {
+        Ok(_count) => print_known(rt, name, &answer),
+        Err(error) => Err(error),
+    }
+}
+
+/// Prints what an answer is, where it is a known one.
+fn print_known<R: Print>(rt: &R, name: &str, answer: &[u8]) -> io::Result<()> {
+    for (known, text) in ANSWERS {
+        if known == answer {
+            return println!(rt; "{name}: {text}");
+        }
+    }
+    println!(rt; "{name}: something else")
+}
