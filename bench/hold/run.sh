@@ -1,6 +1,6 @@
 #!/bin/bash
-# How long peers of other kinds hold up a client's sync, and whether a server without handles lives. All scenes run side by
-# side, on loopback, each with a server of its own; the longest takes some 70 seconds. Ends with 1 where a goal is missed.
+# How long peers of other kinds hold up a client's sync, whether many clients are served side by side, and whether a server without
+# handles lives. All scenes run side by side, on loopback, each with a server of its own; the longest takes some 70 seconds. Ends with 1 where a goal is missed.
 # The programs are out/ of both crates, or what SERVER and CLIENT name. Wants the Debian package python3.
 set -eu
 here=$(cd "$(dirname "$0")" && pwd)

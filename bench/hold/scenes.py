@@ -36,6 +36,10 @@ def listens(port):
     return any(row[1].endswith(f":{port:04X}") and row[3] == "0A" for row in rows)
 
 
+# The frame of the first pull of client 3.
+PULL = bytes((0, 0, 0, 11, 1, 3, 3)) + (1).to_bytes(8, "big")
+
+
 class Scene:
     """A server of its own, and what connects to it."""
 
@@ -81,6 +85,37 @@ class Scene:
         answer = client.stdout.readline().strip()
         return time.monotonic() - begun, answer
 
+    def sync_all(self, numbers, lines):
+        """The seconds until all these clients, side by side, are answered, and how many were synced."""
+        def session(number):
+            image = os.path.join(self.work, f"client-{number}.image")
+            client = start([CLIENT, "run", str(number), image, f"127.0.0.1:{self.port}", "-", "work"],
+                           stdin=subprocess.PIPE, stdout=subprocess.PIPE, stderr=subprocess.DEVNULL, text=True)
+            answers, _ = client.communicate(lines.replace("NAME", f"f{number}"))
+            synced.append(answers.count("synced"))
+        synced, begun = [], time.monotonic()
+        threads = [threading.Thread(target=session, args=(number,), daemon=True) for number in numbers]
+        for thread in threads:
+            thread.start()
+        for thread in threads:
+            thread.join(PATIENCE)
+        return time.monotonic() - begun, sum(synced)
+
+    def handles(self):
+        """How many handles the server has, and how much memory at most, in kilobytes."""
+        with open(f"/proc/{self.server.pid}/status") as status:
+            most = next(int(line.split()[1]) for line in status if line.startswith("VmHWM"))
+        return len(os.listdir(f"/proc/{self.server.pid}/fd")), most
+
+    def rest(self):
+        """Waits until the server has done nothing for half a second, a minute at most."""
+        spent = -1
+        for _ in range(120):
+            if self.spent() == spent:
+                break
+            spent = self.spent()
+            over.wait(0.5)
+
     def spent(self):
         """The processor seconds of the server."""
         with open(f"/proc/{self.server.pid}/stat") as stat:
@@ -88,8 +123,11 @@ class Scene:
         return (int(fields[11]) + int(fields[12])) / os.sysconf("SC_CLK_TCK")
 
 
-def told(seconds, answer, goal):
-    return f"{seconds:6.1f} s  {answer}", answer.startswith("synced") and seconds <= goal
+def told(scene, goal):
+    """What a client's sync takes now, and how much memory the server took at most, in megabytes."""
+    seconds, answer = scene.sync()
+    text = f"{seconds:6.2f} s  {answer:12}{scene.handles()[1] // 1024:5} MB"
+    return text, answer.startswith("synced") and seconds <= goal
 
 
 def silent(count, goal):
@@ -97,7 +135,7 @@ def silent(count, goal):
         scene = Scene(work)
         for _ in range(count):
             scene.peer()
-        return told(*scene.sync(), goal)
+        return told(scene, goal)
     return scene
 
 
@@ -105,7 +143,7 @@ def dripping(first, seconds, goal):
     def scene(work):
         scene = Scene(work)
         scene.drip(scene.peer(first), seconds)
-        return told(*scene.sync(), goal)
+        return told(scene, goal)
     return scene
 
 
@@ -114,7 +152,96 @@ def lingering(count, goal):
         scene = Scene(work)
         for _ in range(count):
             scene.peer(NO_MESSAGE)
-        return told(*scene.sync(), goal)
+        return told(scene, goal)
+    return scene
+
+
+def uploading(count, goal):
+    """Peers that send a frame of 8 MiB by 32 KiB a second, which takes four minutes."""
+    def scene(work):
+        scene = Scene(work)
+
+        def upload(peer):
+            try:
+                peer.sendall((8_388_608).to_bytes(4, "big"))
+                while not over.wait(1):
+                    peer.sendall(bytes(32_768))
+            except OSError:
+                pass
+        for _ in range(count):
+            threading.Thread(target=upload, args=(scene.peer(),), daemon=True).start()
+        time.sleep(3)
+        return told(scene, goal)
+    return scene
+
+
+def bringing(count, goal):
+    """Peers that send the longest frames all at once, as fast as they can."""
+    def scene(work):
+        scene = Scene(work)
+
+        def bring(peer):
+            try:
+                peer.sendall(HEAD_OF_64_MIB + bytes(67_108_860))
+            except OSError:
+                pass
+        for _ in range(count):
+            threading.Thread(target=bring, args=(scene.peer(),), daemon=True).start()
+        return told(scene, goal)
+    return scene
+
+
+def reading_nothing(count, goal):
+    """Peers that ask for 6 MiB of files, and read none of the answer. The sync is begun when the server has worked on all of them."""
+    def scene(work):
+        scene = Scene(work)
+        scene.sync_all([2], f"put big {'x' * 6_291_456}\nsync\n")
+        for _ in range(count):
+            peer = socket.socket()
+            peer.setsockopt(socket.SOL_SOCKET, socket.SO_RCVBUF, 4_096)
+            peer.connect(("127.0.0.1", scene.port))
+            peer.sendall(PULL)
+            scene.peers.append(peer)
+        time.sleep(1)
+        scene.rest()
+        return told(scene, goal)
+    return scene
+
+
+def side_by_side(goal):
+    """All clients at once, each with two puts and two syncs, beside ten silent peers."""
+    def scene(work):
+        scene = Scene(work)
+        for _ in range(10):
+            scene.peer()
+        seconds, synced = scene.sync_all(range(1, 65), "put NAME x\nsync\nput NAME y\nsync\n")
+        return f"{seconds:6.1f} s  {synced} synced", synced == 128 and seconds <= goal
+    return scene
+
+
+def in_a_row(count, goal):
+    """Connections one after the other, each with a frame that is no message; then handles and memory are as before."""
+    def scene(work):
+        scene = Scene(work)
+
+        def asks(times):
+            for _ in range(times):
+                with socket.create_connection(("127.0.0.1", scene.port)) as peer:
+                    peer.sendall(NO_MESSAGE)
+                    answer = peer.recv(4_096)
+                    if not answer:
+                        return False
+            return True
+        asks(100)
+        time.sleep(1)
+        before = scene.handles()
+        begun = time.monotonic()
+        answered = asks(count)
+        seconds = time.monotonic() - begun
+        time.sleep(3)
+        after = scene.handles()
+        text = f"{seconds:6.1f} s  handles {before[0]} then {after[0]}, {after[1]} kB at most"
+        return text, answered and after[0] <= before[0] and seconds <= goal
     return scene
 
 
@@ -131,18 +258,26 @@ def without_handles(work):
         return f"ended with status {scene.server.returncode}", False
     share = (scene.spent() - before) / 60 * 100
     resource.prlimit(scene.server.pid, resource.RLIMIT_NOFILE, (64, limits[1]))
-    seconds, answer = scene.sync()
-    text, good = told(seconds, answer, 10)
+    text, good = told(scene, 10)
     return f"up, on {share:.1f} % of a processor; then {text.strip()}", good and share < 5
 
 
 SCENES = [
-    ("1 silent peer", "10 s", silent(1, 10)),
-    ("4 silent peers", "30 s", silent(4, 30)),
-    ("10 silent peers", "60 s", silent(10, 60)),
-    ("drip: a byte a second from the start", "35 s", dripping(HEAD_OF_64_MIB[:1], 1, 35)),
-    ("drip: 180 KiB, then a byte each 25 s", "65 s", dripping(HEAD_OF_64_MIB + bytes(184_316), 25, 65)),
+    ("alone", "2 s", silent(0, 2)),
+    ("1 silent peer", "2 s", silent(1, 2)),
+    ("10 silent peers", "2 s", silent(10, 2)),
+    ("50 silent peers", "2 s", silent(50, 2)),
+    ("300 silent peers", "2 s", silent(300, 2)),
+    ("drip: a byte a second from the start", "2 s", dripping(HEAD_OF_64_MIB[:1], 1, 2)),
+    ("drip: 180 KiB, then a byte each 25 s", "2 s", dripping(HEAD_OF_64_MIB + bytes(184_316), 25, 2)),
+    ("upload: one of 8 MiB by 32 KiB a second", "2 s", uploading(1, 2)),
+    ("upload: twenty of them", "2 s", uploading(20, 2)),
+    ("frames: three of 64 MiB at once", "2 s", bringing(3, 2)),
+    ("pull: two that read nothing of 6 MiB", "2 s", reading_nothing(2, 2)),
+    ("pull: seventy, which are more than places", "2 s", reading_nothing(70, 2)),
     ("5 peers that got their answer and stay", "2 s", lingering(5, 2)),
+    ("64 clients side by side", "10 s", side_by_side(10)),
+    ("5,000 connections in a row", "60 s", in_a_row(5_000, 60)),
     ("handles: none for 60 s, then 64", "up, below 5 %", without_handles),
 ]
 

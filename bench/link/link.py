@@ -65,7 +65,7 @@ class Client:
     """A client that is talked to line by line."""
 
     def __init__(self, scene, server, surrogate):
-        words = [CLIENT, "run", "1", f"{scene.folder}/client.image", server, surrogate, f"{scene.folder}/near"]
+        words = [CLIENT, "run", "1", f"{scene.folder}/client.image", server, surrogate, f"{scene.folder}/work"]
         self.program = start(words, stdin=subprocess.PIPE, stdout=subprocess.PIPE, text=True)
 
     def say(self, line, wanted=None):
@@ -92,7 +92,7 @@ class Scene:
         self.server, self.surrogate = free_port(), free_port()
         start([SERVER, "run", f"127.0.0.1:{self.server}", f"{folder}/server.image", "65536"], stdout=subprocess.DEVNULL)
         await_port(self.server)
-        start([SURROGATE, "run", f"127.0.0.1:{self.surrogate}", f"127.0.0.1:{self.server}", f"{folder}/far", "65536"],
+        start([SURROGATE, "run", f"127.0.0.1:{self.surrogate}", f"127.0.0.1:{self.server}", f"{folder}/work", "65536"],
               stdout=subprocess.DEVNULL)
         await_port(self.surrogate)
 
@@ -130,7 +130,8 @@ def rsync_bytes(folder, *options):
     shutil.copytree(f"{folder}/input", f"{folder}/there", copy_function=shutil.copy2)
     port = free_port()
     with open(f"{folder}/rsync.conf", "w") as conf:
-        conf.write(f"use chroot = no\nuid = {os.getuid()}\ngid = {os.getgid()}\n[all]\npath = {folder}/there\nread only = no\n")
+        owner = "uid = 0\ngid = 0\n" if os.getuid() == 0 else ""
+        conf.write(f"use chroot = no\n{owner}[all]\npath = {folder}/there\nread only = no\n")
     daemon = start(["rsync", "--daemon", "--no-detach", f"--config={folder}/rsync.conf", f"--port={port}", "--address=127.0.0.1",
                     f"--log-file={folder}/rsync.log"])
     await_port(port)

@@ -16,7 +16,7 @@ class Link:
     """Counts what goes up to the peers and what comes down, over all ports of the link together."""
 
     def __init__(self, pace=None, file=None):
-        self.pace, self.file, self.lock = pace, file, threading.Lock()
+        self.pace, self.file, self.lock, self.listeners = pace, file, threading.Lock(), []
         self.free = {"up": 0.0, "down": 0.0}  # when each way has room for the next piece
         self.forget()
 
@@ -42,12 +42,22 @@ class Link:
             listener.setsockopt(socket.IPPROTO_TCP, socket.TCP_MAXSEG, SEGMENT)
         listener.bind(("127.0.0.1", port))
         listener.listen(64)
+        self.listeners.append(listener)
         threading.Thread(target=self.take_all, args=(listener, behind, name), daemon=True).start()
         return f"127.0.0.1:{listener.getsockname()[1]}"
 
+    def end(self):
+        """Takes no more connections."""
+        for listener in self.listeners:
+            listener.shutdown(socket.SHUT_RDWR)
+            listener.close()
+
     def take_all(self, listener, behind, name):
         while True:
-            near, _ = listener.accept()
+            try:
+                near, _ = listener.accept()
+            except OSError:
+                return
             with self.lock:
                 self.talks[name] = self.talks.get(name, 0) + 1
             threading.Thread(target=self.join, args=(near, behind), daemon=True).start()
