@@ -74,7 +74,7 @@ fn show_server<R: Processes + Files + Env + AllocGlobal + Net + Clock + Print>(
     scene: &Scene,
     server: &str,
 ) -> io::Result<()> {
-    let started = start(rt, SERVER, &["run", server, SERVED, scene.at_server])?;
+    let started = start_server(rt, server, scene.at_server)?;
     match show_beside(rt, scene, server) {
         Ok(()) => print_ended_at(rt, SERVER, server, started),
         Err(error) => {
@@ -82,6 +82,26 @@ fn show_server<R: Processes + Files + Env + AllocGlobal + Net + Clock + Print>(
             Err(error)
         }
     }
+}
+
+/// Starts a server that takes so many connections.
+fn start_server<R: Processes + Files + Env + AllocGlobal>(
+    rt: &R,
+    server: &str,
+    count: &str,
+) -> io::Result<Child<R::Started>> {
+    start(rt, SERVER, &["run", server, SERVED, count])
+}
+
+/// Starts a surrogate that takes so many connections.
+fn start_surrogate<R: Processes + Files + Env + AllocGlobal>(
+    rt: &R,
+    surrogate: &str,
+    server: &str,
+    far: &str,
+    count: &str,
+) -> io::Result<Child<R::Started>> {
+    start(rt, SURROGATE, &["run", surrogate, server, far, count])
 }
 
 /// Waits for the server, and goes on with a surrogate.
@@ -104,8 +124,7 @@ fn show_surrogate<R: Processes + Files + Env + AllocGlobal + Net + Clock + Print
     server: &str,
     surrogate: &str,
 ) -> io::Result<()> {
-    let words = ["run", surrogate, server, scene.far, scene.at_surrogate];
-    let started = start(rt, SURROGATE, &words)?;
+    let started = start_surrogate(rt, surrogate, server, scene.far, scene.at_surrogate)?;
     match show_client(rt, scene, server, surrogate) {
         Ok(()) => print_ended_at(rt, SURROGATE, surrogate, started),
         Err(error) => {

@@ -6,8 +6,6 @@ mod edge_tests;
 #[cfg(test)]
 mod keeper_tests;
 #[cfg(test)]
-mod link_tests;
-#[cfg(test)]
 mod probe;
 #[cfg(test)]
 mod server_tests;
