@@ -24,9 +24,10 @@ use Rattle.store_image.specs.Image.{Keeps}
 use Rattle.client_core.specs.declared.pulling.PullEnd.{PullEnd}
 use Rattle.client_core.specs.Trace.{Trace, nothing, followed, asking, changing, logging, running, pulling, last_log, log_before_last, IsLastOrBefore}
 use Rattle.client_core.specs.Syncing.{acknowledged_first}
-use Rattle.client_core.specs.Keeping.{OthersStay, IsKept, Kept, Keeping, KeepsLog}
+use Rattle.client_core.specs.Keeping.{OthersStay, IsSmall, StaysSmall, IsKept, Kept, Keeping}
 use Rattle.client_core.specs.Goes.{Goes, WorldGoes, stand, no_runner}
 use Rattle.client_core.specs.Honest.{IsTruePull}
+use Rattle.client_core.proofs.Journal.{KeepsLog}
 
 -- ---- traces
 
@@ -105,16 +106,22 @@ both_none : (xs ys : List Log) → xs ++ ys ≡ [] → (xs ≡ []) × (ys ≡ []
 both_none [] ys none = (refl, none)
 both_none (x ∷ xs) ys none = absurd (cc)
 
+small_then : (name : List ℕ) (i j l : Images) → StaysSmall name i j → StaysSmall name j l → StaysSmall name i l
+small_then name i j l (inl first) (inl second) = inl (second ∙ first)
+small_then name i j l (inr first) (inl second) = inr (subst IsSmall (sym second) first)
+small_then name i j l first (inr second) = inr second
+
 module _ (name : List ℕ) (client : ℕ) where
   kept_then : (b k : Log) (xs ys : List Log) (i j l : Images) → Kept name client b xs i j → Kept name client k ys j l → Kept name client k (xs ++ ys) i l
   kept_then b k xs ys i j l first second = record {
     keeps = second.keeps;
     unchanged = λ none. let each = both_none xs ys none in second.unchanged each.1 ∙ first.unchanged each.0;
+    small = small_then name i j l first.small second.small;
     others = λ other differs. second.others other differs ∙ first.others other differs;
   }
 
   kept_still : (log : Log) (i : Images) → Keeps (i name) client log → Kept name client log [] i i
-  kept_still log i keeps = record { keeps = keeps; unchanged = λ none. refl; others = λ other differs. refl }
+  kept_still log i keeps = record { keeps = keeps; unchanged = λ none. refl; small = inl refl; others = λ other differs. refl }
 
   told_still : (log : Log) (i : Option Images) → IsKept i name client log → Told i i (Kept name client log [])
   told_still log None keeps = refl
@@ -139,7 +146,7 @@ module _ (name : List ℕ) (client : ℕ) where
     where
       told_changed : (i : Option Images) → IsKept i name client log → Told i i (Kept name client log (next ∷ []))
       told_changed None keeps = refl
-      told_changed (Some i) keeps = record { keeps = keeps; unchanged = λ none. absurd (cc); others = λ other differs. refl }
+      told_changed (Some i) keeps = record { keeps = keeps; unchanged = λ none. absurd (cc); small = inl refl; others = λ other differs. refl }
 
   pub keeping_then : (a b c k : Log) (xs ys : List Log) (i j l : Option Images) → Keeping name client a b b xs i j → Keeping name client b c k ys j l → Keeping name client a c k (xs ++ ys) i l
   keeping_then a b c k xs ys i j l first second = record {
@@ -150,21 +157,21 @@ module _ (name : List ℕ) (client : ℕ) where
 
   -- a log that was changed is kept, or, where that was refused, what was kept before perhaps still is
   module _ (a b k : Log) (xs : List Log) (some : xs ≢ []) where
-    now_kept : (x y z : Images) → Kept name client k xs x y → Keeps (z name) client b → OthersStay name y z → Kept name client b xs x z
-    now_kept x y z first keeps others = record { keeps = keeps; unchanged = λ none. absurd (some none); others = λ other differs. others other differs ∙ first.others other differs }
+    now_kept : (x y z : Images) → Kept name client k xs x y → Keeps (z name) client b → OthersStay name y z → StaysSmall name y z → Kept name client b xs x z
+    now_kept x y z first keeps others small = record { keeps = keeps; unchanged = λ none. absurd (some none); small = small_then name x y z first.small small; others = λ other differs. others other differs ∙ first.others other differs }
 
-    still_kept : (x y z : Images) → Kept name client k xs x y → Keeps (z name) client k → OthersStay name y z → Kept name client k xs x z
-    still_kept x y z first keeps others = record { keeps = keeps; unchanged = λ none. absurd (some none); others = λ other differs. others other differs ∙ first.others other differs }
+    still_kept : (x y z : Images) → Kept name client k xs x y → Keeps (z name) client k → OthersStay name y z → StaysSmall name y z → Kept name client k xs x z
+    still_kept x y z first keeps others small = record { keeps = keeps; unchanged = λ none. absurd (some none); small = small_then name x y z first.small small; others = λ other differs. others other differs ∙ first.others other differs }
 
     told_saved : {E : Type 0} (i j l : Option Images) (r : Result (Unit {0}) E) → Told i j (Kept name client k xs) → Told j l (KeepsLog name client b r)
         → Told i l (Kept name client b xs) ⊎ (IfOk r (λ done. ⊥) × Told i l (Kept name client k xs))
-    told_saved {E} i j l (Ok done) first save = inl (told_then i j l (Kept name client k xs) (KeepsLog {E = E} name client b (Ok done)) (Kept name client b xs) first save (λ x y z p q. now_kept x y z p q.0 q.1))
+    told_saved {E} i j l (Ok done) first save = inl (told_then i j l (Kept name client k xs) (KeepsLog {E = E} name client b (Ok done)) (Kept name client b xs) first save (λ x y z p q. now_kept x y z p q.0 q.1 q.2))
     told_saved None None l (Err e) first save = inr (tt, save)
     told_saved None (Some y) l (Err e) first save = absurd (cc)
     told_saved (Some x) None l (Err e) first save = absurd first
     told_saved (Some x) (Some y) None (Err e) first save = absurd save
     told_saved (Some x) (Some y) (Some z) (Err e) first save =
-        ⊎_elim (λ still. inr (tt, still_kept x y z first (still client k first.keeps) save.1)) (λ keeps. inl (now_kept x y z first keeps save.1)) save.0
+        ⊎_elim (λ still. inr (tt, still_kept x y z first (still client k first.keeps) save.1 save.2)) (λ keeps. inl (now_kept x y z first keeps save.1 save.2)) save.0
 
     pub keeping_saved : {E : Type 0} (i j l : Option Images) (r : Result (Unit {0}) E) → Keeping name client a b k xs i j → Told j l (KeepsLog name client b r)
         → Keeping name client a b b xs i l ⊎ (IfOk r (λ done. ⊥) × Keeping name client a b k xs i l)

@@ -6,7 +6,7 @@ use Rattle.std.specs.Option.{option_to_list}
 use Rattle.std.proofs.lemmas.List.{append-nil, map-append, length-append, length-drop, length-take, take-append-drop, take-append-le, drop-append-le, take_all}
 use Rattle.std.proofs.lemmas.Grind.{flat_map-append}
 use Rattle.std.proofs.Math.ListN.{drop_of_length-le}
-use Rattle.std.proofs.lemmas.Bool.{le-leb, lt-leb}
+use Rattle.std.proofs.lemmas.Bool.{le-leb, lt-leb, leb-true}
 use Rattle.outside.specs.Outside.{Told}
 use Rattle.outside.specs.Keeper.{Images, IsPut, Appends, followed_by}
 use Rattle.outside.specs.declared.errors.KeepError.{KeepError}
@@ -17,7 +17,7 @@ use Rattle.mod_log.specs.Log.{Log, entry, tree_after, IsEntryOf, AreEntriesOf, I
 use Rattle.mod_log.proofs.Entries.{log_entry_at}
 use Rattle.store_image.specs.declared.record.ClientRecord.{ClientRecord}
 use Rattle.store_image.specs.declared.record.ClientRecord.TheVariants.{Logged, Acked}
-use Rattle.store_image.specs.declared.image.TheConstants.{MAX_RECORDS}
+use Rattle.store_image.specs.declared.image.TheConstants.{MAX_CLIENT_IMAGE, MAX_RECORDS}
 use Rattle.store_image.specs.Records.{client_record, client_records, with_records, AreNotes, IsSpelled}
 use Rattle.store_image.specs.Image.{IsKeptFor, IsKeptWholeFor, Keeps}
 use Rattle.store_image.proofs.Keeping.{client_once}
@@ -25,10 +25,29 @@ use Rattle.store_image.proofs.Appended.{records_are_appended, cut_records_are_to
 use Rattle.client_core.specs.declared.keeping.Journal.{Journal}
 use Rattle.client_core.specs.declared.keeping.Piece.{Piece}
 use Rattle.client_core.specs.Client.{Client}
-use Rattle.client_core.specs.Journal.{last_logged, notes_since, bytes_with, may_add, next_notes, bytes_after, journal_after}
+use Rattle.client_core.specs.Journal.{last_logged, notes_since, bytes_with, may_add, next_notes, bytes_after, journal_with, journal_after}
 use Rattle.client_core.specs.Syncing.{acknowledged_first}
-use Rattle.client_core.specs.Keeping.{IsKept, log_until, IsReadyFor, IsReady, IsKeptNext, AddsSome, StillKeeps, LeavesKept, KeepsNext, KeepsLog}
-use Rattle.client_core.specs.Inside.{LeadsTo, MayKeep, IsPiece, IsCurrentFor, JournalIsCurrent}
+use Rattle.client_core.specs.Keeping.{IsKept, log_until, IsReadyFor, IsReady, IsKeptNext, AddsSome, StillKeeps, OthersStay, IsSmall, StaysSmall, most_records, LeavesKept, KeepsNext}
+use Rattle.client_core.specs.Inside.{LeadsTo, MayKeep, IsPiece, IsWithin, IsCounted}
+
+-- ---- what stands under the name
+
+-- what stands under the name is this very log, without a torn tail, where there is a journal and the keeper tells its images
+pub record IsCurrentFor (number : ℕ) (log : Log) (journal : Journal) (found : Option (List ℕ)) : Type 0 where
+  pub bytes : List ℕ
+  pub stands : found ≡ Some bytes
+  pub last : journal.last ≡ last_logged log
+  pub whole : IsKeptWholeFor number log bytes
+
+abbrev pub JournalIsCurrent : Option Images → List ℕ → ℕ → Log → Option Journal → Type 0
+JournalIsCurrent None name number log journal = Unit {0}
+JournalIsCurrent (Some images) name number log journal = IfSome journal (λ journal. IsCurrentFor number log journal (images name))
+
+-- a log is kept under the name; where that is refused, what was kept there still is, or the log is
+abbrev pub KeepsLog : {E : Type 0} → List ℕ → ℕ → Log → Result (Unit {0}) E → Images → Images → Type 0
+KeepsLog name client log (Ok done) old new = Keeps (new name) client log × OthersStay name old new × StaysSmall name old new
+KeepsLog name client log (Err e) old new =
+    (StillKeeps (old name) (new name) ⊎ Keeps (new name) client log) × OthersStay name old new × StaysSmall name old new
 
 -- ---- logs and their fronts
 
@@ -124,16 +143,23 @@ module _ (name : List ℕ) (number : ℕ) where
 
   module _ (log : Log) where
     -- the log that stands there is one under which the client may go on
-    pub current_ready : (journal : Option Journal) (i : Option Images) → JournalIsCurrent i name number log journal → IsReady i name (record { number = number; log = log; journal = journal })
-    current_ready journal None current = tt
-    current_ready None (Some i) current = tt
-    current_ready (Some j) (Some i) current = record {
+    pub current_ready : (journal : Option Journal) (i : Option Images) → JournalIsCurrent i name number log journal → IsCounted i name journal → IsReady i name (record { number = number; log = log; journal = journal })
+    current_ready journal None current counted = tt
+    current_ready None (Some i) current counted = tt
+    current_ready (Some j) (Some i) current counted = record {
       bytes = current.bytes;
       stands = current.stands;
       acked = omega (arith, current.last);
       last = omega (arith, current.last);
       whole = subst (λ (l : Log). IsKeptWholeFor number l current.bytes) (sym (until_last log j.last current.last)) current.whole;
+      small = subst (λ (found : Option (List ℕ)). IfSome found (λ bytes. length bytes ≤ MAX_CLIENT_IMAGE + j.bytes)) current.stands counted;
     }
+
+    -- and what stands there is counted
+    pub ready_counted : (journal : Option Journal) (i : Option Images) → IsReady i name (record { number = number; log = log; journal = journal }) → IsCounted i name journal
+    ready_counted None i ready = tt
+    ready_counted (Some j) None ready = tt
+    ready_counted (Some j) (Some i) ready = subst (λ (found : Option (List ℕ)). IfSome found (λ bytes. length bytes ≤ MAX_CLIENT_IMAGE + j.bytes)) (sym ready.stands) ready.small
 
     -- one that is kept, and may go on there, stands there
     pub ready_current : (journal : Option Journal) (i : Option Images) → IsKept i name number log → IsReady i name (record { number = number; log = log; journal = journal }) → JournalIsCurrent i name number log journal
@@ -161,6 +187,7 @@ module _ (name : List ℕ) (number : ℕ) where
           acked = ready.acked;
           last = omega (arith, ready.last, count);
           whole = subst (λ (l : Log). IsKeptWholeFor number l ready.bytes) (sym (until_logged log e j.last ready.last)) ready.whole;
+          small = ready.small;
         }
 
 -- a client without a journal may go on anywhere
@@ -243,12 +270,20 @@ module _ (name : List ℕ) (number : ℕ) (log : Log) where
 
 -- ---- what a keeping leaves
 
+-- an image, and what was added to, are small
+most_small : (notes : Option (List ClientRecord)) (bytes : List ℕ) → length bytes ≤ MAX_CLIENT_IMAGE + most_records notes → length bytes ≤ MAX_CLIENT_IMAGE + MAX_RECORDS
+most_small None bytes small = omega (arith, small)
+most_small (Some notes) bytes small = small
+
 module _ {E : Type 0} (name : List ℕ) (number : ℕ) (log : Log) where
   one_keeps : (notes : Option (List ClientRecord)) → IfSome notes (λ some. length some ≤ 1) → (r : Result (Unit {0}) E) (x y : Images) → KeepsNext name number log notes r x y → KeepsLog name number log r x y
-  one_keeps notes few (Ok done) x y next =
-      (subst (λ (found : Option (List ℕ)). Keeps found number log) (sym next.here) (records_are_appended.clients_kept number log next.bytes next.whole), next.others)
+  one_keeps notes few (Ok done) x y next = (
+    subst (λ (found : Option (List ℕ)). Keeps found number log) (sym next.here) (records_are_appended.clients_kept number log next.bytes next.whole),
+    next.others,
+    inr (subst IsSmall (sym next.here) (most_small notes next.bytes next.small)),
+  )
   one_keeps None few (Err e) x y next = next
-  one_keeps (Some notes) few (Err e) x y next = (⊎_elim inl added next.0, next.1)
+  one_keeps (Some notes) few (Err e) x y next = (⊎_elim inl added next.0, next.1, next.2)
     where
       added : AddsSome number log notes (x name) (y name) → StillKeeps (x name) (y name) ⊎ Keeps (y name) number log
       added adds =
@@ -269,10 +304,22 @@ module _ {E : Type 0} (name : List ℕ) (number : ℕ) (log : Log) where
   next_current journal notes (Ok done) None (Some y) told = absurd (cc)
   next_current journal notes (Ok done) (Some x) (Some y) told = record { bytes = told.bytes; stands = told.here; last = refl; whole = told.whole }
 
+  -- an image that was saved has no records behind it
+  pub saved_counted : (r : Result (Unit {0}) E) (i j : Option Images) → Told i j (KeepsNext name number log None r) → IsCounted j name (journal_with 0 log r)
+  saved_counted (Err e) i j told = tt
+  saved_counted (Ok done) i None told = tt
+  saved_counted (Ok done) None (Some y) told = absurd (cc)
+  saved_counted (Ok done) (Some x) (Some y) told = subst (λ (found : Option (List ℕ)). IfSome found (λ bytes. length bytes ≤ MAX_CLIENT_IMAGE + 0)) (sym told.here) told.small
+
 -- ---- what an append leaves
 
 module _ (name : List ℕ) (number : ℕ) (log : Log) (notes : List ClientRecord) where
-  module _ (x y : Images) (leads : LeadsTo number log notes (x name)) where
+  module _ (x y : Images) (leads : LeadsTo number log notes (x name)) (records : ℕ) (within : IsWithin (Some x) name records) (few : records + length (client_records notes) ≤ MAX_RECORDS) where
+    behind_small : (piece : List ℕ) → length piece ≤ length (client_records notes) → length (leads.bytes ++ piece) ≤ MAX_CLIENT_IMAGE + MAX_RECORDS
+    behind_small piece short =
+        let before : length leads.bytes ≤ MAX_CLIENT_IMAGE + records = subst (λ (found : Option (List ℕ)). IfSome found (λ bytes. length bytes ≤ MAX_CLIENT_IMAGE + records)) leads.stands within in
+        omega (arith, before, few, short, length-append leads.bytes piece)
+
     kept_base : Keeps (x name) number leads.base
     kept_base = subst (λ (found : Option (List ℕ)). Keeps found number leads.base) (sym leads.stands) (records_are_appended.clients_kept number leads.base leads.bytes leads.whole)
 
@@ -285,6 +332,7 @@ module _ (name : List ℕ) (number : ℕ) (log : Log) (notes : List ClientRecord
       here = stands_behind (client_records notes) put;
       written = (leads.bytes, leads.stands, refl);
       whole = subst (λ (l : Log). IsKeptWholeFor number l (leads.bytes ++ client_records notes)) leads.leads (records_are_appended.all_behind_client number leads.base leads.bytes notes leads.whole leads.noted);
+      small = behind_small (client_records notes) (omega arith);
       others = put.others;
     }
 
@@ -304,14 +352,65 @@ module _ (name : List ℕ) (number : ℕ) (log : Log) (notes : List ClientRecord
         let cut = cut_records_are_torn.all_behind_client number leads.base leads.bytes notes count leads.whole leads.noted in
         cut_leaves cut.0 (subst (λ (found : Option (List ℕ)). Keeps found number (with_records leads.base (take cut.0 notes))) (sym (stands_behind (take count (client_records notes)) put)) cut.1)
 
-  pub appended_keeps : (r : Result (Unit {0}) KeepError) (i j : Option Images) → MayKeep (Some notes) i name number log → Told i j (λ old new. Appends name (client_records notes) r old new)
-      → Told i j (KeepsNext name number log (Some notes) r)
-  appended_keeps r None j may told = told
-  appended_keeps r (Some x) None may told = told
-  appended_keeps (Ok done) (Some x) (Some y) may put = added_all x y may put
-  appended_keeps (Err e) (Some x) (Some y) may (inl same) =
-      (inl (λ c l keeps. subst (λ (images : Images). Keeps (images name) c l) (sym same) keeps), λ other differs. ap (λ (images : Images). images other) same)
-  appended_keeps (Err e) (Some x) (Some y) may (inr put) = (added_cut x y may put.0 put.1, put.1.others)
+    cut_small : (count : ℕ) → IsPut name (followed_by (take count (client_records notes)) (x name)) x y → IsSmall (y name)
+    cut_small count put =
+        let short = length-take count (client_records notes) in
+        subst IsSmall (sym (stands_behind (take count (client_records notes)) put)) (behind_small (take count (client_records notes)) (omega (arith, short)))
+
+  module _ (records : ℕ) (few : records + length (client_records notes) ≤ MAX_RECORDS) where
+    pub appended_keeps : (r : Result (Unit {0}) KeepError) (i j : Option Images) → IsWithin i name records → MayKeep (Some notes) i name number log
+        → Told i j (λ old new. Appends name (client_records notes) r old new) → Told i j (KeepsNext name number log (Some notes) r)
+    appended_keeps r None j within may told = told
+    appended_keeps r (Some x) None within may told = told
+    appended_keeps (Ok done) (Some x) (Some y) within may put = added_all x y may records within few put
+    appended_keeps (Err e) (Some x) (Some y) within may (inl same) = (
+      inl (λ c l keeps. subst (λ (images : Images). Keeps (images name) c l) (sym same) keeps),
+      λ other differs. ap (λ (images : Images). images other) same,
+      inl (ap (λ (images : Images). images name) same),
+    )
+    appended_keeps (Err e) (Some x) (Some y) within may (inr put) =
+        (added_cut x y may records within few put.0 put.1, put.1.others, inr (cut_small x y may records within few put.0 put.1))
+
+-- behind a piece there are so many more bytes
+module _ (name piece : List ℕ) (records all : ℕ) (sum : all ≡ records + length piece) where
+  behind_within : (found : Option (List ℕ)) → IfSome found (λ bytes. length bytes ≤ MAX_CLIENT_IMAGE + records) → length (followed_by piece found) ≤ MAX_CLIENT_IMAGE + all
+  behind_within None within = omega (arith, sum)
+  behind_within (Some bytes) within = omega (arith, sum, within, length-append bytes piece)
+
+  appended_within : (done : Unit {0}) (i j : Option Images) → IsWithin i name records → Told i j (λ old new. Appends {E = KeepError} name piece (Ok done) old new) → IsWithin j name all
+  appended_within done i None within told = tt
+  appended_within done None (Some y) within told = absurd (cc)
+  appended_within done (Some x) (Some y) within put = subst (λ (found : Option (List ℕ)). IfSome found (λ bytes. length bytes ≤ MAX_CLIENT_IMAGE + all)) (sym put.here) (behind_within (x name) within)
+
+-- ---- there is room for what is added
+
+abbrev pub HasRoom : Option Journal → Option (List ClientRecord) → Type 0
+HasRoom journal None = Unit {0}
+HasRoom None (Some notes) = ⊥
+HasRoom (Some journal) (Some notes) = bytes_with journal notes ≤ MAX_RECORDS
+
+and_right : (a b : Bool) → a && b ≡ true → b ≡ true
+and_right true b is = is
+and_right false b is = absurd (cc)
+
+pub next_room : (journal : Option Journal) (rose : Bool) (log : Log) → HasRoom journal (next_notes journal rose log)
+next_room None rose log = tt
+next_room (Some j) rose log = by (may_add j rose log) refl
+  where
+    by : (may : Bool) → may ≡ may_add j rose log → HasRoom (Some j) (if may then Some (notes_since j rose log) else None)
+    by true is = leb-true (bytes_with j (notes_since j rose log)) MAX_RECORDS (and_right (nat_le log.acked j.last) (nat_le (bytes_with j (notes_since j rose log)) MAX_RECORDS) (sym is))
+    by false is = tt
+
+-- so what stands there and what is added
+record RoomFor (journal : Option Journal) (notes : List ClientRecord) (name : List ℕ) (i : Option Images) : Type 0 where
+  records : ℕ
+  within : IsWithin i name records
+  sum : bytes_after (Some notes) journal ≡ records + length (client_records notes)
+  few : records + length (client_records notes) ≤ MAX_RECORDS
+
+room_for : (journal : Option Journal) (notes : List ClientRecord) (name : List ℕ) (i : Option Images) → HasRoom journal (Some notes) → IsCounted i name journal → RoomFor journal notes name i
+room_for None notes name i room counted = absurd room
+room_for (Some j) notes name i room counted = record { records = j.bytes; within = counted; sum = refl; few = room }
 
 -- ---- the piece that is appended
 
@@ -327,13 +426,24 @@ module _ (journal : Option Journal) where
   pub piece_bytes : (notes : Option (List ClientRecord)) (found : Option Piece) (piece : Piece) → IsPiece journal notes found → found ≡ Some piece → piece.bytes ≡ bytes_after notes journal
   piece_bytes notes found piece is found_is = (piece_is notes piece (subst (IsPiece journal notes) found_is is)).3
 
-  pub piece_keeps : (notes : Option (List ClientRecord)) (found : Option Piece) (piece : Piece) → IsPiece journal notes found → found ≡ Some piece → (name : List ℕ) (number : ℕ) (log : Log) (r : Result (Unit {0}) KeepError) (i j : Option Images)
-      → MayKeep notes i name number log → Told i j (λ old new. Appends name piece.records.items r old new) → Told i j (KeepsNext name number log notes r)
-  piece_keeps notes found piece is found_is name number log r i j may told =
-      let p = piece_is notes piece (subst (IsPiece journal notes) found_is is) in
-      subst (λ (n : Option (List ClientRecord)). Told i j (KeepsNext name number log n r)) (sym p.1)
-      (appended_keeps name number log p.0 r i j (subst (λ (n : Option (List ClientRecord)). MayKeep n i name number log) p.1 may)
-      (subst (λ (text : List ℕ). Told i j (λ old new. Appends name text r old new)) p.2 told))
+  module _ (notes : Option (List ClientRecord)) (found : Option Piece) (piece : Piece) (is : IsPiece journal notes found) (found_is : found ≡ Some piece) (room : HasRoom journal notes) (name : List ℕ) (log : Log) where
+    pub piece_keeps : (number : ℕ) (r : Result (Unit {0}) KeepError) (i j : Option Images) → IsCounted i name journal → MayKeep notes i name number log → Told i j (λ old new. Appends name piece.records.items r old new)
+        → Told i j (KeepsNext name number log notes r)
+    piece_keeps number r i j counted may told =
+        let p = piece_is notes piece (subst (IsPiece journal notes) found_is is) in
+        let fits = room_for journal p.0 name i (subst (HasRoom journal) p.1 room) counted in
+        subst (λ (n : Option (List ClientRecord)). Told i j (KeepsNext name number log n r)) (sym p.1)
+        (appended_keeps name number log p.0 fits.records fits.few r i j fits.within (subst (λ (n : Option (List ClientRecord)). MayKeep n i name number log) p.1 may)
+        (subst (λ (text : List ℕ). Told i j (λ old new. Appends name text r old new)) p.2 told))
+
+    pub piece_counted : (r : Result (Unit {0}) KeepError) (i j : Option Images) → IsCounted i name journal → Told i j (λ old new. Appends name piece.records.items r old new) → IsCounted j name (journal_with piece.bytes log r)
+    piece_counted (Err e) i j counted told = tt
+    piece_counted (Ok done) i j counted told =
+        let p = piece_is notes piece (subst (IsPiece journal notes) found_is is) in
+        let fits = room_for journal p.0 name i (subst (HasRoom journal) p.1 room) counted in
+        let sum : piece.bytes ≡ fits.records + length piece.records.items =
+        p.3 ∙ ap (λ (n : Option (List ClientRecord)). bytes_after n journal) p.1 ∙ fits.sum ∙ ap (λ (text : List ℕ). fits.records + length text) (sym p.2) in
+        appended_within name piece.records.items fits.records piece.bytes sum done i j fits.within told
 
 module _ (j : Journal) (rose : Bool) (log : Log) where
   -- an entry that was not kept is acknowledged

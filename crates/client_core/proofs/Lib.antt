@@ -8,6 +8,7 @@ pub mod Locals
 pub mod Noted
 pub mod Noting
 pub mod Olders
+pub mod Overtaken
 pub mod Putting
 pub mod Pulls
 pub mod Runs

@@ -1,5 +1,5 @@
 -- What logging a local effect makes of the client and the world.
-use Rattle.std.proofs.Common.{Bool, false, ◌≡◌, ◌≢◌, inl, inr, ℕ, List, [], ◌∷◌, Option, Some, None, Result, Ok, Err, IfOk, IfErr, OnOk, OnErr, refl, sym, subst}
+use Rattle.std.proofs.Common.{Bool, false, ◌≡◌, ◌≢◌, ◌⊎◌, inl, inr, ℕ, List, [], ◌∷◌, Option, Some, None, Result, Ok, Err, IfOk, IfErr, OnOk, OnErr, refl, sym, subst}
 use Rattle.outside.specs.Keeper.{Images}
 use Rattle.cmd_capture.specs.Runs.{RunnerTelling}
 use Rattle.file_paths.specs.Refusals.{unless_refused}
@@ -11,13 +11,19 @@ use Rattle.mod_log.specs.declared.log.LogError.TheVariants.{EntryTooLarge, LogFu
 use Rattle.mod_log.specs.Log.{Log, IsLog, logged}
 use Rattle.mod_log.specs.Append.{next_entry, appended, append_refusals}
 use Rattle.world_rules.specs.Telling.{LinkTelling}
-use Rattle.client_core.specs.Logging.{local_entry, LocalEnds}
+use Rattle.client_core.specs.Trace.{Trace, nothing}
+use Rattle.client_core.specs.Logging.{local_entry, LocalTurn}
 use Rattle.client_core.specs.declared.keeping.Journal.{Journal}
 use Rattle.client_core.specs.Journal.{next_notes}
 use Rattle.client_core.specs.Keeping.{IsKept, IsReady, IsKeptReady}
 use Rattle.client_core.specs.Goes.{Goes}
 use Rattle.client_core.proofs.Going.{goes_none, goes_logged}
 use Rattle.client_core.proofs.Journal.{IsOneAtMost, ready_current, logged_ready, logged_one}
+
+-- an effect that has its turn, or for which memory was wanted before it did anything
+abbrev pub LocalEnds : Effect → Log → Result ℕ LogError → Log → Trace → Type 0
+LocalEnds effect before result after trace =
+    LocalTurn effect before result after trace ⊎ ((result ≡ Err Memory) × (after ≡ before) × (trace ≡ nothing))
 
 unrefused : {T E : Type 0} (refusals : List (Option E)) (value new : T) → unless_refused refusals value ≡ Ok new → value ≡ new
 unrefused [] value new is = cc

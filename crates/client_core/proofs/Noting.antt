@@ -22,10 +22,9 @@ use Rattle.client_core.specs.Journal.{last_logged, notes_since, bytes_with, may_
 use Rattle.client_core.specs.Syncing.{acknowledged_first}
 use Rattle.client_core.specs.Causes.{AcknowledgesSome}
 use Rattle.client_core.specs.Keeping.{IsKeptReady, KeepsNext}
-use Rattle.client_core.specs.Inside.{JournalIsCurrent}
 use Rattle.client_core.specs.Noting.{logs_behind, AreRecorded, acknowledgements, records_between, AreAdded, KeepsRecords, KeepsChanges}
 use Rattle.client_core.proofs.Acknowledging.{some_left}
-use Rattle.client_core.proofs.Journal.{ready_current, acked_note}
+use Rattle.client_core.proofs.Journal.{JournalIsCurrent, ready_current, acked_note}
 
 -- ---- records, and the logs behind them
 

@@ -31,7 +31,7 @@ use Rattle.client_core.specs.declared.pulling.PullEnd.{PullEnd}
 use Rattle.client_core.specs.declared.pulling.PullEnd.TheVariants as ends
 use Rattle.client_core.specs.Trace.{Trace, followed, asking, pulling}
 use Rattle.client_core.specs.Pulling.{pull_of, Meets, pull_change, pulled_end, is_broken_pull, PullsSnapshot, PullTurn, PullAsks, PullEnds}
-use Rattle.client_core.specs.Keeping.{IsKept, Keeping, KeepsLog}
+use Rattle.client_core.specs.Keeping.{IsKept, Keeping}
 use Rattle.client_core.specs.Goes.{Goes, Went, stand, no_runner}
 use Rattle.client_core.specs.Causes.{TakesRows, HasPullCause, PullKeeps}
 use Rattle.client_core.specs.Honest.{IsNotOtherLast, IsNotOlder}
@@ -39,6 +39,7 @@ use Rattle.client_core.specs.Inside.{MeetsEnds, PullLeaves, first_lower, snapsho
 use Rattle.client_core.proofs.Going.{changed_so, keeping_none, keeping_unkept, keeping_saved, goes_none, goes_as, goes_asked, Met, goes_pulled, goes_saved}
 use Rattle.client_core.proofs.Standing.{settled_stands}
 use Rattle.client_core.proofs.Olders.{nowhere_older, first_older}
+use Rattle.client_core.proofs.Journal.{KeepsLog}
 
 -- ---- nothing is pending
 

@@ -32,11 +32,11 @@ use Rattle.client_core.specs.declared.keeping.Journal.{Journal}
 use Rattle.client_core.specs.Keeping.{IsKept, IsReady, IsKeptReady}
 use Rattle.client_core.specs.Running.{changes_of, first_clash, origin_of, run_entry, run_logged, IsLoggable, RanEnd, ran_trace, RunTurn, BreaksRun, RunEnds, has_logged, RunsCommand}
 use Rattle.client_core.specs.Journal.{next_notes}
-use Rattle.client_core.specs.Inside.{JournalIsCurrent, ran, RanEnds, IsUnlogged, unrun_end, jobless_end, odd_end}
+use Rattle.client_core.specs.Inside.{ran, RanEnds, IsUnlogged, unrun_end, jobless_end, odd_end}
 use Rattle.client_core.specs.Goes.{Goes}
 use Rattle.client_core.proofs.Going.{has_run_none, changed_so, goes_ran, goes_ran_logged}
 use Rattle.client_core.proofs.Counting.{unrisen}
-use Rattle.client_core.proofs.Journal.{IsOneAtMost, ready_current, logged_ready, same_one, logged_one}
+use Rattle.client_core.proofs.Journal.{JournalIsCurrent, IsOneAtMost, ready_current, logged_ready, same_one, logged_one}
 use Rattle.client_core.proofs.Locals.{appended-is}
 
 -- ---- what the runner tells

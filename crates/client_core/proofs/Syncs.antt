@@ -22,13 +22,14 @@ use Rattle.client_core.specs.declared.syncing.SyncEnd.{SyncEnd}
 use Rattle.client_core.specs.declared.syncing.SyncEnd.TheVariants as ends
 use Rattle.client_core.specs.Trace.{Trace, followed, asking, changing, last_log}
 use Rattle.client_core.specs.Syncing.{store_of, IsFirst, Ships, BreaksShipping, Acknowledges, acknowledged_first, end_by, unkept_end, is_broken_sync, SyncEnds}
-use Rattle.client_core.specs.Keeping.{IsKept, Keeping, KeepsLog}
+use Rattle.client_core.specs.Keeping.{IsKept, Keeping}
 use Rattle.client_core.specs.Goes.{Goes, Went, no_runner}
 use Rattle.client_core.specs.Causes.{HasSyncCause, AcknowledgeFirsts, SyncKeeps}
 use Rattle.client_core.proofs.Going.{followed-nothing, changed_so, keeping_none, keeping_then, keeping_unkept, keeping_saved, kept_now, goes_none, goes_as, goes_then, goes_asked, goes_acked, goes_saved}
 use Rattle.client_core.specs.Inside.{AskedFor, ShipsTo}
 use Rattle.client_core.proofs.Firsts.{first_number, first_some}
 use Rattle.client_core.proofs.Ships.{AsksRun, IsShippingReply, ending_echoes, reply_stands}
+use Rattle.client_core.proofs.Journal.{KeepsLog}
 
 module _ (client : ℕ) (route : Route) (entry : Entry) where
   abbrev store : Message

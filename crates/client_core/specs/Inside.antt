@@ -1,5 +1,5 @@
 -- Words that only the contracts of private functions cite.
-use Rattle.std.specs.Prelude.{◌≡◌, ◌≢◌, ◌⊎◌, ℕ, ◌<◌, nat_lt, Bool, true, false, List, [], length, Option, None, Some, is_some, IfSome, find}
+use Rattle.std.specs.Prelude.{◌≡◌, ◌≢◌, ◌⊎◌, ℕ, ◌+◌, ◌<◌, ◌≤◌, nat_lt, Bool, true, false, List, [], length, Option, None, Some, is_some, IfSome, find}
 use Rattle.std.specs.Prelude.{Result, Ok, Err}
 use Rattle.std.specs.declared.alloc.AllocError.{AllocError}
 use Rattle.tree_values.specs.Tree.{Volume, version_at}
@@ -24,6 +24,7 @@ use Rattle.mod_log.specs.declared.log.Entry.{Entry}
 use Rattle.mod_log.specs.declared.sketching.SketchEntry.{SketchEntry}
 use Rattle.mod_log.specs.Log.{Log, IsLog}
 use Rattle.mod_log.specs.Sketched.{IsSketchOf}
+use Rattle.store_image.specs.declared.image.TheConstants.{MAX_CLIENT_IMAGE}
 use Rattle.store_image.specs.declared.record.ClientRecord.{ClientRecord}
 use Rattle.store_image.specs.Image.{IsKeptWholeFor}
 use Rattle.store_image.specs.Records.{client_records, with_records, AreNotes}
@@ -42,7 +43,7 @@ use Rattle.client_core.specs.declared.running.RunEnd.TheVariants as runs
 use Rattle.client_core.specs.Syncing.{store_of, IsFirst, SettlesOperation, StoreIsDue, Ships, BreaksShipping}
 use Rattle.client_core.specs.Pulling.{Meets}
 use Rattle.client_core.specs.Running.{changes_of, first_clash, IsLoggable, RanEnd}
-use Rattle.client_core.specs.Journal.{last_logged, bytes_after}
+use Rattle.client_core.specs.Journal.{bytes_after}
 use Rattle.client_core.specs.Causes.{TakesRows}
 
 -- ---- shipping
@@ -168,16 +169,15 @@ MayKeep None images name number log = Unit {0}
 MayKeep (Some notes) None name number log = Unit {0}
 MayKeep (Some notes) (Some images) name number log = LeadsTo number log notes (images name)
 
--- what stands under the name is this very log, without a torn tail, where there is a journal and the keeper tells its images
-pub record IsCurrentFor (number : ℕ) (log : Log) (journal : Journal) (found : Option (List ℕ)) : Type 0 where
-  pub bytes : List ℕ
-  pub stands : found ≡ Some bytes
-  pub last : journal.last ≡ last_logged log
-  pub whole : IsKeptWholeFor number log bytes
+-- what stands under the name has no more bytes than the largest image and so many of records, where the keeper tells its images
+abbrev pub IsWithin : Option Images → List ℕ → ℕ → Type 0
+IsWithin None name records = Unit {0}
+IsWithin (Some images) name records = IfSome (images name) (λ bytes. length bytes ≤ MAX_CLIENT_IMAGE + records)
 
-abbrev pub JournalIsCurrent : Option Images → List ℕ → ℕ → Log → Option Journal → Type 0
-JournalIsCurrent None name number log journal = Unit {0}
-JournalIsCurrent (Some images) name number log journal = IfSome journal (λ journal. IsCurrentFor number log journal (images name))
+-- no more than the largest image and the records that the journal counts
+abbrev pub IsCounted : Option Images → List ℕ → Option Journal → Type 0
+IsCounted images name None = Unit {0}
+IsCounted images name (Some journal) = IsWithin images name journal.bytes
 
 -- the piece is the records of the notes, and with them all records have so many bytes; there is none where the image is to be saved
 abbrev pub IsPiece : Option Journal → Option (List ClientRecord) → Option Piece → Type 0

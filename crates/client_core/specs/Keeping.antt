@@ -1,8 +1,9 @@
 -- What is kept of a client under a name, from one run to the next.
-use Rattle.std.specs.Prelude.{◌≡◌, ◌≢◌, ◌⊎◌, ℕ, suc, ◌-◌, ◌≤◌, List, [], ◌++◌, take, Option, None, Some, IfSome, Result, Ok, Err}
+use Rattle.std.specs.Prelude.{◌≡◌, ◌≢◌, ◌⊎◌, ℕ, suc, ◌+◌, ◌-◌, ◌≤◌, List, [], ◌++◌, length, take, Option, None, Some, IfSome, Result, Ok, Err}
 use Rattle.outside.specs.Outside.{Told}
 use Rattle.outside.specs.Keeper.{Images}
 use Rattle.mod_log.specs.Log.{Log}
+use Rattle.store_image.specs.declared.image.TheConstants.{MAX_CLIENT_IMAGE, MAX_RECORDS}
 use Rattle.store_image.specs.declared.record.ClientRecord.{ClientRecord}
 use Rattle.store_image.specs.Image.{Keeps, IsKeptWholeFor}
 use Rattle.store_image.specs.Records.{client_records, with_records}
@@ -35,6 +36,14 @@ StillKeeps old new = (client : ℕ) (log : Log) → Keeps old client log → Kee
 abbrev pub OthersStay : List ℕ → Images → Images → Type 0
 OthersStay name old new = (other : List ℕ) → other ≢ name → new other ≡ old other
 
+-- what stands under a name has no more bytes than the largest image and the records that may stand behind it
+abbrev pub IsSmall : Option (List ℕ) → Type 0
+IsSmall found = IfSome found (λ bytes. length bytes ≤ MAX_CLIENT_IMAGE + MAX_RECORDS)
+
+-- what stands under the name stood there before, or is small
+abbrev pub StaysSmall : List ℕ → Images → Images → Type 0
+StaysSmall name old new = (new name ≡ old name) ⊎ IsSmall (new name)
+
 -- ---- what a keeping finds
 
 -- the log with its entries up to this number
@@ -42,13 +51,14 @@ abbrev pub log_until : ℕ → Log → Log
 log_until number log = record { acked = log.acked; base = log.base; pending = take (number - log.acked) log.pending }
 
 -- What stands under a name is an image with whole records behind it, and no torn tail. It is kept for the log without the entries that were
--- logged since the journal's keeping.
+-- logged since the journal's keeping, and has no more bytes than the largest image and the records that the journal counts.
 pub record IsReadyFor (number : ℕ) (log : Log) (journal : Journal) (found : Option (List ℕ)) : Type 0 where
   pub bytes : List ℕ
   pub stands : found ≡ Some bytes
   pub acked : log.acked ≤ journal.last
   pub last : journal.last ≤ last_logged log
   pub whole : IsKeptWholeFor number (log_until journal.last log) bytes
+  pub small : length bytes ≤ MAX_CLIENT_IMAGE + journal.bytes
 
 -- A client that adds to what is kept finds it so under the name, where the keeper tells its images. With what its next keeping appends
 -- behind them, those bytes are kept for it.
@@ -67,12 +77,19 @@ abbrev pub IsWritten : ℕ → Log → Option (List ClientRecord) → Option (Li
 IsWritten number log None old bytes = bytes ≡ image (record { client = number; log = log })
 IsWritten number log (Some notes) old bytes = (before : List ℕ) × (old ≡ Some before) × (bytes ≡ before ++ client_records notes)
 
--- the bytes that were to be written stand under the name, and are kept for the log, without a torn tail
+-- the most bytes of records that stand behind the image, once these notes were added, or the image was saved
+abbrev pub most_records : Option (List ClientRecord) → ℕ
+most_records None = 0
+most_records (Some notes) = MAX_RECORDS
+
+-- The bytes that were to be written stand under the name, and are kept for the log, without a torn tail. They are no more than the
+-- largest image and the records that may stand behind it.
 pub record IsKeptNext (name : List ℕ) (number : ℕ) (log : Log) (notes : Option (List ClientRecord)) (old new : Images) : Type 0 where
   pub bytes : List ℕ
   pub here : new name ≡ Some bytes
   pub written : IsWritten number log notes (old name) bytes
   pub whole : IsKeptWholeFor number log bytes
+  pub small : length bytes ≤ MAX_CLIENT_IMAGE + most_records notes
   pub others : OthersStay name old new
 
 -- some of the notes, from the first on, were added to what was kept
@@ -91,17 +108,15 @@ LeavesKept number log (Some notes) old new = StillKeeps old new ⊎ AddsSome num
 -- a keeping that adds these notes, or saves the image, and is perhaps refused
 abbrev pub KeepsNext : {E : Type 0} → List ℕ → ℕ → Log → Option (List ClientRecord) → Result (Unit {0}) E → Images → Images → Type 0
 KeepsNext name number log notes (Ok done) old new = IsKeptNext name number log notes old new
-KeepsNext name number log notes (Err e) old new = LeavesKept number log notes (old name) (new name) × OthersStay name old new
+KeepsNext name number log notes (Err e) old new =
+    LeavesKept number log notes (old name) (new name) × OthersStay name old new × StaysSmall name old new
 
--- a log is kept under the name; where that is refused, what was kept there still is, or the log is
-abbrev pub KeepsLog : {E : Type 0} → List ℕ → ℕ → Log → Result (Unit {0}) E → Images → Images → Type 0
-KeepsLog name client log (Ok done) old new = Keeps (new name) client log × OthersStay name old new
-KeepsLog name client log (Err e) old new = (StillKeeps (old name) (new name) ⊎ Keeps (new name) client log) × OthersStay name old new
-
--- what stands under the name is kept for this log, and is what stood there where no change was made; other names have what they had
+-- What stands under the name is kept for this log, and is what stood there where no change was made. Else it stood there, too, or it has no
+-- more bytes than the largest image and the records that may stand behind it. Other names have what they had.
 pub record Kept (name : List ℕ) (client : ℕ) (log : Log) (changes : List Log) (old new : Images) : Type 0 where
   pub keeps : Keeps (new name) client log
   pub unchanged : changes ≡ [] → new name ≡ old name
+  pub small : StaysSmall name old new
   pub others : OthersStay name old new
 
 -- Between two moments, at the first of which it was kept, a client's log went through these changes. What is kept at the end is

@@ -1,18 +1,24 @@
 -- What the ends of syncs and pulls tell of the world, read off what was asked and answered.
-use Rattle.std.specs.Prelude.{◌≡◌, ◌⊎◌, ℕ, Bool, true, []}
+use Rattle.std.specs.Prelude.{◌≡◌, ◌⊎◌, ℕ, ◌<◌, ◌++◌, Bool, List, true, []}
 use Rattle.outside.specs.Outside.{RoseBy, Rose}
+use Rattle.tree_values.specs.Lists.{IsIn}
+use Rattle.tree_values.specs.Tree.{Volume, version_at}
+use Rattle.tree_values.specs.declared.node.Base.{Base}
+use Rattle.mod_log.specs.declared.log.Entry.{Entry}
 use Rattle.mod_log.specs.Log.{Log, tree_at}
+use Rattle.wire_frames.specs.declared.message.Message.{Message}
+use Rattle.world_rules.specs.declared.asking.Ask.{Ask}
 use Rattle.world_rules.specs.World.{World}
 use Rattle.world_rules.specs.Asking.{AnswersStand}
 use Rattle.world_rules.specs.Settling.{failed_asks}
-use Rattle.world_rules.specs.InStep.{InStep, HasNoCollision}
-use Rattle.world_rules.specs.Run.{taken_in, AreAllOf, kept_at}
+use Rattle.world_rules.specs.InStep.{InStep, HasNoCollision, IsAcceptance}
+use Rattle.world_rules.specs.Run.{State, Runs, taken_in, AreAllOf, kept_at}
 use Rattle.client_core.specs.declared.route.Route.{Route}
 use Rattle.client_core.specs.declared.syncing.SyncEnd.{SyncEnd}
 use Rattle.client_core.specs.declared.syncing.SyncEnd.TheVariants.{Behind, Synced}
 use Rattle.client_core.specs.declared.pulling.PullEnd.{PullEnd}
 use Rattle.client_core.specs.Trace.{Trace}
-use Rattle.client_core.specs.Syncing.{SyncTurn, SyncEnds, is_broken_sync}
+use Rattle.client_core.specs.Syncing.{IsFirst, SyncTurn, SyncEnds, is_broken_sync}
 use Rattle.client_core.specs.Pulling.{PullTurn}
 use Rattle.client_core.specs.Goes.{WorldGoes}
 use Rattle.client_core.specs.Honest.{IsTrueSync, IsNotOtherLast}
@@ -44,3 +50,19 @@ CalmSyncsAreComplete = (client : ℕ) (ships : Bool) (route : Route) (before aft
     → AreAllOf client (taken_in went.runs.moves (kept_at before old))
     → old.served.volume ≡ tree_at (old.served.last client) before
     → ((end ≡ Synced after.acked) × (after.pending ≡ [])) ⊎ (is_broken_sync end ≡ true)
+
+-- ---- an entry that is refused stays so
+
+-- the entry rests on a version that is below the one of the volume
+abbrev pub RestsBelow : Entry → Volume → Type 0
+RestsBelow entry volume = (base : Base) × IsIn base entry.base × (base.version < version_at volume base.path)
+
+-- A first pending entry that the server did not take, and that rests on a version below the served one, stays the first pending one,
+-- untaken, and below, whatever comes; and no reply that was ever sent accepts it.
+abbrev pub OvertakenEntriesAreNeverTaken : Type 0
+OvertakenEntriesAreNeverTaken = (client : ℕ) (ships : Bool) (entries : List Entry) (made : List Ask) (old new : State) (first : Entry)
+    → InStep client old.log old.world → Runs client ships entries made old new
+    → HasNoCollision client (old.log.pending ++ entries) new.world.packets
+    → IsFirst first old.log.pending → old.world.served.last client ≡ old.log.acked → RestsBelow first old.world.served.volume
+    → IsFirst first new.log.pending × (new.world.served.last client ≡ new.log.acked) × RestsBelow first new.world.served.volume
+    × ((reply : Message) → IsAcceptance client first.seq reply → IsIn reply new.world.packets → ⊥)

@@ -1,9 +1,8 @@
 -- One local effect: it is logged as an entry of its own, or refused.
-use Rattle.std.specs.Prelude.{◌≡◌, ◌⊎◌, ℕ, [], ◌∷◌, None, Result, Ok, Err}
+use Rattle.std.specs.Prelude.{◌≡◌, ℕ, [], ◌∷◌, None, Result, Ok, Err}
 use Rattle.tree_values.specs.declared.node.Effect.{Effect}
 use Rattle.mod_log.specs.declared.log.Entry.{Entry}
 use Rattle.mod_log.specs.declared.log.LogError.{LogError}
-use Rattle.mod_log.specs.declared.log.LogError.TheVariants.{Memory}
 use Rattle.mod_log.specs.Log.{Log}
 use Rattle.mod_log.specs.Append.{next_entry, appended}
 use Rattle.client_core.specs.Trace.{Trace, nothing, logging}
@@ -19,8 +18,3 @@ LocalTurn effect before (Ok number) after trace =
     × (trace ≡ logging (local_entry effect before) after)
 LocalTurn effect before (Err refusal) after trace =
     (appended None (effect ∷ []) before ≡ Err refusal) × (after ≡ before) × (trace ≡ nothing)
-
--- an effect that has its turn, or for which memory was wanted before it did anything
-abbrev pub LocalEnds : Effect → Log → Result ℕ LogError → Log → Trace → Type 0
-LocalEnds effect before result after trace =
-    LocalTurn effect before result after trace ⊎ ((result ≡ Err Memory) × (after ≡ before) × (trace ≡ nothing))

@@ -8,7 +8,7 @@ ghost use Rattle.store_image.specs.declared.record.ClientRecord.TheVariants.{Log
 ghost use Rattle.store_image.specs.Records.{client_records};
 ghost use Rattle.client_core.specs.Journal.{acked_notes, next_notes, journal_with, journal_after};
 ghost use Rattle.client_core.specs.Keeping.{KeepsNext};
-ghost use Rattle.client_core.specs.Inside.{MayKeep, IsPiece};
+ghost use Rattle.client_core.specs.Inside.{MayKeep, IsPiece, IsCounted};
 
 use mod_log::Log;
 use outside::{KeepError, Keeper};
@@ -44,9 +44,11 @@ pub(crate) fn keep_log<K: Keeper>(
     requires low { 1 ≤ client }
     requires high { client ≤ 64 }
     requires ready { MayKeep (next_notes journal.old rose log.now) (K.images keeper.old) name.now client log.now }
+    requires counted { IsCounted (K.images keeper.old) name.now journal.old }
     ensures kept { Told (K.images keeper.old) (K.images keeper.new)
         (KeepsNext name.now client log.now (next_notes journal.old rose log.now) result) }
     ensures journal { journal.new ≡ journal_after journal.old (next_notes journal.old rose log.now) log.now result }
+    ensures counted { IsCounted (K.images keeper.new) name.now journal.new }
     ensures cause { CountsFault KeepError.Failed (K.faults keeper.old) (K.faults keeper.new) result }
 {
     let piece = match next_piece(log, *journal, rose) {
@@ -92,6 +94,7 @@ fn save_log<K: Keeper>(
     requires high { client ≤ 64 }
     ensures kept { Told (K.images keeper.old) (K.images keeper.new) (KeepsNext name.now client log.now None result) }
     ensures journal { journal.new ≡ journal_with 0 log.now result }
+    ensures counted { IsCounted (K.images keeper.new) name.now journal.new }
     ensures cause { CountsFault KeepError.Failed (K.faults keeper.old) (K.faults keeper.new) result }
 {
     let kept = save_image(client, log, name, keeper);

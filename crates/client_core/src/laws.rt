@@ -1,5 +1,6 @@
 // What the ends of syncs and pulls tell of the world, and what a sync may ask, as contracts of calls that do nothing.
 ghost use Rattle.client_core.specs.Laws.{NoSyncIsBehind, SyncEndsAreTrue, PullsMeetTheirLast, CalmSyncsAreComplete};
+ghost use Rattle.client_core.specs.Laws.{OvertakenEntriesAreNeverTaken};
 ghost use Rattle.client_core.specs.Licence.{SyncsAreLicensed, DoneEntriesCostOperations, UnansweredStoresFailed};
 
 /// What a sync or a pull ends with is so in each world in which its answers stand, also when more came after it: a server is
@@ -18,4 +19,10 @@ pub fn syncs_are_licensed()
     ensures licensed { SyncsAreLicensed }
     ensures done { DoneEntriesCostOperations }
     ensures unanswered { UnansweredStoresFailed }
+{}
+
+/// Law: an entry that others overtook is never taken. Where the first pending entry was not taken, and rests at some path on a
+/// version below the one that is served, it stays so whatever comes: it is never acknowledged, and no ask of it is accepted.
+pub fn overtaken_entries_are_never_taken()
+    ensures { OvertakenEntriesAreNeverTaken }
 {}

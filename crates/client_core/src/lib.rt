@@ -11,7 +11,7 @@ mod shipping;
 mod syncing;
 
 pub use client::Client;
-pub use laws::{ends_are_true, syncs_are_licensed};
+pub use laws::{ends_are_true, overtaken_entries_are_never_taken, syncs_are_licensed};
 pub use pulling::PullEnd;
 pub use route::Route;
 pub use running::RunEnd;

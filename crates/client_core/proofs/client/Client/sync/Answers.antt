@@ -9,15 +9,15 @@ use Rattle.client_core.specs.declared.syncing.SyncEnd.{SyncEnd}
 use Rattle.client_core.specs.declared.syncing.SyncEnd.TheVariants.{Synced, KeepFault, Memory}
 use Rattle.client_core.specs.Causes.{HasSyncCause, SyncKeeps, AcknowledgesSome}
 use Rattle.client_core.specs.Syncing.{IsFirst, acknowledged_first, end_by, Ships, unkept_end, is_broken_sync, SyncEnds}
-use Rattle.client_core.specs.Inside.{AskedFor, MayKeep, JournalIsCurrent}
+use Rattle.client_core.specs.Inside.{AskedFor, MayKeep, IsCounted}
 use Rattle.client_core.specs.declared.keeping.Journal.{Journal}
 use Rattle.client_core.specs.Journal.{next_notes, journal_after}
 use Rattle.client_core.specs.Noting.{KeepsChanges}
-use Rattle.client_core.specs.Keeping.{IsKept, IsReady, KeepsNext, KeepsLog}
+use Rattle.client_core.specs.Keeping.{IsKept, IsReady, KeepsNext}
 use Rattle.client_core.specs.Goes.{Went}
 use Rattle.client_core.proofs.Acknowledging.{some_none, some_more}
 use Rattle.client_core.proofs.Counting.{rose_once, unrisen, unkept_rises, end_by_reply}
-use Rattle.client_core.proofs.Journal.{current_ready, ready_current, acked_one, may_keep_acked, next_keeps, next_current}
+use Rattle.client_core.proofs.Journal.{KeepsLog, JournalIsCurrent, current_ready, ready_current, ready_counted, acked_one, may_keep_acked, next_keeps, next_current}
 use Rattle.client_core.proofs.Noting.{KeepsAcks, acks_none, acks_more, acks_all}
 use Rattle.client_core.proofs.Firsts.{first_is, none_is, first_some, first_pending, first_number, first_made, store_valid, shorter}
 use Rattle.client_core.proofs.Syncs.{WentSoFar, KeepsAcked, unkept_cause, unkept_broken, settled_end, acked_none, acked_more, keeps_none, keeps_now, keeps_more, keeps_cut, keeps_whole, sync_ends, sync_breaks, sync_unkept, sync_synced, has_cause}
@@ -40,6 +40,7 @@ loop-entry-init g c =
       some = some_none before;
       keeps = keeps_none route.image client before i keeps;
       current = ready_current route.image client before c.self.inside.journal i keeps ready;
+      counted = ready_counted route.image client before c.self.inside.journal i ready;
       acks = acks_none route.image client before c.self.inside.journal i;
       did = acked_none client route before i (g.L.Link.tells c.args.link.now) keeps;
     }
@@ -298,6 +299,10 @@ keep_log-requires-clause-ready g c =
     (subst (λ (log : Log). MayKeep (next_notes journal true log) j route.image client log) is
     (may_keep_acked route.image client mid (first_some mid.pending entry first) journal j c.loop-entry.invariant.current))
 
+pub keep_log-requires-clause-counted : goal.keep_log-requires-clause-counted
+keep_log-requires-clause-counted g c =
+    subst (λ (n : List ℕ). IsCounted (g.K.Keeper.images c.loop-entry.keeper) n c.loop-entry.self-inside.journal) (sym c.bytes-image.ensures.value) c.loop-entry.invariant.counted
+
 pub loop-entry-smaller : goal.loop-entry-smaller
 loop-entry-smaller g c =
     let client = c.self.inside.number in
@@ -479,6 +484,7 @@ loop-entry-preserved g c =
           (keeps_more route.image client before mid i j l c.loop-entry.invariant.keeps (first_some mid.pending entry first) (Ok c.in_default-keep_log.field-0) kept);
       current = subst (JournalIsCurrent l route.image client next) (sym c.in_default-keep_log.ensures.journal)
           (next_current {E = KeepError} route.image client next journal (next_notes journal true next) (Ok c.in_default-keep_log.field-0) j l told);
+      counted = subst (λ (n : List ℕ). IsCounted l n c.keep_log.new.journal) c.bytes-image.ensures.value c.in_default-keep_log.ensures.counted;
       acks = subst (λ (log : Log). KeepsAcks route.image client before c.self.inside.journal log c.keep_log.new.journal i l) is
           (subst (λ (now : Option Journal). KeepsAcks route.image client before c.self.inside.journal (acknowledged_first mid) now i l)
           (sym (c.in_default-keep_log.ensures.journal ∙ ap (λ (log : Log). journal_after {E = KeepError} journal (next_notes journal true log) log (Ok c.in_default-keep_log.field-0)) (sym is)))
@@ -611,7 +617,7 @@ returns-in-Err-clause-ready g c =
     let i = g.K.Keeper.images c.loop-entry.keeper in
     let name = c.args.route.now.image in
     subst (λ (n : ℕ). IsReady i name (record { number = n; log = log; journal = journal })) (sym c.loop-entry.invariant.number)
-    (current_ready name c.self.inside.number log journal i c.loop-entry.invariant.current)
+    (current_ready name c.self.inside.number log journal i c.loop-entry.invariant.current c.loop-entry.invariant.counted)
 
 pub returns-in-Some-end_by-clause-ready : goal.returns-in-Some-end_by-clause-ready
 returns-in-Some-end_by-clause-ready g c =
@@ -620,7 +626,7 @@ returns-in-Some-end_by-clause-ready g c =
     let i = g.K.Keeper.images c.loop-entry.keeper in
     let name = c.args.route.now.image in
     subst (λ (n : ℕ). IsReady i name (record { number = n; log = log; journal = journal })) (sym c.loop-entry.invariant.number)
-    (current_ready name c.self.inside.number log journal i c.loop-entry.invariant.current)
+    (current_ready name c.self.inside.number log journal i c.loop-entry.invariant.current c.loop-entry.invariant.counted)
 
 pub returns-in-Err-keep_log-clause-ready : goal.returns-in-Err-keep_log-clause-ready
 returns-in-Err-keep_log-clause-ready g c =
@@ -635,7 +641,8 @@ returns-in-Err-keep_log-clause-ready g c =
     subst (λ (n : List ℕ). Told j l (KeepsNext {E = KeepError} n client next (next_notes journal true next) (Err refused))) c.bytes-image.ensures.value c.in-Err-keep_log.ensures.kept in
     subst (λ (n : ℕ). IsReady l route.image (record { number = n; log = next; journal = c.keep_log.new.journal })) (sym c.loop-entry.invariant.number)
     (current_ready route.image client next c.keep_log.new.journal l
-    (subst (JournalIsCurrent l route.image client next) (sym c.in-Err-keep_log.ensures.journal) (next_current {E = KeepError} route.image client next journal (next_notes journal true next) (Err refused) j l told)))
+    (subst (JournalIsCurrent l route.image client next) (sym c.in-Err-keep_log.ensures.journal) (next_current {E = KeepError} route.image client next journal (next_notes journal true next) (Err refused) j l told))
+    (subst (λ (n : List ℕ). IsCounted l n c.keep_log.new.journal) c.bytes-image.ensures.value c.in-Err-keep_log.ensures.counted))
 
 pub returns-clause-ready : goal.returns-clause-ready
 returns-clause-ready g c =
@@ -644,7 +651,7 @@ returns-clause-ready g c =
     let i = g.K.Keeper.images c.loop-entry.keeper in
     let name = c.args.route.now.image in
     subst (λ (n : ℕ). IsReady i name (record { number = n; log = log; journal = journal })) (sym c.loop-entry.invariant.number)
-    (current_ready name c.self.inside.number log journal i c.loop-entry.invariant.current)
+    (current_ready name c.self.inside.number log journal i c.loop-entry.invariant.current c.loop-entry.invariant.counted)
 
 -- ---- what was kept record by record
 

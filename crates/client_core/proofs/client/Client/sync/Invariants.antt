@@ -1,9 +1,10 @@
 use Rattle.std.proofs.Common.{◌≡◌, ◌≤◌, length}
 use Rattle.client_core.specs.Causes.{AcknowledgesSome}
-use Rattle.client_core.specs.Inside.{JournalIsCurrent}
+use Rattle.client_core.specs.Inside.{IsCounted}
 use Rattle.client_core.proofs.Noting.{KeepsAcks}
 use Rattle.client_core.proofs.Syncs.{WentSoFar, KeepsAcked}
 use Rattle.client_core.proofs.client.Client.sync.Given as goal
+use Rattle.client_core.proofs.Journal.{JournalIsCurrent}
 
 abbrev pub invariant-loop-entry : goal.invariant-loop-entry
 invariant-loop-entry g l = record {
@@ -13,6 +14,7 @@ invariant-loop-entry g l = record {
   some : AcknowledgesSome l.initial.self-inside.log l.self-inside.log;
   keeps : KeepsAcked l.initial.self-inside.log l.route.image l.client l.self-inside.log (g.K.Keeper.images l.fn.keeper) (g.K.Keeper.images l.keeper);
   current : JournalIsCurrent (g.K.Keeper.images l.keeper) l.route.image l.client l.self-inside.log l.self-inside.journal;
+  counted : IsCounted (g.K.Keeper.images l.keeper) l.route.image l.self-inside.journal;
   acks : KeepsAcks l.route.image l.client l.initial.self-inside.log l.initial.self-inside.journal l.self-inside.log l.self-inside.journal (g.K.Keeper.images l.fn.keeper) (g.K.Keeper.images l.keeper);
   did : WentSoFar l.client l.route l.initial.self-inside.log l.self-inside.log (g.K.Keeper.images l.fn.keeper) (g.K.Keeper.images l.keeper) (g.L.Link.tells l.fn.link) (g.L.Link.tells l.link);
 }

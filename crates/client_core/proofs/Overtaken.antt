@@ -1,0 +1,149 @@
+-- The first pending entry, where others wrote at a path that it rests on, is never taken.
+use Rattle.std.proofs.Common.{Bool, true, false, cond, ◌≡◌, ⊎_elim, ℕ, ◌+◌, List, [], ◌∷◌, ◌++◌, Option, Some, None, Result, Ok, Err, refl, sym, ◌∙◌, subst, arith, eqb-true}
+use Rattle.std.specs.Prelude.{◌==◌, if◌then◌else◌, nat_le, nat_lt}
+use Rattle.tree_values.specs.Tree.{Volume, version_at}
+use Rattle.tree_values.specs.Effects.{Conflict, apply_all, first_conflict}
+use Rattle.tree_values.specs.Lists.{IsIn}
+use Rattle.tree_values.specs.declared.node.Effect.{Effect}
+use Rattle.tree_values.specs.declared.node.Base.{Base}
+use Rattle.tree_values.specs.declared.node.TreeError.{TreeError}
+use Rattle.vol_tree.specs.Behind.{IsBehind}
+use Rattle.vol_tree.proofs.Behind.{IsBehind-refl, IsBehind-after, applied-changes}
+use Rattle.mod_log.specs.declared.log.Entry.{Entry}
+use Rattle.wire_frames.specs.declared.message.Message.{Message}
+use Rattle.wire_frames.specs.declared.message.Message.TheVariants.{Store}
+use Rattle.world_rules.specs.Served.{Served, TakenEntry, entry_stored, judged, served_after, state_after, taken_if, taken_of}
+use Rattle.world_rules.specs.World.{World, Step, Send, Deliver, Other, Relay, happens}
+use Rattle.world_rules.specs.InStep.{InStep, HasNoCollision}
+use Rattle.world_rules.specs.Run.{State, Move, Network, Notes, Logs, Acknowledges, Pulls, Saves, moved, IsPossible, AllPossible, moved_by, taken_by, own}
+use Rattle.world_rules.proofs.Colliding.{IsApart, apart_here, apart_next, run_apart}
+use Rattle.world_rules.proofs.Events.{steps_on}
+use Rattle.world_rules.proofs.Runs.{accepted_at_most, allowed_log, move_keeps, runs_in_step}
+use Rattle.client_core.specs.Syncing.{IsFirst}
+use Rattle.client_core.specs.Laws.{RestsBelow, OvertakenEntriesAreNeverTaken}
+use Rattle.client_core.proofs.Firsts.{first_number, first_some}
+
+-- ---- what a store that is taken rests on
+
+in_order : (b : Bool) (rest : Option Conflict) (c : Conflict) → cond b rest (Some c) ≡ None → (b ≡ true) × (rest ≡ None)
+in_order true rest c is = (refl, is)
+in_order false rest c is = absurd (cc)
+
+-- without a conflict each version is the volume's
+no_conflict : (bases : List Base) (rows : Volume) (base : Base) → first_conflict bases rows ≡ None → IsIn base bases → version_at rows base.path ≡ base.version
+no_conflict [] rows base none among = absurd among
+no_conflict (first ∷ bases) rows base none among =
+    let parts = in_order (version_at rows first.path == first.version) _ _ none in
+    ⊎_elim (λ (is : base ≡ first). subst (λ (b : Base). version_at rows b.path ≡ b.version) (sym is) (eqb-true _ _ parts.0))
+    (λ (later : IsIn base bases). no_conflict bases rows base parts.1 later) among
+
+own_one : (client : ℕ) (stored entry : TakenEntry) → own client (stored ∷ []) ≡ entry ∷ [] → stored ≡ entry
+own_one client stored entry = by (stored.client == client)
+  where
+    by : (own : Bool) → (if own then stored ∷ [] else []) ≡ entry ∷ [] → stored ≡ entry
+    by true is = cc
+    by false is = absurd (cc)
+
+module _ (client : ℕ) (served : Served) (entry : TakenEntry) where
+  -- what is taken of a store has no conflict
+  store_based : (stored : TakenEntry) (repeated beyond : Bool) (conflict : Option Conflict) (applied : Result Volume (ℕ × TreeError)) → first_conflict stored.base served.volume ≡ conflict
+      → own client (taken_if (judged repeated beyond conflict applied) stored) ≡ entry ∷ [] → first_conflict entry.base served.volume ≡ None
+  store_based stored true beyond conflict applied at is = absurd (cc)
+  store_based stored false true conflict applied at is = absurd (cc)
+  store_based stored false false (Some conflict) applied at is = absurd (cc)
+  store_based stored false false None (Err cause) at is = absurd (cc)
+  store_based stored false false None (Ok volume) at is = subst (λ (e : TakenEntry). first_conflict e.base served.volume ≡ None) (own_one client stored entry is) at
+
+  message_based : (message : Message) → own client (taken_of message served) ≡ entry ∷ [] → first_conflict entry.base served.volume ≡ None
+  message_based (Store of number effects base) is =
+      store_based (entry_stored of number effects base) (nat_le number (served.last of)) (nat_lt (served.last of + 1) number) (first_conflict base served.volume) (apply_all 0 effects served.volume) refl is
+  message_based _ is = absurd (cc)
+
+  step_based : (step : Step) → own client (taken_by step served) ≡ entry ∷ [] → first_conflict entry.base served.volume ≡ None
+  step_based (Deliver message joins) is = message_based message is
+  step_based _ is = absurd (cc)
+
+-- ---- versions only rise
+
+store_grows : (of number : ℕ) (effects : List Effect) (served : Served) (repeated beyond : Bool) (conflict : Option Conflict) (applied : Result Volume (ℕ × TreeError)) → apply_all 0 effects served.volume ≡ applied
+    → IsBehind served.volume (served_after of number (judged repeated beyond conflict applied) served).volume
+store_grows of number effects served true beyond conflict applied at = IsBehind-refl served.volume
+store_grows of number effects served false true conflict applied at = IsBehind-refl served.volume
+store_grows of number effects served false false (Some conflict) applied at = IsBehind-refl served.volume
+store_grows of number effects served false false None (Err cause) at = IsBehind-refl served.volume
+store_grows of number effects served false false None (Ok volume) at =
+    subst (IsBehind served.volume) (sym (applied-changes effects 0 served.volume volume at)) (IsBehind-after effects served.volume)
+
+message_grows : (message : Message) (served : Served) → IsBehind served.volume (state_after message served).volume
+message_grows (Store of number effects base) served =
+    store_grows of number effects served (nat_le number (served.last of)) (nat_lt (served.last of + 1) number) (first_conflict base served.volume) (apply_all 0 effects served.volume) refl
+message_grows _ served = IsBehind-refl served.volume
+
+step_grows : (step : Step) (world : World) → IsBehind world.served.volume (happens step world).served.volume
+step_grows (Deliver message joins) world = message_grows message world.served
+step_grows (Send message) world = IsBehind-refl world.served.volume
+step_grows (Other message) world = IsBehind-refl world.served.volume
+step_grows (Relay message) world = IsBehind-refl world.served.volume
+
+-- ---- an entry that rests on less
+
+first_same : (pending : List Entry) (first entry : Entry) (entries : List Entry) → IsFirst first pending → pending ≡ entry ∷ entries → entry ≡ first
+first_same [] first entry entries is at = absurd is
+first_same (e ∷ es) first entry entries is at = let same : e ≡ entry = cc in sym same ∙ is
+
+first_stays : (pending : List Entry) (first entry : Entry) → IsFirst first pending → IsFirst first (pending ++ entry ∷ [])
+first_stays [] first entry is = absurd is
+first_stays (e ∷ es) first entry is = is
+
+module _ (client : ℕ) (ships : Bool) (first : Entry) where
+  -- it is the first pending one, was not taken, and rests on less than what is served
+  record IsOvertakenAt (state : State) : Type 0 where
+    first_is : IsFirst first state.log.pending
+    untaken : state.world.served.last client ≡ state.log.acked
+    below : RestsBelow first state.world.served.volume
+
+  -- a step takes nothing of the client
+  step_untaken : (state : State) (step : Step) → IsOvertakenAt state → InStep client state.log state.world → IsPossible client ships state (Network step) → HasNoCollision client state.log.pending (happens step state.world).packets
+      → (happens step state.world).served.last client ≡ state.log.acked
+  step_untaken state step at now may none =
+      ⊎_elim (λ still. still.1 ∙ at.untaken) taken (steps_on client ships state.log state.world step now (allowed_log client ships state step may) none).takes
+    where
+      taken : (entry : Entry) × (entries : List Entry) × (state.log.pending ≡ entry ∷ entries) × (state.world.served.last client ≡ state.log.acked) × ((happens step state.world).served.last client ≡ state.log.acked + 1)
+          × (own client (taken_by step state.world.served) ≡ entry_stored client (state.log.acked + 1) entry.effects entry.base ∷ [])
+          → (happens step state.world).served.last client ≡ state.log.acked
+      taken takes =
+          let same = first_same state.log.pending first takes.0 takes.1 at.first_is takes.2 in
+          let free = step_based client state.world.served (entry_stored client (state.log.acked + 1) takes.0.effects takes.0.base) step takes.5 in
+          let agrees = no_conflict first.base state.world.served.volume at.below.0 (subst (λ (e : Entry). first_conflict e.base state.world.served.volume ≡ None) same free) at.below.1 in
+          absurd (omega (arith, agrees, at.below.2))
+
+  move_overtaken : (state : State) (move : Move) → IsOvertakenAt state → InStep client state.log state.world → IsPossible client ships state move → HasNoCollision client state.log.pending (moved move state).world.packets
+      → IsOvertakenAt (moved move state)
+  move_overtaken state (Network step) at now may none = record {
+    first_is = at.first_is;
+    untaken = step_untaken state step at now may none;
+    below = (at.below.0, at.below.1, omega (arith, at.below.2, (step_grows step state.world).versions at.below.0.path));
+  }
+  move_overtaken state (Notes ask) at now may none = record { first_is = at.first_is; untaken = at.untaken; below = at.below }
+  move_overtaken state (Logs entry) at now may none = record { first_is = first_stays state.log.pending first entry at.first_is; untaken = at.untaken; below = at.below }
+  move_overtaken state (Acknowledges reply) at now may none =
+      absurd (omega (arith, accepted_at_most client state.log state.world (state.log.acked + 1) reply now may.1 may.2, at.untaken))
+  move_overtaken state (Pulls last seen) at now may none = absurd (first_some state.log.pending first at.first_is may.0)
+  move_overtaken state Saves at now may none = record { first_is = at.first_is; untaken = at.untaken; below = at.below }
+
+  moves_overtaken : (moves : List Move) (state : State) → IsOvertakenAt state → InStep client state.log state.world → AllPossible client ships state moves → IsApart client moves state → IsOvertakenAt (moved_by moves state)
+  moves_overtaken [] state at now may apart = at
+  moves_overtaken (move ∷ moves) state at now may apart =
+      let none = apart_here client move moves state apart in
+      moves_overtaken moves (moved move state) (move_overtaken state move at now may.0 none) (move_keeps client ships state move now may.0 none) may.1 (apart_next client move moves state apart)
+
+pub overtaken_never_taken : OvertakenEntriesAreNeverTaken
+overtaken_never_taken client ships entries made old new first now runs none first_is untaken below =
+    let begun : IsOvertakenAt client ships first old = record { first_is = first_is; untaken = untaken; below = below } in
+    let end = subst (IsOvertakenAt client ships first) (sym runs.result) (moves_overtaken client ships first runs.moves old begun now runs.possible (run_apart client ships entries made old new runs none)) in
+    let last = runs_in_step client ships entries made old new now runs none in (
+      end.first_is,
+      end.untaken,
+      end.below,
+      λ reply accepts among. omega (arith, accepted_at_most client new.log new.world first.seq reply last accepts among, end.untaken, first_number new.log first last.log_is end.first_is),
+    )
