@@ -25,9 +25,10 @@ use Rattle.wire_frames.specs.declared.cause.Cause.{Cause}
 use Rattle.wire_frames.specs.declared.message.Message.{Message}
 use Rattle.world_rules.specs.declared.asking.Peer.TheVariants.{Server}
 use Rattle.world_rules.specs.declared.asking.Answer.TheVariants.{Reply}
-use Rattle.world_rules.specs.Settling.{IsSettling, failures, settled}
+use Rattle.world_rules.specs.Settling.{IsSettling, BreaksSettling, failures, settled}
 use Rattle.world_rules.specs.Asking.{ask_of}
 use Rattle.world_rules.specs.declared.asking.Ask.{Ask}
+use Rattle.world_rules.specs.declared.asking.Answer.{Answer}
 use Rattle.surrogate_core.specs.declared.step.Step.TheVariants as steps
 use Rattle.surrogate_core.specs.Handling.{Phase, Idle, Fetching, Holding, Reaction, answering, declining, job_for, held_by, unless_clash, unless_unfit, after_verdict, AfterJob, Tries, closed, refusal_kind, HandlesCome, Round, IsRound, GoesOn, Handled, Handling, BreaksHandling, copy_before}
 use Rattle.surrogate_core.specs.Serving.{MayAsk}
@@ -272,3 +273,22 @@ module _ (agreements_fill : AgreementsFill) (client : ℕ) (sketched : SketchEnt
       subst (AreOf server) (sym handled.asks_are)
       (rounds_of server work [] handled.rounds handled.first last
       (tries_on false [] copy work handled.first_runs handled.first (inl refl) (λ e. refl) handled.begins) handled.goes_on)
+
+  one_of : (server : List ℕ) (request : Message) (answer : Answer) → MayAsk client sketched request → AreOf server (ask_of Server server request answer ∷ [])
+  one_of server request answer may ask (inl is) = subst (λ a. (a.to ≡ Server) × (a.address ≡ server) × MayAsk client sketched a.request) (sym is) (refl, refl, may)
+  one_of server request answer may ask (inr none) = absurd none
+
+  broken_of : (server : List ℕ) (request : Message) (made : List Ask) → MayAsk client sketched request → BreaksSettling Server server request made → AreOf server made
+  broken_of server request made may breaks =
+      ⊎_elim (λ none. subst (AreOf server) (sym none) (failures_of server request breaks.0 may))
+      (λ one. subst (AreOf server) (sym one.1)
+      (are_join server (failures Server server request breaks.0) (ask_of Server server request one.0 ∷ []) (failures_of server request breaks.0 may) (one_of server request one.0 may)))
+      breaks.2
+
+  pub breaking_asks_the_server : (server work : List ℕ) (runs : List Run) (asks : List Ask) (after : Volume)
+      → BreaksHandling server work copy client sketched runs asks after → AreOf server asks
+  breaking_asks_the_server server work runs asks after breaks =
+      let on = handled_on server work runs breaks.earlier _ breaks.handled in
+      subst (AreOf server) (sym breaks.asks_are)
+      (are_join server breaks.earlier breaks.broken (asks_the_server server work runs breaks.earlier _ breaks.handled)
+      (broken_of server breaks.request breaks.broken (may_ask_on breaks.earlier breaks.request breaks.machine.phase breaks.machine.copy on) breaks.breaks))

@@ -1,6 +1,5 @@
--- When a handling ends as done.
+-- What a try comes to, and when a handling ends as done.
 use Rattle.std.proofs.Common.{◌≡◌, ◌⊎◌, inl, inr, ⊎_elim, ℕ, zero, suc, Bool, true, false, List, [], ◌∷◌, ◌++◌, Option, Some, None, Result, Ok, Err, sym, ◌∙◌, ap, subst}
-use Rattle.std.specs.Prelude.{find}
 use Rattle.std.specs.List.{flat_map}
 use Rattle.std.proofs.Math.ListN.{replicate}
 use Rattle.tree_values.specs.Tree.{Volume}
@@ -8,11 +7,9 @@ use Rattle.tree_values.specs.Lists.{IsIn}
 use Rattle.cmd_capture.specs.declared.runner.Run.{Run}
 use Rattle.cmd_capture.specs.declared.job.Job.{Job}
 use Rattle.cmd_capture.specs.declared.job.Outcome.{Outcome}
-use Rattle.work_area.specs.Changes.{clashes}
-use Rattle.replay_judge.specs.declared.verdict.Verdict.TheVariants as verdicts
 use Rattle.replay_judge.specs.Judgement.{IsJudgement}
 use Rattle.replay_judge.specs.Laws.{AgreementsFill, OneJudgement}
-use Rattle.wire_frames.specs.declared.cause.Cause.TheVariants.{NoMemory}
+use Rattle.wire_frames.specs.declared.cause.Cause.TheVariants.{NoMemory, NotRun}
 use Rattle.wire_frames.specs.declared.message.Message.TheVariants.{Accepted, Done}
 use Rattle.wire_frames.specs.declared.cause.Cause.{Cause}
 use Rattle.wire_frames.specs.declared.message.Message.{Message}
@@ -23,36 +20,49 @@ use Rattle.world_rules.specs.Asking.{ask_of}
 use Rattle.world_rules.specs.declared.asking.Answer.{Answer}
 use Rattle.world_rules.specs.declared.asking.Ask.{Ask}
 use Rattle.surrogate_core.specs.declared.step.Step.TheVariants as steps
-use Rattle.surrogate_core.specs.Handling.{Phase, Idle, Fetching, Holding, Reaction, answering, declining, job_for, held_by, unless_clash, unless_unfit, after_verdict, AfterJob, runs_of_job, HandlesReply, HandlesCome, Round, IsRound, GoesOn}
-use Rattle.surrogate_core.specs.Laws.{EndsOperation, AgreedTriesAskTheStore, AcceptedHandlingsAreDone}
+use Rattle.surrogate_core.specs.Handling.{Phase, Idle, Fetching, Holding, Reaction, answering, declining, job_for, held_by, after_verdict, AfterJob, runs_of_job, HandlesReply, HandlesCome, Round, IsRound, GoesOn}
+use Rattle.surrogate_core.specs.Laws.{EndsOperation, AcceptedHandlingsAreDone, UnpreparedTriesAreDeclined, UnrunTriesAreDeclined, JudgedTriesGoOn}
 use Rattle.surrogate_core.proofs.Copies.{keeps_the_copy}
 use Rattle.surrogate_core.specs.declared.step.Step.{Step}
 
--- ---- an agreement is asked of the server
+-- ---- each try has its one end
 
 abbrev first_run : List Run → Run → Run
 first_run [] run = run
 first_run (x ∷ xs) run = x
 
-pub agreed_tries_ask : OneJudgement → AgreedTriesAskTheStore
-agreed_tries_ask one pulled tried new client sketched work run effects reaction tries judged free fits =
+pub judged_tries : OneJudgement → JudgedTriesGoOn
+judged_tries one pulled tried client sketched work run verdict reaction tries judged =
     ⊎_elim (λ came. by pulled (job_for tried sketched) tries.ran tries.runs_are came) (λ none. inr none) tries.came
   where
     by : (pulled : Bool) (job : Result Job Cause) (ran : Option Outcome) → run ∷ [] ≡ runs_of_job work job ran → AfterJob pulled tried client sketched job ran reaction
-        → (reaction ≡ after_verdict tried client sketched (Ok (record { effects = effects; copy = new }))) ⊎ (reaction ≡ declining tried client sketched.seq NoMemory)
+        → (reaction ≡ after_verdict tried client sketched (held_by tried run.job verdict)) ⊎ (reaction ≡ declining tried client sketched.seq NoMemory)
     by pulled (Ok job) (Some outcome) e came =
         let is_job : run.job ≡ job = ap (λ l. (first_run l run).job) e in
         let is_outcome : run.outcome ≡ outcome = ap (λ l. (first_run l run).outcome) e in
-        let as_run : IsJudgement sketched job outcome (verdicts.Agree effects) =
-        subst (λ j. IsJudgement sketched j outcome (verdicts.Agree effects)) is_job (subst (λ o. IsJudgement sketched run.job o (verdicts.Agree effects)) is_outcome judged) in
-        let same : came.0 ≡ verdicts.Agree effects = one sketched job outcome came.0 (verdicts.Agree effects) came.1 as_run in
+        let as_run : IsJudgement sketched job outcome verdict =
+        subst (λ j. IsJudgement sketched j outcome verdict) is_job (subst (λ o. IsJudgement sketched run.job o verdict) is_outcome judged) in
+        let same : came.0 ≡ verdict = one sketched job outcome came.0 verdict came.1 as_run in
         inl (came.2
         ∙ ap (λ v. after_verdict tried client sketched (held_by tried job v)) same
-        ∙ ap (λ c. after_verdict tried client sketched (unless_clash tried effects c)) (subst (λ j. find (clashes tried j.rows) effects ≡ None) is_job free)
-        ∙ ap (λ r. after_verdict tried client sketched (unless_unfit effects r)) fits)
+        ∙ ap (λ (j : Job). after_verdict tried client sketched (held_by tried j verdict)) (sym is_job))
     by pulled (Ok job) None e came = absurd (cc)
     by true (Err cause) ran e came = absurd (cc)
     by false (Err cause) ran e came = absurd (cc)
+
+pub unprepared_tries : UnpreparedTriesAreDeclined
+unprepared_tries tried client sketched work runs cause reaction tries none =
+    ⊎_elim (λ came. inl (subst (λ job. AfterJob true tried client sketched job tries.ran reaction) none came)) (λ starved. inr starved) tries.came
+
+pub unrun_tries : UnrunTriesAreDeclined
+unrun_tries pulled tried client sketched work job reaction tries is =
+    ⊎_elim (λ came. inl (by tries.ran (tries.runs_are ∙ ap (λ j. runs_of_job work j tries.ran) is) (subst (λ j. AfterJob pulled tried client sketched j tries.ran reaction) is came)))
+    (λ starved. inr starved) tries.came
+  where
+    by : (ran : Option Outcome) → [] ≡ runs_of_job work (Ok job) ran → AfterJob pulled tried client sketched (Ok job) ran reaction
+        → reaction ≡ declining tried client sketched.seq NotRun
+    by None none came = came
+    by (Some outcome) none came = absurd (cc)
 
 -- ---- an acceptance ends as done
 

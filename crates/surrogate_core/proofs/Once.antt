@@ -18,7 +18,7 @@ use Rattle.wire_frames.specs.declared.cause.Cause.{Cause}
 use Rattle.wire_frames.specs.declared.message.Message.{Message}
 use Rattle.surrogate_core.specs.declared.step.Step.TheVariants as steps
 use Rattle.surrogate_core.specs.Handling.{job_print, Phase, Idle, Fetching, Holding, Reaction, Held, declining, prepared, job_for, held_by, after_verdict, AfterJob, runs_of_job, Tries, closed, refusal_kind, HandlesCome, Round, IsRound, GoesOn, answering}
-use Rattle.surrogate_core.specs.Laws.{IsOfJob, HandlingsRunOnce}
+use Rattle.surrogate_core.specs.Laws.{IsOfJob, HandlingsRunOnce, BrokenHandlingsRunOnce}
 use Rattle.surrogate_core.specs.declared.step.Step.{Step}
 
 abbrev job_in : Result Job Cause → Job → Job
@@ -120,6 +120,19 @@ module _ (sketched : SketchEntry) (work : List ℕ) where
   rounds_once server runs (round ∷ rounds) first last on goes =
       subst (λ l. Once l last) (append_assoc runs round.runs (flat_map (λ r. r.runs) rounds))
       (rounds_once server (runs ++ round.runs) rounds round.after last (round_once server runs first.step first.after.phase first.after.copy round on goes.0) goes.1)
+
+  asking_once : (runs : List Run) (request : Message) (phase : Phase) → OnceOn runs (steps.Ask request) phase → IsOfJob sketched work runs
+  asking_once runs request Idle on = absurd on
+  asking_once runs request (Fetching c s) on = none_run runs on.1
+  asking_once runs request (Holding c n before) on = on
+
+pub broken_handlings_run_once : BrokenHandlingsRunOnce
+broken_handlings_run_once server work copy after client sketched runs asks breaks =
+    let handled = breaks.handled in
+    asking_once sketched work runs breaks.request breaks.machine.phase
+    (subst (λ l. Once sketched work l (record { step = steps.Ask breaks.request; after = breaks.machine })) (sym handled.runs_are)
+    (rounds_once sketched work server handled.first_runs handled.rounds handled.first (record { step = steps.Ask breaks.request; after = breaks.machine })
+    (tries_once sketched work false copy client handled.first_runs handled.first handled.begins) handled.goes_on))
 
 pub handlings_run_once : HandlingsRunOnce
 handlings_run_once server work copy after client sketched runs asks reply handling =

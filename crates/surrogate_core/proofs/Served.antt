@@ -21,11 +21,11 @@ use Rattle.world_rules.proofs.Asks.{moved_by_then, moved_by_none, moved_packets,
 use Rattle.world_rules.proofs.Settled.{failed-append}
 use Rattle.surrogate_core.specs.declared.step.Step.{Step as Turn}
 use Rattle.surrogate_core.specs.declared.step.Step.TheVariants as steps
-use Rattle.surrogate_core.specs.Handling.{Phase, Idle, Fetching, Holding, Machine, Reaction, idle, copy_before, Round, IsRound, GoesOn, Handled, Tries}
-use Rattle.surrogate_core.specs.Serving.{MayAsk, WorldWent, ServesTo, Serves, Steps, failed_step}
-use Rattle.surrogate_core.specs.Inside.{Awaits, Asked, Follows, Breaks, Serving, operation_in}
+use Rattle.surrogate_core.specs.Handling.{Phase, Idle, Fetching, Holding, Machine, Reaction, idle, answering, copy_before, Round, IsRound, GoesOn, Handled, Tries, Operates}
+use Rattle.surrogate_core.specs.Serving.{MayAsk, Serves, Steps, failed_step}
+use Rattle.surrogate_core.specs.Inside.{Awaits, Asked, Follows, Breaks, Serving, ServingOf}
 use Rattle.surrogate_core.proofs.Copies.{IsOn, handled_on, may_ask_on}
-use Rattle.surrogate_core.proofs.Trying.{is_idle, runs_none}
+use Rattle.surrogate_core.proofs.Trying.{is_idle}
 use Rattle.world_rules.proofs.Allowing.{moved_as}
 
 -- ---- runs after runs
@@ -87,7 +87,7 @@ module _ (server work : List ℕ) (copy : Volume) (client : ℕ) (sketched : Ske
   Serves_on last runner ran link now = Serving server work copy client sketched last runner ran link now
 
   -- the first step
-  pub begun : (reaction : Reaction) (runner ran : RunnerTelling) (link : LinkTelling) → Steps (Tries false copy client sketched work) reaction runner ran → Serves_on reaction runner ran link link
+  begun : (reaction : Reaction) (runner ran : RunnerTelling) (link : LinkTelling) → Steps (Tries false copy client sketched work) reaction runner ran → Serves_on reaction runner ran link link
   begun reaction runner ran link stepped = record {
     runs = stepped.runs;
     asks = [];
@@ -124,17 +124,13 @@ module _ (server work : List ℕ) (copy : Volume) (client : ℕ) (sketched : Ske
   waits_on asks reply (Holding c n before) now is = absurd is
 
   module _ (machine : Machine) (runner ran : RunnerTelling) (link now : LinkTelling) where
-    -- the same step under another name
-    pub at_step : (step is : Turn) → step ≡ is → Serves_on (record { step = step; after = machine }) runner ran link now → Serves_on (record { step = is; after = machine }) runner ran link now
-    at_step step is same serving = subst (λ (s : Turn). Serves_on (record { step = s; after = machine }) runner ran link now) same serving
-
-    pub awaits : (request : Message) → Serves_on (record { step = steps.Ask request; after = machine }) runner ran link now → Awaits machine.phase request
+    awaits : (request : Message) → Serves_on (record { step = steps.Ask request; after = machine }) runner ran link now → Awaits machine.phase request
     awaits request serving = awaits_on serving.asks request machine.phase machine.copy (on (record { step = steps.Ask request; after = machine }) runner ran link now serving)
 
-    pub waits : (reply : Message) → Serves_on (record { step = steps.Answer reply; after = machine }) runner ran link now → machine.phase ≡ Idle
+    waits : (reply : Message) → Serves_on (record { step = steps.Answer reply; after = machine }) runner ran link now → machine.phase ≡ Idle
     waits reply serving = waits_on serving.asks reply machine.phase machine.copy (on (record { step = steps.Answer reply; after = machine }) runner ran link now serving)
 
-    pub served_to : (reply : Message) → Serves_on (record { step = steps.Answer reply; after = machine }) runner ran link now
+    served_to : (reply : Message) → Serves_on (record { step = steps.Answer reply; after = machine }) runner ran link now
         → Serves server work copy (Operate client sketched) (Ok reply) machine.copy runner ran link now
     served_to reply serving = record {
       runs = serving.runs;
@@ -156,7 +152,7 @@ module _ (server work : List ℕ) (copy : Volume) (client : ℕ) (sketched : Ske
         went_then (MayAsk client sketched) request serving.asks more link now later may_ask serving.went asked.went,
       )
 
-      pub serves_more : (reaction : Reaction) (next : RunnerTelling) → Follows server work request (record { step = steps.Ask request; after = machine }) reaction ran next now later
+      serves_more : (reaction : Reaction) (next : RunnerTelling) → Follows server work request (record { step = steps.Ask request; after = machine }) reaction ran next now later
           → Serves_on reaction runner next link later
       serves_more reaction next follows =
           let asked = asked_more follows.round.asks follows.has_asked in
@@ -170,7 +166,7 @@ module _ (server work : List ℕ) (copy : Volume) (client : ℕ) (sketched : Ske
             went = asked.1;
           }
 
-      pub serves_broken : (error : AllocError) (after : Machine) (next : RunnerTelling) → Breaks server request now later → after ≡ idle (copy_before machine) → next ≡ ran
+      serves_broken : (error : AllocError) (after : Machine) (next : RunnerTelling) → Breaks server request now later → after ≡ idle (copy_before machine) → next ≡ ran
           → Serves server work copy (Operate client sketched) (Err error) after.copy runner next link later
       serves_broken error after next breaks is_back unrun =
           let asked = asked_more breaks.asks breaks.has_asked in
@@ -192,43 +188,78 @@ module _ (server work : List ℕ) (copy : Volume) (client : ℕ) (sketched : Ske
             went = asked.1;
           }
 
--- ---- any other message
+-- ---- any message
 
-pub served_none : (server work : List ℕ) (copy : Volume) (request : Message) (runner : RunnerTelling) (link : LinkTelling) → operation_in request ≡ None
-    → Serves server work copy request (Ok (messages.Malformed 7 0)) copy runner runner link link
-served_none server work copy request runner link none = record {
-  runs = [];
-  asks = [];
-  serves = serves request none;
-  has_run = runs_none runner;
-  had_troubles = omega arith;
-  went = told_start link.world (WorldWent request []) (went request none);
-}
-  where
-    serves : (request : Message) → operation_in request ≡ None → ServesTo server work copy request [] [] (Ok (messages.Malformed 7 0)) copy
-    serves (messages.Operate client sketched) none = absurd (cc)
-    serves (messages.Store client number effects base) none = (refl, refl, refl, refl)
-    serves (messages.Pull client number) none = (refl, refl, refl, refl)
-    serves (messages.Accepted client number) none = (refl, refl, refl, refl)
-    serves (messages.Stale client number path theirs ours) none = (refl, refl, refl, refl)
-    serves (messages.Unfit client number index fault) none = (refl, refl, refl, refl)
-    serves (messages.Gap client number last) none = (refl, refl, refl, refl)
-    serves (messages.Snapshot client number last rows) none = (refl, refl, refl, refl)
-    serves (messages.Done client number) none = (refl, refl, refl, refl)
-    serves (messages.Declined client number cause) none = (refl, refl, refl, refl)
-    serves (messages.Full client number index fault) none = (refl, refl, refl, refl)
-    serves (messages.Malformed code offset) none = (refl, refl, refl, refl)
+abbrev IsAsk : Turn → Type 0
+IsAsk (steps.Ask request) = Unit {0}
+IsAsk (steps.Answer reply) = ⊥
 
-    went : (request : Message) → operation_in request ≡ None → (w : World) → WorldWent request [] w w
-    went (messages.Operate client sketched) none w = absurd (cc)
-    went (messages.Store client number effects base) none w = refl
-    went (messages.Pull client number) none w = refl
-    went (messages.Accepted client number) none w = refl
-    went (messages.Stale client number path theirs ours) none w = refl
-    went (messages.Unfit client number index fault) none w = refl
-    went (messages.Gap client number last) none w = refl
-    went (messages.Snapshot client number last rows) none w = refl
-    went (messages.Done client number) none w = refl
-    went (messages.Declined client number cause) none w = refl
-    went (messages.Full client number index fault) none w = refl
-    went (messages.Malformed code offset) none w = refl
+abbrev reply_of : Turn → Message → Message
+reply_of (steps.Answer reply) other = reply
+reply_of (steps.Ask request) other = other
+
+module _ (server work : List ℕ) (copy : Volume) where
+  abbrev At : Message → Reaction → RunnerTelling → RunnerTelling → LinkTelling → LinkTelling → Type 0
+  At request last runner ran link now = ServingOf server work copy request last runner ran link now
+
+  none_done : (runs : List Run) (reaction : Reaction) (runner ran : RunnerTelling) (link : LinkTelling) → reaction ≡ answering copy (messages.Malformed 7 0) → runs ≡ []
+      → HasRun runs (failed_step reaction.step) runner ran → (reaction ≡ answering copy (messages.Malformed 7 0)) × HasRun [] 0 runner ran × (link ≡ link)
+  none_done runs reaction runner ran link is none told = (
+    is,
+    subst (λ (l : List Run). HasRun l 0 runner ran) none (subst (λ (r : Reaction). HasRun runs (failed_step r.step) runner ran) is told),
+    refl,
+  )
+
+  -- the first step
+  pub first_step : (request : Message) (reaction : Reaction) (runner ran : RunnerTelling) (link : LinkTelling) → Steps (Operates copy work request) reaction runner ran
+      → At request reaction runner ran link link
+  first_step (Operate client sketched) reaction runner ran link stepped = begun server work copy client sketched reaction runner ran link stepped
+  first_step request reaction runner ran link stepped = none_done stepped.runs reaction runner ran link stepped.does.0 stepped.does.1 stepped.told
+
+  module _ (machine : Machine) (runner ran : RunnerTelling) (link now : LinkTelling) where
+    abbrev taking : Turn → Reaction
+    taking step = record { step = step; after = machine }
+
+    none_asked : (asked : Message) → taking (steps.Ask asked) ≡ answering copy (messages.Malformed 7 0) → ⊥
+    none_asked asked is = subst (λ (r : Reaction). IsAsk r.step) is tt
+
+    -- the same step under another name
+    pub same_step : (request : Message) (step is : Turn) → step ≡ is → At request (taking step) runner ran link now → At request (taking is) runner ran link now
+    same_step request step is same serving = subst (λ (s : Turn). At request (taking s) runner ran link now) same serving
+
+    pub awaited : (request asked : Message) → At request (taking (steps.Ask asked)) runner ran link now → Awaits machine.phase asked
+    awaited (Operate client sketched) asked serving = awaits server work copy client sketched machine runner ran link now asked serving
+    awaited request asked serving = absurd (none_asked asked serving.0)
+
+    pub waits_again : (request reply : Message) → At request (taking (steps.Answer reply)) runner ran link now → machine.phase ≡ Idle
+    waits_again (Operate client sketched) reply serving = waits server work copy client sketched machine runner ran link now reply serving
+    waits_again request reply serving = ap (λ (r : Reaction). r.after.phase) serving.0
+
+    pub answered : (request reply : Message) → At request (taking (steps.Answer reply)) runner ran link now
+        → Serves server work copy request (Ok reply) machine.copy runner ran link now
+    answered (Operate client sketched) reply serving = served_to server work copy client sketched machine runner ran link now reply serving
+    answered request reply serving = record {
+      runs = [];
+      asks = [];
+      serves = (ap (λ (r : Reaction). Ok (reply_of r.step reply)) serving.0, refl, refl, ap (λ (r : Reaction). r.after.copy) serving.0);
+      has_run = subst (λ (k : ℕ). HasRun [] k runner ran) (sym (ap (λ (r : Reaction). failed_step r.step) serving.0)) serving.1;
+      had_troubles = subst (HadTroubles 0 link) (sym serving.2) (omega arith);
+      went = subst (λ (l : LinkTelling). ToldWorlds link l (λ (v w : World). w ≡ v)) (sym serving.2) (told_start link.world (λ (v w : World). w ≡ v) (λ (w : World). refl));
+    }
+
+    module _ (request asked : Message) (serving : At request (taking (steps.Ask asked)) runner ran link now) (later : LinkTelling) where
+      pub goes_on : (reaction : Reaction) (next : RunnerTelling) → Follows server work asked (taking (steps.Ask asked)) reaction ran next now later
+          → At request reaction runner next link later
+      goes_on reaction next follows = by request serving
+        where
+          by : (request : Message) → At request (taking (steps.Ask asked)) runner ran link now → At request reaction runner next link later
+          by (Operate client sketched) serving = serves_more server work copy client sketched machine runner ran link now asked serving later reaction next follows
+          by request serving = absurd (none_asked asked serving.0)
+
+      pub broken_off : (error : AllocError) (after : Machine) (next : RunnerTelling) → Breaks server asked now later → after ≡ idle (copy_before machine) → next ≡ ran
+          → Serves server work copy request (Err error) after.copy runner next link later
+      broken_off error after next breaks is_back unrun = by request serving
+        where
+          by : (request : Message) → At request (taking (steps.Ask asked)) runner ran link now → Serves server work copy request (Err error) after.copy runner next link later
+          by (Operate client sketched) serving = serves_broken server work copy client sketched machine runner ran link now asked serving later error after next breaks is_back unrun
+          by request serving = absurd (none_asked asked serving.0)

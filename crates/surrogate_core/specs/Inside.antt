@@ -1,5 +1,5 @@
 -- How the surrogate's fields stand for what callers see, and what its private functions give one another.
-use Rattle.std.specs.Prelude.{◌≡◌, ℕ, ◌-◌, List, Option, Some, None, Result, Ok, Err}
+use Rattle.std.specs.Prelude.{◌≡◌, ℕ, ◌-◌, List, [], Option, Some, None, Result, Ok, Err}
 use Rattle.tree_values.specs.Tree.{Volume}
 use Rattle.tree_values.specs.declared.node.Effect.{Effect}
 use Rattle.tree_values.specs.declared.node.Base.{Base}
@@ -14,7 +14,7 @@ use Rattle.replay_judge.specs.Judgement.{IsJudgement}
 use Rattle.wire_frames.specs.Frame.{IsValid}
 use Rattle.wire_frames.specs.declared.cause.Cause.{Cause}
 use Rattle.wire_frames.specs.declared.message.Message.{Message}
-use Rattle.wire_frames.specs.declared.message.Message.TheVariants.{Store, Operate, Pull, Snapshot, Done, Declined}
+use Rattle.wire_frames.specs.declared.message.Message.TheVariants.{Store, Operate, Pull, Snapshot, Done, Declined, Malformed}
 use Rattle.world_rules.specs.declared.asking.Ask.{Ask}
 use Rattle.world_rules.specs.World.{MovedBy, Is}
 use Rattle.world_rules.specs.Asking.{AnswersStand}
@@ -27,7 +27,7 @@ use Rattle.surrogate_core.specs.declared.machine.State.{State}
 use Rattle.surrogate_core.specs.declared.machine.State.TheVariants.{Idle as IsIdle, Fetching as IsFetching, Holding as IsHolding}
 use Rattle.surrogate_core.specs.declared.replaying.Held.{Held}
 use Rattle.surrogate_core.specs.Handling.{Held as HeldEffects, Phase, Idle, Fetching, Holding, Reaction, Round, IsRound, Handled, held_by}
-use Rattle.surrogate_core.specs.Handling.{runs_of_job}
+use Rattle.surrogate_core.specs.Handling.{runs_of_job, answering}
 use Rattle.surrogate_core.specs.Serving.{MayAsk, failed_step}
 
 -- ---- the machine's fields
@@ -129,3 +129,10 @@ pub record Serving (server work : List ℕ) (copy : Volume) (client : ℕ) (sket
   pub has_run : HasRun runs (failed_step last.step) runner ran
   pub troubles : HadTroubles (failed_asks asks) link asked
   pub went : ToldWorlds link asked (λ v w. MovedBy (MayAsk client sketched) asks v w × AnswersStand w asks)
+
+-- a message that was handled up to some step: an operation so, and any other is malformed
+abbrev pub ServingOf : List ℕ → List ℕ → Volume → Message → Reaction → RunnerTelling → RunnerTelling → LinkTelling → LinkTelling → Type 0
+ServingOf server work copy (Operate client sketched) last runner ran link asked =
+    Serving server work copy client sketched last runner ran link asked
+ServingOf server work copy request last runner ran link asked =
+    (last ≡ answering copy (Malformed 7 0)) × HasRun [] 0 runner ran × (asked ≡ link)

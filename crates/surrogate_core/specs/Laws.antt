@@ -1,5 +1,5 @@
 -- What holds of every handling.
-use Rattle.std.specs.Prelude.{◌≡◌, ◌≢◌, ◌⊎◌, ℕ, ◌≤◌, Bool, List, [], ◌∷◌, ◌++◌, find, None, Some, Ok, Err}
+use Rattle.std.specs.Prelude.{◌≡◌, ◌≢◌, ◌⊎◌, ℕ, ◌≤◌, Bool, true, List, [], ◌∷◌, ◌++◌, find, None, Some, Ok, Err}
 use Rattle.tree_values.specs.Lists.{IsIn}
 use Rattle.tree_values.specs.Tree.{Volume}
 use Rattle.tree_values.specs.Effects.{apply_all}
@@ -11,6 +11,7 @@ use Rattle.work_area.specs.Changes.{clashes, first_path}
 use Rattle.mod_log.specs.Sketched.{AllFill}
 use Rattle.mod_log.specs.declared.sketching.SketchEntry.{SketchEntry}
 use Rattle.replay_judge.specs.Judgement.{IsJudgement}
+use Rattle.replay_judge.specs.declared.verdict.Verdict.{Verdict}
 use Rattle.replay_judge.specs.declared.verdict.Verdict.TheVariants as verdicts
 use Rattle.wire_frames.specs.declared.cause.Cause.{Cause}
 use Rattle.wire_frames.specs.declared.cause.Cause.TheVariants.{OtherJob, NoJob, NoServer, NotRun, Status, OddTree, Mismatch, Clash, NotFit}
@@ -22,7 +23,7 @@ use Rattle.world_rules.specs.declared.asking.Answer.TheVariants.{Reply}
 use Rattle.world_rules.specs.declared.asking.Ask.{Ask}
 use Rattle.world_rules.specs.Settling.{failures, failed_asks}
 use Rattle.surrogate_core.specs.Handling.{Reaction, Tries, Handling, BreaksHandling, after_verdict, declining, job_for, job_print}
-use Rattle.surrogate_core.specs.Handling.{refusal_kind}
+use Rattle.surrogate_core.specs.Handling.{refusal_kind, held_by}
 use Rattle.surrogate_core.specs.Serving.{MayAsk}
 
 -- ---- what is asked, and what is run
@@ -44,6 +45,18 @@ abbrev pub HandlingsRunOnce : Type 0
 HandlingsRunOnce =
     (server work : List ℕ) (copy after : Volume) (client : ℕ) (sketched : SketchEntry) (runs : List Run) (asks : List Ask) (reply : Message)
     → Handling server work copy client sketched runs asks reply after → IsOfJob sketched work runs
+
+-- also of a handling that was broken off for want of memory
+abbrev pub BrokenHandlingsAskTheServer : Type 0
+BrokenHandlingsAskTheServer =
+    (server work : List ℕ) (copy after : Volume) (client : ℕ) (sketched : SketchEntry) (runs : List Run) (asks : List Ask) (ask : Ask)
+    → BreaksHandling server work copy client sketched runs asks after → IsIn ask asks
+    → (ask.to ≡ Server) × (ask.address ≡ server) × MayAsk client sketched ask.request
+
+abbrev pub BrokenHandlingsRunOnce : Type 0
+BrokenHandlingsRunOnce =
+    (server work : List ℕ) (copy after : Volume) (client : ℕ) (sketched : SketchEntry) (runs : List Run) (asks : List Ask)
+    → BreaksHandling server work copy client sketched runs asks after → IsOfJob sketched work runs
 
 -- ---- the copy
 
@@ -145,16 +158,29 @@ SilencesAreOfOneRequest =
     (server work : List ℕ) (copy after : Volume) (client : ℕ) (sketched : SketchEntry) (runs : List Run) (asks : List Ask)
     → Handling server work copy client sketched runs asks (messages.Declined client sketched.seq NoServer) after → FailedEight server asks
 
--- ---- what is done
+-- a pulled copy that has no such job is declined so, unless memory is wanted
+abbrev pub UnpreparedTriesAreDeclined : Type 0
+UnpreparedTriesAreDeclined = (tried : Volume) (client : ℕ) (sketched : SketchEntry) (work : List ℕ) (runs : List Run) (cause : Cause)
+    (reaction : Reaction)
+    → Tries true tried client sketched work runs reaction → job_for tried sketched ≡ Err cause
+    → (reaction ≡ declining tried client sketched.seq cause) ⊎ (reaction ≡ declining tried client sketched.seq NoMemory)
 
--- what was run is judged as agreeing, nothing clashes and the copy takes it: then the store is asked, unless memory is wanted
-abbrev pub AgreedTriesAskTheStore : Type 0
-AgreedTriesAskTheStore = (pulled : Bool) (tried new : Volume) (client : ℕ) (sketched : SketchEntry) (work : List ℕ) (run : Run)
-    (effects : List Effect) (reaction : Reaction)
-    → Tries pulled tried client sketched work (run ∷ []) reaction → IsJudgement sketched run.job run.outcome (verdicts.Agree effects)
-    → find (clashes tried run.job.rows) effects ≡ None → apply_all 0 effects tried ≡ Ok new
-    → (reaction ≡ after_verdict tried client sketched (Ok (record { effects = effects; copy = new })))
+-- what the runner failed to run is declined so, unless memory is wanted
+abbrev pub UnrunTriesAreDeclined : Type 0
+UnrunTriesAreDeclined = (pulled : Bool) (tried : Volume) (client : ℕ) (sketched : SketchEntry) (work : List ℕ) (job : Job)
+    (reaction : Reaction)
+    → Tries pulled tried client sketched work [] reaction → job_for tried sketched ≡ Ok job
+    → (reaction ≡ declining tried client sketched.seq NotRun) ⊎ (reaction ≡ declining tried client sketched.seq NoMemory)
+
+-- each judgement of what was run has its one consequence, unless memory is wanted
+abbrev pub JudgedTriesGoOn : Type 0
+JudgedTriesGoOn = (pulled : Bool) (tried : Volume) (client : ℕ) (sketched : SketchEntry) (work : List ℕ) (run : Run) (verdict : Verdict)
+    (reaction : Reaction)
+    → Tries pulled tried client sketched work (run ∷ []) reaction → IsJudgement sketched run.job run.outcome verdict
+    → (reaction ≡ after_verdict tried client sketched (held_by tried run.job verdict))
     ⊎ (reaction ≡ declining tried client sketched.seq NoMemory)
+
+-- ---- what is done
 
 -- a store that the server accepts ends as done
 abbrev pub AcceptedHandlingsAreDone : Type 0

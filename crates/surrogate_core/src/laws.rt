@@ -1,14 +1,18 @@
 //! What holds of every handling: functions that do nothing, whose contracts are laws.
 
-ghost use Rattle.surrogate_core.specs.Laws.{HandlingsAskTheServer, HandlingsRunOnce, HandlingsKeepTheCopy};
-ghost use Rattle.surrogate_core.specs.Laws.{BrokenHandlingsKeepTheCopy, DeclinesHaveCauses, SilencesAreOfOneRequest};
-ghost use Rattle.surrogate_core.specs.Laws.{AgreedTriesAskTheStore, AcceptedHandlingsAreDone};
+ghost use Rattle.surrogate_core.specs.Laws.{HandlingsAskTheServer, HandlingsRunOnce};
+ghost use Rattle.surrogate_core.specs.Laws.{BrokenHandlingsAskTheServer, BrokenHandlingsRunOnce};
+ghost use Rattle.surrogate_core.specs.Laws.{HandlingsKeepTheCopy, BrokenHandlingsKeepTheCopy, DeclinesHaveCauses, SilencesAreOfOneRequest};
+ghost use Rattle.surrogate_core.specs.Laws.{UnpreparedTriesAreDeclined, UnrunTriesAreDeclined, JudgedTriesGoOn, AcceptedHandlingsAreDone};
 ghost use Rattle.surrogate_core.specs.Free.{HandlingsMoveAlone, RepliesAreFree};
 
-/// States that a handling asks the server alone, for what its operation may ask, and runs at most the operation's job.
+/// States that a handling asks the server alone, for what its operation may ask, and runs at most the operation's job,
+/// also where it is broken off for want of memory.
 pub fn handlings_are_of_their_operation()
     ensures asks { HandlingsAskTheServer }
     ensures runs { HandlingsRunOnce }
+    ensures broken_asks { BrokenHandlingsAskTheServer }
+    ensures broken_runs { BrokenHandlingsRunOnce }
 {}
 
 /// States that a decline, and want of memory, leave the copy from before or the snapshot that was pulled, and that an
@@ -24,11 +28,17 @@ pub fn declines_have_causes()
     ensures silences { SilencesAreOfOneRequest }
 {}
 
-/// States that the store of what agrees, clashes with nothing and fits the copy is asked, and that an operation is done
-/// where the server accepts it.
-pub fn agreements_are_done()
-    ensures asked { AgreedTriesAskTheStore }
-    ensures done { AcceptedHandlingsAreDone }
+/// States what each try comes to, unless memory is wanted: a snapshot without the job is declined for that cause, what the
+/// runner failed to run is declined as not run, and each judgement of a run has its one consequence.
+pub fn tries_have_one_end()
+    ensures unprepared { UnpreparedTriesAreDeclined }
+    ensures unrun { UnrunTriesAreDeclined }
+    ensures judged { JudgedTriesGoOn }
+{}
+
+/// States that an operation is done where the server accepts its store.
+pub fn accepted_stores_are_done()
+    ensures { AcceptedHandlingsAreDone }
 {}
 
 /// States that to the world about a client, whose operation it has seen, a handling is no sending of the client, and that

@@ -9,8 +9,8 @@ mod serving;
 mod step;
 
 pub use laws::{
-    agreements_are_done, declines_have_causes, handlings_are_no_sendings,
-    handlings_are_of_their_operation, handlings_keep_the_copy,
+    accepted_stores_are_done, declines_have_causes, handlings_are_no_sendings,
+    handlings_are_of_their_operation, handlings_keep_the_copy, tries_have_one_end,
 };
 pub use machine::Surrogate;
 pub use step::Step;

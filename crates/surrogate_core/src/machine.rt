@@ -203,7 +203,7 @@ impl Surrogate {
     }
 
     /// Tries the operation on the copy, which is a snapshot of this handling where one was pulled.
-    pub(crate) fn try_on<R: Runner>(
+    fn try_on<R: Runner>(
         &mut self,
         pulled: bool,
         client: u8,
@@ -450,7 +450,7 @@ fn refusal_kind(reply: &Message) -> Option<u8>
 }
 
 /// The client of an operation, and what it sends in place of an entry.
-pub(crate) fn operation(request: Message) -> Option<(u8, SketchEntry)>
+fn operation(request: Message) -> Option<(u8, SketchEntry)>
     ensures { result ≡ operation_in request }
 {
     match request {

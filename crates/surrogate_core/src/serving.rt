@@ -1,7 +1,6 @@
 // Operations that are handled over a link.
 ghost use Rattle.std.specs.Prelude.{◌≡◌, ◌<◌, IfOk, OnErr};
 ghost use Rattle.wire_frames.specs.Frame.{IsValid};
-ghost use Rattle.wire_frames.specs.declared.message.Message.TheVariants.{Operate};
 ghost use Rattle.world_rules.specs.Asking.{IsRequest};
 ghost use Rattle.surrogate_core.specs.declared.step.Step.TheVariants as steps;
 ghost use Rattle.surrogate_core.specs.Handling.{Idle, idle, copy_before, IsFitStep};
@@ -9,10 +8,9 @@ ghost use Rattle.cmd_capture.specs.Runs.{telling};
 ghost use Rattle.surrogate_core.specs.Serving.{Serves};
 ghost use Rattle.surrogate_core.specs.Inside.{Awaits, Follows, Breaks, asks_left};
 
-use crate::machine::{Surrogate, operation};
+use crate::machine::Surrogate;
 use crate::step::Step;
 use cmd_capture::Runner;
-use mod_log::SketchEntry;
 use std::alloc::AllocError;
 use wire_frames::Message;
 use world_rules::{Link, Peer, settle};
@@ -41,33 +39,7 @@ impl Surrogate {
             (telling (R.runs runner.old) (R.faults runner.old)) (telling (R.runs runner.new) (R.faults runner.new)) (L.tells link.old)
             (L.tells link.new) }
     {
-        match operation(request) {
-            Some((client, sketched)) => {
-                self.serve_operation(client, sketched, work, runner, link, server)
-            }
-            None => Ok(Message::Malformed { code: 7, offset: 0 }),
-        }
-    }
-
-    fn serve_operation<R: Runner, L: Link>(
-        &mut self,
-        client: u8,
-        sketched: SketchEntry,
-        work: &[u8],
-        runner: &mut R,
-        link: &mut L,
-        server: &[u8],
-    ) -> Result<Message, AllocError>
-        requires idle { self.old.phase ≡ Idle }
-        requires valid { IsValid (Operate client sketched) }
-        ensures idle { self.new.phase ≡ Idle }
-        ensures reply { IfOk result IsValid }
-        ensures kept { L.keeps link.old link.new }
-        ensures served { Serves server.now work.now self.old.copy (Operate client sketched) result self.new.copy
-            (telling (R.runs runner.old) (R.faults runner.old)) (telling (R.runs runner.new) (R.faults runner.new)) (L.tells link.old)
-            (L.tells link.new) }
-    {
-        let mut step = self.try_on(false, client, sketched, work, runner);
+        let mut step = self.on_operate(request, work, runner);
         'asking: loop {
             match step {
                 Step::Answer(reply) => return Ok(reply),

@@ -1,11 +1,11 @@
 use Rattle.surrogate_core.specs.Handling.{IsFitStep}
 use Rattle.cmd_capture.specs.Runs.{telling}
-use Rattle.surrogate_core.specs.Inside.{Serving, asks_left}
-use Rattle.surrogate_core.proofs.machine.Surrogate.serve_operation.Given as goal
+use Rattle.surrogate_core.specs.Inside.{ServingOf, asks_left}
+use Rattle.surrogate_core.proofs.machine.Surrogate.serve.Given as goal
 
 abbrev pub invariant-asking : goal.invariant-asking
 invariant-asking g l = record {
-  serving : Serving l.fn.server l.fn.work l.fn.self.copy l.fn.client l.fn.sketched (record { step = l.step; after = l.self })
+  serving : ServingOf l.fn.server l.fn.work l.fn.self.copy l.fn.request (record { step = l.step; after = l.self })
       (telling (g.R.Runner.runs l.fn.runner) (g.R.Runner.faults l.fn.runner)) (telling (g.R.Runner.runs l.runner) (g.R.Runner.faults l.runner)) (g.L.Link.tells l.fn.link) (g.L.Link.tells l.link);
   sent : IsFitStep l.step;
   kept : g.L.Link.keeps l.fn.link l.link;
