@@ -5,7 +5,7 @@ ghost use Rattle.outside.specs.Keeper.{Images, Loads, Saves, Appends};
 ghost use Rattle.real_edge.specs.Held.{Holds};
 
 use crate::lock::Held;
-use crate::trouble::{Refusal, Step, Trouble, Troubles, at};
+use crate::trouble::{Refusal, Step, Trouble, Troubled, Troubles, at};
 use outside::{KeepError, Keeper};
 use std::alloc::Global;
 use std::fs::File;
@@ -124,6 +124,12 @@ fn name_of(alloc: Global, name: &[u8]) -> String {
     match copied {
         Ok(Ok(name)) => name,
         _ => String::new(alloc),
+    }
+}
+
+impl<'a, R: Files<File = File>> Troubled for FileKeeper<'a, R> {
+    fn trouble(&self) -> Option<&Trouble> {
+        FileKeeper::trouble(self)
     }
 }
 

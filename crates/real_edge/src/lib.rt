@@ -32,4 +32,4 @@ pub use port::TcpPort;
 pub use prompting::{Prompting, Terminals};
 pub use streams::{StdSink, StdSource};
 pub use telling::{Teller, Untold};
-pub use trouble::{Step, Trouble};
+pub use trouble::{Step, Trouble, Troubled, tell_trouble};

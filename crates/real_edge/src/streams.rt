@@ -3,7 +3,7 @@ ghost use Rattle.std.specs.Prelude.{◌≡◌, ◌<◌, ◌≤◌, ◌↔◌, �
 ghost use Rattle.std.specs.Io.KnownBytes.{ReadConsumes, WriteAppends};
 ghost use Rattle.outside.specs.Outside.{Told, Reads, Writes, CountsFault};
 
-use crate::trouble::{Trouble, Troubles};
+use crate::trouble::{Trouble, Troubled, Troubles};
 use outside::{Failed, Sink, SinkError, Source};
 use std::io::{self, ErrorKind, Read, Write};
 
@@ -35,6 +35,12 @@ impl<R: Read + Drop> StdSource<R> {
         ensures { (result ≡ None) ↔ (self.now.troubles.count ≡ 0) }
     {
         self.troubles.last()
+    }
+}
+
+impl<R: Read + Drop> Troubled for StdSource<R> {
+    fn trouble(&self) -> Option<&Trouble> {
+        StdSource::trouble(self)
     }
 }
 
@@ -87,6 +93,12 @@ impl<W: Write + Drop> StdSink<W> {
         ensures { (result ≡ None) ↔ (self.now.troubles.count ≡ 0) }
     {
         self.troubles.last()
+    }
+}
+
+impl<W: Write + Drop> Troubled for StdSink<W> {
+    fn trouble(&self) -> Option<&Trouble> {
+        StdSink::trouble(self)
     }
 }
 

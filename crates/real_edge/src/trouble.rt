@@ -66,6 +66,19 @@ impl Display for Trouble {
     }
 }
 
+/// What can say what its call met that failed last.
+pub trait Troubled {
+    /// What that call met; `None` where it is not known, or none has failed.
+    fn trouble(&self) -> Option<&Trouble>;
+}
+
+/// Tells what a call met, where that is known: on standard error, in a line that begins with the program's name.
+pub fn tell_trouble<R: Eprint>(rt: &R, program: &str, trouble: Option<&Trouble>) {
+    if let Some(trouble) = trouble {
+        let _ = eprintln!(rt; "{program}: {trouble}");
+    }
+}
+
 /// Tells a step that was refused.
 fn tell_step<W: fmt::Write>(
     step: Step,
