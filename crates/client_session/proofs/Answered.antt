@@ -42,16 +42,18 @@ use Rattle.client_core.specs.declared.running.RunEnd.TheVariants as runs
 use Rattle.client_core.specs.Trace.{Trace}
 use Rattle.world_rules.proofs.Settled.{failed-append, failed-failures}
 use Rattle.client_core.specs.Syncing.{store_of, IsFirst, Ships, end_by, EndsSync, SyncTurn}
+use Rattle.client_core.specs.Pulling.{pull_of, PullTurn}
 use Rattle.client_core.proofs.Licensing.{unanswered_failed}
 use Rattle.shell_lang.specs.declared.line.Line.{Line}
 use Rattle.shell_lang.specs.declared.line.Line.TheVariants as lines
 use Rattle.shell_lang.specs.declared.line.LineError.{LineError}
 use Rattle.shell_lang.specs.declared.answer.LineAnswer.{LineAnswer}
 use Rattle.shell_lang.specs.declared.answer.LineAnswer.TheVariants as answers
-use Rattle.client_session.specs.Session.{SessionState, is_unanswered_sync, put_effect, make_effect, remove_effect, move_effect, sync_answer, pull_answer, local_answer, word_answer, capture_answer, job_answer, run_answer, status_answer, LogTurn, CommandTurn, LineTurn, Chain, LeavesPending}
+use Rattle.client_session.specs.Session.{SessionState, is_unanswered, put_effect, make_effect, remove_effect, move_effect, sync_answer, pull_answer, local_answer, word_answer, capture_answer, job_answer, run_answer, status_answer, LogTurn, CommandTurn, LineTurn, Chain, LeavesPending}
 use Rattle.client_session.specs.Looking.{found_at, shown, listed, entered, about, cat_answer, list_answer, enter_answer}
-use Rattle.client_session.specs.Laws.{IsChange, ChangesLeadTo, UnansweredSyncsCostAsks}
+use Rattle.client_session.specs.Laws.{IsChange, ChangesLeadTo, UnansweredLinesCostAsks}
 use Rattle.client_session.proofs.Changing.{line_leads, line_number}
+use Rattle.client_session.proofs.Pulls.{only_pulls}
 
 -- ---- only a sync is answered so
 
@@ -387,7 +389,7 @@ module _ (packets : List Message) (client from : ℕ) (gapless : Gapless client 
   all_synced before asked answers after trace chain number past stand calm x among leaves =
       walk route LeavesPending (λ s. (s.client.number ≡ client) × IsPast from s.client.log) AreCalm calm_parts calm_turn before asked answers after trace chain (number, past) (stand, calm) x among leaves
 
--- ---- syncs that are not answered
+-- ---- syncs and pulls that are not answered
 
 -- a sync that is answered so has asked the store eight times at its end
 sync_costs : (client : ℕ) (route : Route) (before after : Log) (end : SyncEnd) (trace : Trace) (seq : ℕ) → SyncTurn client route before end after trace → Some (answers.Unanswered seq) ≡ sync_answer end
@@ -404,17 +406,31 @@ sync_costs client route before after (syncs.Behind n last) trace seq turn is = a
 sync_costs client route before after syncs.KeepFault trace seq turn is = absurd (cc (is))
 sync_costs client route before after syncs.Memory trace seq turn is = absurd (cc (is))
 
+-- and so has a pull
+pull_costs : (client : ℕ) (route : Route) (before after : Log) (end : PullEnd) (trace : Trace) → PullTurn client route before end after trace → Some answers.PullUnanswered ≡ pull_answer end → 8 ≤ failed_asks trace.asks
+pull_costs client route before after pulls.Unanswered trace turn is =
+    omega (arith, ap (λ (t : Trace). failed_asks t.asks) turn.1.3, ap failed_asks turn.1.1, failed-failures Server route.server (pull_of client before) 8)
+pull_costs client route before after (pulls.Pulled count) trace turn is = absurd (cc (is))
+pull_costs client route before after (pulls.Pending count) trace turn is = absurd (cc (is))
+pull_costs client route before after (pulls.OtherLast last acked) trace turn is = absurd (cc (is))
+pull_costs client route before after (pulls.Older path theirs ours) trace turn is = absurd (cc (is))
+pull_costs client route before after pulls.KeepFault trace turn is = absurd (cc (is))
+pull_costs client route before after pulls.Memory trace turn is = absurd (cc (is))
+
 line_costs : (route : Route) (before after : SessionState) (trace : Trace) (answer : Option LineAnswer) (line : Result Line LineError) → LineTurn route before line answer after trace
-    → 8 * cond (is_unanswered_sync answer) 1 0 ≤ failed_asks trace.asks
+    → 8 * cond (is_unanswered answer) 1 0 ≤ failed_asks trace.asks
 line_costs route before after trace (Some (answers.Unanswered seq)) line turn =
     let was = only_syncs route before after trace (Some (answers.Unanswered seq)) tt line turn in
     omega (arith, sync_costs before.client.number route before.client.log after.client.log was.0 trace seq was.1 was.2)
+line_costs route before after trace (Some answers.PullUnanswered) line turn =
+    let was = only_pulls route before after trace (Some answers.PullUnanswered) tt line turn in
+    omega (arith, pull_costs before.client.number route before.client.log after.client.log was.0 trace was.1 was.2)
 line_costs route before after trace answer line turn = omega arith
 
-pub unanswered_syncs_cost_asks : UnansweredSyncsCostAsks
-unanswered_syncs_cost_asks route before [] answers after trace chain = omega (arith, ap (count_by is_unanswered_sync) chain.0)
-unanswered_syncs_cost_asks route before (line ∷ more) answers after trace chain =
+pub unanswered_lines_cost_asks : UnansweredLinesCostAsks
+unanswered_lines_cost_asks route before [] answers after trace chain = omega (arith, ap (count_by is_unanswered) chain.0)
+unanswered_lines_cost_asks route before (line ∷ more) answers after trace chain =
     let one = line_costs route before chain.0 chain.1 chain.3 line chain.5 in
-    let rest = unanswered_syncs_cost_asks route chain.0 more chain.4 after chain.2 chain.6 in
-    let first : count_by is_unanswered_sync (chain.3 ∷ chain.4) ≡ cond (is_unanswered_sync chain.3) 1 0 + count_by is_unanswered_sync chain.4 = sum_by-cons (λ x. cond (is_unanswered_sync x) 1 0) chain.3 chain.4 in
-    omega (arith, ap (count_by is_unanswered_sync) chain.7, first, one, rest, ap (λ (t : Trace). failed_asks t.asks) chain.8, failed-append chain.1.asks chain.2.asks)
+    let rest = unanswered_lines_cost_asks route chain.0 more chain.4 after chain.2 chain.6 in
+    let first : count_by is_unanswered (chain.3 ∷ chain.4) ≡ cond (is_unanswered chain.3) 1 0 + count_by is_unanswered chain.4 = sum_by-cons (λ x. cond (is_unanswered x) 1 0) chain.3 chain.4 in
+    omega (arith, ap (count_by is_unanswered) chain.7, first, one, rest, ap (λ (t : Trace). failed_asks t.asks) chain.8, failed-append chain.1.asks chain.2.asks)

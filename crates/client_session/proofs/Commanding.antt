@@ -16,10 +16,11 @@ use Rattle.client_core.specs.declared.running.RunEnd.TheVariants as ends
 use Rattle.client_core.specs.Trace.{Trace, nothing}
 use Rattle.cmd_capture.specs.Runs.{RunnerTelling, HasRun}
 use Rattle.client_core.specs.Running.{RunEnds, RunsCommand, has_logged}
-use Rattle.client_core.specs.Keeping.{IsKept, KeepsLog}
+use Rattle.client_core.specs.Keeping.{IsKept}
 use Rattle.client_core.specs.Goes.{Goes}
 use Rattle.client_core.proofs.Going.{changed_so, goes_as, goes_saved}
 use Rattle.client_core.proofs.Runs.{run_goes}
+use Rattle.client_core.proofs.Journal.{KeepsLog}
 use Rattle.shell_lang.specs.declared.line.Line.TheVariants.{Run as RunLine}
 use Rattle.shell_lang.specs.declared.answer.LineAnswer.{LineAnswer}
 use Rattle.client_session.specs.Session.{SessionState, CommandTurn, LineTurn, BreaksCommand, Broken, capture_answer, run_answer}

@@ -11,3 +11,4 @@ pub mod Pulls
 pub mod Recorded
 pub mod Settlings
 pub mod Turning
+pub mod Turns

@@ -42,6 +42,18 @@ IsRefusedPull (Some (answers.OtherLast last)) = Unit {0}
 IsRefusedPull (Some (answers.Older path theirs ours)) = Unit {0}
 IsRefusedPull answer = ⊥
 
+-- the same, and a pull whose asks all failed
+abbrev pub IsFailedPull : Option LineAnswer → Type 0
+IsFailedPull (Some answers.PullUnanswered) = Unit {0}
+IsFailedPull answer = IsRefusedPull answer
+
+refused_failed : (answer : Option LineAnswer) → IsRefusedPull answer → IsFailedPull answer
+refused_failed (Some (answers.OtherLast last)) refused = refused
+refused_failed (Some (answers.Older path theirs ours)) refused = refused
+refused_failed (Some answers.PullUnanswered) refused = tt
+refused_failed (Some _) refused = absurd refused
+refused_failed None refused = absurd refused
+
 -- it is the answer of a pull that is told
 abbrev pub IsOfPull : Option LineAnswer → Trace → Type 0
 IsOfPull answer trace = (end : PullEnd) × IsIn end trace.pulls × (answer ≡ pull_answer end)
@@ -50,7 +62,7 @@ IsOfPull answer trace = (end : PullEnd) × IsIn end trace.pulls × (answer ≡ p
 
 -- what reads the tree is not
 abbrev NoPull : LineAnswer → Type 0
-NoPull answer = IsRefusedPull (Some answer) → ⊥
+NoPull answer = IsFailedPull (Some answer) → ⊥
 
 shown_other : (path : FilePath) (found : Option Node) → NoPull (shown path found)
 shown_other path None refused = refused
@@ -75,7 +87,7 @@ list_other : (tree : Volume) (folder : FilePath) (word : Option (List ℕ)) → 
 list_other tree folder None refused = listed_other tree folder (found_at tree folder) refused
 list_other tree folder (Some word) refused = about_other (resolved folder word) (λ path. listed tree path (found_at tree path)) (λ path. listed_other tree path (found_at tree path)) refused
 
-local_other : (result : Result ℕ LogError) → IsRefusedPull (local_answer result) → ⊥
+local_other : (result : Result ℕ LogError) → IsFailedPull (local_answer result) → ⊥
 local_other (Ok number) refused = refused
 local_other (Err logs.Memory) refused = refused
 local_other (Err (logs.EntryTooLarge effects bytes)) refused = refused
@@ -83,13 +95,13 @@ local_other (Err (logs.LogFull entries bytes)) refused = refused
 local_other (Err logs.LastNumber) refused = refused
 local_other (Err (logs.Tree index refusal)) refused = refused
 
-word_other : (refusal : PathError) → IsRefusedPull (word_answer refusal) → ⊥
+word_other : (refusal : PathError) → IsFailedPull (word_answer refusal) → ⊥
 word_other paths.Memory refused = refused
 word_other (paths.BadName index) refused = refused
 word_other (paths.TooDeep names) refused = refused
 word_other (paths.TooLong bytes) refused = refused
 
-sync_other : (end : SyncEnd) → IsRefusedPull (sync_answer end) → ⊥
+sync_other : (end : SyncEnd) → IsFailedPull (sync_answer end) → ⊥
 sync_other (syncs.Synced n) refused = refused
 sync_other (syncs.Stale n path theirs ours) refused = refused
 sync_other (syncs.Unfit n index fault) refused = refused
@@ -99,7 +111,7 @@ sync_other (syncs.Behind n last) refused = refused
 sync_other syncs.KeepFault refused = refused
 sync_other syncs.Memory refused = refused
 
-capture_other : (refusal : CaptureError) → IsRefusedPull (capture_answer refusal) → ⊥
+capture_other : (refusal : CaptureError) → IsFailedPull (capture_answer refusal) → ⊥
 capture_other captures.Memory refused = refused
 capture_other captures.NoProgram refused = refused
 capture_other (captures.BadOption i) refused = refused
@@ -110,12 +122,12 @@ capture_other captures.NotAbsolute refused = refused
 capture_other (captures.ZeroByte i) refused = refused
 capture_other (captures.CommandTooLong n) refused = refused
 
-job_other : (refusal : JobError) → IsRefusedPull (job_answer refusal) → ⊥
+job_other : (refusal : JobError) → IsFailedPull (job_answer refusal) → ⊥
 job_other (jobs.NoFolder path) refused = refused
 job_other (jobs.NoInput i) refused = refused
 job_other jobs.Memory refused = refused
 
-run_other : (end : RunEnd) → IsRefusedPull (run_answer end) → ⊥
+run_other : (end : RunEnd) → IsFailedPull (run_answer end) → ⊥
 run_other (runs.Logged seq status) refused = refused
 run_other (runs.Nothing status) refused = refused
 run_other (runs.NoJob refusal) refused = job_other refusal refused
@@ -135,20 +147,23 @@ pull_told client route before pulls.Unanswered after trace turn refused = absurd
 pull_told client route before pulls.KeepFault after trace turn refused = absurd refused
 pull_told client route before pulls.Memory after trace turn refused = absurd refused
 
-module _ (route : Route) (before after : SessionState) (trace : Trace) (answer : Option LineAnswer) (refused : IsRefusedPull answer) where
-  -- it is of no other line
-  not_so : (told : Option LineAnswer) → answer ≡ told → (IsRefusedPull told → ⊥) → IsOfPull answer trace
-  not_so told is other = absurd (other (subst IsRefusedPull is refused))
+module _ (route : Route) (before after : SessionState) (trace : Trace) (answer : Option LineAnswer) (failed : IsFailedPull answer) where
+  abbrev WasPull : Type 0
+  WasPull = (end : PullEnd) × PullTurn before.client.number route before.client.log end after.client.log trace × (answer ≡ pull_answer end)
 
-  log_other : (named : Result Effect PathError) → LogTurn named before answer after trace → IsOfPull answer trace
+  -- it is of no other line
+  not_so : (told : Option LineAnswer) → answer ≡ told → (IsFailedPull told → ⊥) → WasPull
+  not_so told is other = absurd (other (subst IsFailedPull is failed))
+
+  log_other : (named : Result Effect PathError) → LogTurn named before answer after trace → WasPull
   log_other (Ok effect) turn = not_so (local_answer turn.0) turn.3 (local_other turn.0)
   log_other (Err refusal) turn = not_so (word_answer refusal) turn.0 (word_other refusal)
 
-  command_other : (made : Result Command CaptureError) → CommandTurn route made before answer after trace → IsOfPull answer trace
+  command_other : (made : Result Command CaptureError) → CommandTurn route made before answer after trace → WasPull
   command_other (Ok command) turn = not_so (run_answer turn.0) turn.3 (run_other turn.0)
   command_other (Err refusal) turn = not_so (capture_answer refusal) turn.0 (capture_other refusal)
 
-  only_pulls : (line : Result Line LineError) → LineTurn route before line answer after trace → IsOfPull answer trace
+  pub only_pulls : (line : Result Line LineError) → LineTurn route before line answer after trace → WasPull
   only_pulls (Err refusal) turn = not_so _ turn.0 (λ none. none)
   only_pulls (Ok lines.Empty) turn = not_so None turn.0 (λ none. none)
   only_pulls (Ok (lines.Put word text)) turn = log_other (put_effect before.folder word text) turn
@@ -166,11 +181,7 @@ module _ (route : Route) (before after : SessionState) (trace : Trace) (answer :
   only_pulls (Ok (lines.Run words)) turn = command_other (capture words before.folder) turn
   only_pulls (Ok lines.Status) turn = not_so (Some (status_answer before)) turn.0 (λ none. none)
   only_pulls (Ok lines.Sync) turn = not_so (sync_answer turn.0) turn.3 (sync_other turn.0)
-  only_pulls (Ok lines.Pull) turn = (
-    turn.0,
-    pull_told before.client.number route before.client.log turn.0 after.client.log trace turn.1 (subst IsRefusedPull turn.3 refused),
-    turn.3,
-  )
+  only_pulls (Ok lines.Pull) turn = (turn.0, turn.1, turn.3)
   only_pulls (Ok lines.Quit) turn = not_so None turn.0 (λ none. none)
 
 -- ---- in a session
@@ -181,8 +192,10 @@ session_pulls route before [] answers after trace chain x among refused = absurd
 session_pulls route before (line ∷ asked) answers after trace chain x among refused =
     ⊎_elim
     (λ (is : x ≡ chain.3).
-    let told = only_pulls route before chain.0 chain.1 chain.3 (subst IsRefusedPull is refused) line chain.5 in
-    (told.0, subst (λ (t : Trace). IsIn told.0 t.pulls) (sym chain.8) (IsIn-left told.0 chain.1.pulls chain.2.pulls told.1), is ∙ told.2))
+    let here = subst IsRefusedPull is refused in
+    let was = only_pulls route before chain.0 chain.1 chain.3 (refused_failed chain.3 here) line chain.5 in
+    let told = pull_told before.client.number route before.client.log was.0 chain.0.client.log chain.1 was.1 (subst IsRefusedPull was.2 here) in
+    (was.0, subst (λ (t : Trace). IsIn was.0 t.pulls) (sym chain.8) (IsIn-left was.0 chain.1.pulls chain.2.pulls told), is ∙ was.2))
     (λ (later : IsIn x chain.4).
     let told = session_pulls route chain.0 asked chain.4 after chain.2 chain.6 x later refused in
     (told.0, subst (λ (t : Trace). IsIn told.0 t.pulls) (sym chain.8) (IsIn-right told.0 chain.1.pulls chain.2.pulls told.1), told.2))

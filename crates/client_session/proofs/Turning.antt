@@ -21,15 +21,16 @@ use Rattle.client_core.specs.declared.pulling.PullEnd.TheVariants as pulls
 use Rattle.client_core.specs.Client.{Client}
 use Rattle.client_core.specs.Causes.{HasSyncCause, HasPullCause, AcknowledgesSome, SyncKeeps, PullKeeps}
 use Rattle.client_core.specs.Trace.{Trace, nothing}
-use Rattle.client_core.specs.Logging.{local_entry, LocalEnds}
+use Rattle.client_core.specs.Logging.{local_entry}
 use Rattle.client_core.specs.Syncing.{SyncEnds, is_broken_sync}
 use Rattle.client_core.specs.Pulling.{PullEnds, is_broken_pull}
-use Rattle.client_core.specs.Keeping.{IsKept, IsReady, IsKeptReady, KeepsLog}
+use Rattle.client_core.specs.Keeping.{IsKept, IsReady, IsKeptReady}
 use Rattle.cmd_capture.specs.Runs.{RunnerTelling, HasRun}
 use Rattle.client_core.specs.Goes.{no_runner}
 use Rattle.client_core.specs.Goes.{Goes, Went}
 use Rattle.client_core.proofs.Going.{changed_so, kept_now, goes_none, goes_as, goes_beside, goes_saved}
-use Rattle.client_core.proofs.Locals.{local_goes}
+use Rattle.client_core.proofs.Locals.{LocalEnds, local_goes}
+use Rattle.client_core.proofs.Journal.{KeepsLog}
 use Rattle.shell_lang.specs.declared.line.Line.{Line}
 use Rattle.shell_lang.specs.declared.line.Line.TheVariants.{Enter, Status, Sync, Pull}
 use Rattle.shell_lang.specs.declared.line.LineError.{LineError}

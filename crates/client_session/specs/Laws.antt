@@ -9,13 +9,13 @@ use Rattle.world_rules.specs.declared.asking.Ask.{Ask}
 use Rattle.world_rules.specs.declared.asking.Peer.TheVariants.{Server, Surrogate}
 use Rattle.world_rules.specs.Settling.{failed_asks}
 use Rattle.client_core.specs.declared.route.Route.{Route}
-use Rattle.client_core.specs.Trace.{Trace}
+use Rattle.client_core.specs.Trace.{Trace, followed}
 use Rattle.client_core.specs.Syncing.{acknowledged_first}
 use Rattle.shell_lang.specs.declared.line.Line.{Line}
 use Rattle.shell_lang.specs.declared.line.LineError.{LineError}
 use Rattle.shell_lang.specs.declared.answer.LineAnswer.{LineAnswer}
 use Rattle.client_session.specs.Causes.{asks_to_run}
-use Rattle.client_session.specs.Session.{SessionState, Chain, BreaksChain, is_unrun, is_unanswered_sync}
+use Rattle.client_session.specs.Session.{SessionState, LineTurn, Broken, Chain, BreaksChain, is_unrun, is_unanswered}
 
 -- one entry with the next number is logged, the first pending one is acknowledged, or the base is replaced by a pull
 abbrev pub IsChange : Log → Log → Type 0
@@ -48,11 +48,11 @@ UnrunLinesAreCounted = (route : Route) (before : SessionState) (lines : List (Re
     (answers : List (Option LineAnswer)) (after : SessionState) (trace : Trace)
     → Chain route before lines answers after trace → count_by is_unrun answers ≡ trace.missed
 
--- Each sync that is answered `unanswered` cost eight asks that failed.
-abbrev pub UnansweredSyncsCostAsks : Type 0
-UnansweredSyncsCostAsks = (route : Route) (before : SessionState) (lines : List (Result Line LineError))
+-- Each sync and each pull that is answered `unanswered` cost eight asks that failed.
+abbrev pub UnansweredLinesCostAsks : Type 0
+UnansweredLinesCostAsks = (route : Route) (before : SessionState) (lines : List (Result Line LineError))
     (answers : List (Option LineAnswer)) (after : SessionState) (trace : Trace)
-    → Chain route before lines answers after trace → 8 * count_by is_unanswered_sync answers ≤ failed_asks trace.asks
+    → Chain route before lines answers after trace → 8 * count_by is_unanswered answers ≤ failed_asks trace.asks
 
 -- Each run, failed ones too, is of a line `run`, and no line has two.
 abbrev pub LinesRunOnce : Type 0
@@ -75,3 +75,42 @@ abbrev pub BrokenSessionsAskTheRoute : Type 0
 BrokenSessionsAskTheRoute = (route : Route) (before : SessionState) (lines : List (Result Line LineError))
     (answers : List (Option LineAnswer)) (after : SessionState) (kept : Log) (trace : Trace) (ask : Ask)
     → BreaksChain route before lines answers after kept trace → IsIn ask trace.asks → IsOfRoute route ask
+
+-- ---- the line of an ask
+
+-- the ask is of one turn of a line, which stands in the trace behind the turns before it and before those behind it
+pub record IsOfTurn (route : Route) (trace : Trace) (ask : Ask) : Type 0 where
+  pub before : SessionState
+  pub after : SessionState
+  pub line : Result Line LineError
+  pub answer : Option LineAnswer
+  pub turn : Trace
+  pub front : Trace
+  pub back : Trace
+  pub turns : LineTurn route before line answer after turn
+  pub asked : IsIn ask turn.asks
+  pub parts : trace ≡ followed front (followed turn back)
+
+-- the ask is of a line that was broken off at the end of the trace
+pub record IsOfBrokenTurn (route : Route) (trace : Trace) (ask : Ask) : Type 0 where
+  pub before : SessionState
+  pub after : SessionState
+  pub line : Result Line LineError
+  pub turn : Trace
+  pub front : Trace
+  pub breaks : Broken route before line after turn
+  pub asked : IsIn ask turn.asks
+  pub parts : trace ≡ followed front turn
+
+-- Each ask of a session is of the turn of one of its lines. So what is said of each ask of a sync is said of each ask of a session.
+abbrev pub AsksAreOfTurns : Type 0
+AsksAreOfTurns = (route : Route) (before : SessionState) (lines : List (Result Line LineError))
+    (answers : List (Option LineAnswer)) (after : SessionState) (trace : Trace) (ask : Ask)
+    → Chain route before lines answers after trace → IsIn ask trace.asks → IsOfTurn route trace ask
+
+-- And each of a session whose last line was broken off is of such a turn, or of that line.
+abbrev pub BrokenSessionsAskInTurns : Type 0
+BrokenSessionsAskInTurns = (route : Route) (before : SessionState) (lines : List (Result Line LineError))
+    (answers : List (Option LineAnswer)) (after : SessionState) (kept : Log) (trace : Trace) (ask : Ask)
+    → BreaksChain route before lines answers after kept trace → IsIn ask trace.asks
+    → IsOfTurn route trace ask ⊎ IsOfBrokenTurn route trace ask

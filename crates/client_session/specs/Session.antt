@@ -250,12 +250,13 @@ abbrev pub is_unrun : Option LineAnswer → Bool
 is_unrun (Some answers.NotRun) = true
 is_unrun answer = false
 
--- ---- syncs that are not answered
+-- ---- syncs and pulls that are not answered
 
--- whether a sync is answered `unanswered`
-abbrev pub is_unanswered_sync : Option LineAnswer → Bool
-is_unanswered_sync (Some (answers.Unanswered seq)) = true
-is_unanswered_sync answer = false
+-- whether a sync or a pull is answered `unanswered`
+abbrev pub is_unanswered : Option LineAnswer → Bool
+is_unanswered (Some (answers.Unanswered seq)) = true
+is_unanswered (Some answers.PullUnanswered) = true
+is_unanswered answer = false
 
 -- ---- lines that are broken off, since memory was wanted or a keeping was refused
 

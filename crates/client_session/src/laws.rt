@@ -1,6 +1,7 @@
 // Laws of sessions.
 ghost use Rattle.client_session.specs.Laws.{SessionsChangeSo, AsksAndRunsMakeSessions, UnrunLinesAreCounted};
-ghost use Rattle.client_session.specs.Laws.{LinesRunOnce, AsksAreOfTheRoute, BrokenSessionsAskTheRoute, UnansweredSyncsCostAsks};
+ghost use Rattle.client_session.specs.Laws.{LinesRunOnce, AsksAreOfTheRoute, BrokenSessionsAskTheRoute, UnansweredLinesCostAsks};
+ghost use Rattle.client_session.specs.Laws.{AsksAreOfTurns, BrokenSessionsAskInTurns};
 ghost use Rattle.client_session.specs.Contents.{DistinctContentsDoNotCollide, BrokenSessionsDoNotCollide};
 
 /// Law: what a session changes of the log are entries that it logs, acknowledgements of the first pending one and pulls, one
@@ -21,9 +22,9 @@ pub fn unrun_lines_are_counted()
     ensures once { LinesRunOnce }
 {}
 
-/// Law: each sync that is answered `unanswered` cost eight asks that failed.
-pub fn unanswered_syncs_cost_asks()
-    ensures { UnansweredSyncsCostAsks }
+/// Law: each sync and each pull that is answered `unanswered` cost eight asks that failed.
+pub fn unanswered_lines_cost_asks()
+    ensures { UnansweredLinesCostAsks }
 {}
 
 /// Law: where no two contents, one of a session and one of the packets, have one print, no content that the client ships as an
@@ -38,4 +39,11 @@ pub fn distinct_contents_do_not_collide()
 pub fn asks_are_of_the_route()
     ensures whole { AsksAreOfTheRoute }
     ensures broken { BrokenSessionsAskTheRoute }
+{}
+
+/// Law: each ask of a session is of the turn of one of its lines, or of the last line, where that was broken off. So what is
+/// said of each ask of a sync, as when the store of a light entry may be asked, is said of each ask of a session.
+pub fn asks_are_of_turns()
+    ensures whole { AsksAreOfTurns }
+    ensures broken { BrokenSessionsAskInTurns }
 {}

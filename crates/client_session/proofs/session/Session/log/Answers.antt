@@ -1,9 +1,9 @@
 use Rattle.std.proofs.Common.{ℕ, false, [], ◌∷◌, Some, None, Ok, Err, refl, sym, ap, subst}
 use Rattle.outside.specs.Outside.{Told}
 use Rattle.outside.specs.declared.errors.KeepError.{KeepError}
-use Rattle.client_core.specs.Keeping.{IsKept, IsKeptReady, KeepsLog}
+use Rattle.client_core.specs.Keeping.{IsKept, IsKeptReady}
 use Rattle.client_core.specs.Journal.{next_notes}
-use Rattle.client_core.proofs.Journal.{next_keeps}
+use Rattle.client_core.proofs.Journal.{KeepsLog, next_keeps}
 use Rattle.client_core.specs.Client.{Client}
 use Rattle.client_core.specs.Noting.{KeepsChanges}
 use Rattle.client_core.proofs.Locals.{appended-is, local_one}

@@ -4,9 +4,9 @@ use Rattle.outside.specs.declared.errors.KeepError.{KeepError}
 use Rattle.client_core.specs.Client.{Client}
 use Rattle.cmd_capture.specs.Runs.{telling}
 use Rattle.client_core.specs.Running.{RunsCommand, has_logged}
-use Rattle.client_core.specs.Keeping.{IsKept, IsReady, IsKeptReady, KeepsNext, KeepsLog}
+use Rattle.client_core.specs.Keeping.{IsKept, IsReady, IsKeptReady, KeepsNext}
 use Rattle.client_core.specs.Journal.{next_notes}
-use Rattle.client_core.proofs.Journal.{next_keeps}
+use Rattle.client_core.proofs.Journal.{KeepsLog, next_keeps}
 use Rattle.client_core.specs.Noting.{KeepsChanges}
 use Rattle.client_core.proofs.Noting.{keeps_same, keeps_logged}
 use Rattle.client_core.proofs.Runs.{ran_one, ran_logged}

@@ -1,5 +1,0 @@
-use Rattle.client_session.proofs.Answered.{unanswered_syncs_cost_asks}
-use Rattle.client_session.proofs.laws.unanswered_syncs_cost_asks.Goals as goal
-
-pub returns : goal.returns
-returns c = unanswered_syncs_cost_asks
