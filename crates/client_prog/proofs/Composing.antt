@@ -45,7 +45,7 @@ use Rattle.client_prog.specs.declared.run.Stop.{Stop}
 use Rattle.client_prog.specs.declared.run.Stop.TheVariants as stops
 use Rattle.client_session.specs.Session.{SessionState, opened, put_effect, make_effect, remove_effect, move_effect, LogTurn, CommandTurn, LineTurn, BreaksCommand, BreaksOff, Broken, BreaksChain}
 use Rattle.client_prog.specs.Run.{asked_for, Handles, WholeRun}
-use Rattle.client_prog.specs.Composing.{LeaveTogether, RunsCompose, StoresNeverCollide}
+use Rattle.client_prog.specs.Composing.{StaysOf, LeaveTogether, RunsCompose, StoresNeverCollide}
 use Rattle.client_prog.specs.Headline.{Around, Ran}
 use Rattle.client_prog.proofs.RunningLeaves.{leaves}
 
@@ -244,6 +244,47 @@ module _ (route : Route) (before after : SessionState) (kept : Log) where
   run_kept left rest o n answers (Err stop) trace turn =
       ⊎_elim (λ did. handled_kept stop did.0 answers trace did.4) (λ closing. all_kept closing.1.3.1) turn.3
 
+-- ---- what is in a part of the entries of both runs
+
+among_all : (entry : Entry) (pending stayed lost later : List Entry) → IsIn entry (pending ++ (stayed ++ later)) → IsIn entry (pending ++ ((stayed ++ lost) ++ later))
+among_all entry pending stayed lost later among =
+    ⊎_elim (λ before. IsIn-left entry pending ((stayed ++ lost) ++ later) before)
+    (λ logged. IsIn-right entry pending ((stayed ++ lost) ++ later)
+    (⊎_elim (λ first. IsIn-left entry (stayed ++ lost) later (IsIn-left entry stayed lost first)) (λ second. IsIn-right entry (stayed ++ lost) later second) (in_either entry stayed later logged)))
+    (in_either entry pending (stayed ++ later) among)
+
+pub among_first : (entry : Entry) (pending earlier later : List Entry) → IsIn entry (pending ++ earlier) → IsIn entry (pending ++ (earlier ++ later))
+among_first entry pending earlier later among =
+    ⊎_elim (λ before. IsIn-left entry pending (earlier ++ later) before) (λ logged. IsIn-right entry pending (earlier ++ later) (IsIn-left entry earlier later logged)) (in_either entry pending earlier among)
+
+-- ---- what stays of the entries of a run
+
+module _ (client : ℕ) (ships : Bool) (route : Route) (start : Log) (around around_now : Around) (status : ℕ) (ran : Ran client route start around around_now status) (old new : World)
+    (stayed lost : List Entry) where
+  abbrev of_run : List Entry
+  of_run = ran.goes.trace.entries
+
+  pub part_apart : of_run ≡ stayed ++ lost → HasNoCollision client (start.pending ++ of_run) new.packets → HasNoCollision client (start.pending ++ stayed) new.packets
+  part_apart all apart =
+      fewer_collide client (start.pending ++ stayed) (start.pending ++ of_run) new.packets new.packets
+      (λ entry among. subst (λ (es : List Entry). IsIn entry (start.pending ++ es)) (sym all) (among_first entry start.pending stayed lost among)) (λ message among. among) apart
+
+  pub stays : Runs client ships of_run ran.goes.trace.asks (kept_at start old) (stand ran.after.client.log ran.kept new) → of_run ≡ stayed ++ lost
+      → Runs client ships stayed ran.goes.trace.asks (kept_at start old) (kept_at ran.kept new) → InStep client start old → HasNoCollision client (start.pending ++ of_run) new.packets → StaysOf status of_run stayed
+  stays went all part now apart =
+      let whole = counted_later client ships of_run ran.goes.trace.asks (kept_at start old) (stand ran.after.client.log ran.kept new) now went apart in
+      let held = counted_later client ships stayed ran.goes.trace.asks (kept_at start old) (kept_at ran.kept new) now part (part_apart all apart) in
+      let sum = ap length all ∙ length-append stayed lost in
+      let lacks = run_kept route (opened client start) ran.after ran.kept around.left around_now.left around.written around_now.written ran.answers ran.ended ran.goes.trace ran.goes.turn in
+      record {
+        lost = lost;
+        all = all;
+        at_most_one = omega (arith, whole, held, sum, lacks);
+        none = λ not_five not_seven.
+            let same : ran.kept ≡ ran.after.client.log = ran.kept_last not_five not_seven ∙ sym ran.goes.keeping.last in
+            none_pending lost (omega (arith, whole, held, sum, ap last_number same));
+      }
+
 -- ---- a run, a new beginning with what it left kept, a world that went on alone, and another run
 
 module _ (client : ℕ) (ships : Bool) (start last kept : Log) (earlier later : List Entry) (asks more : List Ask) (old middle begun : World) (end : State)
@@ -265,18 +306,6 @@ with_surrogate client false entries asks old new runs = runs_without client true
 -- and one of a client without a surrogate ships stores alone
 by_stores : (client : ℕ) (surrogate : Option (List ℕ)) (entries : List Entry) (asks : List Ask) (old new : State) → surrogate ≡ None → Runs client (is_some surrogate) entries asks old new → Runs client false entries asks old new
 by_stores client surrogate entries asks old new none runs = subst (λ (s : Option (List ℕ)). Runs client (is_some s) entries asks old new) none runs
-
--- what is in a part of the entries of both runs
-among_all : (entry : Entry) (pending stayed lost later : List Entry) → IsIn entry (pending ++ (stayed ++ later)) → IsIn entry (pending ++ ((stayed ++ lost) ++ later))
-among_all entry pending stayed lost later among =
-    ⊎_elim (λ before. IsIn-left entry pending ((stayed ++ lost) ++ later) before)
-    (λ logged. IsIn-right entry pending ((stayed ++ lost) ++ later)
-    (⊎_elim (λ first. IsIn-left entry (stayed ++ lost) later (IsIn-left entry stayed lost first)) (λ second. IsIn-right entry (stayed ++ lost) later second) (in_either entry stayed later logged)))
-    (in_either entry pending (stayed ++ later) among)
-
-among_first : (entry : Entry) (pending earlier later : List Entry) → IsIn entry (pending ++ earlier) → IsIn entry (pending ++ (earlier ++ later))
-among_first entry pending earlier later among =
-    ⊎_elim (λ before. IsIn-left entry pending (earlier ++ later) before) (λ logged. IsIn-right entry pending (earlier ++ later) (IsIn-left entry earlier later logged)) (in_either entry pending earlier among)
 
 -- two runs in told worlds, of which the first began in step
 module _ (client : ℕ) (route other_route : Route) (start : Log) (around around_now other other_now : Around) (status other_status : ℕ) (first : Ran client route start around around_now status)
@@ -317,27 +346,15 @@ module _ (client : ℕ) (route other_route : Route) (start : Log) (around around
       let goes = with_surrogate client (is_some other_route.surrogate) does.entries does.asks (kept_at kept begun) end second_goes.runs in
       let part = restarts client true start last kept did.entries does.entries did.asks does.asks old middle begun end went alone goes in
       let after = since client true start last kept did.entries does.entries did.asks does.asks old middle begun end went alone goes in
-      let stays = λ (message : Message) (among : IsIn message middle.packets). run_packets client true does.entries does.asks (kept_at kept middle) end message after among in
+      let stay = λ (message : Message) (among : IsIn message middle.packets). run_packets client true does.entries does.asks (kept_at kept middle) end message after among in
       let first_apart : HasNoCollision client (start.pending ++ did.entries) middle.packets =
-      fewer_collide client (start.pending ++ did.entries) (start.pending ++ BothEntries) middle.packets new.packets (λ entry among. among_first entry start.pending did.entries does.entries among) stays apart in
-      let part_apart : HasNoCollision client (start.pending ++ part.0) middle.packets =
-      fewer_collide client (start.pending ++ part.0) (start.pending ++ did.entries) middle.packets middle.packets
-      (λ entry among. subst (λ (es : List Entry). IsIn entry (start.pending ++ es)) (sym part.2) (among_first entry start.pending part.0 part.1 among)) (λ message among. among) first_apart in
+      fewer_collide client (start.pending ++ did.entries) (start.pending ++ BothEntries) middle.packets new.packets (λ entry among. among_first entry start.pending did.entries does.entries among) stay apart in
       let both_apart : HasNoCollision client (start.pending ++ (part.0 ++ does.entries)) new.packets =
       fewer_collide client (start.pending ++ (part.0 ++ does.entries)) (start.pending ++ BothEntries) new.packets new.packets
       (λ entry among. subst (λ (es : List Entry). IsIn entry (start.pending ++ (es ++ does.entries))) (sym part.2) (among_all entry start.pending part.0 part.1 does.entries among)) (λ message among. among) apart in
-      let whole = counted_later client true did.entries did.asks (kept_at start old) (stand last kept middle) in_step went first_apart in
-      let held = counted_later client true part.0 did.asks (kept_at start old) (kept_at kept middle) in_step part.3 part_apart in
-      let sum = ap length part.2 ∙ length-append part.0 part.1 in
-      let lacks = run_kept route (opened client start) first.after kept around.left around_now.left around.written around_now.written first.answers first.ended did first.goes.turn in
       record {
         stayed = part.0;
-        lost = part.1;
-        all = part.2;
-        at_most_one = omega (arith, whole, held, sum, lacks);
-        none = λ not_five not_seven.
-            let same : kept ≡ last = first.kept_last not_five not_seven ∙ sym first.goes.keeping.last in
-            none_pending part.1 (omega (arith, whole, held, sum, ap last_number same));
+        stays = stays client true route start around around_now status first old middle part.0 part.1 went part.2 part.3 in_step first_apart;
         leaves = leaves client true (part.0 ++ does.entries) (did.asks ++ does.asks) start second.after.client.log second.kept old new in_step
             (joined client true start last kept did.entries does.entries did.asks does.asks old middle begun end went alone goes) both_apart;
       }

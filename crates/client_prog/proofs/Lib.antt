@@ -1,5 +1,6 @@
 pub mod Composing
 pub mod Counting
+pub mod FirstRuns
 pub mod InputReading
 pub mod Quitting
 pub mod RunningAnswers

@@ -20,10 +20,10 @@ use Rattle.shell_lang.specs.declared.line.Line.{Line}
 use Rattle.shell_lang.specs.declared.line.LineError.{LineError}
 use Rattle.shell_lang.specs.declared.answer.LineAnswer.{LineAnswer}
 use Rattle.shell_lang.specs.declared.answer.LineAnswer.TheVariants.{Behind}
-use Rattle.client_session.specs.Session.{SessionState, Chain, BreaksChain, LeavesPending, is_unrun, is_unanswered_sync}
+use Rattle.client_session.specs.Session.{SessionState, Chain, BreaksChain, LeavesPending, is_unrun, is_unanswered}
 use Rattle.client_session.proofs.Counted.{unrun_lines_are_counted}
 use Rattle.client_session.proofs.Pulls.{IsRefusedPull, IsOfPull, session_pulls}
-use Rattle.client_session.proofs.Answered.{Stand, Gapless, Unrefused, IsPast, stand_parts, never_behind, all_synced, unanswered_syncs_cost_asks}
+use Rattle.client_session.proofs.Answered.{Stand, Gapless, Unrefused, IsPast, stand_parts, never_behind, all_synced, unanswered_lines_cost_asks}
 use Rattle.client_prog.specs.declared.input.InputEnd.{InputEnd}
 use Rattle.client_prog.specs.declared.run.Stop.{Stop}
 use Rattle.client_prog.specs.declared.run.Stop.TheVariants.{Sink, Keeper, Memory}
@@ -61,10 +61,10 @@ module _ (route : Route) (before after : SessionState) (kept : Log) (answers : L
 
   -- each sync that was answered `unanswered` cost eight asks
   pub few_unanswered : (left rest o n : Option (List ℕ)) (ended : Result InputEnd Stop) → WholeRun route before left rest answers o n ended after kept trace
-      → 8 * count_by is_unanswered_sync answers ≤ failed_asks trace.asks
+      → 8 * count_by is_unanswered answers ≤ failed_asks trace.asks
   few_unanswered left rest o n ended turn =
       let session = session_of left rest o n ended turn in
-      omega (arith, unanswered_syncs_cost_asks route before session.0 answers session.1 session.2 session.4, ap failed_asks session.5, failed-append session.2.asks session.3.asks)
+      omega (arith, unanswered_lines_cost_asks route before session.0 answers session.1 session.2 session.4, ap failed_asks session.5, failed-append session.2.asks session.3.asks)
 
   -- a pull that is answered so is told
   pub pull_of_run : (left rest o n : Option (List ℕ)) (ended : Result InputEnd Stop) → WholeRun route before left rest answers o n ended after kept trace
@@ -77,8 +77,8 @@ module _ (route : Route) (before after : SessionState) (kept : Log) (answers : L
 pub unrun_rose : (answers : List (Option LineAnswer)) (trace : Trace) (old new : RunnerTelling) → count_by is_unrun answers ≤ trace.missed → HasRun trace.runs trace.missed old new → RoseBy (count_by is_unrun answers) old.faults new.faults
 unrun_rose answers trace old new few ran = omega (arith, few, ran.counted)
 
-pub unanswered_rose : (answers : List (Option LineAnswer)) (trace : Trace) (before now : ℕ) → 8 * count_by is_unanswered_sync answers ≤ failed_asks trace.asks → RoseBy (failed_asks trace.asks) before now
-    → RoseBy (8 * count_by is_unanswered_sync answers) before now
+pub unanswered_rose : (answers : List (Option LineAnswer)) (trace : Trace) (before now : ℕ) → 8 * count_by is_unanswered answers ≤ failed_asks trace.asks → RoseBy (failed_asks trace.asks) before now
+    → RoseBy (8 * count_by is_unanswered answers) before now
 unanswered_rose answers trace before now few rose = omega (arith, few, rose)
 
 -- ---- the replies

@@ -10,7 +10,7 @@ use Rattle.client_core.specs.Trace.{Trace, nothing}
 use Rattle.shell_lang.specs.Lines.{whole_lines}
 use Rattle.client_prog.specs.declared.input.InputEnd.{InputEnd}
 use Rattle.client_prog.specs.declared.input.InputEnd.TheVariants.{Read, Failed, TooLong}
-use Rattle.client_prog.specs.declared.input.TheConstants.{MAX_INPUT}
+use Rattle.client_prog.specs.Limits.{max_input}
 use Rattle.client_prog.specs.declared.run.Stop.{Stop}
 use Rattle.client_prog.specs.declared.run.Stop.TheVariants.{Sink, Keeper, Memory}
 use Rattle.client_prog.specs.Input.{EndsAt, within_limit, lines_at}
@@ -48,7 +48,7 @@ run_nothing stop route before left o = ([], ([], Failed, nothing_taken left, inl
 
 -- ---- how much was read
 
-most : (rest : Option (List ℕ)) (count : ℕ) (end : InputEnd) → EndsAt rest count end → count ≤ MAX_INPUT + 1
+most : (rest : Option (List ℕ)) (count : ℕ) (end : InputEnd) → EndsAt rest count end → count ≤ max_input + 1
 most rest count Read stands = omega (arith, stands.1)
 most rest count Failed stands = omega (arith, stands)
 most rest count TooLong stands = omega (arith, stands)
@@ -60,8 +60,8 @@ goes_on false end ended is other = (refl, is)
 
 module _ (l r : List ℕ) (lines : List (List ℕ)) (ended : InputEnd) (has : HasLines (Some l) (Some r) lines ended) where
   -- the whole lines within the limit, where the input has no more
-  whole_are : length has.input ≤ MAX_INPUT → whole_lines has.input ≡ whole_lines (within_limit has.input)
-  whole_are short = ap whole_lines (sym (take_all MAX_INPUT has.input short))
+  whole_are : length has.input ≤ max_input → whole_lines has.input ≡ whole_lines (within_limit has.input)
+  whole_are short = ap whole_lines (sym (take_all max_input has.input short))
 
   read_or_quit : ended ≡ Read → (r ≡ []) ⊎ (has_quit (whole_lines (within_limit has.input)) ≡ true)
   read_or_quit is = by has.end has.stands (has_quit (lines_at has.end has.input)) refl (sym is ∙ has.ended_is)
@@ -74,7 +74,7 @@ module _ (l r : List ℕ) (lines : List (List ℕ)) (ended : InputEnd) (has : Ha
       by TooLong stands true has_it is = inr has_it
       by TooLong stands false has_it is = absurd (cc)
 
-  long_ends : length has.input ≡ MAX_INPUT + 1 → has_quit (whole_lines (within_limit has.input)) ≡ false → ended ≡ TooLong
+  long_ends : length has.input ≡ max_input + 1 → has_quit (whole_lines (within_limit has.input)) ≡ false → ended ≡ TooLong
   long_ends long none = by has.end has.stands has.ended_is
     where
       by : (end : InputEnd) → EndsAt (Some r) (length has.input) end → ended ≡ end_of (has_quit (lines_at end has.input)) end → ended ≡ TooLong
@@ -82,11 +82,11 @@ module _ (l r : List ℕ) (lines : List (List ℕ)) (ended : InputEnd) (has : Ha
       by Failed stands is = absurd (omega (arith, stands))
       by TooLong stands is = is ∙ ap (λ (quit : Bool). end_of quit TooLong) none
 
-  too_long : ended ≡ TooLong → (length has.input ≡ MAX_INPUT + 1) × (has_quit (whole_lines (within_limit has.input)) ≡ false)
+  too_long : ended ≡ TooLong → (length has.input ≡ max_input + 1) × (has_quit (whole_lines (within_limit has.input)) ≡ false)
   too_long is = by has.end has.stands (has_quit (lines_at has.end has.input)) refl (sym is ∙ has.ended_is)
     where
       by : (end : InputEnd) → EndsAt (Some r) (length has.input) end → (quit : Bool) → has_quit (lines_at end has.input) ≡ quit → TooLong ≡ end_of quit end
-          → (length has.input ≡ MAX_INPUT + 1) × (has_quit (whole_lines (within_limit has.input)) ≡ false)
+          → (length has.input ≡ max_input + 1) × (has_quit (whole_lines (within_limit has.input)) ≡ false)
       by Read stands true has_it is = absurd (cc)
       by Read stands false has_it is = absurd (cc)
       by Failed stands true has_it is = absurd (cc)
@@ -173,13 +173,13 @@ is_read None rest ended takes = (input_taken None rest ended takes).1
 
 -- ---- without faults
 
-short_not_past : (l : List ℕ) (rest : Option (List ℕ)) → length l ≤ MAX_INPUT → TakesInput (Some l) rest (Ok TooLong) → ⊥
+short_not_past : (l : List ℕ) (rest : Option (List ℕ)) → length l ≤ max_input → TakesInput (Some l) rest (Ok TooLong) → ⊥
 short_not_past l None short takes = takes.1.taken
 short_not_past l (Some r) short takes =
     omega (arith, (too_long l r takes.0 TooLong takes.1 refl).0, ap length takes.1.taken, length-append {A = ℕ})
 
 complete_told : (l : List ℕ) (rest : Option (List ℕ)) (a b c d e f : ℕ) (ended : Result InputEnd Stop) → TakesInput (Some l) rest ended → (ended ≡ Ok Failed → Rose a b) → (ended ≡ Err Sink → Rose c d)
-    → (ended ≡ Err Keeper → Rose e f) → length l ≤ MAX_INPUT → (Rose a b → ⊥) → (Rose c d → ⊥) → (Rose e f → ⊥) → (status_of ended ≡ 0) ⊎ (status_of ended ≡ 7)
+    → (ended ≡ Err Keeper → Rose e f) → length l ≤ max_input → (Rose a b → ⊥) → (Rose c d → ⊥) → (Rose e f → ⊥) → (status_of ended ≡ 0) ⊎ (status_of ended ≡ 7)
 complete_told l rest a b c d e f (Ok Read) takes source sink keeper short calm quiet sound = inl refl
 complete_told l rest a b c d e f (Ok Failed) takes source sink keeper short calm quiet sound = absurd (calm (source refl))
 complete_told l rest a b c d e f (Ok TooLong) takes source sink keeper short calm quiet sound = absurd (short_not_past l rest short takes)
@@ -190,7 +190,7 @@ complete_told l rest a b c d e f (Err Memory) takes source sink keeper short cal
 -- without a fault all lines are answered, but for want of memory
 abbrev pub EndsWell : Option (List ℕ) → ℕ → ℕ → ℕ → ℕ → ℕ → ℕ → ℕ → Type 0
 EndsWell None a b c d e f status = Unit {0}
-EndsWell (Some bytes) a b c d e f status = length bytes ≤ MAX_INPUT → (Rose a b → ⊥) → (Rose c d → ⊥) → (Rose e f → ⊥) → (status ≡ 0) ⊎ (status ≡ 7)
+EndsWell (Some bytes) a b c d e f status = length bytes ≤ max_input → (Rose a b → ⊥) → (Rose c d → ⊥) → (Rose e f → ⊥) → (status ≡ 0) ⊎ (status ≡ 7)
 
 pub ends_well : (left rest : Option (List ℕ)) (a b c d e f status : ℕ) (ended : Result InputEnd Stop) → status ≡ status_of ended → TakesInput left rest ended → (ended ≡ Ok Failed → Rose a b)
     → (ended ≡ Err Sink → Rose c d) → (ended ≡ Err Keeper → Rose e f) → EndsWell left a b c d e f status

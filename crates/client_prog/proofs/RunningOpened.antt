@@ -10,7 +10,7 @@ use Rattle.client_core.specs.Keeping.{IsKept, TellsKept, IsKeptOfNone}
 use Rattle.client_core.specs.Noting.{AreRecorded, ReplacesNone}
 use Rattle.client_prog.specs.declared.input.InputEnd.{InputEnd}
 use Rattle.client_prog.specs.declared.input.InputEnd.TheVariants.{Read, Failed, TooLong}
-use Rattle.client_prog.specs.declared.input.TheConstants.{MAX_INPUT}
+use Rattle.client_prog.specs.Limits.{max_input}
 use Rattle.client_prog.specs.declared.run.Stop.{Stop}
 use Rattle.client_prog.specs.declared.run.Stop.TheVariants as stops
 use Rattle.client_prog.specs.declared.opening.Unopened.{Unopened}
@@ -168,7 +168,7 @@ unopened_ran run u i j left o status t is same image =
 -- ---- without faults
 
 abbrev pub EndsWellFrom : Option Images → Option (List ℕ) → ℕ → ℕ → ℕ → ℕ → ℕ → ℕ → ℕ → Invocation → Type 0
-EndsWellFrom i left a b c d e f status run = IfSome left (λ bytes. (start : Log) → TellsKept i run.image run.client start → length bytes ≤ MAX_INPUT → (Rose a b → ⊥) → (Rose c d → ⊥) → (Rose e f → ⊥) → (status ≡ 0) ⊎ (status ≡ 7))
+EndsWellFrom i left a b c d e f status run = IfSome left (λ bytes. (start : Log) → TellsKept i run.image run.client start → length bytes ≤ max_input → (Rose a b → ⊥) → (Rose c d → ⊥) → (Rose e f → ⊥) → (status ≡ 0) ⊎ (status ≡ 7))
 
 pub opened_well : (run : Invocation) (i : Option Images) (left : Option (List ℕ)) (a b c d e f status : ℕ) → EndsWell left a b c d e f status → EndsWellFrom i left a b c d e f status run
 opened_well run i None a b c d e f status well = tt

@@ -11,7 +11,7 @@ use Rattle.shell_lang.specs.Lines.{parts, whole_lines, unfinished, last_line}
 use Rattle.shell_lang.proofs.Cutting.{parts_are}
 use Rattle.client_prog.specs.declared.input.InputEnd.{InputEnd}
 use Rattle.client_prog.specs.declared.input.InputEnd.TheVariants.{Read, Failed, TooLong}
-use Rattle.client_prog.specs.declared.input.TheConstants.{MAX_INPUT}
+use Rattle.client_prog.specs.Limits.{max_input}
 use Rattle.client_prog.specs.declared.run.Stop.{Stop}
 use Rattle.client_prog.specs.declared.run.Stop.TheVariants.{Memory}
 use Rattle.client_prog.specs.Input.{last_at, Reading, EndsAt, GoesOnOrEnds, ReadsPiece, HasRead, within_limit, lines_at}
@@ -41,7 +41,7 @@ ends_at rest before new final last end is left goes =
     subst (λ (n : ℕ). EndsAt rest n end) (sym left.count) (subst (GoesOnOrEnds rest before new.count) is goes)
 
 -- a piece that was lost stands as one that was read
-lost_end : (rest : Option (List ℕ)) (count : ℕ) (past : Bool) → nat_lt 16777216 count ≡ past → count ≤ 16777217 → (end : InputEnd) × EndsAt rest count end
+lost_end : (rest : Option (List ℕ)) (count : ℕ) (past : Bool) → nat_lt 16777216 count ≡ past → count ≤ max_input + 1 → (end : InputEnd) × EndsAt rest count end
 lost_end rest count true is few = (TooLong, grind (arith, nat_tests))
 lost_end rest count false is few = (Failed, grind (arith, nat_tests))
 
@@ -51,15 +51,15 @@ lost_end rest count false is few = (Failed, grind (arith, nat_tests))
 lines_begin : (left rest : Option (List ℕ)) (reading : Reading) (behind : List (List ℕ)) (end : InputEnd) (now : HasRead left rest reading behind) → EndsAt rest reading.count end
     → (more : List (List ℕ)) × (lines_at end now.input ≡ behind ++ (whole_lines reading.bytes ++ more))
 lines_begin left rest reading behind Read now ends =
-    let short : length now.input ≤ MAX_INPUT = omega (arith, now.count, ends.1) in
-    let whole : within_limit now.input ≡ now.input = take_all MAX_INPUT now.input short in (
+    let short : length now.input ≤ max_input = omega (arith, now.count, ends.1) in
+    let whole : within_limit now.input ≡ now.input = take_all max_input now.input short in (
       last_line (unfinished now.input),
       ap (λ (ls : List (List ℕ)). ls ++ last_line (unfinished now.input)) (ap whole_lines (sym whole) ∙ cut_whole (within_limit now.input) reading.bytes behind now.cut)
           ∙ append_assoc behind (whole_lines reading.bytes) (last_line (unfinished now.input)),
     )
 lines_begin left rest reading behind Failed now ends =
-    let short : length now.input ≤ MAX_INPUT = omega (arith, now.count) in
-    let whole : within_limit now.input ≡ now.input = take_all MAX_INPUT now.input short in (
+    let short : length now.input ≤ max_input = omega (arith, now.count) in
+    let whole : within_limit now.input ≡ now.input = take_all max_input now.input short in (
       [],
       ap whole_lines (sym whole) ∙ cut_whole (within_limit now.input) reading.bytes behind now.cut
           ∙ ap (λ (ls : List (List ℕ)). behind ++ ls) (sym (append-nil (whole_lines reading.bytes))),
@@ -85,13 +85,13 @@ module _ (left : Option (List ℕ)) where
   reads_none reading is = record { read = has_read_none left reading is; no_quit = refl }
 
   -- one more piece
-  piece_read : (mid rest : Option (List ℕ)) (old new : Reading) (behind : List (List ℕ)) (end : Option InputEnd) → old.count ≤ MAX_INPUT → ReadsPiece mid rest old new end
+  piece_read : (mid rest : Option (List ℕ)) (old new : Reading) (behind : List (List ℕ)) (end : Option InputEnd) → old.count ≤ max_input → ReadsPiece mid rest old new end
       → ReadsSoFar left mid old behind → ReadsSoFar left rest new behind
   piece_read mid rest old new behind end few reads so_far =
       record { read = has_read_piece left mid rest old new behind end so_far.read few reads; no_quit = so_far.no_quit }
 
   -- and its lines, of which none quits
-  pub reads_more : (mid rest : Option (List ℕ)) (old new final : Reading) (behind : List (List ℕ)) (end : Option InputEnd) → old.count ≤ MAX_INPUT → ReadsPiece mid rest old new end
+  pub reads_more : (mid rest : Option (List ℕ)) (old new final : Reading) (behind : List (List ℕ)) (end : Option InputEnd) → old.count ≤ max_input → ReadsPiece mid rest old new end
       → HasUnfinished new final → has_quit (whole_lines new.bytes) ≡ false → ReadsSoFar left mid old behind → ReadsSoFar left rest final (behind ++ whole_lines new.bytes)
   reads_more mid rest old new final behind end few reads left_is none so_far = record {
     read = has_read_lines left rest new final behind (has_read_piece left mid rest old new behind end so_far.read few reads) left_is;
@@ -111,7 +111,7 @@ module _ (left : Option (List ℕ)) where
   }
 
   -- a line of a piece quits
-  pub quits_in : (mid rest : Option (List ℕ)) (old new : Reading) (behind : List (List ℕ)) (end : Option InputEnd) → old.count ≤ MAX_INPUT → ReadsPiece mid rest old new end
+  pub quits_in : (mid rest : Option (List ℕ)) (old new : Reading) (behind : List (List ℕ)) (end : Option InputEnd) → old.count ≤ max_input → ReadsPiece mid rest old new end
       → has_quit (whole_lines new.bytes) ≡ true → ReadsSoFar left mid old behind → HasLines left rest (behind ++ up_to_quit (whole_lines new.bytes)) Read
   quits_in mid rest old new behind end few reads some so_far =
       let now = piece_read mid rest old new behind end few reads so_far in
@@ -123,7 +123,7 @@ module _ (left : Option (List ℕ)) where
       (sym (ap (λ (b : Bool). end_of b (known end)) (ap has_quit lines.1 ∙ quit_behind behind (whole ++ lines.0) now.no_quit ∙ quit_in_front whole lines.0 some)))
 
   -- a stop in the lines of a piece, or behind them
-  pub stops_in : (mid rest : Option (List ℕ)) (old new : Reading) (behind : List (List ℕ)) (end : Option InputEnd) → old.count ≤ MAX_INPUT → ReadsPiece mid rest old new end
+  pub stops_in : (mid rest : Option (List ℕ)) (old new : Reading) (behind : List (List ℕ)) (end : Option InputEnd) → old.count ≤ max_input → ReadsPiece mid rest old new end
       → ReadsSoFar left mid old behind → (more : List (List ℕ)) × (ended : InputEnd) × HasLines left rest ((behind ++ up_to_quit (whole_lines new.bytes)) ++ more) ended
   stops_in mid rest old new behind end few reads so_far =
       let now = piece_read mid rest old new behind end few reads so_far in
@@ -140,10 +140,10 @@ module _ (left : Option (List ℕ)) where
       )
 
   -- a piece was lost
-  pub lost_in : (mid rest : Option (List ℕ)) (old : Reading) (behind : List (List ℕ)) (piece : List ℕ) → old.count ≤ MAX_INPUT → Takes mid rest piece → old.count + length piece ≤ 16777217
+  pub lost_in : (mid rest : Option (List ℕ)) (old : Reading) (behind : List (List ℕ)) (piece : List ℕ) → old.count ≤ max_input → Takes mid rest piece → old.count + length piece ≤ max_input + 1
       → ReadsSoFar left mid old behind → (more : List (List ℕ)) × (ended : InputEnd) × HasLines left rest (behind ++ more) ended
   lost_in mid rest old behind piece few taken short so_far =
-      let new : Reading = record { bytes = old.bytes ++ take (MAX_INPUT - old.count) piece; count = old.count + length piece } in
+      let new : Reading = record { bytes = old.bytes ++ take (max_input - old.count) piece; count = old.count + length piece } in
       let at = lost_end rest (old.count + length piece) (nat_lt 16777216 (old.count + length piece)) refl short in
       let reads : ReadsPiece mid rest old new (Some at.0) = record { piece = piece; taken = taken; count = refl; bytes = refl; ended = at.1 } in
       let now = piece_read mid rest old new behind (Some at.0) few reads so_far in
@@ -165,7 +165,7 @@ module _ (left : Option (List ℕ)) where
       (end_stays end reading.bytes ∙ sym (ap (λ (b : Bool). end_of b end) (ap has_quit all ∙ quit_behind behind (last_at end reading.bytes) now.no_quit)))
 
   -- the source failed, and gave nothing
-  pub failed_in : (mid rest : Option (List ℕ)) (old new : Reading) (behind : List (List ℕ)) (end : Option InputEnd) → old.count ≤ MAX_INPUT → ReadsPiece mid rest old new end
+  pub failed_in : (mid rest : Option (List ℕ)) (old new : Reading) (behind : List (List ℕ)) (end : Option InputEnd) → old.count ≤ max_input → ReadsPiece mid rest old new end
       → end ≡ Some Failed → new ≡ old → parts old.bytes ≡ old.bytes ∷ [] → ReadsSoFar left mid old behind → HasLines left rest behind Failed
   failed_in mid rest old new behind end few reads failed same none so_far =
       let no_line : parts new.bytes ≡ new.bytes ∷ [] = subst (λ (r : Reading). parts r.bytes ≡ r.bytes ∷ []) (sym same) none in
@@ -180,7 +180,7 @@ module _ (route : Route) (a : SessionState) (left o : Option (List ℕ)) where
   so_far_none reading is = ([], reads_none left reading is, answers_nothing route a o)
 
   -- the lines of one more piece were answered
-  pub so_far_more : (mid rest : Option (List ℕ)) (old new final : Reading) (end : Option InputEnd) (b c : SessionState) (m n : Option (List ℕ)) (p q : Trace) → old.count ≤ MAX_INPUT
+  pub so_far_more : (mid rest : Option (List ℕ)) (old new final : Reading) (end : Option InputEnd) (b c : SessionState) (m n : Option (List ℕ)) (p q : Trace) → old.count ≤ max_input
       → ReadsPiece mid rest old new end → HasUnfinished new final → has_quit (whole_lines new.bytes) ≡ false
       → AnswersSoFar route a left mid old o m b p → AllAnswered route b (up_to_quit (whole_lines new.bytes)) m n c q → AnswersSoFar route a left rest final o n c (followed p q)
   so_far_more mid rest old new final end b c m n p q few reads left_is none so_far answered = (
@@ -190,14 +190,14 @@ module _ (route : Route) (a : SessionState) (left o : Option (List ℕ)) where
   )
 
   -- the source failed
-  pub so_far_failed : (mid rest : Option (List ℕ)) (old new : Reading) (end : Option InputEnd) (b : SessionState) (m : Option (List ℕ)) (p : Trace) → old.count ≤ MAX_INPUT
+  pub so_far_failed : (mid rest : Option (List ℕ)) (old new : Reading) (end : Option InputEnd) (b : SessionState) (m : Option (List ℕ)) (p : Trace) → old.count ≤ max_input
       → ReadsPiece mid rest old new end → end ≡ Some Failed → new ≡ old → parts old.bytes ≡ old.bytes ∷ [] → AnswersSoFar route a left mid old o m b p
       → AnswersInput route a left rest o m (Ok Failed) b b.client.log p
   so_far_failed mid rest old new end b m p few reads failed same none so_far =
       (so_far.0, failed_in left mid rest old new so_far.0 end few reads failed same none so_far.1, so_far.2, refl)
 
   -- a line of a piece quits
-  pub so_far_quits : (mid rest : Option (List ℕ)) (old new : Reading) (end : Option InputEnd) (b c : SessionState) (k : Log) (m n : Option (List ℕ)) (p q : Trace) → old.count ≤ MAX_INPUT
+  pub so_far_quits : (mid rest : Option (List ℕ)) (old new : Reading) (end : Option InputEnd) (b c : SessionState) (k : Log) (m n : Option (List ℕ)) (p q : Trace) → old.count ≤ max_input
       → ReadsPiece mid rest old new end → has_quit (whole_lines new.bytes) ≡ true → AnswersSoFar route a left mid old o m b p
       → AllAnswered route b (up_to_quit (whole_lines new.bytes)) m n c q → k ≡ c.client.log → AnswersInput route a left rest o n (Ok Read) c k (followed p q)
   so_far_quits mid rest old new end b c k m n p q few reads some so_far answered is = (
@@ -208,7 +208,7 @@ module _ (route : Route) (a : SessionState) (left o : Option (List ℕ)) where
   )
 
   -- a stop in the lines of a piece
-  pub so_far_stops : (mid rest : Option (List ℕ)) (old new : Reading) (end : Option InputEnd) (stop : Stop) (b c : SessionState) (k : Log) (m n : Option (List ℕ)) (p q : Trace) → old.count ≤ MAX_INPUT
+  pub so_far_stops : (mid rest : Option (List ℕ)) (old new : Reading) (end : Option InputEnd) (stop : Stop) (b c : SessionState) (k : Log) (m n : Option (List ℕ)) (p q : Trace) → old.count ≤ max_input
       → ReadsPiece mid rest old new end → AnswersSoFar route a left mid old o m b p → FrontAnswered stop route b (up_to_quit (whole_lines new.bytes)) m n c k q
       → AnswersInput route a left rest o n (Err stop) c k (followed p q)
   so_far_stops mid rest old new end stop b c k m n p q few reads so_far stops =
@@ -221,7 +221,7 @@ module _ (route : Route) (a : SessionState) (left o : Option (List ℕ)) where
       )
 
   -- a piece was lost
-  pub so_far_lost : (mid rest : Option (List ℕ)) (old : Reading) (piece : List ℕ) (b : SessionState) (m : Option (List ℕ)) (p : Trace) → old.count ≤ MAX_INPUT → Takes mid rest piece → old.count + length piece ≤ 16777217
+  pub so_far_lost : (mid rest : Option (List ℕ)) (old : Reading) (piece : List ℕ) (b : SessionState) (m : Option (List ℕ)) (p : Trace) → old.count ≤ max_input → Takes mid rest piece → old.count + length piece ≤ max_input + 1
       → AnswersSoFar route a left mid old o m b p → AnswersInput route a left rest o m (Err Memory) b b.client.log p
   so_far_lost mid rest old piece b m p few taken short so_far =
       let lines = lost_in left mid rest old so_far.0 piece few taken short so_far.1 in (

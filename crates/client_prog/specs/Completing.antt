@@ -19,8 +19,9 @@ use Rattle.client_prog.specs.Headline.{last_taken, Around, Ran}
 abbrev pub EndInFailures : Route → List Ask → Type 0
 EndInFailures route asks = (front : List Ask) × (request : Message) × (asks ≡ front ++ failures Server route.server request 8)
 
--- Where the client's tree was served when a session began that ended well, all that was taken is the client's, no content that was sent
--- is taken for another, and the last eight asks did not fail, the sync that is the last line came through: nothing is pending.
+-- Where the client's tree after its last taken entry was served when a session began that ended well, all that was taken is the client's,
+-- no content that was sent is taken for another, and the last eight asks did not fail, the sync that is the last line came through:
+-- nothing is pending.
 abbrev pub LastSyncsComplete : Type 0
 LastSyncsComplete = (client : ℕ) (route : Route) (start : Log) (around around_now : Around) (front : List (Result Line LineError))
     → (ran : Ran client route start around around_now 0)

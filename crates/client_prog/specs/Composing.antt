@@ -11,15 +11,19 @@ use Rattle.client_core.specs.declared.route.Route.{Route}
 use Rattle.client_core.specs.Goes.{stand}
 use Rattle.client_prog.specs.Headline.{Leaves, Around, Ran}
 
--- What two runs leave, of which the first ended with this status and logged these entries, and the second logged those. All that the
--- first logged is kept, but where its keeper failed or memory ran out, perhaps the last entry. In all else they leave together what
--- one run leaves that logged what was kept of the first, and what the second logged.
-pub record LeaveTogether (client : ℕ) (start log kept : Log) (status : ℕ) (earlier later : List Entry) (old new : World) : Type 0 where
-  pub stayed : List Entry
+-- What stays of the entries that a run logged, by its status: all of them, but where its keeper failed or memory ran out, perhaps the
+-- last one.
+pub record StaysOf (status : ℕ) (entries stayed : List Entry) : Type 0 where
   pub lost : List Entry
-  pub all : earlier ≡ stayed ++ lost
+  pub all : entries ≡ stayed ++ lost
   pub at_most_one : length lost ≤ 1
   pub none : status ≢ 5 → status ≢ 7 → lost ≡ []
+
+-- What two runs leave, of which the first ended with this status and logged these entries, and the second logged those: what one run
+-- leaves that logged what stays of the first, and what the second logged.
+pub record LeaveTogether (client : ℕ) (start log kept : Log) (status : ℕ) (earlier later : List Entry) (old new : World) : Type 0 where
+  pub stayed : List Entry
+  pub stays : StaysOf status earlier stayed
   pub leaves : Leaves client start log kept (stayed ++ later) old new
 
 -- Two runs, the second begun on what the first left kept, over links that tell their worlds: in the world that the first left, or one

@@ -4,8 +4,8 @@ use Rattle.outside.specs.Outside.{Told, RisesWhere, Rose}
 use Rattle.mod_log.specs.Log.{Log}
 use Rattle.client_core.specs.declared.route.Route.{Route}
 use Rattle.client_core.specs.Keeping.{TellsKept, IsKeptOfNone}
-use Rattle.client_prog.specs.declared.input.TheConstants.{MAX_INPUT}
-use Rattle.client_prog.specs.Words.{run_of}
+use Rattle.client_prog.specs.Limits.{max_input}
+use Rattle.client_prog.specs.Words.{run_of, form_of}
 use Rattle.client_prog.specs.Run.{is_status, route_of, IsInputRead}
 use Rattle.client_prog.specs.Headline.{Around, Ran, RanFromSome}
 
@@ -31,7 +31,7 @@ pub record SessionEnds (number : ℕ) (route : Route) (status : ℕ) (old new : 
   pub sink : RisesWhere (status ≡ 4) faults.sink faults_now.sink
   pub keeper : RisesWhere (status ≡ 5) faults.keeper faults_now.keeper
   pub input : Told old.left new.left (IsInputRead status)
-  pub complete : IfSome old.left (λ bytes. (start : Log) → TellsKept old.images route.image number start → length bytes ≤ MAX_INPUT
+  pub complete : IfSome old.left (λ bytes. (start : Log) → TellsKept old.images route.image number start → length bytes ≤ max_input
       → (Rose faults.source faults_now.source → ⊥) → (Rose faults.sink faults_now.sink → ⊥)
       → (Rose faults.keeper faults_now.keeper → ⊥) → (status ≡ 0) ⊎ (status ≡ 7))
   -- over any keeper: from some log that it opened, if it opened one
@@ -40,7 +40,7 @@ pub record SessionEnds (number : ℕ) (route : Route) (status : ℕ) (old new : 
 
 -- What a run of the client on these words leaves that ends with this status.
 pub record ClientEnds (words : List (List ℕ)) (status : ℕ) (old new : Around) (faults faults_now : Faults) : Type 0 where
-  pub form : status ≡ 2 ↔ run_of words ≡ None
+  pub form : status ≡ 2 ↔ form_of words ≡ None
   pub known : IsTrue (is_status status)
-  pub untouched : run_of words ≡ None → (new ≡ old) × (faults_now ≡ faults)
+  pub untouched : form_of words ≡ None → (new ≡ old) × (faults_now ≡ faults)
   pub session : IfSome (run_of words) (λ run. SessionEnds run.client (route_of run) status old new faults faults_now)

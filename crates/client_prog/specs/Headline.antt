@@ -13,7 +13,7 @@ use Rattle.wire_frames.specs.declared.message.Message.TheVariants.{Operate}
 use Rattle.world_rules.specs.declared.asking.Ask.{Ask}
 use Rattle.world_rules.specs.World.{World}
 use Rattle.world_rules.specs.Telling.{LinkTelling, ToldWorlds, HadTroubles}
-use Rattle.world_rules.specs.InStep.{InStep, HasNoCollision, HasNoOperation}
+use Rattle.world_rules.specs.InStep.{ahead, InStep, HasNoCollision, HasNoOperation}
 use Rattle.world_rules.specs.Served.{TakenEntry}
 use Rattle.world_rules.specs.Run.{own, entries_between, AreAllOf, OthersSpare, IsSameAt}
 use Rattle.cmd_capture.specs.Runs.{RunnerTelling}
@@ -26,7 +26,7 @@ use Rattle.client_core.specs.Noting.{AreRecorded, ReplacesNone}
 use Rattle.client_core.specs.Goes.{Goes}
 use Rattle.shell_lang.specs.declared.answer.LineAnswer.{LineAnswer}
 use Rattle.shell_lang.specs.declared.answer.LineAnswer.TheVariants.{Behind, OtherLast, Older}
-use Rattle.client_session.specs.Session.{SessionState, opened, LeavesPending, is_unrun, is_unanswered_sync}
+use Rattle.client_session.specs.Session.{SessionState, opened, LeavesPending, is_unrun, is_unanswered}
 use Rattle.client_session.specs.Laws.{IsOfRoute}
 use Rattle.client_prog.specs.Run.{WholeRun, status_of}
 
@@ -45,7 +45,7 @@ pub record Leaves (client : ℕ) (start log kept : Log) (entries : List Entry) (
   pub in_memory : InStep client log new
   -- the server's last entry is not before the acknowledged one, at most one more than it, and none that is not kept
   pub not_lower : kept.acked ≤ last_taken client new
-  pub not_higher : last_taken client new ≤ kept.acked + 1
+  pub not_higher : last_taken client new ≤ kept.acked + ahead
   pub within : last_taken client new ≤ kept.acked + length kept.pending
   -- what is pending in memory are the entries after the acknowledged one, of those that were pending and those that were logged
   pub pending : log.pending ≡ drop (log.acked - start.acked) (start.pending ++ entries)
@@ -121,8 +121,8 @@ pub record Ran (client : ℕ) (route : Route) (start : Log) (around around_now :
       → Told around.images around_now.images (λ images now. AreRecorded client goes.trace.changes (images route.image) (now route.image))
   -- at most as many lines were answered `not run` as the runner failed in the run
   pub unrun : RoseBy (count_by is_unrun answers) around.runner.faults around_now.runner.faults
-  -- each sync that is answered `unanswered` cost the link eight troubles
-  pub unanswered : HadTroubles (8 * count_by is_unanswered_sync answers) around.link around_now.link
+  -- each sync and each pull that is answered `unanswered` cost the link eight troubles
+  pub unanswered : HadTroubles (8 * count_by is_unanswered answers) around.link around_now.link
   -- each ask of the session is of the server at its address, or of the surrogate at its address, where there is one
   pub peers : (ask : Ask) → IsIn ask goes.trace.asks → IsOfRoute route ask
   -- what it is in the world, where the link tells that

@@ -18,7 +18,7 @@ use Rattle.shell_lang.specs.declared.line.Line.TheVariants.{Quit}
 use Rattle.shell_lang.specs.declared.line.LineError.{LineError}
 use Rattle.client_prog.specs.declared.input.InputEnd.{InputEnd}
 use Rattle.client_prog.specs.declared.input.InputEnd.TheVariants.{Read, Failed, TooLong}
-use Rattle.client_prog.specs.declared.input.TheConstants.{MAX_INPUT}
+use Rattle.client_prog.specs.Limits.{max_input}
 use Rattle.client_prog.specs.declared.run.Stop.{Stop}
 use Rattle.client_prog.specs.declared.run.Stop.TheVariants.{Sink, Keeper, Memory}
 use Rattle.client_prog.specs.Input.{EndsAt, within_limit, lines_at}
@@ -152,8 +152,8 @@ WholeRun route before left rest answers old new (Err stop) after kept trace =
 pub record IsInputRead (status : ℕ) (left rest : List ℕ) : Type 0 where
   pub input : List ℕ
   pub taken : left ≡ input ++ rest
-  pub most : length input ≤ MAX_INPUT + 1
+  pub most : length input ≤ max_input + 1
   pub past : status ≢ 4 → status ≢ 5 → status ≢ 7
-      → (status ≡ 8 ↔ ((length input ≡ MAX_INPUT + 1) × (has_quit (whole_lines (within_limit input)) ≡ false)))
+      → (status ≡ 8 ↔ ((length input ≡ max_input + 1) × (has_quit (whole_lines (within_limit input)) ≡ false)))
   pub ended : status ≡ 0 → (rest ≡ []) ⊎ (has_quit (whole_lines (within_limit input)) ≡ true)
   pub failed : status ≡ 3 → has_quit (whole_lines input) ≡ false

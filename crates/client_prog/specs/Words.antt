@@ -1,8 +1,8 @@
 -- The words behind the program's name.
-use Rattle.std.specs.Prelude.{ℕ, Bool, ◌&&◌, List, [], ◌∷◌, length, Option, None, Some, if◌then◌else◌, nat_lt, codes}
+use Rattle.std.specs.Prelude.{ℕ, Bool, ◌&&◌, List, [], ◌∷◌, length, Option, None, Some, option_map, if◌then◌else◌, nat_lt, codes}
 use Rattle.std.specs.Str.{bytes_eq}
 use Rattle.program_words.specs.Numbers.{printed_number}
-use Rattle.wire_frames.specs.declared.message.TheConstants.{CLIENTS}
+use Rattle.wire_frames.specs.Limits.{max_client}
 
 -- what the words of a run say: the client's number, its image, the server's address, the surrogate's where there is one, and the work
 -- folder
@@ -28,8 +28,18 @@ run_by image server surrogate work None = None
 run_by image server surrogate work (Some client) =
     Some (record { client = client; image = image; server = server; surrogate = address_of surrogate; work = work })
 
--- what `run NUMBER IMAGE SERVER SURROGATE WORK` says; any other words are of no form
+-- what `run NUMBER IMAGE SERVER SURROGATE WORK` says; any other words say nothing of a run
 abbrev pub run_of : List (List ℕ) → Option Invocation
 run_of (run ∷ number ∷ image ∷ server ∷ surrogate ∷ work ∷ []) =
-    if is_run run image server surrogate work then run_by image server surrogate work (printed_number 1 CLIENTS number) else None
+    if is_run run image server surrogate work then run_by image server surrogate work (printed_number 1 max_client number) else None
 run_of words = None
+
+-- ---- the forms of the words
+
+-- What the words ask for: to answer the lines of an input.
+pub data ClientForm : Type 0 where
+  Run : Invocation → ClientForm
+
+-- what the words ask for; any others are of no form
+abbrev pub form_of : List (List ℕ) → Option ClientForm
+form_of words = option_map Run (run_of words)

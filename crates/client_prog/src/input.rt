@@ -1,8 +1,11 @@
+//! Reading the input: pieces, and the lines that they are cut into.
+
 ghost use Rattle.std.specs.Prelude.{◌≡◌, ◌≤◌, ◌+◌, ◌-◌, ◌++◌, ℕ, List, [], Ok, Some, IfOk, OnOk, OnErr, length, take, drop};
 ghost use Rattle.std.specs.Option.{option_copied};
 ghost use Rattle.outside.specs.Outside.{Takes, RisesWhere};
 ghost use Rattle.shell_lang.specs.Lines.{FirstLine};
 ghost use Rattle.client_prog.specs.Input.{Reading, ReadsPiece};
+ghost use Rattle.client_prog.specs.Limits.{max_input};
 ghost use Rattle.client_prog.specs.Inside.{end_by_count};
 
 use outside::Source;
@@ -37,13 +40,13 @@ pub(crate) struct LineReader {
 impl Model for LineReader {
     ghost use Rattle.std.specs.Prelude.{◌≤◌, ◌+◌};
     ghost use Rattle.client_prog.specs.Input.{Reading};
-    ghost use Rattle.client_prog.specs.declared.input.TheConstants.{MAX_INPUT};
+    ghost use Rattle.client_prog.specs.Limits.{max_input};
 
     ghost Value = { Reading };
 
     ghost view = { λ reader. record { bytes = reader.buffer.bytes; count = reader.count } };
 
-    ghost invariant = { λ reader. reader.count ≤ MAX_INPUT + 1 };
+    ghost invariant = { λ reader. reader.count ≤ max_input + 1 };
 }
 
 impl LineReader {
@@ -66,10 +69,10 @@ impl LineReader {
         &mut self,
         input: &mut I,
     ) -> Result<Option<InputEnd>, AllocError>
-        requires { self.old.count ≤ MAX_INPUT }
+        requires { self.old.count ≤ max_input }
         ensures ok { IfOk result (λ end. ReadsPiece (I.left input.old) (I.left input.new) self.old self.new end) }
         ensures err { OnErr result ((piece : List ℕ) × Takes (I.left input.old) (I.left input.new) piece
-            × (self.old.count + length piece ≤ MAX_INPUT + 1)) }
+            × (self.old.count + length piece ≤ max_input + 1)) }
         ensures same { OnErr result (self.new ≡ self.old) }
         ensures failed { result ≡ Ok (Some InputEnd.Failed) → self.new ≡ self.old }
         ensures cause { RisesWhere (result ≡ Ok (Some InputEnd.Failed)) (I.faults input.old) (I.faults input.new) }
@@ -91,14 +94,14 @@ impl LineReader {
     /// Adds the bytes of a piece that are within the limit, and counts all of them.
     #[tactic(auto, using(std::proofs::lemmas::List::take_min))]
     fn add(&mut self, piece: &[u8]) -> Result<(), AllocError>
-        requires few { self.old.count + length piece.now ≤ MAX_INPUT + 1 }
-        requires within { self.old.count ≤ MAX_INPUT }
+        requires few { self.old.count + length piece.now ≤ max_input + 1 }
+        requires within { self.old.count ≤ max_input }
         ensures ok { OnOk result (self.new ≡ record {
-          bytes = self.old.bytes ++ take (MAX_INPUT - self.old.count) piece.now;
+          bytes = self.old.bytes ++ take (max_input - self.old.count) piece.now;
           count = self.old.count + length piece.now;
         }) }
         ensures err { OnErr result (self.new ≡ self.old) }
-        ensures fits { self.old.count + length piece.now ≤ MAX_INPUT + 1 }
+        ensures fits { self.old.count + length piece.now ≤ max_input + 1 }
     {
         let within = (MAX_INPUT - self.count).min(piece.len());
         self.buffer.add(&piece[..within])?;

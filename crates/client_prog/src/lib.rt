@@ -13,7 +13,8 @@ mod words;
 pub use beginning::new_sessions_are_in_step;
 pub use input::{InputEnd, MAX_INPUT};
 pub use laws::{
-    distinct_contents_leave, last_syncs_complete, runs_compose, sessions_end_with_the_first_quit,
+    distinct_contents_leave, first_runs_leave, last_syncs_complete, runs_compose,
+    sessions_end_with_the_first_quit,
 };
 pub use opening::Unopened;
 pub use program::{client_main, client_program};

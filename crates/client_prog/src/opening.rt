@@ -2,6 +2,7 @@
 ghost use Rattle.std.specs.Prelude.{◌≡◌, ◌≤◌, None, Err, IfOk};
 ghost use Rattle.outside.specs.Outside.{CountsFault};
 ghost use Rattle.mod_log.specs.Log.{Log};
+ghost use Rattle.wire_frames.specs.Limits.{max_client};
 ghost use Rattle.client_core.specs.Keeping.{IsKept, TellsKept};
 ghost use Rattle.client_prog.specs.Opening.{OpensBytes, unopened_by};
 
@@ -29,7 +30,7 @@ pub(crate) fn open<K: Keeper>(
     keeper: &mut K,
 ) -> Result<Client, Unopened>
     requires low { 1 ≤ number }
-    requires high { number ≤ 64 }
+    requires high { number ≤ max_client }
     ensures number { IfOk result (λ client. client.number ≡ number) }
     ensures kept { IfOk result (λ client. IsKept (K.images keeper.old) name.now number client.log) }
     // its first keeping saves the whole image
@@ -49,7 +50,7 @@ pub(crate) fn open<K: Keeper>(
 /// The client of this number that bytes are kept for.
 fn opened(alloc: Global, number: u8, bytes: &[u8]) -> Result<Client, Unopened>
     requires low { 1 ≤ number }
-    requires high { number ≤ 64 }
+    requires high { number ≤ max_client }
     ensures { OpensBytes number bytes.now result }
 {
     match read_client(alloc, bytes) {

@@ -3,17 +3,19 @@ ghost use Rattle.std.specs.Prelude.{◌≡◌, ◌↔◌, None, IsTrue, map};
 ghost use Rattle.std.specs.String.{string_bytes};
 ghost use Rattle.std.specs.Process.{exit_status};
 ghost use Rattle.program_words.specs.Pages.{page_asked};
-ghost use Rattle.client_prog.specs.Words.{run_of};
+ghost use Rattle.client_prog.specs.Words.{form_of};
 ghost use Rattle.client_prog.specs.Run.{is_status};
 
-use crate::reasons::{Failures, Troubled, end_shown, end_told};
+use crate::reasons::{Failures, end_shown, end_told};
 use crate::run::client_run;
-use crate::words::run_words;
+use crate::words::{Form, form_of};
 use child_runner::ChildRunner;
 use cmd_capture::Runner;
 use outside::{Sink, Source};
 use program_words::{Pages, checked_words, end_plainly, given_words, hold_places, page_shown};
-use real_edge::{ClientTeller, FileKeeper, Prompting, StdSink, StdSource, TcpLink, Terminals};
+use real_edge::{
+    ClientTeller, FileKeeper, Prompting, StdSink, StdSource, TcpLink, Terminals, Troubled,
+};
 use std::fs::File;
 use std::io::{self, Read};
 use std::net::Net;
@@ -150,7 +152,7 @@ pub fn client_main<
     R: Input + Print + Eprint + AllocGlobal + Files<File = File> + Processes + Net + Clock,
 >(rt: &R, terminals: Terminals, words: &[String]) -> ExitCode
     ensures form { exit_status result ≡ 2 ↔ (page_asked (map string_bytes words.now) ≡ None)
-        × (run_of (map string_bytes words.now) ≡ None) }
+        × (form_of (map string_bytes words.now) ≡ None) }
     ensures known { IsTrue (is_status (exit_status result)) }
 {
     hold_places(rt);
@@ -169,7 +171,7 @@ fn run_client<
     R: Input + Eprint + AllocGlobal + Files<File = File> + Processes + Net + Clock,
     O: Sink + Troubled,
 >(rt: &R, terminals: Terminals, words: &[String], output: &mut O) -> ExitCode
-    ensures form { exit_status result ≡ 2 ↔ run_of (map string_bytes words.now) ≡ None }
+    ensures form { exit_status result ≡ 2 ↔ form_of (map string_bytes words.now) ≡ None }
     ensures known { IsTrue (is_status (exit_status result)) }
 {
     let typed = Prompting::new(rt, rt.reader(), terminals.is_typed);
@@ -182,7 +184,7 @@ fn run_over<
     I: Read + Drop,
     O: Sink + Troubled,
 >(rt: &R, terminals: Terminals, words: &[String], reader: I, output: &mut O) -> ExitCode
-    ensures form { exit_status result ≡ 2 ↔ run_of (map string_bytes words.now) ≡ None }
+    ensures form { exit_status result ≡ 2 ↔ form_of (map string_bytes words.now) ≡ None }
     ensures known { IsTrue (is_status (exit_status result)) }
 {
     let mut input = StdSource::new(reader);
@@ -213,7 +215,7 @@ fn answered<
     J: Runner,
     L: Link,
 >(rt: &R, words: &[String], input: &mut I, output: &mut O, runner: &mut J, link: &mut L) -> ExitCode
-    ensures form { exit_status result ≡ 2 ↔ run_of (map string_bytes words.now) ≡ None }
+    ensures form { exit_status result ≡ 2 ↔ form_of (map string_bytes words.now) ≡ None }
     ensures known { IsTrue (is_status (exit_status result)) }
 {
     let mut keeper = FileKeeper::new(rt.alloc(), rt);
@@ -233,7 +235,10 @@ fn clear_work<R: AllocGlobal + Files<File = File> + Processes + Clock + Eprint>(
     runner: &mut ChildRunner<'_, R>,
     words: &[String],
 ) {
-    if let Some(run) = run_words(words) {
-        let _cleared = runner.clear(run.work);
+    match form_of(words) {
+        Some(Form::Run(run)) => {
+            let _cleared = runner.clear(run.work);
+        }
+        None => {}
     }
 }

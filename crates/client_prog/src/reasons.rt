@@ -6,28 +6,10 @@ ghost use Rattle.program_words.specs.Status.{code};
 use crate::input::MAX_INPUT;
 use crate::program::NAME;
 use crate::words::run_words;
-use program_words::{Status, end, tell, tell_plainly};
-use real_edge::{StdSink, StdSource, Trouble};
-use std::io::{Read, Write};
+use program_words::{Status, end, tell_plainly};
+use real_edge::{StdSink, Trouble, tell_trouble};
+use std::io::Write;
 use std::process::ExitCode;
-
-/// What can say what its call met that failed last.
-pub(crate) trait Troubled {
-    /// What that call met; `None` where it is not known, or none has failed.
-    fn trouble(&self) -> Option<&Trouble>;
-}
-
-impl<R: Read + Drop> Troubled for StdSource<R> {
-    fn trouble(&self) -> Option<&Trouble> {
-        StdSource::trouble(self)
-    }
-}
-
-impl<W: Write + Drop> Troubled for StdSink<W> {
-    fn trouble(&self) -> Option<&Trouble> {
-        StdSink::trouble(self)
-    }
-}
 
 /// What the calls met that failed last, where one did.
 #[derive(Clone, Copy)]
@@ -71,21 +53,14 @@ pub(crate) fn end_told<R: Eprint>(
 /// Tells why a run ended with this status.
 fn tell_why<R: Eprint>(rt: &R, words: &[String], status: Status, failures: &Failures<'_>) {
     match status {
-        Status::SourceFailed => tell_trouble(rt, failures.input),
-        Status::SinkFailed => tell_trouble(rt, failures.output),
-        Status::KeeperFailed => tell_trouble(rt, failures.keeper),
+        Status::SourceFailed => tell_trouble(rt, NAME, failures.input),
+        Status::SinkFailed => tell_trouble(rt, NAME, failures.output),
+        Status::KeeperFailed => tell_trouble(rt, NAME, failures.keeper),
         Status::OtherImage => tell_image(rt, words),
         Status::TooLong => tell_length(rt),
         Status::Done | Status::CannotListen | Status::NoForm | Status::NoMemory => {
             tell_plainly(rt, NAME, status);
         }
-    }
-}
-
-/// Tells what a call met.
-fn tell_trouble<R: Eprint>(rt: &R, trouble: Option<&Trouble>) {
-    if let Some(trouble) = trouble {
-        tell(rt, NAME, trouble);
     }
 }
 

@@ -3,6 +3,7 @@ ghost use Rattle.std.specs.Prelude.{◌≡◌, ◌≢◌, ◌≤◌, ◌∷◌, 
 ghost use Rattle.std.specs.Option.{option_copied};
 ghost use Rattle.std.specs.String.{string_bytes};
 ghost use Rattle.outside.specs.Outside.{Adds, CountsFault, RisesWhere};
+ghost use Rattle.wire_frames.specs.Limits.{max_client};
 ghost use Rattle.client_core.specs.Keeping.{IsKeptReady};
 ghost use Rattle.shell_lang.specs.Lines.{whole_lines, last_line};
 ghost use Rattle.shell_lang.specs.Commands.{read_line};
@@ -11,6 +12,7 @@ ghost use Rattle.client_session.specs.Session.{IsText, state_of};
 ghost use Rattle.client_prog.specs.Opening.{status_unopened};
 ghost use Rattle.client_prog.specs.Run.{status_of, is_status, route_of, is_quit, quits, has_quit, up_to_quit, end_of};
 ghost use Rattle.client_prog.specs.Run.{closing_line, closing_at};
+ghost use Rattle.client_prog.specs.Inside.{run_said};
 ghost use Rattle.client_prog.specs.Ending.{SessionEnds, ClientEnds};
 ghost use Rattle.client_session.specs.Doing.{beside};
 ghost use Rattle.cmd_capture.specs.Runs.{telling};
@@ -18,11 +20,12 @@ ghost use Rattle.client_prog.specs.InsideRun.{WentNoting, AnswersLines, HasUnfin
 
 use crate::input::{InputEnd, LineReader};
 use crate::opening::{Unopened, open};
-use crate::words::{RunWords, run_words};
+use crate::words::{Form, RunWords, form_of};
 use client_core::Route;
 use client_session::Session;
 use cmd_capture::Runner;
 use outside::{KeepError, Keeper, Sink, SinkError, Source, write_all};
+use program_words::Status;
 use shell_lang::{Line, LineAnswer, LineError, has_no_memory, read_line, text_of};
 use std::alloc::{AllocError, Global};
 use vol_tree::Content;
@@ -83,14 +86,15 @@ fn status_of(ended: Result<InputEnd, Stop>) -> u8
     ensures status { result ≡ status_of ended }
     ensures known { IsTrue (is_status result) }
 {
-    match ended {
-        Ok(InputEnd::Read) => 0,
-        Ok(InputEnd::Failed) => 3,
-        Ok(InputEnd::TooLong) => 8,
-        Err(Stop::Sink) => 4,
-        Err(Stop::Keeper) => 5,
-        Err(Stop::Memory) => 7,
-    }
+    let status = match ended {
+        Ok(InputEnd::Read) => Status::Done,
+        Ok(InputEnd::Failed) => Status::SourceFailed,
+        Ok(InputEnd::TooLong) => Status::TooLong,
+        Err(Stop::Sink) => Status::SinkFailed,
+        Err(Stop::Keeper) => Status::KeeperFailed,
+        Err(Stop::Memory) => Status::NoMemory,
+    };
+    status.code()
 }
 
 /// What a line asks for, or why it is refused. Want of memory is the only error.
@@ -385,22 +389,17 @@ fn status_unopened(unopened: Unopened) -> u8
     ensures status { result ≡ status_unopened unopened }
     ensures known { IsTrue (is_status result) }
 {
-    match unopened {
-        Unopened::Keeper => 5,
-        Unopened::Image => 6,
-        Unopened::Memory => 7,
-    }
+    let status = match unopened {
+        Unopened::Keeper => Status::KeeperFailed,
+        Unopened::Image => Status::OtherImage,
+        Unopened::Memory => Status::NoMemory,
+    };
+    status.code()
 }
 
 /// Where the client's image, peers and commands are, by the words of a run.
 fn route_of(alloc: Global, words: &RunWords<'_>) -> Result<Route, AllocError>
-    ensures { IfOk result (λ route. route ≡ route_of (record {
-      client = words.now.client;
-      image = words.now.image.now;
-      server = words.now.server.now;
-      surrogate = option_copied words.now.surrogate;
-      work = words.now.work.now;
-    })) }
+    ensures { IfOk result (λ route. route ≡ route_of (run_said words.now)) }
 {
     Ok(Route {
         image: Content::of(alloc, words.image)?,
@@ -444,7 +443,7 @@ pub fn session_run<I: Source, O: Sink, K: Keeper, R: Runner, L: Link>(
     link: &mut L,
 ) -> u8
     requires low { 1 ≤ number }
-    requires high { number ≤ 64 }
+    requires high { number ≤ max_client }
     ensures { SessionEnds number route.now result (record {
       left = I.left input.old;
       written = O.written output.old;
@@ -487,8 +486,53 @@ pub fn session_run<I: Source, O: Sink, K: Keeper, R: Runner, L: Link>(
     }
 }
 
-/// Runs the client on its words: the session that they ask for. Status 2: the words are of no form, and nothing was touched. The
-/// others are those of the session.
+/// Runs the session that the words of a run ask for.
+fn run_words_session<I: Source, O: Sink, K: Keeper, R: Runner, L: Link>(
+    alloc: Global,
+    words: &RunWords<'_>,
+    input: &mut I,
+    output: &mut O,
+    keeper: &mut K,
+    runner: &mut R,
+    link: &mut L,
+) -> u8
+    requires low { 1 ≤ words.now.client }
+    requires high { words.now.client ≤ max_client }
+    ensures { SessionEnds words.now.client (route_of (run_said words.now)) result (record {
+      left = I.left input.old;
+      written = O.written output.old;
+      images = K.images keeper.old;
+      runner = telling (R.runs runner.old) (R.faults runner.old);
+      link = L.tells link.old;
+    }) (record {
+      left = I.left input.new;
+      written = O.written output.new;
+      images = K.images keeper.new;
+      runner = telling (R.runs runner.new) (R.faults runner.new);
+      link = L.tells link.new;
+    }) (record {
+      source = I.faults input.old;
+      sink = O.faults output.old;
+      keeper = K.faults keeper.old;
+    }) (record {
+      source = I.faults input.new;
+      sink = O.faults output.new;
+      keeper = K.faults keeper.new;
+    }) }
+{
+    match route_of(alloc, words) {
+        Ok(route) => {
+            let number = words.client;
+            let status = session_run(alloc, number, &route, input, output, keeper, runner, link);
+            drop(route);
+            status
+        }
+        Err(_refused) => Status::NoMemory.code(),
+    }
+}
+
+/// Runs the client on its words: what their form asks for, which is read before anything is opened. Status 2: the words are of no form,
+/// and nothing was touched. The others are those of the session.
 pub fn client_run<I: Source, O: Sink, K: Keeper, R: Runner, L: Link>(
     alloc: Global,
     words: &[String],
@@ -520,24 +564,10 @@ pub fn client_run<I: Source, O: Sink, K: Keeper, R: Runner, L: Link>(
       keeper = K.faults keeper.new;
     }) }
 {
-    let Some(words) = run_words(words) else {
-        return 2;
-    };
-    match route_of(alloc, &words) {
-        Ok(route) => {
-            let status = session_run(
-                alloc,
-                words.client,
-                &route,
-                input,
-                output,
-                keeper,
-                runner,
-                link,
-            );
-            drop(route);
-            status
+    match form_of(words) {
+        Some(Form::Run(run)) => {
+            run_words_session(alloc, &run, input, output, keeper, runner, link)
         }
-        Err(_refused) => 7,
+        None => Status::NoForm.code(),
     }
 }

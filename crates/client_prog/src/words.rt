@@ -1,11 +1,21 @@
+//! The words behind the name of the client program: their forms, and what they say.
+
 ghost use Rattle.std.specs.Prelude.{◌≡◌, ◌≤◌, IfSome, MatchOption, None, Some, map};
 ghost use Rattle.std.specs.Option.{option_copied};
 ghost use Rattle.std.specs.String.{string_bytes};
-ghost use Rattle.wire_frames.specs.declared.message.TheConstants.{CLIENTS};
-ghost use Rattle.client_prog.specs.Words.{run_of, is_run, address_of};
+ghost use Rattle.wire_frames.specs.Limits.{max_client};
+ghost use Rattle.client_prog.specs.Words.{run_of, is_run, address_of, form_of};
+ghost use Rattle.client_prog.specs.Inside.{run_said, IsForm};
 
 use program_words::printed_number;
 use wire_frames::CLIENTS;
+
+/// What the words behind the program's name ask for.
+#[derive(Debug, Drop)]
+pub enum Form<'a> {
+    /// To answer the lines of an input.
+    Run(RunWords<'a>),
+}
 
 /// What the words of a run say.
 #[derive(Debug, Drop)]
@@ -22,17 +32,22 @@ pub struct RunWords<'a> {
     pub work: &'a [u8],
 }
 
+/// What the words ask for; `None` where they are of no form.
+pub fn form_of(words: &[String]) -> Option<Form<'_>>
+    ensures { MatchOption result (form_of (map string_bytes words.now) ≡ None)
+        (λ form. IsForm form (map string_bytes words.now)) }
+{
+    match run_words(words) {
+        Some(run) => Some(Form::Run(run)),
+        None => None,
+    }
+}
+
 /// Takes apart the words `run NUMBER IMAGE SERVER SURROGATE WORK`, of which `-` is no surrogate; `None` for any others.
 pub fn run_words(words: &[String]) -> Option<RunWords<'_>>
     ensures form { MatchOption result (run_of (map string_bytes words.now) ≡ None)
-        (λ run. run_of (map string_bytes words.now) ≡ Some (record {
-          client = run.client;
-          image = run.image.now;
-          server = run.server.now;
-          surrogate = option_copied run.surrogate;
-          work = run.work.now;
-        })) }
-    ensures range { IfSome result (λ run. (1 ≤ run.client) × (run.client ≤ CLIENTS)) }
+        (λ run. run_of (map string_bytes words.now) ≡ Some (run_said run)) }
+    ensures range { IfSome result (λ run. (1 ≤ run.client) × (run.client ≤ max_client)) }
 {
     let [run, number, image, server, surrogate, work] = words else {
         return None;

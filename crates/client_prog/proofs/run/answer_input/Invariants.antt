@@ -4,14 +4,14 @@ use Rattle.client_core.specs.Keeping.{IsKeptReady}
 use Rattle.cmd_capture.specs.Runs.{telling}
 use Rattle.client_session.specs.Session.{state_of}
 use Rattle.client_session.specs.Doing.{beside}
-use Rattle.client_prog.specs.declared.input.TheConstants.{MAX_INPUT}
+use Rattle.client_prog.specs.Limits.{max_input}
 use Rattle.client_prog.specs.InsideRun.{ReadsSoFar, AnswersSoFar}
 use Rattle.client_prog.proofs.RunningRecords.{KeptNoting}
 use Rattle.client_prog.proofs.run.answer_input.Given as goal
 
 abbrev pub invariant-loop-reader : goal.invariant-loop-reader
 invariant-loop-reader g l = record {
-  few : l.reader.count ≤ MAX_INPUT;
+  few : l.reader.count ≤ max_input;
   no_line : parts l.reader.bytes ≡ l.reader.bytes ∷ [];
   taken : (behind : List (List ℕ)) × ReadsSoFar (g.I.Source.left l.fn.input) (g.I.Source.left l.input) l.reader behind;
   later : (g.L.Link.tells l.fn.link).troubles ≤ (g.L.Link.tells l.link).troubles;
@@ -24,4 +24,4 @@ invariant-loop-reader g l = record {
 }
 
 abbrev pub decreases-loop-reader : goal.decreases-loop-reader
-decreases-loop-reader g l = MAX_INPUT - l.reader.count
+decreases-loop-reader g l = max_input - l.reader.count
