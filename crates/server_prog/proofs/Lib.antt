@@ -1,4 +1,6 @@
+pub mod Forms
 pub mod Kept
+pub mod Others
 pub mod Appending
 pub mod Recording
 pub mod Connections

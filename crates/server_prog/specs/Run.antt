@@ -1,5 +1,5 @@
 -- What a run of the server does by the status that it gives.
-use Rattle.std.specs.Prelude.{◌≡◌, ◌==◌, ◌⊎◌, ◌↔◌, ◌||◌, ℕ, Bool, IsTrue, List, [], ◌∷◌, take, Option, None, IfSome, Result, Ok, Err}
+use Rattle.std.specs.Prelude.{◌≡◌, ◌≢◌, ◌==◌, ◌⊎◌, ◌↔◌, ◌||◌, ℕ, Bool, IsTrue, List, [], ◌∷◌, take, Option, None, IfSome, Result, Ok, Err}
 use Rattle.std.specs.List.{list_any}
 use Rattle.outside.specs.Outside.{Told, Adds, Rose, RisesWhere}
 use Rattle.outside.specs.Keeper.{Images, kept_under}
@@ -11,7 +11,7 @@ use Rattle.world_rules.specs.Served.{Served}
 use Rattle.server_core.specs.Keeping.{KeepsServed}
 use Rattle.server_prog.specs.declared.run.Stopped.{Stopped}
 use Rattle.server_prog.specs.declared.run.Stopped.TheVariants.{Sink, Keeper, Image, Memory}
-use Rattle.server_prog.specs.Words.{server_run_of}
+use Rattle.server_prog.specs.Words.{server_run_of, form_of}
 use Rattle.server_prog.specs.Serving.{PerhapsKept, IsRecordedAfter, ServedBy, ServesConnections, ServerTelling, server_telling}
 
 -- the status of a run that ended so: with its last line, or stopped before
@@ -108,10 +108,11 @@ told_of name all = server_telling all.port (kept_under name all.images)
 -- 2: the words are of no form, and nothing was touched;
 -- 4 and 5: a call of the sink or of the keeper failed, and in a run with another status none did;
 -- 6: what is kept is no server's image; 7: memory ran out.
+-- Under every name but the image's is kept what was kept before.
 pub record Ends (words : List (List ℕ)) (status : ℕ) (old new : Objects) : Type 0 where
-  pub form : status ≡ 2 ↔ server_run_of words ≡ None
+  pub form : status ≡ 2 ↔ form_of words ≡ None
   pub known : IsTrue (is_server_status status)
-  pub untouched : server_run_of words ≡ None → new ≡ old
+  pub untouched : form_of words ≡ None → new ≡ old
   pub sink : RisesWhere (status ≡ 4) old.sink_faults new.sink_faults
   pub keeper : RisesWhere (status ≡ 5) old.keeper_faults new.keeper_faults
   pub complete :
@@ -119,3 +120,5 @@ pub record Ends (words : List (List ℕ)) (status : ℕ) (old new : Objects) : T
       → (Rose old.keeper_faults new.keeper_faults → ⊥) → (status ≡ 0) ⊎ ((status ≡ 6) ⊎ (status ≡ 7)))
   pub served : IfSome (server_run_of words)
       (λ run. ServerRan run.count status (told_of run.image old) (told_of run.image new) old.written new.written)
+  pub others : IfSome (server_run_of words)
+      (λ run. Told old.images new.images (λ before after. (name : List ℕ) → name ≢ run.image → after name ≡ before name))

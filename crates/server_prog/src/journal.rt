@@ -7,7 +7,7 @@ ghost use Rattle.store_image.specs.Records.{server_record};
 ghost use Rattle.world_rules.specs.Served.{Served};
 ghost use Rattle.server_core.specs.Holding.{served};
 ghost use Rattle.server_core.specs.Keeping.{Leads, NoteLeads};
-ghost use Rattle.server_prog.specs.Inside.{Journals, KeepsOn, ServerMayKeep, room_for};
+ghost use Rattle.server_prog.specs.Inside.{Journals, KeepsOn, ServerMayKeep, room_for, OthersKept};
 
 use outside::{KeepError, Keeper};
 use server_core::Server;
@@ -51,6 +51,7 @@ fn spelled(note: ServerRecord) -> Result<Vec<u8>, AllocError>
 
 /// Keeps what a store has changed. Behind a saved image it appends the store's record, as long as the records are few; else it
 /// saves the whole image.
+#[tactic(auto, using(crate::proofs::Others::others_none, crate::proofs::Others::others_saved, crate::proofs::Others::others_appended))]
 fn keep_record<K: Keeper>(
     journal: Journal,
     note: ServerRecord,
@@ -67,6 +68,7 @@ fn keep_record<K: Keeper>(
         → Journals journal before (kept_under name.now (K.images keeper.old))
         → OnErr result (ServerMayKeep true journal before (served server.now) (kept_under name.now (K.images keeper.old))
         (kept_under name.now (K.images keeper.new))) }
+    ensures others { OthersKept name.now (K.images keeper.old) (K.images keeper.new) }
     ensures cause { CountsFault KeepError.Failed (K.faults keeper.old) (K.faults keeper.new) result }
 {
     let piece = spelled(note)?;
@@ -85,6 +87,7 @@ fn keep_record<K: Keeper>(
 }
 
 /// Keeps what a frame has changed, where there is a record of it, and gives the journal that is then.
+#[tactic(auto, using(crate::proofs::Others::others_none))]
 pub(crate) fn keep<K: Keeper>(
     journal: Journal,
     note: Option<ServerRecord>,
@@ -101,6 +104,7 @@ pub(crate) fn keep<K: Keeper>(
         → Journals journal before (kept_under name.now (K.images keeper.old))
         → OnErr result (ServerMayKeep (is_some note) journal before (served server.now) (kept_under name.now (K.images keeper.old))
         (kept_under name.now (K.images keeper.new))) }
+    ensures others { OthersKept name.now (K.images keeper.old) (K.images keeper.new) }
     ensures cause { CountsFault KeepError.Failed (K.faults keeper.old) (K.faults keeper.new) result }
 {
     match note {

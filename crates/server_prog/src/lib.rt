@@ -11,6 +11,6 @@ mod words;
 
 pub use laws::{connections_are_counted, kept_images_are_served};
 pub use program::{PAGES, served, server_main, server_program};
-pub use reasons::Troubled;
+pub use real_edge::Troubled;
 pub use run::server_run;
-pub use words::{RunWords, run_words};
+pub use words::{Form, RunWords, form_of};

@@ -4,17 +4,17 @@ ghost use Rattle.std.specs.String.{string_bytes};
 ghost use Rattle.std.specs.Process.{exit_status};
 ghost use Rattle.program_words.specs.Pages.{page_asked};
 ghost use Rattle.server_prog.specs.Run.{is_exit, Ends};
-ghost use Rattle.server_prog.specs.Words.{server_run_of};
+ghost use Rattle.server_prog.specs.Words.{Run, form_of, run_said};
 
-use crate::reasons::{Troubled, end_told};
+use crate::reasons::end_told;
 use crate::run::server_run;
-use crate::words::{RunWords, run_words};
+use crate::words::{Form, RunWords, form_of};
 use outside::{Keeper, Port, Sink};
 use program_words::{
     Pages, Status, checked_words, end_plainly, given_words, hold_places, is_logged, page_shown,
     tell_listening,
 };
-use real_edge::{FileKeeper, LoggedPort, StdSink, TcpPort};
+use real_edge::{FileKeeper, LoggedPort, StdSink, TcpPort, Troubled};
 use std::alloc::Global;
 use std::fs::File;
 use std::io;
@@ -99,7 +99,7 @@ pub fn server_main<R: Print + Eprint + AllocGlobal + Env + Files<File = File> + 
     words: &[String],
 ) -> ExitCode
     ensures form { exit_status result ≡ 2 ↔ (page_asked (map string_bytes words.now) ≡ None)
-        × (server_run_of (map string_bytes words.now) ≡ None) }
+        × (form_of (map string_bytes words.now) ≡ None) }
     ensures known { IsTrue (is_exit (exit_status result)) }
 {
     hold_places(rt);
@@ -109,23 +109,25 @@ pub fn server_main<R: Print + Eprint + AllocGlobal + Env + Files<File = File> + 
     ended
 }
 
-/// Shows the page that the words ask for, or runs the server.
+/// Shows the page that the words ask for, or does what their form asks for. Nothing is bound or opened before the words are read.
 fn answer_words<
     R: Eprint + AllocGlobal + Env + Files<File = File> + Net + Clock,
     O: Sink + Troubled,
 >(rt: &R, words: &[String], output: &mut O) -> ExitCode
     ensures form { exit_status result ≡ 2 ↔ (page_asked (map string_bytes words.now) ≡ None)
-        × (server_run_of (map string_bytes words.now) ≡ None) }
+        × (form_of (map string_bytes words.now) ≡ None) }
     ensures known { IsTrue (is_exit (exit_status result)) }
 {
     if let Some(status) = page_shown(&PAGES, words, output) {
         return end_told(rt, words, status.code(), None, output.trouble());
     }
-    let Some(run) = run_words(words) else {
-        return end_plainly(rt, NAME, Status::NoForm);
-    };
-    let bound = TcpPort::bind(rt.alloc(), rt, run.address);
-    serve_bound(rt, words, &run, bound, output)
+    match form_of(words) {
+        Some(Form::Run(run)) => {
+            let bound = TcpPort::bind(rt.alloc(), rt, run.address);
+            serve_bound(rt, words, &run, bound, output)
+        }
+        None => end_plainly(rt, NAME, Status::NoForm),
+    }
 }
 
 /// Runs the server over the port that was bound at the address of its words. Where none was, it says so, and ends with status 1.
@@ -139,8 +141,7 @@ fn serve_bound<
     bound: io::Result<TcpPort<'_, R>>,
     output: &mut O,
 ) -> ExitCode
-    requires said { server_run_of (map string_bytes words.now) ≡ Some (record
-        { address = run.now.address.now; image = run.now.image.now; count = run.now.count }) }
+    requires said { form_of (map string_bytes words.now) ≡ Some (Run (run_said run.now)) }
     requires there { IfOk bound (λ port. port.address.now ≡ run.now.address.now) }
     ensures refused { IsErr bound.entry → exit_status result ≡ 1 }
     ensures bound { IsOk bound.entry → exit_status result ≢ 1 }
@@ -168,8 +169,7 @@ fn serve_over<
     P: Port + Drop,
     O: Sink + Troubled,
 >(rt: &R, words: &[String], run: &RunWords<'_>, port: P, output: &mut O) -> (ExitCode, P)
-    requires said { server_run_of (map string_bytes words.now) ≡ Some (record
-        { address = run.now.address.now; image = run.now.image.now; count = run.now.count }) }
+    requires said { form_of (map string_bytes words.now) ≡ Some (Run (run_said run.now)) }
     ensures bound { exit_status result.0 ≢ 1 }
     ensures form { exit_status result.0 ≢ 2 }
     ensures known { IsTrue (is_exit (exit_status result.0)) }

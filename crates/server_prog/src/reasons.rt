@@ -4,30 +4,9 @@ ghost use Rattle.std.specs.Process.{exit_status};
 
 use crate::program::NAME;
 use crate::words::run_words;
-use program_words::{Status, end, tell, tell_plainly};
-use real_edge::{FileKeeper, StdSink, Trouble};
-use std::fs::File;
-use std::io::Write;
+use program_words::{Status, end, tell_plainly};
+use real_edge::{Trouble, tell_trouble};
 use std::process::ExitCode;
-use std::rt::Files;
-
-/// What can say what its call met that failed last.
-pub trait Troubled {
-    /// What that call met; `None` where it is not known, or none has failed.
-    fn trouble(&self) -> Option<&Trouble>;
-}
-
-impl<'a, R: Files<File = File>> Troubled for FileKeeper<'a, R> {
-    fn trouble(&self) -> Option<&Trouble> {
-        FileKeeper::trouble(self)
-    }
-}
-
-impl<W: Write + Drop> Troubled for StdSink<W> {
-    fn trouble(&self) -> Option<&Trouble> {
-        StdSink::trouble(self)
-    }
-}
 
 /// Ends the program with the status of its run. Where it is not 0, standard error says why, where that is known: by what the
 /// keeper or the output met.
@@ -55,8 +34,8 @@ fn tell_why<R: Eprint>(
     output: Option<&Trouble>,
 ) {
     match status {
-        Status::SinkFailed => tell_trouble(rt, output),
-        Status::KeeperFailed => tell_trouble(rt, keeper),
+        Status::SinkFailed => tell_trouble(rt, NAME, output),
+        Status::KeeperFailed => tell_trouble(rt, NAME, keeper),
         Status::OtherImage => tell_image(rt, words),
         Status::Done
         | Status::CannotListen
@@ -64,13 +43,6 @@ fn tell_why<R: Eprint>(
         | Status::SourceFailed
         | Status::NoMemory
         | Status::TooLong => tell_plainly(rt, NAME, status),
-    }
-}
-
-/// Tells what a call met.
-fn tell_trouble<R: Eprint>(rt: &R, trouble: Option<&Trouble>) {
-    if let Some(trouble) = trouble {
-        tell(rt, NAME, trouble);
     }
 }
 

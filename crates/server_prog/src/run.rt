@@ -8,10 +8,10 @@ ghost use Rattle.server_core.specs.Holding.{served};
 ghost use Rattle.server_core.specs.Keeping.{IsKeptForServed};
 ghost use Rattle.server_prog.specs.Serving.{server_telling};
 ghost use Rattle.server_prog.specs.Run.{server_status_of, is_server_status, Opens, OpensNone, ServerRun, Ends};
-ghost use Rattle.server_prog.specs.Inside.{stopped_by_keeper, stopped_by_sink};
+ghost use Rattle.server_prog.specs.Inside.{stopped_by_keeper, stopped_by_sink, OthersKept};
 
 use crate::serving::serve;
-use crate::words::run_words;
+use crate::words::{Form, form_of};
 use outside::{KeepError, Keeper, Port, Sink, SinkError};
 use port_serving::write_last;
 use program_words::Status;
@@ -70,11 +70,13 @@ fn status_of(ended: Result<(), Stopped>) -> u8
 }
 
 /// The server that is kept under the name, or a new one where nothing is.
+#[tactic(auto, using(crate::proofs::Others::others_none, crate::proofs::Others::others_loaded))]
 fn opened<K: Keeper>(alloc: Global, name: &[u8], keeper: &mut K) -> Result<Server, Stopped>
     ensures opens { IfOk result (λ server. Opens (kept_under name.now (K.images keeper.old)) (served server)) }
     ensures none { IsErrOf result Stopped.Image → OpensNone (kept_under name.now (K.images keeper.old)) }
     ensures same { (kept_under name.now (K.images keeper.new)) ≡ (kept_under name.now (K.images keeper.old)) }
     ensures no_sink { IsErrOf result Stopped.Sink → ⊥ }
+    ensures others { OthersKept name.now (K.images keeper.old) (K.images keeper.new) }
     ensures cause { CountsFault Stopped.Keeper (K.faults keeper.old) (K.faults keeper.new) result }
 {
     match keeper.load(name)? {
@@ -100,6 +102,7 @@ fn server_of(alloc: Global, bytes: &[u8]) -> Result<Server, Stopped>
 }
 
 /// Serves as the server that is kept under the name, and writes the last line.
+#[tactic(auto, using(crate::proofs::Others::others_none, crate::proofs::Others::others_then))]
 fn run<P: Port, K: Keeper, O: Sink>(
     alloc: Global,
     name: &[u8],
@@ -112,6 +115,7 @@ fn run<P: Port, K: Keeper, O: Sink>(
     ensures turn { ServerRun count (server_telling (P.tells port.old) (kept_under name.now (K.images keeper.old)))
         (server_telling (P.tells port.new) (kept_under name.now (K.images keeper.new))) (O.written output.old) (O.written output.new)
         result }
+    ensures others { OthersKept name.now (K.images keeper.old) (K.images keeper.new) }
     ensures sink { CountsFault Stopped.Sink (O.faults output.old) (O.faults output.new) result }
     ensures keeper { CountsFault Stopped.Keeper (K.faults keeper.old) (K.faults keeper.new) result }
 {
@@ -148,9 +152,11 @@ pub fn server_run<P: Port, O: Sink, K: Keeper>(
           sink_faults = O.faults output.new;
         }) }
 {
-    let Some(words) = run_words(words) else {
-        return Status::NoForm.code();
-    };
-    let name = words.image.as_bytes();
-    status_of(run(alloc, name, words.count, port, keeper, output))
+    match form_of(words) {
+        Some(Form::Run(words)) => {
+            let name = words.image.as_bytes();
+            status_of(run(alloc, name, words.count, port, keeper, output))
+        }
+        None => Status::NoForm.code(),
+    }
 }

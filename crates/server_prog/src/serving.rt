@@ -4,7 +4,7 @@ ghost use Rattle.outside.specs.Outside.{CountsFault};
 ghost use Rattle.outside.specs.Keeper.{kept_under};
 ghost use Rattle.server_core.specs.Holding.{served};
 ghost use Rattle.server_prog.specs.Serving.{server_telling};
-ghost use Rattle.server_prog.specs.Inside.{Journals, ServesNext, BreaksConnection, ServesAll, ServesFront};
+ghost use Rattle.server_prog.specs.Inside.{Journals, ServesNext, BreaksConnection, ServesAll, ServesFront, OthersKept};
 
 use crate::journal::{Journal, keep};
 use outside::{KeepError, Keeper, Port};
@@ -12,6 +12,7 @@ use port_serving::{Came, Taking, Tally, answer_frame, take_frame, tallied};
 use server_core::Server;
 
 /// Serves the next connection: takes its frame, keeps what the frame changed, and answers the frame.
+#[tactic(auto, using(crate::proofs::Others::others_none))]
 fn serve_next<P: Port, K: Keeper>(
     server: &mut Server,
     journal: &mut Journal,
@@ -26,6 +27,7 @@ fn serve_next<P: Port, K: Keeper>(
     ensures err { OnErr result
         (BreaksConnection journal.old (served server.old) (server_telling (P.tells port.old) (kept_under name.now (K.images keeper.old)))
         (server_telling (P.tells port.new) (kept_under name.now (K.images keeper.new)))) }
+    ensures others { OthersKept name.now (K.images keeper.old) (K.images keeper.new) }
     ensures cause { CountsFault KeepError.Failed (K.faults keeper.old) (K.faults keeper.new) result }
 {
     let frame = match take_frame(port)? {
@@ -40,6 +42,7 @@ fn serve_next<P: Port, K: Keeper>(
 
 /// Serves so many connections, or all that are left. A fault of the port ends one connection alone, a fault of the keeper
 /// ends the serving.
+#[tactic(auto, using(crate::proofs::Others::others_none, crate::proofs::Others::others_then))]
 pub(crate) fn serve<P: Port, K: Keeper>(
     server: &mut Server,
     port: &mut P,
@@ -53,6 +56,7 @@ pub(crate) fn serve<P: Port, K: Keeper>(
         (server_telling (P.tells port.new) (kept_under name.now (K.images keeper.new)))) }
     ensures err { OnErr result (ServesFront count (served server.old) (server_telling (P.tells port.old)
         (kept_under name.now (K.images keeper.old))) (server_telling (P.tells port.new) (kept_under name.now (K.images keeper.new)))) }
+    ensures others { OthersKept name.now (K.images keeper.old) (K.images keeper.new) }
     ensures cause { CountsFault KeepError.Failed (K.faults keeper.old) (K.faults keeper.new) result }
 {
     let mut tally = Tally::new();

@@ -1,9 +1,16 @@
 ghost use Rattle.std.specs.Prelude.{◌≡◌, ◌≤◌, IfSome, MatchOption, None, Some, map};
 ghost use Rattle.std.specs.String.{string_bytes};
 ghost use Rattle.port_serving.specs.Words.{most_connections};
-ghost use Rattle.server_prog.specs.Words.{server_run_of, is_server_run};
+ghost use Rattle.server_prog.specs.Words.{server_run_of, is_server_run, run_said, form_of, HasForm};
 
 use port_serving::connection_count;
+
+/// What the words ask for.
+#[derive(Debug, Drop)]
+pub enum Form<'a> {
+    /// To serve connections.
+    Run(RunWords<'a>),
+}
 
 /// What the words of a run say.
 #[derive(Debug, Drop)]
@@ -16,14 +23,17 @@ pub struct RunWords<'a> {
     pub count: u32,
 }
 
+/// The form that the words have; `None` where they have none.
+pub fn form_of(words: &[String]) -> Option<Form<'_>>
+    ensures { MatchOption result (form_of (map string_bytes words.now) ≡ None) (HasForm (map string_bytes words.now)) }
+{
+    Some(Form::Run(run_words(words)?))
+}
+
 /// Takes apart the words `run LISTEN IMAGE COUNT`; `None` for any others.
-pub fn run_words(words: &[String]) -> Option<RunWords<'_>>
+pub(crate) fn run_words(words: &[String]) -> Option<RunWords<'_>>
     ensures form { MatchOption result (server_run_of (map string_bytes words.now) ≡ None)
-        (λ run. server_run_of (map string_bytes words.now) ≡ Some (record {
-          address = run.address.now;
-          image = run.image.now;
-          count = run.count;
-        })) }
+        (λ run. server_run_of (map string_bytes words.now) ≡ Some (run_said run)) }
     ensures range { IfSome result (λ run. (1 ≤ run.count) × (run.count ≤ most_connections)) }
 {
     let [run, address, image, count] = words else {

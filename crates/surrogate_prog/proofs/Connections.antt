@@ -7,7 +7,7 @@ use Rattle.outside.specs.Port.{PortTelling}
 use Rattle.port_serving.specs.declared.serving.Came.{Came}
 use Rattle.port_serving.specs.declared.serving.Came.TheVariants as came
 use Rattle.port_serving.specs.declared.serving.Tally.{Tally}
-use Rattle.port_serving.specs.Serving.{Connection, Missed, Unanswered, Answered, exchanges, frames_taken, connection_of, Uses, IsAtHand, Replies, tallied}
+use Rattle.port_serving.specs.Serving.{Connection, Missed, exchanges, frames_taken, connection_of, Uses, IsAtHand, Replies, tallied}
 use Rattle.port_serving.specs.Inside.{UsesSoFar}
 use Rattle.port_serving.proofs.Connections as ports
 use Rattle.tree_values.specs.Tree.{Volume}

@@ -4,3 +4,5 @@ mod Running
 mod Totals
 mod Alone
 mod Silent
+mod Unrun
+mod Routes

@@ -59,8 +59,8 @@ read_silent server work copy after (Err refusal) did reply serves is = absurd (b
 
 -- ---- counts
 
-counted : (reply : Message) (replies : List Message) → count_by is_silent (reply ∷ replies) ≡ cond (is_silent reply) 1 0 + count_by is_silent replies
-counted reply replies = omega (arith, sum_by-append (λ (r : Message). cond (is_silent r) 1 0) (reply ∷ []) replies)
+pub counted : (test : Message → Bool) (reply : Message) (replies : List Message) → count_by test (reply ∷ replies) ≡ cond (test reply) 1 0 + count_by test replies
+counted test reply replies = omega (arith, sum_by-append (λ (r : Message). cond (test r) 1 0) (reply ∷ []) replies)
 
 enough : (silent : Bool) (count asked rest : ℕ) → (silent ≡ true → 8 ≤ asked) → 8 * count ≤ rest → 8 * (cond silent 1 0 + count) ≤ asked + rest
 enough true count asked rest eight more = omega (arith, eight refl, more)
@@ -75,7 +75,7 @@ silent_servers_failed_eight server work copy after (pair ∷ pairs) did serves =
       one.reply ∷ more.0,
       (one.spells, more.1),
       subst (λ (d : Doings). 8 * count_by is_silent (one.reply ∷ more.0) ≤ failed_asks d.asks) (sym serves.5)
-          (subst (λ (n : ℕ). 8 * n ≤ failed_asks (serves.0.asks ++ serves.1.asks)) (sym (counted one.reply more.0))
+          (subst (λ (n : ℕ). 8 * n ≤ failed_asks (serves.0.asks ++ serves.1.asks)) (sym (counted is_silent one.reply more.0))
           (subst (λ (n : ℕ). 8 * (cond (is_silent one.reply) 1 0 + count_by is_silent more.0) ≤ n) (sym (failed-append serves.0.asks serves.1.asks))
           (enough (is_silent one.reply) (count_by is_silent more.0) (failed_asks serves.0.asks) (failed_asks serves.1.asks) eight more.2))),
     )

@@ -4,18 +4,20 @@ use Rattle.outside.specs.Port.{Talk}
 use Rattle.port_serving.specs.Laws.{HasFallen, HasTalks, IsTold}
 use Rattle.tree_values.specs.Tree.{Volume}
 use Rattle.tree_values.specs.Lists.{IsIn}
+use Rattle.cmd_capture.specs.declared.runner.Run.{Run}
 use Rattle.mod_log.specs.declared.sketching.SketchEntry.{SketchEntry}
 use Rattle.wire_frames.specs.declared.cause.Cause.{Cause}
-use Rattle.wire_frames.specs.declared.cause.Cause.TheVariants.{NoServer}
+use Rattle.wire_frames.specs.declared.cause.Cause.TheVariants.{NoServer, NotRun}
 use Rattle.wire_frames.specs.declared.message.Message.{Message}
 use Rattle.wire_frames.specs.declared.message.Message.TheVariants.{Operate, Declined}
 use Rattle.wire_frames.specs.Frame.{frame}
 use Rattle.wire_frames.specs.Reading.{frame_of}
 use Rattle.world_rules.specs.World.{World, MovedBy, MovedAlone}
 use Rattle.world_rules.specs.declared.asking.Ask.{Ask}
+use Rattle.world_rules.specs.declared.asking.Peer.TheVariants.{Server}
 use Rattle.world_rules.specs.Settling.{failed_asks}
 use Rattle.surrogate_prog.specs.Words.{SurrogateInvocation}
-use Rattle.surrogate_prog.specs.Serving.{Doings, AnyAsks, ServesFrames}
+use Rattle.surrogate_prog.specs.Serving.{Doings, AnyAsks, ServesFrames, BreaksServing}
 use Rattle.surrogate_prog.specs.Run.{SurrogateTelling, SurrogateRan}
 
 -- serving came to its end
@@ -63,3 +65,33 @@ abbrev pub SilentServersFailedEight : Type 0
 SilentServersFailedEight = (server work : List ℕ) (copy after : Volume) (pairs : List (List ℕ × List ℕ)) (did : Doings)
     → ServesFrames server work copy pairs did after
     → (replies : List Message) × SpellAll replies pairs × (8 * count_by is_silent replies ≤ failed_asks did.asks)
+
+-- an operation that is declined since the runner failed to run its job
+abbrev pub unrun_cause : Cause → Bool
+unrun_cause NotRun = true
+unrun_cause cause = false
+
+abbrev pub is_not_run : Message → Bool
+is_not_run (Declined client number cause) = unrun_cause cause
+is_not_run reply = false
+
+-- so many of the replies tell so as runs failed
+abbrev pub FailedRunsAreTold : Type 0
+FailedRunsAreTold = (server work : List ℕ) (copy after : Volume) (pairs : List (List ℕ × List ℕ)) (did : Doings)
+    → ServesFrames server work copy pairs did after
+    → (replies : List Message) × SpellAll replies pairs × (count_by is_not_run replies ≡ did.failed)
+
+-- each run was in the work folder, and each ask went to the server at its address
+abbrev pub AreOfRoute : List ℕ → List ℕ → Doings → Type 0
+AreOfRoute server work did =
+    ((run : Run) → IsIn run did.runs → run.work ≡ work)
+    × ((ask : Ask) → IsIn ask did.asks → (ask.to ≡ Server) × (ask.address ≡ server))
+
+abbrev pub ServingsKeepTheirRoute : Type 0
+ServingsKeepTheirRoute = (server work : List ℕ) (copy after : Volume) (pairs : List (List ℕ × List ℕ)) (did : Doings)
+    → ServesFrames server work copy pairs did after → AreOfRoute server work did
+
+-- also what was done for a frame at hand when memory ran out
+abbrev pub BrokenServingsKeepTheirRoute : Type 0
+BrokenServingsKeepTheirRoute = (server work : List ℕ) (copy : Volume) (frames : List (List ℕ)) (did : Doings)
+    → BreaksServing server work copy frames did → AreOfRoute server work did

@@ -9,7 +9,7 @@ use Rattle.port_serving.specs.Serving.{Connection, exchanges, frames_taken, Uses
 use Rattle.tree_values.specs.Tree.{Volume}
 use Rattle.surrogate_prog.specs.declared.run.Stopped.{Stopped}
 use Rattle.surrogate_prog.specs.declared.run.Stopped.TheVariants.{Sink, Memory}
-use Rattle.surrogate_prog.specs.Words.{SurrogateInvocation, surrogate_run_of}
+use Rattle.surrogate_prog.specs.Words.{SurrogateInvocation, surrogate_run_of, form_of}
 use Rattle.surrogate_prog.specs.Serving.{Doings, and_then, ServesFrames, BreaksServing, Outside, Did}
 
 -- the status of a run that ended so: with its last line, or stopped before
@@ -90,9 +90,9 @@ pub record SurrogateObjects : Type 0 where
 -- 2: the words are of no form, and nothing was touched;
 -- 4: a call of the sink failed, and in a run with another status none did; 7: memory ran out.
 pub record SurrogateEnds (words : List (List ℕ)) (status : ℕ) (old new : SurrogateObjects) : Type 0 where
-  pub form : status ≡ 2 ↔ surrogate_run_of words ≡ None
+  pub form : status ≡ 2 ↔ form_of words ≡ None
   pub known : IsTrue (is_surrogate_status status)
-  pub untouched : surrogate_run_of words ≡ None → new ≡ old
+  pub untouched : form_of words ≡ None → new ≡ old
   pub sink : RisesWhere (status ≡ 4) old.sink_faults new.sink_faults
   pub complete : IfSome (surrogate_run_of words) (λ run. (Rose old.sink_faults new.sink_faults → ⊥) → (status ≡ 0) ⊎ (status ≡ 7))
   pub served : IfSome (surrogate_run_of words)

@@ -8,8 +8,11 @@ mod run;
 mod serving;
 mod words;
 
-pub use laws::{connections_are_counted, silence_has_its_cause, worlds_move_alone};
+pub use laws::{
+    connections_are_counted, failed_runs_are_told, servings_keep_their_route,
+    silence_has_its_cause, worlds_move_alone,
+};
 pub use program::{PAGES, served, surrogate_main, surrogate_program};
-pub use reasons::Troubled;
+pub use real_edge::Troubled;
 pub use run::surrogate_run;
-pub use words::{RunWords, run_words};
+pub use words::{Form, RunWords, form_of};

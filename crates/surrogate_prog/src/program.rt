@@ -5,11 +5,11 @@ ghost use Rattle.std.specs.Process.{exit_status};
 ghost use Rattle.program_words.specs.Pages.{page_asked};
 ghost use Rattle.surrogate_prog.specs.Serving.{told};
 ghost use Rattle.surrogate_prog.specs.Run.{is_surrogate_exit, SurrogateEnds};
-ghost use Rattle.surrogate_prog.specs.Words.{surrogate_run_of};
+ghost use Rattle.surrogate_prog.specs.Words.{Run, form_of, run_said};
 
-use crate::reasons::{Troubled, end_told};
+use crate::reasons::end_told;
 use crate::run::surrogate_run;
-use crate::words::{RunWords, run_words};
+use crate::words::{Form, RunWords, form_of};
 use child_runner::ChildRunner;
 use cmd_capture::Runner;
 use outside::{Port, Sink};
@@ -17,7 +17,7 @@ use program_words::{
     Pages, Status, checked_words, end_plainly, given_words, hold_places, is_logged, page_shown,
     tell_listening,
 };
-use real_edge::{LoggedPort, StdSink, TcpLink, TcpPort};
+use real_edge::{LoggedPort, StdSink, TcpLink, TcpPort, Troubled};
 use std::alloc::Global;
 use std::fs::File;
 use std::io;
@@ -109,7 +109,7 @@ pub fn surrogate_main<
     R: Print + Eprint + AllocGlobal + Env + Files<File = File> + Net + Clock + Processes,
 >(rt: &R, words: &[String]) -> ExitCode
     ensures form { exit_status result ≡ 2 ↔ (page_asked (map string_bytes words.now) ≡ None)
-        × (surrogate_run_of (map string_bytes words.now) ≡ None) }
+        × (form_of (map string_bytes words.now) ≡ None) }
     ensures known { IsTrue (is_surrogate_exit (exit_status result)) }
 {
     hold_places(rt);
@@ -119,23 +119,25 @@ pub fn surrogate_main<
     ended
 }
 
-/// Shows the page that the words ask for, or runs the surrogate.
+/// Shows the page that the words ask for, or does what their form asks for. Nothing is bound or opened before the words are read.
 fn answer_words<
     R: Eprint + AllocGlobal + Env + Files<File = File> + Net + Clock + Processes,
     O: Sink + Troubled,
 >(rt: &R, words: &[String], output: &mut O) -> ExitCode
     ensures form { exit_status result ≡ 2 ↔ (page_asked (map string_bytes words.now) ≡ None)
-        × (surrogate_run_of (map string_bytes words.now) ≡ None) }
+        × (form_of (map string_bytes words.now) ≡ None) }
     ensures known { IsTrue (is_surrogate_exit (exit_status result)) }
 {
     if let Some(status) = page_shown(&PAGES, words, output) {
         return end_told(rt, status.code(), output.trouble());
     }
-    let Some(run) = run_words(words) else {
-        return end_plainly(rt, NAME, Status::NoForm);
-    };
-    let bound = TcpPort::bind(rt.alloc(), rt, run.address);
-    serve_bound(rt, words, &run, bound, output)
+    match form_of(words) {
+        Some(Form::Run(run)) => {
+            let bound = TcpPort::bind(rt.alloc(), rt, run.address);
+            serve_bound(rt, words, &run, bound, output)
+        }
+        None => end_plainly(rt, NAME, Status::NoForm),
+    }
 }
 
 /// Runs the surrogate over the port that was bound at the address of its words. Where none was, it says so, and ends with status 1.
@@ -149,8 +151,7 @@ fn serve_bound<
     bound: io::Result<TcpPort<'_, R>>,
     output: &mut O,
 ) -> ExitCode
-    requires said { surrogate_run_of (map string_bytes words.now) ≡ Some (record
-        { address = run.now.address.now; server = run.now.server.now; work = run.now.work.now; count = run.now.count }) }
+    requires said { form_of (map string_bytes words.now) ≡ Some (Run (run_said run.now)) }
     requires there { IfOk bound (λ port. port.address.now ≡ run.now.address.now) }
     ensures refused { IsErr bound.entry → exit_status result ≡ 1 }
     ensures bound { IsOk bound.entry → exit_status result ≢ 1 }
@@ -179,8 +180,7 @@ fn serve_over<
     P: Port + Drop,
     O: Sink + Troubled,
 >(rt: &R, words: &[String], run: &RunWords<'_>, port: P, output: &mut O) -> (ExitCode, P)
-    requires said { surrogate_run_of (map string_bytes words.now) ≡ Some (record
-        { address = run.now.address.now; server = run.now.server.now; work = run.now.work.now; count = run.now.count }) }
+    requires said { form_of (map string_bytes words.now) ≡ Some (Run (run_said run.now)) }
     ensures bound { exit_status result.0 ≢ 1 }
     ensures form { exit_status result.0 ≢ 2 }
     ensures known { IsTrue (is_surrogate_exit (exit_status result.0)) }

@@ -2,12 +2,13 @@
 ghost use Rattle.std.specs.Prelude.{◌≡◌, ◌≤◌, IsTrue, map};
 ghost use Rattle.std.specs.String.{string_bytes};
 ghost use Rattle.outside.specs.Outside.{CountsFault};
+ghost use Rattle.surrogate_prog.specs.Words.{run_said};
 ghost use Rattle.surrogate_prog.specs.Serving.{told};
 ghost use Rattle.surrogate_prog.specs.Run.{surrogate_status_of, is_surrogate_status, surrogate_telling, SurrogateRun, SurrogateEnds};
 ghost use Rattle.surrogate_prog.specs.Inside.{surrogate_stopped_by_sink};
 
 use crate::serving::{Route, serve};
-use crate::words::{RunWords, run_words};
+use crate::words::{Form, RunWords, form_of};
 use cmd_capture::Runner;
 use outside::{Port, Sink, SinkError};
 use port_serving::write_last;
@@ -69,12 +70,7 @@ fn run<P: Port, R: Runner, L: Link, O: Sink>(
     output: &mut O,
 ) -> Result<(), Stopped>
     requires { words.now.count ≤ 65536 }
-    ensures turn { SurrogateRun (record {
-      address = words.now.address.now;
-      server = words.now.server.now;
-      work = words.now.work.now;
-      count = words.now.count;
-    }) (surrogate_telling (P.tells port.old) (told (R.runs runner.old) (R.faults runner.old) (L.tells link.old)))
+    ensures turn { SurrogateRun (run_said words.now) (surrogate_telling (P.tells port.old) (told (R.runs runner.old) (R.faults runner.old) (L.tells link.old)))
         (surrogate_telling (P.tells port.new) (told (R.runs runner.new) (R.faults runner.new) (L.tells link.new))) (O.written output.old)
         (O.written output.new) result }
     ensures sink { CountsFault Stopped.Sink (O.faults output.old) (O.faults output.new) result }
@@ -123,8 +119,8 @@ pub fn surrogate_run<P: Port, O: Sink, R: Runner, L: Link>(
           sink_faults = O.faults output.new;
         }) }
 {
-    let Some(words) = run_words(words) else {
-        return Status::NoForm.code();
-    };
-    status_of(run(alloc, &words, port, link, runner, output))
+    match form_of(words) {
+        Some(Form::Run(words)) => status_of(run(alloc, &words, port, link, runner, output)),
+        None => Status::NoForm.code(),
+    }
 }

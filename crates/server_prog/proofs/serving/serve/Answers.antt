@@ -1,15 +1,17 @@
 use Rattle.std.proofs.Common.{◌≡◌, ◌<◌, ◌≤◌, ◌∙◌, refl, arith}
 use Rattle.outside.proofs.Writing.{on_err}
 use Rattle.server_prog.proofs.Connections.{so_far_begins, so_far_next, all_came, all_made, front}
+use Rattle.server_prog.proofs.Others.{others_none, others_then}
 use Rattle.port_serving.proofs.Connections.{fits}
 use Rattle.server_prog.proofs.serving.serve.Goals as goal
 
 pub loop-take-init : goal.loop-take-init
-loop-take-init g c = record { served = so_far_begins _ _ _ c.new-tally.ensures; faults = refl }
+loop-take-init g c = record { served = so_far_begins _ _ _ c.new-tally.ensures; others = others_none c.args.name.now (g.K.Keeper.images c.args.keeper.now); faults = refl }
 
 pub loop-take-preserved : goal.loop-take-preserved
 loop-take-preserved g c = record {
   served = so_far_next _ _ _ _ _ _ _ _ _ _ _ _ c.in_default.not-NoConnection c.tallied-tally.ensures c.loop-take.invariant.served c.in_ok-came.ensures.ok;
+  others = others_then c.args.name.now _ _ _ c.loop-take.invariant.others c.serve_next.ensures.others;
   faults = c.in_ok-came.ensures.cause.never (λ is. absurd (cc is)) ∙ c.loop-take.invariant.faults;
 }
 

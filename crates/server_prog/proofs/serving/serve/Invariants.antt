@@ -2,7 +2,7 @@ use Rattle.std.proofs.Common.{◌≡◌}
 use Rattle.outside.specs.Keeper.{kept_under}
 use Rattle.server_core.specs.Holding.{served}
 use Rattle.server_prog.specs.Serving.{server_telling}
-use Rattle.server_prog.specs.Inside.{ServesSoFar}
+use Rattle.server_prog.specs.Inside.{ServesSoFar, OthersKept}
 use Rattle.server_prog.proofs.serving.serve.Given as goal
 
 abbrev pub invariant-loop-take : goal.invariant-loop-take
@@ -11,5 +11,6 @@ invariant-loop-take g l = record {
       ServesSoFar l._take l.tally l.journal (served l.fn.server) (served l.server)
       (server_telling (g.P.Port.tells l.fn.port) (kept_under l.name (g.K.Keeper.images l.fn.keeper)))
       (server_telling (g.P.Port.tells l.port) (kept_under l.name (g.K.Keeper.images l.keeper)));
+  others : OthersKept l.name (g.K.Keeper.images l.fn.keeper) (g.K.Keeper.images l.keeper);
   faults : g.K.Keeper.faults l.keeper ≡ g.K.Keeper.faults l.fn.keeper;
 }
