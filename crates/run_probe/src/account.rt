@@ -28,25 +28,37 @@ pub fn account_of_network(alloc: Global, net: &Network) -> Result<Vec<u8>, Alloc
         &mut text,
         &format!(in alloc; "troubles {troubles}\nlast {last}\n")?,
     )?;
-    for k in 0..u32::MAX {
-        let Some(frame) = net.packet(k) else {
-            break;
-        };
-        write_packet(alloc, &mut text, frame)?;
-    }
+    write_packets(alloc, &mut text, net)?;
     write_rows(alloc, &mut text, net.server())?;
     Ok(text)
 }
 
+/// Each packet that was sent, as the account of the network tells it.
+pub fn sent_packets(alloc: Global, net: &Network) -> Result<Vec<u8>, AllocError> {
+    let mut text = Vec::new(alloc);
+    write_packets(alloc, &mut text, net)?;
+    Ok(text)
+}
+
 /// Each row of a server, as the account of its network tells it.
-pub(crate) fn rows_of_server(alloc: Global, server: &Server) -> Result<Vec<u8>, AllocError> {
+pub fn rows_of_server(alloc: Global, server: &Server) -> Result<Vec<u8>, AllocError> {
     let mut text = Vec::new(alloc);
     write_rows(alloc, &mut text, server)?;
     Ok(text)
 }
 
-pub(crate) fn write_text(text: &mut Vec<u8>, more: &str) -> Result<(), AllocError> {
+fn write_text(text: &mut Vec<u8>, more: &str) -> Result<(), AllocError> {
     text.extend_from_slice(more.as_bytes())?;
+    Ok(())
+}
+
+fn write_packets(alloc: Global, text: &mut Vec<u8>, net: &Network) -> Result<(), AllocError> {
+    for k in 0..u32::MAX {
+        let Some(frame) = net.packet(k) else {
+            break;
+        };
+        write_packet(alloc, text, frame)?;
+    }
     Ok(())
 }
 

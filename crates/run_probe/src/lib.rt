@@ -1,15 +1,8 @@
-//! Whole runs of the client over inputs, outputs, images and a network in memory, and what they leave, as text: the one
-//! harness of the crates that test whole runs.
+//! A network in memory, and what stands in it, as text: what the programs that play whole runs share.
 #![tactic(auto)]
 
 mod account;
 mod networks;
-mod outcomes;
-mod probe;
 
-pub use account::account_of_network;
-pub use networks::{Network, network};
-pub use outcomes::giving;
-pub use probe::{
-    Fails, Probe, account_of, account_on, account_over, told, told_on, told_with, words_of,
-};
+pub use account::{account_of_network, rows_of_server, sent_packets};
+pub use networks::{CountedRunner, Network, network};
