@@ -1,0 +1,24 @@
+//! Plays scenes of judgements: what a replay of a command is judged to be, whose names its files get, how contents are repaired, and products
+//! of the field.
+#![tactic(auto)]
+
+mod field;
+mod given;
+mod judging;
+mod names;
+mod repairs;
+mod stage;
+mod telling;
+mod words;
+
+use scene_files::play_folder;
+use stage::Judgements;
+use std::io;
+use std::process::ExitCode;
+
+fn main(rt: HostRuntime) -> io::Result<ExitCode> {
+    let mut stage = Judgements::new(rt.alloc());
+    let played = play_folder(&rt, &mut stage);
+    drop(stage);
+    played
+}
