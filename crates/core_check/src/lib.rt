@@ -1,4 +1,4 @@
-//! Tests of the client: what its calls log, ask, run and keep; and, below it, of asks over a link and of the objects in memory.
+//! Tests of calls: a client's over a keeper that fails and a runner without memory; asks over a link; and the objects in memory.
 #![tactic(auto)]
 
 #[cfg(test)]
@@ -6,10 +6,6 @@ mod asking_tests;
 #[cfg(test)]
 mod keeping;
 #[cfg(test)]
-mod light;
-#[cfg(test)]
 mod outside_tests;
 #[cfg(test)]
 mod running;
-#[cfg(test)]
-mod shipping;

@@ -314,13 +314,13 @@ fn a_request_is_sent_once(rt: HostRuntime) -> Result<(), Fail> {
 
 /// A listener has connections made for it, which it does not take.
 #[test]
-fn a_silent_server_is_waited_for_five_seconds(rt: HostRuntime) -> Result<(), Fail> {
+fn a_silent_server_is_waited_for_half_a_minute(rt: HostRuntime) -> Result<(), Fail> {
     let listener = TcpListener::bind(&rt, "127.0.0.1:0")?;
     let number = listener.local_addr()?.port();
     let address = format!(in rt.alloc(); "127.0.0.1:{number}")?;
     let start = Instant::now(&rt)?;
     assert!(rt; !is_pulled(rt.alloc(), &rt, address.as_str())?);
-    assert!(rt; start.elapsed(&rt)? >= Duration::from_secs(5));
+    assert!(rt; start.elapsed(&rt)? >= Duration::from_secs(30));
     Ok(())
 }
 

@@ -1,4 +1,4 @@
-//! Tests of the server program and of the surrogate program over ports in memory, and of the real edge over peers of its own.
+//! Tests of what the server program and the surrogate program show beside their runs, and of the real edge over peers of its own.
 #![tactic(auto)]
 
 #[cfg(test)]
@@ -6,10 +6,10 @@ mod edge_tests;
 #[cfg(test)]
 mod keeper_tests;
 #[cfg(test)]
+mod link_tests;
+#[cfg(test)]
 mod probe;
 #[cfg(test)]
-mod server_tests;
-#[cfg(test)]
-mod surrogate_tests;
+mod program_tests;
 #[cfg(test)]
 mod telling_tests;
