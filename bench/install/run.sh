@@ -12,24 +12,14 @@
 # are there. As another user than root it wants fakeroot.
 set -euo pipefail
 umask 022
-top=$(cd "$(dirname "$0")/../.." && pwd)
-here=$top/bench/install
+# shellcheck source-path=SCRIPTDIR/.. source=common.sh
+. "$(dirname "$0")/../common.sh"
 from=()
 if [ $# -eq 1 ]; then from=(--from "$(cd "$1" && pwd)"); fi
 [ $# -le 1 ] || { echo "usage: bench/install/run.sh [PROGRAMS]" >&2; exit 2; }
-for command in mandoc groff man col python3 dpkg dpkg-deb; do
-    command -v $command > /dev/null || { echo "it wants the command $command" >&2; exit 2; }
-done
-
-work=$(mktemp -d)
-processes=()
+wants mandoc mandoc groff groff man man-db col bsdextrautils python3 python3 dpkg dpkg
+make_work
 faults=0
-clean() {
-    for process in "${processes[@]}"; do kill -9 "$process" 2> /dev/null || true; done
-    rm -rf "$work"
-}
-trap clean EXIT
-trap 'exit 1' INT TERM HUP
 
 good() { echo "ok: $1"; }
 bad() {
@@ -90,27 +80,6 @@ try_words() {
 
 # --- A session ---
 
-is_taken() {
-    awk -v port="$(printf ':%04X' "$1")" 'substr($2, length($2) - 4) == port { found = 1 } END { exit !found }' \
-        /proc/net/tcp /proc/net/tcp6
-}
-is_heard() {
-    awk -v at="$(printf '0100007F:%04X' "$1")" '$2 == at && $4 == "0A" { found = 1 } END { exit !found }' /proc/net/tcp
-}
-port=$((20000 + $$ % 12000))
-next_port() {
-    port=$((20000 + (port + 1) % 12000))
-    while is_taken "$port"; do port=$((20000 + (port + 1) % 12000)); done
-}
-await() {
-    local left=300
-    until is_heard "$1"; do
-        left=$((left - 1))
-        [ $left -gt 0 ] || { bad "nothing listens at port $1" && return; }
-        sleep 0.1
-    done
-}
-
 # README.md's session: lines, and their answers behind two spaces or more.
 readme_session() { sed -n '/^mkdir trips /,/^```/{/^```/!p}' "$top/README.md"; }
 
@@ -120,11 +89,12 @@ start_nodes() {
     next_port && surrogate_port=$port
     "$1/haurpiko-server" run "127.0.0.1:$server_port" server.image "$2" > server.out 2> server.said &
     server=$!
+    begun
     "$1/haurpiko-surrogate" run "127.0.0.1:$surrogate_port" "127.0.0.1:$server_port" work "$3" > surrogate.out 2> surrogate.said &
     surrogate=$!
-    processes+=("$server" "$surrogate")
-    await "$server_port"
-    await "$surrogate_port"
+    begun
+    await "$server" "$server_port" || bad "the server does not listen"
+    await "$surrogate" "$surrogate_port" || bad "the surrogate does not listen"
 }
 
 # Runs a client from $1 over the lines in $2, compares its answers with those in $3, and what it tells of entries with those in $4.
@@ -162,10 +132,10 @@ try_session() {
     start_nodes "$bin" 65536 2
     run_client "$bin" lines wanted nothing
     run_client "$bin" sorting sorted.wanted sorted.told
-    wait "$surrogate" || bad "the surrogate ended with $?"
+    ended "$surrogate" || bad "the surrogate ended with $?"
     echo 'served 2 faults 0' > served.wanted
     same "the surrogate's end" served.wanted surrogate.out
-    kill "$server" && { wait "$server" 2> /dev/null || true; }
+    kill "$server" && { ended "$server" 2> /dev/null || true; }
     echo "server: listens at 127.0.0.1:$server_port" > listens.wanted
     same "where the server listens" listens.wanted server.said
     echo "surrogate: listens at 127.0.0.1:$surrogate_port" > listens.wanted

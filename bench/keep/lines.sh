@@ -1,32 +1,25 @@
-#!/usr/bin/env bash
+#!/bin/sh
 # The seconds that logged lines take, of which the first writes the client's whole image, and each later one appends a record, and
 # syncs it to the disk: on an empty base, and on a base of 32 MiB; beside them a program in Python that writes, syncs and renames a
 # file of the first length, and appends as many pieces, each synced.
 #
 #   bench/keep/lines.sh [LINES [LINES ON 32 MIB]]    1000 and 100 of them, where nothing else is said
-#   CLIENT=.. bench/keep/lines.sh                    over this program; else the proved one is built
 #
-# It wants the Debian packages bash and python3, and writes in TMPDIR.
+# It wants the Debian packages coreutils, mawk (or gawk) and python3, and writes in TMPDIR.
 set -eu
-here=$(cd "$(dirname "$0")" && pwd)
-top="$here/../.."
-command -v python3 > /dev/null || { echo "it wants the package python3" >&2; exit 2; }
-if [ -z "${CLIENT-}" ]; then
-    (cd "$top/crates/client" && rt run -- --version) >&2
-    CLIENT="$top/crates/client/out/client"
-fi
-work=$(mktemp -d)
-trap 'rm -rf "$work"' EXIT
-trap 'exit 130' INT
-trap 'exit 143' TERM HUP
+# shellcheck source-path=SCRIPTDIR/.. source=common.sh
+. "$(dirname "$0")/../common.sh"
+wants python3 python3 awk mawk
+programs client
+make_work
 
 # The client over so many puts, on the image that is there.
 measure() {
     awk -v count="$2" 'BEGIN { for (i = 0; i < count; i++) print "put n" i " x" }' > "$work/lines"
-    start=$(date +%s%N)
-    "$CLIENT" run 1 "$work/image" 127.0.0.1:1 - work < "$work/lines" > "$work/answers" || { echo "status $?" >&2; exit 1; }
-    spent=$((($(date +%s%N) - start) / 1000000))
-    [ "$(grep -c '^logged ' "$work/answers")" = "$2" ] || { echo "a line was not logged" >&2; exit 1; }
+    start=$(clock)
+    "$CLIENT" run 1 "$work/image" 127.0.0.1:1 - work < "$work/lines" > "$work/answers" || fail "the client ended with $?"
+    spent=$(($(clock) - start))
+    [ "$(grep -c '^logged ' "$work/answers")" = "$2" ] || fail "a line was not logged"
     size=$(wc -c < "$work/image")
     beside=$(python3 - "$work" "$2" "$3" "$size" << 'PYTHON'
 import os, sys, time

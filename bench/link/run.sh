@@ -5,21 +5,13 @@
 # a goal is missed.
 #
 #   bench/link/run.sh [SCENE ..]    scenes: bytes held long; all of them where none is named
-#   CLIENT=.. SERVER=.. SURROGATE=.. bench/link/run.sh    over these programs; else the proved ones are built
 #
 # Wants the Debian packages python3, coreutils, dash and mawk (or gawk); rsync and xz-utils for their columns.
 set -eu
-here=$(cd "$(dirname "$0")" && pwd)
-top="$here/../.."
-command -v python3 > /dev/null || { echo "it wants the package python3" >&2; exit 2; }
-
-# Proves and builds a program.
-build() {
-    (cd "$top/crates/$1" && rt run -- --version) >&2
-}
-
-if [ -z "${SERVER-}" ]; then build server; SERVER="$top/crates/server/out/server"; fi
-if [ -z "${SURROGATE-}" ]; then build surrogate; SURROGATE="$top/crates/surrogate/out/surrogate"; fi
-if [ -z "${CLIENT-}" ]; then build client; CLIENT="$top/crates/client/out/client"; fi
-export SERVER SURROGATE CLIENT
+# shellcheck source-path=SCRIPTDIR/.. source=common.sh
+. "$(dirname "$0")/../common.sh"
+wants python3 python3 awk mawk
+has rsync rsync || true
+has xz xz-utils || true
+programs server surrogate client
 exec python3 -B "$here/link.py" "$@"

@@ -5,61 +5,16 @@
 # with 4,096 bytes, and as times the content. It takes half a minute, and ends with 1 where a goal is missed.
 #
 #   bench/memory/copies.sh [SCENE ..]    scenes: put pull run; all of them where none is named
-#   CLIENT=.. SERVER=.. SURROGATE=.. bench/memory/copies.sh    over these programs; else the proved ones are built
 #
 # Wants the Debian packages gcc, libc6-dev, coreutils, dash and mawk (or gawk).
 set -eu
-here=$(cd "$(dirname "$0")" && pwd)
-top="$here/../.."
-work=$(mktemp -d)
-server='' surrogate=''
-
-clean() {
-    trap '' INT TERM HUP
-    for process in $surrogate $server; do
-        kill "$process" 2> /dev/null || true
-        wait "$process" 2> /dev/null || true
-    done
-    rm -rf "$work"
-}
-trap clean EXIT
-trap 'exit 130' INT
-trap 'exit 143' TERM HUP
-
-# Proves and builds a program.
-build() {
-    (cd "$top/crates/$1" && rt run -- --version) >&2
-}
-
-if [ -z "${SERVER-}" ]; then build server; SERVER="$top/crates/server/out/server"; fi
-if [ -z "${SURROGATE-}" ]; then build surrogate; SURROGATE="$top/crates/surrogate/out/surrogate"; fi
-if [ -z "${CLIENT-}" ]; then build client; CLIENT="$top/crates/client/out/client"; fi
+# shellcheck source-path=SCRIPTDIR/.. source=common.sh
+. "$(dirname "$0")/../common.sh"
+wants cc gcc awk mawk
+programs server surrogate client
+make_work
+surrogate=''
 cc -O2 -shared -fPIC -o "$work/count_moved.so" "$here/count_moved.c" -ldl
-
-fail() {
-    echo "copies: $1" >&2
-    exit 1
-}
-
-is_heard() {
-    awk -v address="$(printf '0100007F:%04X' "$1")" '$2 == address && $4 == "0A" { found = 1 } END { exit !found }' /proc/net/tcp
-}
-
-# The next port at which nothing listens.
-next_port() {
-    port=$((20000 + (port + 7) % 12000))
-    while is_heard "$port"; do
-        port=$((20000 + (port + 7) % 12000))
-    done
-}
-
-# Waits until process $1 listens at port $2.
-await() {
-    until is_heard "$2"; do
-        kill -0 "$1" 2> /dev/null || fail "a program does not listen"
-        sleep 0.05
-    done
-}
 
 # Starts a server that takes $1 connections. Its figures go to the file server.
 start_server() {
@@ -68,7 +23,8 @@ start_server() {
     COUNT_TO="$work/server" LD_PRELOAD="$work/count_moved.so" \
         "$SERVER" run "127.0.0.1:$server_port" "$work/server.image" "$1" > "$work/served" 2>&1 &
     server=$!
-    await "$server" "$server_port"
+    begun
+    await "$server" "$server_port" || fail "the server does not listen"
 }
 
 # Starts a surrogate that takes one operation. Its figures go to the file surrogate.
@@ -78,7 +34,8 @@ start_surrogate() {
     COUNT_TO="$work/surrogate" LD_PRELOAD="$work/count_moved.so" \
         "$SURROGATE" run "127.0.0.1:$surrogate_port" "127.0.0.1:$server_port" "$work/far" 1 > "$work/served_too" 2>&1 &
     surrogate=$!
-    await "$surrogate" "$surrogate_port"
+    begun
+    await "$surrogate" "$surrogate_port" || fail "the surrogate does not listen"
 }
 
 # Has client $1 answer the lines of the file lines, with the surrogate at $2; the last line but one of its answers has to be $3.
@@ -92,10 +49,9 @@ talk() {
 
 # Waits for the end of what was started.
 rest() {
-    wait "$server" || { cat "$work/served" >&2; fail "the server failed"; }
-    server=''
+    ended "$server" || { cat "$work/served" >&2; fail "the server failed"; }
     if [ -n "$surrogate" ]; then
-        wait "$surrogate" || { cat "$work/served_too" >&2; fail "the surrogate failed"; }
+        ended "$surrogate" || { cat "$work/served_too" >&2; fail "the surrogate failed"; }
         surrogate=''
     fi
 }
@@ -172,9 +128,9 @@ measure() {
     done
 }
 
-port=$(($$ % 12000))
 missed=0
-for scene in ${*:-put pull run}; do
+[ $# -gt 0 ] || set -- put pull run
+for scene in "$@"; do
     case $scene in
     put) measure put 8388608 3.5 client server ;;
     pull) measure pull 33554432 2.2 client server ;;

@@ -2,21 +2,25 @@
 # Seconds and memory of `repair` on 8 MiB with no difference, with 16 symbols changed in one block, in each of the 65 blocks, and with 17
 # changed in one, which is beyond repair; beside them `sketch_of` of the same bytes, and a plain decoder in C built with -O2, in turn:
 # one thread each, the best of three runs. The ratio is the decoder's time by ours.
+#
+# Wants the Debian packages coreutils, gcc, libc6-dev and mawk (or gawk). With TRY=1 our memory is left out.
 set -eu
-here=$(cd "$(dirname "$0")" && pwd)
-work=$(mktemp -d -p /dev/shm 2>/dev/null || mktemp -d)
-trap 'rm -rf "$work"' EXIT
+# shellcheck source-path=SCRIPTDIR/.. source=common.sh
+. "$(dirname "$0")/../common.sh"
+wants cc gcc awk mawk
+make_work_in /dev/shm
 head -c 8388608 /dev/urandom > "$work/content"
-gcc -O2 -o "$work/decoder" "$here/decoder.c"
-cd "$here/../../crates/repair_bench"
-rt run > "$work/built" 2>&1 || { cat "$work/built"; exit 1; }
+cc -O2 -o "$work/decoder" "$here/decoder.c"
+bench repair_bench
 printf '%-28s %9s %9s %9s %7s %12s %12s\n' case sketch_of repair decoder ratio 'repair KiB' 'decoder KiB'
 while read -r blocks symbols name; do
-    for turn in 1 2 3; do
-        echo "ours $(out/repair_bench measure "$work/content" "$blocks" "$symbols")"
+    for _ in 1 2 3; do
+        echo "ours $(measured repair_bench measure "$work/content" "$blocks" "$symbols" < /dev/null)"
         echo "theirs $("$work/decoder" "$work/content" "$blocks" "$symbols")"
     done > "$work/times"
-    ours=$("$work/decoder" peak "$PWD/out/repair_bench" measure "$work/content" "$blocks" "$symbols" | tail -n 1)
+    ours=0
+    [ -n "${TRY-}" ] ||
+        ours=$("$work/decoder" peak "$top/crates/repair_bench/out/repair_bench" measure "$work/content" "$blocks" "$symbols" | tail -n 1)
     theirs=$("$work/decoder" peak "$work/decoder" "$work/content" "$blocks" "$symbols" | tail -n 1)
     awk -v name="$name" -v ours="$ours" -v theirs="$theirs" '
         $2 != "-" && (!sketch || $2 < sketch) { sketch = $2 }

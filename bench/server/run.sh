@@ -2,15 +2,17 @@
 # Stores of one small file that a server takes a second, from frame to frame, for rows that stand and for new rows, and the speed
 # of its answers to pulls: at 10 and at 16,000 rows, in one folder and in 64. The names come in an order in which neighbours are
 # far apart. The best of all rounds of three runs.
+#
+# Wants the Debian package mawk (or gawk).
 set -eu
-here=$(cd "$(dirname "$0")" && pwd)
-log=$(mktemp)
-trap 'rm -f "$log"' EXIT
-cd "$here/../../crates/server_bench"
-rt run > "$log" 2>&1 || { cat "$log"; exit 1; }
-for turn in 1 2 3; do
-    out/server_bench measure
-done > "$log"
+# shellcheck source-path=SCRIPTDIR/.. source=common.sh
+. "$(dirname "$0")/../common.sh"
+wants awk mawk
+make_work
+bench server_bench
+for _ in 1 2 3; do
+    measured server_bench measure
+done > "$work/times"
 awk '
     $5 != $4 || $8 != $7 { print "a store was not accepted"; bad = 1; exit 1 }
     { key = $1 " rows, " $2 " folders"
@@ -24,4 +26,4 @@ awk '
           for (i = 1; i <= lines; i++) {
               key = order[i]
               printf "%-24s stores a second: %8.0f for rows that stand, %8.0f for new rows   %6.1f MB/s of snapshots\n",
-                  key, best[key], new[key], speed[key] } }' "$log"
+                  key, best[key], new[key], speed[key] } }' "$work/times"

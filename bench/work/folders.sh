@@ -2,25 +2,20 @@
 # Brings folders in by tools/import and out again by tools/export, and compares them byte for byte: one with odd names and contents, and the
 # sources of this repository. What cannot go has to be named, and nothing else. Ends with 1 where something is wrong.
 #
-#   bench/work/folders.sh PROGRAMS     over the client in the folder PROGRAMS; no server is wanted
+#   bench/work/folders.sh [PROGRAMS]     over the client in the folder PROGRAMS; no server is wanted
 #
 # Wants the Debian packages python3, coreutils and diffutils.
 set -eu
-top=$(cd "$(dirname "$0")/../.." && pwd)
-[ $# -eq 1 ] || { echo "usage: bench/work/folders.sh PROGRAMS" >&2; exit 2; }
-client=$(cd "$1" && pwd)/client
-room=$(mktemp -d)
-trap 'rm -rf "$room"' EXIT
-trap 'exit 143' TERM INT HUP
-
-fail() {
-    echo "missed: $1" >&2
-    exit 1
-}
+# shellcheck source-path=SCRIPTDIR/.. source=common.sh
+. "$(dirname "$0")/../common.sh"
+wants python3 python3 diff diffutils
+PROGRAMS=${1-${PROGRAMS-}}
+programs client
+make_work
 
 # A client of its own for the image $1.
 run_client() {
-    "$client" run 1 "$room/$1" 127.0.0.1:1 - "$room/work"
+    "$CLIENT" run 1 "$work/$1" 127.0.0.1:1 - "$work/work"
 }
 
 # Brings the folder $1 to the path $2 ('' for the root) and out again to $3. What is left out goes to $3.said; wants the status $4.
@@ -31,10 +26,10 @@ both_ways() {
     [ "$status" = "$4" ] || fail "import ends with $status, and not with $4: $(cat "$3.said")"
     run_client "$3.image" < "$3.lines" > "$3.answers"
     ! grep -Ev '^(logged [0-9]+( status 0)?|acknowledged 0 pending [0-9]+)$' "$3.answers" || fail "a line of import was refused"
-    "$top/tools/export" "$3" --from "/$2" -- "$client" run 1 "$room/$3.image" 127.0.0.1:1 - "$room/work" || fail "export"
+    "$top/tools/export" "$3" --from "/$2" -- "$CLIENT" run 1 "$work/$3.image" 127.0.0.1:1 - "$work/work" || fail "export"
 }
 
-cd "$room"
+cd "$work"
 umask 077
 mkdir -p odd/sub/deep 'odd/a b' odd/empty odd/sub/none
 printf 'one line\n' > odd/line
@@ -80,7 +75,7 @@ printf '%s\n' "run env=PATH=/usr/bin:/bin -- /bin/sh -c 'mkdir d e; touch \"d/\$
     run_client odd.image > odd.answers
 grep -q '^logged 1 status 0$' odd.answers || fail "a program makes odd names"
 status=0
-"$top/tools/export" odd-out -- "$client" run 1 "$room/odd.image" 127.0.0.1:1 - "$room/work" 2> odd.said || status=$?
+"$top/tools/export" odd-out -- "$CLIENT" run 1 "$work/odd.image" 127.0.0.1:1 - "$work/work" 2> odd.said || status=$?
 [ "$status $(wc -l < odd.said) $(find odd-out | sort | tr '\n' ' ')" = '1 2 odd-out odd-out/d odd-out/e odd-out/e/f ' ] ||
     fail "two names cannot be exported: $status, $(cat odd.said), $(find odd-out)"
 

@@ -6,7 +6,7 @@
 #
 #   bench/work/run.sh [PROGRAMS] [NAME ..]    over client, server and surrogate in the folder PROGRAMS, or, where that is missing or -,
 #                                             over the proved ones, which are built then; NAME: pieces of work, all where none is named
-#   OUT=..     where these go (bench/work/out); OUT=docs renews the picture, and the table in docs/TESTING.md
+#   OUT=..     where these go (bench/work/out); OUT=docs renews the picture, and the table in docs/MEASUREMENTS.md
 #   CACHE=..   where the sources lie (/tmp/haurpiko-work)
 #
 # Each piece is played up to three times: with client and surrogate as one user; with the surrogate as another user (nobody); and, where
@@ -19,10 +19,10 @@
 #   default-jdk-headless bash libc6-dev; rsync and xz-utils for their columns; util-linux for unshare and setpriv.
 # The sources of lua5.4, hello, zlib and bc are fetched from Debian once, by `apt-get source` over lists of its own below CACHE.
 set -eu
-here=$(cd "$(dirname "$0")" && pwd)
-top=$here/../..
+# shellcheck source-path=SCRIPTDIR/.. source=common.sh
+. "$(dirname "$0")/../common.sh"
+wants python3 python3
 CACHE=${CACHE:-/tmp/haurpiko-work} OUT=${OUT:-$here/out}
-command -v python3 > /dev/null || { echo "it wants the package python3" >&2; exit 2; }
 
 # Fetches the packed sources of Debian's packages, and touches nothing of the system's own lists.
 fetch() {
@@ -59,16 +59,16 @@ for name in lua5.4 hello zlib bc; do
     fi
 done
 
-programs=${1:--}
+folder=${1:--}
 [ $# -eq 0 ] || shift
-if [ "$programs" = - ]; then
-    programs=$CACHE/programs
-    mkdir -p "$programs"
-    for name in client server surrogate; do
-        (cd "$top/crates/$name" && rt run -- --version) >&2
-        cp "$top/crates/$name/out/$name" "$programs/$name"
-    done
+if [ "$folder" = - ]; then
+    programs client server surrogate
+    folder=$CACHE/programs
+    mkdir -p "$folder"
+    cp "$CLIENT" "$folder/client"
+    cp "$SERVER" "$folder/server"
+    cp "$SURROGATE" "$folder/surrogate"
 fi
 mkdir -p "$OUT"
 export CACHE OUT
-exec python3 -B "$here/work.py" "$programs" "$@"
+exec python3 -B "$here/work.py" "$folder" "$@"

@@ -89,7 +89,7 @@ def show(pieces, out, has_other, is_part):
     with open(f"{out}/work.tsv", "w") as file:
         file.write("\t".join(COLUMNS) + "\n")
         file.writelines("\t".join(str(row[it]) for it in COLUMNS) + "\n" for row in rows)
-    if is_part or not renew_page(f"{out}/TESTING.md", text + "\n" + counts):
+    if is_part or not renew_page(f"{out}/MEASUREMENTS.md", text + "\n" + counts):
         with open(f"{out}/work.md", "w") as file:
             file.write(text + "\n" + counts)
     here = os.path.dirname(os.path.abspath(__file__))
