@@ -55,10 +55,10 @@ impl Time {
         self.now.set(self.now.get().saturating_add(wait));
     }
 
-    /// A read waits in vain, until its limit.
-    fn wait(&self) -> io::Result<usize> {
+    /// What a read meets that waits in vain, until its limit.
+    fn wait(&self) -> io::Error {
         self.pass(self.limit.get());
-        Err(io::Error::from(ErrorKind::WouldBlock))
+        io::Error::from(ErrorKind::WouldBlock)
     }
 }
 
@@ -70,7 +70,7 @@ struct Peered<'t> {
 
 impl<'t> Read for Peered<'t> {
     fn read(&mut self, _buf: &mut [u8]) -> io::Result<usize> {
-        self.time.wait()
+        Err(self.time.wait())
     }
 }
 
@@ -105,7 +105,7 @@ impl<'t> OpenStream for Peered<'t> {
     }
 
     fn peek(&self, _buf: &mut [u8]) -> io::Result<usize> {
-        self.time.wait()
+        Err(self.time.wait())
     }
 }
 
