@@ -1,3 +1,4 @@
+// How often an object in memory was called, and how often it failed.
 ghost use Rattle.std.specs.Prelude.{◌≡◌, ◌≤◌};
 ghost use Rattle.outside.specs.Outside.{raised};
 ghost use Rattle.outside.specs.Memory.{one_more};

@@ -1,3 +1,4 @@
+// What the calls of the outside answer where they fail.
 ghost use Rattle.std.specs.Prelude.{◌≡◌};
 ghost use Rattle.outside.specs.declared.errors.SinkError.TheVariants.{Memory};
 ghost use Rattle.outside.specs.declared.errors.PortError.TheVariants as ports;

@@ -1,3 +1,4 @@
+// What keeps images under names.
 ghost use Rattle.std.specs.Prelude.{ℕ, Option};
 ghost use Rattle.outside.specs.Outside.{Told, CountsFault};
 ghost use Rattle.outside.specs.Keeper.{Images, Loads, Saves, Appends};

@@ -1,3 +1,4 @@
+// A source and a sink in memory.
 ghost use Rattle.std.specs.Prelude.{◌≡◌, ◌↔◌, ◌<◌, ◌≤◌, [], drop, length, min, IsErr, IsErrOf, IsTrue, IfOk, Some};
 ghost use Rattle.outside.specs.Outside.{Told, Reads, Writes, CountsFault};
 ghost use Rattle.outside.specs.Memory.{InMemory, is_named, fails_now, after_call};

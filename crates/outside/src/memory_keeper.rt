@@ -1,3 +1,4 @@
+// A keeper in memory.
 ghost use Rattle.std.specs.Prelude.{◌≡◌, ◌↔◌, [], None, Some, position, IfOk, OnOk, OnErr, IsErr, IsErrOf, IsTrue};
 ghost use Rattle.std.specs.Option.{option_copied};
 ghost use Rattle.outside.specs.Outside.{Told, CountsFault};

@@ -1,3 +1,4 @@
+// What takes connections.
 ghost use Rattle.std.specs.Prelude.{◌≡◌, ◌-◌, ◌↔◌, None, Ok};
 ghost use Rattle.outside.specs.Outside.{Told, CountsFault};
 ghost use Rattle.outside.specs.Port.{PortTelling, AddsTalks, talks_begun, AnswersLast};

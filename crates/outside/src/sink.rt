@@ -1,3 +1,4 @@
+// What takes bytes.
 ghost use Rattle.std.specs.Prelude.{List, ℕ, Option, ◌<◌, ◌≤◌, length, take, IfOk, OnOk, OnErr};
 ghost use Rattle.outside.specs.Outside.{Told, Writes, Adds, CountsFault};
 

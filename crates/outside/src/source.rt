@@ -1,3 +1,4 @@
+// What gives bytes.
 ghost use Rattle.std.specs.Prelude.{List, ℕ, Option, ◌<◌, ◌≤◌, length, IfOk};
 ghost use Rattle.outside.specs.Outside.{Told, Reads, CountsFault};
 

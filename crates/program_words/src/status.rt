@@ -1,3 +1,4 @@
+// The statuses that programs end with.
 ghost use Rattle.std.specs.Prelude.{◌≡◌, ◌<◌, MatchOption};
 ghost use Rattle.program_words.specs.Status.{code};
 
