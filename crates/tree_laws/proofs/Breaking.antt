@@ -12,7 +12,9 @@ use Rattle.byte_fields.specs.Broken.{IsRefused, EachIsRead}
 use Rattle.byte_fields.proofs.Codec.{u64_codec}
 use Rattle.byte_fields.proofs.Breaking.{read_again, refused_there, rule_refused, ruled_refused, first_refused, later_refused, tagged_refused, unknown_kind, second_fails, count_refused, counted_refused, items_refused, each_read}
 use Rattle.tree_values.specs.declared.node.Effect.{Effect}
-use Rattle.tree_values.specs.declared.node.Effect.TheVariants.{Make, Put, Remove, Move}
+use Rattle.tree_values.specs.declared.node.Effect.TheVariants.{Make, Put, Remove, Move, Mode}
+use Rattle.tree_values.specs.declared.format.Format.{Format}
+use Rattle.tree_values.specs.declared.format.Format.TheVariants.{Second}
 use Rattle.tree_values.specs.declared.node.Base.{Base}
 use Rattle.tree_values.specs.declared.node.Row.{Row}
 use Rattle.tree_values.specs.declared.node.Node.TheVariants.{File}
@@ -23,7 +25,7 @@ use Rattle.tree_values.specs.Lists.{IsIn}
 use Rattle.file_paths.specs.Spelling.{path}
 use Rattle.tree_values.specs.Spelling.{effect, base, row, EffectFits, EffectFitsIn, AreBasesOf}
 use Rattle.file_paths.specs.Reading.{path_at, content_at}
-use Rattle.tree_values.specs.Reading.{make_at, put_at, remove_at, move_at, effect_kinds, effect_at, room_after, effects_within, base_at, first_base_at, others_after, bases_at, may_stand, file_at, node_kinds, standing_at, room_beside, next_row_at, with_next, rows_at}
+use Rattle.tree_values.specs.Reading.{make_at, put_at, remove_at, move_at, bit_at, mode_at, effect_kinds, effect_in, effect_at, room_after, effects_within, base_at, first_base_at, others_after, bases_at, may_stand, file_at, node_kinds, standing_at, room_beside, next_row_at, with_next, rows_in}
 use Rattle.tree_laws.specs.Broken.{BrokenEffects, BrokenEffectLists, BrokenBases, IsNext, BrokenRows, BrokenRowLists}
 use Rattle.file_paths.proofs.Parts.{path_codec, length_refused}
 use Rattle.tree_values.proofs.RowsTaken.{rows_passed}
@@ -63,25 +65,39 @@ module _ (room : ℕ) where
   content_refused p text offset is refused =
       later_refused path_at (λ q. one (content_at (min 8388608 room)) (Put q)) (path p) text p offset (read_again path_codec p is) (first_refused (content_at (min 8388608 room)) (λ c. none (Put p c)) text offset refused)
 
+mode_refused : (text : List ℕ) (offset : ℕ) → IsRefused path_at text offset → IsRefused mode_at text offset
+unfolding mode_at
+mode_refused text offset refused = first_refused path_at (λ p. one bit_at (Mode p)) text offset refused
+
+bit_refused : (p : FilePath) (byte : ℕ) → IsPath p → 1 < byte → byte < 2 ^ 8 → IsRefused mode_at (path p ++ byte ∷ []) (length (path p) + 0)
+unfolding mode_at bit_at
+bit_refused p byte is large small =
+    later_refused path_at (λ q. one bit_at (Mode q)) (path p) (byte ∷ []) p 0 (read_again path_codec p is)
+    (first_refused bit_at (λ exec. none (Mode p exec)) (byte ∷ []) 0 (unknown_kind ((0, none false) ∷ (1, none true) ∷ []) byte small ((λ e. omega (arith, large)), ((λ e. omega (arith, large)), tt))))
+
 pub broken_effects : BrokenEffects
-unfolding effect_at
+unfolding effect_in
 broken_effects = record {
-  kind_is_none = λ room kind byte none. unknown_kind (effect_kinds room) kind byte none;
-  path_is_none = λ room text offset refused. (
-    tagged_refused (effect_kinds room) 1 make_at text offset (lit< tt) (λ tag at bytes. refl) (make_refused room text offset refused),
+  kind_is_none = λ format room kind byte none. unknown_kind (effect_kinds format room) kind byte none;
+  path_is_none = λ format room text offset refused. (
+    tagged_refused (effect_kinds format room) 1 make_at text offset (lit< tt) (λ tag at bytes. refl) (make_refused room text offset refused),
     (
-      tagged_refused (effect_kinds room) 2 (put_at room) text offset (lit< tt) (λ tag at bytes. refl) (put_refused room text offset refused),
+      tagged_refused (effect_kinds format room) 2 (put_at room) text offset (lit< tt) (λ tag at bytes. refl) (put_refused room text offset refused),
       (
-        tagged_refused (effect_kinds room) 3 remove_at text offset (lit< tt) (λ tag at bytes. refl) (remove_refused room text offset refused),
-        (tagged_refused (effect_kinds room) 4 move_at text offset (lit< tt) (λ tag at bytes. refl) (move_refused room text offset refused), tt),
+        tagged_refused (effect_kinds format room) 3 remove_at text offset (lit< tt) (λ tag at bytes. refl) (remove_refused room text offset refused),
+        (tagged_refused (effect_kinds format room) 4 move_at text offset (lit< tt) (λ tag at bytes. refl) (move_refused room text offset refused), tt),
       ),
     ),
   );
-  target_is_none = λ room from text offset is refused.
-      tagged_refused (effect_kinds room) 4 move_at (path from ++ text) (length (path from) + offset) (lit< tt) (λ tag at bytes. refl) (target_refused room from text offset is refused);
-  content_is_large = λ room size p is small large.
-      refused_there (effect_at room) (2 ∷ (path p ++ digits w32 size)) (1 + (length (path p) + 0)) (1 + length (path p)) (omega arith)
-      (tagged_refused (effect_kinds room) 2 (put_at room) (path p ++ digits w32 size) (length (path p) + 0) (lit< tt) (λ tag at bytes. refl) (content_refused room p (digits w32 size) 0 is (large_refused room size small large)));
+  target_is_none = λ format room from text offset is refused.
+      tagged_refused (effect_kinds format room) 4 move_at (path from ++ text) (length (path from) + offset) (lit< tt) (λ tag at bytes. refl) (target_refused room from text offset is refused);
+  content_is_large = λ format room size p is small large.
+      refused_there (effect_in format room) (2 ∷ (path p ++ digits w32 size)) (1 + (length (path p) + 0)) (1 + length (path p)) (omega arith)
+      (tagged_refused (effect_kinds format room) 2 (put_at room) (path p ++ digits w32 size) (length (path p) + 0) (lit< tt) (λ tag at bytes. refl) (content_refused room p (digits w32 size) 0 is (large_refused room size small large)));
+  mode_path_is_none = λ room text offset refused. tagged_refused (effect_kinds Second room) 5 mode_at text offset (lit< tt) (λ tag at bytes. refl) (mode_refused text offset refused);
+  bit_is_none = λ room p byte is large small.
+      refused_there (effect_in Second room) (5 ∷ (path p ++ byte ∷ [])) (1 + (length (path p) + 0)) (1 + length (path p)) (omega arith)
+      (tagged_refused (effect_kinds Second room) 5 mode_at (path p ++ byte ∷ []) (length (path p) + 0) (lit< tt) (λ tag at bytes. refl) (bit_refused p byte is large small));
 }
 
 room_left : (room : ℕ) (es : List Effect) → passed room_after room es ≡ room - contents_size es
@@ -110,7 +126,7 @@ broken_effect_lists = record {
   effect_is_refused = effect_refused;
   contents_are_large = λ most room count before p size some few small fits le is fits_size large.
       effect_refused most room count before (2 ∷ (path p ++ digits w32 size)) (1 + length (path p)) some few small fits le
-      (broken_effects.content_is_large (room - contents_size before) size p is fits_size (inr (omega arith)));
+      (broken_effects.content_is_large Second (room - contents_size before) size p is fits_size (inr (omega arith)));
 }
 
 -- ---- bases
@@ -174,68 +190,68 @@ not_low o differ = by (is_lt o) refl
     by false e = refl
     by true e = absurd (differ (is_less o e))
 
-module _ (before : Volume) where
-  path_refused : (text : List ℕ) (offset : ℕ) → IsRefused (ruled (may_stand before) path_at) text offset → IsRefused (next_row_at before) text offset
+module _ (format : Format) (before : Volume) where
+  path_refused : (text : List ℕ) (offset : ℕ) → IsRefused (ruled (may_stand before) path_at) text offset → IsRefused (next_row_at format before) text offset
   unfolding next_row_at
   path_refused text offset refused =
       first_refused (ruled (may_stand before) path_at)
-      (λ p. two (ruled (leb 1) (number_at w64)) (λ _. standing_at (is_folder before (folder_of p)) (room_beside before)) (λ v n. record { path = p; version = v; node = n })) text offset refused
+      (λ p. two (ruled (leb 1) (number_at w64)) (λ _. standing_at format (is_folder before (folder_of p)) (room_beside before)) (λ v n. record { path = p; version = v; node = n })) text offset refused
 
-  no_place : (p : FilePath) → IsPath p → may_stand before p ≡ false → IsRefused (next_row_at before) (path p) 0
+  no_place : (p : FilePath) → IsPath p → may_stand before p ≡ false → IsRefused (next_row_at format before) (path p) 0
   no_place p is broken = path_refused (path p) 0 (rule_refused path_at (may_stand before) (path p) p (read_again path_codec p is) broken)
 
-  version_refused : (p : FilePath) (text : List ℕ) (offset : ℕ) → IsPath p → may_stand before p ≡ true → IsRefused (ruled (leb 1) (number_at w64)) text offset → IsRefused (next_row_at before) (path p ++ text) (length (path p) + offset)
+  version_refused : (p : FilePath) (text : List ℕ) (offset : ℕ) → IsPath p → may_stand before p ≡ true → IsRefused (ruled (leb 1) (number_at w64)) text offset → IsRefused (next_row_at format before) (path p ++ text) (length (path p) + offset)
   unfolding next_row_at
   version_refused p text offset is stands refused =
       later_refused (ruled (may_stand before) path_at)
-      (λ q. two (ruled (leb 1) (number_at w64)) (λ _. standing_at (is_folder before (folder_of q)) (room_beside before)) (λ v n. record { path = q; version = v; node = n })) (path p) text p offset
-      (read_again (path_part before) p (is, stands))
-      (first_refused (ruled (leb 1) (number_at w64)) (λ v. one (standing_at (is_folder before (folder_of p)) (room_beside before)) (λ n. record { path = p; version = v; node = n })) text offset refused)
+      (λ q. two (ruled (leb 1) (number_at w64)) (λ _. standing_at format (is_folder before (folder_of q)) (room_beside before)) (λ v n. record { path = q; version = v; node = n })) (path p) text p offset
+      (read_again (path_part format before) p (is, stands))
+      (first_refused (ruled (leb 1) (number_at w64)) (λ v. one (standing_at format (is_folder before (folder_of p)) (room_beside before)) (λ n. record { path = p; version = v; node = n })) text offset refused)
 
-  node_refused : (p : FilePath) (version : ℕ) (text : List ℕ) (offset : ℕ) → IsNext before p version → IsRefused (standing_at (is_folder before (folder_of p)) (room_beside before)) text offset
-      → IsRefused (next_row_at before) (path p ++ (digits w64 version ++ text)) (length (path p) + (length (digits w64 version) + offset))
+  node_refused : (p : FilePath) (version : ℕ) (text : List ℕ) (offset : ℕ) → IsNext before p version → IsRefused (standing_at format (is_folder before (folder_of p)) (room_beside before)) text offset
+      → IsRefused (next_row_at format before) (path p ++ (digits w64 version ++ text)) (length (path p) + (length (digits w64 version) + offset))
   unfolding next_row_at
   node_refused p version text offset next refused =
       later_refused (ruled (may_stand before) path_at)
-      (λ q. two (ruled (leb 1) (number_at w64)) (λ _. standing_at (is_folder before (folder_of q)) (room_beside before)) (λ v n. record { path = q; version = v; node = n })) (path p) (digits w64 version ++ text) p (length (digits w64 version) + offset)
-      (read_again (path_part before) p (next.is_path, next.stands))
-      (later_refused (ruled (leb 1) (number_at w64)) (λ v. one (standing_at (is_folder before (folder_of p)) (room_beside before)) (λ n. record { path = p; version = v; node = n })) (digits w64 version) text version offset
-      (read_again (version_part before) version (next.fits, le-leb 1 version next.touched))
-      (first_refused (standing_at (is_folder before (folder_of p)) (room_beside before)) (λ n. none (record { path = p; version = version; node = n })) text offset refused))
+      (λ q. two (ruled (leb 1) (number_at w64)) (λ _. standing_at format (is_folder before (folder_of q)) (room_beside before)) (λ v n. record { path = q; version = v; node = n })) (path p) (digits w64 version ++ text) p (length (digits w64 version) + offset)
+      (read_again (path_part format before) p (next.is_path, next.stands))
+      (later_refused (ruled (leb 1) (number_at w64)) (λ v. one (standing_at format (is_folder before (folder_of p)) (room_beside before)) (λ n. record { path = p; version = v; node = n })) (digits w64 version) text version offset
+      (read_again (version_part format before) version (next.fits, le-leb 1 version next.touched))
+      (first_refused (standing_at format (is_folder before (folder_of p)) (room_beside before)) (λ n. none (record { path = p; version = version; node = n })) text offset refused))
 
-node_kind_refused : (in_folder : Bool) (room kind : ℕ) → kind < 2 ^ 8 → AllByRecursion (λ known. kind ≢ known.0) (node_kinds in_folder room) → IsRefused (standing_at in_folder room) (kind ∷ []) 0
+node_kind_refused : (format : Format) (in_folder : Bool) (room kind : ℕ) → kind < 2 ^ 8 → AllByRecursion (λ known. kind ≢ known.0) (node_kinds format in_folder room) → IsRefused (standing_at format in_folder room) (kind ∷ []) 0
 unfolding standing_at
-node_kind_refused in_folder room kind byte none = unknown_kind (node_kinds in_folder room) kind byte none
+node_kind_refused format in_folder room kind byte none = unknown_kind (node_kinds format in_folder room) kind byte none
 
-file_refused : (room size : ℕ) → size < 2 ^ 32 → (8388608 < size) ⊎ (room < size) → IsRefused (standing_at true room) (2 ∷ digits w32 size) (1 + 0)
+file_refused : (format : Format) (room size : ℕ) → size < 2 ^ 32 → (8388608 < size) ⊎ (room < size) → IsRefused (standing_at format true room) (2 ∷ digits w32 size) (1 + 0)
 unfolding standing_at file_at
-file_refused room size small large =
-    tagged_refused (node_kinds true room) 2 (file_at room) (digits w32 size) 0 (lit< tt) (λ tag at bytes. refl)
-    (first_refused (content_at (min 8388608 room)) (λ c. none (Some (File c))) (digits w32 size) 0 (large_refused room size small large))
+file_refused format room size small large =
+    tagged_refused (node_kinds format true room) 2 (file_at false room) (digits w32 size) 0 (lit< tt) (λ tag at bytes. refl)
+    (first_refused (content_at (min 8388608 room)) (λ c. none (Some (File c false))) (digits w32 size) 0 (large_refused room size small large))
 
-node_there : (before : Volume) (p : FilePath) (version kind : ℕ) → IsNext before p version → kind < 2 ^ 8 → AllByRecursion (λ known. kind ≢ known.0) (node_kinds (is_folder before (folder_of p)) (room_beside before))
-    → IsRefused (next_row_at before) (path p ++ (digits w64 version ++ kind ∷ [])) (length (path p) + 8)
-node_there before p version kind next byte none =
-    refused_there (next_row_at before) (path p ++ (digits w64 version ++ kind ∷ [])) (length (path p) + (length (digits w64 version) + 0)) (length (path p) + 8) (omega (arith, eight_bytes version))
-    (node_refused before p version (kind ∷ []) 0 next (node_kind_refused (is_folder before (folder_of p)) (room_beside before) kind byte none))
+node_there : (format : Format) (before : Volume) (p : FilePath) (version kind : ℕ) → IsNext before p version → kind < 2 ^ 8 → AllByRecursion (λ known. kind ≢ known.0) (node_kinds format (is_folder before (folder_of p)) (room_beside before))
+    → IsRefused (next_row_at format before) (path p ++ (digits w64 version ++ kind ∷ [])) (length (path p) + 8)
+node_there format before p version kind next byte none =
+    refused_there (next_row_at format before) (path p ++ (digits w64 version ++ kind ∷ [])) (length (path p) + (length (digits w64 version) + 0)) (length (path p) + 8) (omega (arith, eight_bytes version))
+    (node_refused format before p version (kind ∷ []) 0 next (node_kind_refused format (is_folder before (folder_of p)) (room_beside before) kind byte none))
 
 pub broken_rows : BrokenRows
 broken_rows = record {
-  path_is_none = λ before text offset refused. path_refused before text offset (ruled_refused path_at (may_stand before) text offset refused);
-  path_is_root = λ before. no_place before [] (record { named = refl; shallow = omega arith; short = omega arith }) refl;
-  path_is_not_above = λ before r p among is differ.
-      no_place before p is
+  path_is_none = λ format before text offset refused. path_refused format before text offset (ruled_refused path_at (may_stand before) text offset refused);
+  path_is_root = λ format before. no_place format before [] (record { named = refl; shallow = omega arith; short = omega arith }) refl;
+  path_is_not_above = λ format before r p among is differ.
+      no_place format before p is
       (second_fails (not (is_root p)) (list_all (λ other. is_lt (path_cmp other.path p)) before)
       (some_fails (λ (other : Row). is_lt (path_cmp other.path p)) r before among (not_low (path_cmp r.path p) differ)));
-  version_is_0 = λ before p is stands.
-      refused_there (next_row_at before) (path p ++ digits w64 0) (length (path p) + 0) (length (path p)) (omega arith)
-      (version_refused before p (digits w64 0) 0 is stands (rule_refused (number_at w64) (leb 1) (digits w64 0) 0 (read_again u64_codec 0 (lit< tt)) refl));
+  version_is_0 = λ format before p is stands.
+      refused_there (next_row_at format before) (path p ++ digits w64 0) (length (path p) + 0) (length (path p)) (omega arith)
+      (version_refused format before p (digits w64 0) 0 is stands (rule_refused (number_at w64) (leb 1) (digits w64 0) 0 (read_again u64_codec 0 (lit< tt)) refl));
   kind_is_none = node_there;
-  parent_is_no_folder = λ before p version kind next orphan some byte. node_there before p version kind next byte (rw orphan (λ e. omega (arith, some), tt));
-  content_is_large = λ before p version size next folder tree small large.
-      refused_there (next_row_at before) (path p ++ (digits w64 version ++ (2 ∷ digits w32 size))) (length (path p) + (length (digits w64 version) + (1 + 0))) (length (path p) + 9) (omega (arith, eight_bytes version))
-      (node_refused before p version (2 ∷ digits w32 size) (1 + 0) next
-      (subst (λ (in_folder : Bool). IsRefused (standing_at in_folder (room_beside before)) (2 ∷ digits w32 size) (1 + 0)) (sym folder) (file_refused (room_beside before) size small (past before size tree large))));
+  parent_is_no_folder = λ format before p version kind next orphan some byte. node_there format before p version kind next byte (rw orphan (λ e. omega (arith, some), tt));
+  content_is_large = λ format before p version size next folder tree small large.
+      refused_there (next_row_at format before) (path p ++ (digits w64 version ++ (2 ∷ digits w32 size))) (length (path p) + (length (digits w64 version) + (1 + 0))) (length (path p) + 9) (omega (arith, eight_bytes version))
+      (node_refused format before p version (2 ∷ digits w32 size) (1 + 0) next
+      (subst (λ (in_folder : Bool). IsRefused (standing_at format in_folder (room_beside before)) (2 ∷ digits w32 size) (1 + 0)) (sym folder) (file_refused format (room_beside before) size small (past before size tree large))));
 }
   where
     past : (before : Volume) (size : ℕ) → IsTree before → (8388608 < size) ⊎ (33554432 < total_size before + size) → (8388608 < size) ⊎ (room_beside before < size)
@@ -243,11 +259,11 @@ broken_rows = record {
     past before size tree (inr h) = inr (omega (arith, tree.small))
 
 pub broken_row_lists : BrokenRowLists
-unfolding rows_at
+unfolding rows_in
 broken_row_lists = record {
-  count_is_large = λ count large small. count_refused (λ n. leb n 16384) (λ n. each_at next_row_at with_next n []) count small (le_fails count 16384 large);
-  row_is_refused = λ before count text offset tree some few refused.
-      counted_refused (λ n. leb n 16384) (λ n. each_at next_row_at with_next n []) count (omega arith) (le-leb count 16384 few) (flat_map row before ++ text) (length (flat_map row before) + offset)
-      (items_refused next_row_at with_next row [] before count text offset (each_read next_row_at with_next row NextFits next_row_codec [] before (rows_again [] before tree)) some
-      (subst (λ (rows : Volume). IsRefused (next_row_at rows) text offset) (sym (rows_passed [] before)) refused));
+  count_is_large = λ format count large small. count_refused (λ n. leb n 16384) (λ n. each_at (next_row_at format) with_next n []) count small (le_fails count 16384 large);
+  row_is_refused = λ format before count text offset tree known some few refused.
+      counted_refused (λ n. leb n 16384) (λ n. each_at (next_row_at format) with_next n []) count (omega arith) (le-leb count 16384 few) (flat_map row before ++ text) (length (flat_map row before) + offset)
+      (items_refused (next_row_at format) with_next row [] before count text offset (each_read (next_row_at format) with_next row (NextFits format) (next_row_codec format) [] before (rows_again format [] before tree known)) some
+      (subst (λ (rows : Volume). IsRefused (next_row_at format rows) text offset) (sym (rows_passed [] before)) refused));
 }

@@ -6,7 +6,7 @@ use Rattle.std.proofs.lemmas.List.Concat.{flat_map-cons}
 use Rattle.byte_fields.proofs.Facts.{filter_length}
 use Rattle.byte_fields.specs.Codec.{IsCodec}
 use Rattle.tree_values.specs.declared.node.Effect.{Effect}
-use Rattle.tree_values.specs.declared.node.Effect.TheVariants.{Make, Put, Remove, Move}
+use Rattle.tree_values.specs.declared.node.Effect.TheVariants.{Make, Put, Remove, Move, Mode}
 use Rattle.tree_values.specs.declared.node.Base.{Base}
 use Rattle.file_paths.specs.Path.{FilePath, is_same_path}
 use Rattle.tree_values.specs.Tree.{touched_paths}
@@ -24,6 +24,7 @@ touches_length (Make p) = omega arith
 touches_length (Put p c) = omega arith
 touches_length (Remove p) = omega arith
 touches_length (Move p q) = omega arith
+touches_length (Mode p exec) = omega arith
 
 all_touches_length : (es : List Effect) → length (touched_all es) ≤ 2 * length es
 all_touches_length [] = omega arith

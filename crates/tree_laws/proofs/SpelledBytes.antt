@@ -1,5 +1,5 @@
 -- The spellings of the parts are bytes.
-use Rattle.std.proofs.Common.{ℕ, List, [], ◌∷◌, ◌++◌, length, Option, Some, None, arith}
+use Rattle.std.proofs.Common.{ℕ, Bool, true, false, List, [], ◌∷◌, ◌++◌, length, Option, Some, None, arith}
 use Rattle.std.specs.Int.{w32, w64}
 use Rattle.std.specs.List.{flat_map}
 use Rattle.byte_fields.specs.Field.{digits}
@@ -9,7 +9,7 @@ use Rattle.file_paths.specs.Path.{FilePath, IsPath}
 use Rattle.file_paths.specs.Spelling.{path, content}
 use Rattle.file_paths.proofs.SpelledBytes.{path_is_bytes, content_is_bytes}
 use Rattle.tree_values.specs.declared.node.Effect.{Effect}
-use Rattle.tree_values.specs.declared.node.Effect.TheVariants.{Make, Put, Remove, Move}
+use Rattle.tree_values.specs.declared.node.Effect.TheVariants.{Make, Put, Remove, Move, Mode}
 use Rattle.tree_values.specs.declared.node.Base.{Base}
 use Rattle.tree_values.specs.declared.node.Row.{Row}
 use Rattle.tree_values.specs.declared.node.Node.{Node}
@@ -17,11 +17,15 @@ use Rattle.tree_values.specs.declared.node.Node.TheVariants.{Folder, File}
 use Rattle.tree_values.specs.declared.node.TreeError.{TreeError}
 use Rattle.tree_values.specs.declared.node.TreeError.TheVariants.{RootFixed, NoParent, Exists, Missing, IsFolder, NotEmpty, RowsFull, FileTooLarge, TreeFull, VersionTop, Memory}
 use Rattle.tree_values.specs.Tree.{Volume, IsRow, IsTree, file_bytes}
-use Rattle.tree_values.specs.Spelling.{effect, effects, base, bases, node, row, rows, EffectFits, EffectsFitWithin, BaseFits, AreBasesOf}
+use Rattle.tree_values.specs.Spelling.{bit, effect, effects, base, bases, node, row, rows, EffectFits, EffectsFitWithin, BaseFits, AreBasesOf}
 use Rattle.tree_values.specs.Fault.{tree_fault, FaultFits}
 
 pair_is_bytes : (p q : FilePath) → IsPath p → IsPath q → IsBytes (path p ++ path q)
 pair_is_bytes p q is is' = bytes_appended (path p) (path q) (path_is_bytes p is) (path_is_bytes q is')
+
+pub bit_is_bytes : (exec : Bool) → IsBytes (bit exec)
+bit_is_bytes false = byte_before 0 [] (omega arith) no_bytes
+bit_is_bytes true = byte_before 1 [] (omega arith) no_bytes
 
 effect_is_bytes : (e : Effect) → EffectFits e → IsBytes (effect e)
 effect_is_bytes (Make p) fits = byte_before 1 (path p) (omega arith) (path_is_bytes p fits.0)
@@ -29,6 +33,7 @@ effect_is_bytes (Put p c) fits =
     byte_before 2 (path p ++ content c) (omega arith) (bytes_appended (path p) (content c) (path_is_bytes p fits.0.0) (content_is_bytes c fits.0.1))
 effect_is_bytes (Remove p) fits = byte_before 3 (path p) (omega arith) (path_is_bytes p fits.0)
 effect_is_bytes (Move p q) fits = byte_before 4 (path p ++ path q) (omega arith) (pair_is_bytes p q fits.0.0 fits.0.1)
+effect_is_bytes (Mode p exec) fits = byte_before 5 (path p ++ bit exec) (omega arith) (bytes_appended (path p) (bit exec) (path_is_bytes p fits.0) (bit_is_bytes exec))
 
 pub effects_are_bytes : (most room : ℕ) (es : List Effect) → EffectsFitWithin most room es → IsBytes (effects es)
 effects_are_bytes most room es fits =
@@ -44,7 +49,8 @@ bases_are_bytes touched bs are =
 node_is_bytes : (n : Option Node) → IsBytes (file_bytes n) → IsBytes (node n)
 node_is_bytes None fits = byte_before 0 [] (omega arith) no_bytes
 node_is_bytes (Some Folder) fits = byte_before 1 [] (omega arith) no_bytes
-node_is_bytes (Some (File c)) fits = byte_before 2 (content c) (omega arith) (content_is_bytes c fits)
+node_is_bytes (Some (File c false)) fits = byte_before 2 (content c) (omega arith) (content_is_bytes c fits)
+node_is_bytes (Some (File c true)) fits = byte_before 3 (content c) (omega arith) (content_is_bytes c fits)
 
 row_is_bytes : (r : Row) → IsRow r → IsBytes (row r)
 row_is_bytes r is =

@@ -1,11 +1,11 @@
 -- What holds of trees and effects, in their own words.
-use Rattle.std.specs.Prelude.{◌≡◌, ◌⊎◌, ℕ, ◌+◌, ◌≤◌, false, List, [], ◌∷◌, ◌++◌, length, Some, None, Ok, Err}
+use Rattle.std.specs.Prelude.{◌≡◌, ◌⊎◌, ℕ, ◌+◌, ◌≤◌, Bool, false, List, [], ◌∷◌, ◌++◌, length, Some, None, Ok, Err}
 use Rattle.file_paths.specs.Path.{FilePath}
 use Rattle.tree_values.specs.declared.node.Node.TheVariants.{Folder}
 use Rattle.tree_values.specs.declared.node.Effect.{Effect}
-use Rattle.tree_values.specs.declared.node.Effect.TheVariants.{Make, Put, Remove, Move}
+use Rattle.tree_values.specs.declared.node.Effect.TheVariants.{Make, Put, Remove, Move, Mode}
 use Rattle.tree_values.specs.declared.node.TreeError.{TreeError}
-use Rattle.tree_values.specs.Tree.{Volume, IsTree, IsLegalEffect, version_at, node_at, is_folder, children, with_content, apply}
+use Rattle.tree_values.specs.Tree.{Volume, IsTree, IsLegalEffect, version_at, node_at, is_folder, children, is_exec, with_content, with_mode, apply}
 use Rattle.tree_values.specs.Tree.{touched_paths, kept_rows, undone}
 use Rattle.tree_values.specs.Effects.{apply_all, changed_all, touched_all, distinct}
 use Rattle.tree_values.specs.Lists.{NoneTwice, IsIn}
@@ -42,6 +42,16 @@ RemovingLeavesNothing = (path : FilePath) (rows new : Volume) → apply (Remove 
 abbrev pub MovingCarriesTheNode : Type 0
 MovingCarriesTheNode = (from to : FilePath) (rows new : Volume) → apply (Move from to) rows ≡ Ok new
     → (node_at new to ≡ node_at rows from) × (node_at new from ≡ None)
+
+-- a file that may be run or not from now on stands there with its content, and what stands there is no other
+abbrev pub ModesSetTheBit : Type 0
+ModesSetTheBit = (path : FilePath) (exec : Bool) (rows new : Volume) → apply (Mode path exec) rows ≡ Ok new
+    → node_at new path ≡ with_mode exec (node_at rows path)
+
+-- what is written to a file leaves whether it may be run
+abbrev pub PuttingKeepsTheBit : Type 0
+PuttingKeepsTheBit = (path : FilePath) (content : List ℕ) (rows new : Volume) → apply (Put path content) rows ≡ Ok new
+    → is_exec (node_at new path) ≡ is_exec (node_at rows path)
 
 -- ---- trees
 

@@ -4,7 +4,7 @@ ghost use Rattle.tree_laws.specs.Laws.{RemovingLeavesNothing, MovingCarriesTheNo
 ghost use Rattle.tree_laws.specs.Laws.{UndoingRestores, FoldersAloneHaveChildren, TheRootHasNoNode, ListsThatApplyChange};
 ghost use Rattle.tree_laws.specs.Laws.{TheFirstRefusalStops, OnlyTheFirstRefusalStops, DistinctPathsDiffer, DistinctPathsAreTheSame};
 ghost use Rattle.tree_laws.specs.Laws.{DistinctPathsKeepTheirOrder, BehindIsAnOrder, EffectsLeadForward, EffectsKeepBehind};
-ghost use Rattle.tree_laws.specs.Laws.{SomePathIsAheadOrNone, NoneAheadIsTheSame, RefusedWhereAhead};
+ghost use Rattle.tree_laws.specs.Laws.{SomePathIsAheadOrNone, NoneAheadIsTheSame, RefusedWhereAhead, ModesSetTheBit, PuttingKeepsTheBit};
 
 /// States what an applied effect does to each path, touched or not.
 pub fn effects_change_what_they_touch()
@@ -14,6 +14,8 @@ pub fn effects_change_what_they_touch()
     ensures put { PuttingGivesAFile }
     ensures removed { RemovingLeavesNothing }
     ensures moved { MovingCarriesTheNode }
+    ensures mode { ModesSetTheBit }
+    ensures bit { PuttingKeepsTheBit }
 {}
 
 /// States that versions and nodes are all that a tree is.

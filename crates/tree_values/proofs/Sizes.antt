@@ -1,5 +1,5 @@
 -- How long spellings are, and at most.
-use Rattle.std.proofs.Common.{◌≡◌, ℕ, ◌+◌, ◌*◌, ◌≤◌, List, [], ◌∷◌, ◌++◌, length, Option, Some, None, ap, arith, length-append}
+use Rattle.std.proofs.Common.{◌≡◌, ℕ, ◌+◌, ◌*◌, ◌≤◌, Bool, true, false, List, [], ◌∷◌, ◌++◌, length, Option, Some, None, refl, ap, arith, length-append}
 use Rattle.std.specs.List.{flat_map, sum_by, AllByRecursion}
 use Rattle.std.specs.Int.{w32, w64}
 use Rattle.std.proofs.lemmas.List.Concat.{flat_map-cons}
@@ -8,14 +8,14 @@ use Rattle.file_paths.specs.Path.{FilePath}
 use Rattle.tree_values.specs.Tree.{Volume, IsRow, IsTree, node_size, total_size}
 use Rattle.tree_values.specs.Effects.{content_size}
 use Rattle.tree_values.specs.declared.node.Effect.{Effect}
-use Rattle.tree_values.specs.declared.node.Effect.TheVariants.{Make, Put, Remove, Move}
+use Rattle.tree_values.specs.declared.node.Effect.TheVariants.{Make, Put, Remove, Move, Mode}
 use Rattle.tree_values.specs.declared.node.Base.{Base}
 use Rattle.tree_values.specs.declared.node.Row.{Row}
 use Rattle.tree_values.specs.declared.node.Node.{Node}
 use Rattle.tree_values.specs.declared.node.Node.TheVariants.{Folder, File}
 use Rattle.byte_fields.specs.Field.{digits}
 use Rattle.file_paths.specs.Spelling.{path, content}
-use Rattle.tree_values.specs.Spelling.{effect, effects, base, bases, node, row, rows, EffectFits, EffectsFit, BaseFits}
+use Rattle.tree_values.specs.Spelling.{bit, effect, effects, base, bases, node, row, rows, EffectFits, EffectsFit, BaseFits}
 use Rattle.byte_fields.proofs.Facts.{four_bytes, eight_bytes}
 use Rattle.file_paths.proofs.Sizes.{content_length, path_size}
 
@@ -27,6 +27,13 @@ base_length b = omega (arith, length-append (path b.path) (digits w64 b.version)
 pub put_length : (p : FilePath) (c : List ℕ) → length (path p ++ content c) ≡ length (path p) + (4 + length c)
 put_length p c = omega (arith, length-append (path p) (content c), content_length c)
 
+pub bit_length : (exec : Bool) → length (bit exec) ≡ 1
+bit_length false = refl
+bit_length true = refl
+
+pub mode_length : (p : FilePath) (exec : Bool) → length (path p ++ bit exec) ≡ length (path p) + 1
+mode_length p exec = omega (arith, length-append (path p) (bit exec), bit_length exec)
+
 -- ---- at most
 
 pub effect_size : (e : Effect) → EffectFits e → length (effect e) ≤ 2053 + content_size e
@@ -34,6 +41,7 @@ effect_size (Make p) fits = omega (arith, path_size p fits.0)
 effect_size (Put p c) fits = omega (arith, put_length p c, path_size p fits.0.0)
 effect_size (Remove p) fits = omega (arith, path_size p fits.0)
 effect_size (Move p q) fits = omega (arith, length-append (path p) (path q), path_size p fits.0.0, path_size q fits.0.1)
+effect_size (Mode p exec) fits = omega (arith, mode_length p exec, path_size p fits.0)
 
 all_effects_size : (es : List Effect) → AllByRecursion EffectFits es → length (flat_map effect es) ≤ 2053 * length es + sum_by content_size es
 all_effects_size [] fits = omega arith
@@ -58,7 +66,8 @@ bases_size bs fits = omega (arith, length-append (digits w32 (length bs)) (flat_
 node_length : (n : Option Node) → length (node n) ≤ 5 + node_size n
 node_length None = omega arith
 node_length (Some Folder) = omega arith
-node_length (Some (File c)) = omega (arith, content_length c)
+node_length (Some (File c false)) = omega (arith, content_length c)
+node_length (Some (File c true)) = omega (arith, content_length c)
 
 pub row_size : (r : Row) → IsRow r → length (row r) ≤ 1039 + node_size r.node
 row_size r is =

@@ -4,7 +4,7 @@ use Rattle.std.specs.List.{flat_map, sum_by}
 use Rattle.file_paths.specs.Path.{FilePath, is_same_path}
 use Rattle.tree_values.specs.declared.node.Base.{Base}
 use Rattle.tree_values.specs.declared.node.Effect.{Effect}
-use Rattle.tree_values.specs.declared.node.Effect.TheVariants.{Make, Put, Remove, Move}
+use Rattle.tree_values.specs.declared.node.Effect.TheVariants.{Make, Put, Remove, Move, Mode}
 use Rattle.tree_values.specs.declared.node.TreeError.{TreeError}
 use Rattle.tree_values.specs.Tree.{Volume, version_at, changed, apply, touched_paths}
 
@@ -54,6 +54,7 @@ content_size (Make path) = 0
 content_size (Put path content) = length content
 content_size (Remove path) = 0
 content_size (Move from to) = 0
+content_size (Mode path exec) = 0
 
 -- the bytes of all contents that the effects write
 abbrev pub contents_size : List Effect → ℕ

@@ -3,7 +3,7 @@ use Rattle.std.specs.Prelude.{ℕ, List, [], ◌∷◌, ◌++◌, Option, Some, 
 use Rattle.std.specs.List.{flat_map}
 use Rattle.file_paths.specs.Fields.{path_fields, content_fields}
 use Rattle.tree_values.specs.declared.node.Effect.{Effect}
-use Rattle.tree_values.specs.declared.node.Effect.TheVariants.{Make, Put, Remove, Move}
+use Rattle.tree_values.specs.declared.node.Effect.TheVariants.{Make, Put, Remove, Move, Mode}
 use Rattle.tree_values.specs.declared.node.Base.{Base}
 use Rattle.tree_values.specs.declared.node.Row.{Row}
 use Rattle.tree_values.specs.declared.node.Node.{Node}
@@ -15,6 +15,7 @@ effect_fields (Make p) = 1 ∷ path_fields p
 effect_fields (Put p c) = 1 ∷ (path_fields p ++ content_fields c)
 effect_fields (Remove p) = 1 ∷ path_fields p
 effect_fields (Move p q) = 1 ∷ (path_fields p ++ path_fields q)
+effect_fields (Mode p exec) = 1 ∷ (path_fields p ++ 1 ∷ [])
 
 -- the count, and the fields of the effects
 abbrev pub effects_fields : List Effect → List ℕ
@@ -32,7 +33,7 @@ bases_fields bs = 4 ∷ flat_map base_fields bs
 abbrev pub node_fields : Option Node → List ℕ
 node_fields None = 1 ∷ []
 node_fields (Some Folder) = 1 ∷ []
-node_fields (Some (File c)) = 1 ∷ content_fields c
+node_fields (Some (File c exec)) = 1 ∷ content_fields c
 
 -- the path's fields, the version, and the node's fields
 abbrev pub row_fields : Row → List ℕ

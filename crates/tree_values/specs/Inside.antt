@@ -9,7 +9,9 @@ use Rattle.file_paths.specs.Path.{FilePath, path_cmp, is_same_path, folder_of}
 use Rattle.file_paths.specs.Limits.{max_file}
 use Rattle.tree_values.specs.Limits.{max_rows, max_files}
 use Rattle.tree_values.specs.declared.node.Row.{Row}
-use Rattle.tree_values.specs.Reading.{room_beside}
+use Rattle.byte_fields.specs.Field.{Reader}
+use Rattle.tree_values.specs.declared.format.Format.{Format}
+use Rattle.tree_values.specs.Reading.{room_beside, next_row_at, with_next}
 use Rattle.tree_values.specs.Tree.{Volume, AreInOrder, row_at, rows_below, rows_above, is_root, is_folder, node_size, total_size}
 
 -- whether it is the row of the path
@@ -47,3 +49,16 @@ add_new known path = cond (list_any (pointwise bytes_eq path) known) known (know
 pub record LeaveRoom (rows : Volume) (room : ℕ) : Type 0 where
   pub in_order : AreInOrder rows
   pub left : room ≡ room_beside rows
+
+-- rows, and the format of those that follow
+pub record Begun : Type 0 where
+  pub format : Format
+  pub rows : Volume
+
+-- the row that follows
+abbrev pub begun_row_at : Begun → Reader Row
+begun_row_at begun = next_row_at begun.format begun.rows
+
+-- the rows with one more behind them
+abbrev pub with_begun : Begun → Row → Begun
+with_begun begun row = record { format = begun.format; rows = with_next begun.rows row }

@@ -11,8 +11,10 @@ use Rattle.file_paths.specs.Reading.{path_at, content_at}
 use Rattle.tree_values.specs.Limits.{max_rows, max_files, max_effects}
 use Rattle.tree_values.specs.Tree.{Volume, is_root, is_folder, total_size}
 use Rattle.tree_values.specs.Effects.{content_size}
+use Rattle.tree_values.specs.declared.format.Format.{Format}
+use Rattle.tree_values.specs.declared.format.Format.TheVariants.{First, Second}
 use Rattle.tree_values.specs.declared.node.Effect.{Effect}
-use Rattle.tree_values.specs.declared.node.Effect.TheVariants.{Make, Put, Remove, Move}
+use Rattle.tree_values.specs.declared.node.Effect.TheVariants.{Make, Put, Remove, Move, Mode}
 use Rattle.tree_values.specs.declared.node.Base.{Base}
 use Rattle.tree_values.specs.declared.node.Row.{Row}
 use Rattle.tree_values.specs.declared.node.Node.{Node}
@@ -46,13 +48,33 @@ move_at bytes at = do
   to ← path_at bytes from.1
   Ok (Move from.0 to.0, to.1)
 
--- each kind of effect with what follows it
-abbrev pub effect_kinds : ℕ → List (ℕ × Reader Effect)
-effect_kinds room = (1, make_at) ∷ (2, put_at room) ∷ (3, remove_at) ∷ (4, move_at) ∷ []
+-- a yes or no
+unfoldable pub bit_at : Reader Bool
+bit_at = tagged_at ((0, none false) ∷ (1, none true) ∷ [])
+
+-- which file may be run or not, and which of both
+unfoldable pub mode_at : Reader Effect
+mode_at bytes at = do
+  path ← path_at bytes at
+  exec ← bit_at bytes path.1
+  Ok (Mode path.0 exec.0, exec.1)
+
+-- the kinds of effects that the first format has not
+abbrev pub later_effect_kinds : Format → List (ℕ × Reader Effect)
+later_effect_kinds First = []
+later_effect_kinds Second = (5, mode_at) ∷ []
+
+-- each kind of effect that a format has, with what follows it
+abbrev pub effect_kinds : Format → ℕ → List (ℕ × Reader Effect)
+effect_kinds format room = (1, make_at) ∷ (2, put_at room) ∷ (3, remove_at) ∷ (4, move_at) ∷ later_effect_kinds format
+
+-- an effect of a format where there is still room for so many bytes of content
+unfoldable pub effect_in : Format → ℕ → Reader Effect
+effect_in format room = tagged_at (effect_kinds format room)
 
 -- an effect where there is still room for so many bytes of content
-unfoldable pub effect_at : ℕ → Reader Effect
-effect_at room = tagged_at (effect_kinds room)
+abbrev pub effect_at : ℕ → Reader Effect
+effect_at = effect_in Second
 
 -- the room that an effect leaves
 abbrev pub room_after : ℕ → Effect → ℕ
@@ -99,39 +121,48 @@ bases_at touched bytes at = do
 abbrev pub may_stand : Volume → FilePath → Bool
 may_stand rows path = not (is_root path) && list_all (λ before. is_lt (path_cmp before.path path)) rows
 
--- a file where there is still room for so many bytes
-unfoldable pub file_at : ℕ → Reader (Option Node)
-file_at room bytes at = do
+-- a file where there is still room for so many bytes, which may be run or not
+unfoldable pub file_at : Bool → ℕ → Reader (Option Node)
+file_at exec room bytes at = do
   content ← content_at (min max_file room) bytes at
-  Ok (Some (File content.0), content.1)
+  Ok (Some (File content.0 exec), content.1)
 
--- what may stand at a path: anything where its parent is a folder, and else nothing
-abbrev pub node_kinds : Bool → ℕ → List (ℕ × Reader (Option Node))
-node_kinds false room = (0, none None) ∷ []
-node_kinds true room = (0, none None) ∷ (1, none (Some Folder)) ∷ (2, file_at room) ∷ []
+-- what the first format has not
+abbrev pub later_node_kinds : Format → ℕ → List (ℕ × Reader (Option Node))
+later_node_kinds First room = []
+later_node_kinds Second room = (3, file_at true room) ∷ []
+
+-- what may stand at a path: anything that the format has where its parent is a folder, and else nothing
+abbrev pub node_kinds : Format → Bool → ℕ → List (ℕ × Reader (Option Node))
+node_kinds format false room = (0, none None) ∷ []
+node_kinds format true room = (0, none None) ∷ (1, none (Some Folder)) ∷ (2, file_at false room) ∷ later_node_kinds format room
 
 -- the kind of what stands there, and its content
-unfoldable pub standing_at : Bool → ℕ → Reader (Option Node)
-standing_at in_folder room = tagged_at (node_kinds in_folder room)
+unfoldable pub standing_at : Format → Bool → ℕ → Reader (Option Node)
+standing_at format in_folder room = tagged_at (node_kinds format in_folder room)
 
 -- the bytes of content for which a tree of these rows has room
 abbrev pub room_beside : Volume → ℕ
 room_beside rows = max_files - total_size rows
 
--- the row behind these
-unfoldable pub next_row_at : Volume → Reader Row
-next_row_at rows bytes at = do
+-- the row of a format behind these
+unfoldable pub next_row_at : Format → Volume → Reader Row
+next_row_at format rows bytes at = do
   path ← ruled (may_stand rows) path_at bytes at
   version ← ruled (nat_le 1) (number_at w64) bytes path.1
-  node ← standing_at (is_folder rows (folder_of path.0)) (room_beside rows) bytes version.1
+  node ← standing_at format (is_folder rows (folder_of path.0)) (room_beside rows) bytes version.1
   Ok (record { path = path.0; version = version.0; node = node.0 }, node.1)
 
 -- the rows with one more behind them
 abbrev pub with_next : Volume → Row → Volume
 with_next rows row = rows ++ row ∷ []
 
--- at most 16,384 rows, each of them given those before it
-unfoldable pub rows_at : Reader Volume
-rows_at bytes at = do
+-- at most 16,384 rows of a format, each of them given those before it
+unfoldable pub rows_in : Format → Reader Volume
+rows_in format bytes at = do
   count ← ruled (λ n. nat_le n max_rows) (number_at w32) bytes at
-  each_at next_row_at with_next count.0 [] bytes count.1
+  each_at (next_row_at format) with_next count.0 [] bytes count.1
+
+-- at most 16,384 rows, each of them given those before it
+abbrev pub rows_at : Reader Volume
+rows_at = rows_in Second

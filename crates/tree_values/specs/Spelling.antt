@@ -1,5 +1,5 @@
 -- The one spelling of each value, and which values have one.
-use Rattle.std.specs.Prelude.{◌≡◌, ℕ, ◌<◌, ◌≤◌, ◌^◌, List, [], ◌∷◌, ◌++◌, length, map, Option, Some, None}
+use Rattle.std.specs.Prelude.{◌≡◌, ℕ, ◌<◌, ◌≤◌, ◌^◌, Bool, true, false, List, [], ◌∷◌, ◌++◌, length, map, Option, Some, None}
 use Rattle.std.specs.List.{flat_map, AllByRecursion}
 use Rattle.std.specs.Int.{w32, w64}
 use Rattle.byte_fields.specs.Field.{digits}
@@ -7,14 +7,21 @@ use Rattle.file_paths.specs.Limits.{max_file}
 use Rattle.file_paths.specs.Path.{FilePath, IsPath}
 use Rattle.file_paths.specs.Spelling.{path, content}
 use Rattle.tree_values.specs.Limits.{max_files, max_effects}
-use Rattle.tree_values.specs.Tree.{IsLegalEffect}
+use Rattle.tree_values.specs.Tree.{IsLegalEffect, is_exec}
+use Rattle.tree_values.specs.declared.format.Format.{Format}
+use Rattle.tree_values.specs.declared.format.Format.TheVariants.{First, Second}
 use Rattle.tree_values.specs.Effects.{content_size, contents_size}
 use Rattle.tree_values.specs.declared.node.Effect.{Effect}
-use Rattle.tree_values.specs.declared.node.Effect.TheVariants.{Make, Put, Remove, Move}
+use Rattle.tree_values.specs.declared.node.Effect.TheVariants.{Make, Put, Remove, Move, Mode}
 use Rattle.tree_values.specs.declared.node.Base.{Base}
 use Rattle.tree_values.specs.declared.node.Row.{Row}
 use Rattle.tree_values.specs.declared.node.Node.{Node}
 use Rattle.tree_values.specs.declared.node.Node.TheVariants.{Folder, File}
+
+-- a yes or no
+abbrev pub bit : Bool → List ℕ
+bit false = 0 ∷ []
+bit true = 1 ∷ []
 
 -- the kind, and what the effect names
 abbrev pub effect : Effect → List ℕ
@@ -22,6 +29,7 @@ effect (Make p) = 1 ∷ path p
 effect (Put p c) = 2 ∷ path p ++ content c
 effect (Remove p) = 3 ∷ path p
 effect (Move p q) = 4 ∷ path p ++ path q
+effect (Mode p exec) = 5 ∷ path p ++ bit exec
 
 -- the effects, behind their number
 abbrev pub effects : List Effect → List ℕ
@@ -39,7 +47,8 @@ bases bs = digits w32 (length bs) ++ flat_map base bs
 abbrev pub node : Option Node → List ℕ
 node None = 0 ∷ []
 node (Some Folder) = 1 ∷ []
-node (Some (File c)) = 2 ∷ content c
+node (Some (File c false)) = 2 ∷ content c
+node (Some (File c true)) = 3 ∷ content c
 
 -- a path, its version and what stands there
 abbrev pub row : Row → List ℕ
@@ -49,6 +58,24 @@ row r = path r.path ++ (digits w64 r.version ++ node r.node)
 abbrev pub rows : List Row → List ℕ
 rows rs = digits w32 (length rs) ++ flat_map row rs
 
+-- whether it says that a file may be run, or not
+abbrev pub is_mode : Effect → Bool
+is_mode (Make p) = false
+is_mode (Put p c) = false
+is_mode (Remove p) = false
+is_mode (Move p q) = false
+is_mode (Mode p exec) = true
+
+-- the format has such effects
+abbrev pub IsEffectOf : Format → Effect → Type 0
+IsEffectOf First e = is_mode e ≡ false
+IsEffectOf Second e = Unit {0}
+
+-- the format has such nodes
+abbrev pub IsNodeOf : Format → Option Node → Type 0
+IsNodeOf First n = is_exec n ≡ false
+IsNodeOf Second n = Unit {0}
+
 -- an effect with paths, and a content of at most 8 MiB of bytes
 abbrev pub EffectFits : Effect → Type 0
 EffectFits e = IsLegalEffect e × (content_size e ≤ max_file)
@@ -56,6 +83,14 @@ EffectFits e = IsLegalEffect e × (content_size e ≤ max_file)
 -- an effect that has still room for its content
 abbrev pub EffectFitsIn : ℕ → Effect → Type 0
 EffectFitsIn room e = EffectFits e × (content_size e ≤ room)
+
+-- the same of a format
+abbrev pub EffectFitsOf : Format → ℕ → Effect → Type 0
+EffectFitsOf format room e = EffectFitsIn room e × IsEffectOf format e
+
+-- rows that the format has
+abbrev pub AreRowsOf : Format → List Row → Type 0
+AreRowsOf format rs = AllByRecursion (λ r. IsNodeOf format r.node) rs
 
 -- 1 to so many effects with contents of at most so many bytes together
 pub record EffectsFitWithin (most room : ℕ) (es : List Effect) : Type 0 where

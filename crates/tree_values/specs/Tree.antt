@@ -14,7 +14,7 @@ use Rattle.tree_values.specs.declared.node.Node.{Node}
 use Rattle.tree_values.specs.declared.node.Node.TheVariants.{Folder, File}
 use Rattle.tree_values.specs.declared.node.Row.{Row}
 use Rattle.tree_values.specs.declared.node.Effect.{Effect}
-use Rattle.tree_values.specs.declared.node.Effect.TheVariants.{Make, Put, Remove, Move}
+use Rattle.tree_values.specs.declared.node.Effect.TheVariants.{Make, Put, Remove, Move, Mode}
 use Rattle.tree_values.specs.declared.node.TreeError.{TreeError}
 use Rattle.tree_values.specs.declared.node.TreeError.TheVariants.{RootFixed, NoParent, Exists, Missing, IsFolder, NotEmpty, RowsFull}
 use Rattle.tree_values.specs.declared.node.TreeError.TheVariants.{FileTooLarge, TreeFull, VersionTop}
@@ -43,7 +43,7 @@ node_at rows path = option_and_then (λ row. row.node) (row_at rows path)
 abbrev pub is_folder_node : Option Node → Bool
 is_folder_node None = false
 is_folder_node (Some Folder) = true
-is_folder_node (Some (File content)) = false
+is_folder_node (Some (File content exec)) = false
 
 -- the path of no name
 abbrev pub is_root : FilePath → Bool
@@ -58,13 +58,19 @@ is_folder rows path = is_root path || is_folder_node (node_at rows path)
 abbrev pub node_size : Option Node → ℕ
 node_size None = 0
 node_size (Some Folder) = 0
-node_size (Some (File content)) = length content
+node_size (Some (File content exec)) = length content
 
 -- the content of a file; no bytes where there is none
 abbrev pub file_bytes : Option Node → List ℕ
 file_bytes None = []
 file_bytes (Some Folder) = []
-file_bytes (Some (File content)) = content
+file_bytes (Some (File content exec)) = content
+
+-- whether a file that may be run stands there
+abbrev pub is_exec : Option Node → Bool
+is_exec None = false
+is_exec (Some Folder) = false
+is_exec (Some (File content exec)) = exec
 
 -- the bytes of all files
 abbrev pub total_size : Volume → ℕ
@@ -174,10 +180,22 @@ refusals (Move p q) rows =
     ∷ when (is_at_top rows p) (VersionTop p)
     ∷ when (is_at_top rows q) (VersionTop q)
     ∷ []
+refusals (Mode p exec) rows =
+    when (is_root p) RootFixed
+    ∷ when (not (is_some (node_at rows p))) (Missing p)
+    ∷ when (is_folder rows p) (IsFolder p)
+    ∷ when (is_at_top rows p) (VersionTop p)
+    ∷ []
 
--- what a file is once this content is written to it
+-- what a file is once this content is written to it: it may be run as before, and a new one may not
 abbrev pub with_content : Option Node → List ℕ → Node
-with_content old content = File content
+with_content old content = File content (is_exec old)
+
+-- what stands there once a file may be run or not
+abbrev pub with_mode : Bool → Option Node → Option Node
+with_mode exec None = None
+with_mode exec (Some Folder) = Some Folder
+with_mode exec (Some (File content old)) = Some (File content exec)
 
 -- the rows after an effect that is not refused
 abbrev pub changed : Effect → Volume → Volume
@@ -185,6 +203,7 @@ changed (Make p) rows = touched rows p (Some Folder)
 changed (Put p content) rows = touched rows p (Some (with_content (node_at rows p) content))
 changed (Remove p) rows = touched rows p None
 changed (Move p q) rows = touched (touched rows q (node_at rows p)) p None
+changed (Mode p exec) rows = touched rows p (with_mode exec (node_at rows p))
 
 -- the first refusal, or else the new rows
 abbrev pub apply : Effect → Volume → Result (Volume) TreeError
@@ -196,6 +215,7 @@ touched_paths (Make p) = p ∷ []
 touched_paths (Put p content) = p ∷ []
 touched_paths (Remove p) = p ∷ []
 touched_paths (Move p q) = p ∷ q ∷ []
+touched_paths (Mode p exec) = p ∷ []
 
 -- each path of the effect is one, and its content is bytes
 abbrev pub IsLegalEffect : Effect → Type 0
@@ -203,6 +223,7 @@ IsLegalEffect (Make p) = IsPath p
 IsLegalEffect (Put p content) = IsPath p × IsBytes content
 IsLegalEffect (Remove p) = IsPath p
 IsLegalEffect (Move p q) = IsPath p × IsPath q
+IsLegalEffect (Mode p exec) = IsPath p
 
 -- ---- undoing
 

@@ -42,7 +42,8 @@ fn add_touched(paths: &mut Paths, effect: &Effect) -> Result<(), AllocError>
     ensures { OnOk result (paths.new ≡ fold add_new paths.old (touched_paths effect.now)) }
 {
     match effect {
-        Effect::Make(path) | Effect::Put(path, _) | Effect::Remove(path) => add_new(paths, path)?,
+        Effect::Make(path) | Effect::Put(path, _) | Effect::Remove(path) | Effect::Mode(path, _) =>
+            add_new(paths, path)?,
         Effect::Move(from, to) => {
             add_new(paths, from)?;
             add_new(paths, to)?;

@@ -3,6 +3,7 @@
 
 mod effects;
 mod faults;
+mod format;
 mod limits;
 mod lists;
 mod node;
@@ -11,8 +12,10 @@ mod spelling;
 mod taking;
 mod taking_rows;
 
+pub use format::Format;
 pub use limits::{MAX_EFFECTS, MAX_FILES, MAX_ROWS};
 pub use lists::{Bases, Effects, Rows};
-pub use node::{Base, Effect, Node, Row, TreeError, copy_node, size_of};
+pub use node::{Base, Effect, Node, Row, TreeError, copy_node, is_exec, size_of};
 pub use rows::RowsError;
-pub use spelling::spell_row;
+pub use spelling::{spell_bit, spell_row};
+pub use taking::bit_at;

@@ -1,11 +1,12 @@
 //! What stands at paths, what changes it, and why a change is refused.
 
-ghost use Rattle.std.specs.Prelude.{◌≡◌, ◌^◌, ◌<◌, IfOk};
+ghost use Rattle.std.specs.Prelude.{◌≡◌, ◌^◌, ◌<◌, IfOk, false};
 ghost use Rattle.std.specs.Option.{option_copied};
-ghost use Rattle.tree_values.specs.declared.node.Effect.TheVariants.{Put, Move};
+ghost use Rattle.tree_values.specs.declared.node.Effect.TheVariants.{Put, Move, Mode};
 ghost use Rattle.tree_values.specs.declared.node.TreeError.TheVariants.{NotEmpty, Memory};
 ghost use Rattle.byte_fields.specs.Codec.{IsBytes};
-ghost use Rattle.tree_values.specs.Tree.{node_size, file_bytes};
+ghost use Rattle.tree_values.specs.declared.node.Node.TheVariants.{File};
+ghost use Rattle.tree_values.specs.Tree.{node_size, file_bytes, is_exec as is_exec_of};
 
 use file_paths::{Content, Path, TryCopy};
 use std::alloc::AllocError;
@@ -15,7 +16,8 @@ use thiserror::Error;
 #[derive(Debug, Drop)]
 pub enum Node {
     Folder,
-    File(Content),
+    /// A file, and whether it may be run.
+    File { content: Content, exec: bool },
 }
 
 /// What stands at a path, and how many applied effects touched it.
@@ -33,14 +35,15 @@ pub struct Base {
     pub version: u64,
 }
 
-/// A change of a tree: it makes a folder, writes a file, removes a file or an empty folder, or
-/// moves a file from one path to another.
+/// A change of a tree: it makes a folder, writes a file, removes a file or an empty folder,
+/// moves a file from one path to another, or says whether a file may be run.
 #[derive(Debug, Drop)]
 pub enum Effect {
     Make(Path),
     Put(Path, Content),
     Remove(Path),
     Move(Path, Path),
+    Mode(Path, bool),
 }
 
 /// Why an effect is refused.
@@ -89,13 +92,23 @@ impl From<AllocError> for TreeError {
 }
 
 impl Node {
+    /// A file that may not be run.
+    pub fn file(content: Content) -> Node
+        ensures { result ≡ File content false }
+    {
+        Node::File {
+            content,
+            exec: false,
+        }
+    }
+
     /// A copy of the node, whose content shares its bytes.
     pub fn copy(&self) -> Result<Node, AllocError>
         ensures { IfOk result (λ copied. copied ≡ self.now) }
     {
         match self {
             Node::Folder => Ok(Node::Folder),
-            Node::File(content) => Ok(Node::File(content.copy()?)),
+            Node::File { content, exec } => copy_file(content, *exec),
         }
     }
 }
@@ -153,6 +166,7 @@ impl Effect {
             Effect::Put(path, content) => copy_put(path, content),
             Effect::Remove(path) => Ok(Effect::Remove(path.copy()?)),
             Effect::Move(from, to) => copy_move(from, to),
+            Effect::Mode(path, exec) => copy_mode(path, *exec),
         }
     }
 }
@@ -202,6 +216,19 @@ fn copy_move(from: &Path, to: &Path) -> Result<Effect, AllocError>
     Ok(Effect::Move(from.copy()?, to.copy()?))
 }
 
+fn copy_mode(path: &Path, exec: bool) -> Result<Effect, AllocError>
+    ensures { IfOk result (λ copied. copied ≡ Mode path.now exec) }
+{
+    Ok(Effect::Mode(path.copy()?, exec))
+}
+
+fn copy_file(content: &Content, exec: bool) -> Result<Node, AllocError>
+    ensures { IfOk result (λ copied. copied ≡ File content.now exec) }
+{
+    let content = content.copy()?;
+    Ok(Node::File { content, exec })
+}
+
 fn copy_not_empty(path: &Path, child: &Path) -> Result<TreeError, AllocError>
     ensures { IfOk result (λ copied. copied ≡ NotEmpty path.now child.now) }
 {
@@ -225,7 +252,17 @@ pub fn size_of(node: Option<&Node>) -> u64
     ensures bytes { IsBytes (file_bytes (option_copied node.entry)) }
 {
     match node {
-        Some(Node::File(content)) => content.bytes().len() as u64,
+        Some(Node::File { content, .. }) => content.bytes().len() as u64,
         _ => 0,
+    }
+}
+
+/// Whether what stands at a path is a file that may be run.
+pub fn is_exec(node: Option<&Node>) -> bool
+    ensures { result ≡ is_exec_of (option_copied node.entry) }
+{
+    match node {
+        Some(Node::File { exec, .. }) => *exec,
+        _ => false,
     }
 }

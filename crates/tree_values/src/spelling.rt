@@ -7,7 +7,7 @@ ghost use Rattle.tree_values.specs.Tree.{IsTree, node_size};
 ghost use Rattle.byte_fields.specs.Field.{IsFront};
 ghost use Rattle.tree_values.specs.Effects.{content_size};
 ghost use Rattle.file_paths.specs.Spelling.{path, content};
-ghost use Rattle.tree_values.specs.Spelling.{effect, effects, base, bases, node, row, rows, EffectFits, EffectsFit};
+ghost use Rattle.tree_values.specs.Spelling.{bit, effect, effects, base, bases, node, row, rows, EffectFits, EffectsFit};
 ghost use Rattle.file_paths.specs.Path.{path_text};
 ghost use Rattle.tree_values.specs.declared.node.Row.{Row};
 
@@ -33,11 +33,12 @@ impl Effect {
             Effect::Put(path, content) => spell_put(path, content, out),
             Effect::Remove(path) => spell_path(3, path, out),
             Effect::Move(from, to) => spell_paths(4, from, to, out),
+            Effect::Mode(path, exec) => spell_mode(path, *exec, out),
         }
     }
 
     /// The number of bytes of the spelling.
-    #[tactic(auto, using(crate::proofs::Sizes::put_length))]
+    #[tactic(auto, using(crate::proofs::Sizes::put_length, crate::proofs::Sizes::mode_length))]
     pub fn size(&self) -> u64
         ensures value { result ≡ length (effect self.now) }
         ensures bound { result ≤ 2053 + content_size self.now }
@@ -47,6 +48,7 @@ impl Effect {
             Effect::Put(path, content) => 1 + path.size() + 4 + content.bytes().len() as u64,
             Effect::Remove(path) => 1 + path.size(),
             Effect::Move(from, to) => 1 + from.size() + to.size(),
+            Effect::Mode(path, _) => 2 + path.size(),
         }
     }
 }
@@ -85,6 +87,26 @@ fn spell_put(at: &Path, value: &Content, out: &mut Vec<u8>) -> Result<(), AllocE
 {
     spell_path(2, at, out)?;
     Content::spell(value, out)?;
+    Ok(())
+}
+
+/// Appends a kind that names a path and says yes or no, the path, and a byte that is 1 for yes and 0 for no.
+#[tactic(auto, using(byte_fields::proofs::Fronts::front_first, byte_fields::proofs::Fronts::front_before))]
+pub(crate) fn spell_mode(at: &Path, exec: bool, out: &mut Vec<u8>) -> Result<(), AllocError>
+    ensures ok { OnOk result (out.new.items ≡ out.old.items ++ (5 ∷ (path at.now ++ bit exec))) }
+    ensures err { OnErr result (IsFront out.old.items out.new.items (5 ∷ (path at.now ++ bit exec))) }
+{
+    spell_path(5, at, out)?;
+    spell_bit(exec, out)
+}
+
+/// Appends 1 for yes and 0 for no.
+#[tactic(auto, using(byte_fields::proofs::Fronts::front_none))]
+pub fn spell_bit(value: bool, out: &mut Vec<u8>) -> Result<(), AllocError>
+    ensures ok { OnOk result (out.new.items ≡ out.old.items ++ bit value) }
+    ensures err { OnErr result (IsFront out.old.items out.new.items (bit value)) }
+{
+    out.push(if value { 1 } else { 0 })?;
     Ok(())
 }
 
@@ -161,8 +183,8 @@ fn spell_node(value: Option<&Node>, out: &mut Vec<u8>) -> Result<(), AllocError>
     match value {
         None => out.push(0)?,
         Some(Node::Folder) => out.push(1)?,
-        Some(Node::File(content)) => {
-            out.push(2)?;
+        Some(Node::File { content, exec }) => {
+            out.push(if *exec { 3 } else { 2 })?;
             Content::spell(content, out)?;
         }
     }

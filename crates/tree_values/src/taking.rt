@@ -4,10 +4,11 @@ ghost use Rattle.std.specs.Prelude.{◌≡◌, length, ◌≤◌, ◌<◌, ◌^�
 ghost use Rattle.byte_fields.specs.Field.{Gives, each_at};
 ghost use Rattle.tree_values.specs.Tree.{IsTree, total_size};
 ghost use Rattle.file_paths.specs.Reading.{path_at, content_at};
-ghost use Rattle.tree_values.specs.Reading.{effect_at, make_at, put_at, remove_at, move_at, room_after, effects_at, effects_within};
+ghost use Rattle.tree_values.specs.Reading.{effect_at, effect_in, make_at, put_at, remove_at, move_at, mode_at, bit_at, room_after, effects_at, effects_within};
 ghost use Rattle.tree_values.specs.Reading.{base_at, first_base_at, others_after, bases_at, may_stand, standing_at, file_at};
 ghost use Rattle.tree_values.specs.Reading.{room_beside, next_row_at, with_next, rows_at};
 
+use crate::format::Format;
 use crate::limits::{MAX_EFFECTS, MAX_FILES};
 use crate::lists::{Bases, Effects};
 use crate::node::{Base, Effect};
@@ -50,24 +51,48 @@ fn move_at(alloc: Global, bytes: &[u8], at: usize) -> Result<(Effect, usize), Ta
     Ok((Effect::Move(from, to), next))
 }
 
+#[tactic(auto, unfolding(crate::specs::Reading::mode_at))]
+fn mode_at(alloc: Global, bytes: &[u8], at: usize) -> Result<(Effect, usize), TakeError>
+    ensures { Gives result (mode_at bytes.now at) }
+{
+    let (path, middle) = Path::take(alloc, bytes, at)?;
+    let (exec, next) = bit_at(bytes, middle)?;
+    Ok((Effect::Mode(path, exec), next))
+}
+
+/// Takes a byte that is 1 for yes and 0 for no, and gives the place after it.
+#[tactic(auto, unfolding(crate::specs::Reading::bit_at))]
+pub fn bit_at(bytes: &[u8], at: usize) -> Result<(bool, usize), TakeError>
+    ensures { Gives result (bit_at bytes.now at) }
+{
+    let (byte, next) = u8_at(bytes, at)?;
+    match byte {
+        0 => Ok((false, next)),
+        1 => Ok((true, next)),
+        _ => Err(TakeError::At(at)),
+    }
+}
+
 impl Effect {
-    /// Takes the effect at the place, where there is still room for so many bytes of content, and gives the place
-    /// after it.
-    #[tactic(auto, unfolding(crate::specs::Reading::effect_at))]
-    pub fn take_within(
+    /// Takes the effect of a format at the place, where there is still room for so many bytes of content, and gives the
+    /// place after it.
+    #[tactic(auto, unfolding(crate::specs::Reading::effect_in))]
+    pub fn take_in(
+        format: Format,
         alloc: Global,
         bytes: &[u8],
         at: usize,
         room: usize,
     ) -> Result<(Effect, usize), TakeError>
-        ensures { Gives result (effect_at room bytes.now at) }
+        ensures { Gives result (effect_in format room bytes.now at) }
     {
         let (kind, start) = u8_at(bytes, at)?;
-        match kind {
-            1 => make_at(alloc, bytes, start),
-            2 => put_at(alloc, bytes, start, room),
-            3 => remove_at(alloc, bytes, start),
-            4 => move_at(alloc, bytes, start),
+        match (kind, format) {
+            (1, _) => make_at(alloc, bytes, start),
+            (2, _) => put_at(alloc, bytes, start, room),
+            (3, _) => remove_at(alloc, bytes, start),
+            (4, _) => move_at(alloc, bytes, start),
+            (5, Format::Second) => mode_at(alloc, bytes, start),
             _ => Err(TakeError::At(at)),
         }
     }
@@ -85,7 +110,7 @@ impl Item<usize> for Effect {
         at: usize,
         room: &mut usize,
     ) -> Result<(Effect, usize), TakeError> {
-        let (effect, next) = Effect::take_within(alloc, bytes, at, *room)?;
+        let (effect, next) = Effect::take_in(Format::Second, alloc, bytes, at, *room)?;
         *room = room.saturating_sub(effect.content_size() as usize);
         Ok((effect, next))
     }

@@ -13,7 +13,7 @@ use Rattle.file_paths.specs.Path.{path_cmp, FilePath, is_same_path}
 use Rattle.tree_values.specs.declared.node.Node.{Node}
 use Rattle.tree_values.specs.declared.node.Row.{Row}
 use Rattle.tree_values.specs.declared.node.Effect.{Effect}
-use Rattle.tree_values.specs.declared.node.Effect.TheVariants.{Make, Put, Remove, Move}
+use Rattle.tree_values.specs.declared.node.Effect.TheVariants.{Make, Put, Remove, Move, Mode}
 use Rattle.tree_values.specs.declared.node.TreeError.{TreeError}
 use Rattle.tree_values.specs.Tree.{IsRow, IsTree, row_at, version_at, node_at, with_row, touched, refusals, changed, apply, touched_paths, IsLegalEffect, Volume}
 use Rattle.tree_values.specs.Effects.{changed_all, unless_refused_at, apply_all, touched_all, distinct, base_of, Conflict, first_conflict}
@@ -120,25 +120,29 @@ same-change (Make p) x v path e = same-touched x v p _ _ path e
 same-change (Put p content) x v path e = same-touched x v p _ _ path e
 same-change (Remove p) x v path e = same-touched x v p _ _ path e
 same-change (Move p q) x v path e = same-touched _ _ p _ _ path (same-touched x v q _ _ path e)
+same-change (Mode p exec) x v path e = same-touched x v p _ _ path e
 
 pub lt-change : (effect : Effect) (x v : Volume) (path : FilePath) → version_at x path < version_at v path → version_at (changed effect x) path < version_at (changed effect v) path
 lt-change (Make p) x v path lt = lt-touched x v p _ _ path lt
 lt-change (Put p content) x v path lt = lt-touched x v p _ _ path lt
 lt-change (Remove p) x v path lt = lt-touched x v p _ _ path lt
 lt-change (Move p q) x v path lt = lt-touched _ _ p _ _ path (lt-touched x v q _ _ path lt)
+lt-change (Mode p exec) x v path lt = lt-touched x v p _ _ path lt
 
 pub IsBehind-change : (effect : Effect) (x v : Volume) → IsBehind x v → AgreeAt x v (touched_paths effect) → IsBehind (changed effect x) (changed effect v)
 IsBehind-change (Make p) x v behind agree = IsBehind-touched x v p _ behind
-IsBehind-change (Put p content) x v behind agree = IsBehind-touched x v p _ behind
+IsBehind-change (Put p content) x v behind agree = rw (behind.nodes p agree.0) (IsBehind-touched x v p _ behind)
 IsBehind-change (Remove p) x v behind agree = IsBehind-touched x v p _ behind
 IsBehind-change (Move p q) x v behind agree =
     rw (behind.nodes p agree.0) (IsBehind-touched _ _ p _ (IsBehind-touched x v q (node_at v p) behind))
+IsBehind-change (Mode p exec) x v behind agree = rw (behind.nodes p agree.0) (IsBehind-touched x v p _ behind)
 
 pub IsBehind-changed : (effect : Effect) (v : Volume) → IsBehind v (changed effect v)
 IsBehind-changed (Make p) v = IsBehind-grown v p _
 IsBehind-changed (Put p content) v = IsBehind-grown v p _
 IsBehind-changed (Remove p) v = IsBehind-grown v p _
 IsBehind-changed (Move p q) v = IsBehind-trans _ _ _ (IsBehind-grown v q _) (IsBehind-grown _ p _)
+IsBehind-changed (Mode p exec) v = IsBehind-grown v p _
 
 AgreeAt-change : (effect : Effect) (x v : Volume) (paths : List FilePath) → AgreeAt x v paths → AgreeAt (changed effect x) (changed effect v) paths
 AgreeAt-change effect x v [] agree = tt
@@ -319,6 +323,7 @@ version-change_apart (Make p) v path apart = version-apart v p _ path (λ e. apa
 version-change_apart (Put p content) v path apart = version-apart v p _ path (λ e. apart (inl e))
 version-change_apart (Remove p) v path apart = version-apart v p _ path (λ e. apart (inl e))
 version-change_apart (Move p q) v path apart = version-apart _ p _ path (λ e. apart (inl e)) ∙ version-apart v q _ path (λ e. apart (inr (inl e)))
+version-change_apart (Mode p exec) v path apart = version-apart v p _ path (λ e. apart (inl e))
 
 pub IsIn-left : {X : Type 0} (x : X) (xs ys : List X) → IsIn x xs → IsIn x (xs ++ ys)
 IsIn-left x [] ys among = absurd among

@@ -1,11 +1,11 @@
 -- The laws of trees and effects, from what is proved of their rows.
-use Rattle.std.proofs.Common.{◌≡◌, inl, inr, ℕ, ◌+◌, cond, List, [], ◌∷◌, Option, Some, None, Ok, sym, ap, ◌∙◌, subst, arith}
+use Rattle.std.proofs.Common.{◌≡◌, inl, inr, ℕ, ◌+◌, Bool, cond, List, [], ◌∷◌, Option, Some, None, Ok, sym, ap, ◌∙◌, subst, arith}
 use Rattle.file_paths.specs.Path.{FilePath}
 use Rattle.tree_values.specs.declared.node.Node.{Node}
 use Rattle.tree_values.specs.declared.node.Node.TheVariants.{Folder}
 use Rattle.tree_values.specs.declared.node.Effect.{Effect}
-use Rattle.tree_values.specs.declared.node.Effect.TheVariants.{Make, Put, Remove, Move}
-use Rattle.tree_values.specs.Tree.{Volume, IsTree, version_at, node_at, with_content, touched, changed, apply, touched_paths, kept_rows, undone}
+use Rattle.tree_values.specs.declared.node.Effect.TheVariants.{Make, Put, Remove, Move, Mode}
+use Rattle.tree_values.specs.Tree.{Volume, IsTree, version_at, node_at, is_exec, with_content, with_mode, touched, changed, apply, touched_paths, kept_rows, undone}
 use Rattle.tree_values.specs.Lists.{IsIn}
 use Rattle.vol_tree.proofs.Trees.{can_move, moved_apart, undone_change, node_touched, node_untouched}
 use Rattle.vol_tree.proofs.Behind.{applied-changed, version-touched, version-apart, same_volume}
@@ -43,6 +43,7 @@ counts (Make p) rows path e among = counts_one rows p path _ among
 counts (Put p content) rows path e among = counts_one rows p path _ among
 counts (Remove p) rows path e among = counts_one rows p path _ among
 counts (Move p q) rows path e among = counts_two rows p q path _ _ (two_paths rows _ p q e) among
+counts (Mode p exec) rows path e among = counts_one rows p path _ among
 
 pub counts_touches : (effect : Effect) (rows new : Volume) (path : FilePath) → apply effect rows ≡ Ok new → IsIn path (touched_paths effect) → version_at new path ≡ version_at rows path + 1
 counts_touches effect rows new path e among =
@@ -62,6 +63,7 @@ stays (Move p q) rows path apart =
     let first = stays_one rows q path (node_at rows p) (λ e. apart (inr (inl e))) in
     let second = stays_one (touched rows q (node_at rows p)) p path None (λ e. apart (inl e)) in
     (second.0 ∙ first.0, second.1 ∙ first.1)
+stays (Mode p exec) rows path apart = stays_one rows p path _ (λ e. apart (inl e))
 
 pub leaves_the_rest : (effect : Effect) (rows new : Volume) (path : FilePath) → apply effect rows ≡ Ok new → (IsIn path (touched_paths effect) → ⊥) → Stays new rows path
 leaves_the_rest effect rows new path e apart = subst (λ v. Stays v rows path) (sym (applied-changed effect rows new e)) (stays effect rows path apart)
@@ -75,6 +77,9 @@ pub put : (path : FilePath) (content : List ℕ) (rows new : Volume) → apply (
 put path content rows new e =
     ap (λ v. node_at v path) (applied-changed (Put path content) rows new e) ∙ node_touched rows path (Some (with_content (node_at rows path) content))
 
+pub put_keeps : (path : FilePath) (content : List ℕ) (rows new : Volume) → apply (Put path content) rows ≡ Ok new → is_exec (node_at new path) ≡ is_exec (node_at rows path)
+put_keeps path content rows new e = ap is_exec (put path content rows new e)
+
 pub removed : (path : FilePath) (rows new : Volume) → apply (Remove path) rows ≡ Ok new → node_at new path ≡ None
 removed path rows new e = ap (λ v. node_at v path) (applied-changed (Remove path) rows new e) ∙ node_touched rows path None
 
@@ -85,6 +90,10 @@ moved from to rows new e =
       ap (λ v. node_at v to) is ∙ node_untouched (touched rows to (node_at rows from)) from None to (λ same. apart (sym same)) ∙ node_touched rows to (node_at rows from),
       ap (λ v. node_at v from) is ∙ node_touched (touched rows to (node_at rows from)) from None,
     )
+
+pub mode : (path : FilePath) (exec : Bool) (rows new : Volume) → apply (Mode path exec) rows ≡ Ok new → node_at new path ≡ with_mode exec (node_at rows path)
+mode path exec rows new e =
+    ap (λ v. node_at v path) (applied-changed (Mode path exec) rows new e) ∙ node_touched rows path (with_mode exec (node_at rows path))
 
 -- ---- trees
 

@@ -16,8 +16,8 @@ use Rattle.tree_values.specs.declared.node.Node.{Node}
 use Rattle.tree_values.specs.declared.node.Node.TheVariants.{Folder, File}
 use Rattle.tree_values.specs.declared.node.Row.{Row}
 use Rattle.tree_values.specs.declared.node.Effect.{Effect}
-use Rattle.tree_values.specs.declared.node.Effect.TheVariants.{Make, Put, Remove, Move}
-use Rattle.tree_values.specs.Tree.{AreInOrder, IsRow, IsTree, row_at, node_at, version_at, is_root, is_folder, is_folder_node, node_size, file_bytes, total_size, has_no_room, is_at_top, size_with, is_child, rows_below, rows_above, touched, touched_paths, kept_row, kept_rows, restored, undone, CanUndo, refusals, changed, apply, IsLegalEffect}
+use Rattle.tree_values.specs.declared.node.Effect.TheVariants.{Make, Put, Remove, Move, Mode}
+use Rattle.tree_values.specs.Tree.{AreInOrder, IsRow, IsTree, row_at, node_at, version_at, is_root, is_folder, is_folder_node, node_size, file_bytes, total_size, has_no_room, is_at_top, with_content, with_mode, size_with, is_child, rows_below, rows_above, touched, touched_paths, kept_row, kept_rows, restored, undone, CanUndo, refusals, changed, apply, IsLegalEffect}
 use Rattle.byte_fields.proofs.Facts.{no_bytes, not_lt_of, not_false_of, or_false_of, or_true, none_mapped}
 use Rattle.file_paths.proofs.Order.{same_path, same_place, paths_differ}
 pub use Rattle.file_paths.proofs.Refusals.{none_refused, not_when}
@@ -38,6 +38,8 @@ below_top (Remove p) rows h =
     let none = none_refused (refusals (Remove p) rows) _ _ h in (not_when _ _ none.1.1.1.0, tt)
 below_top (Move p q) rows h =
     let none = none_refused (refusals (Move p q) rows) _ _ h in (not_when _ _ none.1.1.1.1.1.1.0, (not_when _ _ none.1.1.1.1.1.1.1.0, tt))
+below_top (Mode p exec) rows h =
+    let none = none_refused (refusals (Mode p exec) rows) _ _ h in (not_when _ _ none.1.1.1.0, tt)
 
 -- ---- what stands at each path once one is touched
 
@@ -144,11 +146,12 @@ put_is_tree : (rows : List Row) (p : List (List ℕ)) (content : List ℕ) → I
 put_is_tree rows p content tree legal h =
     let none = none_refused (refusals (Put p content) rows) _ _ h in
     let root = not_when (is_root p) _ none.0 in
-    let size = size_touched rows p (Some (File content)) tree.in_order in
+    let new : Option Node = Some (with_content (node_at rows p) content) in
+    let size = size_touched rows p new tree.in_order in
     let short : length content ≤ max_file = not_lt_of max_file (length content) (not_when (nat_lt max_file (length content)) _ none.1.1.1.1.0) in
     let total : size_with rows p content ≤ max_files = not_lt_of max_files (size_with rows p content) (not_when (nat_lt max_files (size_with rows p content)) _ none.1.1.1.1.1.0) in
-    touched_is_tree rows p (Some (File content)) tree (record { is_path = legal.0; below_top = (below_top (Put p content) rows h).0 }) root short legal.1 (not_when (has_no_room rows p) _ none.1.1.1.0) (omega (arith, size, total))
-    (in_folders_touched rows p (Some (File content)) tree.in_folders root
+    touched_is_tree rows p new tree (record { is_path = legal.0; below_top = (below_top (Put p content) rows h).0 }) root short legal.1 (not_when (has_no_room rows p) _ none.1.1.1.0) (omega (arith, size, total))
+    (in_folders_touched rows p new tree.in_folders root
     (λ _. not_false_of (is_folder rows (folder_of p)) (not_when (not (is_folder rows (folder_of p))) _ none.1.0))
     (λ path some same. absurd (nothing_within rows p tree.in_folders (not_when (is_folder rows p) _ none.1.1.0) path some same)))
 
@@ -214,6 +217,33 @@ node_bytes rows p each = by (row_at rows p) refl
     by : (o : Option Row) → row_at rows p ≡ o → IsBytes (file_bytes (option_and_then (λ row. row.node) o))
     by None e = no_bytes
     by (Some row) e = (find_among IsRow (is_at p) rows row each e).bytes
+
+-- whether a file may be run changes neither its bytes nor what kind of node it is
+pub mode_size : (exec : Bool) (node : Option Node) → node_size (with_mode exec node) ≡ node_size node
+mode_size exec None = refl
+mode_size exec (Some Folder) = refl
+mode_size exec (Some (File content old)) = refl
+
+mode_bytes : (exec : Bool) (node : Option Node) → file_bytes (with_mode exec node) ≡ file_bytes node
+mode_bytes exec None = refl
+mode_bytes exec (Some Folder) = refl
+mode_bytes exec (Some (File content old)) = refl
+
+pub mode_is_small : (rows : List Row) (p : List (List ℕ)) (exec : Bool) → AllByRecursion IsRow rows → node_size (with_mode exec (node_at rows p)) ≤ max_file
+mode_is_small rows p exec each = omega (arith, mode_size exec (node_at rows p), small_node rows p each)
+
+mode_is_tree : (rows : List Row) (p : List (List ℕ)) (exec : Bool) → IsTree rows → IsPath p → apply (Mode p exec) rows ≡ Ok (changed (Mode p exec) rows) → IsTree (changed (Mode p exec) rows)
+mode_is_tree rows p exec tree legal h =
+    let none = none_refused (refusals (Mode p exec) rows) _ _ h in
+    let root = not_when (is_root p) _ none.0 in
+    let new = with_mode exec (node_at rows p) in
+    let size = size_touched rows p new tree.in_order in
+    let there = not_false_of (is_some (node_at rows p)) (not_when (not (is_some (node_at rows p))) _ none.1.0) in
+    let bytes = subst IsBytes (sym (mode_bytes exec (node_at rows p))) (node_bytes rows p tree.each) in
+    touched_is_tree rows p new tree (record { is_path = legal; below_top = (below_top (Mode p exec) rows h).0 }) root (mode_is_small rows p exec tree.each) bytes (room_of_row rows p (has_row rows p there)) (omega (arith, size, mode_size exec (node_at rows p), tree.small))
+    (in_folders_touched rows p new tree.in_folders root
+    (λ some. tree.in_folders p there)
+    (λ path some same. absurd (nothing_within rows p tree.in_folders (not_when (is_folder rows p) _ none.1.1.0) path some same)))
 
 -- what the refusals of a move leave
 pub record CanMove (rows : List Row) (p q : List (List ℕ)) : Type 0 where
@@ -284,6 +314,7 @@ changed_is_tree (Make p) rows tree legal h = made_is_tree rows p tree legal h
 changed_is_tree (Put p content) rows tree legal h = put_is_tree rows p content tree legal h
 changed_is_tree (Remove p) rows tree legal h = removed_is_tree rows p tree legal h
 changed_is_tree (Move p q) rows tree legal h = moved_is_tree rows p q tree legal.0 legal.1 h
+changed_is_tree (Mode p exec) rows tree legal h = mode_is_tree rows p exec tree legal h
 
 -- ---- undoing
 
@@ -319,6 +350,7 @@ undone_change (Put p content) rows tree h = undo_touched rows p _ tree.in_order 
 undone_change (Remove p) rows tree h = undo_touched rows p _ tree.in_order (each_counted rows tree)
 undone_change (Move p q) rows tree h =
     ap (λ middle. restored middle (kept_row rows q)) (undo_first rows p q tree h) ∙ undo_touched rows q (node_at rows p) tree.in_order (each_counted rows tree)
+undone_change (Mode p exec) rows tree h = undo_touched rows p _ tree.in_order (each_counted rows tree)
 
 pub can_undo_change : (effect : Effect) (rows : List Row) → IsTree rows → apply effect rows ≡ Ok (changed effect rows) → CanUndo (kept_rows effect rows) (changed effect rows)
 can_undo_change (Make p) rows tree h = (row_there rows p _, subst IsTree (sym (undone_change (Make p) rows tree h)) tree)
@@ -331,6 +363,7 @@ can_undo_change (Move p q) rows tree h = (
     subst IsTree (sym (undone_change (Move p q) rows tree h)) tree,
   ),
 )
+can_undo_change (Mode p exec) rows tree h = (row_there rows p _, subst IsTree (sym (undone_change (Mode p exec) rows tree h)) tree)
 
 -- the rows between the two changes of a move
 pub record IsBetween (rows middle : List Row) (p q : List (List ℕ)) : Type 0 where

@@ -11,6 +11,6 @@ pub use file_paths::{
 };
 pub use tree::{Tree, Undo};
 pub use tree_values::{
-    Base, Bases, Effect, Effects, MAX_EFFECTS, MAX_FILES, MAX_ROWS, Node, Row, Rows, RowsError,
-    TreeError,
+    Base, Bases, Effect, Effects, Format, MAX_EFFECTS, MAX_FILES, MAX_ROWS, Node, Row, Rows,
+    RowsError, TreeError, bit_at, is_exec, spell_bit,
 };

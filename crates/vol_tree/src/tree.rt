@@ -6,7 +6,7 @@ ghost use Rattle.tree_values.specs.declared.node.TreeError.TheVariants.{Memory};
 ghost use Rattle.tree_values.specs.declared.node.Row.{Row};
 ghost use Rattle.tree_values.specs.Tree.{IsTree, version_at, node_at, is_folder, apply, touched, undone, CanUndo, changed, kept_rows};
 ghost use Rattle.tree_values.specs.Tree.{is_folder_node as is_folder_of, has_no_room, is_child, total_size, node_size};
-ghost use Rattle.tree_values.specs.Tree.{children, IsRowsRefusal, IsLegalEffect};
+ghost use Rattle.tree_values.specs.Tree.{children, IsRowsRefusal, IsLegalEffect, with_content, with_mode as mode_set};
 ghost use Rattle.byte_fields.specs.Codec.{IsBytes};
 ghost use Rattle.byte_fields.specs.Field.{IsFront};
 ghost use Rattle.file_paths.specs.Path.{FilePath, IsPath};
@@ -19,7 +19,7 @@ use std::alloc::{AllocError, Global};
 use std::marker::Model;
 use tree_slots::Counted;
 use tree_values::{
-    Effect, MAX_FILES, MAX_ROWS, Node, Row, Rows, RowsError, TreeError, copy_node, size_of,
+    Effect, MAX_FILES, MAX_ROWS, Node, Row, Rows, RowsError, TreeError, copy_node, is_exec, size_of,
 };
 
 /// How many bytes the spelling of most rows is shorter than, apart from the content.
@@ -253,6 +253,7 @@ fn check(rows: &Counted, effect: &Effect) -> Result<(), TreeError>
         Effect::Put(path, content) => check_put(rows, path, content),
         Effect::Remove(path) => check_remove(rows, path),
         Effect::Move(from, to) => check_move(rows, from, to),
+        Effect::Mode(path, exec) => check_mode(rows, path, *exec),
     }
 }
 
@@ -377,6 +378,29 @@ fn check_move(rows: &Counted, from: &Path, to: &Path) -> Result<(), TreeError>
     Ok(())
 }
 
+fn check_mode(rows: &Counted, path: &Path, exec: bool) -> Result<(), TreeError>
+    requires { IsTree rows.now }
+    ensures ok { OnOk result (apply (Effect.Mode path.now exec) rows.now ≡ Ok (changed (Effect.Mode path.now exec) rows.now)) }
+    ensures err { IfErr result (λ e. e ≢ TreeError.Memory → apply (Effect.Mode path.now exec) rows.now ≡ Err e) }
+    ensures path { IsPath path.now }
+{
+    let names = path.names();
+    if names.is_empty() {
+        return Err(TreeError::RootFixed);
+    }
+    let (node, version) = rows.arena().look(names);
+    if node.is_none() {
+        return Err(TreeError::Missing(path.copy()?));
+    }
+    if is_folder_node(node) {
+        return Err(TreeError::IsFolder(path.copy()?));
+    }
+    if version == u64::MAX {
+        return Err(TreeError::VersionTop(path.copy()?));
+    }
+    Ok(())
+}
+
 /// Makes the change of an effect that may be applied.
 fn change(rows: &mut Counted, effect: &Effect) -> Result<Undo, AllocError>
     requires tree { IsTree rows.old }
@@ -388,16 +412,39 @@ fn change(rows: &mut Counted, effect: &Effect) -> Result<Undo, AllocError>
     let first = match effect {
         Effect::Make(path) => rows.touch(path.copy()?, Some(Node::Folder))?,
         Effect::Put(path, content) => {
-            let node = Node::File(content.copy()?);
+            let node = written(rows, path, content)?;
             rows.touch(path.copy()?, Some(node))?
         }
         Effect::Remove(path) => rows.touch(path.copy()?, None)?,
         Effect::Move(from, to) => return move_node(rows, from, to),
+        Effect::Mode(path, exec) => {
+            let node = with_mode(rows, path, *exec)?;
+            rows.touch(path.copy()?, node)?
+        }
     };
     Ok(Undo {
         first,
         second: None,
     })
+}
+
+/// The file that stands at the path once this content is written there.
+fn written(rows: &Counted, path: &Path, content: &Content) -> Result<Node, AllocError>
+    ensures { IfOk result (λ node. node ≡ with_content (node_at rows.now path.now) content.now) }
+{
+    let exec = is_exec(node_in(rows, path.names()));
+    let content = content.copy()?;
+    Ok(Node::File { content, exec })
+}
+
+/// A copy of what stands at the path, where a file may then be run, or not.
+fn with_mode(rows: &Counted, path: &Path, exec: bool) -> Result<Option<Node>, AllocError>
+    ensures { IfOk result (λ node. node ≡ mode_set exec (node_at rows.now path.now)) }
+{
+    match copy_node(node_in(rows, path.names()))? {
+        Some(Node::File { content, exec: _ }) => Ok(Some(Node::File { content, exec })),
+        other => Ok(other),
+    }
 }
 
 /// Gives the node of a path to another.
