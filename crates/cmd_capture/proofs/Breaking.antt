@@ -298,11 +298,20 @@ no_kind : (kind : ℕ) → kind < 2 ^ 8 → AllByRecursion (λ known. kind ≢ k
 unfolding job_node_at
 no_kind kind byte none = unknown_kind job_node_kinds kind byte none
 
+large_content : (exec : Bool) (size : ℕ) → max_file < size → size < 2 ^ 32 → IsRefused (job_file_at exec) (digits w32 size) 0
+unfolding job_file_at
+large_content exec size large small =
+    first_refused (content_at max_file) (λ c. none (File c exec)) (digits w32 size) 0 (length_refused max_file size large small)
+
 large_file : (size : ℕ) → max_file < size → size < 2 ^ 32 → IsRefused job_node_at (2 ∷ digits w32 size) (1 + 0)
-unfolding job_node_at job_file_at
+unfolding job_node_at
 large_file size large small =
-    tagged_refused job_node_kinds 2 job_file_at (digits w32 size) 0 (lit< tt) (λ tag at bytes. refl)
-    (first_refused (content_at max_file) (λ c. none (File c)) (digits w32 size) 0 (length_refused max_file size large small))
+    tagged_refused job_node_kinds 2 (job_file_at false) (digits w32 size) 0 (lit< tt) (λ tag at bytes. refl) (large_content false size large small)
+
+large_program : (size : ℕ) → max_file < size → size < 2 ^ 32 → IsRefused job_node_at (3 ∷ digits w32 size) (1 + 0)
+unfolding job_node_at
+large_program size large small =
+    tagged_refused job_node_kinds 3 (job_file_at true) (digits w32 size) 0 (lit< tt) (λ tag at bytes. refl) (large_content true size large small)
 
 path_refused : (text : List ℕ) (offset : ℕ) → IsRefused path_at text offset → IsRefused job_row_at text offset
 unfolding job_row_at
@@ -321,7 +330,10 @@ broken_job_rows = record {
   kind_is_none =
       λ p kind is byte none. refused_there job_row_at (path p ++ kind ∷ []) (length (path p) + 0) (length (path p)) (omega arith)
       (node_refused p (kind ∷ []) 0 is (no_kind kind byte none));
-  content_is_large = λ p size is large small. node_refused p (2 ∷ digits w32 size) 1 is (large_file size large small);
+  content_is_large = λ p size is large small. (
+    node_refused p (2 ∷ digits w32 size) 1 is (large_file size large small),
+    (node_refused p (3 ∷ digits w32 size) 1 is (large_program size large small), tt),
+  );
 }
 
 rows_refused : (before : List JobRow) (count : ℕ) (text : List ℕ) (offset : ℕ) → AllByRecursion RowFits before

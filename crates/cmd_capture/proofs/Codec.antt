@@ -434,13 +434,24 @@ NodeFits n = (node_size (Some n) ≤ max_file) × IsBytes (file_bytes (Some n))
 node_again : (bytes : List ℕ) (at : ℕ) (n : Node) (next : ℕ) → Stands bytes at (job_node n) next → NodeFits n → job_node_at bytes at ≡ Ok (n, next)
 unfolding job_node_at job_file_at
 node_again bytes at Folder next stands fits = tagged_again0 job_node_kinds 1 (lit< tt) Folder bytes at next refl stands
-node_again bytes at (File c) next stands fits =
-    tagged_again1 job_node_kinds 2 (lit< tt) (content_codec max_file (lit< tt)) File bytes at c next refl stands fits
+node_again bytes at (File c false) next stands fits =
+    tagged_again1 job_node_kinds 2 (lit< tt) (content_codec max_file (lit< tt)) (λ d. File d false) bytes at c next refl stands fits
+node_again bytes at (File c true) next stands fits =
+    tagged_again1 job_node_kinds 3 (lit< tt) (content_codec max_file (lit< tt)) (λ d. File d true) bytes at c next refl stands fits
+
+abbrev kind_of_file : Bool → ℕ
+kind_of_file false = 2
+kind_of_file true = 3
+
+file_branch : (exec : Bool) → IsBranch job_node NodeFits (kind_of_file exec) (job_file_at exec)
+unfolding job_file_at
+file_branch false = branch1 (lit< tt) (content_codec max_file (lit< tt)) (λ c. File c false) (λ c. refl) (λ c le. le)
+file_branch true = branch1 (lit< tt) (content_codec max_file (lit< tt)) (λ c. File c true) (λ c. refl) (λ c le. le)
 
 node_branches : AllByRecursion (λ (k : ℕ × Reader Node). IsBranch job_node NodeFits k.0 k.1) job_node_kinds
 unfolding job_file_at
 node_branches =
-    (branch0 (lit< tt) Folder refl (omega arith, no_bytes), (branch1 (lit< tt) (content_codec max_file (lit< tt)) File (λ c. refl) (λ c le. le), tt))
+    (branch0 (lit< tt) Folder refl (omega arith, no_bytes), (file_branch false, (file_branch true, tt)))
 
 node_codec : IsCodec job_node_at job_node NodeFits
 unfolding job_node_at

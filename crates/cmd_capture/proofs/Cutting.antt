@@ -1,5 +1,5 @@
 -- Bytes that end inside a command or a job: the field in which they end is the faulty one.
-use Rattle.std.proofs.Common.{◌≡◌, ℕ, ◌+◌, ◌-◌, ◌^◌, ◌<◌, ◌≤◌, Bool, true, ◌&&◌, leb, List, [], ◌∷◌, ◌++◌, length, take, Some, Err}
+use Rattle.std.proofs.Common.{◌≡◌, ℕ, ◌+◌, ◌-◌, ◌^◌, ◌<◌, ◌≤◌, Bool, true, false, ◌&&◌, leb, List, [], ◌∷◌, ◌++◌, length, take, Some, Err}
 use Rattle.std.proofs.Common.{refl, sym, ap, subst, ◌∙◌, arith, lit<, length-append, length-take}
 use Rattle.std.specs.Prelude.{sum}
 use Rattle.std.specs.Int.{w32}
@@ -168,7 +168,8 @@ command_cut = record {
 
 node_whole : (n : Node) → NodeFits n → sum (node_fields (Some n)) ≡ length (job_node n)
 node_whole Folder fits = omega (arith, sum_more 1 [])
-node_whole (File c) fits = omega (arith, sum_more 1 (content_fields c), (content_cut max_file (lit< tt)).whole c fits)
+node_whole (File c false) fits = omega (arith, sum_more 1 (content_fields c), (content_cut max_file (lit< tt)).whole c fits)
+node_whole (File c true) fits = omega (arith, sum_more 1 (content_fields c), (content_cut max_file (lit< tt)).whole c fits)
 
 short_node : (bytes : List ℕ) (at next end : ℕ) → Stands bytes at (1 ∷ []) next → at + 1 ≤ end → end < next → ⊥
 short_node bytes at next end stands ge lt = omega (arith, stands.next_is)
@@ -178,10 +179,14 @@ node_ends : (bytes : List ℕ) (at : ℕ) (n : Node) (next end : ℕ) → Stands
 unfolding job_node_at job_file_at
 node_ends bytes at Folder next end stands fits le lt =
     tagged_cut job_node_kinds 1 (lit< tt) bytes at [] next end [] stands le (λ ge. absurd (short_node bytes at next end stands ge lt))
-node_ends bytes at (File c) next end stands fits le lt =
+node_ends bytes at (File c false) next end stands fits le lt =
     tagged_cut job_node_kinds 2 (lit< tt) bytes at (content c) next end (content_fields c) stands le
-    (λ ge. one_cut (content_cut max_file (lit< tt)) File bytes (at + 1) c next end
+    (λ ge. one_cut (content_cut max_file (lit< tt)) (λ d. File d false) bytes (at + 1) c next end
     (stands_second bytes at (2 ∷ []) (content c) next stands) fits ge lt)
+node_ends bytes at (File c true) next end stands fits le lt =
+    tagged_cut job_node_kinds 3 (lit< tt) bytes at (content c) next end (content_fields c) stands le
+    (λ ge. one_cut (content_cut max_file (lit< tt)) (λ d. File d true) bytes (at + 1) c next end
+    (stands_second bytes at (3 ∷ []) (content c) next stands) fits ge lt)
 
 node_cut : IsCut job_node_at job_node (λ n. node_fields (Some n)) NodeFits
 node_cut = record { whole = node_whole; cut = node_ends }

@@ -114,7 +114,7 @@ pub record BrokenJobRows : Type 0 where
       → IsRefused job_row_at (path p ++ kind ∷ []) (length (path p))
   -- a content of more than 8 MiB: at its length
   pub content_is_large : (p : FilePath) (size : ℕ) → IsPath p → max_file < size → size < 2 ^ 32
-      → IsRefused job_row_at (path p ++ (2 ∷ digits w32 size)) (length (path p) + 1)
+      → AllByRecursion (λ kind. IsRefused job_row_at (path p ++ (kind ∷ digits w32 size)) (length (path p) + 1)) (2 ∷ 3 ∷ [])
 
 pub record BrokenJobs : Type 0 where
   -- a command that is refused: in it

@@ -1,5 +1,5 @@
 -- Reading commands and jobs, with the place of the first faulty field.
-use Rattle.std.specs.Prelude.{ℕ, Bool, ◌&&◌, not, nat_le, List, [], ◌∷◌, ◌++◌, Ok}
+use Rattle.std.specs.Prelude.{ℕ, Bool, true, false, ◌&&◌, not, nat_le, List, [], ◌∷◌, ◌++◌, Ok}
 use Rattle.std.specs.Int.{w8, w16, w32}
 use Rattle.byte_fields.specs.Field.{Reader, ◌>>=◌, ruled, none, tagged_at, span_at, number_at, each_at, limited}
 use Rattle.file_paths.specs.Limits.{max_file}
@@ -80,15 +80,15 @@ command_at = limited max_command parts_at
 
 -- ---- jobs
 
--- a file
-unfoldable pub job_file_at : Reader Node
-job_file_at bytes at = do
+-- a file, which may be run or not
+unfoldable pub job_file_at : Bool → Reader Node
+job_file_at exec bytes at = do
   content ← content_at max_file bytes at
-  Ok (File content.0, content.1)
+  Ok (File content.0 exec, content.1)
 
 -- each kind of node with what follows it
 abbrev pub job_node_kinds : List (ℕ × Reader Node)
-job_node_kinds = (1, none Folder) ∷ (2, job_file_at) ∷ []
+job_node_kinds = (1, none Folder) ∷ (2, job_file_at false) ∷ (3, job_file_at true) ∷ []
 
 unfoldable pub job_node_at : Reader Node
 job_node_at = tagged_at job_node_kinds

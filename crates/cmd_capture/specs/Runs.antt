@@ -1,5 +1,5 @@
 -- What one more run adds to those that a runner tells, and a script of runs, as contracts see it.
-use Rattle.std.specs.Prelude.{◌≡◌, ℕ, List, [], ◌∷◌, ◌++◌, drop, map, Option, Some, None, option_map, Result, Ok, Err}
+use Rattle.std.specs.Prelude.{◌≡◌, ◌⊎◌, ℕ, List, [], ◌∷◌, ◌++◌, drop, map, Option, Some, None, option_map, Result, Ok, Err}
 use Rattle.outside.specs.Outside.{raised}
 use Rattle.outside.specs.Memory.{one_more}
 use Rattle.file_paths.specs.Path.{path_text}
@@ -21,6 +21,14 @@ runs_of work job (Err e) = []
 -- the runs after a call are those before it and the one that it gave
 abbrev pub AddsRun : {E : Type 0} → List ℕ → Job → Result Outcome E → List Run → List Run → Type 0
 AddsRun work job result old new = new ≡ old ++ runs_of work job result
+
+-- between two moments of a runner it was asked once, by its counts of calls then
+abbrev pub IsAskedOnce : ℕ → ℕ → Type 0
+IsAskedOnce before now = now ≡ raised 1 before
+
+-- the same, or it was not asked
+abbrev pub IsAskedAtMostOnce : ℕ → ℕ → Type 0
+IsAskedAtMostOnce before now = (now ≡ before) ⊎ IsAskedOnce before now
 
 -- ---- several runs
 
@@ -48,6 +56,8 @@ pub record InScript : Type 0 where
   pub runs : List Run
   -- how many runs failed
   pub faults : ℕ
+  -- how many were asked for
+  pub calls : ℕ
 
 -- a row of the job, as a runner gives it
 abbrev pub raw_row : JobRow → RawRow
@@ -63,12 +73,18 @@ outcome_of [] job = Some (unchanged job)
 outcome_of (Give outcome ∷ answers) job = Some outcome
 outcome_of (Fail ∷ answers) job = None
 
--- the script after a run; where memory ran out it is as before
+-- the script after a run; where memory ran out only the call is counted
 abbrev pub after_run : InScript → List ℕ → Job → Result Outcome RunError → InScript
 after_run script work job (Ok outcome) = record {
   answers = drop 1 script.answers;
   runs = script.runs ++ record { work = work; job = job; outcome = outcome } ∷ [];
   faults = script.faults;
+  calls = one_more script.calls;
 }
-after_run script work job (Err Failed) = record { answers = drop 1 script.answers; runs = script.runs; faults = one_more script.faults }
-after_run script work job (Err Memory) = script
+after_run script work job (Err Failed) = record {
+  answers = drop 1 script.answers;
+  runs = script.runs;
+  faults = one_more script.faults;
+  calls = one_more script.calls;
+}
+after_run script work job (Err Memory) = record script { calls = one_more script.calls }

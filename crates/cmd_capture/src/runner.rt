@@ -4,7 +4,7 @@ ghost use Rattle.std.specs.Prelude.{◌≡◌, ℕ, List, Option};
 ghost use Rattle.outside.specs.Outside.{Told, CountsFault};
 ghost use Rattle.cmd_capture.specs.declared.runner.Run.{Run};
 ghost use Rattle.cmd_capture.specs.declared.runner.RunError.TheVariants.{Memory};
-ghost use Rattle.cmd_capture.specs.Runs.{AddsRun};
+ghost use Rattle.cmd_capture.specs.Runs.{AddsRun, IsAskedOnce};
 
 use crate::job::{Job, Outcome};
 use std::alloc::{AllocError, AllocFailed};
@@ -55,12 +55,16 @@ pub trait Runner {
     /// How often the runner has failed.
     ghost faults: { Self → ℕ };
 
+    /// How often it was asked for a run, also where memory ran out. The count stands still at the end of its type.
+    ghost calls: { Self → ℕ };
+
     /// Runs the job in a folder of its own in the folder `work`.
     ///
     /// # Errors
     ///
-    /// `Failed` is counted. After it and after `Memory` the runs are as before.
+    /// `Failed` is counted. After it and after `Memory` the runs are as before. Each call is counted, whatever comes of it.
     fn run(&mut self, work: &[u8], job: &Job) -> Result<Outcome, RunError>
         ensures runs { Told (runs self.old) (runs self.new) (AddsRun work.now job.now result) }
-        ensures cause { CountsFault RunError.Failed (faults self.old) (faults self.new) result };
+        ensures cause { CountsFault RunError.Failed (faults self.old) (faults self.new) result }
+        ensures called { IsAskedOnce (calls self.old) (calls self.new) };
 }

@@ -1,9 +1,9 @@
 //! A runner of given outcomes.
 
-ghost use Rattle.std.specs.Prelude.{◌≡◌, ◌≤◌, ◌↔◌, ℕ, List, [], ◌∷◌, ◌++◌, Some, None, map, reverse, IfOk, IfErr, OnOk, OnErr, IsErrOf};
+ghost use Rattle.std.specs.Prelude.{◌≡◌, ◌≤◌, ◌↔◌, ℕ, List, [], ◌∷◌, ◌++◌, Some, None, map, reverse, length, IfOk, IfErr, OnOk, OnErr, IsErrOf};
 ghost use Rattle.outside.specs.Outside.{Told, CountsFault, raised};
 ghost use Rattle.outside.specs.Memory.{one_more};
-ghost use Rattle.cmd_capture.specs.Runs.{AddsRun, InScript, raw_row, unchanged, outcome_of, after_run};
+ghost use Rattle.cmd_capture.specs.Runs.{AddsRun, IsAskedOnce, InScript, raw_row, unchanged, outcome_of, after_run};
 
 use crate::job::{Job, JobRow, Outcome, RawRow, RawRows};
 use crate::runner::{Run, RunError, Runner};
@@ -19,7 +19,7 @@ pub enum ScriptAnswer {
 }
 
 /// Gives the outcomes of a script, and behind them each job's own rows with status 0. Contracts see the answers left,
-/// the runs given and the faults.
+/// the runs given, the faults and the calls.
 #[derive(Drop)]
 pub struct ScriptRunner {
     alloc: Global,
@@ -27,18 +27,19 @@ pub struct ScriptRunner {
     answers: Vec<ScriptAnswer>,
     runs: Vec<Run>,
     faults: u64,
+    calls: u64,
 }
 
 impl Model for ScriptRunner {
     ghost Value = { InScript };
 
-    ghost view = { λ s. record { answers = reverse s.answers.items; runs = s.runs.items; faults = s.faults } };
+    ghost view = { λ s. record { answers = reverse s.answers.items; runs = s.runs.items; faults = s.faults; calls = s.calls } };
 }
 
 impl ScriptRunner {
     /// A runner of these answers, in order. It takes no memory.
     pub fn new(alloc: Global, answers: Vec<ScriptAnswer>) -> ScriptRunner
-        ensures { result ≡ record { answers = answers.items; runs = []; faults = 0 } }
+        ensures { result ≡ record { answers = answers.items; runs = []; faults = 0; calls = 0 } }
     {
         let mut answers = answers;
         answers.reverse();
@@ -47,7 +48,15 @@ impl ScriptRunner {
             answers,
             runs: Vec::new(alloc),
             faults: 0,
+            calls: 0,
         }
+    }
+
+    /// How many of the answers were not given yet.
+    pub fn answers_left(&self) -> usize
+        ensures { result ≡ length self.now.answers }
+    {
+        self.answers.len()
     }
 
     /// The outcome of the next run; `None` where it fails.
@@ -80,18 +89,22 @@ impl Runner for ScriptRunner {
 
     ghost faults = { λ s. s.faults };
 
-    /// Takes the next answer, and keeps the run; where memory runs out nothing is changed.
+    ghost calls = { λ s. s.calls };
+
+    /// Takes the next answer, and keeps the run; where memory runs out only the call is counted.
     fn run(&mut self, work: &[u8], job: &Job) -> Result<Outcome, RunError>
         ensures runs { Told (Some self.old.runs) (Some self.new.runs) (AddsRun work.now job.now result) }
         ensures cause { CountsFault RunError.Failed self.old.faults self.new.faults result }
+        ensures called { IsAskedOnce self.old.calls self.new.calls }
 
         ensures gives { IfOk result (λ outcome. outcome_of self.old.answers job.now ≡ Some outcome) }
         ensures fails { IsErrOf result RunError.Failed → outcome_of self.old.answers job.now ≡ None }
         ensures after { self.new ≡ after_run self.old work.now job.now result }
     {
+        count(&mut self.calls);
         let Some(outcome) = self.next_outcome(job)? else {
             drop(self.answers.pop());
-            count_fault(&mut self.faults);
+            count(&mut self.faults);
             return Err(RunError::Failed);
         };
         if let Err(error) = self.tell(work, job, &outcome) {
@@ -103,13 +116,13 @@ impl Runner for ScriptRunner {
     }
 }
 
-/// Counts a run that failed. The count stands still at the end of its type.
-fn count_fault(faults: &mut u64)
-    ensures counted { faults.new ≡ one_more faults.old }
-    ensures raised { faults.new ≡ raised 1 faults.old }
-    ensures later { faults.old ≤ faults.new }
+/// Counts one more. The count stands still at the end of its type.
+fn count(many: &mut u64)
+    ensures counted { many.new ≡ one_more many.old }
+    ensures raised { many.new ≡ raised 1 many.old }
+    ensures later { many.old ≤ many.new }
 {
-    *faults = faults.saturating_add(1);
+    *many = many.saturating_add(1);
 }
 
 /// The run of the job that gave the outcome.

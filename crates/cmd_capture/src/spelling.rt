@@ -155,11 +155,11 @@ fn put_kind(out: &mut Vec<u8>, kind: u8) -> Result<(), AllocError>
 }
 
 /// Appends a file: its kind and its content.
-fn put_file(out: &mut Vec<u8>, file: &Content) -> Result<(), AllocError>
-    ensures ok { OnOk result (out.new.items ≡ out.old.items ++ 2 ∷ content file.now) }
-    ensures err { OnErr result (IsFront out.old.items out.new.items (2 ∷ content file.now)) }
+fn put_file(out: &mut Vec<u8>, kind: u8, file: &Content) -> Result<(), AllocError>
+    ensures ok { OnOk result (out.new.items ≡ out.old.items ++ kind ∷ content file.now) }
+    ensures err { OnErr result (IsFront out.old.items out.new.items (kind ∷ content file.now)) }
 {
-    put_kind(out, 2)?;
+    put_kind(out, kind)?;
     put_text(out, file.bytes())?;
     Ok(())
 }
@@ -171,7 +171,7 @@ fn put_node(out: &mut Vec<u8>, node: &Node) -> Result<(), AllocError>
 {
     match node {
         Node::Folder => put_kind(out, 1),
-        Node::File(file) => put_file(out, file),
+        Node::File { content, exec } => put_file(out, if *exec { 3 } else { 2 }, content),
     }
 }
 

@@ -294,12 +294,13 @@ fn front(bytes: &[u8], end: usize) -> &[u8]
     }
 }
 
+/// A file, which may be run or not.
 #[tactic(auto, unfolding(crate::specs::Reading::job_file_at))]
-fn file_at(alloc: Global, bytes: &[u8], at: usize) -> Result<(Node, usize), TakeError>
-    ensures { Gives result (job_file_at bytes.now at) }
+fn file_at(exec: bool, alloc: Global, bytes: &[u8], at: usize) -> Result<(Node, usize), TakeError>
+    ensures { Gives result (job_file_at exec bytes.now at) }
 {
     let (content, next) = Content::take(alloc, bytes, at)?;
-    Ok((Node::File(content), next))
+    Ok((Node::File { content, exec }, next))
 }
 
 /// What stands at a path.
@@ -310,7 +311,8 @@ fn node_at(alloc: Global, bytes: &[u8], at: usize) -> Result<(Node, usize), Take
     let (kind, start) = u8_at(bytes, at)?;
     match kind {
         1 => Ok((Node::Folder, start)),
-        2 => file_at(alloc, bytes, start),
+        2 => file_at(false, alloc, bytes, start),
+        3 => file_at(true, alloc, bytes, start),
         _ => Err(TakeError::At(at)),
     }
 }

@@ -6,10 +6,10 @@ use Rattle.cmd_capture.proofs.spelling.put_file.Goals as goal
 pub returns-in_err-put_kind-clause-err : goal.returns-in_err-put_kind-clause-err
 returns-in_err-put_kind-clause-err c =
     on_error c.from_residual.result
-    (front_none c.args.out.now.items c.put_kind.new.out.items (2 ∷ content c.args.file.now) c.in_err-put_kind.ensures.err)
+    (front_none c.args.out.now.items c.put_kind.new.out.items (c.args.kind ∷ content c.args.file.now) c.in_err-put_kind.ensures.err)
 
 pub returns-in_err-put_text-clause-err : goal.returns-in_err-put_text-clause-err
 returns-in_err-put_text-clause-err c =
     on_error c.from_residual-in_err-put_text.result
-    (front_second c.args.out.now.items c.put_kind.new.out.items c.put_text.new.out.items (2 ∷ []) (content c.args.file.now)
+    (front_second c.args.out.now.items c.put_kind.new.out.items c.put_text.new.out.items (c.args.kind ∷ []) (content c.args.file.now)
     c.in_ok-put_kind.ensures.ok (rw c.bytes.ensures.value at c.in_err-put_text.ensures.err))
