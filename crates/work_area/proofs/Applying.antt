@@ -2,31 +2,34 @@
 use Rattle.std.proofs.Common.{◌≡◌, ℕ, ◌+◌, Bool, true, false, not, List, [], ◌∷◌, ◌++◌, reverse, Some, None, Result, Ok}
 use Rattle.std.proofs.Common.{Err, cond, refl, sym, ap, ◌∙◌, subst, true≢false, inl, inr}
 use Rattle.std.proofs.lemmas.List.{reverse-append}
+use Rattle.std.proofs.lemmas.List.Concat.{flat_map-cons}
+use Rattle.std.specs.Option.{option_to_list}
 use Rattle.std.specs.List.{filter_map, flat_map, fold, cons_option, AllByRecursion}
 use Rattle.file_paths.specs.Path.{FilePath, is_same_path}
 use Rattle.tree_values.specs.declared.node.Node.{Node}
 use Rattle.tree_values.specs.declared.node.Node.TheVariants.{Folder, File}
 use Rattle.tree_values.specs.declared.node.TreeError.{TreeError}
 use Rattle.tree_values.specs.declared.node.Effect.{Effect}
-use Rattle.tree_values.specs.declared.node.Effect.TheVariants.{Make, Put, Remove, Move}
-use Rattle.tree_values.specs.Tree.{Volume, version_at, node_at, with_content, apply, touched_paths}
+use Rattle.tree_values.specs.declared.node.Effect.TheVariants.{Make, Put, Remove, Move, Mode}
+use Rattle.tree_values.specs.Tree.{Volume, version_at, node_at, with_content, with_mode, apply, touched_paths}
 use Rattle.tree_values.specs.Effects.{apply_all, unless_refused_at}
 use Rattle.tree_values.specs.Lists.{IsIn}
-use Rattle.vol_tree.proofs.Touching.{leaves_the_rest, made as folder_made, put as file_put, removed as node_removed}
+use Rattle.vol_tree.proofs.Touching.{leaves_the_rest, made as folder_made, put as file_put, removed as node_removed, mode as file_moded}
 use Rattle.cmd_capture.specs.declared.job.JobRow.{JobRow}
 use Rattle.cmd_capture.specs.Rows.{node_in}
-use Rattle.work_area.specs.Changes.{has_kind, has_content, is_gone, is_new, removal_of, makings_of, making, made, changes}
+use Rattle.work_area.specs.Changes.{has_kind, has_content, has_other_mode, is_gone, is_new, is_moded, removal_of, makings_of, making, moding, made, changes}
 use Rattle.work_area.specs.Laws.{ChangesLead, ChangesLeaveTheRest, NothingChanges}
 use Rattle.file_paths.proofs.Order.{own_path, tied_path}
 use Rattle.work_area.proofs.JobRows.{are_distinct}
-use Rattle.work_area.proofs.Leading.{node_after, changes_lead, makings_found}
-use Rattle.work_area.proofs.Unchanged.{AreFound, are_found, kind_stays, node_stays, nothing_changes}
+use Rattle.work_area.proofs.Leading.{node_after, changes_lead}
+use Rattle.work_area.proofs.Unchanged.{AreFound, are_found, kind_stays, node_stays, mode_stays, nothing_changes}
 
 abbrev is_move : Effect → Bool
 is_move (Make p) = false
 is_move (Put p content) = false
 is_move (Remove p) = false
 is_move (Move p q) = true
+is_move (Mode p exec) = false
 
 module _ (path : FilePath) where
   not_one : (p : FilePath) → is_same_path p path ≡ false → IsIn path (p ∷ []) → ⊥
@@ -53,6 +56,11 @@ module _ (path : FilePath) where
       by true e = subst (λ q. node_at new q ≡ None) (tied_path p path e) (node_removed p rows new h)
       by false e = (leaves_the_rest (Remove p) rows new path h (not_one p e)).1
   applied_one (Move p q) rows new still h = absurd (true≢false still)
+  applied_one (Mode p exec) rows new still h = by (is_same_path p path) refl
+    where
+      by : (b : Bool) → is_same_path p path ≡ b → node_at new path ≡ cond b (with_mode exec (node_at rows path)) (node_at rows path)
+      by true e = subst (λ q. node_at new q ≡ with_mode exec (node_at rows q)) (tied_path p path e) (file_moded p exec rows new h)
+      by false e = (leaves_the_rest (Mode p exec) rows new path h (not_one p e)).1
 
   applied_nodes : (effects : List Effect) (i : ℕ) (rows new : Volume)
       → AllByRecursion (λ e. is_move e ≡ false) effects → apply_all i effects rows ≡ Ok new
@@ -120,24 +128,38 @@ still_making row = by row.node
   where
     by : (node : Node) → is_move (made row.path node) ≡ false
     by Folder = refl
-    by (File content) = refl
+    by (File content exec) = refl
+
+one_found : (P : Effect → Type 0) (test : Bool) (e : Effect) → (test ≡ true → P e) → AllByRecursion P (option_to_list (cond test (Some e) None))
+one_found P true e holds = (holds refl, tt)
+one_found P false e holds = tt
+
+-- what holds of what makes a row and of its mode holds of both of all rows
+all_made : (P : Effect → Type 0) (before rows : List JobRow)
+    → AllByRecursion (λ row. (is_new before row ≡ true → P (making row)) × (is_moded before row ≡ true → P (moding row))) rows
+    → AllByRecursion P (flat_map (makings_of before) rows)
+all_made P before [] each = tt
+all_made P before (row ∷ rows) each =
+    subst (AllByRecursion P) (sym (flat_map-cons (makings_of before) row rows))
+    (all_append P (makings_of before row) (flat_map (makings_of before) rows)
+    (all_append P _ _ (one_found P (is_new before row) (making row) each.0.0) (one_found P (is_moded before row) (moding row) each.0.1))
+    (all_made P before rows each.1))
 
 -- what holds of the removals and of the makings holds of the change list
 of_both : (P : Effect → Type 0) (before after : List JobRow)
     → AllByRecursion (λ row. is_gone after row ≡ true → P (Remove row.path)) (reverse before)
-    → AllByRecursion (λ row. is_new before row ≡ true → P (making row)) after
+    → AllByRecursion (λ row. (is_new before row ≡ true → P (making row)) × (is_moded before row ≡ true → P (moding row))) after
     → AllByRecursion P (changes before after)
 of_both P before after gone new =
     let removals = all_found P (is_gone after) (λ row. Remove row.path) (reverse before) gone in
-    let makings = all_found P (is_new before) making after new in
     all_append P (filter_map (removal_of after) (reverse before)) (flat_map (makings_of before) after) removals
-    (subst (AllByRecursion P) (sym (makings_found before after)) makings)
+    (all_made P before after new)
 
 pub leads : ChangesLead
 leads before after old new are_before are_after applied path there =
     applied_nodes path (changes before after) 0 old new
     (of_both (λ e. is_move e ≡ false) before after (all_rows _ (reverse before) (λ row gone. refl))
-    (all_rows _ after (λ row new. still_making row))) applied
+    (all_rows _ after (λ row. ((λ new. still_making row), (λ moded. refl))))) applied
     ∙ ap (λ n. fold (node_after path) n (changes before after)) there
     ∙ changes_lead before after (are_distinct before are_before.in_order) (are_distinct after are_after.in_order) path
 
@@ -168,12 +190,19 @@ module _ (before after : List JobRow) (path : FilePath) (agree : node_in before 
       true≢false (sym new ∙ ap (λ n. not (has_content row.node n)) there ∙ node_stays row.node)
   none_new row found new (inr none) = none
 
+  none_moded : (row : JobRow) → node_in after row.path ≡ Some row.node → is_moded before row ≡ true → IsIn path (row.path ∷ []) → ⊥
+  none_moded row found moded (inl same) =
+      let there : node_in before row.path ≡ Some row.node =
+      subst (λ q. node_in before q ≡ Some row.node) same (agree ∙ subst (λ q. node_in after q ≡ Some row.node) (sym same) found) in
+      true≢false (sym moded ∙ ap (has_other_mode row.node) there ∙ mode_stays row.node)
+  none_moded row found moded (inr none) = none
+
 makes_there : (path : FilePath) (row : JobRow) → IsIn path (touched_paths (making row)) → IsIn path (row.path ∷ [])
 makes_there path row = by row.node
   where
     by : (node : Node) → IsIn path (touched_paths (made row.path node)) → IsIn path (row.path ∷ [])
     by Folder isin = isin
-    by (File content) isin = isin
+    by (File content exec) isin = isin
 
 pub leaves : ChangesLeaveTheRest
 leaves before after old new are_before are_after applied path agree =
@@ -184,8 +213,9 @@ leaves before after old new are_before are_after applied path agree =
     (none_gone before after path agree) (reverse before) (all_reverse
     (λ row. node_in before row.path ≡ Some row.node) before found_before) in
     let new_rows =
-    all_map (λ row. node_in after row.path ≡ Some row.node) (λ row. is_new before row ≡ true → IsIn path (touched_paths (making row)) → ⊥)
-    (λ row found is isin. none_new before after path agree row found is (makes_there path row isin)) after found_after in
+    all_map (λ row. node_in after row.path ≡ Some row.node)
+    (λ row. (is_new before row ≡ true → IsIn path (touched_paths (making row)) → ⊥) × (is_moded before row ≡ true → IsIn path (touched_paths (moding row)) → ⊥))
+    (λ row found. ((λ is isin. none_new before after path agree row found is (makes_there path row isin)), none_moded before after path agree row found)) after found_after in
     rest_stays path (changes before after) 0 old new (of_both (λ e. IsIn path (touched_paths e) → ⊥) before after gone new_rows) applied
 
 pub nothing : NothingChanges

@@ -1,6 +1,6 @@
 -- A change list leads from the rows before to those after.
 use Rattle.std.proofs.Common.{◌≡◌, Bool, true, false, ◌||◌, ◌&&◌, not, List, [], ◌∷◌, ◌++◌, reverse, find, Option, Some, None}
-use Rattle.std.proofs.Common.{option_map, unwrap_or, cond, refl, sym, ap, ◌∙◌, subst, true≢false}
+use Rattle.std.proofs.Common.{option_map, unwrap_or, cond, refl, sym, ap, ◌∙◌, subst}
 use Rattle.std.specs.List.{list_any, filter_map, fold, AllByRecursion}
 use Rattle.std.specs.Str.{bytes_eq}
 use Rattle.std.specs.Cmp.Lexicographic.{bytes_decides}
@@ -9,18 +9,18 @@ use Rattle.std.proofs.lemmas.List.Sums.{fold-append}
 use Rattle.tree_values.specs.declared.node.Node.{Node}
 use Rattle.tree_values.specs.declared.node.Node.TheVariants.{Folder, File}
 use Rattle.tree_values.specs.declared.node.Effect.{Effect}
-use Rattle.tree_values.specs.declared.node.Effect.TheVariants.{Make, Put, Remove, Move}
+use Rattle.tree_values.specs.declared.node.Effect.TheVariants.{Make, Put, Remove, Move, Mode}
 use Rattle.cmd_capture.specs.declared.job.JobRow.{JobRow}
 use Rattle.cmd_capture.specs.Rows.{is_job_row_at, node_in}
 use Rattle.file_paths.specs.Path.{FilePath, is_same_path}
 use Rattle.byte_fields.proofs.Facts.{or_false}
 use Rattle.file_paths.proofs.Order.{tied_path}
 use Rattle.work_area.proofs.JobRows.{AreDistinct}
-use Rattle.work_area.specs.Changes.{has_kind, has_content, is_gone, is_new, removal_of, making_of, makings_of, making, made, changes}
+use Rattle.work_area.specs.Changes.{has_kind, has_content, has_other_mode, is_gone, is_new, is_moded, removal_of, makings_of, made, changes}
 use Rattle.std.specs.Option.{option_to_list}
-use Rattle.std.specs.List.{flat_map, cons_option}
+use Rattle.std.specs.List.{flat_map}
 use Rattle.std.proofs.lemmas.List.Concat.{flat_map-cons}
-use Rattle.tree_values.specs.Tree.{with_content}
+use Rattle.tree_values.specs.Tree.{is_exec, with_content, with_mode}
 
 -- the node of a path after an effect that moves nothing
 abbrev pub node_after : FilePath → Option Node → Effect → Option Node
@@ -28,16 +28,7 @@ node_after path node (Make p) = cond (is_same_path p path) (Some Folder) node
 node_after path node (Put p content) = cond (is_same_path p path) (Some (with_content node content)) node
 node_after path node (Remove p) = cond (is_same_path p path) None node
 node_after path node (Move p q) = node
-
--- what is made, as a filter of the rows
-pub makings_found : (before rows : List JobRow) → flat_map (makings_of before) rows ≡ filter_map (making_of before) rows
-makings_found before [] = refl
-makings_found before (row ∷ rows) = flat_map-cons (makings_of before) row rows ∙ by (making_of before row) (makings_found before rows)
-  where
-    by : (o : Option Effect) → flat_map (makings_of before) rows ≡ filter_map (making_of before) rows
-        → option_to_list o ++ flat_map (makings_of before) rows ≡ cons_option o (filter_map (making_of before) rows)
-    by None more = more
-    by (Some e) more = ap (λ es. e ∷ es) more
+node_after path node (Mode p exec) = cond (is_same_path p path) (with_mode exec node) node
 
 module _ (path : FilePath) where
   -- effects that all give the path one node, or leave it
@@ -96,26 +87,6 @@ abbrev gone : Option Node → Option Node → Bool
 gone None after = false
 gone (Some node) after = not (has_kind node after)
 
-abbrev new : Option Node → Option Node → Bool
-new None before = false
-new (Some node) before = not (has_content node before)
-
-settled : (before after : Option Node) → cond (new after before) after (cond (gone before after) None before) ≡ after
-settled None None = refl
-settled (Some b) None = gone_away b
-  where
-    gone_away : (b : Node) → cond (not (has_kind b None)) None (Some b) ≡ None
-    gone_away b = refl
-settled None (Some a) = refl
-settled (Some Folder) (Some Folder) = refl
-settled (Some Folder) (Some (File c)) = refl
-settled (Some (File c)) (Some Folder) = refl
-settled (Some (File c)) (Some (File d)) = by (bytes_eq d c) refl
-  where
-    by : (b : Bool) → bytes_eq d c ≡ b → cond (not b) (Some (File d)) (Some (File c)) ≡ Some (File d)
-    by true e = ap (λ x. Some (File x)) (sym ((bytes_decides d c).0 e))
-    by false e = refl
-
 -- ---- the rows that are found
 
 module _ (path : FilePath) where
@@ -131,51 +102,89 @@ module _ (path : FilePath) where
       by true e more = simp e (ap (λ p. not (has_kind row.node (node_in after p))) (tied_path row.path path e))
       by false e more = simp e more
 
-  found_new : (before rows : List JobRow)
-      → unwrap_or (option_map (is_new before) (find (is_job_row_at path) rows)) false ≡ new (node_in rows path) (node_in before path)
-  found_new before [] = refl
-  found_new before (row ∷ rows) = by (is_job_row_at path row) refl (found_new before rows)
-    where
-      by : (t : Bool) → is_job_row_at path row ≡ t
-          → unwrap_or (option_map (is_new before) (find (is_job_row_at path) rows)) false ≡ new (node_in rows path) (node_in before path)
-          → unwrap_or (option_map (is_new before) (find (is_job_row_at path) (row ∷ rows))) false
-          ≡ new (node_in (row ∷ rows) path) (node_in before path)
-      by true e more = simp e (ap (λ p. not (has_content row.node (node_in before p))) (tied_path row.path path e))
-      by false e more = simp e more
-
-  vacuous : (w : Option Node) (p : FilePath) → p ≡ path → (rows : List JobRow)
-      → AllByRecursion (λ other. is_job_row_at p other ≡ false) rows
-      → AllByRecursion (λ row. is_job_row_at path row ≡ true → Some row.node ≡ w) rows
-  vacuous w p same [] all = tt
-  vacuous w p same (row ∷ rows) all =
-      (λ h. absurd (true≢false (sym h ∙ subst (λ q. is_job_row_at q row ≡ false) same all.0)), vacuous w p same rows all.1)
-
-  -- a row at the path has the path's node
-  members : (rows : List JobRow) → AreDistinct rows → AllByRecursion (λ row. is_job_row_at path row ≡ true → Some row.node ≡ node_in rows path) rows
-  members [] distinct = tt
-  members (row ∷ rows) distinct = by (is_job_row_at path row) refl (members rows distinct.1)
-    where
-      by : (t : Bool) → is_job_row_at path row ≡ t
-          → AllByRecursion (λ r. is_job_row_at path r ≡ true → Some r.node ≡ node_in rows path) rows
-          → AllByRecursion (λ r. is_job_row_at path r ≡ true → Some r.node ≡ node_in (row ∷ rows) path) (row ∷ rows)
-      by true e more = ((λ h. simp e refl), vacuous (node_in (row ∷ rows) path) row.path (tied_path row.path path e) rows distinct.0)
-      by false e more =
-          let same : node_in (row ∷ rows) path ≡ node_in rows path = simp e refl in (
-            (λ h. absurd (true≢false (sym h ∙ e))),
-            subst (λ w. AllByRecursion (λ r. is_job_row_at path r ≡ true → Some r.node ≡ w) rows)
-                (sym same) more,
-          )
-
   none_given : (nothing : Option Node) (rows : List JobRow) → AllByRecursion (λ row. is_job_row_at path row ≡ true → nothing ≡ nothing) rows
   none_given nothing [] = tt
   none_given nothing (row ∷ rows) = ((λ h. refl), none_given nothing rows)
 
-  sets : (row : JobRow) (n : Option Node) → node_after path n (making row) ≡ cond (is_job_row_at path row) (Some row.node) n
-  sets row n = by row.node
+  -- effects of rows elsewhere leave the node
+  passes : (f : JobRow → List Effect) → ((row : JobRow) (n : Option Node) → is_job_row_at path row ≡ false → fold (node_after path) n (f row) ≡ n)
+      → (p : FilePath) → p ≡ path → (rows : List JobRow) → AllByRecursion (λ other. is_job_row_at p other ≡ false) rows
+      → (n : Option Node) → fold (node_after path) n (flat_map f rows) ≡ n
+  passes f others p same [] all n = refl
+  passes f others p same (row ∷ rows) all n =
+      let here : is_job_row_at path row ≡ false = subst (λ q. is_job_row_at q row ≡ false) same all.0 in
+      ap (fold (node_after path) n) (flat_map-cons f row rows) ∙ fold-append (node_after path) n (f row) (flat_map f rows)
+      ∙ ap (λ m. fold (node_after path) m (flat_map f rows)) (others row n here) ∙ passes f others p same rows all.1 n
+
+  -- the row at the path gives it its node, and no other does
+  gives : (f : JobRow → List Effect) → ((row : JobRow) (n : Option Node) → is_job_row_at path row ≡ false → fold (node_after path) n (f row) ≡ n)
+      → (n : Option Node) (rows : List JobRow) → AreDistinct rows
+      → ((row : JobRow) → is_job_row_at path row ≡ true → node_in rows path ≡ Some row.node → fold (node_after path) n (f row) ≡ Some row.node)
+      → (node_in rows path ≡ None → n ≡ None)
+      → fold (node_after path) n (flat_map f rows) ≡ node_in rows path
+  gives f others n [] distinct sets none = none refl
+  gives f others n (row ∷ rows) distinct sets none =
+      ap (fold (node_after path) n) (flat_map-cons f row rows) ∙ fold-append (node_after path) n (f row) (flat_map f rows)
+      ∙ by (is_job_row_at path row) refl (gives f others n rows distinct.1)
     where
-      by : (node : Node) → node_after path n (made row.path node) ≡ cond (is_job_row_at path row) (Some node) n
-      by Folder = refl
-      by (File content) = refl
+      by : (t : Bool) → is_job_row_at path row ≡ t
+          → (((r : JobRow) → is_job_row_at path r ≡ true → node_in rows path ≡ Some r.node → fold (node_after path) n (f r) ≡ Some r.node)
+          → (node_in rows path ≡ None → n ≡ None) → fold (node_after path) n (flat_map f rows) ≡ node_in rows path)
+          → fold (node_after path) (fold (node_after path) n (f row)) (flat_map f rows) ≡ node_in (row ∷ rows) path
+      by true e more =
+          ap (λ m. fold (node_after path) m (flat_map f rows)) (sets row e (simp e refl))
+          ∙ passes f others row.path (tied_path row.path path e) rows distinct.0 (Some row.node) ∙ sym (simp e refl)
+      by false e more =
+          let same : node_in (row ∷ rows) path ≡ node_in rows path = simp e refl in
+          ap (λ m. fold (node_after path) m (flat_map f rows)) (others row n e) ∙ more (λ r at there. sets r at (same ∙ there)) (λ h. none (same ∙ h)) ∙ sym same
+
+  -- what makes a row elsewhere leaves the node
+  makes_elsewhere : (before : List JobRow) (row : JobRow) (n : Option Node) → is_job_row_at path row ≡ false
+      → fold (node_after path) n (makings_of before row) ≡ n
+  makes_elsewhere before row n e = by row.node (is_new before row) (is_moded before row)
+    where
+      by : (node : Node) (new moded : Bool)
+          → fold (node_after path) n (option_to_list (cond new (Some (made row.path node)) None) ++ option_to_list (cond moded (Some (Mode row.path (is_exec (Some row.node)))) None)) ≡ n
+      by node false false = refl
+      by node false true = simp e refl
+      by Folder true false = simp e refl
+      by Folder true true = simp e refl
+      by (File content exec) true false = simp e refl
+      by (File content exec) true true = simp e refl
+
+  -- what stands at the path of a row once it is made, whatever stood there
+  makes_it : (p : FilePath) → is_same_path p path ≡ true → (node : Node) (old : Option Node)
+      → fold (node_after path) (cond (gone old (Some node)) None old)
+      (option_to_list (cond (not (has_content node old)) (Some (made p node)) None) ++ option_to_list (cond (has_other_mode node old) (Some (Mode p (is_exec (Some node)))) None))
+      ≡ Some node
+  makes_it p e Folder None = simp e refl
+  makes_it p e Folder (Some Folder) = refl
+  makes_it p e Folder (Some (File d old)) = simp e refl
+  makes_it p e (File c true) None = simp e refl
+  makes_it p e (File c false) None = simp e refl
+  makes_it p e (File c true) (Some Folder) = simp e refl
+  makes_it p e (File c false) (Some Folder) = simp e refl
+  makes_it p e (File c exec) (Some (File d old)) = by (bytes_eq c d) refl exec old
+    where
+      by : (b : Bool) → bytes_eq c d ≡ b → (x y : Bool)
+          → fold (node_after path) (Some (File d y))
+          (option_to_list (cond (not b) (Some (Put p c)) None) ++ option_to_list (cond (has_other_mode (File c x) (Some (File d y))) (Some (Mode p x)) None))
+          ≡ Some (File c x)
+      by true same true true = ap (λ z. Some (File z true)) (sym ((bytes_decides c d).0 same))
+      by true same true false = simp e (ap (λ z. Some (File z true)) (sym ((bytes_decides c d).0 same)))
+      by true same false true = simp e (ap (λ z. Some (File z false)) (sym ((bytes_decides c d).0 same)))
+      by true same false false = ap (λ z. Some (File z false)) (sym ((bytes_decides c d).0 same))
+      by false same true true = simp e refl
+      by false same true false = simp e refl
+      by false same false true = simp e refl
+      by false same false false = simp e refl
+
+  -- a row at the path, whose node before is that of the path
+  makes_row : (before : List JobRow) (row : JobRow) → is_job_row_at path row ≡ true
+      → fold (node_after path) (cond (gone (node_in before path) (Some row.node)) None (node_in before path)) (makings_of before row) ≡ Some row.node
+  makes_row before row e =
+      subst (λ old. fold (node_after path) (cond (gone old (Some row.node)) None old) (makings_of before row) ≡ Some row.node)
+      (ap (node_in before) (tied_path row.path path e)) (makes_it row.path e row.node (node_in before row.path))
 
 any_append : (p : JobRow → Bool) (xs ys : List JobRow) → list_any p (xs ++ ys) ≡ (list_any p xs || list_any p ys)
 any_append p [] ys = refl
@@ -198,22 +207,32 @@ any_reverse p (x ∷ xs) =
     swap false true = refl
     swap false false = refl
 
+-- where nothing is left in the end, nothing stands once what is gone is removed
+none_left : (b a : Option Node) → a ≡ None → cond (gone b a) None b ≡ None
+none_left None a e = none_kept (gone None a)
+  where
+    none_kept : (t : Bool) → cond {A = Option Node} t None None ≡ None
+    none_kept true = refl
+    none_kept false = refl
+none_left (Some node) a e = rw e refl
+
 -- wherever the nodes are those of `before`, the change list makes them those of `after`
 pub changes_lead : (before after : List JobRow) → AreDistinct before → AreDistinct after → (path : FilePath)
     → fold (node_after path) (node_in before path) (changes before after) ≡ node_in after path
 changes_lead before after distinct_before distinct_after path =
-    let a = node_in after path in
-    let b = node_in before path in
     let removed : fold (node_after path) b (filter_map (removal_of after) (reverse before)) ≡ cond (gone b a) None b =
     folded path (is_gone after) (λ row. Remove row.path) (λ row. None) None (λ row n. refl) (reverse before)
     (none_given path None (reverse before)) b
     ∙ ap (λ t. cond t None b)
     (any_reverse (λ row. is_job_row_at path row && is_gone after row) before ∙ any_is_found path (is_gone after) before distinct_before
     ∙ found_gone path after before) in
-    ap (λ es. fold (node_after path) b (filter_map (removal_of after) (reverse before) ++ es)) (makings_found before after)
-    ∙ fold-append (node_after path) b (filter_map (removal_of after) (reverse before)) (filter_map (making_of before) after)
-    ∙ ap (λ m. fold (node_after path) m (filter_map (making_of before) after)) removed
-    ∙ folded path (is_new before) making (λ row. Some row.node) a (sets path) after (members path after distinct_after)
-    (cond (gone b a) None b)
-    ∙ ap (λ t. cond t a (cond (gone b a) None b)) (any_is_found path (is_new before) after distinct_after ∙ found_new path before after)
-    ∙ settled b a
+    fold-append (node_after path) b (filter_map (removal_of after) (reverse before)) (flat_map (makings_of before) after)
+    ∙ ap (λ m. fold (node_after path) m (flat_map (makings_of before) after)) removed
+    ∙ gives path (makings_of before) (makes_elsewhere path before) (cond (gone b a) None b) after distinct_after
+    (λ row e there. subst (λ n. fold (node_after path) (cond (gone b n) None b) (makings_of before row) ≡ Some row.node) (sym there) (makes_row path before row e)) (λ none. none_left b a none)
+  where
+    a : Option Node
+    a = node_in after path
+
+    b : Option Node
+    b = node_in before path

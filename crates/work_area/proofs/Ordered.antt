@@ -1,21 +1,21 @@
 -- The order of a change list, and what each of its effects changes.
-use Rattle.std.proofs.Common.{◌≡◌, Bool, true, false, List, [], ◌∷◌, ◌++◌, reverse, map, filter, Some, None, cond, refl}
+use Rattle.std.proofs.Common.{◌≡◌, ◌⊎◌, inl, inr, Bool, ◌||◌, true, false, List, [], ◌∷◌, ◌++◌, reverse, map, filter, Some, None, cond, refl}
 use Rattle.std.proofs.Common.{sym, ap, ◌∙◌, subst}
 use Rattle.std.specs.List.{filter_map, cons_option, flat_map, AllByRecursion}
 use Rattle.std.specs.declared.cmp.Ordering.TheVariants.{Less}
 use Rattle.std.proofs.lemmas.List.{reverse-append}
 use Rattle.std.proofs.lemmas.List.Elements.{filter-append}
-use Rattle.byte_fields.proofs.Facts.{not_of}
+use Rattle.std.proofs.lemmas.List.Concat.{flat_map-cons}
+use Rattle.byte_fields.proofs.Facts.{not_of, or_false_of}
 use Rattle.file_paths.specs.Path.{FilePath, path_cmp}
 use Rattle.tree_values.specs.declared.node.Effect.{Effect}
 use Rattle.tree_values.specs.declared.node.Effect.TheVariants.{Remove}
 use Rattle.cmd_capture.specs.declared.job.JobRow.{JobRow}
 use Rattle.cmd_capture.specs.Rows.{node_in, JobRowsAreInOrder}
-use Rattle.work_area.specs.Changes.{has_kind, has_content, is_gone, is_new, removal_of, makings_of, making}
+use Rattle.work_area.specs.Changes.{has_kind, has_content, has_other_mode, is_gone, is_new, is_moded, removal_of, makings_of}
 use Rattle.work_area.specs.Laws.{AreFalling, IsGone, IsNewRow, ChangesAreInOrder}
 use Rattle.work_area.proofs.JobRows.{are_distinct}
-use Rattle.work_area.proofs.Leading.{makings_found}
-use Rattle.work_area.proofs.Unchanged.{are_found}
+use Rattle.work_area.proofs.Unchanged.{are_found, nothing_made}
 use Rattle.work_area.proofs.Applying.{all_reverse}
 
 -- ---- rows that pass a test
@@ -121,15 +121,35 @@ gone_rows before after (row ∷ rows) found = (
       before after rows found.1,
 )
 
+-- whether something about the row is new
+abbrev is_changed : List JobRow → JobRow → Bool
+is_changed before row = is_new before row || is_moded before row
+
 new_rows : (before after : List JobRow) (rows : List JobRow)
     → AllByRecursion (λ row. node_in after row.path ≡ Some row.node) rows
-    → AllByRecursion (λ row. is_new before row ≡ true → IsNewRow before after row) rows
+    → AllByRecursion (λ row. is_changed before row ≡ true → IsNewRow before after row) rows
 new_rows before after [] found = tt
-new_rows before after (row ∷ rows) found = (
-  (λ new. record { left = found.0; stood = not_of (has_content row.node (node_in before row.path)) new }),
-  new_rows before after rows
-      found.1,
-)
+new_rows before after (row ∷ rows) found = ((λ new. record { left = found.0; stood = by (is_new before row) refl new }), new_rows before after rows found.1)
+  where
+    by : (b : Bool) → is_new before row ≡ b → (b || is_moded before row) ≡ true
+        → (has_content row.node (node_in before row.path) ≡ false) ⊎ (has_other_mode row.node (node_in before row.path) ≡ true)
+    by true e new = inl (not_of (has_content row.node (node_in before row.path)) e)
+    by false e new = inr new
+
+-- rows about which nothing is new have no effects
+changed_made : (before rows : List JobRow) → flat_map (makings_of before) rows ≡ flat_map (makings_of before) (filter (is_changed before) rows)
+changed_made before [] = refl
+changed_made before (row ∷ rows) =
+    flat_map-cons (makings_of before) row rows ∙ ap (λ es. makings_of before row ++ es) (changed_made before rows)
+    ∙ by (is_changed before row) refl
+  where
+    by : (b : Bool) → is_changed before row ≡ b
+        → makings_of before row ++ flat_map (makings_of before) (filter (is_changed before) rows)
+        ≡ flat_map (makings_of before) (cond b (row ∷ filter (is_changed before) rows) (filter (is_changed before) rows))
+    by true e = sym (flat_map-cons (makings_of before) row (filter (is_changed before) rows))
+    by false e =
+        let none = or_false_of (is_new before row) (is_moded before row) e in
+        ap (λ es. es ++ flat_map (makings_of before) (filter (is_changed before) rows)) (nothing_made before row none.0 none.1)
 
 pub ordered : ChangesAreInOrder
 ordered before after are_before are_after =
@@ -138,20 +158,18 @@ ordered before after are_before are_after =
     let gone = filter (is_gone after) (reverse before) in
     let removals : filter_map (removal_of after) (reverse before) ≡ map Remove (paths gone) =
     effects_of (is_gone after) (λ row. Remove row.path) (reverse before) ∙ removals_of_paths gone in
-    let makings : flat_map (makings_of before) after ≡ map making (filter (is_new before) after) =
-    makings_found before after ∙ effects_of (is_new before) making after in
     record {
       removed = paths gone;
-      made = filter (is_new before) after;
+      made = filter (is_changed before) after;
       parts =
           ap (λ (es : List Effect). es ++ flat_map (makings_of before) after) removals
-          ∙ ap (λ (es : List Effect). map Remove (paths gone) ++ es) makings;
+          ∙ ap (λ (es : List Effect). map Remove (paths gone) ++ es) (changed_made before after);
       falls = falling (is_gone after) before are_before.in_order;
-      rises = order_kept (is_new before) after are_after.in_order;
+      rises = order_kept (is_changed before) after are_after.in_order;
       gone =
           all_paths (IsGone before after) gone
           (all_passing (is_gone after) (λ row. IsGone before after row.path) (reverse before)
           (all_reverse (λ row. is_gone after row ≡ true → IsGone before after row.path) before
           (gone_rows before after before found_before)));
-      new = all_passing (is_new before) (IsNewRow before after) after (new_rows before after after found_after);
+      new = all_passing (is_changed before) (IsNewRow before after) after (new_rows before after after found_after);
     }

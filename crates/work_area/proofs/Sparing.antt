@@ -1,7 +1,9 @@
 -- A change list that does not clash leaves what stands beside the job.
 use Rattle.std.proofs.Common.{◌≡◌, Bool, true, false, not, List, [], ◌∷◌, ◌++◌, reverse, find, Option, Some, None}
 use Rattle.std.proofs.Common.{is_some, option_map, position, cond, refl, sym, ap, ◌∙◌, subst, true≢false}
-use Rattle.std.specs.List.{filter_map, cons_option, flat_map, AllByRecursion}
+use Rattle.std.specs.List.{filter_map, flat_map, AllByRecursion}
+use Rattle.std.specs.Option.{option_to_list}
+use Rattle.std.proofs.lemmas.List.Concat.{flat_map-cons}
 use Rattle.byte_fields.specs.Numbers.{as_u32}
 use Rattle.byte_fields.proofs.Facts.{none_mapped}
 use Rattle.file_paths.specs.Path.{FilePath}
@@ -16,7 +18,6 @@ use Rattle.cmd_capture.proofs.Captured.{none_passes}
 use Rattle.work_area.specs.Changes.{has_content, is_new, removal_of, makings_of, making, made, changes, has_row, is_taken}
 use Rattle.work_area.specs.Changes.{clashes}
 use Rattle.work_area.specs.Laws.{NoClashSparesTheRest}
-use Rattle.work_area.proofs.Leading.{makings_found}
 use Rattle.work_area.proofs.Applying.{leaves}
 use Rattle.work_area.proofs.Searching.{any_is_found}
 
@@ -24,21 +25,24 @@ behind : (P : Effect → Type 0) (xs ys : List Effect) → AllByRecursion P (xs 
 behind P [] ys all = all
 behind P (x ∷ xs) ys all = behind P xs ys all.1
 
--- what holds of all effects holds of that of each row that passes
-each_row : (P : Effect → Type 0) (test : JobRow → Bool) (effect : JobRow → Effect) (rows : List JobRow)
-    → AllByRecursion P (filter_map (λ row. cond (test row) (Some (effect row)) None) rows)
-    → AllByRecursion (λ row. test row ≡ true → P (effect row)) rows
-each_row P test effect [] all = tt
-each_row P test effect (row ∷ rows) all = by (test row) refl all (each_row P test effect rows)
-  where
-    by : (b : Bool) → test row ≡ b
-        → AllByRecursion P (cons_option (cond b (Some (effect row)) None)
-        (filter_map (λ row. cond (test row) (Some (effect row)) None) rows))
-        → (AllByRecursion P (filter_map (λ row. cond (test row) (Some (effect row)) None) rows)
-        → AllByRecursion (λ row. test row ≡ true → P (effect row)) rows)
-        → AllByRecursion (λ row. test row ≡ true → P (effect row)) (row ∷ rows)
-    by true e all more = ((λ is. all.0), more all.1)
-    by false e all more = ((λ is. absurd (true≢false (sym is ∙ e))), more all)
+front : (P : Effect → Type 0) (xs ys : List Effect) → AllByRecursion P (xs ++ ys) → AllByRecursion P xs
+front P [] ys all = tt
+front P (x ∷ xs) ys all = (all.0, front P xs ys all.1)
+
+first_of : (P : Effect → Type 0) (test : Bool) (e : Effect) (later : List Effect)
+    → AllByRecursion P (option_to_list (cond test (Some e) None) ++ later) → test ≡ true → P e
+first_of P true e later all is = all.0
+first_of P false e later all is = absurd (true≢false (sym is))
+
+-- what holds of all effects that make rows holds of that of each new row
+each_row : (P : Effect → Type 0) (before rows : List JobRow) → AllByRecursion P (flat_map (makings_of before) rows)
+    → AllByRecursion (λ row. is_new before row ≡ true → P (making row)) rows
+each_row P before [] all = tt
+each_row P before (row ∷ rows) all =
+    let both = subst (AllByRecursion P) (flat_map-cons (makings_of before) row rows) all in (
+      first_of P (is_new before row) (making row) _ (front P (makings_of before row) (flat_map (makings_of before) rows) both),
+      each_row P before rows (behind P (makings_of before row) (flat_map (makings_of before) rows) both),
+    )
 
 -- what holds of each row holds of that at the path
 at_the_path : (Q : FilePath → Node → Type 0) (rows : List JobRow) (path : FilePath) (n : Node)
@@ -66,7 +70,7 @@ never_there n = refl
 
 makes_there : (old : Volume) (job : List JobRow) (path : FilePath) (n : Node) → clashes old job (made path n) ≡ is_taken old job path
 makes_there old job path Folder = refl
-makes_there old job path (File content) = refl
+makes_there old job path (File content exec) = refl
 
 pub spared : NoClashSparesTheRest
 spared job after old new are_job are_after clear applied path beside stands = by (node_in after path) refl
@@ -81,8 +85,7 @@ spared job after old new are_job are_after clear applied path beside stands = by
         none_passes (clashes old job) (changes job after) (none_mapped as_u32 (position (clashes old job) (changes job after)) clear) in
         let makings =
         behind (λ e. clashes old job e ≡ false) (filter_map (removal_of after) (reverse job)) (flat_map (makings_of job) after) all in
-        each_row (λ e. clashes old job e ≡ false) (is_new job) making after
-        (subst (AllByRecursion (λ e. clashes old job e ≡ false)) (makings_found job after) makings)
+        each_row (λ e. clashes old job e ≡ false) job after makings
 
     by : (o : Option Node) → node_in after path ≡ o → (version_at new path ≡ version_at old path) × (node_at new path ≡ node_at old path)
     by None e = leaves job after old new are_job are_after applied path (none_there ∙ sym e)

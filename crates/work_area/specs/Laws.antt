@@ -1,6 +1,6 @@
 -- What holds of jobs and of change lists, in their own words.
-use Rattle.std.specs.Prelude.{◌≡◌, true, false, List, [], ◌∷◌, ◌++◌, map, Some, None, is_some, Ok}
-use Rattle.std.specs.List.{AllByRecursion}
+use Rattle.std.specs.Prelude.{◌≡◌, ◌⊎◌, true, false, List, [], ◌∷◌, ◌++◌, map, Some, None, is_some, Ok}
+use Rattle.std.specs.List.{flat_map, AllByRecursion}
 use Rattle.std.specs.declared.cmp.Ordering.TheVariants.{Less}
 use Rattle.file_paths.specs.Path.{FilePath, path_cmp}
 use Rattle.tree_values.specs.Tree.{Volume, IsTree, version_at, node_at}
@@ -13,7 +13,7 @@ use Rattle.cmd_capture.specs.declared.job.Job.{Job}
 use Rattle.cmd_capture.specs.declared.job.JobRow.{JobRow}
 use Rattle.cmd_capture.specs.Rows.{JobRowsAreInOrder, AreJobRows, node_in}
 use Rattle.work_area.specs.Jobs.{is_of_job, job_of}
-use Rattle.work_area.specs.Changes.{has_kind, has_content, changes, making, has_row, clash}
+use Rattle.work_area.specs.Changes.{has_kind, has_content, has_other_mode, changes, makings_of, has_row, clash}
 
 -- ---- jobs
 
@@ -63,13 +63,14 @@ pub record IsGone (before after : List JobRow) (path : FilePath) : Type 0 where
 -- the row is left, and before it its path had no such node
 pub record IsNewRow (before after : List JobRow) (row : JobRow) : Type 0 where
   pub left : node_in after row.path ≡ Some row.node
-  pub stood : has_content row.node (node_in before row.path) ≡ false
+  pub stood : (has_content row.node (node_in before row.path) ≡ false) ⊎ (has_other_mode row.node (node_in before row.path) ≡ true)
 
--- first what is gone is removed, in falling order of the paths, and then what is new is made, in rising order
+-- first what is gone is removed, in falling order of the paths, and then what is new is made, in rising order: its content,
+-- where it is another, and directly behind whether it may be run, where it may otherwise
 pub record RemovesAndMakes (before after : List JobRow) (effects : List Effect) : Type 0 where
   pub removed : List FilePath
   pub made : List JobRow
-  pub parts : effects ≡ map Remove removed ++ map making made
+  pub parts : effects ≡ map Remove removed ++ flat_map (makings_of before) made
   pub falls : AreFalling removed
   pub rises : JobRowsAreInOrder made
   pub gone : AllByRecursion (IsGone before after) removed

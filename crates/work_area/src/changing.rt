@@ -14,7 +14,7 @@ use byte_fields::saturate_u32;
 use cmd_capture::{Job, JobRow, JobRows};
 use std::alloc::{AllocError, Global};
 use std::cmp::Ordering;
-use vol_tree::{Content, Effect, Effects, Node, Path, Tree, TryCopy};
+use vol_tree::{Content, Effect, Effects, Node, Path, Tree, TryCopy, is_exec};
 
 /// Whether both are folders, or both are files.
 fn has_kind(node: &Node, other: Option<&Node>) -> bool
@@ -22,7 +22,7 @@ fn has_kind(node: &Node, other: Option<&Node>) -> bool
 {
     match (node, other) {
         (Node::Folder, Some(Node::Folder)) => true,
-        (Node::File(_), Some(Node::File(_))) => true,
+        (Node::File { .. }, Some(Node::File { .. })) => true,
         _ => false,
     }
 }
@@ -33,8 +33,21 @@ fn has_content(node: &Node, other: Option<&Node>) -> bool
 {
     match (node, other) {
         (Node::Folder, Some(Node::Folder)) => true,
-        (Node::File(content), Some(Node::File(other))) => content.bytes() == other.bytes(),
+        (Node::File { content, .. }, Some(Node::File { content: other, .. })) => {
+            content.bytes() == other.bytes()
+        }
         _ => false,
+    }
+}
+
+/// Whether it is a file that may be run where none could be, or may not where one could.
+fn has_other_mode(node: &Node, old: Option<&Node>) -> bool
+    ensures { result ≡ rules.has_other_mode node.now (option_copied old.entry) }
+{
+    match node {
+        Node::Folder => false,
+        Node::File { exec: true, .. } => !is_exec(old),
+        Node::File { exec: false, .. } => is_exec(old),
     }
 }
 
@@ -61,7 +74,7 @@ fn making(row: &JobRow) -> Result<Effect, AllocError>
     let path = row.path.copy()?;
     match &row.node {
         Node::Folder => Ok(Effect::Make(path)),
-        Node::File(content) => Ok(Effect::Put(path, content.copy()?)),
+        Node::File { content, .. } => Ok(Effect::Put(path, content.copy()?)),
     }
 }
 
@@ -87,6 +100,26 @@ fn new_making(before: &[JobRow], row: &JobRow) -> Result<Option<Effect>, AllocEr
     Ok(Some(making(row)?))
 }
 
+/// Whether the row's file may be run otherwise than what stands there once it has its content.
+fn is_moded(before: &[JobRow], row: &JobRow) -> bool
+    requires { JobRowsAreInOrder before.now }
+    ensures { result ≡ rules.is_moded before.now row.now }
+{
+    has_other_mode(&row.node, node_in(before, row.path.names()))
+}
+
+/// What lets the row's file be run or not, where it may otherwise.
+fn new_mode(before: &[JobRow], row: &JobRow) -> Result<Option<Effect>, AllocError>
+    requires { JobRowsAreInOrder before.now }
+    ensures { IfOk result (λ found. found ≡ rules.mode_of before.now row.now) }
+{
+    if !is_moded(before, row) {
+        return Ok(None);
+    }
+    let exec = is_exec(Some(&row.node));
+    Ok(Some(Effect::Mode(row.path.copy()?, exec)))
+}
+
 /// Adds the removals of what is gone, the last path first.
 fn push_removals(
     effects: &mut Effects,
@@ -104,7 +137,7 @@ fn push_removals(
     Ok(())
 }
 
-/// Adds what makes the new rows.
+/// Adds what makes the new rows, and whether their files may be run.
 fn push_makings(
     effects: &mut Effects,
     before: &[JobRow],
@@ -115,6 +148,7 @@ fn push_makings(
 {
     for row in after {
         effects.push_found(new_making(before, row)?)?;
+        effects.push_found(new_mode(before, row)?)?;
     }
     Ok(())
 }
@@ -199,7 +233,7 @@ fn clashes(tree: &Tree, job: &Job, effect: &Effect) -> bool
         Effect::Make(path) => is_taken(tree, job, path),
         Effect::Put(path, _) => is_taken(tree, job, path),
         Effect::Remove(path) => has_foreign_child(tree, job, path),
-        Effect::Move(..) => false,
+        Effect::Move(..) | Effect::Mode(..) => false,
     }
 }
 
@@ -226,8 +260,11 @@ pub fn first_path(effect: &Effect) -> &Path
     ensures { result.now ≡ rules.first_path effect.now }
 {
     match effect {
-        Effect::Make(path) | Effect::Put(path, _) | Effect::Remove(path) | Effect::Move(path, _) =>
-            path,
+        Effect::Make(path)
+        | Effect::Put(path, _)
+        | Effect::Remove(path)
+        | Effect::Move(path, _)
+        | Effect::Mode(path, _) => path,
     }
 }
 
