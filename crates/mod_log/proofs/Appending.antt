@@ -4,7 +4,7 @@ use Rattle.std.specs.Prelude.{nat_lt, nat_le}
 use Rattle.std.specs.List.{AllByRecursion}
 use Rattle.std.proofs.lemmas.Bool.{eqb-false}
 use Rattle.tree_values.specs.declared.node.Effect.{Effect}
-use Rattle.tree_values.specs.declared.node.Effect.TheVariants.{Make, Put, Remove, Move}
+use Rattle.tree_values.specs.declared.node.Effect.TheVariants.{Make, Put, Remove, Move, Mode}
 use Rattle.tree_values.specs.declared.node.TreeError.{TreeError}
 use Rattle.file_paths.specs.Limits.{max_file}
 use Rattle.tree_values.specs.Limits.{max_effects, max_files}
@@ -31,6 +31,7 @@ small_content (Put p content) v after e =
     let none = none_refused (refusals (Put p content) v) (changed (Put p content) v) after e in not_lt_of max_file (length content) (not_when _ _ none.1.1.1.1.0)
 small_content (Remove p) v after e = omega arith
 small_content (Move p q) v after e = omega arith
+small_content (Mode p exec) v after e = omega arith
 
 each_fits : (effects : List Effect) (at : ℕ) (v after : Volume) → AllByRecursion IsLegalEffect effects → apply_all at effects v ≡ Ok after → AllByRecursion EffectFits effects
 each_fits [] at v after legal e = tt

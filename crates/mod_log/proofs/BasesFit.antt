@@ -10,7 +10,7 @@ use Rattle.tree_values.specs.Lists.{IsIn}
 use Rattle.tree_values.specs.Spelling.{EffectFits, BaseFits, EffectsFit}
 use Rattle.tree_values.specs.declared.node.Row.{Row}
 use Rattle.tree_values.specs.declared.node.Effect.{Effect}
-use Rattle.tree_values.specs.declared.node.Effect.TheVariants.{Make, Put, Remove, Move}
+use Rattle.tree_values.specs.declared.node.Effect.TheVariants.{Make, Put, Remove, Move, Mode}
 use Rattle.tree_values.specs.declared.node.Base.{Base}
 use Rattle.tree_values.proofs.Distinct.{in_distinct}
 use Rattle.tree_values.proofs.Undoing.{find_among}
@@ -31,6 +31,7 @@ touched-legal (Make p) legal = (legal, tt)
 touched-legal (Put p content) legal = (legal.0, tt)
 touched-legal (Remove p) legal = (legal, tt)
 touched-legal (Move p q) legal = (legal.0, (legal.1, tt))
+touched-legal (Mode p exec) legal = (legal, tt)
 
 touched_all-legal : (effects : List Effect) → AllByRecursion EffectFits effects → AllByRecursion IsPath (touched_all effects)
 touched_all-legal [] fits = tt

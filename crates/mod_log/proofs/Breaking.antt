@@ -15,14 +15,14 @@ use Rattle.tree_values.specs.Effects.{touched_all, distinct}
 use Rattle.file_paths.specs.Spelling.{path}
 use Rattle.tree_values.specs.Spelling.{effects, EffectsFit}
 use Rattle.file_paths.specs.Reading.{path_at}
-use Rattle.tree_values.specs.Reading.{effects_at, bases_at}
+use Rattle.tree_values.specs.Reading.{bit_at, effects_at, bases_at}
 use Rattle.tree_values.specs.declared.node.Effect.{Effect}
 use Rattle.tree_values.specs.declared.node.Base.{Base}
 use Rattle.file_paths.proofs.Parts.{path_codec}
 use Rattle.tree_laws.proofs.Parts.{effects_codec}
 use Rattle.mod_log.specs.declared.log.Entry.{Entry}
 use Rattle.mod_log.specs.declared.sketched.SketchEffect.{SketchEffect}
-use Rattle.mod_log.specs.declared.sketched.SketchEffect.TheVariants.{Make, Put, Remove, Move}
+use Rattle.mod_log.specs.declared.sketched.SketchEffect.TheVariants.{Make, Put, Remove, Move, Mode}
 use Rattle.mod_log.specs.declared.origin.Origin.{Origin}
 use Rattle.mod_log.specs.Origin.{made_by, MadeByFits}
 use Rattle.mod_log.specs.Sketched.{sketched_size, sketched_sizes}
@@ -82,6 +82,13 @@ module _ (room : ℕ) where
   target_refused from text offset is refused =
       later_refused path_at (λ p. one path_at (Move p)) (path from) text from offset (read_again path_codec from is) (first_refused path_at (λ q. none (Move from q)) text offset refused)
 
+  mode_refused : (text : List ℕ) (offset : ℕ) → IsRefused path_at text offset → IsRefused (two path_at (λ path. bit_at) Mode) text offset
+  mode_refused text offset refused = first_refused path_at (λ p. one bit_at (Mode p)) text offset refused
+
+  bit_refused : (p : FilePath) (text : List ℕ) (offset : ℕ) → IsPath p → IsRefused bit_at text offset → IsRefused (two path_at (λ path. bit_at) Mode) (path p ++ text) (length (path p) + offset)
+  bit_refused p text offset is refused =
+      later_refused path_at (λ q. one bit_at (Mode q)) (path p) text p offset (read_again path_codec p is) (first_refused bit_at (λ exec. none (Mode p exec)) text offset refused)
+
   sketch_refused : (p : FilePath) (text : List ℕ) (offset : ℕ) → IsPath p → IsRefused (sketch_at room) text offset → IsRefused (sketch_put_at room) (path p ++ text) (length (path p) + offset)
   sketch_refused p text offset is refused =
       later_refused path_at (λ q. one (sketch_at room) (Put q)) (path p) text p offset (read_again path_codec p is) (first_refused (sketch_at room) (λ s. none (Put p s)) text offset refused)
@@ -111,6 +118,9 @@ broken_sketch_effects = record {
   );
   target_is_none = λ room from text offset is refused.
       tagged_refused (sketch_effect_kinds room) 4 (two path_at (λ from. path_at) Move) (path from ++ text) (length (path from) + offset) (lit< tt) (λ tag at bytes. refl) (target_refused room from text offset is refused);
+  mode_path_is_none = λ room text offset refused. tagged_refused (sketch_effect_kinds room) 5 (two path_at (λ path. bit_at) Mode) text offset (lit< tt) (λ tag at bytes. refl) (mode_refused room text offset refused);
+  bit_is_none = λ room p text offset is refused.
+      tagged_refused (sketch_effect_kinds room) 5 (two path_at (λ path. bit_at) Mode) (path p ++ text) (length (path p) + offset) (lit< tt) (λ tag at bytes. refl) (bit_refused room p text offset is refused);
   sketch_is_none = λ room p text offset is refused. behind_put room (path p ++ text) (length (path p) + offset) (sketch_refused room p text offset is refused);
   content_is_large = λ room len p is small large. put_len_refused room len p is small large;
 }

@@ -11,11 +11,11 @@ use Rattle.rs_parity.specs.Spelling.{SketchFits}
 use Rattle.rs_parity.specs.declared.sketch.Sketch.{Sketch}
 use Rattle.rs_parity.proofs.Spelled.{sketch_codec}
 use Rattle.file_paths.proofs.Parts.{path_codec}
-use Rattle.tree_laws.proofs.Parts.{effects_codec}
+use Rattle.tree_laws.proofs.Parts.{effects_codec, bit_codec}
 use Rattle.tree_laws.proofs.Few.{bases_of}
 use Rattle.mod_log.specs.declared.log.Entry.{Entry}
 use Rattle.mod_log.specs.declared.sketched.SketchEffect.{SketchEffect}
-use Rattle.mod_log.specs.declared.sketched.SketchEffect.TheVariants.{Make, Put, Remove, Move}
+use Rattle.mod_log.specs.declared.sketched.SketchEffect.TheVariants.{Make, Put, Remove, Move, Mode}
 use Rattle.mod_log.proofs.Origins.{made_by_codec}
 use Rattle.mod_log.specs.Log.{entry}
 use Rattle.mod_log.specs.Sketched.{sketched_size}
@@ -55,6 +55,8 @@ module _ (room : ℕ) where
   effect_again bytes at (Remove p) next stands fits = tagged_again1 (sketch_effect_kinds room) 3 (lit< tt) path_codec Remove bytes at p next refl stands fits.0
   effect_again bytes at (Move p q) next stands fits =
       tagged_again2 (sketch_effect_kinds room) 4 (lit< tt) path_codec (λ _ _. path_codec) Move bytes at p q next refl stands fits.0.0 fits.0.1
+  effect_again bytes at (Mode p exec) next stands fits =
+      tagged_again2 (sketch_effect_kinds room) 5 (lit< tt) path_codec (λ _ _. bit_codec) Mode bytes at p exec next refl stands fits.0 tt
 
   effect_branches : AllByRecursion (λ (k : ℕ × Reader SketchEffect). IsBranch sketch_effect (SketchEffectFitsIn room) k.0 k.1) (sketch_effect_kinds room)
   effect_branches = (
@@ -63,7 +65,10 @@ module _ (room : ℕ) where
       branch2 (lit< tt) path_codec (λ _ _. sketch_codec room) Put (λ p s. refl) (λ p s fits sketch_fits. ((fits, of_room room s sketch_fits), omega (arith, sketch_fits.len))),
       (
         branch1 (lit< tt) path_codec Remove (λ p. refl) (λ p fits. (fits, omega arith)),
-        (branch2 (lit< tt) path_codec (λ _ _. path_codec) Move (λ p q. refl) (λ p q fits fits'. ((fits, fits'), omega arith)), tt),
+        (
+          branch2 (lit< tt) path_codec (λ _ _. path_codec) Move (λ p q. refl) (λ p q fits fits'. ((fits, fits'), omega arith)),
+          (branch2 (lit< tt) path_codec (λ _ _. bit_codec) Mode (λ p exec. refl) (λ p exec fits fits'. (fits, omega arith)), tt),
+        ),
       ),
     ),
   )

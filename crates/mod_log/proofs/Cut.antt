@@ -12,18 +12,19 @@ use Rattle.rs_parity.specs.Fields.{sketch_fields}
 use Rattle.rs_parity.proofs.Cut.{sketch_cut}
 use Rattle.tree_values.specs.Effects.{touched_all, distinct}
 use Rattle.file_paths.specs.Spelling.{path}
-use Rattle.tree_values.specs.Spelling.{effects, bases, EffectsFit, AreBasesOf}
+use Rattle.tree_values.specs.Spelling.{bit, effects, bases, EffectsFit, AreBasesOf}
 use Rattle.file_paths.specs.Fields.{path_fields}
 use Rattle.tree_values.specs.Fields.{effects_fields, bases_fields}
 use Rattle.tree_values.specs.Reading.{bases_at}
+use Rattle.tree_values.proofs.Sizes.{mode_length}
 use Rattle.tree_values.specs.declared.node.Effect.{Effect}
 use Rattle.file_paths.proofs.Parts.{path_codec, path_cut}
 use Rattle.tree_laws.proofs.Parts.{effects_codec}
-use Rattle.tree_laws.proofs.CutParts.{effects_cut, bases_cut}
+use Rattle.tree_laws.proofs.CutParts.{effects_cut, bases_cut, bit_cut}
 use Rattle.tree_laws.proofs.Few.{touched_few}
 use Rattle.mod_log.specs.declared.log.Entry.{Entry}
 use Rattle.mod_log.specs.declared.sketched.SketchEffect.{SketchEffect}
-use Rattle.mod_log.specs.declared.sketched.SketchEffect.TheVariants.{Make, Put, Remove, Move}
+use Rattle.mod_log.specs.declared.sketched.SketchEffect.TheVariants.{Make, Put, Remove, Move, Mode}
 use Rattle.mod_log.specs.Origin.{made_by}
 use Rattle.mod_log.specs.Log.{entry}
 use Rattle.mod_log.specs.Spelling.{sketch_effect, sketch_effects, SketchEffectFitsIn, SketchEffectsFitWithin}
@@ -71,6 +72,8 @@ module _ (room : ℕ) where
   effect_whole (Remove p) fits = omega (arith, sum_more 1 (path_fields p), path_cut.whole p fits.0)
   effect_whole (Move p q) fits =
       omega (arith, sum_more 1 (path_fields p ++ path_fields q), sum_both (path_fields p) (path_fields q), length-append (path p) (path q), path_cut.whole p fits.0.0, path_cut.whole q fits.0.1)
+  effect_whole (Mode p exec) fits =
+      omega (arith, sum_more 1 (path_fields p ++ 1 ∷ []), sum_both (path_fields p) (1 ∷ []), sum_more 1 [], mode_length p exec, path_cut.whole p fits.0)
 
   effect_ends : (bytes : List ℕ) (at : ℕ) (x : SketchEffect) (next end : ℕ) → Stands bytes at (sketch_effect x) next → SketchEffectFitsIn room x → at ≤ end → end < next
       → sketch_effect_at room (take end bytes) at ≡ Err (at + start_of (end - at) (sketch_effect_fields x))
@@ -85,6 +88,9 @@ module _ (room : ℕ) where
   effect_ends bytes at (Move p q) next end stands fits le lt =
       tagged_cut (sketch_effect_kinds room) 4 (lit< tt) bytes at (path p ++ path q) next end (path_fields p ++ path_fields q) stands le
       (λ ge. two_cut path_codec path_cut (λ _ _. path_cut) Move bytes (at + 1) p q next end (stands_second bytes at (4 ∷ []) (path p ++ path q) next stands) fits.0.0 fits.0.1 ge lt)
+  effect_ends bytes at (Mode p exec) next end stands fits le lt =
+      tagged_cut (sketch_effect_kinds room) 5 (lit< tt) bytes at (path p ++ bit exec) next end (path_fields p ++ 1 ∷ []) stands le
+      (λ ge. two_cut path_codec path_cut (λ _ _. bit_cut) Mode bytes (at + 1) p exec next end (stands_second bytes at (5 ∷ []) (path p ++ bit exec) next stands) fits.0 tt ge lt)
 
   pub sketch_effect_cut : IsCut (sketch_effect_at room) sketch_effect sketch_effect_fields (SketchEffectFitsIn room)
   sketch_effect_cut = record { whole = effect_whole; cut = effect_ends }

@@ -1,5 +1,5 @@
 -- Sketched effects: what fills them, what they touch and how much they stand for, and that effects have one list of them.
-use Rattle.std.proofs.Common.{◌≡◌, inl, inr, ℕ, ◌+◌, ◌≤◌, List, [], ◌∷◌, ◌++◌, length, Some, refl, sym, ◌∙◌, ap, subst, arith}
+use Rattle.std.proofs.Common.{◌≡◌, inl, inr, ℕ, ◌+◌, ◌≤◌, Bool, List, [], ◌∷◌, ◌++◌, length, Some, refl, sym, ◌∙◌, ap, subst, arith}
 use Rattle.std.specs.Prelude.{unwrap_or}
 use Rattle.std.specs.List.{AllByRecursion}
 use Rattle.std.proofs.lemmas.List.Concat.{flat_map-cons}
@@ -17,7 +17,7 @@ use Rattle.tree_values.specs.Tree.{touched_paths, IsLegalEffect}
 use Rattle.tree_values.specs.Effects.{content_size}
 use Rattle.tree_values.specs.Spelling.{EffectFits}
 use Rattle.tree_values.specs.declared.node.Effect.{Effect}
-use Rattle.tree_values.specs.declared.node.Effect.TheVariants.{Make, Put, Remove, Move}
+use Rattle.tree_values.specs.declared.node.Effect.TheVariants.{Make, Put, Remove, Move, Mode}
 use Rattle.mod_log.proofs.Entries.{legal_each}
 use Rattle.mod_log.specs.Sketched.{sketch_paths, sketched_size, IsSketchedAs, AreSketchedAs, Fills, AllFill, WritesContent, SketchesAreFilled, FillingsAreEqual, FillingsTouchAlike, OneSketchList, OneSketchOf}
 use Rattle.mod_log.specs.Spelling.{SketchEffectFits, FillingsFit, SketchesOfEffectsFit}
@@ -29,71 +29,94 @@ use Rattle.mod_log.specs.declared.sketched.SketchEffect.TheVariants as of_sketch
 
 -- what holds of each kind of effect and its sketch, holds of an effect and its sketch
 sketched_kinds : (P : Effect → SketchEffect → Type 0) → ((p : FilePath) → P (Make p) (of_sketch.Make p)) → ((p : FilePath) (content : List ℕ) (sketch : Sketch) → IsSketch content sketch → P (Put p content) (of_sketch.Put p sketch))
-    → ((p : FilePath) → P (Remove p) (of_sketch.Remove p)) → ((p to : FilePath) → P (Move p to) (of_sketch.Move p to)) → (e : Effect) (k : SketchEffect) → IsSketchedAs e k → P e k
-sketched_kinds P make put remove move (Make p) (of_sketch.Make q) is = subst (λ (x : FilePath). P (Make p) (of_sketch.Make x)) (sym is) (make p)
-sketched_kinds P make put remove move (Put p content) (of_sketch.Put q sketch) is = subst (λ (x : FilePath). P (Put p content) (of_sketch.Put x sketch)) (sym is.0) (put p content sketch is.1)
-sketched_kinds P make put remove move (Remove p) (of_sketch.Remove q) is = subst (λ (x : FilePath). P (Remove p) (of_sketch.Remove x)) (sym is) (remove p)
-sketched_kinds P make put remove move (Move p to) (of_sketch.Move q onto) is =
+    → ((p : FilePath) → P (Remove p) (of_sketch.Remove p)) → ((p to : FilePath) → P (Move p to) (of_sketch.Move p to))
+    → ((p : FilePath) (exec : Bool) → P (Mode p exec) (of_sketch.Mode p exec)) → (e : Effect) (k : SketchEffect) → IsSketchedAs e k → P e k
+sketched_kinds P make put remove move mode (Make p) (of_sketch.Make q) is = subst (λ (x : FilePath). P (Make p) (of_sketch.Make x)) (sym is) (make p)
+sketched_kinds P make put remove move mode (Put p content) (of_sketch.Put q sketch) is = subst (λ (x : FilePath). P (Put p content) (of_sketch.Put x sketch)) (sym is.0) (put p content sketch is.1)
+sketched_kinds P make put remove move mode (Remove p) (of_sketch.Remove q) is = subst (λ (x : FilePath). P (Remove p) (of_sketch.Remove x)) (sym is) (remove p)
+sketched_kinds P make put remove move mode (Move p to) (of_sketch.Move q onto) is =
     subst (λ (x : FilePath). P (Move p to) (of_sketch.Move x onto)) (sym is.0) (subst (λ (x : FilePath). P (Move p to) (of_sketch.Move p x)) (sym is.1) (move p to))
-sketched_kinds P make put remove move (Make p) (of_sketch.Put q sketch) is = absurd is
-sketched_kinds P make put remove move (Make p) (of_sketch.Remove q) is = absurd is
-sketched_kinds P make put remove move (Make p) (of_sketch.Move q onto) is = absurd is
-sketched_kinds P make put remove move (Put p content) (of_sketch.Make q) is = absurd is
-sketched_kinds P make put remove move (Put p content) (of_sketch.Remove q) is = absurd is
-sketched_kinds P make put remove move (Put p content) (of_sketch.Move q onto) is = absurd is
-sketched_kinds P make put remove move (Remove p) (of_sketch.Make q) is = absurd is
-sketched_kinds P make put remove move (Remove p) (of_sketch.Put q sketch) is = absurd is
-sketched_kinds P make put remove move (Remove p) (of_sketch.Move q onto) is = absurd is
-sketched_kinds P make put remove move (Move p to) (of_sketch.Make q) is = absurd is
-sketched_kinds P make put remove move (Move p to) (of_sketch.Put q sketch) is = absurd is
-sketched_kinds P make put remove move (Move p to) (of_sketch.Remove q) is = absurd is
+sketched_kinds P make put remove move mode (Make p) (of_sketch.Put q sketch) is = absurd is
+sketched_kinds P make put remove move mode (Make p) (of_sketch.Remove q) is = absurd is
+sketched_kinds P make put remove move mode (Make p) (of_sketch.Move q onto) is = absurd is
+sketched_kinds P make put remove move mode (Put p content) (of_sketch.Make q) is = absurd is
+sketched_kinds P make put remove move mode (Put p content) (of_sketch.Remove q) is = absurd is
+sketched_kinds P make put remove move mode (Put p content) (of_sketch.Move q onto) is = absurd is
+sketched_kinds P make put remove move mode (Remove p) (of_sketch.Make q) is = absurd is
+sketched_kinds P make put remove move mode (Remove p) (of_sketch.Put q sketch) is = absurd is
+sketched_kinds P make put remove move mode (Remove p) (of_sketch.Move q onto) is = absurd is
+sketched_kinds P make put remove move mode (Move p to) (of_sketch.Make q) is = absurd is
+sketched_kinds P make put remove move mode (Move p to) (of_sketch.Put q sketch) is = absurd is
+sketched_kinds P make put remove move mode (Move p to) (of_sketch.Remove q) is = absurd is
+sketched_kinds P make put remove move mode (Mode p exec) (of_sketch.Mode q bit) is =
+    subst (λ (x : FilePath). P (Mode p exec) (of_sketch.Mode x bit)) (sym is.0) (subst (λ (x : Bool). P (Mode p exec) (of_sketch.Mode p x)) (sym is.1) (mode p exec))
+sketched_kinds P make put remove move mode (Make p) (of_sketch.Mode q bit) is = absurd is
+sketched_kinds P make put remove move mode (Put p content) (of_sketch.Mode q bit) is = absurd is
+sketched_kinds P make put remove move mode (Remove p) (of_sketch.Mode q bit) is = absurd is
+sketched_kinds P make put remove move mode (Move p to) (of_sketch.Mode q bit) is = absurd is
+sketched_kinds P make put remove move mode (Mode p exec) (of_sketch.Make q) is = absurd is
+sketched_kinds P make put remove move mode (Mode p exec) (of_sketch.Put q sketch) is = absurd is
+sketched_kinds P make put remove move mode (Mode p exec) (of_sketch.Remove q) is = absurd is
+sketched_kinds P make put remove move mode (Mode p exec) (of_sketch.Move q onto) is = absurd is
 
 -- what holds of each kind of sketch and what fills it, holds of a sketch and what fills it
 filled_kinds : (P : SketchEffect → Effect → Type 0) → ((p : FilePath) → P (of_sketch.Make p) (Make p)) → ((p : FilePath) (sketch : Sketch) (content : List ℕ) → length content ≡ sketch.len → sha256 content ≡ sketch.print → IsBytes content → P (of_sketch.Put p sketch) (Put p content))
-    → ((p : FilePath) → P (of_sketch.Remove p) (Remove p)) → ((p to : FilePath) → P (of_sketch.Move p to) (Move p to)) → (k : SketchEffect) (e : Effect) → Fills k e → P k e
-filled_kinds P make put remove move (of_sketch.Make p) (Make q) fills = subst (λ (x : FilePath). P (of_sketch.Make p) (Make x)) (sym fills) (make p)
-filled_kinds P make put remove move (of_sketch.Put p sketch) (Put q content) fills = subst (λ (x : FilePath). P (of_sketch.Put p sketch) (Put x content)) (sym fills.0) (put p sketch content fills.1 fills.2 fills.3)
-filled_kinds P make put remove move (of_sketch.Remove p) (Remove q) fills = subst (λ (x : FilePath). P (of_sketch.Remove p) (Remove x)) (sym fills) (remove p)
-filled_kinds P make put remove move (of_sketch.Move p to) (Move q onto) fills =
+    → ((p : FilePath) → P (of_sketch.Remove p) (Remove p)) → ((p to : FilePath) → P (of_sketch.Move p to) (Move p to))
+    → ((p : FilePath) (exec : Bool) → P (of_sketch.Mode p exec) (Mode p exec)) → (k : SketchEffect) (e : Effect) → Fills k e → P k e
+filled_kinds P make put remove move mode (of_sketch.Make p) (Make q) fills = subst (λ (x : FilePath). P (of_sketch.Make p) (Make x)) (sym fills) (make p)
+filled_kinds P make put remove move mode (of_sketch.Put p sketch) (Put q content) fills = subst (λ (x : FilePath). P (of_sketch.Put p sketch) (Put x content)) (sym fills.0) (put p sketch content fills.1 fills.2 fills.3)
+filled_kinds P make put remove move mode (of_sketch.Remove p) (Remove q) fills = subst (λ (x : FilePath). P (of_sketch.Remove p) (Remove x)) (sym fills) (remove p)
+filled_kinds P make put remove move mode (of_sketch.Move p to) (Move q onto) fills =
     subst (λ (x : FilePath). P (of_sketch.Move p to) (Move x onto)) (sym fills.0) (subst (λ (x : FilePath). P (of_sketch.Move p to) (Move p x)) (sym fills.1) (move p to))
-filled_kinds P make put remove move (of_sketch.Make p) (Put q content) fills = absurd fills
-filled_kinds P make put remove move (of_sketch.Make p) (Remove q) fills = absurd fills
-filled_kinds P make put remove move (of_sketch.Make p) (Move q onto) fills = absurd fills
-filled_kinds P make put remove move (of_sketch.Put p sketch) (Make q) fills = absurd fills
-filled_kinds P make put remove move (of_sketch.Put p sketch) (Remove q) fills = absurd fills
-filled_kinds P make put remove move (of_sketch.Put p sketch) (Move q onto) fills = absurd fills
-filled_kinds P make put remove move (of_sketch.Remove p) (Make q) fills = absurd fills
-filled_kinds P make put remove move (of_sketch.Remove p) (Put q content) fills = absurd fills
-filled_kinds P make put remove move (of_sketch.Remove p) (Move q onto) fills = absurd fills
-filled_kinds P make put remove move (of_sketch.Move p to) (Make q) fills = absurd fills
-filled_kinds P make put remove move (of_sketch.Move p to) (Put q content) fills = absurd fills
-filled_kinds P make put remove move (of_sketch.Move p to) (Remove q) fills = absurd fills
+filled_kinds P make put remove move mode (of_sketch.Make p) (Put q content) fills = absurd fills
+filled_kinds P make put remove move mode (of_sketch.Make p) (Remove q) fills = absurd fills
+filled_kinds P make put remove move mode (of_sketch.Make p) (Move q onto) fills = absurd fills
+filled_kinds P make put remove move mode (of_sketch.Put p sketch) (Make q) fills = absurd fills
+filled_kinds P make put remove move mode (of_sketch.Put p sketch) (Remove q) fills = absurd fills
+filled_kinds P make put remove move mode (of_sketch.Put p sketch) (Move q onto) fills = absurd fills
+filled_kinds P make put remove move mode (of_sketch.Remove p) (Make q) fills = absurd fills
+filled_kinds P make put remove move mode (of_sketch.Remove p) (Put q content) fills = absurd fills
+filled_kinds P make put remove move mode (of_sketch.Remove p) (Move q onto) fills = absurd fills
+filled_kinds P make put remove move mode (of_sketch.Move p to) (Make q) fills = absurd fills
+filled_kinds P make put remove move mode (of_sketch.Move p to) (Put q content) fills = absurd fills
+filled_kinds P make put remove move mode (of_sketch.Move p to) (Remove q) fills = absurd fills
+filled_kinds P make put remove move mode (of_sketch.Mode p exec) (Mode q bit) fills =
+    subst (λ (x : FilePath). P (of_sketch.Mode p exec) (Mode x bit)) (sym fills.0) (subst (λ (x : Bool). P (of_sketch.Mode p exec) (Mode p x)) (sym fills.1) (mode p exec))
+filled_kinds P make put remove move mode (of_sketch.Make p) (Mode q bit) fills = absurd fills
+filled_kinds P make put remove move mode (of_sketch.Put p sketch) (Mode q bit) fills = absurd fills
+filled_kinds P make put remove move mode (of_sketch.Remove p) (Mode q bit) fills = absurd fills
+filled_kinds P make put remove move mode (of_sketch.Move p to) (Mode q bit) fills = absurd fills
+filled_kinds P make put remove move mode (of_sketch.Mode p exec) (Make q) fills = absurd fills
+filled_kinds P make put remove move mode (of_sketch.Mode p exec) (Put q content) fills = absurd fills
+filled_kinds P make put remove move mode (of_sketch.Mode p exec) (Remove q) fills = absurd fills
+filled_kinds P make put remove move mode (of_sketch.Mode p exec) (Move q onto) fills = absurd fills
 
 own_filling : (e : Effect) (k : SketchEffect) → IsSketchedAs e k → IsLegalEffect e → Fills k e
-own_filling = sketched_kinds (λ e k. IsLegalEffect e → Fills k e) (λ p legal. refl) (λ p content sketch is legal. (refl, sym is.len, sym is.print, legal.1)) (λ p legal. refl) (λ p to legal. (refl, refl))
+own_filling = sketched_kinds (λ e k. IsLegalEffect e → Fills k e) (λ p legal. refl) (λ p content sketch is legal. (refl, sym is.len, sym is.print, legal.1)) (λ p legal. refl) (λ p to legal. (refl, refl)) (λ p exec legal. (refl, refl))
 
 abbrev Alike : SketchEffect → Effect → Type 0
 Alike k e = (touched_paths e ≡ sketch_paths k) × (content_size e ≡ sketched_size k)
 
 filling_alike : (k : SketchEffect) (e : Effect) → Fills k e → Alike k e
-filling_alike = filled_kinds Alike (λ p. (refl, refl)) (λ p sketch content len print bytes. (refl, len)) (λ p. (refl, refl)) (λ p to. (refl, refl))
+filling_alike = filled_kinds Alike (λ p. (refl, refl)) (λ p sketch content len print bytes. (refl, len)) (λ p. (refl, refl)) (λ p to. (refl, refl)) (λ p exec. (refl, refl))
 
 filling_fits : (k : SketchEffect) (e : Effect) → Fills k e → SketchEffectFits k → EffectFits e
 filling_fits =
-    filled_kinds (λ k e. SketchEffectFits k → EffectFits e) (λ p fits. (fits, omega arith)) (λ p sketch content len print bytes fits. ((fits.0, bytes), omega (arith, len, fits.1.len))) (λ p fits. (fits, omega arith)) (λ p to fits. (fits, omega arith))
+    filled_kinds (λ k e. SketchEffectFits k → EffectFits e) (λ p fits. (fits, omega arith)) (λ p sketch content len print bytes fits. ((fits.0, bytes), omega (arith, len, fits.1.len))) (λ p fits. (fits, omega arith)) (λ p to fits. (fits, omega arith)) (λ p exec fits. (fits, omega arith))
 
 sketch_fits : (e : Effect) (k : SketchEffect) → IsSketchedAs e k → EffectFits e → SketchEffectFits k
 sketch_fits =
-    sketched_kinds (λ e k. EffectFits e → SketchEffectFits k) (λ p fits. fits.0) (λ p content sketch is fits. (fits.0.0, sketches_fit_each content sketch max_file is (omega (arith, fits.1)))) (λ p fits. fits.0) (λ p to fits. fits.0)
+    sketched_kinds (λ e k. EffectFits e → SketchEffectFits k) (λ p fits. fits.0) (λ p content sketch is fits. (fits.0.0, sketches_fit_each content sketch max_file is (omega (arith, fits.1)))) (λ p fits. fits.0) (λ p to fits. fits.0) (λ p exec fits. fits.0)
 
 filling_equal : (e : Effect) (k : SketchEffect) → IsSketchedAs e k → (other : Effect) → Fills k other → Distinct (WritesContent (e ∷ [])) (WritesContent (other ∷ [])) → other ≡ e
-filling_equal = sketched_kinds (λ e k. (other : Effect) → Fills k other → Distinct (WritesContent (e ∷ [])) (WritesContent (other ∷ [])) → other ≡ e) make put remove move
+filling_equal = sketched_kinds (λ e k. (other : Effect) → Fills k other → Distinct (WritesContent (e ∷ [])) (WritesContent (other ∷ [])) → other ≡ e) make put remove move mode
   where
     make : (p : FilePath) (other : Effect) → Fills (of_sketch.Make p) other → Distinct (WritesContent (Make p ∷ [])) (WritesContent (other ∷ [])) → other ≡ Make p
     make p (Make q) fills differ = ap Make fills
     make p (Put q content) fills differ = absurd fills
     make p (Remove q) fills differ = absurd fills
     make p (Move q onto) fills differ = absurd fills
+    make p (Mode q bit) fills differ = absurd fills
 
     put : (p : FilePath) (content : List ℕ) (sketch : Sketch) → IsSketch content sketch → (other : Effect) → Fills (of_sketch.Put p sketch) other → Distinct (WritesContent (Put p content ∷ [])) (WritesContent (other ∷ [])) → other ≡ Put p content
     put p content sketch is (Put q written) fills differ =
@@ -102,27 +125,38 @@ filling_equal = sketched_kinds (λ e k. (other : Effect) → Fills k other → D
     put p content sketch is (Make q) fills differ = absurd fills
     put p content sketch is (Remove q) fills differ = absurd fills
     put p content sketch is (Move q onto) fills differ = absurd fills
+    put p content sketch is (Mode q bit) fills differ = absurd fills
 
     remove : (p : FilePath) (other : Effect) → Fills (of_sketch.Remove p) other → Distinct (WritesContent (Remove p ∷ [])) (WritesContent (other ∷ [])) → other ≡ Remove p
     remove p (Remove q) fills differ = ap Remove fills
     remove p (Make q) fills differ = absurd fills
     remove p (Put q content) fills differ = absurd fills
     remove p (Move q onto) fills differ = absurd fills
+    remove p (Mode q bit) fills differ = absurd fills
 
     move : (p to : FilePath) (other : Effect) → Fills (of_sketch.Move p to) other → Distinct (WritesContent (Move p to ∷ [])) (WritesContent (other ∷ [])) → other ≡ Move p to
     move p to (Move q onto) fills differ = λ i. Move (fills.0 i) (fills.1 i)
     move p to (Make q) fills differ = absurd fills
     move p to (Put q content) fills differ = absurd fills
     move p to (Remove q) fills differ = absurd fills
+    move p to (Mode q bit) fills differ = absurd fills
+
+    mode : (p : FilePath) (exec : Bool) (other : Effect) → Fills (of_sketch.Mode p exec) other → Distinct (WritesContent (Mode p exec ∷ [])) (WritesContent (other ∷ [])) → other ≡ Mode p exec
+    mode p exec (Mode q bit) fills differ = λ i. Mode (fills.0 i) (fills.1 i)
+    mode p exec (Make q) fills differ = absurd fills
+    mode p exec (Put q content) fills differ = absurd fills
+    mode p exec (Remove q) fills differ = absurd fills
+    mode p exec (Move q onto) fills differ = absurd fills
 
 one_sketch_effect : (e : Effect) (a : SketchEffect) → IsSketchedAs e a → (b : SketchEffect) → IsSketchedAs e b → a ≡ b
-one_sketch_effect = sketched_kinds (λ e a. (b : SketchEffect) → IsSketchedAs e b → a ≡ b) make put remove move
+one_sketch_effect = sketched_kinds (λ e a. (b : SketchEffect) → IsSketchedAs e b → a ≡ b) make put remove move mode
   where
     make : (p : FilePath) (b : SketchEffect) → IsSketchedAs (Make p) b → of_sketch.Make p ≡ b
     make p (of_sketch.Make q) is = ap of_sketch.Make (sym is)
     make p (of_sketch.Put q sketch) is = absurd is
     make p (of_sketch.Remove q) is = absurd is
     make p (of_sketch.Move q onto) is = absurd is
+    make p (of_sketch.Mode q bit) is = absurd is
 
     put : (p : FilePath) (content : List ℕ) (sketch : Sketch) → IsSketch content sketch → (b : SketchEffect) → IsSketchedAs (Put p content) b → of_sketch.Put p sketch ≡ b
     put p content sketch is (of_sketch.Put q other) is' =
@@ -131,18 +165,28 @@ one_sketch_effect = sketched_kinds (λ e a. (b : SketchEffect) → IsSketchedAs 
     put p content sketch is (of_sketch.Make q) is' = absurd is'
     put p content sketch is (of_sketch.Remove q) is' = absurd is'
     put p content sketch is (of_sketch.Move q onto) is' = absurd is'
+    put p content sketch is (of_sketch.Mode q bit) is' = absurd is'
 
     remove : (p : FilePath) (b : SketchEffect) → IsSketchedAs (Remove p) b → of_sketch.Remove p ≡ b
     remove p (of_sketch.Remove q) is = ap of_sketch.Remove (sym is)
     remove p (of_sketch.Make q) is = absurd is
     remove p (of_sketch.Put q sketch) is = absurd is
     remove p (of_sketch.Move q onto) is = absurd is
+    remove p (of_sketch.Mode q bit) is = absurd is
 
     move : (p to : FilePath) (b : SketchEffect) → IsSketchedAs (Move p to) b → of_sketch.Move p to ≡ b
     move p to (of_sketch.Move q onto) is = λ i. of_sketch.Move (sym is.0 i) (sym is.1 i)
     move p to (of_sketch.Make q) is = absurd is
     move p to (of_sketch.Put q sketch) is = absurd is
     move p to (of_sketch.Remove q) is = absurd is
+    move p to (of_sketch.Mode q bit) is = absurd is
+
+    mode : (p : FilePath) (exec : Bool) (b : SketchEffect) → IsSketchedAs (Mode p exec) b → of_sketch.Mode p exec ≡ b
+    mode p exec (of_sketch.Mode q bit) is = λ i. of_sketch.Mode (sym is.0 i) (sym is.1 i)
+    mode p exec (of_sketch.Make q) is = absurd is
+    mode p exec (of_sketch.Put q sketch) is = absurd is
+    mode p exec (of_sketch.Remove q) is = absurd is
+    mode p exec (of_sketch.Move q onto) is = absurd is
 
 -- ---- effects in a row
 

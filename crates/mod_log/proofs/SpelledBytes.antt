@@ -9,6 +9,8 @@ use Rattle.byte_fields.specs.Codec.{IsBytes}
 use Rattle.byte_fields.proofs.Facts.{lt_of, le_of, and_of, no_bytes, byte_before, bytes_appended, bytes_of_each, two_are_bytes, four_are_bytes}
 use Rattle.rs_parity.specs.Spelling.{parity_spelling, sketch_spelling, SketchFits}
 use Rattle.rs_parity.specs.declared.sketch.Sketch.{Sketch}
+use Rattle.tree_values.specs.Spelling.{bit}
+use Rattle.tree_laws.proofs.SpelledBytes.{bit_is_bytes}
 use Rattle.file_paths.specs.Limits.{max_file}
 use Rattle.file_paths.specs.Spelling.{path, content}
 use Rattle.file_paths.proofs.SpelledBytes.{path_is_bytes, content_is_bytes}
@@ -19,7 +21,7 @@ use Rattle.cmd_capture.specs.Spelling.{variable, template, counted, command, IsC
 use Rattle.cmd_capture.proofs.Codec.{low_byte}
 use Rattle.mod_log.specs.declared.origin.Origin.{Origin}
 use Rattle.mod_log.specs.declared.sketched.SketchEffect.{SketchEffect}
-use Rattle.mod_log.specs.declared.sketched.SketchEffect.TheVariants.{Make, Put, Remove, Move}
+use Rattle.mod_log.specs.declared.sketched.SketchEffect.TheVariants.{Make, Put, Remove, Move, Mode}
 use Rattle.mod_log.specs.Origin.{origin, OriginFits}
 use Rattle.mod_log.specs.Spelling.{sketch_effect, sketch_effects, SketchEffectFits, SketchEffectsFit}
 
@@ -104,6 +106,7 @@ sketch_effect_is_bytes (Make p) fits = byte_before 1 (path p) (omega arith) (pat
 sketch_effect_is_bytes (Put p s) fits = byte_before 2 (path p ++ sketch_spelling s) (omega arith) (bytes_appended (path p) (sketch_spelling s) (path_is_bytes p fits.0) (sketch_is_bytes max_file s fits.1))
 sketch_effect_is_bytes (Remove p) fits = byte_before 3 (path p) (omega arith) (path_is_bytes p fits)
 sketch_effect_is_bytes (Move p q) fits = byte_before 4 (path p ++ path q) (omega arith) (bytes_appended (path p) (path q) (path_is_bytes p fits.0) (path_is_bytes q fits.1))
+sketch_effect_is_bytes (Mode p exec) fits = byte_before 5 (path p ++ bit exec) (omega arith) (bytes_appended (path p) (bit exec) (path_is_bytes p fits) (bit_is_bytes exec))
 
 pub sketch_effects_are_bytes : (es : List SketchEffect) → SketchEffectsFit es → IsBytes (sketch_effects es)
 sketch_effects_are_bytes es fits = bytes_appended (digits w32 (length es)) (flat_map sketch_effect es) (four_are_bytes (length es)) (bytes_of_each sketch_effect sketch_effect_is_bytes es fits.each)

@@ -11,7 +11,7 @@ use Rattle.tree_values.specs.Effects.{touched_all, distinct}
 use Rattle.file_paths.specs.Spelling.{path}
 use Rattle.tree_values.specs.Spelling.{effects, EffectsFit}
 use Rattle.file_paths.specs.Reading.{path_at}
-use Rattle.tree_values.specs.Reading.{effects_at, bases_at}
+use Rattle.tree_values.specs.Reading.{bit_at, effects_at, bases_at}
 use Rattle.tree_values.specs.declared.node.Effect.{Effect}
 use Rattle.cmd_capture.specs.Reading.{command_at}
 use Rattle.mod_log.specs.declared.origin.Origin.{Origin}
@@ -53,6 +53,12 @@ pub record BrokenSketchEffects : Type 0 where
   -- the second path of a move: behind the first
   pub target_is_none : (room : ℕ) (from : FilePath) (text : List ℕ) (offset : ℕ) → IsPath from → IsRefused path_at text offset
       → IsRefused (sketch_effect_at room) (4 ∷ (path from ++ text)) (1 + (length (path from) + offset))
+  -- a path that is refused where a file may be run or not: behind the kind
+  pub mode_path_is_none : (room : ℕ) (text : List ℕ) (offset : ℕ) → IsRefused path_at text offset
+      → IsRefused (sketch_effect_at room) (5 ∷ text) (1 + offset)
+  -- neither a yes nor a no: behind the path
+  pub bit_is_none : (room : ℕ) (p : FilePath) (text : List ℕ) (offset : ℕ) → IsPath p → IsRefused bit_at text offset
+      → IsRefused (sketch_effect_at room) (5 ∷ (path p ++ text)) (1 + (length (path p) + offset))
   -- a sketch that is refused: behind the path
   pub sketch_is_none : (room : ℕ) (p : FilePath) (text : List ℕ) (offset : ℕ) → IsPath p → IsRefused (sketch_at room) text offset
       → IsRefused (sketch_effect_at room) (2 ∷ (path p ++ text)) (1 + (length (path p) + offset))

@@ -8,7 +8,7 @@ use Rattle.cmd_capture.specs.Fields.{command_fields}
 use Rattle.mod_log.specs.declared.origin.Origin.{Origin}
 use Rattle.mod_log.specs.declared.log.Entry.{Entry}
 use Rattle.mod_log.specs.declared.sketched.SketchEffect.{SketchEffect}
-use Rattle.mod_log.specs.declared.sketched.SketchEffect.TheVariants.{Make, Put, Remove, Move}
+use Rattle.mod_log.specs.declared.sketched.SketchEffect.TheVariants.{Make, Put, Remove, Move, Mode}
 
 -- the print of the job, the status, and the fields of the command
 abbrev pub origin_fields : Origin → List ℕ
@@ -29,6 +29,7 @@ sketch_effect_fields (Make p) = 1 ∷ path_fields p
 sketch_effect_fields (Put p sketch) = 1 ∷ (path_fields p ++ sketch_fields sketch)
 sketch_effect_fields (Remove p) = 1 ∷ path_fields p
 sketch_effect_fields (Move p q) = 1 ∷ (path_fields p ++ path_fields q)
+sketch_effect_fields (Mode p exec) = 1 ∷ (path_fields p ++ 1 ∷ [])
 
 -- the count, and the fields of the sketched effects
 abbrev pub sketch_effects_fields : List SketchEffect → List ℕ

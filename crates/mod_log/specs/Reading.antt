@@ -6,14 +6,14 @@ use Rattle.rs_parity.specs.Spelling.{sketch_at}
 use Rattle.tree_values.specs.Effects.{touched_all, distinct}
 use Rattle.tree_values.specs.Spelling.{EffectsFit, AreBasesOf}
 use Rattle.file_paths.specs.Reading.{path_at}
-use Rattle.tree_values.specs.Reading.{effects_at, bases_at}
+use Rattle.tree_values.specs.Reading.{bit_at, effects_at, bases_at}
 use Rattle.cmd_capture.specs.Reading.{command_at}
 use Rattle.mod_log.specs.Origin.{MadeByFits}
 use Rattle.mod_log.specs.Sketched.{sketched_size}
 use Rattle.mod_log.specs.declared.origin.Origin.{Origin}
 use Rattle.mod_log.specs.declared.log.Entry.{Entry}
 use Rattle.mod_log.specs.declared.sketched.SketchEffect.{SketchEffect}
-use Rattle.mod_log.specs.declared.sketched.SketchEffect.TheVariants.{Make, Put, Remove, Move}
+use Rattle.mod_log.specs.declared.sketched.SketchEffect.TheVariants.{Make, Put, Remove, Move, Mode}
 
 -- ---- entries
 
@@ -56,7 +56,8 @@ sketch_put_at room = two path_at (λ path. sketch_at room) Put
 -- each kind of sketched effect with what follows it
 abbrev pub sketch_effect_kinds : ℕ → List (ℕ × Reader SketchEffect)
 sketch_effect_kinds room =
-    (1, one path_at Make) ∷ (2, sketch_put_at room) ∷ (3, one path_at Remove) ∷ (4, two path_at (λ from. path_at) Move) ∷ []
+    (1, one path_at Make) ∷ (2, sketch_put_at room) ∷ (3, one path_at Remove) ∷ (4, two path_at (λ from. path_at) Move)
+    ∷ (5, two path_at (λ path. bit_at) Mode) ∷ []
 
 -- a sketched effect where there is still room for so many bytes of content
 unfoldable pub sketch_effect_at : ℕ → Reader SketchEffect

@@ -9,7 +9,7 @@ use Rattle.tree_values.specs.Lists.{IsIn}
 use Rattle.tree_values.specs.Tree.{IsLegalEffect}
 use Rattle.tree_values.specs.Effects.{touched_all, contents_size}
 use Rattle.tree_values.specs.declared.node.Effect.{Effect}
-use Rattle.tree_values.specs.declared.node.Effect.TheVariants.{Make, Put, Remove, Move}
+use Rattle.tree_values.specs.declared.node.Effect.TheVariants.{Make, Put, Remove, Move, Mode}
 use Rattle.mod_log.specs.declared.log.Entry.{Entry}
 use Rattle.mod_log.specs.declared.sketched.SketchEffect.{SketchEffect}
 use Rattle.mod_log.specs.declared.sketched.SketchEffect.TheVariants as of_sketch
@@ -22,6 +22,7 @@ sketch_paths (of_sketch.Make p) = p ∷ []
 sketch_paths (of_sketch.Put p sketch) = p ∷ []
 sketch_paths (of_sketch.Remove p) = p ∷ []
 sketch_paths (of_sketch.Move p q) = p ∷ q ∷ []
+sketch_paths (of_sketch.Mode p exec) = p ∷ []
 
 -- the paths that sketched effects touch, one after the other
 abbrev pub sketches_touch : List SketchEffect → List FilePath
@@ -33,6 +34,7 @@ sketched_size (of_sketch.Make p) = 0
 sketched_size (of_sketch.Put p sketch) = sketch.len
 sketched_size (of_sketch.Remove p) = 0
 sketched_size (of_sketch.Move p q) = 0
+sketched_size (of_sketch.Mode p exec) = 0
 
 -- the bytes of all contents that sketched effects stand for
 abbrev pub sketched_sizes : List SketchEffect → ℕ
@@ -46,6 +48,7 @@ IsSketchedAs (Make p) (of_sketch.Make q) = q ≡ p
 IsSketchedAs (Put p content) (of_sketch.Put q sketch) = (q ≡ p) × IsSketch content sketch
 IsSketchedAs (Remove p) (of_sketch.Remove q) = q ≡ p
 IsSketchedAs (Move p to) (of_sketch.Move q onto) = (q ≡ p) × (onto ≡ to)
+IsSketchedAs (Mode p exec) (of_sketch.Mode q bit) = (q ≡ p) × (bit ≡ exec)
 IsSketchedAs effect sketched = ⊥
 
 -- each effect is sketched as the one in its place
@@ -69,6 +72,7 @@ Fills (of_sketch.Make p) (Make q) = q ≡ p
 Fills (of_sketch.Put p sketch) (Put q content) = (q ≡ p) × (length content ≡ sketch.len) × (sha256 content ≡ sketch.print) × IsBytes content
 Fills (of_sketch.Remove p) (Remove q) = q ≡ p
 Fills (of_sketch.Move p to) (Move q onto) = (q ≡ p) × (onto ≡ to)
+Fills (of_sketch.Mode p exec) (Mode q bit) = (q ≡ p) × (bit ≡ exec)
 Fills sketched effect = ⊥
 
 -- each sketched effect is filled by the effect in its place

@@ -8,11 +8,11 @@ use Rattle.file_paths.specs.Limits.{max_file}
 use Rattle.file_paths.specs.Path.{IsPath}
 use Rattle.file_paths.specs.Spelling.{path}
 use Rattle.tree_values.specs.Limits.{max_files, max_effects}
-use Rattle.tree_values.specs.Spelling.{EffectsFit}
+use Rattle.tree_values.specs.Spelling.{bit, EffectsFit}
 use Rattle.tree_values.specs.declared.node.Effect.{Effect}
 use Rattle.mod_log.specs.Sketched.{sketched_size, sketched_sizes, AreSketchedAs, AllFill}
 use Rattle.mod_log.specs.declared.sketched.SketchEffect.{SketchEffect}
-use Rattle.mod_log.specs.declared.sketched.SketchEffect.TheVariants.{Make, Put, Remove, Move}
+use Rattle.mod_log.specs.declared.sketched.SketchEffect.TheVariants.{Make, Put, Remove, Move, Mode}
 
 -- the kind, and what the sketched effect names
 abbrev pub sketch_effect : SketchEffect → List ℕ
@@ -20,6 +20,7 @@ sketch_effect (Make p) = 1 ∷ path p
 sketch_effect (Put p sketch) = 2 ∷ path p ++ sketch_spelling sketch
 sketch_effect (Remove p) = 3 ∷ path p
 sketch_effect (Move p q) = 4 ∷ path p ++ path q
+sketch_effect (Mode p exec) = 5 ∷ path p ++ bit exec
 
 -- the sketched effects, behind their number
 abbrev pub sketch_effects : List SketchEffect → List ℕ
@@ -31,6 +32,7 @@ SketchEffectFits (Make p) = IsPath p
 SketchEffectFits (Put p sketch) = IsPath p × SketchFits max_file sketch
 SketchEffectFits (Remove p) = IsPath p
 SketchEffectFits (Move p q) = IsPath p × IsPath q
+SketchEffectFits (Mode p exec) = IsPath p
 
 -- a sketched effect that has still room for its content
 abbrev pub SketchEffectFitsIn : ℕ → SketchEffect → Type 0

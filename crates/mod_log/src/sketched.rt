@@ -8,7 +8,7 @@ ghost use Rattle.std.specs.Cmp.Lexicographic.{pointwise};
 ghost use Rattle.tree_values.specs.Inside.{add_new};
 ghost use Rattle.tree_values.specs.Effects.{distinct};
 ghost use Rattle.mod_log.specs.Sketched.{sketch_paths, sketches_touch, sketched_size};
-ghost use Rattle.mod_log.specs.declared.sketched.SketchEffect.TheVariants.{Put, Move};
+ghost use Rattle.mod_log.specs.declared.sketched.SketchEffect.TheVariants.{Put, Move, Mode};
 
 use rs_parity::Sketch;
 use std::alloc::{AllocError, Global};
@@ -22,6 +22,7 @@ pub enum SketchEffect {
     Put(Path, Sketch),
     Remove(Path),
     Move(Path, Path),
+    Mode(Path, bool),
 }
 
 impl TryCopy for SketchEffect {
@@ -31,6 +32,7 @@ impl TryCopy for SketchEffect {
             SketchEffect::Put(path, sketch) => copy_put(path, sketch),
             SketchEffect::Remove(path) => Ok(SketchEffect::Remove(path.copy()?)),
             SketchEffect::Move(from, to) => copy_move(from, to),
+            SketchEffect::Mode(path, exec) => copy_mode(path, *exec),
         }
     }
 }
@@ -48,6 +50,13 @@ pub(crate) fn copy_move(from: &Path, to: &Path) -> Result<SketchEffect, AllocErr
     Ok(SketchEffect::Move(from.copy()?, to.copy()?))
 }
 
+/// A change of an equal path's mode.
+pub(crate) fn copy_mode(path: &Path, exec: bool) -> Result<SketchEffect, AllocError>
+    ensures { IfOk result (λ copied. copied ≡ Mode path.now exec) }
+{
+    Ok(SketchEffect::Mode(path.copy()?, exec))
+}
+
 impl SketchEffect {
     /// The number of bytes of the content that it stands for.
     pub fn content_size(&self) -> u32
@@ -55,7 +64,10 @@ impl SketchEffect {
     {
         match self {
             SketchEffect::Put(_, sketch) => sketch.len,
-            SketchEffect::Make(_) | SketchEffect::Remove(_) | SketchEffect::Move(_, _) => 0,
+            SketchEffect::Make(_)
+            | SketchEffect::Remove(_)
+            | SketchEffect::Move(_, _)
+            | SketchEffect::Mode(_, _) => 0,
         }
     }
 }
@@ -157,9 +169,10 @@ fn add_touched(paths: &mut Paths, effect: &SketchEffect) -> Result<(), AllocErro
     ensures { OnOk result (paths.new ≡ fold add_new paths.old (sketch_paths effect.now)) }
 {
     match effect {
-        SketchEffect::Make(path) | SketchEffect::Put(path, _) | SketchEffect::Remove(path) => {
-            add_new(paths, path)
-        }
+        SketchEffect::Make(path)
+        | SketchEffect::Put(path, _)
+        | SketchEffect::Remove(path)
+        | SketchEffect::Mode(path, _) => add_new(paths, path),
         SketchEffect::Move(from, to) => {
             add_new(paths, from)?;
             add_new(paths, to)

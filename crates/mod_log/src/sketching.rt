@@ -10,7 +10,7 @@ ghost use Rattle.mod_log.specs.Sketched.{IsSketchedAs, AreSketchedAs, IsSketchOf
 
 use crate::log::Entry;
 use crate::origin::Origin;
-use crate::sketched::{SketchEffect, SketchEffects, copy_move};
+use crate::sketched::{SketchEffect, SketchEffects, copy_mode, copy_move};
 use rs_parity::sketch_of;
 use std::alloc::{AllocError, Global};
 use vol_tree::{Bases, Content, Effect, Path, TryCopy};
@@ -118,6 +118,7 @@ fn sketch_effect(alloc: Global, effect: &Effect) -> Result<SketchEffect, AllocEr
         Effect::Put(path, content) => sketch_put(alloc, path, content),
         Effect::Remove(path) => Ok(SketchEffect::Remove(path.copy()?)),
         Effect::Move(from, to) => copy_move(from, to),
+        Effect::Mode(path, exec) => copy_mode(path, *exec),
     }
 }
 

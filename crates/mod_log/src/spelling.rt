@@ -4,16 +4,18 @@ ghost use Rattle.std.specs.Prelude.{◌≡◌, ◌++◌, ◌∷◌, ◌<◌, ◌
 ghost use Rattle.byte_fields.specs.Field.{Gives, IsFront, one, two};
 ghost use Rattle.file_paths.specs.Reading.{path_at};
 ghost use Rattle.file_paths.specs.Spelling.{path};
+ghost use Rattle.tree_values.specs.Reading.{bit_at};
+ghost use Rattle.tree_values.specs.Spelling.{bit};
 ghost use Rattle.rs_parity.specs.Spelling.{sketch_spelling};
 ghost use Rattle.mod_log.specs.Spelling.{sketch_effect, sketch_effects};
 ghost use Rattle.mod_log.specs.Reading.{sketch_put_at, sketch_effect_at, sketch_room_after, sketch_effects_within};
-ghost use Rattle.mod_log.specs.declared.sketched.SketchEffect.TheVariants.{Make, Remove, Move};
+ghost use Rattle.mod_log.specs.declared.sketched.SketchEffect.TheVariants.{Make, Remove, Move, Mode};
 
 use crate::sketched::{SketchEffect, SketchEffects};
 use byte_fields::{Item, Spelled, TakeError, put_each, put_u32, take_each, u8_at, u32_at};
 use rs_parity::Sketch;
 use std::alloc::{AllocError, Global};
-use vol_tree::Path;
+use vol_tree::{Path, bit_at, spell_bit};
 
 impl SketchEffect {
     /// Appends the spelling: a byte for the kind, and the paths and the sketch.
@@ -30,6 +32,7 @@ impl SketchEffect {
             SketchEffect::Put(path, sketch) => put_sketched(path, sketch, out),
             SketchEffect::Remove(path) => put_path(3, path, out),
             SketchEffect::Move(from, to) => put_paths(from, to, out),
+            SketchEffect::Mode(path, exec) => put_mode(path, *exec, out),
         }
     }
 
@@ -38,7 +41,7 @@ impl SketchEffect {
     ///
     /// # Errors
     ///
-    /// `At` the first faulty field: also a kind that is not 1 to 4, and a length above the room or above 8 MiB. Want
+    /// `At` the first faulty field: also a kind that is not 1 to 5, and a length above the room or above 8 MiB. Want
     /// of memory.
     #[tactic(auto, unfolding(crate::specs::Reading::sketch_effect_at))]
     pub fn take_within(
@@ -55,6 +58,7 @@ impl SketchEffect {
             2 => put_at(alloc, bytes, start, room),
             3 => remove_at(alloc, bytes, start),
             4 => move_at(alloc, bytes, start),
+            5 => mode_at(alloc, bytes, start),
             _ => Err(TakeError::At(at)),
         }
     }
@@ -85,6 +89,15 @@ fn put_paths(from: &Path, to: &Path, out: &mut Vec<u8>) -> Result<(), AllocError
 {
     put_path(4, from, out)?;
     Path::spell(to, out)
+}
+
+/// Appends the kind of a change of mode, its path, and whether the file may be run.
+fn put_mode(at: &Path, exec: bool, out: &mut Vec<u8>) -> Result<(), AllocError>
+    ensures ok { OnOk result (out.new.items ≡ out.old.items ++ (5 ∷ (path at.now ++ bit exec))) }
+    ensures err { OnErr result (IsFront out.old.items out.new.items (5 ∷ (path at.now ++ bit exec))) }
+{
+    put_path(5, at, out)?;
+    spell_bit(exec, out)
 }
 
 fn make_at(alloc: Global, bytes: &[u8], at: usize) -> Result<(SketchEffect, usize), TakeError>
@@ -120,6 +133,14 @@ fn move_at(alloc: Global, bytes: &[u8], at: usize) -> Result<(SketchEffect, usiz
     let (from, middle) = Path::take(alloc, bytes, at)?;
     let (to, next) = Path::take(alloc, bytes, middle)?;
     Ok((SketchEffect::Move(from, to), next))
+}
+
+fn mode_at(alloc: Global, bytes: &[u8], at: usize) -> Result<(SketchEffect, usize), TakeError>
+    ensures { Gives result (two path_at (λ path. bit_at) Mode bytes.now at) }
+{
+    let (path, middle) = Path::take(alloc, bytes, at)?;
+    let (exec, next) = bit_at(bytes, middle)?;
+    Ok((SketchEffect::Mode(path, exec), next))
 }
 
 impl Spelled for SketchEffect {
