@@ -31,6 +31,7 @@ place (of_sketch.Put p sketch) e a is =
     subst (Fills (of_sketch.Put p sketch)) (sym is.3) (refl, print.0, print.1, print.2)
 place (of_sketch.Remove p) e a is = subst (Fills (of_sketch.Remove p)) (sym is.1) refl
 place (of_sketch.Move p q) e a is = subst (Fills (of_sketch.Move p q)) (sym is.1) (refl, refl)
+place (of_sketch.Mode p exec) e a is = subst (Fills (of_sketch.Mode p exec)) (sym is.1) (refl, refl)
 
 pub all_fill : AgreementsFill
 all_fill [] [] [] all = tt

@@ -13,7 +13,7 @@ use Rattle.sha2.specs.Sha256.{sha256}
 use Rattle.byte_fields.specs.Codec.{IsBytes}
 use Rattle.file_paths.specs.Path.{FilePath, IsPath}
 use Rattle.tree_values.specs.declared.node.Effect.{Effect}
-use Rattle.tree_values.specs.declared.node.Effect.TheVariants.{Make, Put, Remove, Move}
+use Rattle.tree_values.specs.declared.node.Effect.TheVariants.{Make, Put, Remove, Move, Mode}
 use Rattle.rs_parity.specs.declared.sketch.Sketch.{Sketch}
 use Rattle.rs_repair.specs.Repair.{Repairs}
 use Rattle.rs_repair.proofs.Blocks.{one_repair_whole}
@@ -49,6 +49,7 @@ content_of (Make p) = []
 content_of (Put p content) = content
 content_of (Remove p) = []
 content_of (Move p q) = []
+content_of (Mode p exec) = []
 
 -- where nothing stands for the content that the replay put, there is no agreement
 pub put_disagrees : (p : FilePath) (sketch : Sketch) (content : List ℕ) (found : Effect) → found ≡ Put p content

@@ -2,7 +2,7 @@
 use Rattle.std.proofs.Common.{◌≡◌, ◌≢◌, inl, inr, ℕ, ◌<◌, Bool, true, false, List, [], ◌∷◌, refl, sym, ◌∙◌, ap, subst, true≢false, arith}
 use Rattle.file_paths.specs.Path.{FilePath}
 use Rattle.tree_values.specs.declared.node.Effect.{Effect}
-use Rattle.tree_values.specs.declared.node.Effect.TheVariants.{Make, Put, Remove, Move}
+use Rattle.tree_values.specs.declared.node.Effect.TheVariants.{Make, Put, Remove, Move, Mode}
 use Rattle.rs_parity.specs.declared.sketch.Sketch.{Sketch}
 use Rattle.rs_repair.proofs.Blocks.{one_repair_whole}
 use Rattle.byte_fields.specs.Numbers.{as_u32}
@@ -24,6 +24,7 @@ content_of (Put p content) other = content
 content_of (Make p) other = other
 content_of (Remove p) other = other
 content_of (Move p q) other = other
+content_of (Mode p exec) other = other
 
 one_stand : (b : Bool) (sketch : Sketch) (content x y : List ℕ) → StandsFor b sketch content x → StandsFor b sketch content y → x ≡ y
 one_stand true sketch content x y first second = first.1 ∙ sym second.1
@@ -41,6 +42,7 @@ one_place (of_sketch.Make p) e a b first second = first.1 ∙ sym second.1
 one_place (of_sketch.Put p sketch) e a b first second = one_put p sketch e a b first second
 one_place (of_sketch.Remove p) e a b first second = first.1 ∙ sym second.1
 one_place (of_sketch.Move p q) e a b first second = first.1 ∙ sym second.1
+one_place (of_sketch.Mode p exec) e a b first second = first.1 ∙ sym second.1
 
 one_agreement : (wanted : List SketchEffect) (found a b : List Effect) → AllAgree wanted found a → AllAgree wanted found b → a ≡ b
 one_agreement [] [] [] [] first second = refl

@@ -5,7 +5,7 @@ use Rattle.sha2.specs.Sha256.{sha256}
 use Rattle.byte_fields.specs.Codec.{IsBytes}
 use Rattle.file_paths.specs.Path.{FilePath}
 use Rattle.tree_values.specs.declared.node.Effect.{Effect}
-use Rattle.tree_values.specs.declared.node.Effect.TheVariants.{Make, Put, Remove, Move}
+use Rattle.tree_values.specs.declared.node.Effect.TheVariants.{Make, Put, Remove, Move, Mode}
 use Rattle.work_area.specs.Changes.{first_path}
 use Rattle.rs_parity.specs.declared.sketch.Sketch.{Sketch}
 use Rattle.rs_repair.specs.Repair.{Repairs}
@@ -39,6 +39,7 @@ Agrees (of_sketch.Make p) found agreed = (found ≡ Make p) × (agreed ≡ Make 
 Agrees (of_sketch.Put p sketch) found agreed = AgreesOnPut p sketch found agreed
 Agrees (of_sketch.Remove p) found agreed = (found ≡ Remove p) × (agreed ≡ Remove p)
 Agrees (of_sketch.Move p q) found agreed = (found ≡ Move p q) × (agreed ≡ Move p q)
+Agrees (of_sketch.Mode p exec) found agreed = (found ≡ Mode p exec) × (agreed ≡ Mode p exec)
 
 abbrev pub Disagree : SketchEffect → Effect → Type 0
 Disagree wanted found = (agreed : Effect) → Agrees wanted found agreed → ⊥
@@ -56,6 +57,7 @@ wanted_path (of_sketch.Make p) = p
 wanted_path (of_sketch.Put p sketch) = p
 wanted_path (of_sketch.Remove p) = p
 wanted_path (of_sketch.Move p q) = p
+wanted_path (of_sketch.Mode p exec) = p
 
 -- the first path of the entry's effect at the first place that does not agree, or of the replay's where the entry has none there
 abbrev pub IsFirstMismatch : List SketchEffect → List Effect → FilePath → Type 0

@@ -1,7 +1,7 @@
 //! Places at which the changes of a replay agree with the effects of an entry.
 
 ghost use Rattle.std.specs.Prelude.{◌≡◌, ◌≢◌, true, false, IfOk, IfSome, IfNone};
-ghost use Rattle.tree_values.specs.declared.node.Effect.TheVariants.{Make, Put, Remove, Move};
+ghost use Rattle.tree_values.specs.declared.node.Effect.TheVariants.{Make, Put, Remove, Move, Mode};
 ghost use Rattle.replay_judge.specs.Agreement.{Agrees, Disagree, wanted_path as wanted_path_of};
 ghost use Rattle.replay_judge.specs.Inside.{IsNoPut, IsComparison};
 
@@ -25,7 +25,7 @@ fn is_make(effect: &Effect, path: &Path) -> bool
 {
     match effect {
         Effect::Make(p) => is_same_path(p, path),
-        Effect::Put(_, _) | Effect::Remove(_) | Effect::Move(_, _) => false,
+        Effect::Put(_, _) | Effect::Remove(_) | Effect::Move(_, _) | Effect::Mode(_, _) => false,
     }
 }
 
@@ -35,7 +35,7 @@ fn is_remove(effect: &Effect, path: &Path) -> bool
 {
     match effect {
         Effect::Remove(p) => is_same_path(p, path),
-        Effect::Make(_) | Effect::Put(_, _) | Effect::Move(_, _) => false,
+        Effect::Make(_) | Effect::Put(_, _) | Effect::Move(_, _) | Effect::Mode(_, _) => false,
     }
 }
 
@@ -45,7 +45,17 @@ fn is_move(effect: &Effect, from: &Path, to: &Path) -> bool
 {
     match effect {
         Effect::Move(p, q) => is_same_path(p, from) && is_same_path(q, to),
-        Effect::Make(_) | Effect::Put(_, _) | Effect::Remove(_) => false,
+        Effect::Make(_) | Effect::Put(_, _) | Effect::Remove(_) | Effect::Mode(_, _) => false,
+    }
+}
+
+fn is_mode(effect: &Effect, path: &Path, exec: bool) -> bool
+    ensures same { result ≡ true → effect.now ≡ Mode path.now exec }
+    ensures other { result ≡ false → effect.now ≢ Mode path.now exec }
+{
+    match effect {
+        Effect::Mode(p, bit) => *bit == exec && is_same_path(p, path),
+        Effect::Make(_) | Effect::Put(_, _) | Effect::Remove(_) | Effect::Move(_, _) => false,
     }
 }
 
@@ -62,7 +72,7 @@ fn put_content<'a>(effect: &'a Effect, path: &Path) -> Option<&'a Content>
                 None
             }
         }
-        Effect::Make(_) | Effect::Remove(_) | Effect::Move(_, _) => None,
+        Effect::Make(_) | Effect::Remove(_) | Effect::Move(_, _) | Effect::Mode(_, _) => None,
     }
 }
 
@@ -99,6 +109,12 @@ fn agreed(
             }
             Ok(Some(Effect::Move(p.copy()?, q.copy()?)))
         }
+        SketchEffect::Mode(p, exec) => {
+            if !is_mode(found, p, *exec) {
+                return Ok(None);
+            }
+            Ok(Some(Effect::Mode(p.copy()?, *exec)))
+        }
     }
 }
 
@@ -109,7 +125,8 @@ fn wanted_path(effect: &SketchEffect) -> &Path
         SketchEffect::Make(p)
         | SketchEffect::Put(p, _)
         | SketchEffect::Remove(p)
-        | SketchEffect::Move(p, _) => p,
+        | SketchEffect::Move(p, _)
+        | SketchEffect::Mode(p, _) => p,
     }
 }
 

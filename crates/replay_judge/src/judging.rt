@@ -22,7 +22,10 @@ fn has_paths(effect: &SketchEffect)
     ensures { AllByRecursion IsPath (sketch_paths effect.now) }
 {
     match effect {
-        SketchEffect::Make(p) | SketchEffect::Put(p, _) | SketchEffect::Remove(p) => {
+        SketchEffect::Make(p)
+        | SketchEffect::Put(p, _)
+        | SketchEffect::Remove(p)
+        | SketchEffect::Mode(p, _) => {
             p.names();
         }
         SketchEffect::Move(p, q) => {

@@ -12,7 +12,7 @@ use Rattle.tree_values.specs.declared.node.Node.TheVariants.{Folder, File}
 use Rattle.cmd_capture.specs.declared.job.JobRow.{JobRow}
 use Rattle.cmd_capture.specs.Rows.{is_job_row_at, node_in}
 use Rattle.mod_log.specs.declared.sketched.SketchEffect.{SketchEffect}
-use Rattle.mod_log.specs.declared.sketched.SketchEffect.TheVariants.{Make, Put, Remove, Move}
+use Rattle.mod_log.specs.declared.sketched.SketchEffect.TheVariants.{Make, Put, Remove, Move, Mode}
 use Rattle.sha2.specs.Sha256.{sha256}
 use Rattle.temp_names.specs.declared.candidate.Candidate.{Candidate}
 use Rattle.temp_names.specs.declared.pairs.Renamed.{Renamed}
@@ -36,7 +36,7 @@ found_same rows sorted are p =
 node_same : (templates : List (List ℕ)) (job_rows job : List JobRow) → AreSorted path_of_row job_rows job → (path : FilePath) (node : Node)
     → candidate_of_node templates job path node ≡ candidate_of_node templates job_rows path node
 node_same templates job_rows job are path Folder = refl
-node_same templates job_rows job are path (File content) =
+node_same templates job_rows job are path (File content exec) =
     λ i. cond (is_some (found_same job_rows job are path i)) None (candidate templates path (sha256 content))
 
 effect_same : (templates : List (List ℕ)) (job_rows job rows left : List JobRow) → AreSorted path_of_row job_rows job → AreSorted path_of_row rows left → (effect : SketchEffect)
@@ -46,6 +46,7 @@ effect_same templates job_rows job rows left are too (Put p sketch) =
     λ i. cond (is_some (found_same job_rows job are p i) || (is_root p || is_folder_node (found_same rows left too p i))) None (candidate templates p sketch.print)
 effect_same templates job_rows job rows left are too (Remove p) = refl
 effect_same templates job_rows job rows left are too (Move p q) = refl
+effect_same templates job_rows job rows left are too (Mode p exec) = refl
 
 pub replays_same : (templates : List (List ℕ)) (job_rows job rows : List JobRow) → AreSorted path_of_row job_rows job
     → replay_candidates templates job rows ≡ replay_candidates templates job_rows rows

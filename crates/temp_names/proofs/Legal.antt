@@ -192,7 +192,7 @@ under_parts row x (Some to) e =
 
 module _ (pairs : List Renamed) (rows : List JobRow) (up : JobRowsAreInOrder rows)
     (froms : NoneTwice (map (λ pair. pair.from) pairs)) (tos : RisesBy (λ pair. pair.to) pairs)
-    (files : AllByRecursion (λ pair. (content : List ℕ) × (node_in rows pair.from ≡ Some (File content))) pairs)
+    (files : AllByRecursion (λ pair. (content : List ℕ) × (exec : Bool) × (node_in rows pair.from ≡ Some (File content exec))) pairs)
     (free : AllByRecursion (λ pair. node_in rows pair.to ≡ None) pairs) where
   abbrev after : List JobRow
   after = rename pairs rows
@@ -283,13 +283,13 @@ module _ (pairs : List Renamed) (rows : List JobRow) (up : JobRowsAreInOrder row
   no_longer : (pair : Renamed) → IsIn pair pairs → node_in after pair.from ≡ None
   no_longer pair among = by (node_in after pair.from) refl
     where
-      file : (content : List ℕ) × (node_in rows pair.from ≡ Some (File content))
-      file = holds_in (λ r. (content : List ℕ) × (node_in rows r.from ≡ Some (File content))) pairs pair files among
+      file : (content : List ℕ) × (exec : Bool) × (node_in rows pair.from ≡ Some (File content exec))
+      file = holds_in (λ r. (content : List ℕ) × (exec : Bool) × (node_in rows r.from ≡ Some (File content exec))) pairs pair files among
 
       not_there : (node : Node) → IsRenamedAt pair.from node ⊎ IsKeptAt pair.from node → ⊥
       not_there node (inl new) =
-          none-some (File file.0)
-          (sym (holds_in (λ r. node_in rows r.to ≡ None) pairs new.0 free new.1) ∙ ap (node_in rows) new.2 ∙ file.1)
+          none-some (File file.0 file.1)
+          (sym (holds_in (λ r. node_in rows r.to ≡ None) pairs new.0 free new.1) ∙ ap (node_in rows) new.2 ∙ file.2)
       not_there node (inr kept) = none-some pair.to (sym kept.0 ∙ new_is pairs pair froms among)
 
       by : (o : Option Node) → node_in after pair.from ≡ o → node_in after pair.from ≡ None
@@ -319,8 +319,8 @@ module _ (pairs : List Renamed) (rows : List JobRow) (up : JobRowsAreInOrder row
   moves_contents = record {
     to_new = all_map (λ pair. IsIn pair pairs) (λ pair. node_in after pair.to ≡ node_in rows pair.from)
         (λ pair among.
-        let file = holds_in (λ r. (content : List ℕ) × (node_in rows r.from ≡ Some (File content))) pairs pair files among in
-        moved_stands pair (File file.0) among file.1 ∙ sym file.1) pairs (all_in pairs);
+        let file = holds_in (λ r. (content : List ℕ) × (exec : Bool) × (node_in rows r.from ≡ Some (File content exec))) pairs pair files among in
+        moved_stands pair (File file.0 file.1) among file.2 ∙ sym file.2) pairs (all_in pairs);
     from_old = all_map (λ pair. IsIn pair pairs) (λ pair. node_in after pair.from ≡ None) no_longer pairs (all_in pairs);
     rest = as_before;
   }
@@ -344,17 +344,17 @@ module _ (pairs : List Renamed) (rows : List JobRow) (up : JobRowsAreInOrder row
         is_there : (o : Option Node) → node_in rows path ≡ o → is_folder_node o ≡ true → node_in rows path ≡ Some Folder
         is_there None e f = absurd (true≢false (sym f))
         is_there (Some Folder) e f = e
-        is_there (Some (File content)) e f = absurd (true≢false (sym f))
+        is_there (Some (File content exec)) e f = absurd (true≢false (sym f))
 
         keeps : node_in rows path ≡ Some Folder → (o : Option FilePath) → new_path pairs path ≡ o → new_path pairs path ≡ None
         keeps there None e = e
         keeps there (Some to) e =
             let pair = new_found pairs path to e in
-            let file = holds_in (λ r. (content : List ℕ) × (node_in rows r.from ≡ Some (File content))) pairs pair.0 files pair.1 in
-            absurd (no_file file.0 (some_same Folder (File file.0) (sym there ∙ ap (node_in rows) (sym pair.2) ∙ file.1)))
+            let file = holds_in (λ r. (content : List ℕ) × (exec : Bool) × (node_in rows r.from ≡ Some (File content exec))) pairs pair.0 files pair.1 in
+            absurd (no_file file.0 file.1 (some_same Folder (File file.0 file.1) (sym there ∙ ap (node_in rows) (sym pair.2) ∙ file.2)))
           where
-            no_file : (content : List ℕ) → ◌≡◌ {A = Node} Folder (File content) → ⊥
-            no_file content f = true≢false (ap (λ (n : Node). is_folder_node (Some n)) f)
+            no_file : (content : List ℕ) (exec : Bool) → ◌≡◌ {A = Node} Folder (File content exec) → ⊥
+            no_file content exec f = true≢false (ap (λ (n : Node). is_folder_node (Some n)) f)
 
         by : (b : Bool) → is_root path ≡ b → is_folder_in after path ≡ true
         by true e = rw e refl
@@ -401,10 +401,10 @@ module _ (templates : List (List ℕ)) (effects : List SketchEffect) (job_rows r
       by : (o : Option Node) → node_in rows pair.to ≡ o → node_in rows pair.to ≡ None
       by None e = e
       by (Some Folder) e = absurd (true≢false (sym (ap is_folder_node e) ∙ (or_false_of (is_root pair.to) _ new.0.to_is.no_folder).1))
-      by (Some (File content)) e = absurd (new.1.to_is_no_file (record { is_new = new.0.to_is.is_new; is_file = (content, e) }))
+      by (Some (File content exec)) e = absurd (new.1.to_is_no_file (record { is_new = new.0.to_is.is_new; is_file = (content, exec, e) }))
 
-  pub given_files : AllByRecursion (λ pair. (content : List ℕ) × (node_in rows pair.from ≡ Some (File content))) given
-  given_files = all_map IsOfNew (λ pair. (content : List ℕ) × (node_in rows pair.from ≡ Some (File content))) (λ pair new. new.0.from_is.is_file) given of_new
+  pub given_files : AllByRecursion (λ pair. (content : List ℕ) × (exec : Bool) × (node_in rows pair.from ≡ Some (File content exec))) given
+  given_files = all_map IsOfNew (λ pair. (content : List ℕ) × (exec : Bool) × (node_in rows pair.from ≡ Some (File content exec))) (λ pair new. new.0.from_is.is_file) given of_new
 
   pub given_free : AllByRecursion (λ pair. node_in rows pair.to ≡ None) given
   given_free = all_map IsOfNew (λ pair. node_in rows pair.to ≡ None) to_is_free given of_new

@@ -113,7 +113,7 @@ only_new templates effects job_rows rows up =
     all_renamed templates effects job_rows rows (IsOfNewFiles effects job_rows rows) (λ c r of_c of_r alike. record {
       from_is = record {
         is_new = of_r.0.is_new;
-        is_file = (of_r.0.is_row.0, stands rows (record { path = r.path; node = File of_r.0.is_row.0 }) up of_r.0.is_row.1);
+        is_file = (of_r.0.is_row.0, of_r.0.is_row.1, stands rows (record { path = r.path; node = File of_r.0.is_row.0 of_r.0.is_row.1 }) up of_r.0.is_row.2);
       };
       to_is = of_c.0.put;
     })

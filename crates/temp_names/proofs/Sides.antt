@@ -1,5 +1,5 @@
 -- What is known of the candidates of either side, and which paths are candidates.
-use Rattle.std.proofs.Common.{◌≡◌, ◌∙◌, ℕ, true, false, ◌||◌, List, [], ◌∷◌, filter, Option, Some, None, is_some, option_map, find, inl, inr, refl, sym, ap, subst, cond}
+use Rattle.std.proofs.Common.{◌≡◌, ◌∙◌, ℕ, Bool, true, false, ◌||◌, List, [], ◌∷◌, filter, Option, Some, None, is_some, option_map, find, inl, inr, refl, sym, ap, subst, cond}
 use Rattle.std.specs.List.{AllByRecursion, list_any}
 use Rattle.std.proofs.lemmas.Option.{none-some}
 use Rattle.std.specs.declared.cmp.Ordering.{Ordering}
@@ -15,7 +15,7 @@ use Rattle.tree_values.specs.declared.node.Node.TheVariants.{Folder, File}
 use Rattle.cmd_capture.specs.declared.job.JobRow.{JobRow}
 use Rattle.cmd_capture.specs.Rows.{node_in, is_job_row_at, is_folder_in, JobRowsAreInOrder}
 use Rattle.mod_log.specs.declared.sketched.SketchEffect.{SketchEffect}
-use Rattle.mod_log.specs.declared.sketched.SketchEffect.TheVariants.{Make, Put, Remove, Move}
+use Rattle.mod_log.specs.declared.sketched.SketchEffect.TheVariants.{Make, Put, Remove, Move, Mode}
 use Rattle.temp_names.specs.declared.candidate.Candidate.{Candidate}
 use Rattle.temp_names.specs.Fits.{first_fitting}
 use Rattle.temp_names.specs.Candidates.{candidate, candidate_of_node, candidate_of_row, candidate_of_effect, with_candidate, in_path_order, replay_candidates, client_candidates}
@@ -82,7 +82,7 @@ candidate_named templates path print c e =
 pub row_path : (templates : List (List ℕ)) (job_rows : List JobRow) (path : FilePath) (node : Node) (c : Candidate)
     → candidate_of_node templates job_rows path node ≡ Some c → c.path ≡ path
 row_path templates job_rows path Folder c e = absurd (none-some c e)
-row_path templates job_rows path (File content) c e =
+row_path templates job_rows path (File content exec) c e =
     elim (is_some (node_in job_rows path)) as (λ b. cond b None (candidate templates path (sha256 content)) ≡ Some c → c.path ≡ path) [
       | true ↦ λ f. absurd (none-some c f)
       | false ↦ λ f. (candidate_named templates path (sha256 content) c f).1
@@ -96,12 +96,13 @@ module _ (templates : List (List ℕ)) (effects : List SketchEffect) (job_rows r
   pub record IsOfReplay (c : Candidate) : Type 0 where
     pub named : IsNamed templates c
     pub is_new : node_in job_rows c.path ≡ None
-    pub is_row : (content : List ℕ) × IsIn (row_of c.path (File content)) rows
+    pub is_row : (content : List ℕ) × (exec : Bool) × IsIn (row_of c.path (File content exec)) rows
 
   put_found : (effect : SketchEffect) → IsIn effect effects → (c : Candidate) → candidate_of_effect templates job_rows rows effect ≡ Some c → IsOfClient c
   put_found (Make p) among c e = absurd (none-some c e)
   put_found (Remove p) among c e = absurd (none-some c e)
   put_found (Move p q) among c e = absurd (none-some c e)
+  put_found (Mode p exec) among c e = absurd (none-some c e)
   put_found (Put p sketch) among c e =
       elim (is_some (node_in job_rows p) || is_folder_in rows p) as (λ b. (is_some (node_in job_rows p) || is_folder_in rows p) ≡ b
       → cond b None (candidate templates p sketch.print) ≡ Some c → IsOfClient c) [
@@ -120,14 +121,14 @@ module _ (templates : List (List ℕ)) (effects : List SketchEffect) (job_rows r
   node_found : (path : FilePath) (node : Node) → IsIn (row_of path node) rows → (c : Candidate)
       → candidate_of_node templates job_rows path node ≡ Some c → IsOfReplay c
   node_found path Folder among c e = absurd (none-some c e)
-  node_found path (File content) among c e =
+  node_found path (File content exec) among c e =
       elim (is_some (node_in job_rows path)) as (λ b. is_some (node_in job_rows path) ≡ b
       → cond b None (candidate templates path (sha256 content)) ≡ Some c → IsOfReplay c) [
         | true ↦ λ so f. absurd (none-some c f)
         | false ↦ λ so f. record {
           named = (candidate_named templates path (sha256 content) c f).0;
           is_new = subst (λ p. node_in job_rows p ≡ None) (sym (candidate_named templates path (sha256 content) c f).1) (none_of _ so);
-          is_row = (content, subst (λ p. IsIn (row_of p (File content)) rows) (sym (candidate_named templates path (sha256 content) c f).1) among);
+          is_row = (content, exec, subst (λ p. IsIn (row_of p (File content exec)) rows) (sym (candidate_named templates path (sha256 content) c f).1) among);
         }
       ] refl e
 
@@ -184,7 +185,7 @@ module _ (templates : List (List ℕ)) (effects : List SketchEffect) (job_rows r
   pub files_are_candidates : (path : FilePath) (i : ℕ) → IsNewFile job_rows rows path → first_fitting templates (last_name path) ≡ Some i
       → list_any (has_path path) (replay_candidates templates job_rows rows) ≡ true
   files_are_candidates path i new fits =
-      let found : candidate_of_row templates job_rows (row_of path (File new.is_file.0)) ≡ Some (made path (sha256 new.is_file.0) i) =
+      let found : candidate_of_row templates job_rows (row_of path (File new.is_file.0 new.is_file.1)) ≡ Some (made path (sha256 new.is_file.0) i) =
       rw new.is_new (rw fits refl) in
       any_in path _ (made path (sha256 new.is_file.0) i)
-      (in_found (candidate_of_row templates job_rows) rows (row_of path (File new.is_file.0)) _ (row_there rows path (File new.is_file.0) new.is_file.1) found) refl
+      (in_found (candidate_of_row templates job_rows) rows (row_of path (File new.is_file.0 new.is_file.1)) _ (row_there rows path (File new.is_file.0 new.is_file.1) new.is_file.2) found) refl

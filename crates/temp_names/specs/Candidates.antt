@@ -9,7 +9,7 @@ use Rattle.tree_values.specs.declared.node.Node.TheVariants.{Folder, File}
 use Rattle.cmd_capture.specs.declared.job.JobRow.{JobRow}
 use Rattle.cmd_capture.specs.Rows.{node_in, is_folder_in}
 use Rattle.mod_log.specs.declared.sketched.SketchEffect.{SketchEffect}
-use Rattle.mod_log.specs.declared.sketched.SketchEffect.TheVariants.{Make, Put, Remove, Move}
+use Rattle.mod_log.specs.declared.sketched.SketchEffect.TheVariants.{Make, Put, Remove, Move, Mode}
 use Rattle.temp_names.specs.declared.candidate.Candidate.{Candidate}
 use Rattle.temp_names.specs.Fits.{first_fitting}
 
@@ -21,7 +21,7 @@ candidate templates path print =
 -- the path of a file that is not in the job
 abbrev pub candidate_of_node : List (List ℕ) → List JobRow → FilePath → Node → Option Candidate
 candidate_of_node templates job_rows path Folder = None
-candidate_of_node templates job_rows path (File content) =
+candidate_of_node templates job_rows path (File content exec) =
     (if is_some (node_in job_rows path) then None else candidate templates path (sha256 content))
 
 abbrev pub candidate_of_row : List (List ℕ) → List JobRow → JobRow → Option Candidate
@@ -34,6 +34,7 @@ candidate_of_effect templates job_rows rows (Put p sketch) =
     (if is_some (node_in job_rows p) || is_folder_in rows p then None else candidate templates p sketch.print)
 candidate_of_effect templates job_rows rows (Remove p) = None
 candidate_of_effect templates job_rows rows (Move p q) = None
+candidate_of_effect templates job_rows rows (Mode p exec) = None
 
 -- at its place, instead of one with the same path
 abbrev pub with_candidate : Candidate → List Candidate → List Candidate

@@ -1,5 +1,5 @@
 -- What holds of every renaming.
-use Rattle.std.specs.Prelude.{◌≡◌, ℕ, true, false, List, [], ◌∷◌, map, Some, None, is_some}
+use Rattle.std.specs.Prelude.{◌≡◌, ℕ, Bool, true, false, List, [], ◌∷◌, map, Some, None, is_some}
 use Rattle.std.specs.List.{AllByRecursion}
 use Rattle.std.specs.declared.cmp.Ordering.TheVariants.{Less}
 use Rattle.rs_parity.specs.declared.sketch.Sketch.{Sketch}
@@ -52,7 +52,7 @@ GroupsKeepTheirNames = (templates : List (List ℕ)) (effects : List SketchEffec
 -- a file that the replay left, and that is not in the job
 pub record IsNewFile (job_rows rows : List JobRow) (path : FilePath) : Type 0 where
   pub is_new : node_in job_rows path ≡ None
-  pub is_file : (content : List ℕ) × (node_in rows path ≡ Some (File content))
+  pub is_file : (content : List ℕ) × (exec : Bool) × (node_in rows path ≡ Some (File content exec))
 
 -- a content that the client put, where the job has nothing and the replay left no folder
 pub record IsNewPut (effects : List SketchEffect) (job_rows rows : List JobRow) (path : FilePath) : Type 0 where

@@ -99,7 +99,7 @@ fn candidate_of_node(
 {
     match node {
         Node::Folder => Ok(None),
-        Node::File(content) => {
+        Node::File { content, .. } => {
             if node_in(job_rows, path).is_some() {
                 return Ok(None);
             }
@@ -127,7 +127,10 @@ fn candidate_of_effect(
             }
             candidate_at(templates, path, sketch.print)
         }
-        SketchEffect::Make(_) | SketchEffect::Remove(_) | SketchEffect::Move(_, _) => Ok(None),
+        SketchEffect::Make(_)
+        | SketchEffect::Remove(_)
+        | SketchEffect::Move(_, _)
+        | SketchEffect::Mode(_, _) => Ok(None),
     }
 }
 
