@@ -14,10 +14,15 @@ use Rattle.store_image.specs.declared.image.ServerImage.{ServerImage}
 use Rattle.store_image.specs.declared.record.ClientRecord.{ClientRecord}
 use Rattle.store_image.specs.declared.record.ClientRecord.TheVariants.{Logged, Acked}
 use Rattle.store_image.specs.declared.record.ServerRecord.{ServerRecord}
-use Rattle.store_image.specs.Spelling.{client, ClientFits, server, ServerFits}
-use Rattle.store_image.specs.Records.{IsTorn, client_note, client_record, client_records, with_record, with_records, IsNoteOf, AreNotes, server_record, server_records, server_note, with_taken, with_all_taken, IsTakenOf, AreTakenOf}
+use Rattle.store_image.specs.Spelling.{client, ClientFits, IsLogOf, server, ServerFits}
+use Rattle.store_image.specs.Records.{IsTorn, client_note, client_record, client_records, with_record, with_records, IsNoteOf, AreNotes, AreRecordsOf, server_record, server_records, server_note, with_taken, with_all_taken, IsTakenOf, AreTakenOf, AreTakenIn}
 use Rattle.store_image.specs.Image.{IsKeptWholeFor, IsKeptFor, IsKeptWholeForServer, IsKeptForServer}
 use Rattle.store_image.specs.Laws.{RecordsAreAppended, CutRecordsAreTorn}
+use Rattle.tree_laws.proofs.Parts.{all_rows}
+use Rattle.tree_values.specs.declared.format.Format.TheVariants.{Second}
+use Rattle.mod_log.specs.declared.log.Entry.{Entry}
+use Rattle.store_image.proofs.Growing.{all_known}
+use Rattle.store_image.proofs.Entries.{AreOf}
 use Rattle.store_image.proofs.Images.{client_made}
 use Rattle.store_image.proofs.Notes.{note_spelled}
 use Rattle.store_image.proofs.Taken.{taken_small}
@@ -81,11 +86,29 @@ module _ {S A : Type 0} (record_of : A → List ℕ) (after : S → A → S) (Fi
 alone : {A : Type 0} (f : A → List ℕ) (x : A) → flat_map f (x ∷ []) ≡ f x
 alone f x = flat_map-cons f x [] ∙ append-nil (f x)
 
+-- ---- the second format has all
+
+notes_known : (notes : List ClientRecord) → AreRecordsOf Second notes
+notes_known [] = tt
+notes_known (Logged e ∷ notes) = (all_known e.effects, notes_known notes)
+notes_known (Acked n ∷ notes) = (tt, notes_known notes)
+
+taken_known : (notes : List ServerRecord) → AreTakenIn Second notes
+taken_known [] = tt
+taken_known (note ∷ notes) = (all_known note.effects, taken_known notes)
+
+pub entries_known : (es : List Entry) → AreOf Second es
+entries_known [] = tt
+entries_known (e ∷ es) = (all_known e.effects, entries_known es)
+
+pub log_known : (l : Log) → IsLogOf Second l
+log_known l = record { rows_are = all_rows l.base; entries_are = entries_known l.pending }
+
 -- ---- of a client
 
 module _ (number : ℕ) where
   client_kept : (log : Log) (bytes : List ℕ) → IsKeptWholeFor number log bytes → IsKeptFor number log bytes
-  client_kept log bytes whole = record { front = bytes; tail = []; whole = whole; torn = no_tail; parts = sym (append-nil bytes) }
+  client_kept log bytes whole = record { format = Second; front = bytes; tail = []; whole = whole; torn = no_tail; parts = sym (append-nil bytes) }
 
   client_all : (log : Log) (bytes : List ℕ) (notes : List ClientRecord) → IsKeptWholeFor number log bytes → AreNotes log notes → IsKeptWholeFor number (with_records log notes) (bytes ++ client_records notes)
   client_all log bytes notes w are =
@@ -95,6 +118,7 @@ module _ (number : ℕ) where
         notes = w.notes ++ notes;
         fits = w.fits;
         are = each_append with_record IsNoteOf w.first w.notes notes w.are (subst (λ (l : Log). AreNotes l notes) w.leads are);
+        known = notes_known (w.notes ++ notes);
         leads = ap (λ (l : Log). with_records l notes) w.leads ∙ sym (passed_append with_record w.first w.notes notes);
         spelled =
             ap (λ (b : List ℕ). b ++ client_records notes) w.spelled ∙ append_assoc text (client_records w.notes) (client_records notes)
@@ -109,12 +133,12 @@ module _ (number : ℕ) where
   note_small log (Acked n) is = omega (arith, eight_bytes n)
 
   client_cut : (log : Log) (bytes : List ℕ) (note : ClientRecord) (count : ℕ) → IsKeptWholeFor number log bytes → IsNoteOf log note → count < length (client_record note) → IsKeptFor number log (bytes ++ take count (client_record note))
-  client_cut log bytes note count w is lt = record { front = bytes; tail = take count (client_record note); whole = w; torn = cut_torn (client_note note) count (note_small log note is) lt; parts = refl }
+  client_cut log bytes note count w is lt = record { format = Second; front = bytes; tail = take count (client_record note); whole = w; torn = cut_torn (client_note note) count (note_small log note is) lt; parts = refl }
 
 -- ---- of a server
 
 server_kept : (image : ServerImage) (bytes : List ℕ) → IsKeptWholeForServer image bytes → IsKeptForServer image bytes
-server_kept image bytes whole = record { front = bytes; tail = []; whole = whole; torn = no_tail; parts = sym (append-nil bytes) }
+server_kept image bytes whole = record { format = Second; front = bytes; tail = []; whole = whole; torn = no_tail; parts = sym (append-nil bytes) }
 
 server_all : (image : ServerImage) (bytes : List ℕ) (notes : List ServerRecord) → IsKeptWholeForServer image bytes → AreTakenOf image notes → IsKeptWholeForServer (with_all_taken image notes) (bytes ++ server_records notes)
 server_all image bytes notes w are = record {
@@ -122,6 +146,7 @@ server_all image bytes notes w are = record {
   notes = w.notes ++ notes;
   fits = w.fits;
   are = each_append with_taken IsTakenOf w.first w.notes notes w.are (subst (λ (i : ServerImage). AreTakenOf i notes) w.leads are);
+  known = taken_known (w.notes ++ notes);
   leads = ap (λ (i : ServerImage). with_all_taken i notes) w.leads ∙ sym (passed_append with_taken w.first w.notes notes);
   spelled =
       ap (λ (b : List ℕ). b ++ server_records notes) w.spelled ∙ append_assoc (server w.first) (server_records w.notes) (server_records notes)
@@ -132,18 +157,18 @@ server_one : (image : ServerImage) (bytes : List ℕ) (note : ServerRecord) → 
 server_one image bytes note w is = subst (λ (text : List ℕ). IsKeptWholeForServer (with_taken image note) (bytes ++ text)) (alone server_record note) (server_all image bytes (note ∷ []) w (is, tt))
 
 server_cut : (image : ServerImage) (bytes : List ℕ) (note : ServerRecord) (count : ℕ) → IsKeptWholeForServer image bytes → IsTakenOf image note → count < length (server_record note) → IsKeptForServer image (bytes ++ take count (server_record note))
-server_cut image bytes note count w is lt = record { front = bytes; tail = take count (server_record note); whole = w; torn = cut_torn (server_note note) count (taken_small image note is) lt; parts = refl }
+server_cut image bytes note count w is lt = record { format = Second; front = bytes; tail = take count (server_record note); whole = w; torn = cut_torn (server_note note) count (taken_small image note is) lt; parts = refl }
 
 -- ---- images
 
 pub client_image_kept : (number : ℕ) (log : Log) (bytes : List ℕ) → ClientFits (client_made number log) → bytes ≡ client (client_made number log) → IsKeptWholeFor number log bytes × IsKeptFor number log bytes
 client_image_kept number log bytes fits is =
-    let whole : IsKeptWholeFor number log bytes = record { first = log; notes = []; fits = fits; are = tt; leads = refl; spelled = is ∙ sym (append-nil (client (client_made number log))) } in
+    let whole : IsKeptWholeFor number log bytes = record { first = log; notes = []; fits = record { fits = fits; known = log_known log }; are = tt; known = tt; leads = refl; spelled = is ∙ sym (append-nil (client (client_made number log))) } in
     (whole, client_kept number log bytes whole)
 
 pub server_image_kept : (image : ServerImage) (bytes : List ℕ) → ServerFits image → bytes ≡ server image → IsKeptWholeForServer image bytes × IsKeptForServer image bytes
 server_image_kept image bytes fits is =
-    let whole : IsKeptWholeForServer image bytes = record { first = image; notes = []; fits = fits; are = tt; leads = refl; spelled = is ∙ sym (append-nil (server image)) } in
+    let whole : IsKeptWholeForServer image bytes = record { first = image; notes = []; fits = record { fits = fits; known = all_rows image.tree }; are = tt; known = tt; leads = refl; spelled = is ∙ sym (append-nil (server image)) } in
     (whole, server_kept image bytes whole)
 
 -- ---- the laws

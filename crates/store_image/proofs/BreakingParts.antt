@@ -24,9 +24,10 @@ use Rattle.mod_log.proofs.Origins.{made_by_codec}
 use Rattle.mod_log.specs.Log.{Log, after, tree_of, IsLog}
 use Rattle.mod_log.proofs.Entries.{holds_trees}
 use Rattle.mod_log.proofs.BasesFit.{base_of-fits}
+use Rattle.tree_values.specs.declared.format.Format.TheVariants.{Second}
 use Rattle.store_image.specs.Reading.{Growing, growing_effect_at, grown, applied_effects_at, known_base_at, first_kept_base_at, kept_bases_after, known_bases_at, next_entry_at}
 use Rattle.store_image.specs.Broken.{AreTaken, growing_behind}
-use Rattle.store_image.proofs.Growing.{GrowingFits, growing_codec, taken_again, EffectsApply, start_of_entry, applied_effects_codec}
+use Rattle.store_image.proofs.Growing.{all_known, GrowingFits, growing_codec, taken_again, EffectsApply, start_of_entry, applied_effects_codec}
 use Rattle.store_image.proofs.Bases.{IsFirst, first_base_codec}
 use Rattle.store_image.proofs.Entries.{next_number, made_entry, few_known}
 
@@ -47,18 +48,18 @@ wrong_effects count (inr lt) = second_fails (leb 1 count) (leb count 4096) (le_f
 right_effects : (count : ℕ) → 1 ≤ count → count ≤ 4096 → (leb 1 count && leb count 4096) ≡ true
 right_effects count some few = rw (le-leb 1 count some, le-leb count 4096 few) refl
 
-pub effects_count_refused : (v : Volume) (count : ℕ) → count < 2 ^ 32 → (count ≡ 0) ⊎ (4096 < count) → IsRefused (applied_effects_at v) (digits w32 count) 0
+pub effects_count_refused : (v : Volume) (count : ℕ) → count < 2 ^ 32 → (count ≡ 0) ⊎ (4096 < count) → IsRefused (applied_effects_at Second v) (digits w32 count) 0
 unfolding applied_effects_at
-effects_count_refused v count small wrong = count_refused (λ n. leb 1 n && leb n 4096) (λ n. each_at growing_effect_at grown n (start_of_entry v)) count small (wrong_effects count wrong)
+effects_count_refused v count small wrong = count_refused (λ n. leb 1 n && leb n 4096) (λ n. each_at (growing_effect_at Second) grown n (start_of_entry v)) count small (wrong_effects count wrong)
 
-pub effect_refused : (v : Volume) (before : List Effect) (count : ℕ) (text : List ℕ) (offset : ℕ) → AreTaken v before → length before < count → count ≤ 4096 → IsRefused (growing_effect_at (growing_behind before v)) text offset
-    → IsRefused (applied_effects_at v) (digits w32 count ++ (flat_map effect before ++ text)) (4 + (length (flat_map effect before) + offset))
+pub effect_refused : (v : Volume) (before : List Effect) (count : ℕ) (text : List ℕ) (offset : ℕ) → AreTaken v before → length before < count → count ≤ 4096 → IsRefused (growing_effect_at Second (growing_behind before v)) text offset
+    → IsRefused (applied_effects_at Second v) (digits w32 count ++ (flat_map effect before ++ text)) (4 + (length (flat_map effect before) + offset))
 unfolding applied_effects_at
 effect_refused v before count text offset taken some few refused =
-    counted_refused (λ n. leb 1 n && leb n 4096) (λ n. each_at growing_effect_at grown n (start_of_entry v)) count (omega arith) (right_effects count (omega arith) few) (flat_map effect before ++ text) (length (flat_map effect before) + offset)
-    (items_refused growing_effect_at grown effect (start_of_entry v) before count text offset
-    (each_read growing_effect_at grown effect GrowingFits growing_codec (start_of_entry v) before (taken_again 0 (start_of_entry v) before taken.each taken.small taken.applies)) some
-    (subst (λ (growing : Growing). IsRefused (growing_effect_at growing) text offset) (sym (grown_passed (start_of_entry v) before)) refused))
+    counted_refused (λ n. leb 1 n && leb n 4096) (λ n. each_at (growing_effect_at Second) grown n (start_of_entry v)) count (omega arith) (right_effects count (omega arith) few) (flat_map effect before ++ text) (length (flat_map effect before) + offset)
+    (items_refused (growing_effect_at Second) grown effect (start_of_entry v) before count text offset
+    (each_read (growing_effect_at Second) grown effect (GrowingFits Second) (growing_codec Second) (start_of_entry v) before (taken_again Second 0 (start_of_entry v) before taken.each (all_known before) taken.small taken.applies)) some
+    (subst (λ (growing : Growing). IsRefused (growing_effect_at Second growing) text offset) (sym (grown_passed (start_of_entry v) before)) refused))
 
 -- ---- bases
 
@@ -98,47 +99,47 @@ base_refused before others known text offset fits small refused =
 pub whole_tree : (log : Log) → IsLog log → IsTree (tree_of log)
 whole_tree log is = subst (λ (es : List Entry). IsTree (after es log.base)) (take_all (length log.pending) log.pending (omega arith)) (holds_trees log (length log.pending) is)
 
-applied_effects : (v : Volume) (es : List Effect) → AreTaken v es → 1 ≤ length es → length es ≤ 4096 → EffectsApply v es
-applied_effects v es taken some few = record { fits = record { some = some; few = few; each = taken.each; all_contents = taken.small }; applies = taken.applies }
+applied_effects : (v : Volume) (es : List Effect) → AreTaken v es → 1 ≤ length es → length es ≤ 4096 → EffectsApply Second v es
+applied_effects v es taken some few = record { fits = record { some = some; few = few; each = taken.each; all_contents = taken.small }; known = all_known es; applies = taken.applies }
 
 -- the bases of effects, and the entry of both
 abbrev bases_behind : Log → Option Origin → List Effect → Reader Entry
 bases_behind log o es = one (known_bases_at (base_of es (tree_of log))) (made_entry (next_number log) o es)
 
-behind_maker : (log : Log) (o : Option Origin) (text : List ℕ) (offset : ℕ) → MadeByFits o → IsRefused (applied_effects_at (tree_of log)) text offset → IsRefused (next_entry_at log) (made_by o ++ text) (length (made_by o) + offset)
+behind_maker : (log : Log) (o : Option Origin) (text : List ℕ) (offset : ℕ) → MadeByFits o → IsRefused (applied_effects_at Second (tree_of log)) text offset → IsRefused (next_entry_at Second log) (made_by o ++ text) (length (made_by o) + offset)
 unfolding next_entry_at
 behind_maker log o text offset made refused =
-    later_refused made_by_at (λ x bytes at. applied_effects_at (tree_of log) bytes at >>= λ es. bases_behind log x es.0 bytes es.1) (made_by o) text o offset (read_again made_by_codec o made)
-    (first_refused (applied_effects_at (tree_of log)) (bases_behind log o) text offset refused)
+    later_refused made_by_at (λ x bytes at. applied_effects_at Second (tree_of log) bytes at >>= λ es. bases_behind log x es.0 bytes es.1) (made_by o) text o offset (read_again made_by_codec o made)
+    (first_refused (applied_effects_at Second (tree_of log)) (bases_behind log o) text offset refused)
 
-behind_effects : (log : Log) (o : Option Origin) (es : List Effect) (text : List ℕ) (offset : ℕ) → MadeByFits o → EffectsApply (tree_of log) es → IsRefused (known_bases_at (base_of es (tree_of log))) text offset
-    → IsRefused (next_entry_at log) (made_by o ++ (effects es ++ text)) (length (made_by o) + (length (effects es) + offset))
+behind_effects : (log : Log) (o : Option Origin) (es : List Effect) (text : List ℕ) (offset : ℕ) → MadeByFits o → EffectsApply Second (tree_of log) es → IsRefused (known_bases_at (base_of es (tree_of log))) text offset
+    → IsRefused (next_entry_at Second log) (made_by o ++ (effects es ++ text)) (length (made_by o) + (length (effects es) + offset))
 unfolding next_entry_at
 behind_effects log o es text offset made apply refused =
     let v = tree_of log in
-    later_refused made_by_at (λ x bytes at. applied_effects_at v bytes at >>= λ fs. bases_behind log x fs.0 bytes fs.1) (made_by o) (effects es ++ text) o (length (effects es) + offset) (read_again made_by_codec o made)
-    (later_refused (applied_effects_at v) (bases_behind log o) (effects es) text es offset (read_again (applied_effects_codec v) es apply)
+    later_refused made_by_at (λ x bytes at. applied_effects_at Second v bytes at >>= λ fs. bases_behind log x fs.0 bytes fs.1) (made_by o) (effects es ++ text) o (length (effects es) + offset) (read_again made_by_codec o made)
+    (later_refused (applied_effects_at Second v) (bases_behind log o) (effects es) text es offset (read_again (applied_effects_codec Second v) es apply)
     (first_refused (known_bases_at (base_of es v)) (λ bs bytes at. Ok (made_entry (next_number log) o es bs, at)) text offset refused))
 
-pub effects_are_none : (log : Log) (o : Option Origin) (count : ℕ) → MadeByFits o → count < 2 ^ 32 → (count ≡ 0) ⊎ (4096 < count) → IsRefused (next_entry_at log) (made_by o ++ digits w32 count) (length (made_by o))
+pub effects_are_none : (log : Log) (o : Option Origin) (count : ℕ) → MadeByFits o → count < 2 ^ 32 → (count ≡ 0) ⊎ (4096 < count) → IsRefused (next_entry_at Second log) (made_by o ++ digits w32 count) (length (made_by o))
 effects_are_none log o count made small wrong =
-    refused_there (next_entry_at log) (made_by o ++ digits w32 count) (length (made_by o) + 0) (length (made_by o)) (omega arith)
+    refused_there (next_entry_at Second log) (made_by o ++ digits w32 count) (length (made_by o) + 0) (length (made_by o)) (omega arith)
     (behind_maker log o (digits w32 count) 0 made (effects_count_refused (tree_of log) count small wrong))
 
-pub effect_is_refused : (log : Log) (o : Option Origin) (before : List Effect) (count : ℕ) (text : List ℕ) (offset : ℕ) → MadeByFits o → AreTaken (tree_of log) before → length before < count → count ≤ 4096 → IsRefused (growing_effect_at (growing_behind before (tree_of log))) text offset
-    → IsRefused (next_entry_at log) (made_by o ++ (digits w32 count ++ (flat_map effect before ++ text))) (length (made_by o) + (4 + (length (flat_map effect before) + offset)))
+pub effect_is_refused : (log : Log) (o : Option Origin) (before : List Effect) (count : ℕ) (text : List ℕ) (offset : ℕ) → MadeByFits o → AreTaken (tree_of log) before → length before < count → count ≤ 4096 → IsRefused (growing_effect_at Second (growing_behind before (tree_of log))) text offset
+    → IsRefused (next_entry_at Second log) (made_by o ++ (digits w32 count ++ (flat_map effect before ++ text))) (length (made_by o) + (4 + (length (flat_map effect before) + offset)))
 effect_is_refused log o before count text offset made taken some few refused =
     behind_maker log o (digits w32 count ++ (flat_map effect before ++ text)) (4 + (length (flat_map effect before) + offset)) made (effect_refused (tree_of log) before count text offset taken some few refused)
 
 pub bases_are_others : (log : Log) (o : Option Origin) (es : List Effect) (count : ℕ) → MadeByFits o → AreTaken (tree_of log) es → 1 ≤ length es → length es ≤ 4096 → count < 2 ^ 32 → count ≢ length (base_of es (tree_of log))
-    → IsRefused (next_entry_at log) (made_by o ++ (effects es ++ digits w32 count)) (length (made_by o) + length (effects es))
+    → IsRefused (next_entry_at Second log) (made_by o ++ (effects es ++ digits w32 count)) (length (made_by o) + length (effects es))
 bases_are_others log o es count made taken some few small differ =
-    refused_there (next_entry_at log) (made_by o ++ (effects es ++ digits w32 count)) (length (made_by o) + (length (effects es) + 0)) (length (made_by o) + length (effects es)) (omega arith)
+    refused_there (next_entry_at Second log) (made_by o ++ (effects es ++ digits w32 count)) (length (made_by o) + (length (effects es) + 0)) (length (made_by o) + length (effects es)) (omega arith)
     (behind_effects log o es (digits w32 count) 0 made (applied_effects (tree_of log) es taken some few) (bases_count_refused (base_of es (tree_of log)) count small differ))
 
 pub base_is_refused : (log : Log) (o : Option Origin) (es : List Effect) (before others : List Base) (known : Base) (text : List ℕ) (offset : ℕ) → IsLog log → MadeByFits o → AreTaken (tree_of log) es → 1 ≤ length es → length es ≤ 4096 → base_of es (tree_of log) ≡ before ++ known ∷ others
     → IsRefused (known_base_at known) text offset
-    → IsRefused (next_entry_at log) (made_by o ++ (effects es ++ (digits w32 (length (before ++ known ∷ others)) ++ (flat_map base before ++ text)))) (length (made_by o) + (length (effects es) + (4 + (length (flat_map base before) + offset))))
+    → IsRefused (next_entry_at Second log) (made_by o ++ (effects es ++ (digits w32 (length (before ++ known ∷ others)) ++ (flat_map base before ++ text)))) (length (made_by o) + (length (effects es) + (4 + (length (flat_map base before) + offset))))
 base_is_refused log o es before others known text offset is made taken some few are refused =
     let v = tree_of log in
     let apply = applied_effects v es taken some few in
@@ -150,6 +151,6 @@ base_is_refused log o es before others known text offset is made taken some few 
 
 -- ---- before a value is tried
 
-pub effect_is_none : (growing : Growing) (text : List ℕ) (offset : ℕ) → IsRefused (effect_at growing.room) text offset → IsRefused (growing_effect_at growing) text offset
+pub effect_is_none : (growing : Growing) (text : List ℕ) (offset : ℕ) → IsRefused (effect_at growing.room) text offset → IsRefused (growing_effect_at Second growing) text offset
 unfolding growing_effect_at
 effect_is_none growing text offset refused = ruled_refused (effect_at growing.room) (λ e. is_ok (apply e growing.tree)) text offset refused

@@ -11,9 +11,11 @@ use Rattle.tree_values.specs.declared.node.Effect.{Effect}
 use Rattle.tree_values.specs.declared.node.TreeError.{TreeError}
 use Rattle.tree_values.specs.Tree.{Volume, apply, changed}
 use Rattle.tree_values.specs.Effects.{content_size, changed_all, apply_all, unless_refused_at}
-use Rattle.tree_values.specs.Spelling.{effect, effects, EffectFits, EffectFitsIn, EffectsFit}
-use Rattle.tree_laws.proofs.Parts.{effect_codec}
+use Rattle.tree_values.specs.Spelling.{effect, effects, IsEffectOf, EffectFits, EffectFitsOf, EffectsFit}
+use Rattle.tree_laws.proofs.Parts.{effect_in_codec}
 use Rattle.vol_tree.proofs.Behind.{applied-changed}
+use Rattle.tree_values.specs.declared.format.Format.{Format}
+use Rattle.tree_values.specs.declared.format.Format.TheVariants.{Second}
 use Rattle.store_image.specs.Reading.{Growing, growing_effect_at, grown, applied_effects_at}
 
 -- one more effect
@@ -42,53 +44,61 @@ first_applies e es v at after = by (apply e v)
     by (Err refusal) h = absurd cc
 
 -- an effect that has room and applies
-abbrev pub GrowingFits : Growing → Effect → Type 0
-GrowingFits growing e = EffectFitsIn growing.room e × (is_ok (apply e growing.tree) ≡ true)
+abbrev pub GrowingFits : Format → Growing → Effect → Type 0
+GrowingFits format growing e = EffectFitsOf format growing.room e × (is_ok (apply e growing.tree) ≡ true)
 
-pub growing_codec : (growing : Growing) → IsCodec (growing_effect_at growing) effect (GrowingFits growing)
+pub growing_codec : (format : Format) (growing : Growing) → IsCodec (growing_effect_at format growing) effect (GrowingFits format growing)
 unfolding growing_effect_at
-growing_codec growing = ruled_codec (λ e. is_ok (apply e growing.tree)) (effect_codec growing.room)
+growing_codec format growing = ruled_codec (λ e. is_ok (apply e growing.tree)) (effect_in_codec format growing.room)
 
 -- effects that have room and apply, the first of which has this index
-record AreTaken (at room : ℕ) (v : Volume) (es : List Effect) : Type 0 where
+record AreTaken (format : Format) (at room : ℕ) (v : Volume) (es : List Effect) : Type 0 where
   each : AllByRecursion EffectFits es
+  known : AllByRecursion (IsEffectOf format) es
   all_contents : sum_by content_size es ≤ room
   apply : apply_all at es v ≡ Ok (changed_all es v)
 
-taken_found : (at : ℕ) (growing : Growing) (es : List Effect) → EachFits GrowingFits grown growing es → AreTaken at growing.room growing.tree es
-taken_found at growing [] fits = record { each = tt; all_contents = omega arith; apply = refl }
-taken_found at growing (e ∷ es) fits =
-    let rest = taken_found (at + 1) (grown growing e) es fits.1 in
+taken_found : (format : Format) (at : ℕ) (growing : Growing) (es : List Effect) → EachFits (GrowingFits format) grown growing es → AreTaken format at growing.room growing.tree es
+taken_found format at growing [] fits = record { each = tt; known = tt; all_contents = omega arith; apply = refl }
+taken_found format at growing (e ∷ es) fits =
+    let rest = taken_found format (at + 1) (grown growing e) es fits.1 in
     record {
-      each = (fits.0.0.0, rest.each);
-      all_contents = omega (arith, fits.0.0.1, rest.all_contents, sum_by-cons content_size e es);
+      each = (fits.0.0.0.0, rest.each);
+      known = (fits.0.0.1, rest.known);
+      all_contents = omega (arith, fits.0.0.0.1, rest.all_contents, sum_by-cons content_size e es);
       apply = apply_first e es growing.tree at (applies e growing.tree fits.0.1) ∙ rest.apply;
     }
 
-pub taken_again : (at : ℕ) (growing : Growing) (es : List Effect) → AllByRecursion EffectFits es → sum_by content_size es ≤ growing.room → apply_all at es growing.tree ≡ Ok (changed_all es growing.tree)
-    → EachFits GrowingFits grown growing es
-taken_again at growing [] each room apply = tt
-taken_again at growing (e ∷ es) each room apply =
+pub taken_again : (format : Format) (at : ℕ) (growing : Growing) (es : List Effect) → AllByRecursion EffectFits es → AllByRecursion (IsEffectOf format) es → sum_by content_size es ≤ growing.room → apply_all at es growing.tree ≡ Ok (changed_all es growing.tree)
+    → EachFits (GrowingFits format) grown growing es
+taken_again format at growing [] each known room apply = tt
+taken_again format at growing (e ∷ es) each known room apply =
     let sum = sum_by-cons content_size e es in
     let here = first_applies e es growing.tree at (changed_all (e ∷ es) growing.tree) apply in
     let later = sym (apply_first e es growing.tree at (applies e growing.tree here)) ∙ apply in
-    (((each.0, omega (arith, room, sum)), here), taken_again (at + 1) (grown growing e) es each.1 (omega (arith, room, sum)) later)
+    ((((each.0, omega (arith, room, sum)), known.0), here), taken_again format (at + 1) (grown growing e) es each.1 known.1 (omega (arith, room, sum)) later)
 
--- effects that fit, and that the tree takes
-pub record EffectsApply (v : Volume) (es : List Effect) : Type 0 where
+-- the second format has all effects
+pub all_known : (es : List Effect) → AllByRecursion (IsEffectOf Second) es
+all_known [] = tt
+all_known (e ∷ es) = (tt, all_known es)
+
+-- effects that fit, that the format has, and that the tree takes
+pub record EffectsApply (format : Format) (v : Volume) (es : List Effect) : Type 0 where
   pub fits : EffectsFit es
+  pub known : AllByRecursion (IsEffectOf format) es
   pub applies : apply_all 0 es v ≡ Ok (changed_all es v)
 
 abbrev pub start_of_entry : Volume → Growing
 start_of_entry v = record { tree = v; room = 33554432 }
 
-pub applied_effects_codec : (v : Volume) → IsCodec (applied_effects_at v) effects (EffectsApply v)
+pub applied_effects_codec : (format : Format) (v : Volume) → IsCodec (applied_effects_at format v) effects (EffectsApply format v)
 unfolding applied_effects_at
-applied_effects_codec v =
-    codec_for (counted_codec length (ruled_codec (λ n. leb 1 n && leb n 4096) u32_codec) (λ n _. each_codec growing_effect_at grown effect GrowingFits growing_codec n (start_of_entry v)) (λ n es fits. fits.0))
+applied_effects_codec format v =
+    codec_for (counted_codec length (ruled_codec (λ n. leb 1 n && leb n 4096) u32_codec) (λ n _. each_codec (growing_effect_at format) grown effect (GrowingFits format) (growing_codec format) n (start_of_entry v)) (λ n es fits. fits.0))
     (λ es fits.
     let b = and_parts (leb 1 (length es)) (leb (length es) 4096) fits.0.1 in
-    let r = taken_found 0 (start_of_entry v) es fits.1.1 in
-    record { fits = record { some = leb-true 1 (length es) b.0; few = leb-true (length es) 4096 b.1; each = r.each; all_contents = r.all_contents }; applies = r.apply })
+    let r = taken_found format 0 (start_of_entry v) es fits.1.1 in
+    record { fits = record { some = leb-true 1 (length es) b.0; few = leb-true (length es) 4096 b.1; each = r.each; all_contents = r.all_contents }; known = r.known; applies = r.apply })
     (λ es is.
-    ((omega (arith, is.fits.few), rw (le-leb 1 (length es) is.fits.some, le-leb (length es) 4096 is.fits.few) refl), (refl, taken_again 0 (start_of_entry v) es is.fits.each is.fits.all_contents is.applies)))
+    ((omega (arith, is.fits.few), rw (le-leb 1 (length es) is.fits.some, le-leb (length es) 4096 is.fits.few) refl), (refl, taken_again format 0 (start_of_entry v) es is.fits.each is.known is.fits.all_contents is.applies)))

@@ -10,12 +10,14 @@ use Rattle.byte_fields.specs.Codec.{Stands, IsCodec}
 use Rattle.byte_fields.proofs.Codec.{IsBranch, bind_ok, bind_err, span_codec, u8_codec, u64_codec, ruled_codec, found2, again2, fault2, each_codec, tagged_found, tagged_fault, tagged_again, codec_for, later_fault, stands_both, stands_first, stands_second}
 use Rattle.tree_values.specs.Tree.{Volume}
 use Rattle.tree_values.specs.Spelling.{rows}
-use Rattle.tree_laws.proofs.Parts.{rows_codec}
+use Rattle.tree_laws.proofs.Parts.{rows_in_codec}
 use Rattle.mod_log.specs.Log.{Log}
+use Rattle.tree_values.specs.declared.format.Format.{Format}
+use Rattle.tree_values.specs.declared.format.Format.TheVariants.{First, Second}
 use Rattle.store_image.specs.declared.image.ClientImage.{ClientImage}
 use Rattle.store_image.specs.declared.image.ServerImage.{ServerImage}
-use Rattle.store_image.specs.Reading.{marked, client_mark, server_mark, client_body_at, client_at, numbers_at, server_body_at, server_at}
-use Rattle.store_image.specs.Spelling.{log, client, ClientFits, numbers, server, ServerFits}
+use Rattle.store_image.specs.Reading.{marked, version_of, client_mark, server_mark, client_body_at, client_at, numbers_at, server_body_at, server_at}
+use Rattle.store_image.specs.Spelling.{log, client_in, ClientFitsIn, numbers, server_in, ServerFitsIn}
 use Rattle.store_image.proofs.Entries.{log_codec}
 
 -- ---- a mark, and a version
@@ -66,23 +68,28 @@ client_made number l = record { client = number; log = l }
 pub number_codec : IsCodec (ruled (λ n. leb 1 n && leb n 64) (number_at w8)) (λ n. n ∷ []) (λ n. (n < 2 ^ 8) × ((leb 1 n && leb n 64) ≡ true))
 number_codec = ruled_codec (λ n. leb 1 n && leb n 64) u8_codec
 
-pub client_body_codec : IsCodec client_body_at (λ image. image.client ∷ log image.log) ClientFits
+pub client_body_codec : (format : Format) → IsCodec (client_body_at format) (λ image. image.client ∷ log image.log) (ClientFitsIn format)
 unfolding client_body_at
-client_body_codec = record {
-  fault = fault2 number_codec (λ _ _. log_codec) client_made;
+client_body_codec format = record {
+  fault = fault2 number_codec (λ _ _. (log_codec format)) client_made;
   found = λ bytes at x next fits le e.
-      let r = found2 number_codec (λ _ _. log_codec) client_made bytes at x next fits le e in
+      let r = found2 number_codec (λ _ _. (log_codec format)) client_made bytes at x next fits le e in
       let b = and_parts (leb 1 r.first) (leb r.first 64) r.first_fits.1 in
-      let is : ClientFits (client_made r.first r.second) = record { some = leb-true 1 r.first b.0; few = leb-true r.first 64 b.1; log = r.second_fits } in
-      subst (λ (image : ClientImage). Stands bytes at (image.client ∷ log image.log) next × ClientFits image) r.is (r.stands, is);
+      let is : ClientFitsIn format (client_made r.first r.second) =
+      record { fits = record { some = leb-true 1 r.first b.0; few = leb-true r.first 64 b.1; log = r.second_fits.0 }; known = r.second_fits.1 } in
+      subst (λ (image : ClientImage). Stands bytes at (image.client ∷ log image.log) next × ClientFitsIn format image) r.is (r.stands, is);
   again = λ bytes at x next stands fits.
-      again2 number_codec (λ _ _. log_codec) client_made bytes at x.client x.log next stands
-      (omega (arith, fits.few), rw (le-leb 1 x.client fits.some, le-leb x.client 64 fits.few) refl) fits.log;
+      again2 number_codec (λ _ _. (log_codec format)) client_made bytes at x.client x.log next stands
+      (omega (arith, fits.fits.few), rw (le-leb 1 x.client fits.fits.some, le-leb x.client 64 fits.fits.few) refl) (fits.fits.log, fits.known);
 }
 
-pub client_codec : IsCodec client_at client ClientFits
+small_version : (format : Format) → version_of format < 2 ^ 8
+small_version First = lit< tt
+small_version Second = lit< tt
+
+pub client_codec : (format : Format) → IsCodec (client_at format) (client_in format) (ClientFitsIn format)
 unfolding client_at
-client_codec = marked_codec client_mark refl (version_codec 1 (lit< tt) client_body_codec)
+client_codec format = marked_codec client_mark refl (version_codec (version_of format) (small_version format) (client_body_codec format))
 
 -- ---- a server's image
 
@@ -115,17 +122,18 @@ numbers_codec =
 abbrev pub server_made : List ℕ → Volume → ServerImage
 server_made last tree = record { last = last; tree = tree }
 
-pub server_body_codec : IsCodec server_body_at (λ image. numbers image.last ++ rows image.tree) ServerFits
+pub server_body_codec : (format : Format) → IsCodec (server_body_at format) (λ image. numbers image.last ++ rows image.tree) (ServerFitsIn format)
 unfolding server_body_at
-server_body_codec = record {
-  fault = fault2 numbers_codec (λ _ _. rows_codec) server_made;
+server_body_codec format = record {
+  fault = fault2 numbers_codec (λ _ _. rows_in_codec format) server_made;
   found = λ bytes at x next fits le e.
-      let r = found2 numbers_codec (λ _ _. rows_codec) server_made bytes at x next fits le e in
-      let is : ServerFits (server_made r.first r.second) = record { count = r.first_fits.0; numbers = r.first_fits.1; tree = r.second_fits } in
-      subst (λ (image : ServerImage). Stands bytes at (numbers image.last ++ rows image.tree) next × ServerFits image) r.is (r.stands, is);
-  again = λ bytes at x next stands fits. again2 numbers_codec (λ _ _. rows_codec) server_made bytes at x.last x.tree next stands (fits.count, fits.numbers) fits.tree;
+      let r = found2 numbers_codec (λ _ _. rows_in_codec format) server_made bytes at x next fits le e in
+      let is : ServerFitsIn format (server_made r.first r.second) =
+      record { fits = record { count = r.first_fits.0; numbers = r.first_fits.1; tree = r.second_fits.0 }; known = r.second_fits.1 } in
+      subst (λ (image : ServerImage). Stands bytes at (numbers image.last ++ rows image.tree) next × ServerFitsIn format image) r.is (r.stands, is);
+  again = λ bytes at x next stands fits. again2 numbers_codec (λ _ _. rows_in_codec format) server_made bytes at x.last x.tree next stands (fits.fits.count, fits.fits.numbers) (fits.fits.tree, fits.known);
 }
 
-pub server_codec : IsCodec server_at server ServerFits
+pub server_codec : (format : Format) → IsCodec (server_at format) (server_in format) (ServerFitsIn format)
 unfolding server_at
-server_codec = marked_codec server_mark refl (version_codec 1 (lit< tt) server_body_codec)
+server_codec format = marked_codec server_mark refl (version_codec (version_of format) (small_version format) (server_body_codec format))

@@ -6,6 +6,7 @@ pub mod Framing
 pub mod Notes
 pub mod Records
 pub mod Taken
+pub mod Opened
 pub mod Spelled
 pub mod Whole
 pub mod Places

@@ -11,7 +11,7 @@ use Rattle.mod_log.specs.Log.{Log, entry, IsLog}
 use Rattle.store_image.specs.declared.image.ClientImage.{ClientImage}
 use Rattle.store_image.specs.declared.image.ServerImage.{ServerImage}
 use Rattle.store_image.specs.declared.image.TheConstants.{MAX_CLIENT_IMAGE, MAX_SERVER_IMAGE, MAX_RECORDS}
-use Rattle.store_image.specs.Spelling.{entries, log, client, ClientFits, numbers, server, ServerFits}
+use Rattle.store_image.specs.Spelling.{entries, log, client, client_in, ClientFits, numbers, server, server_in, ServerFits}
 use Rattle.store_image.specs.Records.{client_records, server_records}
 use Rattle.store_image.specs.Laws.{ImagesAreSmall}
 
@@ -49,9 +49,11 @@ images_small = record {
   servers = server_size;
   kept_clients = λ number log bytes kept few.
       let first : ClientImage = record { client = number; log = kept.whole.first } in
-      kept_size (client first) (client_records kept.whole.notes) kept.front kept.tail bytes MAX_CLIENT_IMAGE kept.whole.spelled kept.parts (client_size first kept.whole.fits) few;
+      kept_size (client_in kept.format first) (client_records kept.whole.notes) kept.front kept.tail bytes MAX_CLIENT_IMAGE kept.whole.spelled kept.parts (client_size first kept.whole.fits.fits) few;
   kept_servers = λ image bytes kept few.
-      kept_size (server kept.whole.first) (server_records kept.whole.notes) kept.front kept.tail bytes MAX_SERVER_IMAGE kept.whole.spelled kept.parts (server_size kept.whole.first kept.whole.fits) few;
+      kept_size (server_in kept.format kept.whole.first) (server_records kept.whole.notes) kept.front kept.tail bytes MAX_SERVER_IMAGE kept.whole.spelled kept.parts (server_size kept.whole.first kept.whole.fits.fits) few;
+  records_are = refl;
+  loaded_are = refl;
   clients_loaded = omega arith;
   servers_loaded = omega arith;
 }

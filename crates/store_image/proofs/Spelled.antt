@@ -10,6 +10,7 @@ use Rattle.byte_fields.proofs.Facts.{four_bytes, eight_bytes, le_holds, lt_holds
 use Rattle.tree_values.specs.declared.node.Effect.{Effect}
 use Rattle.tree_values.specs.Spelling.{effect, effects, EffectsFit}
 use Rattle.tree_values.proofs.Sizes.{effects_size}
+use Rattle.tree_values.specs.declared.format.Format.{Format}
 use Rattle.store_image.specs.declared.image.ServerImage.{ServerImage}
 use Rattle.store_image.specs.declared.record.ClientRecord.TheVariants.{Acked}
 use Rattle.store_image.specs.Reading.{applied_effects_at}
@@ -46,7 +47,7 @@ last_at image zero some = absurd (omega arith)
 last_at image (suc i) some = let same : i ≡ suc i - 1 = omega arith in ap (λ (n : ℕ). slice_index_or image.last n 0) same
 
 -- what is read of a record field by field
-pub taken_reads : (image : ServerImage) (bytes : List ℕ) (at client middle last start : ℕ) (es : List Effect) (next : ℕ) → number_at w8 bytes at ≡ Ok (client, middle) → 1 ≤ client → client ≤ 64
-    → number_at w64 bytes middle ≡ Ok (last, start) → last_of image client < last → applied_effects_at image.tree bytes start ≡ Ok (es, next) → taken_at image bytes at ≡ Ok (made_taken client last es, next)
+pub taken_reads : (format : Format) (image : ServerImage) (bytes : List ℕ) (at client middle last start : ℕ) (es : List Effect) (next : ℕ) → number_at w8 bytes at ≡ Ok (client, middle) → 1 ≤ client → client ≤ 64
+    → number_at w64 bytes middle ≡ Ok (last, start) → last_of image client < last → applied_effects_at format image.tree bytes start ≡ Ok (es, next) → taken_at format image bytes at ≡ Ok (made_taken client last es, next)
 unfolding taken_at ruled
-taken_reads image bytes at client middle last start es next read some few read' later read'' = rw (read, le_holds 1 client some, le_holds client 64 few, read', lt_holds (last_of image client) last later, read'') refl
+taken_reads format image bytes at client middle last start es next read some few read' later read'' = rw (read, le_holds 1 client some, le_holds client 64 few, read', lt_holds (last_of image client) last later, read'') refl

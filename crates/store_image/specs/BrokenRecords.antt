@@ -12,6 +12,7 @@ use Rattle.tree_values.specs.Limits.{max_effects}
 use Rattle.tree_values.specs.Spelling.{effect}
 use Rattle.mod_log.specs.declared.log.Entry.{Entry}
 use Rattle.mod_log.specs.Log.{Log, tree_of, IsEntryOf}
+use Rattle.tree_values.specs.declared.format.Format.TheVariants.{Second}
 use Rattle.store_image.specs.declared.image.ServerImage.{ServerImage}
 use Rattle.store_image.specs.declared.image.ImageError.TheVariants.{BadImage}
 use Rattle.store_image.specs.declared.record.ClientRecord.{ClientRecord}
@@ -42,10 +43,10 @@ pub record BrokenClientRecords : Type 0 where
   -- no kind: where it would stand
   pub kind_is_missing : (log : Log) → IsRefusedClientRecord log [] 4
   -- another kind than 1 and 2: there
-  pub kind_is_another : (log : Log) (kind : ℕ) (rest : List ℕ) → kind < 2 ^ 8 → AllByRecursion (λ known. kind ≢ known.0) (client_kinds log)
+  pub kind_is_another : (log : Log) (kind : ℕ) (rest : List ℕ) → kind < 2 ^ 8 → AllByRecursion (λ known. kind ≢ known.0) (client_kinds Second log)
       → IsRefusedClientRecord log (kind ∷ rest) 4
   -- an entry that is refused behind those of the log: in it
-  pub entry_is_none : (log : Log) (text rest : List ℕ) (offset : ℕ) → IsRefused (next_entry_at log) text offset
+  pub entry_is_none : (log : Log) (text rest : List ℕ) (offset : ℕ) → IsRefused (next_entry_at Second log) text offset
       → IsRefusedClientRecord log (1 ∷ (text ++ rest)) (5 + offset)
   -- an entry for which the log has no room, or no number: at the first byte of the record
   pub log_is_full : (log : Log) (e : Entry) → ComesNext log (Logged e) → has_room log (Logged e) ≡ false
@@ -73,7 +74,7 @@ pub record BrokenServerRecords : Type 0 where
   pub kind_is_missing : (image : ServerImage) → IsRefusedServerRecord image [] 4
   -- another kind than 3: there
   pub kind_is_another : (image : ServerImage) (kind : ℕ) (rest : List ℕ) → kind < 2 ^ 8
-      → AllByRecursion (λ known. kind ≢ known.0) (server_kinds image)
+      → AllByRecursion (λ known. kind ≢ known.0) (server_kinds Second image)
       → IsRefusedServerRecord image (kind ∷ rest) 4
   -- a number that no client has: behind the kind
   pub client_is_none : (image : ServerImage) (client : ℕ) (rest : List ℕ) → client < 2 ^ 8 → (client ≡ 0) ⊎ (64 < client)
@@ -89,7 +90,7 @@ pub record BrokenServerRecords : Type 0 where
   -- an effect that is refused, as one that does not apply: behind those before it
   pub effect_is_refused : (image : ServerImage) (client last : ℕ) (before : List Effect) (count : ℕ) (text rest : List ℕ) (offset : ℕ)
       → IsLaterEntry image client last → AreTaken image.tree before → length before < count → count ≤ max_effects
-      → IsRefused (growing_effect_at (growing_behind before image.tree)) text offset
+      → IsRefused (growing_effect_at Second (growing_behind before image.tree)) text offset
       → IsRefusedServerRecord image (3 ∷ client ∷ (digits w64 last ++ (digits w32 count ++ (flat_map effect before ++ (text ++ rest)))))
       (18 + (length (flat_map effect before) + offset))
   -- a record that ends inside what it tells: the field in which it ends

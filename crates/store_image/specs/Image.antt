@@ -10,10 +10,12 @@ use Rattle.store_image.specs.declared.image.ImageError.{ImageError}
 use Rattle.store_image.specs.declared.image.ImageError.TheVariants.{WrongKind, BadImage, Memory}
 use Rattle.store_image.specs.declared.record.ClientRecord.{ClientRecord}
 use Rattle.store_image.specs.declared.record.ServerRecord.{ServerRecord}
-use Rattle.store_image.specs.Reading.{client_mark, server_mark, client_at, server_at}
-use Rattle.store_image.specs.Spelling.{client, ClientFits, server, ServerFits}
-use Rattle.store_image.specs.Records.{IsTorn, behind_records, client_records_at, client_records, with_record, with_records, AreNotes}
-use Rattle.store_image.specs.Records.{server_records_at, server_records, with_taken, with_all_taken, AreTakenOf}
+use Rattle.store_image.specs.Reading.{client_mark, server_mark, format_of, client_at, server_at}
+use Rattle.tree_values.specs.declared.format.Format.{Format}
+use Rattle.tree_values.specs.declared.format.Format.TheVariants.{Second}
+use Rattle.store_image.specs.Spelling.{client_in, ClientFitsIn, server_in, ServerFitsIn}
+use Rattle.store_image.specs.Records.{IsTorn, behind_records, client_records_at, client_records, with_record, with_records, AreNotes, AreRecordsOf}
+use Rattle.store_image.specs.Records.{server_records_at, server_records, with_taken, with_all_taken, AreTakenOf, AreTakenIn}
 
 -- what was read, or the first faulty field
 abbrev pub read_of : {A : Type 0} → Result (A × ℕ) ℕ → Result A ImageError
@@ -25,17 +27,24 @@ abbrev pub image_of : {A : Type 0} → List ℕ → Reader A → List ℕ → Re
 image_of other read bytes = if bytes_eq other (take 4 bytes) then Err WrongKind else read_of (read bytes 0)
 
 -- a client's image and the records behind it: the client that they lead to, and the place where a torn tail begins
-unfoldable pub kept_client_at : Reader ClientImage
-kept_client_at bytes at = do
-  image ← client_at bytes at
-  log ← behind_records client_records_at with_record image.0.log bytes image.1
+unfoldable pub kept_client_in : Format → Reader ClientImage
+kept_client_in format bytes at = do
+  image ← client_at format bytes at
+  log ← behind_records (client_records_at format) with_record image.0.log bytes image.1
   Ok (record { client = image.0.client; log = log.0 }, log.1)
 
 -- a server's image and the records behind it: the server that they lead to, and the place where a torn tail begins
+unfoldable pub kept_server_in : Format → Reader ServerImage
+kept_server_in format bytes at = do
+  image ← server_at format bytes at
+  behind_records (server_records_at format) with_taken image.0 bytes image.1
+
+-- both in the format that the bytes tell
+unfoldable pub kept_client_at : Reader ClientImage
+kept_client_at bytes at = kept_client_in (format_of bytes) bytes at
+
 unfoldable pub kept_server_at : Reader ServerImage
-kept_server_at bytes at = do
-  image ← server_at bytes at
-  behind_records server_records_at with_taken image.0 bytes image.1
+kept_server_at bytes at = kept_server_in (format_of bytes) bytes at
 
 -- the client that the bytes are kept for
 abbrev pub kept_client_of : List ℕ → Result ClientImage ImageError
@@ -56,39 +65,53 @@ GivesImage = Answers (λ image. image) refusal_of
 
 -- ---- what is kept
 
--- the bytes are kept for the client with this number and this log, and nothing is torn: they spell an image of it, and the
--- records that lead from there to the log
-pub record IsKeptWholeFor (number : ℕ) (log : Log) (bytes : List ℕ) : Type 0 where
+-- the bytes are kept in this format for the client with this number and this log, and nothing is torn: they spell an image of
+-- it, and the records that lead from there to the log
+pub record IsKeptWholeIn (format : Format) (number : ℕ) (log : Log) (bytes : List ℕ) : Type 0 where
   pub first : Log
   pub notes : List ClientRecord
-  pub fits : ClientFits (record { client = number; log = first })
+  pub fits : ClientFitsIn format (record { client = number; log = first })
   pub are : AreNotes first notes
+  pub known : AreRecordsOf format notes
   pub leads : log ≡ with_records first notes
-  pub spelled : bytes ≡ client (record { client = number; log = first }) ++ client_records notes
+  pub spelled : bytes ≡ client_in format (record { client = number; log = first }) ++ client_records notes
 
--- the bytes are kept for the client with this number and this log: a torn tail may stand behind what is kept whole
+-- behind what is kept so in the second format records may be appended
+abbrev pub IsKeptWholeFor : ℕ → Log → List ℕ → Type 0
+IsKeptWholeFor = IsKeptWholeIn Second
+
+-- the bytes are kept for the client with this number and this log, in whichever format: a torn tail may stand behind what is
+-- kept whole
 pub record IsKeptFor (number : ℕ) (log : Log) (bytes : List ℕ) : Type 0 where
+  pub format : Format
   pub front : List ℕ
   pub tail : List ℕ
-  pub whole : IsKeptWholeFor number log front
+  pub whole : IsKeptWholeIn format number log front
   pub torn : IsTorn tail
   pub parts : bytes ≡ front ++ tail
 
--- the bytes are kept for the server with these last numbers and this tree, and nothing is torn: they spell an image of it, and
--- the records that lead from there to these
-pub record IsKeptWholeForServer (image : ServerImage) (bytes : List ℕ) : Type 0 where
+-- the bytes are kept in this format for the server with these last numbers and this tree, and nothing is torn: they spell an
+-- image of it, and the records that lead from there to these
+pub record IsKeptWholeInForServer (format : Format) (image : ServerImage) (bytes : List ℕ) : Type 0 where
   pub first : ServerImage
   pub notes : List ServerRecord
-  pub fits : ServerFits first
+  pub fits : ServerFitsIn format first
   pub are : AreTakenOf first notes
+  pub known : AreTakenIn format notes
   pub leads : image ≡ with_all_taken first notes
-  pub spelled : bytes ≡ server first ++ server_records notes
+  pub spelled : bytes ≡ server_in format first ++ server_records notes
 
--- the bytes are kept for the server with these last numbers and this tree: a torn tail may stand behind what is kept whole
+-- behind what is kept so in the second format records may be appended
+abbrev pub IsKeptWholeForServer : ServerImage → List ℕ → Type 0
+IsKeptWholeForServer = IsKeptWholeInForServer Second
+
+-- the bytes are kept for the server with these last numbers and this tree, in whichever format: a torn tail may stand behind
+-- what is kept whole
 pub record IsKeptForServer (image : ServerImage) (bytes : List ℕ) : Type 0 where
+  pub format : Format
   pub front : List ℕ
   pub tail : List ℕ
-  pub whole : IsKeptWholeForServer image front
+  pub whole : IsKeptWholeInForServer format image front
   pub torn : IsTorn tail
   pub parts : bytes ≡ front ++ tail
 

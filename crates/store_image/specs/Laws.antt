@@ -8,6 +8,7 @@ use Rattle.store_image.specs.declared.image.ImageError.TheVariants.{BadImage}
 use Rattle.store_image.specs.declared.image.TheConstants.{MAX_CLIENT_IMAGE, MAX_SERVER_IMAGE, MAX_RECORDS, MAX_LOADED}
 use Rattle.store_image.specs.declared.record.ClientRecord.{ClientRecord}
 use Rattle.store_image.specs.declared.record.ServerRecord.{ServerRecord}
+use Rattle.store_image.specs.Limits.{max_records, max_loaded}
 use Rattle.store_image.specs.Spelling.{client, ClientFits, server, ServerFits}
 use Rattle.store_image.specs.Fields.{client_fields, server_fields}
 use Rattle.store_image.specs.Records.{IsSpelled, client_record, client_records, with_record, with_records, IsNoteOf, AreNotes}
@@ -43,7 +44,8 @@ abbrev pub CutServerImagesAreRefused : Type 0
 CutServerImagesAreRefused = (image : ServerImage) (end : ℕ) → ServerFits image → end < length (server image)
     → server_of (take end (server image)) ≡ Err (BadImage (start_of end (server_fields image)))
 
--- an image has so many bytes at most; with at most 8 MiB of records and of a torn tail behind it, a keeper loads more
+-- an image has so many bytes at most; with at most 8 MiB of records and of a torn tail behind it, it is shorter than the 128 MiB
+-- that a keeper loads
 pub record ImagesAreSmall : Type 0 where
   pub clients : (image : ClientImage) → ClientFits image → length (client image) ≤ MAX_CLIENT_IMAGE
   pub servers : (image : ServerImage) → ServerFits image → length (server image) ≤ MAX_SERVER_IMAGE
@@ -51,6 +53,8 @@ pub record ImagesAreSmall : Type 0 where
       → length (client_records kept.whole.notes ++ kept.tail) ≤ MAX_RECORDS → length bytes ≤ MAX_CLIENT_IMAGE + MAX_RECORDS
   pub kept_servers : (image : ServerImage) (bytes : List ℕ) (kept : IsKeptForServer image bytes)
       → length (server_records kept.whole.notes ++ kept.tail) ≤ MAX_RECORDS → length bytes ≤ MAX_SERVER_IMAGE + MAX_RECORDS
+  pub records_are : MAX_RECORDS ≡ max_records
+  pub loaded_are : MAX_LOADED ≡ max_loaded
   pub clients_loaded : MAX_CLIENT_IMAGE + MAX_RECORDS < MAX_LOADED
   pub servers_loaded : MAX_SERVER_IMAGE + MAX_RECORDS < MAX_LOADED
 

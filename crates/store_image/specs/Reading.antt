@@ -1,6 +1,6 @@
 -- Reading images, with the place of the first faulty field. What was read decides what is wanted next: the tree so far
 -- says which effects apply, and the log so far which entry comes next.
-use Rattle.std.specs.Prelude.{ℕ, ◌+◌, ◌-◌, nat_le, ◌==◌, ◌&&◌, Bool, List, [], ◌∷◌, length, Option, Ok, Err}
+use Rattle.std.specs.Prelude.{ℕ, ◌+◌, ◌-◌, nat_le, ◌==◌, ◌&&◌, Bool, List, [], ◌∷◌, length, slice_index_or, Option, Ok, Err, if◌then◌else◌}
 use Rattle.std.specs.Int.{w8, w32, w64}
 use Rattle.std.specs.Str.{bytes_eq}
 use Rattle.std.specs.Result.{is_ok}
@@ -10,7 +10,9 @@ use Rattle.tree_values.specs.Limits.{max_files, max_effects}
 use Rattle.tree_values.specs.Tree.{Volume, apply, changed}
 use Rattle.tree_values.specs.Effects.{base_of}
 use Rattle.file_paths.specs.Reading.{path_at}
-use Rattle.tree_values.specs.Reading.{effect_at, room_after, rows_at}
+use Rattle.tree_values.specs.Reading.{effect_in, room_after, rows_in}
+use Rattle.tree_values.specs.declared.format.Format.{Format}
+use Rattle.tree_values.specs.declared.format.Format.TheVariants.{First, Second}
 use Rattle.tree_values.specs.declared.node.Effect.{Effect}
 use Rattle.tree_values.specs.declared.node.Base.{Base}
 use Rattle.mod_log.specs.declared.origin.Origin.{Origin}
@@ -28,19 +30,19 @@ pub record Growing : Type 0 where
   pub tree : Volume
   pub room : ℕ
 
--- an effect that applies to the tree; one that does not is a fault of its first byte
-unfoldable pub growing_effect_at : Growing → Reader Effect
-growing_effect_at growing = ruled (λ effect. is_ok (apply effect growing.tree)) (effect_at growing.room)
+-- an effect of a format that applies to the tree; one that does not is a fault of its first byte
+unfoldable pub growing_effect_at : Format → Growing → Reader Effect
+growing_effect_at format growing = ruled (λ effect. is_ok (apply effect growing.tree)) (effect_in format growing.room)
 
 -- the tree and the room after an effect
 abbrev pub grown : Growing → Effect → Growing
 grown growing effect = record { tree = changed effect growing.tree; room = room_after growing.room effect }
 
 -- 1 to 4,096 effects with contents of at most 32 MiB together, each of which applies to the tree after those before it
-unfoldable pub applied_effects_at : Volume → Reader (List Effect)
-applied_effects_at tree bytes at = do
+unfoldable pub applied_effects_at : Format → Volume → Reader (List Effect)
+applied_effects_at format tree bytes at = do
   count ← ruled (λ n. nat_le 1 n && nat_le n max_effects) (number_at w32) bytes at
-  each_at growing_effect_at grown count.0 (record { tree = tree; room = max_files }) bytes count.1
+  each_at (growing_effect_at format) grown count.0 (record { tree = tree; room = max_files }) bytes count.1
 
 -- just this path and this version
 unfoldable pub known_base_at : Base → Reader Base
@@ -66,17 +68,17 @@ known_bases_at known bytes at = do
   each_at first_kept_base_at kept_bases_after count.0 known bytes count.1
 
 -- effects that apply to the log's tree, and the versions that this tree has: the next entry, which this made
-abbrev pub based_entry_at : Option Origin → Log → Reader Entry
-based_entry_at origin log bytes at = do
-  effects ← applied_effects_at (tree_of log) bytes at
+abbrev pub based_entry_at : Format → Option Origin → Log → Reader Entry
+based_entry_at format origin log bytes at = do
+  effects ← applied_effects_at format (tree_of log) bytes at
   base ← known_bases_at (base_of effects.0 (tree_of log)) bytes effects.1
   Ok (record { seq = log.acked + length log.pending + 1; origin = origin; effects = effects.0; base = base.0 }, base.1)
 
 -- the entry behind those of the log: what made it, and the rest
-unfoldable pub next_entry_at : Log → Reader Entry
-next_entry_at log bytes at = do
+unfoldable pub next_entry_at : Format → Log → Reader Entry
+next_entry_at format log bytes at = do
   made_by ← made_by_at bytes at
-  based_entry_at made_by.0 log bytes made_by.1
+  based_entry_at format made_by.0 log bytes made_by.1
 
 -- the log with one more entry
 abbrev pub with_entry : Log → Entry → Log
@@ -87,20 +89,29 @@ abbrev pub is_count : ℕ → ℕ → Bool
 is_count acked n = nat_le n max_entries && nat_le n (18446744073709551615 - acked)
 
 -- the pending entries of a log with nothing pending yet, which are spelled in at most 64 MiB
-unfoldable pub entries_at : Log → Reader (List Entry)
-entries_at log bytes at = do
+unfoldable pub entries_at : Format → Log → Reader (List Entry)
+entries_at format log bytes at = do
   count ← ruled (is_count log.acked) (number_at w32) bytes at
-  limited max_log (each_at next_entry_at with_entry count.0 log) bytes count.1
+  limited max_log (each_at (next_entry_at format) with_entry count.0 log) bytes count.1
 
 -- the acknowledged number, the base and the pending entries
-unfoldable pub log_at : Reader Log
-log_at bytes at = do
+unfoldable pub log_at : Format → Reader Log
+log_at format bytes at = do
   acked ← number_at w64 bytes at
-  base ← rows_at bytes acked.1
-  pending ← entries_at (new_log_of acked.0 base.0) bytes base.1
+  base ← rows_in format bytes acked.1
+  pending ← entries_at format (new_log_of acked.0 base.0) bytes base.1
   Ok (record { acked = acked.0; base = base.0; pending = pending.0 }, pending.1)
 
 -- ---- images
+
+-- the version byte of a format
+abbrev pub version_of : Format → ℕ
+version_of First = 1
+version_of Second = 2
+
+-- the format that the fifth byte tells; where it tells none, the second one's readers refuse it
+abbrev pub format_of : List ℕ → Format
+format_of bytes = if slice_index_or bytes 4 0 == 1 then First else Second
 
 -- a mark of four bytes, and what follows it
 unfoldable pub marked : {A : Type 0} → List ℕ → Reader A → Reader A
@@ -117,35 +128,35 @@ abbrev pub server_mark : List ℕ
 server_mark = 79 ∷ 83 ∷ 83 ∷ 73 ∷ []
 
 -- a client's number and its log
-unfoldable pub client_body_at : Reader ClientImage
-client_body_at bytes at = do
+unfoldable pub client_body_at : Format → Reader ClientImage
+client_body_at format bytes at = do
   client ← ruled (λ n. nat_le 1 n && nat_le n 64) (number_at w8) bytes at
-  log ← log_at bytes client.1
+  log ← log_at format bytes client.1
   Ok (record { client = client.0; log = log.0 }, log.1)
 
--- each version of a client's image, with what follows it
-abbrev pub client_versions : List (ℕ × Reader ClientImage)
-client_versions = (1, client_body_at) ∷ []
+-- the one version of a client's image in a format, with what follows it
+abbrev pub client_versions : Format → List (ℕ × Reader ClientImage)
+client_versions format = (version_of format, client_body_at format) ∷ []
 
 -- the mark, the version and what follows it
-unfoldable pub client_at : Reader ClientImage
-client_at = marked client_mark (tagged_at client_versions)
+unfoldable pub client_at : Format → Reader ClientImage
+client_at format = marked client_mark (tagged_at (client_versions format))
 
 -- the 64 numbers of clients 1, 2, 3 and so on
 unfoldable pub numbers_at : Reader (List ℕ)
 numbers_at = each_at (λ (_ : Unit {0}). number_at w64) (λ _ _. tt {0}) 64 (tt {0})
 
 -- the last numbers of the clients, and the rows
-unfoldable pub server_body_at : Reader ServerImage
-server_body_at bytes at = do
+unfoldable pub server_body_at : Format → Reader ServerImage
+server_body_at format bytes at = do
   last ← numbers_at bytes at
-  rows ← rows_at bytes last.1
+  rows ← rows_in format bytes last.1
   Ok (record { last = last.0; tree = rows.0 }, rows.1)
 
--- each version of a server's image, with what follows it
-abbrev pub server_versions : List (ℕ × Reader ServerImage)
-server_versions = (1, server_body_at) ∷ []
+-- the one version of a server's image in a format, with what follows it
+abbrev pub server_versions : Format → List (ℕ × Reader ServerImage)
+server_versions format = (version_of format, server_body_at format) ∷ []
 
 -- the mark, the version and what follows it
-unfoldable pub server_at : Reader ServerImage
-server_at = marked server_mark (tagged_at server_versions)
+unfoldable pub server_at : Format → Reader ServerImage
+server_at format = marked server_mark (tagged_at (server_versions format))

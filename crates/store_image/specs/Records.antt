@@ -2,11 +2,12 @@
 use Rattle.std.specs.Prelude.{◌≡◌, ℕ, zero, suc, ◌+◌, ◌-◌, ◌^◌, ◌<◌, ◌≤◌, nat_lt, nat_le, not, ◌&&◌, ◌||◌, Bool, true, List, [], ◌∷◌, ◌++◌}
 use Rattle.std.specs.Prelude.{length, set, slice_index_or, Ok, if◌then◌else◌}
 use Rattle.std.specs.Int.{w8, w64}
-use Rattle.std.specs.List.{flat_map}
+use Rattle.std.specs.List.{flat_map, AllByRecursion}
 use Rattle.byte_fields.specs.Field.{Reader, ◌>>=◌, one, three, ruled, digits, number_at, tagged_at, passed, EachFits}
 use Rattle.byte_fields.specs.Records.{framed, framed_at, is_torn, until_end}
 use Rattle.tree_values.specs.Effects.{changed_all, apply_all}
-use Rattle.tree_values.specs.Spelling.{effects, EffectsFit}
+use Rattle.tree_values.specs.Spelling.{effects, EffectsFit, IsEffectOf}
+use Rattle.tree_values.specs.declared.format.Format.{Format}
 use Rattle.tree_values.specs.declared.node.Effect.{Effect}
 use Rattle.mod_log.specs.Limits.{max_log}
 use Rattle.mod_log.specs.Log.{Log, entry, IsLog, logged, acknowledged}
@@ -67,13 +68,22 @@ IsNoteOf log (Acked number) = (log.acked < number) × (number ≤ log.acked + le
 abbrev pub AreNotes : Log → List ClientRecord → Type 0
 AreNotes = EachFits IsNoteOf with_record
 
+-- the format has the record's effects
+abbrev pub IsRecordOf : Format → ClientRecord → Type 0
+IsRecordOf format (Logged e) = AllByRecursion (IsEffectOf format) e.effects
+IsRecordOf format (Acked number) = Unit {0}
+
+-- the format has those of all records
+abbrev pub AreRecordsOf : Format → List ClientRecord → Type 0
+AreRecordsOf format notes = AllByRecursion (IsRecordOf format) notes
+
 -- whether it is the number of a pending entry
 abbrev pub is_pending : Log → ℕ → Bool
 is_pending log number = nat_lt log.acked number && nat_le number (log.acked + length log.pending)
 
 -- the kinds of records: 1 for an entry behind those of the log, 2 for the number up to which entries were acknowledged
-abbrev pub client_kinds : Log → List (ℕ × Reader ClientRecord)
-client_kinds log = (1, one (next_entry_at log) Logged) ∷ (2, one (ruled (is_pending log) (number_at w64)) Acked) ∷ []
+abbrev pub client_kinds : Format → Log → List (ℕ × Reader ClientRecord)
+client_kinds format log = (1, one (next_entry_at format log) Logged) ∷ (2, one (ruled (is_pending log) (number_at w64)) Acked) ∷ []
 
 -- whether the log has room for what is logged, and a number
 abbrev pub has_room : Log → ClientRecord → Bool
@@ -81,22 +91,22 @@ has_room log (Logged e) = not (log_has_no_room e log || is_at_last log)
 has_room log (Acked number) = true
 
 -- a record behind the number of its bytes; an entry for which the log has no room is a fault of that number
-unfoldable pub client_record_at : Log → Reader ClientRecord
-client_record_at log = ruled (has_room log) (framed_at (tagged_at (client_kinds log)))
+unfoldable pub client_record_at : Format → Log → Reader ClientRecord
+client_record_at format log = ruled (has_room log) (framed_at (tagged_at (client_kinds format log)))
 
 -- the whole records from the place on, so many at most, and the place where a torn tail begins
-unfoldable pub client_records_within : ℕ → Log → Reader (List ClientRecord)
-client_records_within zero log bytes at = Ok ([], at)
-client_records_within (suc most) log bytes at =
+unfoldable pub client_records_within : Format → ℕ → Log → Reader (List ClientRecord)
+client_records_within format zero log bytes at = Ok ([], at)
+client_records_within format (suc most) log bytes at =
     if is_torn bytes at then Ok ([], at)
     else (do
-      first ← client_record_at log bytes at
-      others ← client_records_within most (with_record log first.0) bytes first.1
+      first ← client_record_at format log bytes at
+      others ← client_records_within format most (with_record log first.0) bytes first.1
       Ok (first.0 ∷ others.0, others.1))
 
 -- all of them; there are no more records than bytes
-abbrev pub client_records_at : Log → Reader (List ClientRecord)
-client_records_at log bytes = client_records_within (length bytes) log bytes
+abbrev pub client_records_at : Format → Log → Reader (List ClientRecord)
+client_records_at format log bytes = client_records_within format (length bytes) log bytes
 
 -- ---- records of a server
 
@@ -137,18 +147,22 @@ pub record IsTakenOf (image : ServerImage) (note : ServerRecord) : Type 0 where
 abbrev pub AreTakenOf : ServerImage → List ServerRecord → Type 0
 AreTakenOf = EachFits IsTakenOf with_taken
 
+-- the format has the effects of all records
+abbrev pub AreTakenIn : Format → List ServerRecord → Type 0
+AreTakenIn format notes = AllByRecursion (λ note. AllByRecursion (IsEffectOf format) note.effects) notes
+
 abbrev pub made_taken : ℕ → ℕ → List Effect → ServerRecord
 made_taken client last effects = record { client = client; last = last; effects = effects }
 
 -- the client, a number above its last one, and effects that apply
-unfoldable pub taken_at : ServerImage → Reader ServerRecord
-taken_at image = three (ruled (λ n. nat_le 1 n && nat_le n 64) (number_at w8))
-    (λ client. ruled (λ n. nat_lt (last_of image client) n) (number_at w64)) (λ _ _. applied_effects_at image.tree) made_taken
+unfoldable pub taken_at : Format → ServerImage → Reader ServerRecord
+taken_at format image = three (ruled (λ n. nat_le 1 n && nat_le n 64) (number_at w8))
+    (λ client. ruled (λ n. nat_lt (last_of image client) n) (number_at w64)) (λ _ _. applied_effects_at format image.tree) made_taken
 
 -- the one kind of records
-abbrev pub server_kinds : ServerImage → List (ℕ × Reader ServerRecord)
-server_kinds image = (3, taken_at image) ∷ []
+abbrev pub server_kinds : Format → ServerImage → List (ℕ × Reader ServerRecord)
+server_kinds format image = (3, taken_at format image) ∷ []
 
 -- the whole records from the place on, and the place where a torn tail begins
-abbrev pub server_records_at : ServerImage → Reader (List ServerRecord)
-server_records_at = until_end (λ image. tagged_at (server_kinds image)) with_taken
+abbrev pub server_records_at : Format → ServerImage → Reader (List ServerRecord)
+server_records_at format = until_end (λ image. tagged_at (server_kinds format image)) with_taken

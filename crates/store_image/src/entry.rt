@@ -15,7 +15,9 @@ ghost use Rattle.mod_log.specs.declared.origin.Origin.{Origin};
 use byte_fields::{TakeError, u32_at, u64_at};
 use mod_log::{Log, LogError, Origin, base_of, take_made_by};
 use std::alloc::{AllocError, Global};
-use vol_tree::{Base, Bases, Effect, Effects, MAX_EFFECTS, MAX_FILES, Path, Tree, TreeError};
+use vol_tree::{
+    Base, Bases, Effect, Effects, Format, MAX_EFFECTS, MAX_FILES, Path, Tree, TreeError,
+};
 
 /// The fault that a refusal of the tree is, where the effect stands at the place.
 fn fault_of(refusal: TreeError, at: usize) -> TakeError
@@ -43,19 +45,20 @@ fn grow(tree: &mut Tree, effect: &Effect, at: usize) -> Result<(), TakeError>
     }
 }
 
-/// An effect, which the tree takes.
+/// An effect of a format, which the tree takes.
 #[tactic(auto, unfolding(crate::specs::Reading::growing_effect_at, byte_fields::specs::Field::ruled))]
 fn growing_effect(
+    format: Format,
     alloc: Global,
     bytes: &[u8],
     at: usize,
     tree: &mut Tree,
     room: usize,
 ) -> Result<(Effect, usize), TakeError>
-    ensures read { Gives result (growing_effect_at (record { tree = tree.old; room = room }) bytes.now at) }
+    ensures read { Gives result (growing_effect_at format (record { tree = tree.old; room = room }) bytes.now at) }
     ensures applied { IfOk result (λ x. tree.new ≡ changed x.0 tree.old) }
 {
-    let (effect, next) = Effect::take_within(alloc, bytes, at, room)?;
+    let (effect, next) = Effect::take_in(format, alloc, bytes, at, room)?;
     match grow(tree, &effect, at) {
         Ok(()) => Ok((effect, next)),
         Err(fault) => {
@@ -67,20 +70,22 @@ fn growing_effect(
 
 /// So many effects, each of which the tree takes.
 fn effects_from(
+    format: Format,
     alloc: Global,
     bytes: &[u8],
     start: usize,
     count: u32,
     tree: &mut Tree,
 ) -> Result<(Effects, usize), TakeError>
-    ensures read { Gives result (each_at growing_effect_at grown count (record { tree = tree.old; room = max_files }) bytes.now start) }
+    ensures read { Gives result
+        (each_at (growing_effect_at format) grown count (record { tree = tree.old; room = max_files }) bytes.now start) }
     ensures applied { IfOk result (λ x. tree.new ≡ changed_all x.0 tree.old) }
 {
     let mut effects = Effects::new(alloc);
     let mut at = start;
     let mut room = MAX_FILES;
     for _ in 0..count {
-        let (effect, next) = growing_effect(alloc, bytes, at, tree, room)?;
+        let (effect, next) = growing_effect(format, alloc, bytes, at, tree, room)?;
         room = room.saturating_sub(effect.content_size() as usize);
         effects.push(effect)?;
         at = next;
@@ -91,19 +96,20 @@ fn effects_from(
 /// The effects of an entry, each of which the tree takes.
 #[tactic(auto, unfolding(crate::specs::Reading::applied_effects_at, byte_fields::specs::Field::ruled))]
 pub(crate) fn applied_effects(
+    format: Format,
     alloc: Global,
     bytes: &[u8],
     at: usize,
     tree: &mut Tree,
 ) -> Result<(Effects, usize), TakeError>
-    ensures read { Gives result (applied_effects_at tree.old bytes.now at) }
+    ensures read { Gives result (applied_effects_at format tree.old bytes.now at) }
     ensures applied { IfOk result (λ x. tree.new ≡ changed_all x.0 tree.old) }
 {
     let (count, start) = u32_at(bytes, at)?;
     if count < 1 || count > MAX_EFFECTS as u32 {
         return Err(TakeError::At(at));
     }
-    effects_from(alloc, bytes, start, count, tree)
+    effects_from(format, alloc, bytes, start, count, tree)
 }
 
 /// The place behind just this path and this version.
@@ -172,6 +178,7 @@ fn behind_bases_of(
 /// The effects behind what made an entry, and the place behind the bases of these effects. The other tree is the log's at
 /// first, and takes the effects.
 fn based_effects(
+    format: Format,
     alloc: Global,
     bytes: &[u8],
     at: usize,
@@ -180,10 +187,10 @@ fn based_effects(
 ) -> Result<(Effects, usize), TakeError>
     requires { ahead.old ≡ tree_of log.now }
     ensures read { (origin : Option Origin) → Lends (λ x. (next_entry origin x.0 log.now, x.1)) result
-        (based_entry_at origin log.now bytes.now at) }
+        (based_entry_at format origin log.now bytes.now at) }
     ensures applied { IfOk result (λ x. ahead.new ≡ changed_all x.0 (tree_of log.now)) }
 {
-    let (effects, middle) = applied_effects(alloc, bytes, at, ahead)?;
+    let (effects, middle) = applied_effects(format, alloc, bytes, at, ahead)?;
     match behind_bases_of(alloc, bytes, middle, log, &effects) {
         Ok(next) => Ok((effects, next)),
         Err(fault) => {
@@ -197,6 +204,7 @@ fn based_effects(
 /// effects.
 #[tactic(auto, unfolding(crate::specs::Reading::next_entry_at))]
 pub(crate) fn next_effects(
+    format: Format,
     alloc: Global,
     bytes: &[u8],
     at: usize,
@@ -204,11 +212,11 @@ pub(crate) fn next_effects(
     ahead: &mut Tree,
 ) -> Result<((Option<Origin>, Effects), usize), TakeError>
     requires { ahead.old ≡ tree_of log.now }
-    ensures read { Lends (λ x. (next_entry x.0.0 x.0.1 log.now, x.1)) result (next_entry_at log.now bytes.now at) }
+    ensures read { Lends (λ x. (next_entry x.0.0 x.0.1 log.now, x.1)) result (next_entry_at format log.now bytes.now at) }
     ensures applied { IfOk result (λ x. ahead.new ≡ changed_all x.0.1 (tree_of log.now)) }
 {
     let (origin, start) = take_made_by(alloc, bytes, at)?;
-    match based_effects(alloc, bytes, start, log, ahead) {
+    match based_effects(format, alloc, bytes, start, log, ahead) {
         Ok((effects, next)) => Ok(((origin, effects), next)),
         Err(fault) => {
             drop(origin);

@@ -19,6 +19,9 @@ pub const MAX_CLIENT_IMAGE: usize = 4 + 1 + 1 + 8 + ROWS_SIZE + 4 + MAX_LOG;
 /// The most bytes of a server's image: a mark, a version, 64 numbers and rows.
 pub const MAX_SERVER_IMAGE: usize = 4 + 1 + 64 * 8 + ROWS_SIZE;
 
+/// The version byte of each image that is written.
+pub const IMAGE_VERSION: u8 = 2;
+
 /// The most bytes of the records that are appended behind an image; a keeping that would pass them writes the image anew.
 pub const MAX_RECORDS: usize = 8_388_608;
 

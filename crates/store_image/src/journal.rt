@@ -10,7 +10,7 @@ ghost use Rattle.store_image.specs.declared.image.ServerImage.{ServerImage};
 ghost use Rattle.store_image.specs.Reading.{next_entry_at};
 ghost use Rattle.store_image.specs.Records.{behind_records, is_pending, client_kinds, has_room, client_record_at, client_records_at};
 ghost use Rattle.store_image.specs.Records.{with_record, with_records, taken_at, server_kinds, with_taken};
-ghost use Rattle.store_image.specs.Inside.{record_of, TakesNote};
+ghost use Rattle.store_image.specs.Inside.{record_of, TakesNote, opened_record_at, with_opened};
 
 use crate::entry::{applied_effects, next_effects};
 use crate::image::ServerImage;
@@ -18,7 +18,7 @@ use crate::record::ServerRecord;
 use byte_fields::{TakeError, Taken, is_torn, span_at, u8_at, u32_at, u64_at};
 use mod_log::{Log, LogError, Origin};
 use std::alloc::Global;
-use vol_tree::{Effects, Tree, TryCopy};
+use vol_tree::{Effects, Format, Tree, TryCopy};
 
 /// What a record of a client tells; an entry is told by what made it and its effects.
 #[derive(Drop)]
@@ -29,6 +29,7 @@ enum Note {
 
 /// The entry behind those of the log. The other tree is the log's at first, and takes the effects.
 fn logged_at(
+    format: Format,
     alloc: Global,
     bytes: &[u8],
     at: usize,
@@ -36,10 +37,10 @@ fn logged_at(
     ahead: &mut Tree,
 ) -> Result<(Note, usize), TakeError>
     requires { ahead.old ≡ tree_of log.now }
-    ensures read { Lends (λ x. (record_of x.0 log.now, x.1)) result (one (next_entry_at log.now) records.Logged bytes.now at) }
+    ensures read { Lends (λ x. (record_of x.0 log.now, x.1)) result (one (next_entry_at format log.now) records.Logged bytes.now at) }
     ensures applied { IfOk result (λ x. ahead.new ≡ tree_of (with_record log.now (record_of x.0 log.now))) }
 {
-    let ((origin, effects), next) = next_effects(alloc, bytes, at, log, ahead)?;
+    let ((origin, effects), next) = next_effects(format, alloc, bytes, at, log, ahead)?;
     Ok((Note::Logged(origin, effects), next))
 }
 
@@ -58,6 +59,7 @@ fn acked_at(bytes: &[u8], at: usize, log: &Log) -> Result<(u64, usize), TakeErro
 
 /// What a record tells, behind the number of its bytes.
 fn note_at(
+    format: Format,
     alloc: Global,
     bytes: &[u8],
     at: usize,
@@ -65,12 +67,12 @@ fn note_at(
     ahead: &mut Tree,
 ) -> Result<(Note, usize), TakeError>
     requires { ahead.old ≡ tree_of log.now }
-    ensures read { Lends (λ x. (record_of x.0 log.now, x.1)) result (tagged_at (client_kinds log.now) bytes.now at) }
+    ensures read { Lends (λ x. (record_of x.0 log.now, x.1)) result (tagged_at (client_kinds format log.now) bytes.now at) }
     ensures applied { IfOk result (λ x. ahead.new ≡ tree_of (with_record log.now (record_of x.0 log.now))) }
 {
     let (kind, start) = u8_at(bytes, at)?;
     match kind {
-        1 => logged_at(alloc, bytes, start, log, ahead),
+        1 => logged_at(format, alloc, bytes, start, log, ahead),
         2 => {
             let (number, next) = acked_at(bytes, start, log)?;
             Ok((Note::Acked(number), next))
@@ -82,6 +84,7 @@ fn note_at(
 /// What a whole record tells, and the place after it.
 #[tactic(auto, unfolding(byte_fields::specs::Records::framed_at))]
 fn framed_note_at(
+    format: Format,
     alloc: Global,
     bytes: &[u8],
     at: usize,
@@ -89,13 +92,13 @@ fn framed_note_at(
     ahead: &mut Tree,
 ) -> Result<(Note, usize), TakeError>
     requires { ahead.old ≡ tree_of log.now }
-    ensures read { Lends (λ x. (record_of x.0 log.now, x.1)) result (framed_at (tagged_at (client_kinds log.now)) bytes.now at) }
+    ensures read { Lends (λ x. (record_of x.0 log.now, x.1)) result (framed_at (tagged_at (client_kinds format log.now)) bytes.now at) }
     ensures applied { IfOk result (λ x. ahead.new ≡ tree_of (with_record log.now (record_of x.0 log.now))) }
     ensures further { IfOk result (λ x. at < x.1) }
 {
     let (size, start) = u32_at(bytes, at)?;
     let (_span, end) = span_at(bytes, start, size as usize)?;
-    let (note, next) = note_at(alloc, &bytes[..end], start, log, ahead)?;
+    let (note, next) = note_at(format, alloc, &bytes[..end], start, log, ahead)?;
     if next != end {
         drop(note);
         return Err(TakeError::At(next));
@@ -137,6 +140,7 @@ fn take_note(log: &mut Log, note: Note, at: usize) -> Result<(), TakeError>
 /// The log takes the record at the place. The other tree is the log's, before and after.
 #[tactic(auto, unfolding(crate::specs::Records::client_record_at, byte_fields::specs::Field::ruled))]
 fn take_record(
+    format: Format,
     alloc: Global,
     bytes: &[u8],
     at: usize,
@@ -145,17 +149,18 @@ fn take_record(
 ) -> Result<usize, TakeError>
     requires within { at ≤ length bytes.now }
     requires same { ahead.old ≡ tree_of log.old }
-    ensures into { GivesInto log.new (with_record log.old) result (client_record_at log.old bytes.now at) }
+    ensures into { GivesInto log.new (with_record log.old) result (client_record_at format log.old bytes.now at) }
     ensures further { IfOk result (λ next. at < next) }
     ensures same { OnOk result (ahead.new ≡ tree_of log.new) }
 {
-    let (note, next) = framed_note_at(alloc, bytes, at, log, ahead)?;
+    let (note, next) = framed_note_at(format, alloc, bytes, at, log, ahead)?;
     take_note(log, note, at)?;
     Ok(next)
 }
 
 /// The log takes the whole records from the place on, up to a torn tail. The other tree is the log's at first.
 fn take_records(
+    format: Format,
     alloc: Global,
     bytes: &[u8],
     start: usize,
@@ -163,26 +168,27 @@ fn take_records(
     ahead: &mut Tree,
 ) -> Result<usize, TakeError>
     requires { ahead.old ≡ tree_of log.old }
-    ensures { GivesInto log.new (with_records log.old) result (client_records_at log.old bytes.now start) }
+    ensures { GivesInto log.new (with_records log.old) result (client_records_at format log.old bytes.now start) }
 {
     let mut at = start;
     while !is_torn(bytes, at) {
-        at = take_record(alloc, bytes, at, log, ahead)?;
+        at = take_record(format, alloc, bytes, at, log, ahead)?;
     }
     Ok(at)
 }
 
 /// The log behind the records from the place on, and the place where a torn tail begins.
 pub(crate) fn log_behind(
+    format: Format,
     alloc: Global,
     bytes: &[u8],
     start: usize,
     first: Log,
 ) -> Result<(Log, usize), TakeError>
-    ensures { Gives result (behind_records client_records_at with_record first bytes.now start) }
+    ensures { Gives result (behind_records (client_records_at format) with_record first bytes.now start) }
 {
     let mut log = first;
-    match take_behind(alloc, bytes, start, &mut log) {
+    match take_behind(format, alloc, bytes, start, &mut log) {
         Ok(torn) => Ok((log, torn)),
         Err(fault) => {
             drop(log);
@@ -192,11 +198,17 @@ pub(crate) fn log_behind(
 }
 
 /// The log takes the whole records from the place on, and the place where a torn tail begins is given.
-fn take_behind(alloc: Global, bytes: &[u8], start: usize, log: &mut Log) -> Result<usize, TakeError>
-    ensures { GivesInto log.new (with_records log.old) result (client_records_at log.old bytes.now start) }
+fn take_behind(
+    format: Format,
+    alloc: Global,
+    bytes: &[u8],
+    start: usize,
+    log: &mut Log,
+) -> Result<usize, TakeError>
+    ensures { GivesInto log.new (with_records log.old) result (client_records_at format log.old bytes.now start) }
 {
     let mut ahead = log.tree().copy()?;
-    let taken = take_records(alloc, bytes, start, log, &mut ahead);
+    let taken = take_records(format, alloc, bytes, start, log, &mut ahead);
     drop(ahead);
     taken
 }
@@ -204,12 +216,13 @@ fn take_behind(alloc: Global, bytes: &[u8], start: usize, log: &mut Log) -> Resu
 /// What a record of a server tells goes into the server.
 #[tactic(auto, unfolding(crate::specs::Records::taken_at, byte_fields::specs::Field::ruled))]
 fn take_taken(
+    format: Format,
     alloc: Global,
     bytes: &[u8],
     at: usize,
     image: &mut ServerImage,
 ) -> Result<usize, TakeError>
-    ensures { GivesInto image.new (with_taken image.old) result (taken_at image.old bytes.now at) }
+    ensures { GivesInto image.new (with_taken image.old) result (taken_at format image.old bytes.now at) }
 {
     let (client, middle) = u8_at(bytes, at)?;
     if client < 1 || client > 64 {
@@ -219,24 +232,28 @@ fn take_taken(
     if last <= image.last[client as usize - 1] {
         return Err(TakeError::At(middle));
     }
-    let (effects, next) = applied_effects(alloc, bytes, start, &mut image.tree)?;
+    let (effects, next) = applied_effects(format, alloc, bytes, start, &mut image.tree)?;
     drop(effects);
     image.last[client as usize - 1] = last;
     Ok(next)
 }
 
-impl Taken<ServerRecord> for ServerImage {
-    ghost use Rattle.byte_fields.specs.Field.{tagged_at};
-    ghost use Rattle.store_image.specs.Records.{server_kinds, with_taken};
+/// A server whose records are read, and their format.
+#[derive(Drop)]
+pub(crate) struct Opened {
+    pub(crate) format: Format,
+    pub(crate) image: ServerImage,
+}
 
-    ghost item_at = { λ image. tagged_at (server_kinds image) };
+impl Taken<ServerRecord> for Opened {
+    ghost item_at = { opened_record_at };
 
-    ghost after = { with_taken };
+    ghost after = { with_opened };
 
     fn take_next(&mut self, alloc: Global, bytes: &[u8], at: usize) -> Result<usize, TakeError> {
         let (kind, start) = u8_at(bytes, at)?;
         match kind {
-            3 => take_taken(alloc, bytes, start, self),
+            3 => take_taken(self.format, alloc, bytes, start, &mut self.image),
             _ => Err(TakeError::At(at)),
         }
     }

@@ -13,8 +13,8 @@ mod writing;
 
 pub use appending::{put_acked, put_logged, put_taken, write_client_record, write_server_record};
 pub use image::{
-    ClientImage, ImageError, MAX_CLIENT_IMAGE, MAX_LOADED, MAX_RECORDS, MAX_SERVER_IMAGE,
-    ServerImage,
+    ClientImage, IMAGE_VERSION, ImageError, MAX_CLIENT_IMAGE, MAX_LOADED, MAX_RECORDS,
+    MAX_SERVER_IMAGE, ServerImage,
 };
 pub use laws::{
     broken_images_name_the_field, broken_records_name_the_field, cut_images_name_the_field,

@@ -5,30 +5,36 @@ ghost use Rattle.std.specs.Int.{w64};
 ghost use Rattle.std.specs.Str.{bytes_eq};
 ghost use Rattle.byte_fields.specs.Field.{Gives, Lends, Answers, place_of, number_at, each_at};
 ghost use Rattle.tree_values.specs.Tree.{IsTree};
-ghost use Rattle.tree_values.specs.Reading.{rows_at};
+ghost use Rattle.tree_values.specs.Reading.{rows_in};
 ghost use Rattle.mod_log.specs.Limits.{max_entries, max_log};
 ghost use Rattle.mod_log.specs.Log.{Log, new_log_of};
 ghost use Rattle.store_image.specs.Reading.{next_entry_at, with_entry, entries_at, log_at, client_body_at, client_at, server_body_at};
-ghost use Rattle.store_image.specs.Reading.{server_at};
+ghost use Rattle.store_image.specs.Reading.{server_at, version_of as version_byte, format_of};
+ghost use Rattle.store_image.specs.Records.{behind_records, server_records_at, with_taken};
 ghost use Rattle.store_image.specs.Image.{read_of, kept_client_at, kept_server_at, kept_client_of, server_of, GivesImage, IsKeptFor};
 ghost use Rattle.store_image.specs.Image.{IsKeptForServer};
 ghost use Rattle.store_image.specs.declared.image.ServerImage.{ServerImage};
 
 use crate::entry::{log_entry, next_effects};
-use crate::image::{ClientImage, ImageError, ServerImage};
-use crate::journal::log_behind;
+use crate::image::{ClientImage, IMAGE_VERSION, ImageError, ServerImage};
+use crate::journal::{Opened, log_behind};
 use crate::record::ServerRecord;
 use byte_fields::{TakeError, saturate_u32, span_at, take_until_end, u8_at, u32_at, u64_at};
 use mod_log::{Log, MAX_ENTRIES, MAX_LOG};
 use std::alloc::{AllocError, Global};
-use vol_tree::{Rows, RowsError, Tree, TryCopy};
+use vol_tree::{Format, Rows, RowsError, Tree, TryCopy};
 
 /// The tree whose rows stand at the place.
-fn tree_at(alloc: Global, bytes: &[u8], at: usize) -> Result<(Tree, usize), TakeError>
+fn tree_at(
+    format: Format,
+    alloc: Global,
+    bytes: &[u8],
+    at: usize,
+) -> Result<(Tree, usize), TakeError>
     requires { at ≤ length bytes.now }
-    ensures { Gives result (rows_at bytes.now at) }
+    ensures { Gives result (rows_in format bytes.now at) }
 {
-    let (rows, next) = Rows::take(alloc, bytes, at)?;
+    let (rows, next) = Rows::take_in(format, alloc, bytes, at)?;
     Ok((tree_of(alloc, rows)?, next))
 }
 
@@ -57,6 +63,7 @@ fn front(bytes: &[u8], at: usize, room: usize) -> &[u8]
 /// So many entries behind a log with nothing pending. The other tree is the log's at first, and takes each effect as it is
 /// read.
 fn entries_from(
+    format: Format,
     alloc: Global,
     bytes: &[u8],
     start: usize,
@@ -70,7 +77,7 @@ fn entries_from(
     requires numbers { first.acked + count ≤ 18446744073709551615 }
     requires nothing { first.pending ≡ [] }
     requires same { ahead.old ≡ first.base }
-    ensures read { Lends (λ x. (x.0.pending, x.1)) result (each_at next_entry_at with_entry count first bytes.now start) }
+    ensures read { Lends (λ x. (x.0.pending, x.1)) result (each_at (next_entry_at format) with_entry count first bytes.now start) }
     ensures acked { IfOk result (λ x. x.0.acked ≡ first.acked) }
     ensures base { IfOk result (λ x. x.0.base ≡ first.base) }
 {
@@ -78,7 +85,7 @@ fn entries_from(
     let mut log = first;
     let mut at = start;
     for _ in 0..count {
-        let ((origin, effects), next) = next_effects(alloc, bytes, at, &log, ahead)?;
+        let ((origin, effects), next) = next_effects(format, alloc, bytes, at, &log, ahead)?;
         log_entry(&mut log, origin, effects)?;
         at = next;
     }
@@ -88,13 +95,14 @@ fn entries_from(
 /// The log with this acknowledged number and this base, whose pending entries stand at the place.
 #[tactic(auto, unfolding(crate::specs::Reading::entries_at, byte_fields::specs::Field::ruled, byte_fields::specs::Field::limited))]
 fn entries_at(
+    format: Format,
     alloc: Global,
     bytes: &[u8],
     at: usize,
     acked: u64,
     base: Tree,
 ) -> Result<(Log, usize), TakeError>
-    ensures read { Lends (λ x. (x.0.pending, x.1)) result (entries_at (new_log_of acked base) bytes.now at) }
+    ensures read { Lends (λ x. (x.0.pending, x.1)) result (entries_at format (new_log_of acked base) bytes.now at) }
     ensures acked { IfOk result (λ x. x.0.acked ≡ acked) }
     ensures base { IfOk result (λ x. x.0.base ≡ base) }
 {
@@ -105,47 +113,57 @@ fn entries_at(
     let mut ahead = base.copy()?;
     let log = Log::new(acked, base);
     let bytes = front(bytes, start, MAX_LOG);
-    entries_from(alloc, bytes, start, count, log, &mut ahead)
+    entries_from(format, alloc, bytes, start, count, log, &mut ahead)
 }
 
 /// The log at the place.
 #[tactic(auto, unfolding(crate::specs::Reading::log_at))]
-fn log_at(alloc: Global, bytes: &[u8], at: usize) -> Result<(Log, usize), TakeError>
-    ensures { Gives result (log_at bytes.now at) }
+fn log_at(format: Format, alloc: Global, bytes: &[u8], at: usize) -> Result<(Log, usize), TakeError>
+    ensures { Gives result (log_at format bytes.now at) }
 {
     let (acked, start) = u64_at(bytes, at)?;
-    let (base, middle) = tree_at(alloc, bytes, start)?;
-    let (log, next) = entries_at(alloc, bytes, middle, acked, base)?;
+    let (base, middle) = tree_at(format, alloc, bytes, start)?;
+    let (log, next) = entries_at(format, alloc, bytes, middle, acked, base)?;
     Ok((log, next))
 }
 
 /// The client's number and its log.
 #[tactic(auto, unfolding(crate::specs::Reading::client_body_at, byte_fields::specs::Field::ruled))]
-fn client_body_at(alloc: Global, bytes: &[u8], at: usize) -> Result<(ClientImage, usize), TakeError>
-    ensures { Gives result (client_body_at bytes.now at) }
+fn client_body_at(
+    format: Format,
+    alloc: Global,
+    bytes: &[u8],
+    at: usize,
+) -> Result<(ClientImage, usize), TakeError>
+    ensures { Gives result (client_body_at format bytes.now at) }
 {
     let (client, start) = u8_at(bytes, at)?;
     if client < 1 || client > 64 {
         return Err(TakeError::At(at));
     }
-    let (log, next) = log_at(alloc, bytes, start)?;
+    let (log, next) = log_at(format, alloc, bytes, start)?;
     Ok((ClientImage { client, log }, next))
 }
 
-/// A client's image, of any version that there is.
+/// A client's image in a format.
 #[tactic(auto, unfolding(crate::specs::Reading::client_at, crate::specs::Reading::marked, byte_fields::specs::Field::ruled))]
-fn client_at(alloc: Global, bytes: &[u8], at: usize) -> Result<(ClientImage, usize), TakeError>
-    ensures { Gives result (client_at bytes.now at) }
+fn client_at(
+    format: Format,
+    alloc: Global,
+    bytes: &[u8],
+    at: usize,
+) -> Result<(ClientImage, usize), TakeError>
+    ensures { Gives result (client_at format bytes.now at) }
 {
     let (mark, start) = span_at(bytes, at, 4)?;
     if b"OSCI".as_slice() != mark {
         return Err(TakeError::At(at));
     }
     let (version, body) = u8_at(bytes, start)?;
-    match version {
-        1 => client_body_at(alloc, bytes, body),
-        _ => Err(TakeError::At(start)),
+    if version != version_of(format) {
+        return Err(TakeError::At(start));
     }
+    client_body_at(format, alloc, bytes, body)
 }
 
 /// The 64 numbers at the place.
@@ -164,28 +182,58 @@ fn numbers_at(bytes: &[u8], start: usize) -> Result<([u64; 64], usize), TakeErro
 
 /// The last numbers of the clients, and the rows.
 #[tactic(auto, unfolding(crate::specs::Reading::server_body_at, crate::specs::Reading::numbers_at))]
-fn server_body_at(alloc: Global, bytes: &[u8], at: usize) -> Result<(ServerImage, usize), TakeError>
+fn server_body_at(
+    format: Format,
+    alloc: Global,
+    bytes: &[u8],
+    at: usize,
+) -> Result<(ServerImage, usize), TakeError>
     requires { at ≤ length bytes.now }
-    ensures { Gives result (server_body_at bytes.now at) }
+    ensures { Gives result (server_body_at format bytes.now at) }
 {
     let (last, start) = numbers_at(bytes, at)?;
-    let (tree, next) = tree_at(alloc, bytes, start)?;
+    let (tree, next) = tree_at(format, alloc, bytes, start)?;
     Ok((ServerImage { last, tree }, next))
 }
 
-/// A server's image, of any version that there is.
+/// A server's image in a format.
 #[tactic(auto, unfolding(crate::specs::Reading::server_at, crate::specs::Reading::marked, byte_fields::specs::Field::ruled))]
-fn server_at(alloc: Global, bytes: &[u8], at: usize) -> Result<(ServerImage, usize), TakeError>
-    ensures { Gives result (server_at bytes.now at) }
+fn server_at(
+    format: Format,
+    alloc: Global,
+    bytes: &[u8],
+    at: usize,
+) -> Result<(ServerImage, usize), TakeError>
+    ensures { Gives result (server_at format bytes.now at) }
 {
     let (mark, start) = span_at(bytes, at, 4)?;
     if b"OSSI".as_slice() != mark {
         return Err(TakeError::At(at));
     }
     let (version, body) = u8_at(bytes, start)?;
-    match version {
-        1 => server_body_at(alloc, bytes, body),
-        _ => Err(TakeError::At(start)),
+    if version != version_of(format) {
+        return Err(TakeError::At(start));
+    }
+    server_body_at(format, alloc, bytes, body)
+}
+
+/// The version byte of a format.
+pub(crate) fn version_of(format: Format) -> u8
+    ensures { result ≡ version_byte format }
+{
+    match format {
+        Format::First => 1,
+        Format::Second => IMAGE_VERSION,
+    }
+}
+
+/// The format that the fifth byte tells; where it tells none, the readers of the second one refuse it.
+fn format_of(bytes: &[u8]) -> Format
+    ensures { result ≡ format_of bytes.now }
+{
+    match bytes.get(4) {
+        Some(1) => Format::First,
+        _ => Format::Second,
     }
 }
 
@@ -195,27 +243,43 @@ fn begins_with(bytes: &[u8], mark: &[u8]) -> bool
     &bytes[..bytes.len().min(4)] == mark
 }
 
-/// A client's image and the records behind it.
-#[tactic(auto, unfolding(crate::specs::Image::kept_client_at))]
+/// A client's image and the records behind it, in the format that the bytes tell.
+#[tactic(auto, unfolding(crate::specs::Image::kept_client_at, crate::specs::Image::kept_client_in))]
 fn kept_client_at(alloc: Global, bytes: &[u8], at: usize) -> Result<(ClientImage, usize), TakeError>
     ensures { Gives result (kept_client_at bytes.now at) }
 {
-    let (image, start) = client_at(alloc, bytes, at)?;
+    let format = format_of(bytes);
+    let (image, start) = client_at(format, alloc, bytes, at)?;
     let ClientImage { client, log } = image;
-    let (log, torn) = log_behind(alloc, bytes, start, log)?;
+    let (log, torn) = log_behind(format, alloc, bytes, start, log)?;
     Ok((ClientImage { client, log }, torn))
 }
 
-/// A server's image and the records behind it.
-#[tactic(auto, unfolding(crate::specs::Image::kept_server_at))]
+/// A server's image and the records behind it, in the format that the bytes tell.
+#[tactic(auto, unfolding(crate::specs::Image::kept_server_at, crate::specs::Image::kept_server_in))]
 fn kept_server_at(alloc: Global, bytes: &[u8], at: usize) -> Result<(ServerImage, usize), TakeError>
     ensures { Gives result (kept_server_at bytes.now at) }
 {
-    let (mut image, start) = server_at(alloc, bytes, at)?;
-    match take_until_end::<ServerRecord, ServerImage>(alloc, bytes, start, &mut image) {
-        Ok(torn) => Ok((image, torn)),
+    let format = format_of(bytes);
+    let (image, start) = server_at(format, alloc, bytes, at)?;
+    server_behind(format, alloc, bytes, start, image)
+}
+
+/// The server behind the records from the place on, and the place where a torn tail begins.
+fn server_behind(
+    format: Format,
+    alloc: Global,
+    bytes: &[u8],
+    start: usize,
+    image: ServerImage,
+) -> Result<(ServerImage, usize), TakeError>
+    ensures { Gives result (behind_records (server_records_at format) with_taken image bytes.now start) }
+{
+    let mut opened = Opened { format, image };
+    match take_until_end::<ServerRecord, Opened>(alloc, bytes, start, &mut opened) {
+        Ok(torn) => Ok((opened.image, torn)),
         Err(fault) => {
-            drop(image);
+            drop(opened);
             Err(fault)
         }
     }

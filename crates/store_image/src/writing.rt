@@ -10,6 +10,7 @@ ghost use Rattle.store_image.specs.Image.{IsKeptFor, IsKeptForServer, IsKeptWhol
 ghost use Rattle.store_image.specs.declared.image.TheConstants.{MAX_CLIENT_IMAGE, MAX_SERVER_IMAGE};
 
 use crate::appending::room_for;
+use crate::image::IMAGE_VERSION;
 use byte_fields::{put_u32, put_u64};
 use mod_log::{Entry, Log};
 use std::alloc::{AllocError, Global};
@@ -68,7 +69,7 @@ pub fn write_client(client: u8, log: &Log) -> Result<Vec<u8>, AllocError>
 {
     let alloc = log.tree().allocator();
     let mut out = Vec::from_slice(alloc, b"OSCI")?;
-    out.push(1)?;
+    out.push(IMAGE_VERSION)?;
     out.push(client)?;
     put_log(log, &mut out)?;
     Ok(out)
@@ -93,7 +94,7 @@ pub fn write_server(last: &[u64; 64], tree: &Tree) -> Result<Vec<u8>, AllocError
     ensures small { IfOk result (λ v. length v.items ≤ MAX_SERVER_IMAGE) }
 {
     let mut out = Vec::from_slice(tree.allocator(), b"OSSI")?;
-    out.push(1)?;
+    out.push(IMAGE_VERSION)?;
     put_numbers(last.as_slice(), &mut out)?;
     tree.spell_rows(&mut out)?;
     Ok(out)

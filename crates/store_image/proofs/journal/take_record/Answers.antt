@@ -8,4 +8,4 @@ pub take_note-requires : goal.take_note-requires
 take_note-requires c =
     let log = c.args.log.now in
     let note = c.in_ok-note.note in
-    follows log note ((framed_codec (note_codec log)).found c.args.bytes.now c.args.at (record_of note log) c.in_ok-note.next (λ i. omega (arith, c.type_inv.bytes i)) c.requires.within c.in_ok-note.ensures.read).1.0
+    follows c.args.format log note ((framed_codec (note_codec c.args.format log)).found c.args.bytes.now c.args.at (record_of note log) c.in_ok-note.next (λ i. omega (arith, c.type_inv.bytes i)) c.requires.within c.in_ok-note.ensures.read).1.0

@@ -4,11 +4,11 @@ use Rattle.store_image.specs.Records.{client_records_at}
 use Rattle.store_image.proofs.Records.{SoFar}
 use Rattle.store_image.proofs.journal.take_records.Given as goal
 
-abbrev pub invariant-loop-alloc : goal.invariant-loop-alloc
-invariant-loop-alloc l = record {
-  so_far : SoFar l.bytes (client_records_at l.fn.log l.bytes l.start) l.fn.log (length l.bytes) l.log l.at;
+abbrev pub invariant-loop-format : goal.invariant-loop-format
+invariant-loop-format l = record {
+  so_far : SoFar l.format l.bytes (client_records_at l.format l.fn.log l.bytes l.start) l.fn.log (length l.bytes) l.log l.at;
   ahead : l.ahead ≡ tree_of l.log;
 }
 
-abbrev pub decreases-loop-alloc : goal.decreases-loop-alloc
-decreases-loop-alloc l = length l.bytes - l.at
+abbrev pub decreases-loop-format : goal.decreases-loop-format
+decreases-loop-format l = length l.bytes - l.at

@@ -15,5 +15,5 @@ returns c =
     let some : 1 ≤ client = omega (arith, c.if-client-lt1.false) in
     let few : client ≤ 64 = omega (arith, c.if-client-gt64.false) in
     let later : last_of image client < last = omega (arith, last_at image client some, c.if-last-image.false) in
-    let read = taken_reads image c.args.bytes.now c.args.at client c.in_ok-client.middle last c.in_ok-last.start effects c.in_ok-effects.next c.in_ok-client.ensures some few c.in_ok-last.ensures later c.in_ok-effects.ensures.read in
+    let read = taken_reads c.args.format image c.args.bytes.now c.args.at client c.in_ok-client.middle last c.in_ok-last.start effects c.in_ok-effects.next c.in_ok-client.ensures some few c.in_ok-last.ensures later c.in_ok-effects.ensures.read in
     (made_taken client last effects, (read, ap (λ (tree : Volume). server_made (set image.last (client - 1) last) tree) c.in_ok-effects.ensures.applied))

@@ -8,7 +8,7 @@ use Rattle.store_image.proofs.reading.entries_from.Given as goal
 
 abbrev pub invariant-loop : goal.invariant-loop
 invariant-loop l = record {
-  so_far : SoFar next_entry_at with_entry l.bytes (each_at next_entry_at with_entry l.count l.fn.first l.bytes l.start) l.log.pending (l.count - l.counter) l.log l.at;
+  so_far : SoFar (next_entry_at l.format) with_entry l.bytes (each_at (next_entry_at l.format) with_entry l.count l.fn.first l.bytes l.start) l.log.pending (l.count - l.counter) l.log l.at;
   acked : l.log.acked ≡ l.fn.first.acked;
   base : l.log.base ≡ l.fn.first.base;
   is_log : IsLog l.log;
