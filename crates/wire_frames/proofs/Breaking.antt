@@ -209,7 +209,7 @@ broken_bodies = record {
 
 -- ---- what is left over
 
-left_again : (bytes : List ℕ) (m : Message) (place : ℕ) → is_sized bytes ≡ true → get_or bytes 4 0 ≡ 1 → get_or bytes 5 0 ≡ code_of (kind m) → get_or bytes 6 0 ≡ client_of m → client_rule (kind m) (client_of m) ≡ true
+left_again : (bytes : List ℕ) (m : Message) (place : ℕ) → is_sized bytes ≡ true → get_or bytes 4 0 ≡ 2 → get_or bytes 5 0 ≡ code_of (kind m) → get_or bytes 6 0 ≡ client_of m → client_rule (kind m) (client_of m) ≡ true
     → message_at (kind m) (client_of m) bytes 7 ≡ Ok (m, place) → place ≢ length bytes → frame_of bytes ≡ Err (Trailing place)
 unfolding frame_of
 left_again bytes m place is version code client fits read past = rw (is, version, code, kind_again (kind m), client, fits, read, ne_eqb place (length bytes) past) refl

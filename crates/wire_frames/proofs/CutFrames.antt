@@ -69,7 +69,7 @@ message_ends m bytes at next end stands nr small fits le lt =
 
 -- ---- frames
 
-pub fails_again : (bytes : List ℕ) (k : Kind) (c : ℕ) (place : ℕ) → is_sized bytes ≡ true → get_or bytes 4 0 ≡ 1 → get_or bytes 5 0 ≡ code_of k → get_or bytes 6 0 ≡ c → client_rule k c ≡ true → message_at k c bytes 7 ≡ Err place → frame_of bytes ≡ Err (BadField place)
+pub fails_again : (bytes : List ℕ) (k : Kind) (c : ℕ) (place : ℕ) → is_sized bytes ≡ true → get_or bytes 4 0 ≡ 2 → get_or bytes 5 0 ≡ code_of k → get_or bytes 6 0 ≡ c → client_rule k c ≡ true → message_at k c bytes 7 ≡ Err place → frame_of bytes ≡ Err (BadField place)
 unfolding frame_of
 fails_again bytes k c place is version code client fits read = rw (is, version, code, kind_again k, client, fits, read) refl
 
@@ -87,7 +87,7 @@ cut_frames m end valid low lt =
     let is : is_sized (take end whole) ≡ true = are_sized (take end whole) (record { low = omega (arith, short); high = omega (arith, short, frame_small m valid); told = told }) in
     let stands : Stands whole 7 (tail m) (length whole) = record { here = sym (ap (λ (x : List ℕ). tail m ++ x) (drop-length whole) ∙ append-nil (tail m)); next_is = omega arith; within = omega arith } in
     let read = message_ends m whole 7 (length whole) end stands valid.number_fits valid.number_small valid.body_fits (omega arith) (omega (arith, size, long)) in
-    let version : get_or (take end whole) 4 0 ≡ 1 = subst (λ (n : ℕ). get_or (take n whole) 4 0 ≡ 1) (sym seven) refl in
+    let version : get_or (take end whole) 4 0 ≡ 2 = subst (λ (n : ℕ). get_or (take n whole) 4 0 ≡ 2) (sym seven) refl in
     let code : get_or (take end whole) 5 0 ≡ code_of (kind m) = subst (λ (n : ℕ). get_or (take n whole) 5 0 ≡ code_of (kind m)) (sym seven) refl in
     let client : get_or (take end whole) 6 0 ≡ client_of m = subst (λ (n : ℕ). get_or (take n whole) 6 0 ≡ client_of m) (sym seven) refl in
     rw rest (fails_again (take end whole) (kind m) (client_of m) _ is version code client valid.client_fits read)

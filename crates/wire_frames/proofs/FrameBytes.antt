@@ -77,5 +77,5 @@ frame_is_bytes m valid =
     let rest : IsBytes behind = bytes_appended (digits w64 (number_of m)) (body m) (eight_are_bytes (number_of m)) (body_is_bytes m valid.body_fits) in
     let of_client : IsBytes (client_of m ∷ behind) = byte_before (client_of m) behind (client_is_byte (kind m) (client_of m) valid.client_fits) rest in
     let of_kind : IsBytes (code_of (kind m) ∷ client_of m ∷ behind) = byte_before (code_of (kind m)) (client_of m ∷ behind) (code_is_byte (kind m)) of_client in
-    let told : IsBytes (payload m) = byte_before 1 (code_of (kind m) ∷ client_of m ∷ behind) (omega arith) of_kind in
+    let told : IsBytes (payload m) = byte_before 2 (code_of (kind m) ∷ client_of m ∷ behind) (omega arith) of_kind in
     bytes_appended (digits w32 (length (payload m))) (payload m) (four_are_bytes (length (payload m))) told

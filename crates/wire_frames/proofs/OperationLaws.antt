@@ -19,7 +19,7 @@ use Rattle.tree_laws.proofs.CutParts.{bases_cut}
 use Rattle.tree_laws.proofs.SpelledBytes.{bases_are_bytes}
 use Rattle.mod_log.specs.declared.origin.Origin.{Origin}
 use Rattle.mod_log.specs.declared.sketched.SketchEffect.{SketchEffect}
-use Rattle.mod_log.specs.declared.sketched.SketchEffect.TheVariants.{Make, Put, Remove, Move}
+use Rattle.mod_log.specs.declared.sketched.SketchEffect.TheVariants.{Make, Put, Remove, Move, Mode}
 use Rattle.mod_log.specs.declared.sketching.SketchEntry.{SketchEntry}
 use Rattle.mod_log.specs.Origin.{origin}
 use Rattle.mod_log.specs.Sketched.{sketch_paths, sketches_touch}
@@ -39,6 +39,7 @@ touches_length (Make p) = omega arith
 touches_length (Put p s) = omega arith
 touches_length (Remove p) = omega arith
 touches_length (Move p q) = omega arith
+touches_length (Mode p exec) = omega arith
 
 all_touches_length : (es : List SketchEffect) → length (sketches_touch es) ≤ 2 * length es
 all_touches_length [] = omega arith

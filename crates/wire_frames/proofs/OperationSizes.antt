@@ -16,13 +16,13 @@ use Rattle.file_paths.specs.Spelling.{path}
 use Rattle.file_paths.proofs.Sizes.{path_size}
 use Rattle.cmd_capture.specs.Spelling.{command}
 use Rattle.tree_values.specs.Effects.{content_size}
-use Rattle.tree_values.specs.Spelling.{effect, effects, base, bases}
-use Rattle.tree_values.proofs.Sizes.{bases_size}
+use Rattle.tree_values.specs.Spelling.{bit, effect, effects, base, bases}
+use Rattle.tree_values.proofs.Sizes.{bases_size, mode_length}
 use Rattle.tree_values.specs.declared.node.Base.{Base}
 use Rattle.tree_values.specs.declared.node.Effect.{Effect}
 use Rattle.tree_values.specs.declared.node.Effect.TheVariants as plain
 use Rattle.mod_log.specs.declared.sketched.SketchEffect.{SketchEffect}
-use Rattle.mod_log.specs.declared.sketched.SketchEffect.TheVariants.{Make, Put, Remove, Move}
+use Rattle.mod_log.specs.declared.sketched.SketchEffect.TheVariants.{Make, Put, Remove, Move, Mode}
 use Rattle.mod_log.specs.declared.log.Entry.{Entry}
 use Rattle.mod_log.specs.declared.origin.Origin.{Origin}
 use Rattle.mod_log.specs.declared.sketching.SketchEntry.{SketchEntry}
@@ -78,6 +78,15 @@ sketched_is (plain.Remove p) (Move q onto) small is = absurd is
 sketched_is (plain.Move p to) (Make q) small is = absurd is
 sketched_is (plain.Move p to) (Put q s) small is = absurd is
 sketched_is (plain.Move p to) (Remove q) small is = absurd is
+sketched_is (plain.Mode p exec) (Mode q other) small is = λ i. length (5 ∷ (path (is.0 i) ++ bit (is.1 i)))
+sketched_is (plain.Make p) (Mode q other) small is = absurd is
+sketched_is (plain.Put p content) (Mode q other) small is = absurd is
+sketched_is (plain.Remove p) (Mode q other) small is = absurd is
+sketched_is (plain.Move p to) (Mode q other) small is = absurd is
+sketched_is (plain.Mode p exec) (Make q) small is = absurd is
+sketched_is (plain.Mode p exec) (Put q s) small is = absurd is
+sketched_is (plain.Mode p exec) (Remove q) small is = absurd is
+sketched_is (plain.Mode p exec) (Move q onto) small is = absurd is
 
 pub sketches_length : (es : List Effect) (ks : List SketchEffect) → AllByRecursion (λ e. content_size e ≤ max_file) es → AreSketchedAs es ks → length (sketch_effects ks) ≡ 4 + sum_by sketched_length es
 sketches_length es ks small are = omega (arith, length-append (digits w32 (length ks)) (flat_map sketch_effect ks), four_bytes (length ks), by es ks small are)
@@ -96,6 +105,7 @@ sketch_effect_size (Make p) fits = omega (arith, path_size p fits)
 sketch_effect_size (Put p s) fits = omega (arith, length-append (path p) (sketch_spelling s), path_size p fits.0, sketch_length max_file s fits.1, fits.1.count, fits.1.len)
 sketch_effect_size (Remove p) fits = omega (arith, path_size p fits)
 sketch_effect_size (Move p q) fits = omega (arith, length-append (path p) (path q), path_size p fits.0, path_size q fits.1)
+sketch_effect_size (Mode p exec) fits = omega (arith, mode_length p exec, path_size p fits)
 
 all_sketches_size : (ks : List SketchEffect) → AllByRecursion SketchEffectFits ks → length (flat_map sketch_effect ks) ≤ 5223 * length ks
 all_sketches_size [] fits = omega arith

@@ -93,7 +93,7 @@ body (messages.Malformed code offset) = code ∷ digits w32 offset
 
 -- the version of the format
 abbrev pub frame_version : ℕ
-frame_version = 1
+frame_version = 2
 
 -- what follows the length: version, kind, client, number and body
 abbrev pub payload : Message → List ℕ

@@ -7,7 +7,7 @@ ghost use Rattle.wire_frames.specs.Reading.{kind_of};
 use crate::message::{CLIENTS, Kind, Message};
 
 /// The version of the format, byte 4 of each frame.
-pub(crate) const FRAME_VERSION: u8 = 1;
+pub(crate) const FRAME_VERSION: u8 = 2;
 
 impl Kind {
     /// The kind with this code; `None` where there is none.

@@ -92,6 +92,8 @@ fn sketched_size(effect: &Effect) -> u64
             let blocks = content.bytes().len().div_ceil(BLOCK) as u64;
             1 + path.size() + SKETCH_HEAD + PARITY_BYTES * blocks
         }
-        Effect::Make(_) | Effect::Remove(_) | Effect::Move(_, _) => effect.size(),
+        Effect::Make(_) | Effect::Remove(_) | Effect::Move(_, _) | Effect::Mode(_, _) => {
+            effect.size()
+        }
     }
 }

@@ -26,6 +26,6 @@ pub use laws::{
 pub use lengths::{operation_size, store_size};
 pub use message::{CLIENTS, FrameError, Kind, MAX_FRAME, Message};
 pub use reading::read;
-pub use refused::malformed;
+pub use refused::{malformed, not_for_this_node};
 pub use replies::echoes;
 pub use writing::write;

@@ -22,3 +22,11 @@ pub fn malformed(refusal: &FrameError) -> Message
     };
     Message::Malformed { code, offset }
 }
+
+/// What is answered to a message that is not for the node that it came to.
+pub fn not_for_this_node() -> Message
+    ensures reply { result ≡ Message.Malformed 7 0 }
+    ensures valid { IsValid result }
+{
+    Message::Malformed { code: 7, offset: 0 }
+}

@@ -105,7 +105,7 @@ fn rows_room(rows: &[Row]) -> usize {
     let mut room = SHORT_FRAME;
     for row in rows {
         let content = match &row.node {
-            Some(Node::File(content)) => content.bytes().len(),
+            Some(Node::File { content, .. }) => content.bytes().len(),
             Some(Node::Folder) | None => 0,
         };
         room = room.saturating_add(ROW_ROOM).saturating_add(content);

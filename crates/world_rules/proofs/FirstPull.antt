@@ -7,7 +7,7 @@ use Rattle.wire_frames.specs.Frame.{IsValid, Spells}
 use Rattle.world_rules.specs.declared.asking.Peer.TheVariants.{Server}
 use Rattle.world_rules.specs.Asking.{IsRequest}
 
-pub first_pull : (request : Message) × Spells request (0 ∷ 0 ∷ 0 ∷ 11 ∷ 1 ∷ 3 ∷ 1 ∷ 0 ∷ 0 ∷ 0 ∷ 0 ∷ 0 ∷ 0 ∷ 0 ∷ 0 ∷ []) × IsRequest Server request
+pub first_pull : (request : Message) × Spells request (0 ∷ 0 ∷ 0 ∷ 11 ∷ 2 ∷ 3 ∷ 1 ∷ 0 ∷ 0 ∷ 0 ∷ 0 ∷ 0 ∷ 0 ∷ 0 ∷ 0 ∷ []) × IsRequest Server request
 unfolding digits
 first_pull =
     let valid : IsValid (Pull 1 0) = record { client_fits = refl; number_fits = refl; number_small = omega arith; body_fits = tt } in

@@ -8,7 +8,7 @@ use Rattle.file_paths.specs.Refusals.{when, unless_refused}
 use Rattle.tree_values.specs.declared.node.Row.{Row}
 use Rattle.tree_values.specs.declared.node.Base.{Base}
 use Rattle.tree_values.specs.declared.node.Effect.{Effect}
-use Rattle.tree_values.specs.declared.node.Effect.TheVariants.{Make, Put, Remove, Move}
+use Rattle.tree_values.specs.declared.node.Effect.TheVariants.{Make, Put, Remove, Move, Mode}
 use Rattle.tree_values.specs.declared.node.TreeError.{TreeError}
 use Rattle.tree_values.specs.declared.node.TreeError.TheVariants.{NotEmpty}
 use Rattle.tree_values.specs.Tree.{Volume, IsRow, IsTree, version_at, is_child, refusals, apply, changed, IsLegalEffect}
@@ -129,6 +129,19 @@ refusals-tell (Move p q) rows fits tree = (
             ),
           ),
         ),
+      ),
+    ),
+  ),
+)
+refusals-tell (Mode p exec) rows fits tree = (
+  tells_when _ _ (inr (refl, tt)),
+  (
+    tells_when _ _ (inr (refl, fits.0)),
+    (
+      tells_when _ _ (inr (refl, fits.0)),
+      (
+        tells_when _ _ (inr (refl, fits.0)),
+        tt,
       ),
     ),
   ),
