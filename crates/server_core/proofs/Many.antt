@@ -10,7 +10,7 @@ use Rattle.std.proofs.lemmas.List.Sums.{sum_by-append}
 use Rattle.file_paths.specs.Path.{FilePath, is_same_path}
 use Rattle.tree_values.specs.declared.node.Base.{Base}
 use Rattle.tree_values.specs.declared.node.Effect.{Effect}
-use Rattle.tree_values.specs.declared.node.Effect.TheVariants.{Make, Put, Remove, Move}
+use Rattle.tree_values.specs.declared.node.Effect.TheVariants.{Make, Put, Remove, Move, Mode}
 use Rattle.tree_values.specs.declared.node.Node.{Node}
 use Rattle.tree_values.specs.declared.node.TreeError.{TreeError}
 use Rattle.tree_values.specs.Tree.{Volume, version_at, node_at, touched, touched_paths, changed}
@@ -171,6 +171,7 @@ version-changed (Move p q) volume path =
     let first = version-one path q volume (node_at volume p) in
     let both = counted-append path (p ∷ []) (q ∷ []) in
     omega (arith, last, first, both)
+version-changed (Mode p exec) volume path = version-one path p volume _
 
 -- a path's version after effects
 pub version-changed_all : (effects : List Effect) (volume : Volume) (path : FilePath) → version_at (changed_all effects volume) path ≡ version_at volume path + counted path (touched_all effects)

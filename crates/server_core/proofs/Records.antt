@@ -35,7 +35,7 @@ count_of image [] = refl
 count_of image (note ∷ notes) = count_of (with_taken image note) notes ∙ length-set image.last (note.client - 1) note.last
 
 count_is : (image : ServerImage) (bytes : List ℕ) → IsKeptWholeForServer image bytes → length image.last ≡ 64
-count_is image bytes whole = ap (λ (i : ServerImage). length i.last) whole.leads ∙ count_of whole.first whole.notes ∙ whole.fits.count
+count_is image bytes whole = ap (λ (i : ServerImage). length i.last) whole.leads ∙ count_of whole.first whole.notes ∙ whole.fits.fits.count
 
 module _ (before after : Served) (note : ServerRecord) (leads : Leads note before after) (image : ServerImage) (serves : served (holding_of image) ≡ before) where
   rows : image.tree ≡ before.volume

@@ -19,7 +19,7 @@ use std::alloc::{AllocError, Global};
 use std::marker::Model;
 use store_image::{ServerImage, ServerRecord, write_server};
 use vol_tree::{ApplyAllError, Base, Bases, Effects, Tree, TreeError, TryCopy, apply_all};
-use wire_frames::{FrameError, Message, malformed, read, write};
+use wire_frames::{FrameError, Message, malformed, not_for_this_node, read, write};
 
 /// The volume, and for each of the clients 1 to 64 the number of its last accepted entry.
 #[derive(Drop)]
@@ -113,7 +113,7 @@ impl Server {
             Message::Pull { client, number } => self.snapshot(*client, *number),
             _ => {
                 let _ = &self.tree;
-                Ok(Message::Malformed { code: 7, offset: 0 })
+                Ok(not_for_this_node())
             }
         }
     }
