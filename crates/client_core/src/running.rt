@@ -11,7 +11,7 @@ ghost use Rattle.work_area.specs.Outcomes.{IsRowsFault};
 ghost use Rattle.mod_log.specs.Log.{IsLog, tree_of};
 ghost use Rattle.client_core.specs.Running.{RunsCommand, IsLoggable, changes_of, has_logged};
 ghost use Rattle.client_core.specs.Inside.{ran, RanEnds, IsToLog, IsUnlogged, unrun_end, jobless_end, odd_end};
-ghost use Rattle.cmd_capture.specs.Runs.{telling};
+ghost use Rattle.cmd_capture.specs.Runs.{telling, IsAskedOnce, IsAskedAtMostOnce};
 ghost use Rattle.client_core.specs.Keeping.{IsReady};
 
 use crate::Client;
@@ -46,7 +46,8 @@ impl Client {
     /// Has the runner run a command's job on the client's tree, in a folder of its own in the folder `work`, and logs what the run
     /// changed as one entry that tells the command, the print of the job and the status.
     ///
-    /// The runner is asked once, where there is a job, and for just this job.
+    /// The runner is asked once, where there is a job, and for just this job; else it is not asked. A call in which memory ran out is not
+    /// made again.
     pub fn run_command<R: Runner>(
         &mut self,
         command: Command,
@@ -64,6 +65,7 @@ impl Client {
         ensures ready { (images : Option Images) (name : List ℕ) → IsReady images name self.old → IsReady images name self.new }
         // the runner failed once where it ends so, and else never
         ensures faults { RisesWhere (result ≡ RunEnd.NotRun) (R.faults runner.old) (R.faults runner.new) }
+        ensures asked { IsAskedAtMostOnce (R.calls runner.old) (R.calls runner.new) }
     {
         let tree = self.log.tree();
         let job = match job_of(tree.allocator(), tree, &command) {
@@ -104,6 +106,7 @@ fn run_job<R: Runner>(
         (telling (R.runs runner.old) (R.faults runner.old)) (telling (R.runs runner.new) (R.faults runner.new)) }
     ensures log { IsLog log.new }
     ensures faults { RisesWhere (result ≡ RunEnd.NotRun) (R.faults runner.old) (R.faults runner.new) }
+    ensures asked { IsAskedOnce (R.calls runner.old) (R.calls runner.new) }
 {
     match runner.run(work, job) {
         Ok(outcome) => {
