@@ -13,7 +13,7 @@ ghost use Rattle.surrogate_core.specs.declared.machine.State.TheVariants as stat
 ghost use Rattle.surrogate_core.specs.Handling.{Idle, Fetching, IsAsking, idle, copy_before, declining, job_for};
 ghost use Rattle.surrogate_core.specs.Handling.{closed, refusal_kind, Tries, Operates, AfterJob, Expects, HandlesReply};
 ghost use Rattle.surrogate_core.specs.Handling.{IsSilenced, IsFitStep};
-ghost use Rattle.cmd_capture.specs.Runs.{telling};
+ghost use Rattle.cmd_capture.specs.Runs.{telling, IsAskedOnce, IsAskedAtMostOnce};
 ghost use Rattle.surrogate_core.specs.Serving.{Steps, failed_cause, failed_step};
 ghost use Rattle.surrogate_core.specs.Inside.{IsSound, IsConcluded, Starves, reaction_of, operation_in, snapshot_rows};
 
@@ -25,7 +25,7 @@ use std::alloc::{AllocError, Global};
 use std::marker::Model;
 use std::mem;
 use vol_tree::{Rows, Tree, Undo, undo_all};
-use wire_frames::{Cause, Message};
+use wire_frames::{Cause, Message, not_for_this_node};
 
 /// What the surrogate waits for.
 #[derive(Drop)]
@@ -87,7 +87,7 @@ impl Surrogate {
         self.alloc
     }
 
-    /// Begins to handle an operation. Any other message is malformed.
+    /// Begins to handle an operation, for which the runner is asked once at most. Any other message is malformed.
     pub fn on_operate<R: Runner>(&mut self, request: Message, work: &[u8], runner: &mut R) -> Step
         requires idle { self.old.phase ≡ Idle }
         requires valid { IsValid request }
@@ -97,14 +97,15 @@ impl Surrogate {
         })
             (telling (R.runs runner.old) (R.faults runner.old)) (telling (R.runs runner.new) (R.faults runner.new)) }
         ensures sent { IsFitStep result }
+        ensures asked { IsAskedAtMostOnce (R.calls runner.old) (R.calls runner.new) }
     {
         match operation(request) {
             Some((client, sketched)) => self.try_on(false, client, sketched, work, runner),
-            None => Step::Answer(Message::Malformed { code: 7, offset: 0 }),
+            None => Step::Answer(not_for_this_node()),
         }
     }
 
-    /// Goes on with the server's reply.
+    /// Goes on with the server's reply. The runner is asked once at most.
     pub fn on_server<R: Runner>(&mut self, reply: Message, work: &[u8], runner: &mut R) -> Step
         requires { Expects self.old.phase reply }
         ensures steps { Steps (HandlesReply self.old.phase self.old.copy reply work.now) (record {
@@ -113,6 +114,7 @@ impl Surrogate {
         })
             (telling (R.runs runner.old) (R.faults runner.old)) (telling (R.runs runner.new) (R.faults runner.new)) }
         ensures sent { IsFitStep result }
+        ensures asked { IsAskedAtMostOnce (R.calls runner.old) (R.calls runner.new) }
     {
         match mem::replace(&mut self.state, State::Idle) {
             State::Idle => Step::Answer(reply),
@@ -185,6 +187,7 @@ impl Surrogate {
             }) (telling (R.runs runner.old) (R.faults runner.old))
             (telling (R.runs runner.new) (R.faults runner.new)) }
         ensures sent { IsFitStep result }
+        ensures asked { IsAskedAtMostOnce (R.calls runner.old) (R.calls runner.new) }
     {
         let number = sketched.seq;
         let Some(rows) = snapshot_rows(reply) else {
@@ -219,6 +222,7 @@ impl Surrogate {
         })
             (telling (R.runs runner.old) (R.faults runner.old)) (telling (R.runs runner.new) (R.faults runner.new)) }
         ensures sent { IsFitStep result }
+        ensures asked { IsAskedAtMostOnce (R.calls runner.old) (R.calls runner.new) }
     {
         let number = sketched.seq;
         match advance(
@@ -272,6 +276,7 @@ fn advance<R: Runner>(
     ensures err { OnErr result (Starves work.now (job_for copy.old sketched) (telling (R.runs runner.old) (R.faults runner.old))
         (telling (R.runs runner.new) (R.faults runner.new))) }
     ensures unchanged { OnErr result (copy.new ≡ copy.old) }
+    ensures asked { IsAskedAtMostOnce (R.calls runner.old) (R.calls runner.new) }
 {
     match prepare(alloc, copy, &sketched) {
         Ok(Ok(job)) => perform(alloc, copy, client, sketched, job, work, runner),
@@ -329,6 +334,7 @@ fn perform<R: Runner>(
     ensures err { OnErr result (Starves work.now (Ok job) (telling (R.runs runner.old) (R.faults runner.old))
         (telling (R.runs runner.new) (R.faults runner.new))) }
     ensures unchanged { OnErr result (copy.new ≡ copy.old) }
+    ensures asked { IsAskedOnce (R.calls runner.old) (R.calls runner.new) }
 {
     match runner.run(work, &job) {
         Ok(outcome) => {
