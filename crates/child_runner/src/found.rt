@@ -11,6 +11,9 @@ use std::alloc::Global;
 use std::marker::Model;
 use tree_values::{MAX_FILES, MAX_ROWS, Node};
 
+/// The right of a file's owner to run it: that is what it is for a file to have its bit.
+pub(crate) const OWNER_RUNS: u32 = 0o100;
+
 /// What is told of a folder with more rows, and of one with more bytes.
 pub(crate) const TOO_MANY_ROWS: &str = "more than 16,384 files and folders";
 
@@ -70,13 +73,18 @@ impl Found {
         self.add(path, Node::Folder, 0)
     }
 
-    /// Adds a file.
-    pub(crate) fn add_file(&mut self, path: Content, content: Content) -> Result<(), Trouble>
+    /// Adds a file, which may be run or not.
+    pub(crate) fn add_file(
+        &mut self,
+        path: Content,
+        content: Content,
+        exec: bool,
+    ) -> Result<(), Trouble>
         ensures one { OnOk result (length self.new ≡ length self.old + 1) }
         ensures few { OnOk result (length self.new ≤ max_rows) }
     {
         let size = content.bytes().len();
-        self.add(path, Node::File(content), size)
+        self.add(path, Node::File { content, exec }, size)
     }
 
     /// Adds what stands at the path, where there is room.

@@ -10,7 +10,7 @@ use std::os::unix::fs::{MetadataExt, PermissionsExt};
 const READING_RIGHTS: u32 = 0o600;
 
 /// All rights that a file can have.
-const ALL_RIGHTS: u32 = 0o7777;
+pub(crate) const ALL_RIGHTS: u32 = 0o7777;
 
 /// The system's number of the error that a program which runs is not to be written.
 const IS_RUN: i32 = 26;

@@ -3,7 +3,7 @@ ghost use Rattle.std.specs.Prelude.{◌≡◌, ◌≤◌, ◌+◌, length, IfOk,
 ghost use Rattle.tree_values.specs.Limits.{max_rows};
 ghost use Rattle.child_runner.specs.Found.{IsSmall};
 
-use crate::found::{Found, TOO_MANY_BYTES, TOO_MANY_ROWS};
+use crate::found::{Found, OWNER_RUNS, TOO_MANY_BYTES, TOO_MANY_ROWS};
 use crate::limits::Watch;
 use crate::opening::open_seen;
 use crate::texts::{path_in, place_in};
@@ -85,7 +85,8 @@ impl<'a, R: Files<File = File> + AllocGlobal + Clock> Reading<'a, R> {
             return Err(Trouble::Told(TOO_MANY_BYTES));
         }
         let content = self.read_content(place.as_str(), path, &seen, found.bytes_left())?;
-        found.add_file(Content::of(alloc, path.as_bytes())?, content)
+        let exec = seen.mode() & OWNER_RUNS != 0;
+        found.add_file(Content::of(alloc, path.as_bytes())?, content, exec)
     }
 
     /// Reads the file that was seen, as far as there is room and one byte more.

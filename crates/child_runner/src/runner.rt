@@ -3,7 +3,7 @@ ghost use Rattle.std.specs.Prelude.{◌≡◌, None, Some, option_map, List, IfO
 ghost use Rattle.std.specs.Duration.{as_nanos};
 ghost use Rattle.outside.specs.Outside.{Told, CountsFault, RisesWhere};
 ghost use Rattle.cmd_capture.specs.declared.runner.Run.{Run};
-ghost use Rattle.cmd_capture.specs.Runs.{AddsRun};
+ghost use Rattle.cmd_capture.specs.Runs.{AddsRun, IsAskedOnce};
 ghost use Rattle.child_runner.specs.Found.{IsSmall};
 ghost use Rattle.child_runner.specs.Waiting.{reading_nanos};
 
@@ -14,7 +14,7 @@ use crate::places::Place;
 use crate::reading::Reading;
 use crate::starting::{Care, run_there};
 use crate::texts::text_of;
-use crate::trouble::{Trouble, count_fault};
+use crate::trouble::{Trouble, count};
 use crate::writing::write_rows;
 use cmd_capture::{Job, Outcome, RunError, Runner, job_print};
 use std::alloc::AllocGlobal;
@@ -32,6 +32,7 @@ pub struct ChildRunner<'a, R: Files<File = File> + Processes + AllocGlobal + Clo
     limits: Limits,
     care: Care,
     faults: u64,
+    calls: u64,
 }
 
 impl<'a, R: Files<File = File> + Processes + AllocGlobal + Clock + Eprint> ChildRunner<'a, R> {
@@ -48,6 +49,7 @@ impl<'a, R: Files<File = File> + Processes + AllocGlobal + Clock + Eprint> Child
             limits: Limits::of_client(),
             care: Care::Shown,
             faults: 0,
+            calls: 0,
         }
     }
 
@@ -64,6 +66,7 @@ impl<'a, R: Files<File = File> + Processes + AllocGlobal + Clock + Eprint> Child
             limits: Limits::of_surrogate(longest),
             care: Care::Alone(Groups::find(host)),
             faults: 0,
+            calls: 0,
         }
     }
 
@@ -96,6 +99,7 @@ impl<'a, R: Files<File = File> + Processes + AllocGlobal + Clock + Eprint> Child
     /// Tells of the trouble, and counts it unless memory ran out.
     fn failed(&mut self, what: &str, trouble: Trouble) -> RunError
         ensures cause { RisesWhere (result ≡ RunError.Failed) self.old.faults self.new.faults }
+        ensures calls { self.new.calls ≡ self.old.calls }
     {
         let error = match &trouble {
             Trouble::Memory => RunError::Memory,
@@ -104,7 +108,7 @@ impl<'a, R: Files<File = File> + Processes + AllocGlobal + Clock + Eprint> Child
             | Trouble::Told(_)
             | Trouble::Long { .. } => {
                 let _ = eprintln!(self.host; "{}: {what}: {trouble}", self.program);
-                count_fault(&mut self.faults);
+                count(&mut self.faults);
                 RunError::Failed
             }
         };
@@ -178,12 +182,16 @@ impl<'a, R: Files<File = File> + Processes + AllocGlobal + Clock + Eprint> Runne
 
     ghost faults = { λ runner. runner.faults };
 
+    ghost calls = { λ runner. runner.calls };
+
     fn run(&mut self, work: &[u8], job: &Job) -> Result<Outcome, RunError>
         ensures runs { Told {A = List Run} None None (AddsRun work.now job.now result) }
         ensures cause { CountsFault RunError.Failed self.old.faults self.new.faults result }
+        ensures called { IsAskedOnce self.old.calls self.new.calls }
 
         ensures small { IfOk result (λ outcome. IsSmall outcome.rows) }
     {
+        count(&mut self.calls);
         match self.run_placed(work, job) {
             Ok(outcome) => Ok(outcome),
             Err(trouble) => Err(self.failed("not run", trouble)),

@@ -94,10 +94,10 @@ pub(crate) fn answered<T>(
     }
 }
 
-/// Counts a call that failed. The count stands still at the end of its type.
-pub(crate) fn count_fault(faults: &mut u64)
-    ensures raised { faults.new ≡ raised 1 faults.old }
-    ensures later { faults.old ≤ faults.new }
+/// Counts one more. The count stands still at the end of its type.
+pub(crate) fn count(many: &mut u64)
+    ensures raised { many.new ≡ raised 1 many.old }
+    ensures later { many.old ≤ many.new }
 {
-    *faults = faults.saturating_add(1);
+    *many = many.saturating_add(1);
 }

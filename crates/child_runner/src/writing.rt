@@ -1,14 +1,17 @@
-// The rows of a job, written down, each with the same time of change.
+// The rows of a job, written down, each with the same time of change. Who may run a file is its owner, or nobody.
 ghost use Rattle.std.specs.Prelude.{◌≡◌, Some, IfSome};
 ghost use Rattle.std.specs.Time.{system_time_nanos};
 ghost use Rattle.child_runner.specs.Waiting.{input_nanos};
 
+use crate::found::OWNER_RUNS;
+use crate::opening::ALL_RIGHTS;
 use crate::texts::{place_in, text_of};
 use crate::trouble::{Trouble, answered, refused};
 use cmd_capture::JobRow;
 use std::alloc::AllocGlobal;
-use std::fs::{self, File, Files};
+use std::fs::{self, File, Files, Permissions};
 use std::io::{self, Write};
+use std::os::unix::fs::{MetadataExt, PermissionsExt};
 use std::time::{Duration, SystemTime, UNIX_EPOCH};
 use tree_values::Node;
 
@@ -41,16 +44,30 @@ fn write_row<R: Files<File = File> + AllocGlobal>(
     let place = place_in(host.alloc(), folder, path)?;
     let written = match &row.node {
         Node::Folder => fs::create_dir(host, place.as_str()),
-        Node::File(content) => write_file(host, place.as_str(), content.bytes()),
+        Node::File { content, exec } => write_file(host, place.as_str(), content.bytes(), *exec),
     };
     answered(host.alloc(), "make", path, written)
 }
 
-/// Writes a file that was not there.
-fn write_file<R: Files<File = File>>(host: &R, place: &str, bytes: &[u8]) -> io::Result<()> {
+/// Writes a file that was not there, which may be run or not.
+fn write_file<R: Files<File = File>>(
+    host: &R,
+    place: &str,
+    bytes: &[u8],
+    exec: bool,
+) -> io::Result<()> {
     let mut file = File::create_new(host, place)?;
     file.write_all(bytes)?;
+    if exec {
+        allow_running(&file)?;
+    }
     file.set_modified(input_time())
+}
+
+/// Lets the file's owner run it. Its other rights stay as it was made with, where nobody may run it.
+fn allow_running(file: &File) -> io::Result<()> {
+    let rights = file.metadata()?.mode() & ALL_RIGHTS;
+    file.set_permissions(Permissions::from_mode(rights | OWNER_RUNS))
 }
 
 /// Gives the row its time, where it is a folder.
@@ -69,7 +86,7 @@ fn date_folder<R: Files<File = File> + AllocGlobal>(
                 Err(error) => Err(refused(host.alloc(), "date", path, error)),
             }
         }
-        Node::File(_) => Ok(()),
+        Node::File { .. } => Ok(()),
     }
 }
 
