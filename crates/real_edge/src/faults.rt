@@ -1,3 +1,4 @@
+// Counts of calls that failed.
 ghost use Rattle.std.specs.Prelude.{◌≡◌, ◌≤◌};
 ghost use Rattle.outside.specs.Outside.{raised};
 
