@@ -64,17 +64,17 @@ NotPending answer = LeavesPending (Some answer) → ⊥
 shown_quiet : (path : FilePath) (found : Option Node) → NotPending (shown path found)
 shown_quiet path None leaves = leaves
 shown_quiet path (Some nodes.Folder) leaves = leaves
-shown_quiet path (Some (nodes.File content)) leaves = leaves
+shown_quiet path (Some (nodes.File content exec)) leaves = leaves
 
 listed_quiet : (tree : Volume) (path : FilePath) (found : Option Node) → NotPending (listed tree path found)
 listed_quiet tree path None leaves = leaves
 listed_quiet tree path (Some nodes.Folder) leaves = leaves
-listed_quiet tree path (Some (nodes.File content)) leaves = leaves
+listed_quiet tree path (Some (nodes.File content exec)) leaves = leaves
 
 entered_quiet : (path : FilePath) (found : Option Node) → NotPending (entered path found)
 entered_quiet path None leaves = leaves
 entered_quiet path (Some nodes.Folder) leaves = leaves
-entered_quiet path (Some (nodes.File content)) leaves = leaves
+entered_quiet path (Some (nodes.File content exec)) leaves = leaves
 
 about_quiet : (found : Result FilePath PathError) (answer : FilePath → LineAnswer) → ((path : FilePath) → NotPending (answer path)) → NotPending (about found answer)
 about_quiet (Ok path) answer quiet leaves = quiet path leaves

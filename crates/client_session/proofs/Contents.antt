@@ -21,7 +21,7 @@ use Rattle.cmd_capture.specs.Rows.{read_row, read_rows}
 use Rattle.cmd_capture.specs.declared.job.JobRow.{JobRow}
 use Rattle.cmd_capture.specs.declared.job.RawRow.{RawRow}
 use Rattle.cmd_capture.specs.declared.runner.Run.{Run}
-use Rattle.work_area.specs.Changes.{is_gone, is_new, removal_of, made, making, makings_of, changes}
+use Rattle.work_area.specs.Changes.{is_gone, is_new, is_moded, removal_of, made, making, making_of, moding, mode_of, makings_of, changes}
 use Rattle.mod_log.specs.declared.log.Entry.{Entry}
 use Rattle.mod_log.specs.declared.log.LogError.{LogError}
 use Rattle.mod_log.specs.Log.{Log}
@@ -45,7 +45,7 @@ use Rattle.shell_lang.specs.declared.line.Line.TheVariants as lines
 use Rattle.shell_lang.specs.declared.line.LineError.{LineError}
 use Rattle.shell_lang.specs.declared.answer.LineAnswer.{LineAnswer}
 use Rattle.client_session.specs.Session.{SessionState, put_effect, make_effect, remove_effect, move_effect, LogTurn, CommandTurn, LineTurn, Chain, BreaksCommand, BreaksOff, Broken, BreaksChain}
-use Rattle.client_session.specs.Contents.{IsOfRuns, IsOfTheRun, HasContent, IsOfPackets, DistinctContentsDoNotCollide, BrokenSessionsDoNotCollide}
+use Rattle.client_session.specs.Contents.{IsFileOf, IsOfRuns, IsOfTheRun, HasContent, IsOfPackets, DistinctContentsDoNotCollide, BrokenSessionsDoNotCollide}
 use Rattle.client_core.proofs.Truths.{acknowledges_none}
 
 -- ---- lists that are made of others
@@ -78,20 +78,31 @@ removal_puts_none after row path content is = by (is_gone after row) is
     by true is = absurd (cc)
     by false is = absurd (cc)
 
-made_is_left : (at path : FilePath) (node : Node) (content : List ℕ) → Put path content ≡ made at node → node ≡ File content
+made_is_left : (at path : FilePath) (node : Node) (content : List ℕ) → Put path content ≡ made at node → IsFileOf content (Some node)
 made_is_left at path Folder content is = absurd (cc)
-made_is_left at path (File other) content is = cc
+made_is_left at path (File other exec) content is = let same : other ≡ content = cc in (exec, ap (λ c. Some (File c exec)) same)
 
-making_is_left : (before : List JobRow) (row : JobRow) (path : FilePath) (content : List ℕ) → IsIn (Put path content) (makings_of before row) → row.node ≡ File content
-making_is_left before row path content among = by (is_new before row) among
+-- nor does a change of mode
+mode_puts_none : (before : List JobRow) (row : JobRow) (path : FilePath) (content : List ℕ) → IsIn (Put path content) (option_to_list (mode_of before row)) → ⊥
+mode_puts_none before row path content among = by (is_moded before row) among
   where
-    by : (b : Bool) → IsIn (Put path content) (option_to_list (if b then Some (making row) else None)) → row.node ≡ File content
+    by : (b : Bool) → IsIn (Put path content) (option_to_list (if b then Some (moding row) else None)) → ⊥
+    by true (inl is) = absurd (cc)
+    by true (inr never) = never
+    by false never = never
+
+making_is_left : (before : List JobRow) (row : JobRow) (path : FilePath) (content : List ℕ) → IsIn (Put path content) (makings_of before row) → IsFileOf content (Some row.node)
+making_is_left before row path content among =
+    ⊎_elim (by (is_new before row)) (λ moded. absurd (mode_puts_none before row path content moded))
+    (in_either (Put path content) (option_to_list (making_of before row)) (option_to_list (mode_of before row)) among)
+  where
+    by : (b : Bool) → IsIn (Put path content) (option_to_list (if b then Some (making row) else None)) → IsFileOf content (Some row.node)
     by true (inl is) = made_is_left row.path path row.node content is
     by true (inr never) = absurd never
     by false never = absurd never
 
 -- the content that a change list puts is that of a file that is left
-put_is_left : (before after : List JobRow) (path : FilePath) (content : List ℕ) → IsIn (Put path content) (changes before after) → (row : JobRow) × IsIn row after × (row.node ≡ File content)
+put_is_left : (before after : List JobRow) (path : FilePath) (content : List ℕ) → IsIn (Put path content) (changes before after) → (row : JobRow) × IsIn row after × IsFileOf content (Some row.node)
 put_is_left before after path content among =
     ⊎_elim
     (λ removed. let found = in_filter_map (removal_of after) (reverse before) (Put path content) removed in absurd (removal_puts_none after found.0 path content found.2))
@@ -111,7 +122,7 @@ run_writes : (run : Run) (content : List ℕ) → WritesContent (changes_of run)
 run_writes run content writes =
     let put = put_is_left run.job.rows (read_rows run.outcome.rows) writes.0 content writes.1 in
     let read = in_filter_map read_row run.outcome.rows put.0 put.1 in
-    (run, read.0, inl refl, read.1, read_node read.0 put.0 read.2 ∙ put.2)
+    (run, read.0, inl refl, read.1, (put.2.0, ap Some (read_node read.0 put.0 read.2) ∙ put.2.1))
 
 -- ---- what the entries of a trace write
 

@@ -94,17 +94,17 @@ IsOther answer = is_unrun answer ≡ false
 shown_other : (path : FilePath) (found : Option Node) → IsOther (Some (shown path found))
 shown_other path None = refl
 shown_other path (Some nodes.Folder) = refl
-shown_other path (Some (nodes.File content)) = refl
+shown_other path (Some (nodes.File content exec)) = refl
 
 listed_other : (tree : Volume) (path : FilePath) (found : Option Node) → IsOther (Some (listed tree path found))
 listed_other tree path None = refl
 listed_other tree path (Some nodes.Folder) = refl
-listed_other tree path (Some (nodes.File content)) = refl
+listed_other tree path (Some (nodes.File content exec)) = refl
 
 entered_other : (path : FilePath) (found : Option Node) → IsOther (Some (entered path found))
 entered_other path None = refl
 entered_other path (Some nodes.Folder) = refl
-entered_other path (Some (nodes.File content)) = refl
+entered_other path (Some (nodes.File content exec)) = refl
 
 about_other : (found : Result FilePath PathError) (answer : FilePath → LineAnswer) → ((path : FilePath) → IsOther (Some (answer path))) → IsOther (Some (about found answer))
 about_other (Ok path) answer other = other path

@@ -67,17 +67,17 @@ NoPull answer = IsFailedPull (Some answer) → ⊥
 shown_other : (path : FilePath) (found : Option Node) → NoPull (shown path found)
 shown_other path None refused = refused
 shown_other path (Some nodes.Folder) refused = refused
-shown_other path (Some (nodes.File content)) refused = refused
+shown_other path (Some (nodes.File content exec)) refused = refused
 
 listed_other : (tree : Volume) (path : FilePath) (found : Option Node) → NoPull (listed tree path found)
 listed_other tree path None refused = refused
 listed_other tree path (Some nodes.Folder) refused = refused
-listed_other tree path (Some (nodes.File content)) refused = refused
+listed_other tree path (Some (nodes.File content exec)) refused = refused
 
 entered_other : (path : FilePath) (found : Option Node) → NoPull (entered path found)
 entered_other path None refused = refused
 entered_other path (Some nodes.Folder) refused = refused
-entered_other path (Some (nodes.File content)) refused = refused
+entered_other path (Some (nodes.File content exec)) refused = refused
 
 about_other : (found : Result FilePath PathError) (answer : FilePath → LineAnswer) → ((path : FilePath) → NoPull (answer path)) → NoPull (about found answer)
 about_other (Ok path) answer other refused = other path refused

@@ -1,7 +1,8 @@
 -- The contents of a session and of the packets. Where no two of these are taken for one another, none that is shipped is.
-use Rattle.std.specs.Prelude.{◌≡◌, ◌⊎◌, ℕ, List, ◌++◌, Option, Some, Result, Ok}
+use Rattle.std.specs.Prelude.{◌≡◌, ◌⊎◌, ℕ, Bool, List, ◌++◌, Option, Some, Result, Ok}
 use Rattle.rs_parity.specs.Sketches.{Distinct}
 use Rattle.tree_values.specs.Lists.{IsIn}
+use Rattle.tree_values.specs.declared.node.Node.{Node}
 use Rattle.tree_values.specs.declared.node.Node.TheVariants.{File}
 use Rattle.tree_values.specs.declared.node.Row.{Row}
 use Rattle.cmd_capture.specs.declared.job.RawRow.{RawRow}
@@ -29,9 +30,13 @@ IsOfEntries entries content = (entry : Entry) × IsIn entry entries × WritesCon
 abbrev pub IsOfLines : List (Result Line LineError) → List ℕ → Type 0
 IsOfLines lines content = (word text : List ℕ) × IsIn (Ok (Put word text)) lines × (content ≡ put_content text)
 
+-- it is a file with this content, which may be run or not
+abbrev pub IsFileOf : List ℕ → Option Node → Type 0
+IsFileOf content node = (exec : Bool) × (node ≡ Some (File content exec))
+
 -- one of the runs left a file with this content
 abbrev pub IsOfRuns : List Run → List ℕ → Type 0
-IsOfRuns runs content = (run : Run) × (row : RawRow) × IsIn run runs × IsIn row run.outcome.rows × (row.node ≡ File content)
+IsOfRuns runs content = (run : Run) × (row : RawRow) × IsIn run runs × IsIn row run.outcome.rows × IsFileOf content (Some row.node)
 
 -- A content of a session: of an entry that was pending at its start, of a line that puts a text, or of a file that a run left.
 abbrev pub IsOfTheRun : List Entry → List (Result Line LineError) → List Run → List ℕ → Type 0
@@ -40,7 +45,7 @@ IsOfTheRun pending lines runs content = IsOfEntries pending content ⊎ IsOfLine
 -- the message has this content: a store what its effects write, a snapshot what its files have
 abbrev pub HasContent : Message → List ℕ → Type 0
 HasContent (Store client number effects base) content = WritesContent effects content
-HasContent (Snapshot client number last rows) content = (row : Row) × IsIn row rows × (row.node ≡ Some (File content))
+HasContent (Snapshot client number last rows) content = (row : Row) × IsIn row rows × IsFileOf content row.node
 HasContent message content = ⊥
 
 -- one of the packets has this content

@@ -24,7 +24,7 @@ missing path = Refused (faults.Tree (Missing path))
 abbrev pub shown : FilePath → Option Node → LineAnswer
 shown path None = missing path
 shown path (Some Folder) = Refused (faults.Tree (IsFolder path))
-shown path (Some (File content)) = Text content
+shown path (Some (File content exec)) = Text content
 
 -- a name in a folder, and whether a folder stands there
 abbrev pub child_at : Volume → FilePath → List ℕ → Child
@@ -34,13 +34,13 @@ child_at tree folder name = record { name = name; folder = is_folder tree (folde
 abbrev pub listed : Volume → FilePath → Option Node → LineAnswer
 listed tree path None = missing path
 listed tree path (Some Folder) = Listing (map (child_at tree path) (children tree path))
-listed tree path (Some (File content)) = Refused (faults.NotFolder path)
+listed tree path (Some (File content exec)) = Refused (faults.NotFolder path)
 
 -- the folder that is entered
 abbrev pub entered : FilePath → Option Node → LineAnswer
 entered path None = missing path
 entered path (Some Folder) = At path
-entered path (Some (File content)) = Refused (faults.NotFolder path)
+entered path (Some (File content exec)) = Refused (faults.NotFolder path)
 
 -- the answer about the path that a word names, or the refusal of the word
 abbrev pub about : Result FilePath PathError → (FilePath → LineAnswer) → LineAnswer

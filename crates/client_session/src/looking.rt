@@ -68,7 +68,7 @@ fn shown(tree: &Tree, path: Path) -> Result<LineAnswer, AllocError>
         return Ok(LineAnswer::Refused(Fault::Tree(TreeError::IsFolder(path))));
     }
     match tree.get(&path) {
-        Some(Node::File(content)) => Ok(LineAnswer::Text(content.copy()?)),
+        Some(Node::File { content, .. }) => Ok(LineAnswer::Text(content.copy()?)),
         _ => Ok(LineAnswer::Refused(Fault::Tree(TreeError::Missing(path)))),
     }
 }

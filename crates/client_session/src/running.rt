@@ -4,7 +4,7 @@ ghost use Rattle.outside.specs.Outside.{CountsFault};
 ghost use Rattle.cmd_capture.specs.Spelling.{IsCommand};
 ghost use Rattle.client_core.specs.Keeping.{IsKeptReady};
 ghost use Rattle.client_core.specs.Noting.{KeepsChanges};
-ghost use Rattle.cmd_capture.specs.Runs.{telling};
+ghost use Rattle.cmd_capture.specs.Runs.{telling, IsAskedAtMostOnce};
 ghost use Rattle.client_core.specs.Running.{has_logged};
 ghost use Rattle.client_session.specs.Session.{state_of, capture_answer, job_answer, run_answer};
 ghost use Rattle.client_session.specs.Inside.{RunsLine, RunsMade};
@@ -36,6 +36,7 @@ impl Session {
             (K.images keeper.old) (K.images keeper.new)) }
         ensures later { R.faults runner.old ≤ R.faults runner.new }
         ensures keeper { CountsFault KeepError.Failed (K.faults keeper.old) (K.faults keeper.new) result }
+        ensures asked { IsAskedAtMostOnce (R.calls runner.old) (R.calls runner.new) }
     {
         match capture(alloc, words, &self.folder) {
             Ok(command) => self.run_command(command, route, keeper, runner),
@@ -60,6 +61,7 @@ impl Session {
             (K.images keeper.old) (K.images keeper.new)) }
         ensures later { R.faults runner.old ≤ R.faults runner.new }
         ensures keeper { CountsFault KeepError.Failed (K.faults keeper.old) (K.faults keeper.new) result }
+        ensures asked { IsAskedAtMostOnce (R.calls runner.old) (R.calls runner.new) }
     {
         let end = self.client.run_command(command, route.work.bytes(), runner);
         if !has_logged(&end) {

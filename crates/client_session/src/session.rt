@@ -9,7 +9,7 @@ ghost use Rattle.client_session.specs.Session.{state_of, put_effect, make_effect
 ghost use Rattle.client_session.specs.Session.{with_folder, local_answer, word_answer, sync_answer, pull_answer};
 ghost use Rattle.client_session.specs.Session.{status_answer, has_pulled};
 ghost use Rattle.client_session.specs.Looking.{cat_answer, list_answer, enter_answer, folder_by};
-ghost use Rattle.cmd_capture.specs.Runs.{RunnerTelling, telling};
+ghost use Rattle.cmd_capture.specs.Runs.{RunnerTelling, telling, IsAskedAtMostOnce};
 ghost use Rattle.client_session.specs.Doing.{beside, WentDoing, LineEnds};
 ghost use Rattle.client_session.specs.Causes.{HasLineCause, asks_to_run, is_sync_fault, is_pull_fault, answer_or_fault};
 ghost use Rattle.client_session.specs.Inside.{IsAnswerOrMemory, LogsOrRefuses, LogsMade};
@@ -85,6 +85,8 @@ impl Session {
         ensures runner { asks_to_run line ≡ false → telling (R.runs runner.new) (R.faults runner.new) ≡ telling (R.runs runner.old)
             (R.faults runner.old) }
         ensures keeper { CountsFault KeepError.Failed (K.faults keeper.old) (K.faults keeper.new) result }
+        // no line asks the runner twice
+        ensures asked { IsAskedAtMostOnce (R.calls runner.old) (R.calls runner.new) }
     {
         let image = route.image.bytes();
         match line {
