@@ -6,8 +6,7 @@ use Rattle.server_prog.specs.declared.words.RunWords.{RunWords}
 use Rattle.server_prog.specs.declared.words.Form.{Form}
 use Rattle.server_prog.specs.declared.words.Form.TheVariants as forms
 use Rattle.server_prog.specs.Words.{ServerInvocation, Run, server_run_of, form_of, run_said, HasForm}
-use Rattle.server_prog.specs.Run.{is_server_status, Objects, told_of, ServerRan, Ends}
-use Rattle.server_prog.specs.Inside.{OthersKept}
+use Rattle.server_prog.specs.Run.{is_server_status, Objects, told_of, ServerRan, OthersKept, Ends}
 
 abbrev pub run_in : Form → RunWords
 run_in (forms.Run run) = run
@@ -21,9 +20,6 @@ has_run words (forms.Run run) has = has.0
 
 pub run_has_form : (words : List (List ℕ)) (run : ServerInvocation) → server_run_of words ≡ Some run → form_of words ≡ Some (Run run)
 run_has_form words run is = ap (option_map Run) is
-
-pub has_form : (words : List (List ℕ)) (form : Form) → HasForm words form → form_of words ≡ Some (Run (run_said (run_in form)))
-has_form words form has = run_has_form words (run_said (run_in form)) (has_run words form has)
 
 -- a run of such words
 pub run_ends : (words : List (List ℕ)) (run : ServerInvocation) (status : ℕ) (old new : Objects) → server_run_of words ≡ Some run → status ≢ 2 → IsTrue (is_server_status status)

@@ -5,7 +5,7 @@ use Rattle.std.specs.declared.alloc.Global.{Global}
 use Rattle.outside.specs.Outside.{Told}
 use Rattle.outside.specs.Keeper.{Images, IsPut, Loads, Saves, Appends}
 use Rattle.world_rules.proofs.Asks.{told_then, told_start, told_as}
-use Rattle.server_prog.specs.Inside.{OthersKept}
+use Rattle.server_prog.specs.Run.{OthersKept}
 
 module _ (name : List ℕ) where
   abbrev Stay : Images → Images → Type 0

@@ -1,5 +1,5 @@
 -- Words that only contracts below the whole run cite.
-use Rattle.std.specs.Prelude.{◌≡◌, ◌≢◌, ◌≤◌, ◌⊎◌, ℕ, ◌+◌, nat_le, Bool, true, false, ◌||◌, List, [], ◌∷◌, length, map, if◌then◌else◌}
+use Rattle.std.specs.Prelude.{◌≡◌, ◌≤◌, ◌⊎◌, ℕ, ◌+◌, nat_le, Bool, true, false, ◌||◌, List, [], ◌∷◌, length, map, if◌then◌else◌}
 use Rattle.std.specs.Prelude.{Option, None, Some, IfSome, is_some, option_to_list}
 use Rattle.outside.specs.Outside.{Told}
 use Rattle.outside.specs.declared.errors.SinkError.{SinkError}
@@ -14,7 +14,7 @@ use Rattle.port_serving.specs.Inside.{UsesSoFar}
 use Rattle.store_image.specs.declared.image.TheConstants.{MAX_SERVER_IMAGE, MAX_RECORDS}
 use Rattle.store_image.specs.declared.record.ServerRecord.{ServerRecord}
 use Rattle.store_image.specs.Records.{server_record, server_records}
-use Rattle.outside.specs.Keeper.{Images, followed_by}
+use Rattle.outside.specs.Keeper.{followed_by}
 use Rattle.world_rules.specs.Served.{Served, TakenEntry, as_store, state_after}
 use Rattle.server_core.specs.Framing.{change, messages_of}
 use Rattle.server_core.specs.Keeping.{IsKeptWholeForServed, record_of_taken, records_taken}
@@ -81,10 +81,6 @@ IsJournalOf journal (first ∷ later) before old new =
 -- its keeping was refused: what is kept has the change or not
 abbrev pub ServerMayKeep : Bool → Journal → Served → Served → Option (Option (List ℕ)) → Option (Option (List ℕ)) → Type 0
 ServerMayKeep changed journal before after old new = Told old new (λ o n. KeptAs (is_saved journal) before o n ⊎ KeptAs changed after o n)
-
--- under every other name is kept what was kept before, where the keeper tells it
-abbrev pub OthersKept : List ℕ → Option Images → Option Images → Type 0
-OthersKept name old new = Told old new (λ before after. (other : List ℕ) → other ≢ name → after other ≡ before other)
 
 -- ---- connections
 

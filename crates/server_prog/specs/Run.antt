@@ -103,6 +103,10 @@ pub record Objects : Type 0 where
 abbrev pub told_of : List ℕ → Objects → ServerTelling
 told_of name all = server_telling all.port (kept_under name all.images)
 
+-- under every other name is kept what was kept before, where the keeper tells it
+abbrev pub OthersKept : List ℕ → Option Images → Option Images → Type 0
+OthersKept name old new = Told old new (λ before after. (other : List ℕ) → other ≢ name → after other ≡ before other)
+
 -- What a run on these words does, by the status that it gives:
 -- 0: as many connections were used up as the words say, or none is left, and the output is the last line;
 -- 2: the words are of no form, and nothing was touched;
@@ -120,5 +124,4 @@ pub record Ends (words : List (List ℕ)) (status : ℕ) (old new : Objects) : T
       → (Rose old.keeper_faults new.keeper_faults → ⊥) → (status ≡ 0) ⊎ ((status ≡ 6) ⊎ (status ≡ 7)))
   pub served : IfSome (server_run_of words)
       (λ run. ServerRan run.count status (told_of run.image old) (told_of run.image new) old.written new.written)
-  pub others : IfSome (server_run_of words)
-      (λ run. Told old.images new.images (λ before after. (name : List ℕ) → name ≢ run.image → after name ≡ before name))
+  pub others : IfSome (server_run_of words) (λ run. OthersKept run.image old.images new.images)

@@ -7,7 +7,8 @@ ghost use Rattle.store_image.specs.Records.{server_record};
 ghost use Rattle.world_rules.specs.Served.{Served};
 ghost use Rattle.server_core.specs.Holding.{served};
 ghost use Rattle.server_core.specs.Keeping.{Leads, NoteLeads};
-ghost use Rattle.server_prog.specs.Inside.{Journals, KeepsOn, ServerMayKeep, room_for, OthersKept};
+ghost use Rattle.server_prog.specs.Inside.{Journals, KeepsOn, ServerMayKeep, room_for};
+ghost use Rattle.server_prog.specs.Run.{OthersKept};
 
 use outside::{KeepError, Keeper};
 use server_core::Server;

@@ -7,8 +7,8 @@ ghost use Rattle.world_rules.specs.Served.{Served};
 ghost use Rattle.server_core.specs.Holding.{served};
 ghost use Rattle.server_core.specs.Keeping.{IsKeptForServed};
 ghost use Rattle.server_prog.specs.Serving.{server_telling};
-ghost use Rattle.server_prog.specs.Run.{server_status_of, is_server_status, Opens, OpensNone, ServerRun, Ends};
-ghost use Rattle.server_prog.specs.Inside.{stopped_by_keeper, stopped_by_sink, OthersKept};
+ghost use Rattle.server_prog.specs.Run.{server_status_of, is_server_status, Opens, OpensNone, ServerRun, OthersKept, Ends};
+ghost use Rattle.server_prog.specs.Inside.{stopped_by_keeper, stopped_by_sink};
 
 use crate::serving::serve;
 use crate::words::{Form, form_of};

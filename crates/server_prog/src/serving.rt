@@ -4,7 +4,8 @@ ghost use Rattle.outside.specs.Outside.{CountsFault};
 ghost use Rattle.outside.specs.Keeper.{kept_under};
 ghost use Rattle.server_core.specs.Holding.{served};
 ghost use Rattle.server_prog.specs.Serving.{server_telling};
-ghost use Rattle.server_prog.specs.Inside.{Journals, ServesNext, BreaksConnection, ServesAll, ServesFront, OthersKept};
+ghost use Rattle.server_prog.specs.Inside.{Journals, ServesNext, BreaksConnection, ServesAll, ServesFront};
+ghost use Rattle.server_prog.specs.Run.{OthersKept};
 
 use crate::journal::{Journal, keep};
 use outside::{KeepError, Keeper, Port};

@@ -70,9 +70,10 @@ fn run<P: Port, R: Runner, L: Link, O: Sink>(
     output: &mut O,
 ) -> Result<(), Stopped>
     requires { words.now.count ≤ 65536 }
-    ensures turn { SurrogateRun (run_said words.now) (surrogate_telling (P.tells port.old) (told (R.runs runner.old) (R.faults runner.old) (L.tells link.old)))
-        (surrogate_telling (P.tells port.new) (told (R.runs runner.new) (R.faults runner.new) (L.tells link.new))) (O.written output.old)
-        (O.written output.new) result }
+    ensures turn { SurrogateRun (run_said words.now)
+        (surrogate_telling (P.tells port.old) (told (R.runs runner.old) (R.faults runner.old) (L.tells link.old)))
+        (surrogate_telling (P.tells port.new) (told (R.runs runner.new) (R.faults runner.new) (L.tells link.new)))
+        (O.written output.old) (O.written output.new) result }
     ensures sink { CountsFault Stopped.Sink (O.faults output.old) (O.faults output.new) result }
 {
     let route = Route {
