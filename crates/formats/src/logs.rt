@@ -6,8 +6,8 @@ ghost use Rattle.tree_values.specs.Spelling.{EffectsFit};
 use crate::answers::{Answer, not_taken, read_until};
 use crate::readers::Told;
 use crate::texts::{
-    put_digits, put_line, put_move, put_number, put_path, put_path_line, put_paths, put_touched,
-    put_word,
+    put_digits, put_line, put_mode, put_move, put_number, put_path, put_path_line, put_paths,
+    put_touched, put_word,
 };
 use crate::values::{limits, put_bases, put_effects};
 use cmd_capture::{Command, Env};
@@ -196,5 +196,6 @@ fn put_sketched(
         }
         SketchEffect::Remove(path) => put_path_line(text, "remove ", path),
         SketchEffect::Move(from, to) => put_move(text, from, to),
+        SketchEffect::Mode(path, exec) => put_mode(text, path, *exec),
     }
 }

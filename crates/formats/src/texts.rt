@@ -69,6 +69,12 @@ pub(crate) fn put_move(text: &mut Vec<u8>, from: &Path, to: &Path) -> Result<(),
     put_path_line(text, " ", to)
 }
 
+/// Appends a line of the path of a file, and 1 where it may be run, else 0.
+pub(crate) fn put_mode(text: &mut Vec<u8>, path: &Path, exec: bool) -> Result<(), AllocError> {
+    put_path(text, "mode ", path)?;
+    put_word(text, if exec { " 1\n" } else { " 0\n" })
+}
+
 /// Appends a word, how many bytes a file has, and these behind a line end.
 pub(crate) fn put_file(
     alloc: Global,

@@ -7,7 +7,7 @@ ghost use Rattle.tree_values.specs.Spelling.{EffectsFit};
 use crate::answers::{Answer, not_taken, read_until};
 use crate::readers::Told;
 use crate::texts::{
-    put_file, put_move, put_number, put_path, put_path_line, put_touched, put_word,
+    put_file, put_mode, put_move, put_number, put_path, put_path_line, put_touched, put_word,
 };
 use scene_files::{Fault, number};
 use std::alloc::{AllocError, Global};
@@ -159,6 +159,7 @@ fn put_effect(alloc: Global, text: &mut Vec<u8>, effect: &Effect) -> Result<(), 
         }
         Effect::Remove(path) => put_path_line(text, "remove ", path),
         Effect::Move(from, to) => put_move(text, from, to),
+        Effect::Mode(path, exec) => put_mode(text, path, *exec),
     }
 }
 
@@ -267,6 +268,11 @@ fn put_node(alloc: Global, text: &mut Vec<u8>, node: Option<&Node>) -> Result<()
     match node {
         None => put_word(text, " nothing\n"),
         Some(Node::Folder) => put_word(text, " folder\n"),
-        Some(Node::File(content)) => put_file(alloc, text, " file ", content),
+        Some(Node::File { content, exec }) => put_file(alloc, text, word_of_file(*exec), content),
     }
+}
+
+/// The word of a file that may be run, or not.
+fn word_of_file(exec: bool) -> &'static str {
+    if exec { " program " } else { " file " }
 }

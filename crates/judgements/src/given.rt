@@ -27,9 +27,9 @@ pub(crate) struct Given {
 /// Whether a line may give this where so much is told.
 pub(crate) fn may_stand(kind: Kind, side: Side) -> bool {
     match kind {
-        Kind::Folder | Kind::File => side != Side::Entry,
+        Kind::Folder | Kind::File | Kind::Program => side != Side::Entry,
         Kind::Client | Kind::Entry => side == Side::Job,
-        Kind::Make | Kind::Put | Kind::Remove | Kind::Move => side == Side::Entry,
+        Kind::Make | Kind::Put | Kind::Remove | Kind::Move | Kind::Mode => side == Side::Entry,
         Kind::Replay => side == Side::Client || side == Side::Entry,
         Kind::Template | Kind::Content | Kind::Parity | Kind::Spelling => true,
     }
@@ -42,12 +42,13 @@ fn count_of(kind: Kind) -> usize {
         Kind::Template
         | Kind::Folder
         | Kind::File
+        | Kind::Program
         | Kind::Entry
         | Kind::Make
         | Kind::Put
         | Kind::Remove
         | Kind::Parity => 2,
-        Kind::Client | Kind::Move | Kind::Replay | Kind::Spelling => 3,
+        Kind::Client | Kind::Move | Kind::Mode | Kind::Replay | Kind::Spelling => 3,
     }
 }
 
@@ -100,9 +101,13 @@ fn check_words(kind: Kind, first: &str, second: &str) -> Result<(), Fault> {
             number(first)?;
             number(second)?;
         }
+        Kind::Mode => {
+            bit(second)?;
+        }
         Kind::Template
         | Kind::Folder
         | Kind::File
+        | Kind::Program
         | Kind::Make
         | Kind::Put
         | Kind::Remove
@@ -110,6 +115,15 @@ fn check_words(kind: Kind, first: &str, second: &str) -> Result<(), Fault> {
         | Kind::Content => {}
     }
     Ok(())
+}
+
+/// Whether a file may be run: 1 where it may, 0 where not.
+pub(crate) fn bit(word: &str) -> Result<bool, Fault> {
+    match word {
+        "0" => Ok(false),
+        "1" => Ok(true),
+        _ => Err(Fault::Line("0 or 1 is wanted")),
+    }
 }
 
 /// The last line that gives this.

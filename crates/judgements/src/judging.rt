@@ -3,7 +3,7 @@
 ghost use Rattle.std.specs.Prelude.{IfOk};
 ghost use Rattle.cmd_capture.specs.Rows.{AreJobRows};
 
-use crate::given::{Given, Side, last_of};
+use crate::given::{Given, Side, bit, last_of};
 use crate::telling::{tell_effects, tell_path};
 use crate::words::Kind;
 use cmd_capture::{Command, Env, Job, JobRows, Outcome, RawRow, RawRows, Templates, Words};
@@ -22,7 +22,9 @@ fn raw_row(alloc: Global, one: &Given) -> Result<RawRow, AllocError> {
         let node = Node::Folder;
         return Ok(RawRow { path, node });
     }
-    let node = Node::File(Content::of(alloc, &one.bytes)?);
+    let content = Content::of(alloc, &one.bytes)?;
+    let exec = one.kind == Kind::Program;
+    let node = Node::File { content, exec };
     Ok(RawRow { path, node })
 }
 
@@ -30,7 +32,7 @@ fn raw_row(alloc: Global, one: &Given) -> Result<RawRow, AllocError> {
 fn raw_rows(alloc: Global, given: &[Given], side: Side) -> Result<RawRows, AllocError> {
     let mut rows = RawRows::new(alloc);
     for one in given {
-        if one.side == side && (one.kind == Kind::Folder || one.kind == Kind::File) {
+        if one.side == side && matches!(one.kind, Kind::Folder | Kind::File | Kind::Program) {
             rows.push(raw_row(alloc, one)?)?;
         }
     }
@@ -78,9 +80,11 @@ fn effect_of(alloc: Global, one: &Given) -> Result<Option<Effect>, Fault> {
         Kind::Put => put_of(alloc, one)?,
         Kind::Remove => Effect::Remove(path_of(alloc, &one.first)?),
         Kind::Move => move_of(alloc, one)?,
+        Kind::Mode => Effect::Mode(path_of(alloc, &one.first)?, bit(&one.second)?),
         Kind::Template
         | Kind::Folder
         | Kind::File
+        | Kind::Program
         | Kind::Client
         | Kind::Entry
         | Kind::Replay
@@ -148,6 +152,7 @@ fn sketched(alloc: Global, effect: &Effect) -> Result<SketchEffect, Fault> {
         Effect::Put(path, content) => put_sketched(alloc, path, content),
         Effect::Remove(path) => Ok(SketchEffect::Remove(path.copy()?)),
         Effect::Move(from, to) => move_sketched(from, to),
+        Effect::Mode(path, exec) => Ok(SketchEffect::Mode(path.copy()?, *exec)),
     }
 }
 

@@ -1,5 +1,5 @@
-//! Plays scenes of judgements: what a replay of a command is judged to be, whose names its files get, how contents are repaired, and products
-//! of the field.
+//! Plays scenes of judgements: what a replay of a command is judged to be, whose names its files get, how contents are repaired,
+//! and products of the field.
 #![tactic(auto)]
 
 mod field;

@@ -65,10 +65,12 @@ fn side_behind(kind: Kind, side: Side) -> Side {
         Kind::Template
         | Kind::Folder
         | Kind::File
+        | Kind::Program
         | Kind::Make
         | Kind::Put
         | Kind::Remove
         | Kind::Move
+        | Kind::Mode
         | Kind::Content
         | Kind::Parity
         | Kind::Spelling => side,

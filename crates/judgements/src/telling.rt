@@ -55,6 +55,9 @@ fn tell_effect(alloc: Global, text: &mut Vec<u8>, effect: &Effect) -> Result<(),
             tell_path(text, "move ", from, " ")?;
             tell_path(text, "", to, "\n")
         }
+        Effect::Mode(path, exec) => {
+            tell_path(text, "mode ", path, if *exec { " 1\n" } else { " 0\n" })
+        }
     }
 }
 
@@ -79,8 +82,15 @@ pub(crate) fn tell_rows(
     for row in rows {
         match &row.node {
             Node::Folder => tell_path(text, "folder ", &row.path, "\n")?,
-            Node::File(content) => tell_file(alloc, text, "file ", &row.path, content)?,
+            Node::File { content, exec } => {
+                tell_file(alloc, text, word_of_file(*exec), &row.path, content)?;
+            }
         }
     }
     Ok(())
+}
+
+/// The word of a file that may be run, or not.
+fn word_of_file(exec: bool) -> &'static str {
+    if exec { "program " } else { "file " }
 }

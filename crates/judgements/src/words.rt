@@ -19,12 +19,15 @@ pub(crate) enum Kind {
     Template,
     Folder,
     File,
+    /// A file that may be run.
+    Program,
     Client,
     Entry,
     Make,
     Put,
     Remove,
     Move,
+    Mode,
     Replay,
     Content,
     Parity,
@@ -61,16 +64,18 @@ pub(crate) enum Act {
 }
 
 /// The words that lines begin with.
-const WORDS: [(&str, Subject, Act); 30] = [
+const WORDS: [(&str, Subject, Act); 32] = [
     ("template", Subject::Runs, Act::Give(Kind::Template)),
     ("folder", Subject::Runs, Act::Give(Kind::Folder)),
     ("file", Subject::Runs, Act::Give(Kind::File)),
+    ("program", Subject::Runs, Act::Give(Kind::Program)),
     ("client", Subject::Runs, Act::Give(Kind::Client)),
     ("entry", Subject::Runs, Act::Give(Kind::Entry)),
     ("make", Subject::Runs, Act::Give(Kind::Make)),
     ("put", Subject::Runs, Act::Give(Kind::Put)),
     ("remove", Subject::Runs, Act::Give(Kind::Remove)),
     ("move", Subject::Runs, Act::Give(Kind::Move)),
+    ("mode", Subject::Runs, Act::Give(Kind::Mode)),
     ("replay", Subject::Runs, Act::Give(Kind::Replay)),
     ("agrees", Subject::Runs, Act::Look(Want::Verdict)),
     ("status", Subject::Runs, Act::Look(Want::Verdict)),
@@ -117,7 +122,7 @@ pub(crate) fn has_block(first: &str, act: Act) -> bool {
     match act {
         Act::Give(kind) => matches!(
             kind,
-            Kind::File | Kind::Put | Kind::Content | Kind::Parity | Kind::Spelling
+            Kind::File | Kind::Program | Kind::Put | Kind::Content | Kind::Parity | Kind::Spelling
         ),
         Act::Look(want) => match want {
             Want::Verdict => first == "agrees",

@@ -125,13 +125,19 @@ fn write_row(alloc: Global, text: &mut Vec<u8>, row: &Row) -> Result<(), AllocEr
     match &row.node {
         None => write_text(text, " nothing\n"),
         Some(Node::Folder) => write_text(text, " folder\n"),
-        Some(Node::File(content)) => write_file(alloc, text, content.bytes()),
+        Some(Node::File { content, exec }) => write_file(alloc, text, content.bytes(), *exec),
     }
 }
 
-/// How many bytes a file has, and these behind a line end.
-fn write_file(alloc: Global, text: &mut Vec<u8>, bytes: &[u8]) -> Result<(), AllocError> {
+/// Whether a file may be run, how many bytes it has, and these behind a line end.
+fn write_file(
+    alloc: Global,
+    text: &mut Vec<u8>,
+    bytes: &[u8],
+    exec: bool,
+) -> Result<(), AllocError> {
     let size = bytes.len();
-    write_text(text, &format!(in alloc; " file {size}\n")?)?;
+    let kind = if exec { "program" } else { "file" };
+    write_text(text, &format!(in alloc; " {kind} {size}\n")?)?;
     text.extend_from_slice(bytes)
 }

@@ -5,4 +5,4 @@ mod account;
 mod networks;
 
 pub use account::{account_of_network, rows_of_server, sent_packets};
-pub use networks::{CountedRunner, Network, network};
+pub use networks::{Network, network};

@@ -6,7 +6,8 @@ use crate::answers::Reply;
 use crate::lines::{OTHER_WORDS, none};
 use crate::outside_clients::OutsideClients;
 use crate::place::started;
-use run_probe::{CountedRunner, Network};
+use cmd_capture::ScriptRunner;
+use run_probe::Network;
 use scene_files::Fault;
 use std::alloc::Global;
 use surrogate_core::Surrogate;
@@ -116,7 +117,7 @@ fn settled(reply: Result<Vec<u8>, AskError>) -> Result<Reply, Fault> {
 fn handled(
     alloc: Global,
     frame: &[u8],
-    runner: &mut CountedRunner,
+    runner: &mut ScriptRunner,
     net: &mut Network,
 ) -> Result<(Vec<u8>, u32), Fault> {
     let Ok(request) = read(alloc, frame) else {

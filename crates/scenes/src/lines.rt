@@ -23,6 +23,7 @@ pub(crate) enum Next {
     Connection,
     Runner,
     File,
+    Program,
     Folder,
     Folders,
 }
@@ -86,7 +87,7 @@ pub(crate) enum Verb {
 }
 
 /// The first word of each line.
-const VERBS: [(&str, Verb); 38] = [
+const VERBS: [(&str, Verb); 39] = [
     ("fate", Verb::Before(Before::Fate)),
     ("keep", Verb::Before(Before::Keep)),
     ("keeper", Verb::Before(Before::Keeper)),
@@ -97,6 +98,7 @@ const VERBS: [(&str, Verb); 38] = [
     ("connection", Verb::Next(Next::Connection)),
     ("runner", Verb::Next(Next::Runner)),
     ("file", Verb::Next(Next::File)),
+    ("program", Verb::Next(Next::Program)),
     ("folder", Verb::Next(Next::Folder)),
     ("folders", Verb::Next(Next::Folders)),
     ("run", Verb::Act(Act::Run)),
@@ -168,7 +170,7 @@ impl Verb {
 impl Next {
     fn takes_block(self) -> bool {
         match self {
-            Next::Connection | Next::File => true,
+            Next::Connection | Next::File | Next::Program => true,
             Next::Source | Next::Sink | Next::Port => false,
             Next::Runner | Next::Folder | Next::Folders => false,
         }

@@ -7,8 +7,8 @@ use crate::lines::OTHER_WORDS;
 use crate::outside_clients::OutsideClients;
 use crate::place::{Place, started};
 use crate::runs::{NextProgram, owned_words};
+use cmd_capture::ScriptRunner;
 use outside::{MemPort, MemSink};
-use run_probe::CountedRunner;
 use scene_files::Fault;
 use server_prog::server_run;
 use std::alloc::{AllocError, Global};
@@ -69,7 +69,7 @@ fn tell_serving(
     node: Node,
     words: &[String],
     next: &mut NextProgram,
-    runner: &mut CountedRunner,
+    runner: &mut ScriptRunner,
     place: &mut Place,
     answers: &mut Answers,
 ) -> Result<(), Fault> {
@@ -95,7 +95,7 @@ fn status_of(
     node: Node,
     words: &[String],
     port: &mut Counted<MemPort>,
-    runner: &mut CountedRunner,
+    runner: &mut ScriptRunner,
     place: &mut Place,
     output: &mut Counted<MemSink>,
 ) -> u8 {

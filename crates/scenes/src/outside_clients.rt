@@ -5,7 +5,7 @@ use crate::lines::{Verb, none, verb_of};
 use crate::place::{Place, Prepared};
 use crate::runs::NextProgram;
 use crate::scripts::{Scripts, Whose};
-use run_probe::CountedRunner;
+use cmd_capture::ScriptRunner;
 use scene_files::{Fault, Line, Report, Stage};
 use std::alloc::Global;
 use std::mem;
@@ -19,7 +19,7 @@ pub(crate) struct OutsideClients {
     pub(crate) place: Option<Place>,
     pub(crate) scripts: Scripts,
     /// What runs the commands of clients.
-    pub(crate) runner: CountedRunner,
+    pub(crate) runner: ScriptRunner,
     pub(crate) next: NextProgram,
     pub(crate) answers: Answers,
     /// The names of images that runs were given.
@@ -38,7 +38,7 @@ impl OutsideClients {
             prepared: Prepared::new(alloc),
             place: None,
             scripts: Scripts::new(alloc),
-            runner: CountedRunner::new(alloc, Vec::new(alloc)),
+            runner: ScriptRunner::new(alloc, Vec::new(alloc)),
             next: NextProgram::new(alloc),
             answers: Answers::new(alloc),
             names: Vec::new(alloc),
@@ -54,8 +54,8 @@ impl OutsideClients {
             drop(answers);
             return;
         }
-        self.is_missed = self.is_missed || self.runner.left() > 0;
-        let runner = CountedRunner::new(self.alloc, answers);
+        self.is_missed = self.is_missed || self.runner.answers_left() > 0;
+        let runner = ScriptRunner::new(self.alloc, answers);
         drop(mem::replace(&mut self.runner, runner));
     }
 
@@ -71,7 +71,7 @@ impl OutsideClients {
         !self.is_missed
             && self.is_place_met()
             && self.scripts.is_met()
-            && self.runner.left() == 0
+            && self.runner.answers_left() == 0
             && self.next.is_met()
     }
 

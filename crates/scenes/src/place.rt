@@ -54,7 +54,7 @@ pub(crate) struct Place {
 impl Place {
     /// Whether each line that says so made the keeper fail, and the surrogate's runs came to each answer.
     pub(crate) fn is_met(&self) -> bool {
-        self.keeper.failed >= self.lines && self.net.runner().left() == 0
+        self.keeper.failed >= self.lines && self.net.runner().answers_left() == 0
     }
 
     /// Nothing is kept any more, and no call of the keeper fails.

@@ -5,7 +5,7 @@ use crate::lines::{Before, Next, OTHER_WORDS, none, one};
 use crate::outside_clients::OutsideClients;
 use crate::place::Prepared;
 use crate::runs::NextProgram;
-use crate::scripts::Whose;
+use crate::scripts::{Left, Whose};
 use mem_net::Fate;
 use scene_files::{Fault, Line, calls, number};
 use std::alloc::Global;
@@ -51,10 +51,16 @@ impl OutsideClients {
             Next::Port => self.next.port.add(words),
             Next::Connection => connect(alloc, &mut self.next, words, line.block),
             Next::Runner => self.scripts.answer(alloc, Whose::Client, words),
-            Next::File => self.scripts.leave(alloc, line.rest, Some(line.block)),
-            Next::Folder => self.scripts.leave(alloc, line.rest, None),
+            Next::File => self.leave(line.rest, Left::File(line.block)),
+            Next::Program => self.leave(line.rest, Left::Program(line.block)),
+            Next::Folder => self.leave(line.rest, Left::Folder),
             Next::Folders => self.scripts.leave_folders(alloc, words),
         }
+    }
+
+    /// The run that was told last leaves this at the path.
+    fn leave(&mut self, path: &str, left: Left<'_>) -> Result<(), Fault> {
+        self.scripts.leave(self.alloc, path, left)
     }
 }
 

@@ -7,8 +7,8 @@ use crate::lines::{OTHER_WORDS, two};
 use crate::outside_clients::OutsideClients;
 use crate::place::{Place, started};
 use client_prog::client_run;
+use cmd_capture::ScriptRunner;
 use outside::{MemSink, MemSource};
-use run_probe::CountedRunner;
 use scene_files::{Fault, calls};
 use std::alloc::{AllocError, Global};
 use std::mem;
@@ -128,7 +128,7 @@ fn tell_run(
     words: &[String],
     input: &[u8],
     next: &mut NextProgram,
-    runner: &mut CountedRunner,
+    runner: &mut ScriptRunner,
     place: &mut Place,
     answers: &mut Answers,
 ) -> Result<(), Fault> {

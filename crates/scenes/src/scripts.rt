@@ -17,6 +17,15 @@ pub(crate) enum Whose {
     Surrogate,
 }
 
+/// What a run leaves at a path.
+#[derive(Clone, Copy)]
+pub(crate) enum Left<'a> {
+    Folder,
+    File(&'a [u8]),
+    /// A file that may be run.
+    Program(&'a [u8]),
+}
+
 /// What the next commands come to.
 #[derive(Drop)]
 pub(crate) struct Scripts {
@@ -65,15 +74,10 @@ impl Scripts {
         Ok(self.of(whose).push(answer)?)
     }
 
-    /// The run that was told last leaves a file with these bytes, or a folder.
-    pub(crate) fn leave(
-        &mut self,
-        alloc: Global,
-        path: &str,
-        file: Option<&[u8]>,
-    ) -> Result<(), Fault> {
+    /// The run that was told last leaves this at the path.
+    pub(crate) fn leave(&mut self, alloc: Global, path: &str, left: Left<'_>) -> Result<(), Fault> {
         match self.of(self.last).last_mut() {
-            Some(ScriptAnswer::Give(outcome)) => add_row(alloc, &mut outcome.rows, path, file),
+            Some(ScriptAnswer::Give(outcome)) => add_row(alloc, &mut outcome.rows, path, left),
             Some(ScriptAnswer::Fail) | None => Err(NO_RUN),
         }
     }
@@ -84,7 +88,7 @@ impl Scripts {
         let (first, last) = (number(first)?, number(last)?);
         for number in first..=last {
             let name = number.to_string(alloc)?;
-            let left = self.leave(alloc, &name, None);
+            let left = self.leave(alloc, &name, Left::Folder);
             drop(name);
             left?;
         }
@@ -103,19 +107,14 @@ fn answer_of(alloc: Global, words: &[&str]) -> Result<ScriptAnswer, Fault> {
     }
 }
 
-fn add_row(
-    alloc: Global,
-    rows: &mut RawRows,
-    path: &str,
-    file: Option<&[u8]>,
-) -> Result<(), Fault> {
-    let row = row_of(alloc, path, file)?;
+fn add_row(alloc: Global, rows: &mut RawRows, path: &str, left: Left<'_>) -> Result<(), Fault> {
+    let row = row_of(alloc, path, left)?;
     Ok(rows.push(row)?)
 }
 
-fn row_of(alloc: Global, path: &str, file: Option<&[u8]>) -> Result<RawRow, AllocError> {
+fn row_of(alloc: Global, path: &str, left: Left<'_>) -> Result<RawRow, AllocError> {
     let path = Content::of(alloc, path.as_bytes())?;
-    match node_of(alloc, file) {
+    match node_of(alloc, left) {
         Ok(node) => Ok(RawRow { path, node }),
         Err(refused) => {
             drop(path);
@@ -124,9 +123,15 @@ fn row_of(alloc: Global, path: &str, file: Option<&[u8]>) -> Result<RawRow, Allo
     }
 }
 
-fn node_of(alloc: Global, file: Option<&[u8]>) -> Result<Node, AllocError> {
-    match file {
-        Some(bytes) => Ok(Node::File(Content::of(alloc, bytes)?)),
-        None => Ok(Node::Folder),
+fn node_of(alloc: Global, left: Left<'_>) -> Result<Node, AllocError> {
+    match left {
+        Left::Folder => Ok(Node::Folder),
+        Left::File(bytes) => file_of(alloc, bytes, false),
+        Left::Program(bytes) => file_of(alloc, bytes, true),
     }
+}
+
+fn file_of(alloc: Global, bytes: &[u8], exec: bool) -> Result<Node, AllocError> {
+    let content = Content::of(alloc, bytes)?;
+    Ok(Node::File { content, exec })
 }
