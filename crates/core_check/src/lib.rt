@@ -1,4 +1,4 @@
-//! Tests of calls: a client's over a keeper that fails and a runner without memory; asks over a link; and the objects in memory.
+//! Tests of calls: a client's over a keeper that fails; asks over a link; and the objects in memory.
 #![tactic(auto)]
 
 #[cfg(test)]
@@ -7,5 +7,3 @@ mod asking_tests;
 mod keeping;
 #[cfg(test)]
 mod outside_tests;
-#[cfg(test)]
-mod running;

@@ -1,7 +1,7 @@
 //! A client, its surrogate and their server over TCP on this machine. The program starts itself as all three: a command that the
 //! client has run is run again by the surrogate, which has the server take what it made. What standard error is told of that, also
-//! of what cannot be done; an answer that is lost; one folder for both; and what a surrogate left that was killed. Then a client
-//! alone, whose surrogate is this very process.
+//! of what cannot be done; a script that a command let be run; an answer that is lost; one folder for both; and what a surrogate left
+//! that was killed. Then a client alone, whose surrogate is this very process.
 #![tactic(auto)]
 
 mod asking;
@@ -16,7 +16,7 @@ use clearing::show_clearing;
 use frames::{OTHER_STATUS, PULL};
 use link::show_port;
 use program_words::given_words;
-use scenes::{LINES, LOSS, show_scene};
+use scenes::{LINES, LOSS, SCRIPT, show_scene};
 use std::fs::{self, File};
 use std::io;
 use std::net::Net;
@@ -72,6 +72,7 @@ fn show_all<R: Processes + Files<File = File> + Env + AllocGlobal + Net + Clock 
     forget(rt);
     show_all_three(rt)?;
     show_scene(rt, &LINES)?;
+    show_scene(rt, &SCRIPT)?;
     show_scene(rt, &LOSS)?;
     show_one_folder(rt)?;
     show_clearing(rt)?;

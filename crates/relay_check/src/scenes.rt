@@ -43,6 +43,19 @@ pub(crate) const LINES: Scene = Scene {
     loses_an_answer: false,
 };
 
+/// A command makes a script and lets it be run, and the next one runs it by its own name, where its files went and at the surrogate.
+pub(crate) const SCRIPT: Scene = Scene {
+    name: "a script that is run by its own name",
+    near: NEAR,
+    far: FAR,
+    input: b"run env=PATH=/usr/bin:/bin -- /bin/sh -c \
+        'printf \"#!/bin/sh\\nprintf %%0300d 7 > a\\n\" > build.sh; chmod +x build.sh'\n\
+        run env=PATH=/usr/bin:/bin -- /bin/sh -c ./build.sh\nsync\nquit\n",
+    at_server: "4",
+    at_surrogate: "2",
+    loses_an_answer: false,
+};
+
 /// The surrogate has done what it was asked for, and is asked once more.
 pub(crate) const LOSS: Scene = Scene {
     name: "an answer that is lost",

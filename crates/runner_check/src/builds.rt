@@ -174,6 +174,7 @@ fn are_same(one: &Effect, other: &Effect) -> bool {
         (Effect::Make(at), Effect::Make(there)) | (Effect::Remove(at), Effect::Remove(there)) => {
             at == there
         }
+        (Effect::Mode(at, exec), Effect::Mode(there, other)) => at == there && exec == other,
         _ => false,
     }
 }
@@ -212,7 +213,7 @@ fn is_agreed(alloc: Global, log: &Log, job: &Job, outcome: &Outcome) -> Result<b
 /// The bytes of what was built.
 fn built(outcome: &Outcome) -> Result<&[u8], Fail> {
     for row in outcome.rows.as_slice() {
-        if let Node::File(content) = &row.node {
+        if let Node::File { content, .. } = &row.node {
             if row.path.bytes() == BUILT {
                 return Ok(content.bytes());
             }

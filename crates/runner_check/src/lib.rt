@@ -4,4 +4,6 @@
 #[cfg(test)]
 mod builds;
 #[cfg(test)]
+mod rights;
+#[cfg(test)]
 mod tests;

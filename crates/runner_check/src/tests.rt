@@ -14,7 +14,7 @@ fn content(rt: &HostRuntime, text: &str) -> Result<Content, AllocError> {
 }
 
 /// The words that run the script as the shell `program`, with one variable.
-fn words(rt: &HostRuntime, program: &str, script: &str) -> Result<Words, AllocError> {
+pub(crate) fn words(rt: &HostRuntime, program: &str, script: &str) -> Result<Words, AllocError> {
     let mut words = Words::new(rt.alloc());
     for word in [
         "env=PATH=/usr/bin:/bin",
@@ -31,7 +31,7 @@ fn words(rt: &HostRuntime, program: &str, script: &str) -> Result<Words, AllocEr
 }
 
 /// The command of these words in the folder `cwd`.
-fn captured(rt: &HostRuntime, words: &Words, cwd: &str) -> Result<Command, Fail> {
+pub(crate) fn captured(rt: &HostRuntime, words: &Words, cwd: &str) -> Result<Command, Fail> {
     let cwd = Path::read(rt.alloc(), cwd.as_bytes())?;
     let captured = capture(rt.alloc(), words, &cwd);
     drop(cwd);
@@ -48,11 +48,11 @@ fn push_row(rt: &HostRuntime, rows: &mut JobRows, path: &str, node: Node) -> Res
 fn rows(rt: &HostRuntime) -> Result<JobRows, Fail> {
     let mut rows = JobRows::new(rt.alloc());
     push_row(rt, &mut rows, "a", Node::Folder)?;
-    push_row(rt, &mut rows, "a/b", Node::File(content(rt, "old")?))?;
+    push_row(rt, &mut rows, "a/b", Node::file(content(rt, "old")?))?;
     Ok(rows)
 }
 
-fn job(rt: &HostRuntime, program: &str, cwd: &str, script: &str) -> Result<Job, Fail> {
+pub(crate) fn job(rt: &HostRuntime, program: &str, cwd: &str, script: &str) -> Result<Job, Fail> {
     let words = words(rt, program, script)?;
     let command = captured(rt, &words, cwd);
     drop(words);
@@ -61,7 +61,8 @@ fn job(rt: &HostRuntime, program: &str, cwd: &str, script: &str) -> Result<Job, 
     Ok(Job { command, rows })
 }
 
-/// The status and the rows, folders with `/` behind them and files with their contents.
+/// The status and the rows, folders with `/` behind them and files with their contents,
+/// behind `*` where they may be run, and else behind `=`.
 fn shown(rt: &HostRuntime, outcome: &Outcome) -> Result<String, Fail> {
     let mut text = format!(in rt.alloc(); "{}", outcome.status)?;
     for row in outcome.rows.as_slice() {
@@ -69,9 +70,9 @@ fn shown(rt: &HostRuntime, outcome: &Outcome) -> Result<String, Fail> {
         text.push_str(str::from_utf8(row.path.bytes())?)?;
         match &row.node {
             Node::Folder => text.push('/')?,
-            Node::File(bytes) => {
-                text.push('=')?;
-                text.push_str(str::from_utf8(bytes.bytes())?)?;
+            Node::File { content, exec } => {
+                text.push(if *exec { '*' } else { '=' })?;
+                text.push_str(str::from_utf8(content.bytes())?)?;
             }
         }
     }
@@ -101,7 +102,7 @@ fn told(
 }
 
 /// Runs the job in `work`, where it leaves nothing, and shows what came of it. At a surrogate it may run `longest`.
-fn ran_job(
+pub(crate) fn ran_job(
     rt: &HostRuntime,
     work: &str,
     job: &Job,
@@ -133,7 +134,7 @@ fn ran_in(
 }
 
 /// Runs the script in the shell.
-fn ran(rt: &HostRuntime, work: &str, script: &str) -> Result<String, Fail> {
+pub(crate) fn ran(rt: &HostRuntime, work: &str, script: &str) -> Result<String, Fail> {
     ran_in(rt, work, "/bin/sh", "", script)
 }
 
@@ -283,7 +284,7 @@ fn files_are_read_whole(rt: HostRuntime) -> Result<(), Fail> {
 #[test]
 fn what_cannot_be_written_is_a_fault(rt: HostRuntime) -> Result<(), Fail> {
     let mut rows = JobRows::new(rt.alloc());
-    push_row(&rt, &mut rows, "a/b", Node::File(content(&rt, "old")?))?;
+    push_row(&rt, &mut rows, "a/b", Node::file(content(&rt, "old")?))?;
     let whole = job(&rt, "/bin/sh", "", "exit 0")?;
     let job = Job { rows, ..whole };
     let text = ran_job(&rt, "work_odd", &job, None);

@@ -11,4 +11,6 @@ mod kept;
 #[cfg(test)]
 mod lists;
 #[cfg(test)]
+mod modes;
+#[cfg(test)]
 mod undone;

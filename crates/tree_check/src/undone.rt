@@ -56,12 +56,13 @@ fn move_of(alloc: Global, from: &[u8], to: &[u8]) -> Result<Effect, AllocError> 
 
 /// Any effect; a file has one byte.
 fn effect(alloc: Global, random: &mut Random) -> Result<Effect, AllocError> {
-    let (kind, byte) = (random.byte() % 4, random.byte());
+    let (kind, byte) = (random.byte() % 5, random.byte());
     let (first, second) = (random.text(), random.text());
     match kind {
         0 => Ok(Effect::Make(path(alloc, first)?)),
         1 => put(alloc, first, byte),
         2 => Ok(Effect::Remove(path(alloc, first)?)),
+        3 => Ok(Effect::Mode(path(alloc, first)?, byte % 2 == 1)),
         _ => move_of(alloc, first, second),
     }
 }
