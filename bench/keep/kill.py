@@ -29,7 +29,8 @@ def expect(good, what):
 
 
 class Model:
-    """The tree after each number of entries: path to (version, node), a node being None, 'folder' or the bytes of a file."""
+    """The tree after each number of entries: path to (version, node), a node being None, 'folder', or the bytes of a file and whether it
+    may be run."""
 
     def __init__(self):
         self.trees = [{}]
@@ -39,6 +40,11 @@ class Model:
 
     def node(self, path):
         return self.trees[-1].get(path, (0, None))[1]
+
+    def is_exec(self, path):
+        """Whether a file that may be run stands there."""
+        node = self.node(path)
+        return isinstance(node, tuple) and node[1]
 
     def is_folder(self, path):
         return path == "" or self.node(path) == "folder"
@@ -76,7 +82,7 @@ class Model:
         if word == "rm" and self.child(path):
             return f"refused NotEmpty {path} {self.child(path)}"
         if word == "put":
-            return self.log([(path, rest[1].encode() + b"\n")])
+            return self.log([(path, (rest[1].encode() + b"\n", self.is_exec(path)))])
         if word == "mkdir":
             return self.log([(path, "folder")])
         if word == "rm":
@@ -85,14 +91,18 @@ class Model:
 
 
     def run(self, words):
-        """The answer to a run in the root: of the shell, which writes a text to a file, or of rm, which removes all at a path."""
+        """The answer to a run in the root: of the shell, which writes a text to a file, of rm, which removes all at a path, or of chmod,
+        which lets a file be run, or not any more."""
         if words[-3] == "/bin/rm":
             gone = [it for it in self.trees[-1] if f"{it}/".startswith(f"{words[-1]}/") and self.node(it) is not None]
             changes, status = [(it, None) for it in sorted(gone, key=lambda it: it.split("/"), reverse=True)], 0 if gone else 1
+        elif words[-3] == "/bin/chmod":
+            path, mode, node = words[-1], words[-2] == "+x", self.node(words[-1])
+            changes, status = [(path, (node[0], mode))] if node and node[1] != mode else [], 0 if node else 1
         else:
             text, path = words[-6], words[-4]
             fits = self.is_folder(os.path.dirname(path)) and self.node(path) != "folder"
-            node = text.encode() + b"\n"
+            node = text.encode() + b"\n", self.is_exec(path)
             changes, status = [(path, node)] if fits and self.node(path) != node else [], 0 if fits else 3
         return f"{self.log(changes)} status {status}" if changes else f"nothing logged status {status}"
 
@@ -104,6 +114,8 @@ def random_line(number):
     word = random.choices(["put", "mkdir", "mv", "rm", "run", "sync"], [9, 3, 3, 3, 7, 4])[0]
     if word == "run" and random.random() < 0.2:
         return f"run -- /bin/rm -r {random.choice([path(), random.choice(FOLDERS)])}"
+    if word == "run" and random.random() < 0.4:
+        return f"run -- /bin/chmod {random.choice(['+x', '-x'])} {path()}"
     if word == "run":
         return f"run env=PATH=/usr/bin:/bin -- /bin/sh -c 'echo ran{number} > {path()} || exit 3'"
     if word == "put":
@@ -123,10 +135,10 @@ def read_rows(kept, count, at):
         path = kept[at + 2 : at + 2 + size].decode()
         version, kind = struct.unpack_from(">QB", kept, at + 2 + size)
         at += size + 11
-        node = [None, "folder", b""][kind]
-        if kind == 2:
+        node = [None, "folder", None, None][kind]
+        if kind > 1:
             (size,) = struct.unpack_from(">I", kept, at)
-            node = kept[at + 4 : at + 4 + size]
+            node = kept[at + 4 : at + 4 + size], kind == 3
             at += 4 + size
         tree[path] = (version, node)
     return tree, at
@@ -134,7 +146,7 @@ def read_rows(kept, count, at):
 
 def read_snapshot(frame):
     """The last number and the tree of a Snapshot frame."""
-    expect(frame[4:7] == bytes([1, 21, 64]), f"no snapshot: {frame[:20].hex()}")
+    expect(frame[4:7] == bytes([2, 21, 64]), f"no snapshot: {frame[:20].hex()}")
     last, count = struct.unpack_from(">QI", frame, 15)
     tree, at = read_rows(frame, count, 27)
     expect(at == len(frame), "bytes are left behind a snapshot")
@@ -188,7 +200,7 @@ class Pair:
             return 0
         with open(self.server_image, "rb") as it:
             kept = it.read()
-        expect(kept[:5] == b"OSSI\x01", "no server's image")
+        expect(kept[:5] == b"OSSI\x02", "no server's image")
         (last,) = struct.unpack_from(">Q", kept, 5)
         (count,) = struct.unpack_from(">I", kept, 5 + 64 * 8)
         _, at = read_rows(kept, count, 9 + 64 * 8)
@@ -209,7 +221,7 @@ class Pair:
                     expect(self.server.poll() is None, f"the server ended with {self.server.returncode}")
                     time.sleep(0.005)
                     continue
-                it.sendall(bytes.fromhex("0000000b01034000000000") + bytes(4))
+                it.sendall(bytes.fromhex("0000000b02034000000000") + bytes(4))
                 frame = b""
                 while piece := it.recv(1 << 16):
                     frame += piece

@@ -47,7 +47,7 @@ import struct, sys
 # Client 1, four files, together as many bytes as leave room for the lines; no entry waits.
 sizes = [8388608] * 3 + [8388608 - 65536]
 with open(sys.argv[1], "wb") as it:
-    it.write(b"OSCI\x01\x01" + struct.pack(">QI", len(sizes), len(sizes)))
+    it.write(b"OSCI\x02\x01" + struct.pack(">QI", len(sizes), len(sizes)))
     for i, size in enumerate(sizes):
         it.write(struct.pack(">HBQBI", 1, 97 + i, 1, 2, size) + bytes(size))
     it.write(bytes(4))

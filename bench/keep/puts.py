@@ -26,7 +26,7 @@ def text_of(i):
 def make_image(name, rows):
     """The image of client 1 with so many files and with no entry that waits."""
     with open(name, "wb") as it:
-        it.write(b"OSCI\x01\x01" + struct.pack(">QI", rows, rows))
+        it.write(b"OSCI\x02\x01" + struct.pack(">QI", rows, rows))
         for i in range(rows):
             path, text = path_of(i).encode(), text_of(i).encode() + b"\n"
             it.write(struct.pack(">H", len(path)) + path + struct.pack(">QBI", 1, 2, len(text)) + text)

@@ -1,6 +1,7 @@
 #!/bin/sh
 # Brings folders in by tools/import and out again by tools/export, and compares them byte for byte: one with odd names and contents, and the
-# sources of this repository. What cannot go has to be named, and nothing else. Ends with 1 where something is wrong.
+# sources of this repository. What cannot go has to be named, and nothing else; what may be run has to run when it is in. Ends with 1 where
+# something is wrong.
 #
 #   bench/work/folders.sh [PROGRAMS]     over the client in the folder PROGRAMS; no server is wanted
 #
@@ -53,6 +54,9 @@ printf 'x\ny\n' > odd/sub/deep/ö
 printf 'x\ny\n' > odd/sub/--
 head -c 300000 /dev/urandom > odd/sub/chance
 chmod 400 odd/sub/chance
+printf '#!/bin/sh\nexit 7\n' > odd/sub/seven
+printf 'exit 8\n' > odd/eight
+chmod 700 odd/sub/seven odd/eight
 cp -r odd wanted
 # what cannot go
 printf 'x\n' > "odd/it's"
@@ -66,6 +70,11 @@ head -c 8388609 /dev/zero > odd/large
 both_ways odd '' out 1
 diff -r wanted out || fail "the folder with odd names came out in another form"
 [ "$(wc -l < out.said)" = 6 ] || fail "six things cannot go: $(cat out.said)"
+# what may be run is run by its name, and nothing else is
+for it in './sub/seven 7' './eight 8' './line 126'; do
+    echo "run -- /bin/sh -c ${it% *}" | run_client out.image > run.answers 2> run.said
+    grep -q "^nothing logged status ${it#* }\$" run.answers || fail "${it% *}: $(cat run.answers run.said)"
+done
 both_ways odd far/away again 1
 diff -r wanted again || fail "the folder with odd names came out of a folder in another form"
 ! "$top/tools/export" odd -- true 2> /dev/null || fail "export writes over a folder that is not empty"

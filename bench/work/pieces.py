@@ -127,9 +127,9 @@ def pieces():
         Piece("diff -u", source, "diff -u lvm.c new.c > change", before=("sed s/lua_State/State/ lvm.c > new.c",), wants=("diff",)),
         Piece("patch", source, "patch -s lvm.c change", wants=("patch", "diff"),
               before=("sed s/lua_State/State/ lvm.c > new.c; diff lvm.c new.c > change; rm new.c",)),
-        Piece("configure (hello)", [(HELLO, "")], "sh ./configure", "sh ./configure; rm -f config.log", wants=("gcc", "make")),
-        Piece("configure, make (zlib)", [(ZLIB, "")], "sh ./configure && make libz.a",
-              "sh ./configure && make libz.a; rm -f configure.log", wants=("gcc", "make", "ar")),
+        Piece("configure (hello)", [(HELLO, "")], "./configure", "./configure; rm -f config.log", wants=("gcc", "make")),
+        Piece("configure, make (zlib)", [(ZLIB, "")], "./configure && make libz.a",
+              "./configure && make libz.a; rm -f configure.log", wants=("gcc", "make", "ar")),
         Piece("python compileall", asyncio, "/usr/bin/python3 -m compileall -q .",
               "/usr/bin/python3 -m compileall -q --invalidation-mode checked-hash .", wants=("/usr/bin/python3",)),
         Piece("compileall, checked-hash", asyncio, "/usr/bin/python3 -m compileall -q --invalidation-mode checked-hash .",
@@ -157,6 +157,12 @@ def pieces():
         Piece("gcc -g -O2 -c", source, "gcc -g -O2 -c lvm.c", wants=("gcc",)),
         Piece("sort; pwd", source, "sort lvm.c > s; pwd >> s"),
         Piece("sort; date, host, id", source, "(sort lvm.c; date; hostname; id) > s"),
+        # What may be run: what one run built runs in the next, and what is built and put into its place.
+        Piece("./lua, made before", source, './lua -e "for i = 1, 20000 do print(i, i * i) end" > squares',
+              before=("make lua",), wants=("gcc", "make", "ar")),
+        Piece("make, make install (lua)", lua, "make generic && make install INSTALL_TOP=$PWD/out", wants=("gcc", "make", "ar", "install")),
+        Piece("configure, make, ./hello", [(HELLO, "")], "./configure && make && ./hello -g $PWD > greeting",
+              "./configure && make && ./hello -g $PWD > greeting; rm -f config.log", wants=("gcc", "make")),
     ]
 
 

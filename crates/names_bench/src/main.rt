@@ -71,7 +71,7 @@ fn objects(alloc: Global, files: u32) -> Result<RawRows, AllocError> {
         let content = content_of(k.wrapping_mul(1_021) % 4_096, stamp);
         rows.push(RawRow {
             path: Content::of(alloc, &name_of(k.wrapping_mul(7).wrapping_add(3)))?,
-            node: Node::File(Content::of(alloc, &content)?),
+            node: Node::file(Content::of(alloc, &content)?),
         })?;
     }
     Ok(rows)

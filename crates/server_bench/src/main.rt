@@ -24,7 +24,7 @@ const STORES: u32 = 2_000;
 const PULLS: u32 = 2;
 
 /// Client 1 asks for all rows.
-const PULL: [u8; 15] = [0, 0, 0, 11, 1, 3, 1, 0, 0, 0, 0, 0, 0, 0, 0];
+const PULL: [u8; 15] = [0, 0, 0, 11, 2, 3, 1, 0, 0, 0, 0, 0, 0, 0, 0];
 
 /// Stores of client 1: the number of the first, its row, how many there are, after how many the rows come again, the
 /// version that the rows have, and how many folders they are in.
