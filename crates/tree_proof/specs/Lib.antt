@@ -1,0 +1,9 @@
+pub mod Limits
+pub mod Slim
+pub mod Tops
+pub mod Certificate
+pub mod Checking
+pub mod Texts
+pub mod Trees
+pub mod Laws
+pub mod Inside
