@@ -1,0 +1,4 @@
+mod Trying
+mod Turning
+mod Pooling
+mod Passing
