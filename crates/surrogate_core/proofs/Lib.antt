@@ -9,3 +9,4 @@ pub mod Free
 pub mod Following
 pub mod Served
 pub mod Silent
+pub mod Calls

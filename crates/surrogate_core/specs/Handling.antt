@@ -68,6 +68,11 @@ IsAsking Idle = ⊥
 IsAsking (Fetching client sketched) = Unit {0}
 IsAsking (Holding client number before) = Unit {0}
 
+-- a snapshot is awaited
+abbrev pub is_fetching : Phase → Bool
+is_fetching (Fetching client sketched) = true
+is_fetching phase = false
+
 -- a step, and what the surrogate is after it
 pub record Reaction : Type 0 where
   pub step : Step

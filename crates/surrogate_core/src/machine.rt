@@ -10,12 +10,12 @@ ghost use Rattle.wire_frames.specs.Frame.{IsValid};
 ghost use Rattle.wire_frames.specs.declared.message.Message.TheVariants.{Store, Operate, Done, Declined};
 ghost use Rattle.surrogate_core.specs.declared.step.Step.TheVariants as steps;
 ghost use Rattle.surrogate_core.specs.declared.machine.State.TheVariants as states;
-ghost use Rattle.surrogate_core.specs.Handling.{Idle, Fetching, IsAsking, idle, copy_before, declining, job_for};
+ghost use Rattle.surrogate_core.specs.Handling.{Idle, Fetching, IsAsking, is_fetching, idle, copy_before, declining, job_for};
 ghost use Rattle.surrogate_core.specs.Handling.{closed, refusal_kind, Tries, Operates, AfterJob, Expects, HandlesReply};
 ghost use Rattle.surrogate_core.specs.Handling.{IsSilenced, IsFitStep};
 ghost use Rattle.cmd_capture.specs.Runs.{telling, IsAskedOnce, IsAskedAtMostOnce};
 ghost use Rattle.surrogate_core.specs.Serving.{Steps, failed_cause, failed_step};
-ghost use Rattle.surrogate_core.specs.Inside.{IsSound, IsConcluded, Starves, reaction_of, operation_in, snapshot_rows};
+ghost use Rattle.surrogate_core.specs.Inside.{IsSound, IsConcluded, Starves, phase_of, reaction_of, operation_in, snapshot_rows};
 
 use crate::replaying::{Held, prepare, replay};
 use crate::step::Step;
@@ -87,7 +87,8 @@ impl Surrogate {
         self.alloc
     }
 
-    /// Begins to handle an operation, for which the runner is asked once at most. Any other message is malformed.
+    /// Begins to handle an operation, for which the runner is asked once at most, and not where a snapshot is awaited then.
+    /// Any other message is malformed.
     pub fn on_operate<R: Runner>(&mut self, request: Message, work: &[u8], runner: &mut R) -> Step
         requires idle { self.old.phase ≡ Idle }
         requires valid { IsValid request }
@@ -98,6 +99,7 @@ impl Surrogate {
             (telling (R.runs runner.old) (R.faults runner.old)) (telling (R.runs runner.new) (R.faults runner.new)) }
         ensures sent { IsFitStep result }
         ensures asked { IsAskedAtMostOnce (R.calls runner.old) (R.calls runner.new) }
+        ensures unasked { is_fetching self.new.phase ≡ true → R.calls runner.new ≡ R.calls runner.old }
     {
         match operation(request) {
             Some((client, sketched)) => self.try_on(false, client, sketched, work, runner),
@@ -105,7 +107,7 @@ impl Surrogate {
         }
     }
 
-    /// Goes on with the server's reply. The runner is asked once at most.
+    /// Goes on with the server's reply. The runner is asked once at most, and only where a snapshot was awaited.
     pub fn on_server<R: Runner>(&mut self, reply: Message, work: &[u8], runner: &mut R) -> Step
         requires { Expects self.old.phase reply }
         ensures steps { Steps (HandlesReply self.old.phase self.old.copy reply work.now) (record {
@@ -115,6 +117,7 @@ impl Surrogate {
             (telling (R.runs runner.old) (R.faults runner.old)) (telling (R.runs runner.new) (R.faults runner.new)) }
         ensures sent { IsFitStep result }
         ensures asked { IsAskedAtMostOnce (R.calls runner.old) (R.calls runner.new) }
+        ensures unasked { is_fetching self.old.phase ≡ false → R.calls runner.new ≡ R.calls runner.old }
     {
         match mem::replace(&mut self.state, State::Idle) {
             State::Idle => Step::Answer(reply),
@@ -223,6 +226,7 @@ impl Surrogate {
             (telling (R.runs runner.old) (R.faults runner.old)) (telling (R.runs runner.new) (R.faults runner.new)) }
         ensures sent { IsFitStep result }
         ensures asked { IsAskedAtMostOnce (R.calls runner.old) (R.calls runner.new) }
+        ensures unasked { is_fetching self.new.phase ≡ true → R.calls runner.new ≡ R.calls runner.old }
     {
         let number = sketched.seq;
         match advance(
@@ -277,6 +281,7 @@ fn advance<R: Runner>(
         (telling (R.runs runner.new) (R.faults runner.new))) }
     ensures unchanged { OnErr result (copy.new ≡ copy.old) }
     ensures asked { IsAskedAtMostOnce (R.calls runner.old) (R.calls runner.new) }
+    ensures unasked { IfOk result (λ x. is_fetching (phase_of x.1 copy.new) ≡ true → R.calls runner.new ≡ R.calls runner.old) }
 {
     match prepare(alloc, copy, &sketched) {
         Ok(Ok(job)) => perform(alloc, copy, client, sketched, job, work, runner),
@@ -335,6 +340,7 @@ fn perform<R: Runner>(
         (telling (R.runs runner.new) (R.faults runner.new))) }
     ensures unchanged { OnErr result (copy.new ≡ copy.old) }
     ensures asked { IsAskedOnce (R.calls runner.old) (R.calls runner.new) }
+    ensures ran { IfOk result (λ x. is_fetching (phase_of x.1 copy.new) ≡ false) }
 {
     match runner.run(work, &job) {
         Ok(outcome) => {
@@ -371,6 +377,7 @@ fn conclude(client: u8, sketched: SketchEntry, held: Result<Held, Cause>) -> (St
     ensures held { IsConcluded client sketched held result.0 result.1 }
     ensures sent { IsFitStep result.0 }
     ensures none_failed { failed_step result.0 ≡ 0 }
+    ensures ran { (copy : Volume) → is_fetching (phase_of result.1 copy) ≡ false }
 {
     match held {
         Ok(held) => hold(client, sketched, held),

@@ -1,10 +1,10 @@
 // Operations that are handled over a link.
-ghost use Rattle.std.specs.Prelude.{◌≡◌, ◌<◌, IfOk, OnErr};
+ghost use Rattle.std.specs.Prelude.{◌≡◌, ◌<◌, false, IfOk, OnErr};
 ghost use Rattle.wire_frames.specs.Frame.{IsValid};
 ghost use Rattle.world_rules.specs.Asking.{IsRequest};
 ghost use Rattle.surrogate_core.specs.declared.step.Step.TheVariants as steps;
-ghost use Rattle.surrogate_core.specs.Handling.{Idle, idle, copy_before, IsFitStep};
-ghost use Rattle.cmd_capture.specs.Runs.{telling};
+ghost use Rattle.surrogate_core.specs.Handling.{Idle, is_fetching, idle, copy_before, IsFitStep};
+ghost use Rattle.cmd_capture.specs.Runs.{telling, IsAskedAtMostOnce};
 ghost use Rattle.surrogate_core.specs.Serving.{Serves};
 ghost use Rattle.surrogate_core.specs.Inside.{Awaits, Follows, Breaks, asks_left};
 
@@ -17,7 +17,7 @@ use world_rules::{Link, Peer, settle};
 
 impl Surrogate {
     /// Handles an operation to its answer: tries it on the copy, and asks the server at the address. Any other message is
-    /// malformed.
+    /// malformed. The runner is asked once at most.
     ///
     /// # Errors
     ///
@@ -38,6 +38,7 @@ impl Surrogate {
         ensures served { Serves server.now work.now self.old.copy request result self.new.copy
             (telling (R.runs runner.old) (R.faults runner.old)) (telling (R.runs runner.new) (R.faults runner.new)) (L.tells link.old)
             (L.tells link.new) }
+        ensures asked { IsAskedAtMostOnce (R.calls runner.old) (R.calls runner.new) }
     {
         let mut step = self.on_operate(request, work, runner);
         'asking: loop {
@@ -87,6 +88,8 @@ impl Surrogate {
         ensures taken_back { OnErr result (self.new ≡ idle (copy_before self.old)) }
         ensures unrun { OnErr result (telling (R.runs runner.new) (R.faults runner.new) ≡ telling (R.runs runner.old)
             (R.faults runner.old)) }
+        ensures asked { IsAskedAtMostOnce (R.calls runner.old) (R.calls runner.new) }
+        ensures unasked { is_fetching self.old.phase ≡ false → R.calls runner.new ≡ R.calls runner.old }
         ensures kept { L.keeps link.old link.new }
     {
         match settle(self.allocator(), link, Peer::Server, server, asked) {
