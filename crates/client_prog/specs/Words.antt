@@ -3,9 +3,10 @@ use Rattle.std.specs.Prelude.{ℕ, Bool, ◌&&◌, List, [], ◌∷◌, length, 
 use Rattle.std.specs.Str.{bytes_eq}
 use Rattle.program_words.specs.Numbers.{printed_number}
 use Rattle.wire_frames.specs.Limits.{max_client}
+use Rattle.surrogate_pool.specs.Addresses.{are_addresses}
 
--- what the words of a run say: the client's number, its image, the server's address, the surrogate's where there is one, and the work
--- folder
+-- what the words of a run say: the client's number, its image, the server's address, those of the surrogates, joined by commas, where
+-- there are any, and the work folder
 pub record Invocation : Type 0 where
   pub client : ℕ
   pub image : List ℕ
@@ -13,14 +14,14 @@ pub record Invocation : Type 0 where
   pub surrogate : Option (List ℕ)
   pub work : List ℕ
 
--- the address that a word is; `-` is none
+-- the addresses that a word joins; `-` is none
 abbrev pub address_of : List ℕ → Option (List ℕ)
 address_of word = if bytes_eq word (codes "-") then None else Some word
 
--- the word `run`, and an image, a server, a surrogate and a work folder, of which no word is empty
+-- the word `run`, and an image, a server and a work folder, of which no word is empty, and addresses of surrogates, or `-`
 abbrev pub is_run : List ℕ → List ℕ → List ℕ → List ℕ → List ℕ → Bool
 is_run run image server surrogate work =
-    bytes_eq run (codes "run") && nat_lt 0 (length image) && nat_lt 0 (length server) && nat_lt 0 (length surrogate)
+    bytes_eq run (codes "run") && nat_lt 0 (length image) && nat_lt 0 (length server) && are_addresses surrogate
     && nat_lt 0 (length work)
 
 abbrev pub run_by : List ℕ → List ℕ → List ℕ → List ℕ → Option ℕ → Option Invocation

@@ -22,6 +22,7 @@ use std::net::Net;
 use std::process::{ExitCode, Processes};
 use std::rt::{Env, Files};
 use std::time::Clock;
+use surrogate_pool::Pool;
 use world_rules::Link;
 
 const HELP: &str = "\
@@ -78,10 +79,13 @@ Of a number that was used with another image the server drops what it had
 before, and answers 'synced': ask 'pull' first. IMAGE.new and IMAGE.lock belong
 to IMAGE, and no other program has it meanwhile. IMAGE is made for its owner
 alone, with the rights 0600; rights that you give it stay. SERVER is the
-server's address, with a port. SURROGATE is the address of a surrogate, or - for
-none. Where there is one, 'sync' sends it the command of a run, if that is
-shorter than what the run changed, to be run again near the server; where
-nothing comes of it, or something else, the server is sent what was changed.
+server's address, with a port. SURROGATE is the address of a surrogate, or up to
+eight joined by ',' with no spaces, or - for none. Where there is one, 'sync'
+sends it the command of a run, if that is shorter than what the run changed, to
+be run again near the server. Of several each is asked in turn, until one has
+done it: name the one you trust most first, since one that is silent is waited
+for up to 10 minutes, and 30 seconds from then on. Where nothing comes of it, or
+something else, the server is sent what was changed.
 WORK is the folder in which programs run, each in a folder of its own that is
 removed behind it. Name the same WORK to the client and to its surrogate, on one
 machine too: a program is run in the same place then, so that what it makes is
@@ -97,6 +101,7 @@ terminals, too, it shows '> ' before each line.
 Examples:
   client run 1 client.image 127.0.0.1:7001 - work
   client run 1 client.image 127.0.0.1:7001 127.0.0.1:7002 /var/tmp/haurpiko
+  client run 1 client.image server:7001 near:7002,far:7002 /var/tmp/haurpiko
 
 The client ends with one of these statuses:
   0  the input was read to its end or to 'quit', and every line was answered
@@ -190,7 +195,7 @@ fn run_over<
     let mut input = StdSource::new(reader);
     let mut runner = ChildRunner::at_client(rt, NAME);
     clear_work(&mut runner, words);
-    let mut link = link_over(rt, terminals);
+    let mut link = Pool::new(rt.alloc(), link_over(rt, terminals));
     let ended = answered(rt, words, &mut input, output, &mut runner, &mut link);
     drop(link);
     drop(runner);

@@ -8,6 +8,7 @@ ghost use Rattle.client_prog.specs.Words.{run_of, is_run, address_of, form_of};
 ghost use Rattle.client_prog.specs.Inside.{run_said, IsForm};
 
 use program_words::printed_number;
+use surrogate_pool::are_addresses;
 use wire_frames::CLIENTS;
 
 /// What the words behind the program's name ask for.
@@ -26,7 +27,7 @@ pub struct RunWords<'a> {
     pub image: &'a [u8],
     /// The address of the server, which is not empty.
     pub server: &'a [u8],
-    /// The address of the surrogate, where there is one; it is not empty.
+    /// The addresses of the surrogates, joined by commas, where there are any: at most eight, and none is empty.
     pub surrogate: Option<&'a [u8]>,
     /// The work folder, which is not empty.
     pub work: &'a [u8],
@@ -75,11 +76,11 @@ fn is_run(run: &[u8], image: &[u8], server: &[u8], surrogate: &[u8], work: &[u8]
     run == b"run".as_slice()
         && !image.is_empty()
         && !server.is_empty()
-        && !surrogate.is_empty()
+        && are_addresses(surrogate)
         && !work.is_empty()
 }
 
-/// The address that a word is; `-` is none.
+/// The addresses that a word joins; `-` is none.
 fn address_of(word: &[u8]) -> Option<&[u8]>
     ensures { option_copied result ≡ address_of word.now }
 {
