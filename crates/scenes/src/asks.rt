@@ -5,9 +5,8 @@ ghost use Rattle.world_rules.specs.Asking.{IsRequest};
 use crate::answers::Reply;
 use crate::lines::{OTHER_WORDS, none};
 use crate::outside_clients::OutsideClients;
-use crate::place::started;
+use crate::place::{Pooled, started};
 use cmd_capture::ScriptRunner;
-use run_probe::Network;
 use scene_files::Fault;
 use std::alloc::Global;
 use surrogate_core::Surrogate;
@@ -82,7 +81,7 @@ fn peer_of(message: &Message) -> Option<Peer>
 }
 
 /// What asking whom the frame is for comes to.
-fn asked(alloc: Global, net: &mut Network, frame: &[u8], times: Times) -> Result<Reply, Fault> {
+fn asked(alloc: Global, net: &mut Pooled, frame: &[u8], times: Times) -> Result<Reply, Fault> {
     let Ok(message) = read(alloc, frame) else {
         return Err(NO_FRAME);
     };
@@ -118,7 +117,7 @@ fn handled(
     alloc: Global,
     frame: &[u8],
     runner: &mut ScriptRunner,
-    net: &mut Network,
+    net: &mut Pooled,
 ) -> Result<(Vec<u8>, u32), Fault> {
     let Ok(request) = read(alloc, frame) else {
         return Err(NO_FRAME);

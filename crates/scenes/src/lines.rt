@@ -71,6 +71,7 @@ pub(crate) enum Passed {
     Packet,
     Length,
     Troubles,
+    Tries,
 }
 
 /// What a line is, by its first word.
@@ -87,7 +88,7 @@ pub(crate) enum Verb {
 }
 
 /// The first word of each line.
-const VERBS: [(&str, Verb); 39] = [
+const VERBS: [(&str, Verb); 40] = [
     ("fate", Verb::Before(Before::Fate)),
     ("keep", Verb::Before(Before::Keep)),
     ("keeper", Verb::Before(Before::Keeper)),
@@ -126,6 +127,7 @@ const VERBS: [(&str, Verb); 39] = [
     ("packet", Verb::Passed(Passed::Packet)),
     ("length", Verb::Passed(Passed::Length)),
     ("troubles", Verb::Passed(Passed::Troubles)),
+    ("tries", Verb::Passed(Passed::Tries)),
     ("unmet", Verb::Unmet),
 ];
 
@@ -160,7 +162,7 @@ impl Verb {
             },
             Verb::Passed(passed) => match passed {
                 Passed::Leaves | Passed::Sent | Passed::Frames | Passed::Packet => true,
-                Passed::Length | Passed::Troubles => false,
+                Passed::Length | Passed::Troubles | Passed::Tries => false,
             },
             Verb::Unmet => false,
         }

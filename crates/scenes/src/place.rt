@@ -11,6 +11,7 @@ use scene_files::Fault;
 use server_core::Server;
 use std::alloc::{AllocError, Global};
 use std::mem;
+use surrogate_pool::Pool;
 use vol_tree::TryCopy;
 
 /// What the network and the keeper of the next run are to meet.
@@ -42,10 +43,13 @@ impl Prepared {
     }
 }
 
+/// A network under a pool, by which an operation goes to each of the addresses that an ask names.
+pub(crate) type Pooled = Pool<Network>;
+
 /// A network and a keeper.
 #[derive(Drop)]
 pub(crate) struct Place {
-    pub(crate) net: Network,
+    pub(crate) net: Pooled,
     pub(crate) keeper: Counted<MemKeeper>,
     /// How many lines said that the keeper fails.
     lines: u32,
@@ -54,7 +58,7 @@ pub(crate) struct Place {
 impl Place {
     /// Whether each line that says so made the keeper fail, and the surrogate's runs came to each answer.
     pub(crate) fn is_met(&self) -> bool {
-        self.keeper.failed >= self.lines && self.net.runner().answers_left() == 0
+        self.keeper.failed >= self.lines && self.net.link().runner().answers_left() == 0
     }
 
     /// Nothing is kept any more, and no call of the keeper fails.
@@ -95,7 +99,7 @@ fn place_of(
     let net = network(alloc, server, answers, fates)?;
     match keeper_of(alloc, &prepared.images, &prepared.fails) {
         Ok(keeper) => Ok(Place {
-            net,
+            net: Pool::new(alloc, net),
             keeper,
             lines: prepared.lines,
         }),
@@ -119,7 +123,7 @@ pub(crate) fn prepare_again(
             prepared.images.push(image)?;
         }
     }
-    Ok(copy_server(place.net.server(), &mut prepared.server)?)
+    Ok(copy_server(place.net.link().server(), &mut prepared.server)?)
 }
 
 fn copy_server(server: &Server, copy: &mut Server) -> Result<(), AllocError> {
@@ -143,7 +147,7 @@ pub(crate) fn image<'a>(
 /// The server.
 pub(crate) fn server<'a>(prepared: &'a Prepared, place: &'a Option<Place>) -> &'a Server {
     match place {
-        Some(place) => place.net.server(),
+        Some(place) => place.net.link().server(),
         None => &prepared.server,
     }
 }

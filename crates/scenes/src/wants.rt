@@ -7,6 +7,7 @@ use run_probe::{Network, account_of_network, rows_of_server, sent_packets};
 use scene_files::{Fault, Report, number, small};
 use server_core::Server;
 use std::alloc::{AllocError, Global};
+use surrogate_pool::Round;
 
 impl OutsideClients {
     /// Looks at what is kept, or at the server.
@@ -61,7 +62,7 @@ impl OutsideClients {
         let Some(place) = &self.place else {
             return Err(Fault::Line("nothing was run or asked before this"));
         };
-        let (alloc, net) = (self.alloc, &place.net);
+        let (alloc, net) = (self.alloc, place.net.link());
         match passed {
             Passed::Leaves => compare_all(report, words, account_of_network(alloc, net), block),
             Passed::Sent => compare_all(report, words, sent_packets(alloc, net), block),
@@ -69,6 +70,7 @@ impl OutsideClients {
             Passed::Packet => look_at_packet(report, net, words, block),
             Passed::Length => look_at_length(report, net, words),
             Passed::Troubles => look_at_troubles(report, net, words),
+            Passed::Tries => look_at_tries(report, place.net.rounds(), words),
         }
     }
 }
@@ -134,6 +136,15 @@ fn look_at_length(report: &mut Report, net: &Network, words: &[&str]) -> Result<
 fn look_at_troubles(report: &mut Report, net: &Network, words: &[&str]) -> Result<(), Fault> {
     let troubles = number(one(words)?)?;
     Ok(report.compare_numbers(net.troubles(), u64::from(troubles))?)
+}
+
+/// How many asks of the network were made for each ask.
+fn look_at_tries(report: &mut Report, rounds: &[Round], words: &[&str]) -> Result<(), Fault> {
+    report.compare_numbers(rounds.len() as u64, words.len() as u64)?;
+    for (round, word) in rounds.iter().zip(words) {
+        report.compare_numbers(round.tries as u64, u64::from(number(word)?))?;
+    }
+    Ok(())
 }
 
 /// Looks whether what is found is the block, behind a line of one word.
