@@ -1,0 +1,197 @@
+// What scenes of certificates are played on.
+
+use crate::telling::told;
+use crate::words::{Act, Change, Given, Want, meaning_of};
+use scene_files::{Fault, Line, Report, Stage, number, small};
+use std::alloc::Global;
+use tree_proof::{check, prove, root_of};
+use vol_tree::{Content, Effect, Path, PathError, Tree, TreeError};
+
+/// A tree, and what is checked: what a certificate says of a path against a root.
+#[derive(Drop)]
+pub(crate) struct Certificates {
+    alloc: Global,
+    tree: Tree,
+    root: [u8; 32],
+    path: Path,
+    bytes: Vec<u8>,
+    is_looked_at: bool,
+}
+
+impl Certificates {
+    /// A tree without rows, and nothing to be checked.
+    pub(crate) fn new(alloc: Global) -> Certificates {
+        Certificates {
+            alloc,
+            tree: Tree::new(alloc),
+            root: [0; 32],
+            path: Path::root(alloc),
+            bytes: Vec::new(alloc),
+            is_looked_at: true,
+        }
+    }
+
+    /// Changes the tree.
+    fn change(&mut self, change: Change, line: Line<'_>) -> Result<(), Fault> {
+        let effect = effect_of(self.alloc, change, line)?;
+        let applied = self.tree.apply(&effect);
+        drop(effect);
+        match applied {
+            Ok(undo) => {
+                drop(undo);
+                Ok(())
+            }
+            Err(TreeError::Memory) => Err(Fault::Memory),
+            Err(refused) => {
+                drop(refused);
+                Err(Fault::Line("the tree refuses this"))
+            }
+        }
+    }
+
+    fn give(&mut self, given: Given, line: Line<'_>) -> Result<(), Fault> {
+        match given {
+            Given::Root => self.set_root(line.block),
+            Given::Path => {
+                self.path = path_of(self.alloc, line.rest)?;
+                Ok(())
+            }
+            Given::Certificate => {
+                self.bytes = line.block.to_vec(self.alloc)?;
+                Ok(())
+            }
+        }
+    }
+
+    fn set_root(&mut self, bytes: &[u8]) -> Result<(), Fault> {
+        if bytes.len() != 32 {
+            return Err(Fault::Line("a root has 32 bytes"));
+        }
+        self.root.copy_from_slice(bytes);
+        Ok(())
+    }
+
+    fn look(&mut self, report: &mut Report, want: Want, line: Line<'_>) -> Result<(), Fault> {
+        report.look();
+        match want {
+            Want::Root => self.look_at_root(report, line.block),
+            Want::Proof => self.look_at_proof(report, line),
+            Want::Said => self.look_at_said(report, &self.bytes, line.rest),
+            Want::SaidByFront => {
+                let (place, said) = two_parts(line.rest)?;
+                let mut other = self.bytes.to_vec(self.alloc)?;
+                other.truncate(number(place)? as usize);
+                self.look_at_said(report, &other, said)
+            }
+            Want::SaidWithByte => {
+                let (place, rest) = two_parts(line.rest)?;
+                let (byte, said) = two_parts(rest)?;
+                let mut other = self.bytes.to_vec(self.alloc)?;
+                set(&mut other, number(place)? as usize, small(byte)?)?;
+                self.look_at_said(report, &other, said)
+            }
+        }
+    }
+
+    /// The tree's root is this, and is at hand from here on.
+    fn look_at_root(&mut self, report: &mut Report, wanted: &[u8]) -> Result<(), Fault> {
+        let root = root_of(&self.tree)?;
+        self.root = root;
+        Ok(report.compare(&root, wanted)?)
+    }
+
+    /// The tree's certificate for the path is this, and is checked from here on.
+    fn look_at_proof(&mut self, report: &mut Report, line: Line<'_>) -> Result<(), Fault> {
+        self.path = path_of(self.alloc, line.rest)?;
+        self.bytes = prove(&self.tree, &self.path)?;
+        Ok(report.compare(&self.bytes, line.block)?)
+    }
+
+    /// These bytes say this of the path against the root.
+    fn look_at_said(&self, report: &mut Report, bytes: &[u8], wanted: &str) -> Result<(), Fault> {
+        let checked = check(self.alloc, &self.root, &self.path, bytes);
+        let said = told(self.alloc, &checked);
+        drop(checked);
+        let said = said?;
+        let compared = report.compare(said.as_bytes(), wanted.as_bytes());
+        drop(said);
+        Ok(compared?)
+    }
+}
+
+fn set(bytes: &mut Vec<u8>, place: usize, byte: u8) -> Result<(), Fault> {
+    match bytes.get_mut(place) {
+        Some(here) => {
+            *here = byte;
+            Ok(())
+        }
+        None => Err(Fault::Line("there is no such byte")),
+    }
+}
+
+/// A word, and what stands behind it.
+fn two_parts(text: &str) -> Result<(&str, &str), Fault> {
+    match text.split_once(' ') {
+        Some(parts) => Ok(parts),
+        None => Err(Fault::Line("more words are wanted here")),
+    }
+}
+
+fn path_of(alloc: Global, word: &str) -> Result<Path, Fault> {
+    match Path::read(alloc, word.as_bytes()) {
+        Ok(path) => Ok(path),
+        Err(PathError::Memory) => Err(Fault::Memory),
+        Err(_) => Err(Fault::Line("that is no path")),
+    }
+}
+
+/// What the line does to a tree.
+fn effect_of(alloc: Global, change: Change, line: Line<'_>) -> Result<Effect, Fault> {
+    match change {
+        Change::Make => Ok(Effect::Make(path_of(alloc, line.rest)?)),
+        Change::Put => {
+            let path = path_of(alloc, line.rest)?;
+            Ok(Effect::Put(path, Content::of(alloc, line.block)?))
+        }
+        Change::Mode => {
+            let (word, bit) = two_parts(line.rest)?;
+            let path = path_of(alloc, word)?;
+            Ok(Effect::Mode(path, bit == "1"))
+        }
+        Change::Remove => Ok(Effect::Remove(path_of(alloc, line.rest)?)),
+    }
+}
+
+impl Stage for Certificates {
+    /// The tree has no rows, and nothing is to be checked.
+    fn begin(&mut self) {
+        self.tree = Tree::new(self.alloc);
+        self.root = [0; 32];
+        self.path = Path::root(self.alloc);
+        self.bytes.clear();
+        self.is_looked_at = true;
+    }
+
+    fn takes_block(&self, words: &[&str]) -> bool {
+        match words.first() {
+            Some(first) => matches!(meaning_of(first), Some((_, true))),
+            None => false,
+        }
+    }
+
+    fn follow(&mut self, report: &mut Report, line: Line<'_>) -> Result<(), Fault> {
+        let Some((act, _)) = meaning_of(line.first) else {
+            return Err(Fault::Line("no line begins so"));
+        };
+        self.is_looked_at = matches!(act, Act::Look(_));
+        match act {
+            Act::Change(change) => self.change(change, line),
+            Act::Give(given) => self.give(given, line),
+            Act::Look(want) => self.look(report, want, line),
+        }
+    }
+
+    fn is_looked_at(&self) -> bool {
+        self.is_looked_at
+    }
+}
