@@ -39,7 +39,7 @@ use Rattle.tree_proof.specs.declared.checking.Finding.{Finding}
 use Rattle.tree_proof.specs.declared.checking.Finding.TheVariants as found
 use Rattle.tree_proof.specs.declared.checking.CheckError.TheVariants.{OtherPath, WrongRoot}
 use Rattle.tree_proof.specs.Limits.{most_levels}
-use Rattle.tree_proof.specs.Slim.{slim_spelling, SlimFits, NodeFits}
+use Rattle.tree_proof.specs.Slim.{slim_spelling}
 use Rattle.tree_proof.specs.Trees.{slim_row, leaves, root_of, tree_texts, found_at}
 use Rattle.tree_proof.specs.Tops.{Digest, leaf_text, root_text, leaf_of, root_over, top_within, top, climbed_within, way_within}
 use Rattle.tree_proof.specs.Texts.{top_texts, way_texts, shown_texts, certificate_texts, read_texts}
@@ -49,7 +49,7 @@ use Rattle.tree_proof.specs.Laws.{FindingsAreTrue}
 use Rattle.tree_proof.specs.Inside.{HasWay}
 use Rattle.tree_proof.proofs.Lists.{in_front, in_back, same_fronts, all_got, each_implies, all_mapped, got_alike}
 use Rattle.tree_proof.proofs.Climbing.{IsDigest, climbs_alone}
-use Rattle.tree_proof.proofs.Spelled.{slim_codec, certificate_codec, LeafFits, CertificateFits, begin_of}
+use Rattle.tree_proof.proofs.Spelled.{NodeFits, SlimFits, slim_codec, certificate_codec, LeafFits, CertificateFits, begin_of}
 
 -- ---- reading the whole bytes
 

@@ -24,12 +24,26 @@ use Rattle.tree_proof.specs.declared.certificate.Head.{Head}
 use Rattle.tree_proof.specs.declared.certificate.Leaf.{Leaf}
 use Rattle.tree_proof.specs.declared.certificate.Places.{Places}
 use Rattle.tree_proof.specs.Limits.{most_levels}
-use Rattle.tree_proof.specs.Slim.{node_spelling, slim_spelling, NodeFits, SlimFits, slim_file_at, slim_kinds, slim_node_at, slim_at}
+use Rattle.tree_proof.specs.Slim.{node_spelling, slim_spelling, slim_file_at, slim_kinds, slim_node_at, slim_at}
 use Rattle.tree_proof.specs.Tops.{Digest, way_within}
 use Rattle.tree_proof.specs.Certificate.{Certificate, leaf_count, first_place, place_limit, kind_byte, head_spelling, digests_spelling, leaf_spelling, certificate_spelling, kinds, kind_at, head_at, digests_at, leaf_at, next_place, leaves_at, certificate_at}
 use Rattle.tree_proof.proofs.Climbing.{IsDigest}
 
 -- ---- slim rows
+
+-- a file of at most 8 MiB, with a print of 32 bytes
+abbrev pub NodeFits : SlimNode → Type 0
+NodeFits slims.None = Unit {0}
+NodeFits slims.Folder = Unit {0}
+NodeFits (slims.File exec len print) = (len ≤ max_file) × (length print ≡ 32)
+
+-- a path that is not the root, touched at least once
+pub record SlimFits (row : SlimRow) : Type 0 where
+  pub is_path : IsPath row.path
+  pub below_root : is_root row.path ≡ false
+  pub touched : 1 ≤ row.version
+  pub version_fits : row.version < 2 ^ 64
+  pub node : NodeFits row.node
 
 len_codec : IsCodec (ruled (λ len. nat_le len max_file) (number_at w32)) (digits w32) (λ len. (len < 2 ^ 32) × (nat_le len max_file ≡ true))
 len_codec = ruled_codec (λ len. nat_le len max_file) u32_codec

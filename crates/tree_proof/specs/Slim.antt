@@ -1,9 +1,8 @@
 -- Slim rows: rows with the length and the print of a file in its content's place, and how they are spelled and read.
-use Rattle.std.specs.Prelude.{◌≡◌, ℕ, ◌<◌, ◌≤◌, ◌^◌, nat_le, Bool, true, false, not, List, [], ◌∷◌, ◌++◌, length}
+use Rattle.std.specs.Prelude.{ℕ, nat_le, Bool, true, false, not, List, [], ◌∷◌, ◌++◌}
 use Rattle.std.specs.Int.{w32, w64}
 use Rattle.byte_fields.specs.Field.{Reader, digits, number_at, span_at, ruled, none, two, three, tagged_at}
 use Rattle.file_paths.specs.Limits.{max_file}
-use Rattle.file_paths.specs.Path.{IsPath}
 use Rattle.file_paths.specs.Spelling.{path}
 use Rattle.file_paths.specs.Reading.{path_at}
 use Rattle.tree_values.specs.Tree.{is_root}
@@ -27,20 +26,6 @@ node_spelling (slims.File exec len print) = file_kind exec ∷ (digits w32 len +
 -- a path, its version and what stands there
 abbrev pub slim_spelling : SlimRow → List ℕ
 slim_spelling row = path row.path ++ (digits w64 row.version ++ node_spelling row.node)
-
--- a file of at most 8 MiB, with a print of 32 bytes
-abbrev pub NodeFits : SlimNode → Type 0
-NodeFits slims.None = Unit {0}
-NodeFits slims.Folder = Unit {0}
-NodeFits (slims.File exec len print) = (len ≤ max_file) × (length print ≡ 32)
-
--- a path that is not the root, touched at least once
-pub record SlimFits (row : SlimRow) : Type 0 where
-  pub is_path : IsPath row.path
-  pub below_root : is_root row.path ≡ false
-  pub touched : 1 ≤ row.version
-  pub version_fits : row.version < 2 ^ 64
-  pub node : NodeFits row.node
 
 -- ---- reading
 

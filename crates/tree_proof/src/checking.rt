@@ -100,7 +100,8 @@ fn judge(
 ) -> Result<Finding, CheckError>
     requires { AllByRecursion (HasWay head.count) leaves.now }
     ensures ok { IfOk result (λ finding. judged (record { head = head; leaves = leaves.now }) root.now path.now ≡ Ok finding) }
-    ensures err { IfErr result (λ e. e ≢ CheckError.Memory → judged (record { head = head; leaves = leaves.now }) root.now path.now ≡ Err e) }
+    ensures err { IfErr result (λ e. e ≢ CheckError.Memory
+        → judged (record { head = head; leaves = leaves.now }) root.now path.now ≡ Err e) }
 {
     if let Some(leaf) = other_leaf(head, path, leaves) {
         return Err(CheckError::OtherPath(leaf.row.path.copy()?));
