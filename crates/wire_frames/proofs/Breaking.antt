@@ -1,30 +1,32 @@
 -- The laws of frames that break a rule.
-use Rattle.std.proofs.Common.{◌≡◌, ◌≢◌, ◌⊎◌, ℕ, ◌+◌, ◌^◌, ◌<◌, ◌≤◌, true, false, ◌&&◌, not, leb, eqb, List, [], ◌∷◌, ◌++◌, length, drop, get_or, Ok, Err, inl, inr, refl, sym, ap, ◌∙◌, arith, length-append}
+use Rattle.std.proofs.Common.{◌≡◌, ◌≢◌, ◌⊎◌, ℕ, ◌+◌, ◌-◌, ◌^◌, ◌<◌, ◌≤◌, min, true, false, ◌&&◌, not, leb, eqb, List, [], ◌∷◌, ◌++◌, length, drop, get_or, Ok, Err, inl, inr, refl, sym, ap, subst, ◌∙◌, arith, length-append}
 use Rattle.std.specs.Int.{w8, w32, w64}
+use Rattle.std.specs.List.{flat_map}
 use Rattle.std.proofs.lemmas.Bool.{le-leb, eq-eqb, ne_eqb}
 use Rattle.std.proofs.lemmas.List.{append-nil, drop_at}
 use Rattle.std.proofs.Math.Seq.{drop-length}
 use Rattle.std.proofs.lemmas.Nat.{from_be_bytes-to_be_bytes_4}
-use Rattle.byte_fields.specs.Field.{digits, ruled, none, one, two, number_at}
+use Rattle.byte_fields.specs.Field.{digits, ruled, none, one, two, number_at, each_at}
 use Rattle.byte_fields.specs.Codec.{Stands}
 use Rattle.byte_fields.specs.Broken.{IsRefused}
-use Rattle.byte_fields.proofs.Codec.{u8_codec, u32_codec, u64_codec}
-use Rattle.byte_fields.proofs.Breaking.{read_again, refused_before, rule_refused, first_refused, later_refused, second_fails}
+use Rattle.byte_fields.proofs.Codec.{u8_codec, u32_codec, u64_codec, ruled_codec}
+use Rattle.byte_fields.proofs.Breaking.{read_again, refused_before, rule_refused, first_refused, later_refused, second_fails, items_refused, each_read}
 use Rattle.byte_fields.proofs.Facts.{le_fails, four_bytes, eight_bytes}
 use Rattle.tree_values.specs.declared.node.Effect.{Effect}
 use Rattle.file_paths.specs.Path.{FilePath, IsPath}
-use Rattle.tree_values.specs.Effects.{touched_all, distinct}
+use Rattle.tree_values.specs.Effects.{touched_all, distinct, contents_size}
+use Rattle.tree_values.specs.Limits.{max_files, max_effects}
 use Rattle.file_paths.specs.Spelling.{path}
 use Rattle.tree_values.specs.Spelling.{effects, EffectsFit}
 use Rattle.file_paths.specs.Reading.{path_at}
-use Rattle.tree_values.specs.Reading.{effects_at, bases_at, rows_at}
+use Rattle.tree_values.specs.Reading.{effects_within, bases_at, rows_at}
 use Rattle.file_paths.proofs.Parts.{path_codec}
-use Rattle.tree_laws.proofs.Parts.{effects_codec}
+use Rattle.tree_laws.proofs.Parts.{effects_within_codec}
 use Rattle.wire_frames.specs.Limits.{max_frame}
 use Rattle.wire_frames.specs.declared.message.Message.{Message}
 use Rattle.wire_frames.specs.declared.message.Message.TheVariants as messages
 use Rattle.wire_frames.specs.declared.message.Kind.{Kind}
-use Rattle.wire_frames.specs.declared.message.Kind.TheVariants.{Store, Operate, Stale, Unfit, Gap, Snapshot, Declined, Full, Malformed}
+use Rattle.wire_frames.specs.declared.message.Kind.TheVariants.{Store, Operate, Accepted, Stale, Unfit, Gap, Snapshot, Declined, Full, Malformed}
 use Rattle.wire_frames.specs.declared.message.FrameError.TheVariants.{BadField, Trailing}
 use Rattle.wire_frames.specs.Fault.{unfit_fault_at, full_fault_at}
 use Rattle.mod_log.specs.declared.origin.Origin.{Origin}
@@ -37,10 +39,14 @@ use Rattle.mod_log.proofs.Origins.{origin_codec}
 use Rattle.wire_frames.specs.Cause.{cause_at}
 use Rattle.wire_frames.specs.Operation.{sketch_effects_at, sketches_at, operation_at}
 use Rattle.wire_frames.proofs.OperationLaws.{sketched_effects_codec, both_of, operation_of}
-use Rattle.wire_frames.specs.Frame.{frame_version, kind, client_of, number_of, code_of, client_rule, number_rule, offset_rule, body, frame}
-use Rattle.wire_frames.specs.Reading.{store_at, operate_at, stale_at, unfit_at, full_at, snapshot_at, gap_at, declined_at, malformed_at, body_at, message_at, is_sized, frame_of}
-use Rattle.wire_frames.specs.Broken.{frame_with, IsRefusedAt, BrokenNumbers, BrokenBodies, LeftBytes}
-use Rattle.wire_frames.proofs.Messages.{tail, number_codec, refusal, message_again}
+use Rattle.wire_frames.specs.Frame.{frame_version, kind, client_of, number_of, code_of, client_rule, number_rule, offset_rule, accepted_rule, refused_rule, RefusedFits, body, frame}
+use Rattle.wire_frames.specs.Reading.{store_at, operate_at, accepted_at, refused_upto, conflict_at, stale_at, unfit_at, full_at, snapshot_at, gap_at, declined_at, malformed_at, body_at, message_at, is_sized, frame_of}
+use Rattle.wire_frames.specs.declared.parts.Part.{Part}
+use Rattle.wire_frames.specs.declared.parts.Room.{Room}
+use Rattle.wire_frames.specs.Parts.{part_of, part, effects_count, contents_count, count_rule, part_at, room_behind, store_room, parts_at}
+use Rattle.wire_frames.proofs.PartLaws.{PartFitsIn, part_codec, rooms_again, room_left}
+use Rattle.wire_frames.specs.Broken.{frame_with, IsRefusedAt, BrokenNumbers, StandBefore, effects_behind, BrokenBodies, LeftBytes}
+use Rattle.wire_frames.proofs.Messages.{tail, number_codec, refusal, refused_codec, conflict_of, stale_of, message_again}
 use Rattle.wire_frames.proofs.Frames.{are_sized, kind_again}
 use Rattle.wire_frames.proofs.CutFrames.{fails_again}
 
@@ -81,41 +87,107 @@ broken_numbers k c n behind takes broken small short =
 
 -- ---- bodies
 
+-- the room behind parts that fit together
+room_of : List Part → Room
+room_of before = record { effects = max_effects - effects_count before; content = max_files - contents_count before }
+
+-- what is refused as a part behind these is refused as the parts of a store
+part_refused : (n count : ℕ) (before : List Part) (text : List ℕ) (offset : ℕ) → count < 2 ^ 8 → count_rule n count ≡ true → StandBefore count before → IsRefused (part_at (room_of before)) text offset
+    → IsRefused (parts_at n) (count ∷ (flat_map part before ++ text)) (1 + (length (flat_map part before) + offset))
+unfolding parts_at room_of
+part_refused n count before text offset byte rule stand refused =
+    later_refused (ruled (count_rule n) (number_at w8)) (λ k. each_at part_at room_behind k store_room) (count ∷ []) (flat_map part before ++ text) count (length (flat_map part before) + offset)
+    (read_again (ruled_codec (count_rule n) u8_codec) count (byte, rule))
+    (items_refused part_at room_behind part store_room before count text offset
+    (each_read part_at room_behind part PartFitsIn part_codec store_room before (rooms_again store_room before stand.each stand.few stand.all_contents)) stand.fewer
+    (subst (λ (room : Room). IsRefused (part_at room) text offset) (sym (room_left store_room before)) refused))
+
+effects_of_part : (before : List Part) (count : ℕ) (text : List ℕ) (offset : ℕ) → StandBefore count before → IsRefused (effects_behind before) text offset → IsRefused (part_at (room_of before)) text offset
+unfolding part_at room_of
+effects_of_part before count text offset stand refused =
+    let few : min max_effects (max_effects - effects_count before) ≡ max_effects - effects_count before = omega arith in
+    let small : min max_files (max_files - contents_count before) ≡ max_files - contents_count before = omega arith in
+    first_refused (effects_within (min max_effects (max_effects - effects_count before)) (min max_files (max_files - contents_count before)))
+    (λ es. one (bases_at (distinct (touched_all es))) (part_of es)) text offset
+    (subst (λ (most : ℕ). IsRefused (effects_within most (min max_files (max_files - contents_count before))) text offset) (sym few)
+    (subst (λ (room : ℕ). IsRefused (effects_within (max_effects - effects_count before) room) text offset) (sym small) refused))
+
+base_of_part : (before : List Part) (es : List Effect) (text : List ℕ) (offset : ℕ) → EffectsFit es → effects_count before + length es ≤ max_effects → contents_count before + contents_size es ≤ max_files
+    → IsRefused (bases_at (distinct (touched_all es))) text offset → IsRefused (part_at (room_of before)) (effects es ++ text) (length (effects es) + offset)
+unfolding part_at room_of
+base_of_part before es text offset fits few small refused =
+    let most : ℕ = min max_effects (max_effects - effects_count before) in
+    let room : ℕ = min max_files (max_files - contents_count before) in
+    later_refused (effects_within most room) (λ xs. one (bases_at (distinct (touched_all xs))) (part_of xs)) (effects es) text es offset
+    (read_again (effects_within_codec most room (omega arith)) es (record { some = fits.some; few = omega (arith, fits.few, few); each = fits.each; all_contents = omega (arith, fits.all_contents, small) }))
+    (first_refused (bases_at (distinct (touched_all es))) (λ bs. none (part_of es bs)) text offset refused)
+
+count_refused : (n count : ℕ) → count < 2 ^ 8 → count_rule n count ≡ false → IsRefused (parts_at n) (count ∷ []) 0
+unfolding parts_at
+count_refused n count byte broken =
+    first_refused (ruled (count_rule n) (number_at w8)) (λ k. each_at part_at room_behind k store_room) (count ∷ []) 0
+    (rule_refused (number_at w8) (count_rule n) (count ∷ []) count (read_again u8_codec count byte) broken)
+
+upto_refused : (n upto : ℕ) → upto < 2 ^ 64 → refused_rule n upto ≡ false → IsRefused (refused_upto n) (digits w64 upto) 0
+unfolding refused_upto
+upto_refused n upto small broken = rule_refused (number_at w64) (refused_rule n) (digits w64 upto) upto (read_again u64_codec upto small) broken
+
+path_of_conflict : (text : List ℕ) (offset : ℕ) → IsRefused path_at text offset → IsRefused conflict_at text offset
+unfolding conflict_at
+path_of_conflict text offset refused = first_refused path_at (λ p. two (number_at w64) (λ t. ruled (λ v. not (eqb v t)) (number_at w64)) (conflict_of p)) text offset refused
+
+equal_versions : (p : FilePath) (v : ℕ) → IsPath p → v < 2 ^ 64 → IsRefused conflict_at (path p ++ (digits w64 v ++ digits w64 v)) (length (path p) + (length (digits w64 v) + 0))
+unfolding conflict_at
+equal_versions p v is small =
+    later_refused path_at (λ q. two (number_at w64) (λ t. ruled (λ x. not (eqb x t)) (number_at w64)) (conflict_of q)) (path p) (digits w64 v ++ digits w64 v) p (length (digits w64 v) + 0) (read_again path_codec p is)
+    (later_refused (number_at w64) (λ t. one (ruled (λ x. not (eqb x t)) (number_at w64)) (conflict_of p t)) (digits w64 v) (digits w64 v) v 0 (read_again u64_codec v small)
+    (first_refused (ruled (λ x. not (eqb x v)) (number_at w64)) (λ o. none (conflict_of p v o)) (digits w64 v) 0
+    (rule_refused (number_at w64) (λ x. not (eqb x v)) (digits w64 v) v (read_again u64_codec v small) (ap not (eq-eqb v v refl)))))
+
 module _ (c n : ℕ) where
-  effects_refused : (text : List ℕ) (offset : ℕ) → IsRefused effects_at text offset → IsRefused (store_at c n) text offset
+  store_refused : (text : List ℕ) (offset : ℕ) → IsRefused (parts_at n) text offset → IsRefused (store_at c n) text offset
   unfolding store_at
-  effects_refused text offset refused = first_refused effects_at (λ es. one (bases_at (distinct (touched_all es))) (messages.Store c n es)) text offset refused
+  store_refused text offset refused = first_refused (parts_at n) (λ ps. none (messages.Store c n ps)) text offset refused
 
-  base_refused : (es : List Effect) (text : List ℕ) (offset : ℕ) → EffectsFit es → IsRefused (bases_at (distinct (touched_all es))) text offset → IsRefused (store_at c n) (effects es ++ text) (length (effects es) + offset)
-  unfolding store_at
-  base_refused es text offset fits refused =
-      later_refused effects_at (λ xs. one (bases_at (distinct (touched_all xs))) (messages.Store c n xs)) (effects es) text es offset (read_again effects_codec es fits)
-      (first_refused (bases_at (distinct (touched_all es))) (λ bs. none (messages.Store c n es bs)) text offset refused)
+  low_accepted : (upto : ℕ) → upto < 2 ^ 64 → accepted_rule n upto ≡ false → IsRefused (accepted_at c n) (digits w64 upto) 0
+  unfolding accepted_at
+  low_accepted upto small broken =
+      first_refused (ruled (accepted_rule n) (number_at w64)) (λ u. none (messages.Accepted c n u)) (digits w64 upto) 0
+      (rule_refused (number_at w64) (accepted_rule n) (digits w64 upto) upto (read_again u64_codec upto small) broken)
 
-  path_refused : (text : List ℕ) (offset : ℕ) → IsRefused path_at text offset → IsRefused (stale_at c n) text offset
+  low_stale : (upto : ℕ) → upto < 2 ^ 64 → refused_rule n upto ≡ false → IsRefused (stale_at c n) (digits w64 upto) 0
   unfolding stale_at
-  path_refused text offset refused =
-      first_refused path_at (λ p. two (number_at w64) (λ t. ruled (λ v. not (eqb v t)) (number_at w64)) (messages.Stale c n p)) text offset refused
+  low_stale upto small broken = first_refused (refused_upto n) (λ u. one conflict_at (stale_of c n u)) (digits w64 upto) 0 (upto_refused n upto small broken)
 
-  equal_refused : (p : FilePath) (v : ℕ) → IsPath p → v < 2 ^ 64 → IsRefused (stale_at c n) (path p ++ (digits w64 v ++ digits w64 v)) (length (path p) + (length (digits w64 v) + 0))
-  unfolding stale_at
-  equal_refused p v is small =
-      later_refused path_at (λ q. two (number_at w64) (λ t. ruled (λ x. not (eqb x t)) (number_at w64)) (messages.Stale c n q)) (path p) (digits w64 v ++ digits w64 v) p (length (digits w64 v) + 0) (read_again path_codec p is)
-      (later_refused (number_at w64) (λ t. one (ruled (λ x. not (eqb x t)) (number_at w64)) (messages.Stale c n p t)) (digits w64 v) (digits w64 v) v 0 (read_again u64_codec v small)
-      (first_refused (ruled (λ x. not (eqb x v)) (number_at w64)) (λ o. none (messages.Stale c n p v o)) (digits w64 v) 0
-      (rule_refused (number_at w64) (λ x. not (eqb x v)) (digits w64 v) v (read_again u64_codec v small) (ap not (eq-eqb v v refl)))))
-
-  unfit_refused : (index : ℕ) (text : List ℕ) (offset : ℕ) → index < 2 ^ 32 → IsRefused unfit_fault_at text offset → IsRefused (unfit_at c n) (digits w32 index ++ text) (length (digits w32 index) + offset)
+  low_unfit : (upto : ℕ) → upto < 2 ^ 64 → refused_rule n upto ≡ false → IsRefused (unfit_at c n) (digits w64 upto) 0
   unfolding unfit_at
-  unfit_refused index text offset small refused =
-      later_refused (number_at w32) (λ i. one unfit_fault_at (messages.Unfit c n i)) (digits w32 index) text index offset (read_again u32_codec index small)
-      (first_refused unfit_fault_at (λ f. none (messages.Unfit c n index f)) text offset refused)
+  low_unfit upto small broken = first_refused (refused_upto n) (λ u. two (number_at w32) (λ _. unfit_fault_at) (messages.Unfit c n u)) (digits w64 upto) 0 (upto_refused n upto small broken)
 
-  full_refused : (index : ℕ) (text : List ℕ) (offset : ℕ) → index < 2 ^ 32 → IsRefused full_fault_at text offset → IsRefused (full_at c n) (digits w32 index ++ text) (length (digits w32 index) + offset)
+  low_full : (upto : ℕ) → upto < 2 ^ 64 → refused_rule n upto ≡ false → IsRefused (full_at c n) (digits w64 upto) 0
   unfolding full_at
-  full_refused index text offset small refused =
-      later_refused (number_at w32) (λ i. one full_fault_at (messages.Full c n i)) (digits w32 index) text index offset (read_again u32_codec index small)
-      (first_refused full_fault_at (λ f. none (messages.Full c n index f)) text offset refused)
+  low_full upto small broken = first_refused (refused_upto n) (λ u. two (number_at w32) (λ _. full_fault_at) (messages.Full c n u)) (digits w64 upto) 0 (upto_refused n upto small broken)
+
+  conflict_refused : (upto : ℕ) (text : List ℕ) (offset : ℕ) → RefusedFits n upto → IsRefused conflict_at text offset → IsRefused (stale_at c n) (digits w64 upto ++ text) (length (digits w64 upto) + offset)
+  unfolding stale_at
+  conflict_refused upto text offset fits refused =
+      later_refused (refused_upto n) (λ u. one conflict_at (stale_of c n u)) (digits w64 upto) text upto offset (read_again (refused_codec n) upto fits)
+      (first_refused conflict_at (λ told. none (stale_of c n upto told)) text offset refused)
+
+  unfit_refused : (upto index : ℕ) (text : List ℕ) (offset : ℕ) → RefusedFits n upto → index < 2 ^ 32 → IsRefused unfit_fault_at text offset
+      → IsRefused (unfit_at c n) (digits w64 upto ++ (digits w32 index ++ text)) (length (digits w64 upto) + (length (digits w32 index) + offset))
+  unfolding unfit_at
+  unfit_refused upto index text offset fits small refused =
+      later_refused (refused_upto n) (λ u. two (number_at w32) (λ _. unfit_fault_at) (messages.Unfit c n u)) (digits w64 upto) (digits w32 index ++ text) upto (length (digits w32 index) + offset) (read_again (refused_codec n) upto fits)
+      (later_refused (number_at w32) (λ i. one unfit_fault_at (messages.Unfit c n upto i)) (digits w32 index) text index offset (read_again u32_codec index small)
+      (first_refused unfit_fault_at (λ f. none (messages.Unfit c n upto index f)) text offset refused))
+
+  full_refused : (upto index : ℕ) (text : List ℕ) (offset : ℕ) → RefusedFits n upto → index < 2 ^ 32 → IsRefused full_fault_at text offset
+      → IsRefused (full_at c n) (digits w64 upto ++ (digits w32 index ++ text)) (length (digits w64 upto) + (length (digits w32 index) + offset))
+  unfolding full_at
+  full_refused upto index text offset fits small refused =
+      later_refused (refused_upto n) (λ u. two (number_at w32) (λ _. full_fault_at) (messages.Full c n u)) (digits w64 upto) (digits w32 index ++ text) upto (length (digits w32 index) + offset) (read_again (refused_codec n) upto fits)
+      (later_refused (number_at w32) (λ i. one full_fault_at (messages.Full c n upto i)) (digits w32 index) text index offset (read_again u32_codec index small)
+      (first_refused full_fault_at (λ f. none (messages.Full c n upto index f)) text offset refused))
 
   last_refused : (last : ℕ) → last < 2 ^ 64 → n ≤ last + 1 → IsRefused (gap_at c n) (digits w64 last) 0
   unfolding gap_at
@@ -183,22 +255,46 @@ offset_refused code offset low high not5 not6 some small =
 
 pub broken_bodies : BrokenBodies
 broken_bodies = record {
-  effects_are_refused = λ n text offset refused. inside Store n text offset (15 + offset) refl (λ c. effects_refused c n text offset refused);
-  base_is_refused = λ n es text offset fits refused.
-      inside Store n (effects es ++ text) (length (effects es) + offset) (15 + length (effects es) + offset) (omega arith) (λ c. base_refused c n es text offset fits refused);
+  count_is_none = λ n count byte broken. inside Store n (count ∷ []) 0 15 refl (λ c. store_refused c n (count ∷ []) 0 (count_refused n count byte broken));
+  effects_are_refused = λ n count before text offset byte rule stand refused.
+      inside Store n (count ∷ (flat_map part before ++ text)) (1 + (length (flat_map part before) + offset)) (16 + length (flat_map part before) + offset) (omega arith)
+      (λ c. store_refused c n (count ∷ (flat_map part before ++ text)) (1 + (length (flat_map part before) + offset))
+      (part_refused n count before text offset byte rule stand (effects_of_part before count text offset stand refused)));
+  base_is_refused = λ n count before es text offset byte rule stand fits few small refused.
+      inside Store n (count ∷ (flat_map part before ++ (effects es ++ text))) (1 + (length (flat_map part before) + (length (effects es) + offset))) (16 + length (flat_map part before) + length (effects es) + offset) (omega arith)
+      (λ c. store_refused c n (count ∷ (flat_map part before ++ (effects es ++ text))) (1 + (length (flat_map part before) + (length (effects es) + offset)))
+      (part_refused n count before (effects es ++ text) (length (effects es) + offset) byte rule stand (base_of_part before es text offset fits few small refused)));
   origin_is_refused = λ n text offset refused. inside Operate n text offset (15 + offset) refl (λ c. origin_refused c n text offset refused);
   sketches_are_refused = λ n o text offset fits refused.
       inside Operate n (origin o ++ text) (length (origin o) + offset) (15 + length (origin o) + offset) (omega arith) (λ c. sketches_refused c n o text offset fits (sketched_refused text offset refused));
   sketch_base_is_refused = λ n o es text offset fits fits' refused.
       inside Operate n (origin o ++ (sketch_effects es ++ text)) (length (origin o) + (length (sketch_effects es) + offset)) (15 + length (origin o) + length (sketch_effects es) + offset) (omega arith)
       (λ c. sketches_refused c n o (sketch_effects es ++ text) (length (sketch_effects es) + offset) fits (based_refused es text offset fits' refused));
-  path_is_refused = λ n text offset refused. inside Stale n text offset (15 + offset) refl (λ c. path_refused c n text offset refused);
-  versions_are_equal = λ n p v is small.
-      inside Stale n (path p ++ (digits w64 v ++ digits w64 v)) (length (path p) + (length (digits w64 v) + 0)) (15 + length (path p) + 8) (omega (arith, eight_bytes v)) (λ c. equal_refused c n p v is small);
-  unfit_is_refused = λ n index text offset small refused.
-      inside Unfit n (digits w32 index ++ text) (length (digits w32 index) + offset) (19 + offset) (omega (arith, four_bytes index)) (λ c. unfit_refused c n index text offset small refused);
-  full_is_refused = λ n index text offset small refused.
-      inside Full n (digits w32 index ++ text) (length (digits w32 index) + offset) (19 + offset) (omega (arith, four_bytes index)) (λ c. full_refused c n index text offset small refused);
+  accepted_is_low = λ n upto low small.
+      inside Accepted n (digits w64 upto) 0 15 refl (λ c. low_accepted c n upto (omega (arith, low, small)) (le_fails n upto low));
+  refused_is_low = λ n upto low small.
+      let fits : upto < 2 ^ 64 = omega (arith, low, small) in
+      let broken : refused_rule n upto ≡ false = le_fails n (upto + 1) low in (
+        inside Stale n (digits w64 upto) 0 15 refl (λ c. low_stale c n upto fits broken),
+        (
+          inside Unfit n (digits w64 upto) 0 15 refl (λ c. low_unfit c n upto fits broken),
+          (inside Full n (digits w64 upto) 0 15 refl (λ c. low_full c n upto fits broken), tt),
+        ),
+      );
+  path_is_refused = λ n upto text offset fits refused.
+      inside Stale n (digits w64 upto ++ text) (length (digits w64 upto) + offset) (23 + offset) (omega (arith, eight_bytes upto))
+      (λ c. conflict_refused c n upto text offset fits (path_of_conflict text offset refused));
+  versions_are_equal = λ n upto p v fits is small.
+      let text : List ℕ = path p ++ (digits w64 v ++ digits w64 v) in
+      let offset : ℕ = length (path p) + (length (digits w64 v) + 0) in
+      inside Stale n (digits w64 upto ++ text) (length (digits w64 upto) + offset) (23 + length (path p) + 8) (omega (arith, eight_bytes upto, eight_bytes v))
+      (λ c. conflict_refused c n upto text offset fits (equal_versions p v is small));
+  unfit_is_refused = λ n upto index text offset fits small refused.
+      inside Unfit n (digits w64 upto ++ (digits w32 index ++ text)) (length (digits w64 upto) + (length (digits w32 index) + offset)) (27 + offset) (omega (arith, eight_bytes upto, four_bytes index))
+      (λ c. unfit_refused c n upto index text offset fits small refused);
+  full_is_refused = λ n upto index text offset fits small refused.
+      inside Full n (digits w64 upto ++ (digits w32 index ++ text)) (length (digits w64 upto) + (length (digits w32 index) + offset)) (27 + offset) (omega (arith, eight_bytes upto, four_bytes index))
+      (λ c. full_refused c n upto index text offset fits small refused);
   last_is_near = λ n last small near. inside Gap n (digits w64 last) 0 15 refl (λ c. last_refused c n last small near);
   rows_are_refused = λ n last text offset small refused.
       inside Snapshot n (digits w64 last ++ text) (length (digits w64 last) + offset) (23 + offset) (omega (arith, eight_bytes last)) (λ c. rows_refused c n last text offset small refused);
@@ -209,7 +305,7 @@ broken_bodies = record {
 
 -- ---- what is left over
 
-left_again : (bytes : List ℕ) (m : Message) (place : ℕ) → is_sized bytes ≡ true → get_or bytes 4 0 ≡ 2 → get_or bytes 5 0 ≡ code_of (kind m) → get_or bytes 6 0 ≡ client_of m → client_rule (kind m) (client_of m) ≡ true
+left_again : (bytes : List ℕ) (m : Message) (place : ℕ) → is_sized bytes ≡ true → get_or bytes 4 0 ≡ frame_version → get_or bytes 5 0 ≡ code_of (kind m) → get_or bytes 6 0 ≡ client_of m → client_rule (kind m) (client_of m) ≡ true
     → message_at (kind m) (client_of m) bytes 7 ≡ Ok (m, place) → place ≢ length bytes → frame_of bytes ≡ Err (Trailing place)
 unfolding frame_of
 left_again bytes m place is version code client fits read past = rw (is, version, code, kind_again (kind m), client, fits, read, ne_eqb place (length bytes) past) refl

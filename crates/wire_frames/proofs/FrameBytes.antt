@@ -6,19 +6,18 @@ use Rattle.byte_fields.specs.Codec.{IsBytes}
 use Rattle.byte_fields.proofs.Facts.{and_of, le_of, eq_of, no_bytes, byte_before, bytes_appended, four_are_bytes, eight_are_bytes}
 use Rattle.file_paths.specs.Spelling.{path}
 use Rattle.file_paths.proofs.SpelledBytes.{path_is_bytes}
-use Rattle.tree_values.specs.Effects.{touched_all, distinct}
-use Rattle.tree_values.specs.Limits.{max_files, max_effects}
-use Rattle.tree_values.specs.Spelling.{effects, bases, rows}
+use Rattle.tree_values.specs.Spelling.{rows}
 use Rattle.tree_values.specs.Fault.{tree_fault}
-use Rattle.tree_laws.proofs.SpelledBytes.{effects_are_bytes, bases_are_bytes, rows_are_bytes, fault_is_bytes}
+use Rattle.tree_laws.proofs.SpelledBytes.{rows_are_bytes, fault_is_bytes}
 use Rattle.wire_frames.specs.declared.message.Message.{Message}
 use Rattle.wire_frames.specs.declared.message.Message.TheVariants as messages
 use Rattle.wire_frames.specs.declared.message.Kind.{Kind}
 use Rattle.wire_frames.specs.declared.message.Kind.TheVariants.{Store, Operate, Pull, Accepted, Stale, Unfit, Gap, Snapshot, Done, Declined, Full, Malformed}
-use Rattle.wire_frames.specs.Frame.{kind, client_of, number_of, code_of, body, payload, frame, client_rule, BodyFits, IsValid}
+use Rattle.wire_frames.specs.Frame.{frame_version, kind, client_of, number_of, code_of, body, payload, frame, client_rule, BodyFits, IsValid}
 use Rattle.wire_frames.proofs.FaultLaws.{unfit_fits, full_fits}
 use Rattle.wire_frames.proofs.CauseLaws.{cause_is_bytes}
 use Rattle.wire_frames.proofs.OperationLaws.{operation_is_bytes}
+use Rattle.wire_frames.proofs.PartLaws.{parts_are_bytes}
 
 code_is_byte : (k : Kind) → code_of k < 256
 code_is_byte Store = omega arith
@@ -52,23 +51,25 @@ client_is_byte Declined client rule = low_client client rule
 client_is_byte Full client rule = low_client client rule
 
 body_is_bytes : (m : Message) → BodyFits m → IsBytes (body m)
-body_is_bytes (messages.Store client number es bs) fits =
-    bytes_appended (effects es) (bases bs) (effects_are_bytes max_effects max_files es fits.0) (bases_are_bytes (distinct (touched_all es)) bs fits.1)
+body_is_bytes (messages.Store client number ps) fits = parts_are_bytes number ps fits
 body_is_bytes (messages.Operate client entry) fits = operation_is_bytes entry fits
 body_is_bytes (messages.Pull client number) fits = no_bytes
-body_is_bytes (messages.Accepted client number) fits = no_bytes
-body_is_bytes (messages.Stale client number p theirs ours) fits =
-    bytes_appended (path p) (digits w64 theirs ++ digits w64 ours) (path_is_bytes p fits.0)
-    (bytes_appended (digits w64 theirs) (digits w64 ours) (eight_are_bytes theirs) (eight_are_bytes ours))
-body_is_bytes (messages.Unfit client number index fault) fits =
-    bytes_appended (digits w32 index) (tree_fault fault) (four_are_bytes index) (fault_is_bytes fault (unfit_fits fault fits.1).0)
+body_is_bytes (messages.Accepted client number upto) fits = eight_are_bytes upto
+body_is_bytes (messages.Stale client number upto p theirs ours) fits =
+    bytes_appended (digits w64 upto) (path p ++ (digits w64 theirs ++ digits w64 ours)) (eight_are_bytes upto)
+    (bytes_appended (path p) (digits w64 theirs ++ digits w64 ours) (path_is_bytes p fits.1.0)
+    (bytes_appended (digits w64 theirs) (digits w64 ours) (eight_are_bytes theirs) (eight_are_bytes ours)))
+body_is_bytes (messages.Unfit client number upto index fault) fits =
+    bytes_appended (digits w64 upto) (digits w32 index ++ tree_fault fault) (eight_are_bytes upto)
+    (bytes_appended (digits w32 index) (tree_fault fault) (four_are_bytes index) (fault_is_bytes fault (unfit_fits fault fits.2).0))
 body_is_bytes (messages.Gap client number last) fits = eight_are_bytes last
 body_is_bytes (messages.Snapshot client number last rs) fits =
     bytes_appended (digits w64 last) (rows rs) (eight_are_bytes last) (rows_are_bytes rs fits.1)
 body_is_bytes (messages.Done client number) fits = no_bytes
 body_is_bytes (messages.Declined client number why) fits = cause_is_bytes why fits
-body_is_bytes (messages.Full client number index fault) fits =
-    bytes_appended (digits w32 index) (tree_fault fault) (four_are_bytes index) (fault_is_bytes fault (full_fits fault fits.1).0)
+body_is_bytes (messages.Full client number upto index fault) fits =
+    bytes_appended (digits w64 upto) (digits w32 index ++ tree_fault fault) (eight_are_bytes upto)
+    (bytes_appended (digits w32 index) (tree_fault fault) (four_are_bytes index) (fault_is_bytes fault (full_fits fault fits.2).0))
 body_is_bytes (messages.Malformed code offset) fits = byte_before code (digits w32 offset) (omega (arith, fits.0)) (four_are_bytes offset)
 
 pub frame_is_bytes : (m : Message) → IsValid m → IsBytes (frame m)
@@ -77,5 +78,5 @@ frame_is_bytes m valid =
     let rest : IsBytes behind = bytes_appended (digits w64 (number_of m)) (body m) (eight_are_bytes (number_of m)) (body_is_bytes m valid.body_fits) in
     let of_client : IsBytes (client_of m ∷ behind) = byte_before (client_of m) behind (client_is_byte (kind m) (client_of m) valid.client_fits) rest in
     let of_kind : IsBytes (code_of (kind m) ∷ client_of m ∷ behind) = byte_before (code_of (kind m)) (client_of m ∷ behind) (code_is_byte (kind m)) of_client in
-    let told : IsBytes (payload m) = byte_before 2 (code_of (kind m) ∷ client_of m ∷ behind) (omega arith) of_kind in
+    let told : IsBytes (payload m) = byte_before frame_version (code_of (kind m) ∷ client_of m ∷ behind) (omega arith) of_kind in
     bytes_appended (digits w32 (length (payload m))) (payload m) (four_are_bytes (length (payload m))) told

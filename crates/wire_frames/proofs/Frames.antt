@@ -15,7 +15,7 @@ use Rattle.wire_frames.specs.declared.message.Kind.{Kind}
 use Rattle.wire_frames.specs.declared.message.Kind.TheVariants.{Store, Operate, Pull, Accepted, Stale, Unfit, Gap, Snapshot, Done, Declined, Full, Malformed}
 use Rattle.wire_frames.specs.declared.message.FrameError.{FrameError}
 use Rattle.wire_frames.specs.declared.message.FrameError.TheVariants.{BadLength, BadVersion, BadClient, Trailing}
-use Rattle.wire_frames.specs.Frame.{kind, client_of, code_of, client_rule, payload, frame, IsValid}
+use Rattle.wire_frames.specs.Frame.{frame_version, kind, client_of, code_of, client_rule, payload, frame, IsValid}
 use Rattle.wire_frames.specs.Reading.{message_at, kinds, kind_of, whole, message_of_kind, is_sized, frame_of, GivesFrame}
 use Rattle.wire_frames.proofs.Sizes.{frame_small, payload_small}
 use Rattle.wire_frames.proofs.Messages.{tail, message_found, message_again}
@@ -80,10 +80,10 @@ header bytes low =
 pub frame_found : (bytes : List ℕ) (m : Message) → IsBytes bytes → frame_of bytes ≡ Ok m → IsValid m × (bytes ≡ frame m)
 unfolding frame_of digits
 frame_found bytes m fits e =
-    let p = past (is_sized bytes) (cond (eqb (get_or bytes 4 0) 2) (message_of_kind (kind_of (get_or bytes 5 0)) bytes) (Err BadVersion)) BadLength m e in
+    let p = past (is_sized bytes) (cond (eqb (get_or bytes 4 0) frame_version) (message_of_kind (kind_of (get_or bytes 5 0)) bytes) (Err BadVersion)) BadLength m e in
     let long = sized bytes p.0 in
-    let v = past (eqb (get_or bytes 4 0) 2) (message_of_kind (kind_of (get_or bytes 5 0)) bytes) BadVersion m p.1 in
-    let version : get_or bytes 4 0 ≡ 2 = eqb-true _ _ v.0 in
+    let v = past (eqb (get_or bytes 4 0) frame_version) (message_of_kind (kind_of (get_or bytes 5 0)) bytes) BadVersion m p.1 in
+    let version : get_or bytes 4 0 ≡ frame_version = eqb-true _ _ v.0 in
     let k = kind_ok (kind_of (get_or bytes 5 0)) bytes m v.1 in
     let r = message_found k.0 (get_or bytes 6 0) k.2 bytes 7 m (length bytes) fits (omega (arith, long.low)) (whole_ok bytes (message_at k.0 (get_or bytes 6 0) bytes 7) m k.3) in
     let code : get_or bytes 5 0 ≡ code_of (kind m) = sym (kind_found (get_or bytes 5 0) k.0 k.1) ∙ ap code_of (sym r.kind_is) in
@@ -119,7 +119,7 @@ kind_again Done = refl
 kind_again Declined = refl
 kind_again Malformed = refl
 
-reads_again : (bytes : List ℕ) (m : Message) → is_sized bytes ≡ true → get_or bytes 4 0 ≡ 2 → get_or bytes 5 0 ≡ code_of (kind m) → get_or bytes 6 0 ≡ client_of m → client_rule (kind m) (client_of m) ≡ true
+reads_again : (bytes : List ℕ) (m : Message) → is_sized bytes ≡ true → get_or bytes 4 0 ≡ frame_version → get_or bytes 5 0 ≡ code_of (kind m) → get_or bytes 6 0 ≡ client_of m → client_rule (kind m) (client_of m) ≡ true
     → message_at (kind m) (client_of m) bytes 7 ≡ Ok (m, length bytes) → frame_of bytes ≡ Ok m
 unfolding frame_of
 reads_again bytes m is version code c fits read = rw (is, version, code, kind_again (kind m), c, fits, read, eq-eqb (length bytes) (length bytes) refl) refl

@@ -9,7 +9,7 @@ use Rattle.wire_frames.specs.declared.message.Message.{Message}
 use Rattle.wire_frames.specs.declared.message.Kind.{Kind}
 use Rattle.wire_frames.specs.declared.message.FrameError.{FrameError}
 use Rattle.wire_frames.specs.declared.message.FrameError.TheVariants.{BadLength, BadVersion, BadKind, BadClient, BadField, Trailing, Memory}
-use Rattle.wire_frames.specs.Frame.{kind, code_of, client_rule, payload, frame}
+use Rattle.wire_frames.specs.Frame.{frame_version, kind, code_of, client_rule, payload, frame}
 use Rattle.wire_frames.specs.Reading.{message_at, kind_of, whole, message_of_kind, is_sized, frame_of}
 use Rattle.wire_frames.specs.Laws.{LengthIsFirst, VersionIsSecond, KindIsThird, ClientIsFourth, FieldsAreBehindTheClient, MessagesStandBeforeWhatIsLeft}
 use Rattle.wire_frames.proofs.Messages.{message_found, message_fault}
@@ -18,14 +18,14 @@ use Rattle.wire_frames.proofs.Frames.{sized, header, kind_found, kind_again}
 -- the bytes have the version, and this kind's code
 record IsOfKind (bytes : List ℕ) (k : Kind) : Type 0 where
   sized : is_sized bytes ≡ true
-  version : eqb (get_or bytes 4 0) 2 ≡ true
+  version : eqb (get_or bytes 4 0) frame_version ≡ true
   code : kind_of (get_or bytes 5 0) ≡ Some k
 
 -- what a refusal says of the bytes
 Says : List ℕ → FrameError → Type 0
 Says bytes BadLength = is_sized bytes ≡ false
-Says bytes BadVersion = (is_sized bytes ≡ true) × (eqb (get_or bytes 4 0) 2 ≡ false)
-Says bytes BadKind = (is_sized bytes ≡ true) × (eqb (get_or bytes 4 0) 2 ≡ true) × (kind_of (get_or bytes 5 0) ≡ None)
+Says bytes BadVersion = (is_sized bytes ≡ true) × (eqb (get_or bytes 4 0) frame_version ≡ false)
+Says bytes BadKind = (is_sized bytes ≡ true) × (eqb (get_or bytes 4 0) frame_version ≡ true) × (kind_of (get_or bytes 5 0) ≡ None)
 Says bytes BadClient = (k : Kind) × IsOfKind bytes k × (client_rule k (get_or bytes 6 0) ≡ false)
 Says bytes (BadField place) = (k : Kind) × IsOfKind bytes k × (message_at k (get_or bytes 6 0) bytes 7 ≡ Err place)
 Says bytes (Trailing place) =
@@ -46,7 +46,7 @@ not_given m x e = absurd cc
 
 says : (bytes : List ℕ) (x : FrameError) → frame_of bytes ≡ Err x → Says bytes x
 unfolding frame_of Says
-says bytes x e = by (is_sized bytes) (eqb (get_or bytes 4 0) 2) (kind_of (get_or bytes 5 0)) refl refl refl e
+says bytes x e = by (is_sized bytes) (eqb (get_or bytes 4 0) frame_version) (kind_of (get_or bytes 5 0)) refl refl refl e
   where
     ended : (k : Kind) → IsOfKind bytes k → client_rule k (get_or bytes 6 0) ≡ true → (m : Message) (place : ℕ) → message_at k (get_or bytes 6 0) bytes 7 ≡ Ok (m, place)
         → (b : Bool) → eqb place (length bytes) ≡ b → cond b (given m) (refused (Trailing place)) ≡ refused x → Says bytes x
@@ -61,7 +61,7 @@ says bytes x e = by (is_sized bytes) (eqb (get_or bytes 4 0) 2) (kind_of (get_or
     client k of true takes e = fields k of takes (message_at k (get_or bytes 6 0) bytes 7) refl e
     client k of false takes e = subst (Says bytes) (error_is BadClient x e) (k, of, takes)
 
-    by : (s v : Bool) (o : Option Kind) → is_sized bytes ≡ s → eqb (get_or bytes 4 0) 2 ≡ v → kind_of (get_or bytes 5 0) ≡ o
+    by : (s v : Bool) (o : Option Kind) → is_sized bytes ≡ s → eqb (get_or bytes 4 0) frame_version ≡ v → kind_of (get_or bytes 5 0) ≡ o
         → cond s (cond v (message_of_kind o bytes) (refused BadVersion)) (refused BadLength) ≡ refused x → Says bytes x
     by false v o es ev eo e = subst (Says bytes) (error_is BadLength x e) es
     by true false o es ev eo e = subst (Says bytes) (error_is BadVersion x e) (es, ev)
@@ -104,8 +104,8 @@ length_first bytes = (says bytes BadLength, λ h. rw h refl)
 pub version_second : VersionIsSecond
 unfolding frame_of Says
 version_second bytes = (
-  λ e. let s = says bytes BadVersion e in (s.0, differs (get_or bytes 4 0) 2 s.1),
-  λ h. rw (h.0, not_equal (get_or bytes 4 0) 2 h.1) refl,
+  λ e. let s = says bytes BadVersion e in (s.0, differs (get_or bytes 4 0) frame_version s.1),
+  λ h. rw (h.0, not_equal (get_or bytes 4 0) frame_version h.1) refl,
 )
 
 pub kind_third : KindIsThird
@@ -113,8 +113,8 @@ unfolding frame_of Says
 kind_third bytes = (
   λ e.
       let s = says bytes BadKind e in
-      (record { sized = s.0; version = eqb-true (get_or bytes 4 0) 2 s.1 }, λ k is. none_is k (sym s.2 ∙ kind_with (get_or bytes 5 0) k is)),
-  λ h. rw (h.0.sized, eq-eqb (get_or bytes 4 0) 2 h.0.version, no_kind (get_or bytes 5 0) h.1) refl,
+      (record { sized = s.0; version = eqb-true (get_or bytes 4 0) frame_version s.1 }, λ k is. none_is k (sym s.2 ∙ kind_with (get_or bytes 5 0) k is)),
+  λ h. rw (h.0.sized, eq-eqb (get_or bytes 4 0) frame_version h.0.version, no_kind (get_or bytes 5 0) h.1) refl,
 )
 
 pub client_fourth : ClientIsFourth
@@ -122,8 +122,8 @@ unfolding frame_of Says
 client_fourth bytes = (
   λ e.
       let s = says bytes BadClient e in
-      (record { sized = s.1.sized; version = eqb-true (get_or bytes 4 0) 2 s.1.version }, (s.0, kind_found (get_or bytes 5 0) s.0 s.1.code, s.2)),
-  λ h. rw (h.0.sized, eq-eqb (get_or bytes 4 0) 2 h.0.version, kind_with (get_or bytes 5 0) h.1.0 h.1.1, h.1.2) refl,
+      (record { sized = s.1.sized; version = eqb-true (get_or bytes 4 0) frame_version s.1.version }, (s.0, kind_found (get_or bytes 5 0) s.0 s.1.code, s.2)),
+  λ h. rw (h.0.sized, eq-eqb (get_or bytes 4 0) frame_version h.0.version, kind_with (get_or bytes 5 0) h.1.0 h.1.1, h.1.2) refl,
 )
 
 pub fields_behind : FieldsAreBehindTheClient
@@ -141,7 +141,7 @@ message_before bytes place fits e =
     let long = sized bytes s.1.sized in
     let m = s.3.0 in
     let r = message_found s.0 (get_or bytes 6 0) s.2 bytes 7 m place fits (omega (arith, long.low)) s.3.1 in
-    let version : get_or bytes 4 0 ≡ 2 = eqb-true (get_or bytes 4 0) 2 s.1.version in
+    let version : get_or bytes 4 0 ≡ frame_version = eqb-true (get_or bytes 4 0) frame_version s.1.version in
     let code : get_or bytes 5 0 ≡ code_of (kind m) = sym (kind_found (get_or bytes 5 0) s.0 s.1.code) ∙ ap code_of (sym r.kind_is) in
     let after : get_or bytes 4 0 ∷ get_or bytes 5 0 ∷ get_or bytes 6 0 ∷ drop 7 bytes ≡ payload m ++ drop place bytes = rw (version, code, ← r.client_is, r.stands.here) refl in
     let whole : bytes ≡ (take 4 bytes ++ payload m) ++ drop place bytes =

@@ -2,6 +2,7 @@ pub mod FaultLaws
 pub mod CauseLaws
 pub mod OperationLaws
 pub mod OperationSizes
+pub mod PartLaws
 pub mod Messages
 pub mod Sizes
 pub mod Frames

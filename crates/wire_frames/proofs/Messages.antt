@@ -5,9 +5,10 @@ use Rattle.std.proofs.lemmas.Bool.{eqb-true}
 use Rattle.byte_fields.specs.Field.{digits, ruled, number_at}
 use Rattle.byte_fields.specs.Codec.{Stands, IsBytes, IsFault, IsCodec}
 use Rattle.byte_fields.proofs.Codec.{done, later_fault, ok_is, never_err, bind_ok, bind_err, u8_codec, u32_codec, u64_codec, ruled_codec, found1, found2, found3, again1, again2, again3, fault1, fault2, fault3, stands_none, stands_first, stands_second, stands_both}
+use Rattle.file_paths.specs.Path.{FilePath}
 use Rattle.file_paths.proofs.Parts.{path_codec}
-use Rattle.tree_laws.proofs.Parts.{effects_codec, rows_codec}
-use Rattle.tree_laws.proofs.Few.{bases_of}
+use Rattle.tree_values.specs.Effects.{Conflict}
+use Rattle.tree_laws.proofs.Parts.{rows_codec}
 use Rattle.wire_frames.specs.declared.message.Message.{Message}
 use Rattle.wire_frames.specs.declared.message.Message.TheVariants as messages
 use Rattle.wire_frames.specs.declared.message.Kind.{Kind}
@@ -15,8 +16,9 @@ use Rattle.wire_frames.specs.declared.message.Kind.TheVariants.{Store, Operate, 
 use Rattle.wire_frames.proofs.FaultLaws.{unfit_codec, full_codec}
 use Rattle.wire_frames.proofs.CauseLaws.{cause_codec}
 use Rattle.wire_frames.proofs.OperationLaws.{operation_codec}
-use Rattle.wire_frames.specs.Frame.{kind, client_of, number_of, body, client_rule, number_rule, offset_rule, BodyFits}
-use Rattle.wire_frames.specs.Reading.{store_at, operate_at, stale_at, unfit_at, full_at, snapshot_at, gap_at, declined_at, malformed_at, body_at, message_at}
+use Rattle.wire_frames.proofs.PartLaws.{parts_codec}
+use Rattle.wire_frames.specs.Frame.{kind, client_of, number_of, conflict, body, client_rule, number_rule, offset_rule, accepted_rule, refused_rule, ConflictFits, RefusedFits, BodyFits}
+use Rattle.wire_frames.specs.Reading.{store_at, operate_at, accepted_at, refused_upto, conflict_at, stale_at, unfit_at, full_at, snapshot_at, gap_at, declined_at, malformed_at, body_at, message_at}
 
 -- ---- bodies
 
@@ -32,12 +34,37 @@ refusal = ruled_codec (λ n. leb 1 n && leb n 7) u8_codec
 offset_of : (code : ℕ) → IsCodec (ruled (offset_rule code) (number_at w32)) (digits w32) (λ n. (n < 2 ^ 32) × (offset_rule code n ≡ true))
 offset_of code = ruled_codec (offset_rule code) u32_codec
 
+abbrev pub conflict_of : FilePath → ℕ → ℕ → Conflict
+conflict_of p theirs ours = record { path = p; theirs = theirs; ours = ours }
+
+pub conflict_codec : IsCodec conflict_at conflict ConflictFits
+unfolding conflict_at
+conflict_codec = record {
+  found = λ bytes at x next fits le e.
+      let r = found3 path_codec (λ _ _. u64_codec) (λ _ theirs _ _. other_than theirs) conflict_of bytes at x next fits le e in
+      subst (λ (c : Conflict). Stands bytes at (conflict c) next × ConflictFits c) r.is (r.stands, (r.first_fits, r.second_fits, r.third_fits.0, r.third_fits.1));
+  again = λ bytes at x next stands fits.
+      again3 path_codec (λ _ _. u64_codec) (λ _ theirs _ _. other_than theirs) conflict_of bytes at x.path x.theirs x.ours next stands fits.0 fits.1 (fits.2, fits.3);
+  fault = fault3 path_codec (λ _ _. u64_codec) (λ _ theirs _ _. other_than theirs) conflict_of;
+}
+
+pub accepted_codec : (number : ℕ) → IsCodec (ruled (accepted_rule number) (number_at w64)) (digits w64) (λ n. (n < 2 ^ 64) × (accepted_rule number n ≡ true))
+accepted_codec number = ruled_codec (accepted_rule number) u64_codec
+
+pub refused_codec : (number : ℕ) → IsCodec (refused_upto number) (digits w64) (RefusedFits number)
+unfolding refused_upto
+refused_codec number = ruled_codec (refused_rule number) u64_codec
+
 -- a message of this kind, client and number
 pub record IsOf (k : Kind) (c n : ℕ) (m : Message) : Type 0 where
   pub kind_is : kind m ≡ k
   pub client_is : client_of m ≡ c
   pub number_is : number_of m ≡ n
   pub body_fits : BodyFits m
+
+-- a Stale that tells this conflict
+abbrev pub stale_of : ℕ → ℕ → ℕ → Conflict → Message
+stale_of c n upto told = messages.Stale c n upto told.path told.theirs told.ours
 
 abbrev IsFound : Kind → ℕ → ℕ → List ℕ → ℕ → ℕ → Message → Type 0
 IsFound k c n bytes at next m = Stands bytes at (body m) next × IsOf k c n m
@@ -47,24 +74,26 @@ empty_found bytes at next made m k c n le no_body of e =
     subst (λ (x : Message × ℕ). IsFound k c n bytes at x.1 x.0) (ok_is (made, at) (m, next) e) (rw no_body (stands_none bytes at le), of)
 
 body_found : (k : Kind) (c n : ℕ) → client_rule k c ≡ true → number_rule k n ≡ true → (bytes : List ℕ) (at : ℕ) (m : Message) (next : ℕ) → IsBytes bytes → at ≤ length bytes → body_at k c n bytes at ≡ Ok (m, next) → IsFound k c n bytes at next m
-unfolding store_at operate_at stale_at unfit_at full_at snapshot_at gap_at declined_at malformed_at
+unfolding store_at operate_at accepted_at stale_at unfit_at full_at snapshot_at gap_at declined_at malformed_at
 body_found Store c n cr nr bytes at m next fits le e =
-    let r = found2 effects_codec bases_of (messages.Store c n) bytes at m next fits le e in
-    subst (IsFound Store c n bytes at next) r.is (r.stands, record { kind_is = refl; client_is = refl; number_is = refl; body_fits = (r.first_fits, r.second_fits) })
+    let r = found1 (parts_codec n) (messages.Store c n) bytes at m next fits le e in
+    subst (IsFound Store c n bytes at next) r.is (r.stands, record { kind_is = refl; client_is = refl; number_is = refl; body_fits = r.fits })
 body_found Operate c n cr nr bytes at m next fits le e =
     let r = found1 (operation_codec n) (messages.Operate c) bytes at m next fits le e in
     subst (IsFound Operate c n bytes at next) r.is (r.stands, record { kind_is = refl; client_is = refl; number_is = r.fits.0; body_fits = r.fits.1 })
 body_found Pull c n cr nr bytes at m next fits le e = empty_found bytes at next (messages.Pull c n) m Pull c n le refl (record { kind_is = refl; client_is = refl; number_is = refl; body_fits = tt }) e
-body_found Accepted c n cr nr bytes at m next fits le e = empty_found bytes at next (messages.Accepted c n) m Accepted c n le refl (record { kind_is = refl; client_is = refl; number_is = refl; body_fits = tt }) e
+body_found Accepted c n cr nr bytes at m next fits le e =
+    let r = found1 (accepted_codec n) (messages.Accepted c n) bytes at m next fits le e in
+    subst (IsFound Accepted c n bytes at next) r.is (r.stands, record { kind_is = refl; client_is = refl; number_is = refl; body_fits = r.fits })
 body_found Stale c n cr nr bytes at m next fits le e =
-    let r = found3 path_codec (λ _ _. u64_codec) (λ _ theirs _ _. other_than theirs) (messages.Stale c n) bytes at m next fits le e in
-    subst (IsFound Stale c n bytes at next) r.is (r.stands, record { kind_is = refl; client_is = refl; number_is = refl; body_fits = (r.first_fits, r.second_fits, r.third_fits.0, r.third_fits.1) })
+    let r = found2 (refused_codec n) (λ _ _. conflict_codec) (stale_of c n) bytes at m next fits le e in
+    subst (IsFound Stale c n bytes at next) r.is (r.stands, record { kind_is = refl; client_is = refl; number_is = refl; body_fits = (r.first_fits, r.second_fits) })
 body_found Unfit c n cr nr bytes at m next fits le e =
-    let r = found2 u32_codec (λ _ _. unfit_codec) (messages.Unfit c n) bytes at m next fits le e in
-    subst (IsFound Unfit c n bytes at next) r.is (r.stands, record { kind_is = refl; client_is = refl; number_is = refl; body_fits = (r.first_fits, r.second_fits) })
+    let r = found3 (refused_codec n) (λ _ _. u32_codec) (λ _ _ _ _. unfit_codec) (messages.Unfit c n) bytes at m next fits le e in
+    subst (IsFound Unfit c n bytes at next) r.is (r.stands, record { kind_is = refl; client_is = refl; number_is = refl; body_fits = (r.first_fits, r.second_fits, r.third_fits) })
 body_found Full c n cr nr bytes at m next fits le e =
-    let r = found2 u32_codec (λ _ _. full_codec) (messages.Full c n) bytes at m next fits le e in
-    subst (IsFound Full c n bytes at next) r.is (r.stands, record { kind_is = refl; client_is = refl; number_is = refl; body_fits = (r.first_fits, r.second_fits) })
+    let r = found3 (refused_codec n) (λ _ _. u32_codec) (λ _ _ _ _. full_codec) (messages.Full c n) bytes at m next fits le e in
+    subst (IsFound Full c n bytes at next) r.is (r.stands, record { kind_is = refl; client_is = refl; number_is = refl; body_fits = (r.first_fits, r.second_fits, r.third_fits) })
 body_found Gap c n cr nr bytes at m next fits le e =
     let r = found1 (before n) (messages.Gap c n) bytes at m next fits le e in
     subst (IsFound Gap c n bytes at next) r.is (r.stands, record { kind_is = refl; client_is = refl; number_is = refl; body_fits = (r.fits.0, r.fits.1) })
@@ -80,16 +109,16 @@ body_found Malformed c n cr nr bytes at m next fits le e =
     subst (IsFound Malformed c n bytes at next) r.is (r.stands, record { kind_is = refl; client_is = sym (eqb-true c 0 cr); number_is = sym (eqb-true n 0 nr); body_fits = (r.first_fits.0, r.first_fits.1, r.second_fits.0, r.second_fits.1) })
 
 body_fault : (k : Kind) (c n : ℕ) (bytes : List ℕ) (at : ℕ) (place : ℕ) → IsBytes bytes → at ≤ length bytes → body_at k c n bytes at ≡ Err place → IsFault bytes at place
-unfolding store_at operate_at stale_at unfit_at full_at snapshot_at gap_at declined_at malformed_at
-body_fault Store c n bytes at place fits le e = fault2 effects_codec bases_of (messages.Store c n) bytes at place fits le e
-body_fault Stale c n bytes at place fits le e = fault3 path_codec (λ _ _. u64_codec) (λ _ theirs _ _. other_than theirs) (messages.Stale c n) bytes at place fits le e
-body_fault Unfit c n bytes at place fits le e = fault2 u32_codec (λ _ _. unfit_codec) (messages.Unfit c n) bytes at place fits le e
-body_fault Full c n bytes at place fits le e = fault2 u32_codec (λ _ _. full_codec) (messages.Full c n) bytes at place fits le e
+unfolding store_at operate_at accepted_at stale_at unfit_at full_at snapshot_at gap_at declined_at malformed_at
+body_fault Store c n bytes at place fits le e = fault1 (parts_codec n) (messages.Store c n) bytes at place fits le e
+body_fault Stale c n bytes at place fits le e = fault2 (refused_codec n) (λ _ _. conflict_codec) (stale_of c n) bytes at place fits le e
+body_fault Unfit c n bytes at place fits le e = fault3 (refused_codec n) (λ _ _. u32_codec) (λ _ _ _ _. unfit_codec) (messages.Unfit c n) bytes at place fits le e
+body_fault Full c n bytes at place fits le e = fault3 (refused_codec n) (λ _ _. u32_codec) (λ _ _ _ _. full_codec) (messages.Full c n) bytes at place fits le e
 body_fault Gap c n bytes at place fits le e = fault1 (before n) (messages.Gap c n) bytes at place fits le e
 body_fault Malformed c n bytes at place fits le e = fault2 refusal (λ code _. offset_of code) messages.Malformed bytes at place fits le e
 body_fault Operate c n bytes at place fits le e = fault1 (operation_codec n) (messages.Operate c) bytes at place fits le e
 body_fault Pull c n bytes at place fits le e = absurd (never_err (messages.Pull c n, at) place e)
-body_fault Accepted c n bytes at place fits le e = absurd (never_err (messages.Accepted c n, at) place e)
+body_fault Accepted c n bytes at place fits le e = fault1 (accepted_codec n) (messages.Accepted c n) bytes at place fits le e
 body_fault Done c n bytes at place fits le e = absurd (never_err (messages.Done c n, at) place e)
 body_fault Declined c n bytes at place fits le e = fault1 cause_codec (messages.Declined c n) bytes at place fits le e
 body_fault Snapshot c n bytes at place fits le e = fault2 u64_codec (λ _ _. rows_codec) (messages.Snapshot c n) bytes at place fits le e
@@ -98,14 +127,17 @@ empty_again : (m : Message) (bytes : List ℕ) (at next : ℕ) → Stands bytes 
 empty_again m bytes at next stands = let e : at ≡ next = omega (arith, stands.next_is) in rw e refl
 
 body_again : (m : Message) (bytes : List ℕ) (at next : ℕ) → Stands bytes at (body m) next → BodyFits m → body_at (kind m) (client_of m) (number_of m) bytes at ≡ Ok (m, next)
-unfolding store_at operate_at stale_at unfit_at full_at snapshot_at gap_at declined_at malformed_at
-body_again (messages.Store c n es bs) bytes at next stands fits = again2 effects_codec bases_of (messages.Store c n) bytes at es bs next stands fits.0 fits.1
+unfolding store_at operate_at accepted_at stale_at unfit_at full_at snapshot_at gap_at declined_at malformed_at
+body_again (messages.Store c n ps) bytes at next stands fits = again1 (parts_codec n) (messages.Store c n) bytes at ps next stands fits
 body_again (messages.Operate c entry) bytes at next stands fits = again1 (operation_codec entry.seq) (messages.Operate c) bytes at entry next stands (refl, fits)
 body_again (messages.Pull c n) bytes at next stands fits = empty_again (messages.Pull c n) bytes at next stands
-body_again (messages.Accepted c n) bytes at next stands fits = empty_again (messages.Accepted c n) bytes at next stands
-body_again (messages.Stale c n p theirs ours) bytes at next stands fits = again3 path_codec (λ _ _. u64_codec) (λ _ t _ _. other_than t) (messages.Stale c n) bytes at p theirs ours next stands fits.0 fits.1 (fits.2, fits.3)
-body_again (messages.Unfit c n i f) bytes at next stands fits = again2 u32_codec (λ _ _. unfit_codec) (messages.Unfit c n) bytes at i f next stands fits.0 fits.1
-body_again (messages.Full c n i f) bytes at next stands fits = again2 u32_codec (λ _ _. full_codec) (messages.Full c n) bytes at i f next stands fits.0 fits.1
+body_again (messages.Accepted c n upto) bytes at next stands fits = again1 (accepted_codec n) (messages.Accepted c n) bytes at upto next stands fits
+body_again (messages.Stale c n upto p theirs ours) bytes at next stands fits =
+    again2 (refused_codec n) (λ _ _. conflict_codec) (stale_of c n) bytes at upto (conflict_of p theirs ours) next stands fits.0 fits.1
+body_again (messages.Unfit c n upto i f) bytes at next stands fits =
+    again3 (refused_codec n) (λ _ _. u32_codec) (λ _ _ _ _. unfit_codec) (messages.Unfit c n) bytes at upto i f next stands fits.0 fits.1 fits.2
+body_again (messages.Full c n upto i f) bytes at next stands fits =
+    again3 (refused_codec n) (λ _ _. u32_codec) (λ _ _ _ _. full_codec) (messages.Full c n) bytes at upto i f next stands fits.0 fits.1 fits.2
 body_again (messages.Gap c n last) bytes at next stands fits = again1 (before n) (messages.Gap c n) bytes at last next stands (fits.0, fits.1)
 body_again (messages.Snapshot c n last rs) bytes at next stands fits = again2 u64_codec (λ _ _. rows_codec) (messages.Snapshot c n) bytes at last rs next stands fits.0 fits.1
 body_again (messages.Done c n) bytes at next stands fits = empty_again (messages.Done c n) bytes at next stands

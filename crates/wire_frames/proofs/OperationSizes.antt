@@ -33,6 +33,7 @@ use Rattle.wire_frames.specs.declared.message.Message.{Message}
 use Rattle.wire_frames.specs.declared.message.Message.TheVariants as messages
 use Rattle.wire_frames.specs.Frame.{body, frame}
 use Rattle.wire_frames.specs.Operation.{operation, OperationFits}
+use Rattle.wire_frames.specs.Parts.{part_of, part}
 use Rattle.wire_frames.specs.Inside.{sketched_length}
 use Rattle.wire_frames.proofs.OperationLaws.{few_bases}
 
@@ -140,11 +141,15 @@ frame_length m = omega arith
 bases_length : (bs : List Base) → length (bases bs) ≡ 4 + sum_by (λ b. length (base b)) bs
 bases_length bs = omega (arith, length-append (digits w32 (length bs)) (flat_map base bs), four_bytes (length bs), length-flat_map base bs)
 
-pub store_length : (client number : ℕ) (es : List Effect) (bs : List Base) → length (frame (messages.Store client number es bs)) ≡ 23 + sum_by (λ e. length (effect e)) es + sum_by (λ b. length (base b)) bs
+-- a store of one entry
+pub store_length : (client number : ℕ) (es : List Effect) (bs : List Base)
+    → length (frame (messages.Store client number (part_of es bs ∷ []))) ≡ 24 + sum_by (λ e. length (effect e)) es + sum_by (λ b. length (base b)) bs
 store_length client number es bs =
     omega (
       arith,
-      frame_length (messages.Store client number es bs),
+      frame_length (messages.Store client number (part_of es bs ∷ [])),
+      ap length (flat_map-cons part (part_of es bs) []),
+      length-append (part (part_of es bs)) [],
       length-append (effects es) (bases bs),
       length-append (digits w32 (length es)) (flat_map effect es),
       four_bytes (length es),

@@ -3,9 +3,9 @@ use Rattle.std.proofs.Common.{◌^◌, ◌<◌, ◌≤◌, ◌++◌, length, ari
 use Rattle.std.specs.Int.{w64}
 use Rattle.byte_fields.specs.Field.{digits}
 use Rattle.file_paths.specs.Spelling.{path}
-use Rattle.tree_values.specs.Spelling.{effects, bases, rows}
+use Rattle.tree_values.specs.Spelling.{rows}
 use Rattle.file_paths.proofs.Sizes.{path_size}
-use Rattle.tree_values.proofs.Sizes.{effects_size, bases_size, rows_size}
+use Rattle.tree_values.proofs.Sizes.{rows_size}
 use Rattle.tree_values.specs.declared.node.TreeError.{TreeError}
 use Rattle.tree_values.specs.declared.node.TreeError.TheVariants.{RootFixed, NoParent, Exists, Missing, IsFolder, NotEmpty, RowsFull, FileTooLarge, TreeFull, VersionTop}
 use Rattle.wire_frames.specs.declared.message.Message.{Message}
@@ -14,8 +14,8 @@ use Rattle.tree_values.specs.Fault.{tree_fault}
 use Rattle.wire_frames.specs.Fault.{UnfitFits, FullFits}
 use Rattle.wire_frames.proofs.CauseLaws.{cause_size}
 use Rattle.wire_frames.proofs.OperationSizes.{operation_size}
+use Rattle.wire_frames.proofs.PartLaws.{parts_size}
 use Rattle.wire_frames.specs.Frame.{body, payload, frame, BodyFits, IsValid}
-use Rattle.tree_laws.proofs.Few.{few_bases}
 
 unfit_size : (f : TreeError) → UnfitFits f → length (tree_fault f) ≤ 2053
 unfolding digits
@@ -37,15 +37,15 @@ full_size _ fits = absurd fits
 
 body_size : (m : Message) → BodyFits m → length (body m) ≤ 50999000
 unfolding digits
-body_size (messages.Store c n es bs) fits = omega (arith, length-append (effects es) (bases bs), effects_size es fits.0, bases_size bs fits.1.1, few_bases es bs fits.1 fits.0)
+body_size (messages.Store c n ps) fits = omega (arith, parts_size n ps fits)
 body_size (messages.Operate c entry) fits = omega (arith, operation_size entry fits)
-body_size (messages.Stale c n p theirs ours) fits = omega (arith, length-append (path p) (digits w64 theirs ++ digits w64 ours), path_size p fits.0)
-body_size (messages.Unfit c n i f) fits = omega (arith, unfit_size f fits.1)
-body_size (messages.Full c n i f) fits = omega (arith, full_size f fits.1)
+body_size (messages.Stale c n upto p theirs ours) fits = omega (arith, length-append (path p) (digits w64 theirs ++ digits w64 ours), path_size p fits.1.0)
+body_size (messages.Unfit c n upto i f) fits = omega (arith, unfit_size f fits.2)
+body_size (messages.Full c n upto i f) fits = omega (arith, full_size f fits.2)
 body_size (messages.Gap c n last) fits = omega arith
 body_size (messages.Malformed code offset) fits = omega arith
 body_size (messages.Pull c n) fits = omega arith
-body_size (messages.Accepted c n) fits = omega arith
+body_size (messages.Accepted c n upto) fits = omega arith
 body_size (messages.Done c n) fits = omega arith
 body_size (messages.Declined c n why) fits = omega (arith, cause_size why fits)
 body_size (messages.Snapshot c n last rs) fits = omega (arith, length-append (digits w64 last) (rows rs), rows_size rs fits.1)

@@ -1,16 +1,17 @@
 -- Frames that break a rule: the field that is refused, whatever stands behind it.
-use Rattle.std.specs.Prelude.{◌≡◌, ◌≢◌, ◌⊎◌, ℕ, ◌+◌, ◌^◌, ◌<◌, ◌≤◌, true, false, List, [], ◌∷◌, ◌++◌, length, Err}
+use Rattle.std.specs.Prelude.{◌≡◌, ◌≢◌, ◌⊎◌, ℕ, ◌+◌, ◌-◌, ◌^◌, ◌<◌, ◌≤◌, true, false, List, [], ◌∷◌, ◌++◌, length, Err}
 use Rattle.std.specs.Int.{w32, w64}
-use Rattle.byte_fields.specs.Field.{digits}
-use Rattle.std.specs.List.{AllByRecursion}
+use Rattle.byte_fields.specs.Field.{Reader, digits}
+use Rattle.std.specs.List.{flat_map, AllByRecursion}
 use Rattle.byte_fields.specs.Broken.{IsRefused}
 use Rattle.tree_values.specs.declared.node.Effect.{Effect}
 use Rattle.file_paths.specs.Path.{FilePath, IsPath}
-use Rattle.tree_values.specs.Effects.{touched_all, distinct}
+use Rattle.tree_values.specs.Effects.{touched_all, distinct, contents_size}
+use Rattle.tree_values.specs.Limits.{max_files, max_effects}
 use Rattle.file_paths.specs.Spelling.{path}
 use Rattle.tree_values.specs.Spelling.{effects, EffectsFit}
 use Rattle.file_paths.specs.Reading.{path_at}
-use Rattle.tree_values.specs.Reading.{effects_at, bases_at, rows_at}
+use Rattle.tree_values.specs.Reading.{effects_within, bases_at, rows_at}
 use Rattle.wire_frames.specs.Fault.{unfit_fault_at, full_fault_at}
 use Rattle.tree_values.specs.Fault.{fault_at}
 use Rattle.wire_frames.specs.Cause.{IsPrint, refusal_rule, cause_at}
@@ -21,12 +22,16 @@ use Rattle.mod_log.specs.Sketched.{sketches_touch}
 use Rattle.mod_log.specs.Spelling.{sketch_effects, SketchEffectsFit}
 use Rattle.mod_log.specs.Reading.{origin_at}
 use Rattle.wire_frames.specs.Operation.{sketch_effects_at}
+use Rattle.wire_frames.specs.declared.parts.Part.{Part}
+use Rattle.wire_frames.specs.Parts.{part, PartFits, count_rule, effects_count, contents_count}
 use Rattle.wire_frames.specs.Limits.{max_frame}
 use Rattle.wire_frames.specs.declared.message.Message.{Message}
 use Rattle.wire_frames.specs.declared.message.Kind.{Kind}
-use Rattle.wire_frames.specs.declared.message.Kind.TheVariants.{Store, Operate, Stale, Unfit, Gap, Snapshot, Declined, Full, Malformed}
+use Rattle.wire_frames.specs.declared.message.Kind.TheVariants.{Store, Operate, Accepted, Stale, Unfit, Full}
+use Rattle.wire_frames.specs.declared.message.Kind.TheVariants.{Gap, Snapshot, Declined, Malformed}
 use Rattle.wire_frames.specs.declared.message.FrameError.TheVariants.{BadField, Trailing}
-use Rattle.wire_frames.specs.Frame.{frame_version, kind, client_of, number_of, code_of, client_rule, number_rule, body, frame, IsValid}
+use Rattle.wire_frames.specs.Frame.{frame_version, kind, client_of, number_of, code_of, client_rule, number_rule}
+use Rattle.wire_frames.specs.Frame.{body, frame, IsValid, RefusedFits}
 use Rattle.wire_frames.specs.Reading.{frame_of}
 
 -- a frame's length and header, and these bytes behind them
@@ -47,14 +52,31 @@ BrokenNumbers = (kind : Kind) (client number : ℕ) (behind : List ℕ) → clie
     → number_rule kind number ≡ false → number < 2 ^ 64 → 15 + length behind ≤ max_frame
     → frame_of (frame_with kind client number behind) ≡ Err (BadField 7)
 
+-- parts that fit together, with fewer than so many in all
+pub record StandBefore (count : ℕ) (before : List Part) : Type 0 where
+  pub fewer : length before < count
+  pub each : AllByRecursion PartFits before
+  pub few : effects_count before ≤ max_effects
+  pub all_contents : contents_count before ≤ max_files
+
+-- the effects of the part behind these, which take what room is left
+abbrev pub effects_behind : List Part → Reader (List Effect)
+effects_behind before = effects_within (max_effects - effects_count before) (max_files - contents_count before)
+
 pub record BrokenBodies : Type 0 where
-  -- effects that are refused: in them
-  pub effects_are_refused : (number : ℕ) (text : List ℕ) (offset : ℕ) → IsRefused effects_at text offset
-      → IsRefusedAt Store number text (15 + offset)
+  -- a number of parts that may not stand behind the message's number: at it
+  pub count_is_none : (number count : ℕ) → count < 2 ^ 8 → count_rule number count ≡ false → IsRefusedAt Store number (count ∷ []) 15
+  -- effects that are refused, where parts that fit stand before them: in them
+  pub effects_are_refused : (number count : ℕ) (before : List Part) (text : List ℕ) (offset : ℕ) → count < 2 ^ 8
+      → count_rule number count ≡ true → StandBefore count before → IsRefused (effects_behind before) text offset
+      → IsRefusedAt Store number (count ∷ (flat_map part before ++ text)) (16 + length (flat_map part before) + offset)
   -- a base of the touched paths that is refused: behind the effects
-  pub base_is_refused : (number : ℕ) (es : List Effect) (text : List ℕ) (offset : ℕ) → EffectsFit es
+  pub base_is_refused : (number count : ℕ) (before : List Part) (es : List Effect) (text : List ℕ) (offset : ℕ) → count < 2 ^ 8
+      → count_rule number count ≡ true → StandBefore count before → EffectsFit es → effects_count before + length es ≤ max_effects
+      → contents_count before + contents_size es ≤ max_files
       → IsRefused (bases_at (distinct (touched_all es))) text offset
-      → IsRefusedAt Store number (effects es ++ text) (15 + length (effects es) + offset)
+      → IsRefusedAt Store number (count ∷ (flat_map part before ++ (effects es ++ text)))
+      (16 + length (flat_map part before) + length (effects es) + offset)
   -- an origin that is refused: in it
   pub origin_is_refused : (number : ℕ) (text : List ℕ) (offset : ℕ) → IsRefused origin_at text offset
       → IsRefusedAt Operate number text (15 + offset)
@@ -65,17 +87,24 @@ pub record BrokenBodies : Type 0 where
   pub sketch_base_is_refused : (number : ℕ) (o : Origin) (es : List SketchEffect) (text : List ℕ) (offset : ℕ) → OriginFits o
       → SketchEffectsFit es → IsRefused (bases_at (distinct (sketches_touch es))) text offset
       → IsRefusedAt Operate number (origin o ++ (sketch_effects es ++ text)) (15 + length (origin o) + length (sketch_effects es) + offset)
+  -- an acceptance that tells less than its number: at what it tells
+  pub accepted_is_low : (number upto : ℕ) → upto < number → number < 2 ^ 64 → IsRefusedAt Accepted number (digits w64 upto) 15
+  -- a refusal that tells less than the number before its own: at what it tells
+  pub refused_is_low : (number upto : ℕ) → upto + 1 < number → number < 2 ^ 64
+      → AllByRecursion (λ kind. IsRefusedAt kind number (digits w64 upto) 15) (Stale ∷ Unfit ∷ Full ∷ [])
   -- a path that is refused: in it
-  pub path_is_refused : (number : ℕ) (text : List ℕ) (offset : ℕ) → IsRefused path_at text offset
-      → IsRefusedAt Stale number text (15 + offset)
+  pub path_is_refused : (number upto : ℕ) (text : List ℕ) (offset : ℕ) → RefusedFits number upto → IsRefused path_at text offset
+      → IsRefusedAt Stale number (digits w64 upto ++ text) (23 + offset)
   -- versions that do not differ: at the second
-  pub versions_are_equal : (number : ℕ) (p : FilePath) (version : ℕ) → IsPath p → version < 2 ^ 64
-      → IsRefusedAt Stale number (path p ++ (digits w64 version ++ digits w64 version)) (15 + length (path p) + 8)
+  pub versions_are_equal : (number upto : ℕ) (p : FilePath) (version : ℕ) → RefusedFits number upto → IsPath p → version < 2 ^ 64
+      → IsRefusedAt Stale number (digits w64 upto ++ (path p ++ (digits w64 version ++ digits w64 version))) (23 + length (path p) + 8)
   -- a refusal of the volume that is refused: behind the index
-  pub unfit_is_refused : (number index : ℕ) (text : List ℕ) (offset : ℕ) → index < 2 ^ 32 → IsRefused unfit_fault_at text offset
-      → IsRefusedAt Unfit number (digits w32 index ++ text) (19 + offset)
-  pub full_is_refused : (number index : ℕ) (text : List ℕ) (offset : ℕ) → index < 2 ^ 32 → IsRefused full_fault_at text offset
-      → IsRefusedAt Full number (digits w32 index ++ text) (19 + offset)
+  pub unfit_is_refused : (number upto index : ℕ) (text : List ℕ) (offset : ℕ) → RefusedFits number upto → index < 2 ^ 32
+      → IsRefused unfit_fault_at text offset
+      → IsRefusedAt Unfit number (digits w64 upto ++ (digits w32 index ++ text)) (27 + offset)
+  pub full_is_refused : (number upto index : ℕ) (text : List ℕ) (offset : ℕ) → RefusedFits number upto → index < 2 ^ 32
+      → IsRefused full_fault_at text offset
+      → IsRefusedAt Full number (digits w64 upto ++ (digits w32 index ++ text)) (27 + offset)
   -- a last number whose next is not below the message's: at it
   pub last_is_near : (number last : ℕ) → last < 2 ^ 64 → number ≤ last + 1 → IsRefusedAt Gap number (digits w64 last) 15
   -- rows that are refused: behind the last number

@@ -1,6 +1,6 @@
 -- Which frames are refused, and why: the refusals of a header, and what is left over. Which operations stand for which
 -- stores. Which replies answer a request.
-use Rattle.std.specs.Prelude.{◌≡◌, ◌≢◌, ◌↔◌, ℕ, ◌+◌, ◌-◌, ◌≤◌, ◌<◌, ◌++◌, false, true, List, length, take, drop, slice_index, Err}
+use Rattle.std.specs.Prelude.{◌≡◌, ◌≢◌, ◌↔◌, ℕ, ◌+◌, ◌-◌, ◌≤◌, ◌<◌, ◌++◌, false, true, List, [], ◌∷◌, length, take, drop, slice_index, Err}
 use Rattle.std.specs.Int.{w32}
 use Rattle.byte_fields.specs.Field.{digits}
 use Rattle.byte_fields.specs.Codec.{IsBytes}
@@ -16,7 +16,9 @@ use Rattle.wire_frames.specs.declared.message.Kind.{Kind}
 use Rattle.wire_frames.specs.declared.message.Kind.TheVariants.{Store, Operate, Pull, Accepted, Stale, Unfit, Gap, Snapshot, Done, Declined}
 use Rattle.wire_frames.specs.declared.message.Kind.TheVariants.{Full}
 use Rattle.wire_frames.specs.declared.message.FrameError.TheVariants.{BadLength, BadVersion, BadKind, BadClient, BadField, Trailing}
-use Rattle.wire_frames.specs.Frame.{frame_version, kind, client_of, number_of, code_of, client_rule, frame, IsValid, Echoes}
+use Rattle.wire_frames.specs.Frame.{frame_version, kind, client_of, number_of, code_of, client_rule, frame, IsValid}
+use Rattle.wire_frames.specs.Frame.{entries_of, speaks_upto, Echoes}
+use Rattle.wire_frames.specs.Parts.{part_of}
 use Rattle.wire_frames.specs.Fields.{message_fields}
 use Rattle.wire_frames.specs.Reading.{is_sized, frame_of}
 
@@ -60,17 +62,17 @@ CutFramesNameTheField = (message : Message) (end : ℕ) → IsValid message → 
 
 -- ---- operations beside stores
 
--- what fills the sketches of a valid operation is, with the operation's number and bases, a valid store
+-- what fills the sketches of a valid operation is, with the operation's number and bases, a valid store of one entry
 abbrev pub FilledStoresAreValid : Type 0
 FilledStoresAreValid = (client : ℕ) (sketched : SketchEntry) (effects : List Effect) → IsValid (messages.Operate client sketched)
     → AllFill sketched.effects effects
-    → IsValid (messages.Store client sketched.seq effects sketched.base)
+    → IsValid (messages.Store client sketched.seq (part_of effects sketched.base ∷ []))
 
--- an entry that has a valid store has a valid operation, if a command made it
+-- an entry that has a valid store of its own has a valid operation, if a command made it
 abbrev pub SketchedStoresAreValid : Type 0
 SketchedStoresAreValid = (client : ℕ) (entry : Entry) (sketched : SketchEntry)
-    → IsValid (messages.Store client entry.seq entry.effects entry.base) → MadeByFits entry.origin → IsSketchOf entry sketched
-    → IsValid (messages.Operate client sketched)
+    → IsValid (messages.Store client entry.seq (part_of entry.effects entry.base ∷ [])) → MadeByFits entry.origin
+    → IsSketchOf entry sketched → IsValid (messages.Operate client sketched)
 
 -- ---- replies
 
@@ -86,8 +88,10 @@ IsReplyKind Operate Declined = Unit {0}
 IsReplyKind Pull Snapshot = Unit {0}
 IsReplyKind _ _ = ⊥
 
--- a reply answers a request exactly where its kind answers the request's, and it is of its client and its number
+-- A reply answers a request exactly where its kind answers the request's, it is of its client and its number, and it speaks of no
+-- entry behind those of the request.
 abbrev pub KindsDecideReplies : Type 0
 KindsDecideReplies = (request reply : Message)
     → Echoes request reply
-    ↔ (IsReplyKind (kind request) (kind reply) × (client_of request ≡ client_of reply) × (number_of request ≡ number_of reply))
+    ↔ (IsReplyKind (kind request) (kind reply) × (client_of request ≡ client_of reply) × (number_of request ≡ number_of reply)
+    × (speaks_upto reply < number_of request + entries_of request))

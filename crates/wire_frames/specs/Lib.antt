@@ -3,6 +3,7 @@ pub mod Fault
 pub mod Cause
 pub mod Operation
 pub mod Inside
+pub mod Parts
 pub mod Frame
 pub mod Malformed
 pub mod Reading

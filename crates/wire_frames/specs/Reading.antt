@@ -3,13 +3,14 @@ use Rattle.std.specs.Prelude.{ℕ, ◌+◌, nat_le, ◌==◌, ◌&&◌, not, Boo
 use Rattle.std.specs.Prelude.{Ok, Err, if◌then◌else◌}
 use Rattle.std.specs.Int.{w8, w32, w64, from_be_bytes}
 use Rattle.std.specs.List.{find}
-use Rattle.byte_fields.specs.Field.{Reader, Answers, none, one, two, ◌>>=◌, ruled, number_at}
-use Rattle.tree_values.specs.Effects.{touched_all, distinct}
+use Rattle.byte_fields.specs.Field.{Reader, Answers, none, one, two, three, ◌>>=◌, ruled, number_at}
+use Rattle.tree_values.specs.Effects.{Conflict}
 use Rattle.file_paths.specs.Reading.{path_at}
-use Rattle.tree_values.specs.Reading.{effects_at, bases_at, rows_at}
+use Rattle.tree_values.specs.Reading.{rows_at}
 use Rattle.wire_frames.specs.Fault.{unfit_fault_at, full_fault_at}
 use Rattle.wire_frames.specs.Cause.{cause_at}
 use Rattle.wire_frames.specs.Operation.{operation_at}
+use Rattle.wire_frames.specs.Parts.{parts_at}
 use Rattle.wire_frames.specs.Limits.{max_frame}
 use Rattle.wire_frames.specs.declared.message.Message.{Message}
 use Rattle.wire_frames.specs.declared.message.Message.TheVariants as messages
@@ -18,38 +19,50 @@ use Rattle.wire_frames.specs.declared.message.Kind.TheVariants.{Store, Operate, 
 use Rattle.wire_frames.specs.declared.message.Kind.TheVariants.{Full, Malformed}
 use Rattle.wire_frames.specs.declared.message.FrameError.{FrameError}
 use Rattle.wire_frames.specs.declared.message.FrameError.TheVariants.{BadLength, BadVersion, BadKind, BadClient, BadField, Trailing, Memory}
-use Rattle.wire_frames.specs.Frame.{frame_version, code_of, client_rule, number_rule, offset_rule}
+use Rattle.wire_frames.specs.Frame.{frame_version, code_of, client_rule, number_rule, offset_rule, accepted_rule, refused_rule}
 
--- the effects, and the versions of the paths that they touch
+-- the entries, numbered on from the message's number
 unfoldable pub store_at : ℕ → ℕ → Reader Message
-store_at client number bytes at = do
-  effects ← effects_at bytes at
-  base ← bases_at (distinct (touched_all effects.0)) bytes effects.1
-  Ok (messages.Store client number effects.0 base.0, base.1)
+store_at client number = one (parts_at number) (messages.Store client number)
 
 -- the operation, whose number is the message's
 unfoldable pub operate_at : ℕ → ℕ → Reader Message
 operate_at client number = one (operation_at number) (messages.Operate client)
 
+-- the number up to which entries were taken, at least the message's
+unfoldable pub accepted_at : ℕ → ℕ → Reader Message
+accepted_at client number = one (ruled (accepted_rule number) (number_at w64)) (messages.Accepted client number)
+
+-- the number up to which entries were taken before one was refused, at least the one before the message's
+unfoldable pub refused_upto : ℕ → Reader ℕ
+refused_upto number = ruled (refused_rule number) (number_at w64)
+
 -- the path, the server's version and the client's, which is another
-unfoldable pub stale_at : ℕ → ℕ → Reader Message
-stale_at client number bytes at = do
+unfoldable pub conflict_at : Reader Conflict
+conflict_at bytes at = do
   path ← path_at bytes at
   theirs ← number_at w64 bytes path.1
   ours ← ruled (λ n. not (n == theirs.0)) (number_at w64) bytes theirs.1
-  Ok (messages.Stale client number path.0 theirs.0 ours.0, ours.1)
+  Ok (record { path = path.0; theirs = theirs.0; ours = ours.0 }, ours.1)
 
--- the index of the effect, and why it was refused for another cause than want of room
+-- the number up to which entries were taken, and the first path that is out of date
+unfoldable pub stale_at : ℕ → ℕ → Reader Message
+stale_at client number =
+    two (refused_upto number) (λ _. conflict_at) (λ upto c. messages.Stale client number upto c.path c.theirs c.ours)
+
+-- the number up to which entries were taken, the index of the effect, and why it was refused for another cause than want of room
 unfoldable pub unfit_at : ℕ → ℕ → Reader Message
-unfit_at client number = two (number_at w32) (λ _. unfit_fault_at) (messages.Unfit client number)
+unfit_at client number =
+    three (refused_upto number) (λ _. number_at w32) (λ _ _. unfit_fault_at) (messages.Unfit client number)
 
 -- the client's last accepted number, and the rows
 unfoldable pub snapshot_at : ℕ → ℕ → Reader Message
 snapshot_at client number = two (number_at w64) (λ _. rows_at) (messages.Snapshot client number)
 
--- the index of the effect, and why there was no room for it
+-- the number up to which entries were taken, the index of the effect, and why there was no room for it
 unfoldable pub full_at : ℕ → ℕ → Reader Message
-full_at client number = two (number_at w32) (λ _. full_fault_at) (messages.Full client number)
+full_at client number =
+    three (refused_upto number) (λ _. number_at w32) (λ _ _. full_fault_at) (messages.Full client number)
 
 -- why the operation is not carried out
 unfoldable pub declined_at : ℕ → ℕ → Reader Message
@@ -73,7 +86,7 @@ abbrev pub body_at : Kind → ℕ → ℕ → Reader Message
 body_at Store client number = store_at client number
 body_at Operate client number = operate_at client number
 body_at Pull client number = none (messages.Pull client number)
-body_at Accepted client number = none (messages.Accepted client number)
+body_at Accepted client number = accepted_at client number
 body_at Stale client number = stale_at client number
 body_at Unfit client number = unfit_at client number
 body_at Full client number = full_at client number

@@ -9,19 +9,23 @@ impl TryCopy for Message {
         let client = self.client();
         let number = self.number();
         Ok(match self {
-            Message::Store { effects, base, .. } => Message::Store {
+            Message::Store { entries, .. } => Message::Store {
                 client,
                 number,
-                effects: effects.copy()?,
-                base: base.copy()?,
+                entries: entries.copy()?,
             },
             Message::Operate { entry, .. } => Message::Operate {
                 client,
                 entry: entry.copy()?,
             },
             Message::Pull { .. } => Message::Pull { client, number },
-            Message::Accepted { .. } => Message::Accepted { client, number },
+            Message::Accepted { upto, .. } => Message::Accepted {
+                client,
+                number,
+                upto: *upto,
+            },
             Message::Stale {
+                upto,
                 path,
                 theirs,
                 ours,
@@ -29,13 +33,20 @@ impl TryCopy for Message {
             } => Message::Stale {
                 client,
                 number,
+                upto: *upto,
                 path: path.copy()?,
                 theirs: *theirs,
                 ours: *ours,
             },
-            Message::Unfit { index, fault, .. } => Message::Unfit {
+            Message::Unfit {
+                upto,
+                index,
+                fault,
+                ..
+            } => Message::Unfit {
                 client,
                 number,
+                upto: *upto,
                 index: *index,
                 fault: fault.copy()?,
             },
@@ -56,9 +67,15 @@ impl TryCopy for Message {
                 number,
                 cause: cause.copy()?,
             },
-            Message::Full { index, fault, .. } => Message::Full {
+            Message::Full {
+                upto,
+                index,
+                fault,
+                ..
+            } => Message::Full {
                 client,
                 number,
+                upto: *upto,
                 index: *index,
                 fault: fault.copy()?,
             },

@@ -7,7 +7,7 @@ ghost use Rattle.wire_frames.specs.Reading.{kind_of};
 use crate::message::{CLIENTS, Kind, Message};
 
 /// The version of the format, byte 4 of each frame.
-pub(crate) const FRAME_VERSION: u8 = 2;
+pub(crate) const FRAME_VERSION: u8 = 3;
 
 impl Kind {
     /// The kind with this code; `None` where there is none.
@@ -114,8 +114,8 @@ impl Message {
         }
     }
 
-    /// The number of the request or of the request that is answered, that of an `Operate` is its entry's; 0 for a
-    /// `Malformed`.
+    /// The number of the request or of the request that is answered, that of a `Store` is its first entry's, that of an
+    /// `Operate` is its entry's; 0 for a `Malformed`.
     pub fn number(&self) -> u64
         ensures { result ≡ number_of self.now }
     {

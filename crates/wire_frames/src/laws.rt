@@ -28,7 +28,7 @@ pub fn operations_stand_for_stores()
     ensures sketched { SketchedStoresAreValid }
 {}
 
-/// States that kind, client and number decide whether a reply answers a request.
+/// States that kind, client and number, and of which entries it speaks, decide whether a reply answers a request.
 pub fn kinds_decide_replies()
     ensures { KindsDecideReplies }
 {}

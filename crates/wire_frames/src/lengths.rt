@@ -1,7 +1,7 @@
-//! How long the frame of an entry's store is, and that of its operation; a number past the greatest stands as the
+//! How long the frame of the store of one entry is, and that of its operation; a number past the greatest stands as the
 //! greatest.
 
-ghost use Rattle.std.specs.Prelude.{ℕ, ◌≡◌, ◌≤◌, length, IfOk};
+ghost use Rattle.std.specs.Prelude.{ℕ, ◌≡◌, ◌≤◌, [], ◌∷◌, length, IfOk};
 ghost use Rattle.std.specs.Option.{IsSome};
 ghost use Rattle.std.specs.List.{AllByRecursion, sum_by};
 ghost use Rattle.byte_fields.specs.Numbers.{as_u64};
@@ -12,6 +12,7 @@ ghost use Rattle.mod_log.specs.Origin.{origin as spelled_origin};
 ghost use Rattle.mod_log.specs.Sketched.{IsSketchOf};
 ghost use Rattle.wire_frames.specs.declared.message.Message.TheVariants.{Store, Operate};
 ghost use Rattle.wire_frames.specs.Frame.{frame};
+ghost use Rattle.wire_frames.specs.Parts.{part_of};
 ghost use Rattle.wire_frames.specs.Inside.{sketched_length};
 
 use mod_log::{Entry, Origin, bases_size, effects_size};
@@ -25,17 +26,20 @@ const HEAD: u64 = 15;
 /// The bytes of the counts of effects and of bases.
 const COUNTS: u64 = 8;
 
+/// The bytes of the number of a store's entries.
+const PARTS: u64 = 1;
+
 /// The bytes of the length and of the print in a sketch.
 const SKETCH_HEAD: u64 = 36;
 
 /// The bytes of the parity of a block.
 const PARITY_BYTES: u64 = 64;
 
-/// How long the frame of a store with these effects and this base list is. The frame is not made.
+/// How long the frame of a store of one entry with these effects and this base list is. The frame is not made.
 pub fn store_size(effects: &Effects, base: &Bases) -> u64
-    ensures { (client number : ℕ) → result ≡ as_u64 (length (frame (Store client number effects.now base.now))) }
+    ensures { (client number : ℕ) → result ≡ as_u64 (length (frame (Store client number (part_of effects.now base.now ∷ [])))) }
 {
-    (HEAD + COUNTS)
+    (HEAD + PARTS + COUNTS)
         .saturating_add(effects_size(effects.as_slice()))
         .saturating_add(bases_size(base.as_slice()))
 }

@@ -11,6 +11,7 @@ mod laws;
 mod lengths;
 mod message;
 mod operation;
+mod parts;
 mod reading;
 mod refused;
 mod replies;
@@ -25,6 +26,7 @@ pub use laws::{
 };
 pub use lengths::{operation_size, store_size};
 pub use message::{CLIENTS, FrameError, Kind, MAX_FRAME, Message};
+pub use parts::{MAX_PARTS, Part, Parts};
 pub use reading::read;
 pub use refused::{malformed, not_for_this_node};
 pub use replies::echoes;

@@ -1,9 +1,10 @@
 //! What client and server say to each other, and why a frame is refused.
 
 use crate::cause::Cause;
+use crate::parts::Parts;
 use mod_log::SketchEntry;
 use thiserror::Error;
-use vol_tree::{Bases, Effects, Path, Rows, TreeError};
+use vol_tree::{Path, Rows, TreeError};
 
 /// The most bytes that a frame has.
 pub const MAX_FRAME: usize = 67_108_864;
@@ -15,12 +16,11 @@ pub const CLIENTS: u8 = 64;
 /// Each but `Malformed` is of one client, 1 to `CLIENTS`; a reply repeats the number of the request that it answers.
 #[derive(Debug, Drop)]
 pub enum Message {
-    /// The client's entry of this number: its effects, and the versions that they rest on.
+    /// Entries of the client, the first of which has this number, and each later one the next.
     Store {
         client: u8,
         number: u64,
-        effects: Effects,
-        base: Bases,
+        entries: Parts,
     },
     /// The client's entry with sketches in its contents' places, to be made again by its command.
     Operate {
@@ -32,25 +32,31 @@ pub enum Message {
         client: u8,
         number: u64,
     },
-    /// The entry is part of the volume, from this delivery or an earlier one.
+    /// The entries are part of the volume, from this delivery or an earlier one.
     Accepted {
         client: u8,
         number: u64,
+        /// The number of the last entry of the store.
+        upto: u64,
     },
-    /// The first path of the base whose version is no longer that of the server.
+    /// The entry behind number `upto` has a base whose first path with another version than the server's is this one. Those
+    /// up to `upto` are part of the volume.
     Stale {
         client: u8,
         number: u64,
+        upto: u64,
         path: Path,
         /// The server's version.
         theirs: u64,
         /// The version in the base.
         ours: u64,
     },
-    /// Effect `index`, counted from 0, is refused by the volume for another cause than want of room.
+    /// Effect `index`, counted from 0, of the entry behind number `upto` is refused by the volume for another cause than want
+    /// of room. Those up to `upto` are part of the volume.
     Unfit {
         client: u8,
         number: u64,
+        upto: u64,
         index: u32,
         fault: TreeError,
     },
@@ -78,10 +84,12 @@ pub enum Message {
         number: u64,
         cause: Cause,
     },
-    /// Effect `index`, counted from 0, is refused since the volume has no room for it.
+    /// Effect `index`, counted from 0, of the entry behind number `upto` is refused since the volume has no room for it. Those
+    /// up to `upto` are part of the volume.
     Full {
         client: u8,
         number: u64,
+        upto: u64,
         index: u32,
         fault: TreeError,
     },

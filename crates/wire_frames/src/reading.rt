@@ -3,18 +3,19 @@
 ghost use Rattle.std.specs.Prelude.{◌≡◌, Ok, IfOk};
 ghost use Rattle.byte_fields.specs.Field.{Gives};
 ghost use Rattle.wire_frames.specs.declared.message.Message.{Message};
-ghost use Rattle.wire_frames.specs.Frame.{frame, IsValid, client_rule};
-ghost use Rattle.wire_frames.specs.Reading.{store_at, operate_at, stale_at, unfit_at, gap_at, full_at, snapshot_at, declined_at};
-ghost use Rattle.wire_frames.specs.Reading.{malformed_at, body_at, message_at, is_sized, frame_of, GivesFrame};
+ghost use Rattle.wire_frames.specs.Frame.{frame, IsValid};
+ghost use Rattle.wire_frames.specs.Reading.{store_at, operate_at, accepted_at, refused_upto, stale_at, unfit_at, gap_at, full_at};
+ghost use Rattle.wire_frames.specs.Reading.{snapshot_at, declined_at, malformed_at, body_at, message_at, is_sized, frame_of, GivesFrame};
 
 use crate::cause::Cause;
 use crate::faults::{FULL_NUMBERS, UNFIT_NUMBERS};
 use crate::kind::FRAME_VERSION;
 use crate::message::{FrameError, Kind, MAX_FRAME, Message};
 use crate::operation::operation_at;
+use crate::parts::parts_at;
 use byte_fields::{TakeError, u8_at, u32_at, u64_at};
 use std::alloc::Global;
-use vol_tree::{Bases, Effects, Path, Rows, TreeError};
+use vol_tree::{Path, Rows, TreeError};
 
 type Taken = Result<(Message, usize), TakeError>;
 
@@ -22,15 +23,12 @@ type Taken = Result<(Message, usize), TakeError>;
 fn store_at(alloc: Global, bytes: &[u8], at: usize, client: u8, number: u64) -> Taken
     ensures { Gives result (store_at client number bytes.now at) }
 {
-    let (effects, middle) = Effects::take(alloc, bytes, at)?;
-    let touched = effects.touched()?;
-    let (base, next) = Bases::take(alloc, bytes, middle, &touched)?;
+    let (entries, next) = parts_at(alloc, bytes, at, number)?;
     Ok((
         Message::Store {
             client,
             number,
-            effects,
-            base,
+            entries,
         },
         next,
     ))
@@ -44,11 +42,42 @@ fn operate_at(alloc: Global, bytes: &[u8], at: usize, client: u8, number: u64) -
     Ok((Message::Operate { client, entry }, next))
 }
 
-#[tactic(auto, unfolding(crate::specs::Reading::stale_at, byte_fields::specs::Field::ruled))]
+#[tactic(auto, unfolding(crate::specs::Reading::accepted_at, byte_fields::specs::Field::ruled))]
+fn accepted_at(bytes: &[u8], at: usize, client: u8, number: u64) -> Taken
+    ensures { Gives result (accepted_at client number bytes.now at) }
+{
+    let (upto, next) = u64_at(bytes, at)?;
+    if upto < number {
+        return Err(TakeError::At(at));
+    }
+    Ok((
+        Message::Accepted {
+            client,
+            number,
+            upto,
+        },
+        next,
+    ))
+}
+
+/// The number up to which entries were taken before one was refused.
+#[tactic(auto, unfolding(crate::specs::Reading::refused_upto, byte_fields::specs::Field::ruled))]
+fn refused_upto(bytes: &[u8], at: usize, number: u64) -> Result<(u64, usize), TakeError>
+    ensures { Gives result (refused_upto number bytes.now at) }
+{
+    let (upto, next) = u64_at(bytes, at)?;
+    if number > 0 && upto < number - 1 {
+        return Err(TakeError::At(at));
+    }
+    Ok((upto, next))
+}
+
+#[tactic(auto, unfolding(crate::specs::Reading::stale_at, crate::specs::Reading::conflict_at, byte_fields::specs::Field::ruled))]
 fn stale_at(alloc: Global, bytes: &[u8], at: usize, client: u8, number: u64) -> Taken
     ensures { Gives result (stale_at client number bytes.now at) }
 {
-    let (path, theirs_at) = Path::take(alloc, bytes, at)?;
+    let (upto, path_at) = refused_upto(bytes, at, number)?;
+    let (path, theirs_at) = Path::take(alloc, bytes, path_at)?;
     let (theirs, ours_at) = u64_at(bytes, theirs_at)?;
     let (ours, next) = u64_at(bytes, ours_at)?;
     if ours == theirs {
@@ -58,6 +87,7 @@ fn stale_at(alloc: Global, bytes: &[u8], at: usize, client: u8, number: u64) -> 
         Message::Stale {
             client,
             number,
+            upto,
             path,
             theirs,
             ours,
@@ -70,12 +100,14 @@ fn stale_at(alloc: Global, bytes: &[u8], at: usize, client: u8, number: u64) -> 
 fn unfit_at(alloc: Global, bytes: &[u8], at: usize, client: u8, number: u64) -> Taken
     ensures { Gives result (unfit_at client number bytes.now at) }
 {
-    let (index, fault_at) = u32_at(bytes, at)?;
+    let (upto, index_at) = refused_upto(bytes, at, number)?;
+    let (index, fault_at) = u32_at(bytes, index_at)?;
     let (fault, next) = TreeError::take_one_of(alloc, bytes, fault_at, &UNFIT_NUMBERS)?;
     Ok((
         Message::Unfit {
             client,
             number,
+            upto,
             index,
             fault,
         },
@@ -104,12 +136,14 @@ fn snapshot_at(alloc: Global, bytes: &[u8], at: usize, client: u8, number: u64) 
 fn full_at(alloc: Global, bytes: &[u8], at: usize, client: u8, number: u64) -> Taken
     ensures { Gives result (full_at client number bytes.now at) }
 {
-    let (index, fault_at) = u32_at(bytes, at)?;
+    let (upto, index_at) = refused_upto(bytes, at, number)?;
+    let (index, fault_at) = u32_at(bytes, index_at)?;
     let (fault, next) = TreeError::take_one_of(alloc, bytes, fault_at, &FULL_NUMBERS)?;
     Ok((
         Message::Full {
             client,
             number,
+            upto,
             index,
             fault,
         },
@@ -172,7 +206,7 @@ fn body_at(alloc: Global, bytes: &[u8], at: usize, kind: Kind, client: u8, numbe
         Kind::Store => store_at(alloc, bytes, at, client, number),
         Kind::Operate => operate_at(alloc, bytes, at, client, number),
         Kind::Pull => Ok((Message::Pull { client, number }, at)),
-        Kind::Accepted => Ok((Message::Accepted { client, number }, at)),
+        Kind::Accepted => accepted_at(bytes, at, client, number),
         Kind::Stale => stale_at(alloc, bytes, at, client, number),
         Kind::Unfit => unfit_at(alloc, bytes, at, client, number),
         Kind::Full => full_at(alloc, bytes, at, client, number),

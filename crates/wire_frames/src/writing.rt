@@ -7,12 +7,13 @@ ghost use Rattle.wire_frames.specs.Frame.{frame, body, payload, BodyFits, IsVali
 
 use crate::cause::Cause;
 use crate::kind::FRAME_VERSION;
-use crate::lengths::store_size;
 use crate::message::Message;
 use crate::operation::spell_operation;
+use crate::parts::{Part, spell_parts};
 use byte_fields::{put_u32, put_u64};
+use mod_log::{bases_size, effects_size};
 use std::alloc::{AllocError, Global};
-use vol_tree::{Bases, Effects, Node, Path, Row, Rows, TreeError};
+use vol_tree::{Node, Path, Row, Rows, TreeError};
 
 /// How long a frame is, about, that has no content.
 const SHORT_FRAME: usize = 64;
@@ -26,21 +27,37 @@ fn spell_body(message: &Message, out: &mut Vec<u8>) -> Result<(), AllocError>
     ensures { OnOk result (out.new.items ≡ out.old.items ++ body message.now) }
 {
     match message {
-        Message::Store { effects, base, .. } => {
-            Effects::spell(effects, out)?;
-            Bases::spell(base, out)
-        }
+        Message::Store {
+            number,
+            entries,
+            ..
+        } => spell_parts(*number, entries, out),
+        Message::Accepted { upto, .. } => put_u64(out, *upto),
         Message::Stale {
+            upto,
             path,
             theirs,
             ours,
             ..
         } => {
+            put_u64(out, *upto)?;
             Path::spell(path, out)?;
             put_u64(out, *theirs)?;
             put_u64(out, *ours)
         }
-        Message::Unfit { index, fault, .. } | Message::Full { index, fault, .. } => {
+        Message::Unfit {
+            upto,
+            index,
+            fault,
+            ..
+        }
+        | Message::Full {
+            upto,
+            index,
+            fault,
+            ..
+        } => {
+            put_u64(out, *upto)?;
             put_u32(out, *index)?;
             TreeError::spell(fault, out)
         }
@@ -55,7 +72,7 @@ fn spell_body(message: &Message, out: &mut Vec<u8>) -> Result<(), AllocError>
         }
         Message::Operate { entry, .. } => spell_operation(entry, out),
         Message::Declined { cause, .. } => Cause::spell(cause, out),
-        Message::Pull { .. } | Message::Accepted { .. } | Message::Done { .. } => Ok(()),
+        Message::Pull { .. } | Message::Done { .. } => Ok(()),
     }
 }
 
@@ -85,7 +102,7 @@ fn set_length(frame: &mut Vec<u8>)
 /// About how long the frame of a message is. A buffer with this room does not grow, and so does not move, behind contents.
 fn room_for(message: &Message) -> usize {
     match message {
-        Message::Store { effects, base, .. } => store_size(effects, base) as usize,
+        Message::Store { entries, .. } => parts_room(entries.as_slice()),
         Message::Snapshot { rows, .. } => rows_room(rows.as_slice()),
         Message::Operate { .. }
         | Message::Pull { .. }
@@ -98,6 +115,20 @@ fn room_for(message: &Message) -> usize {
         | Message::Full { .. }
         | Message::Malformed { .. } => SHORT_FRAME,
     }
+}
+
+/// How long the spelling of a store's entries is, about.
+fn parts_room(entries: &[Part]) -> usize {
+    let mut room = SHORT_FRAME;
+    for entry in entries {
+        let effects = effects_size(entry.effects.as_slice()) as usize;
+        let base = bases_size(entry.base.as_slice()) as usize;
+        room = room
+            .saturating_add(effects)
+            .saturating_add(base)
+            .saturating_add(8);
+    }
+    room
 }
 
 /// About how long the spelling of rows is.
