@@ -1,22 +1,21 @@
--- Each move of the client keeps what its log and the world agree on: an entry logged, an entry acknowledged, a snapshot pulled.
-use Rattle.std.proofs.Common.{◌≡◌, ℕ, ◌+◌, ◌-◌, ◌<◌, ◌≤◌, List, [], ◌∷◌, length, take, drop, refl, sym, ◌∙◌, ap, subst, arith, length-append}
-use Rattle.std.specs.List.{flat_map}
+-- Each move of the client keeps what its log and the world agree on: an entry logged, entries acknowledged, a snapshot pulled.
+use Rattle.std.proofs.Common.{◌≡◌, ℕ, ◌+◌, ◌-◌, ◌<◌, ◌≤◌, List, [], ◌∷◌, length, refl, sym, ap, subst, arith, length-append, length-drop}
 use Rattle.std.proofs.lemmas.List.{take-append-le}
-use Rattle.tree_values.specs.Effects.{changed_all}
 use Rattle.tree_values.specs.Tree.{Volume, version_at, IsTree}
 use Rattle.vol_tree.specs.Behind.{IsBehind, IsAhead}
 use Rattle.tree_values.specs.Lists.{IsIn}
 use Rattle.tree_values.specs.declared.node.Effect.{Effect}
 use Rattle.tree_values.specs.declared.node.Base.{Base}
-use Rattle.vol_tree.proofs.Behind.{IsIn-left, applied_all-tree, counted, node_of, IsTree-empty}
+use Rattle.vol_tree.proofs.Behind.{IsIn-left, counted, node_of, IsTree-empty}
 use Rattle.mod_log.specs.declared.log.Entry.{Entry}
 use Rattle.mod_log.specs.declared.sketching.SketchEntry.{SketchEntry}
-use Rattle.mod_log.specs.Log.{Log, entry as spelled, after, tree_at, IsLog, logged, acknowledged, new_log}
+use Rattle.mod_log.specs.Log.{Log, after, tree_at, IsLog, logged, acknowledged, new_log}
 use Rattle.wire_frames.specs.declared.message.Message.{Message}
 use Rattle.wire_frames.specs.declared.message.Message.TheVariants.{Store, Operate, Pull, Accepted, Stale, Unfit, Gap, Snapshot, Done, Declined, Full, Malformed}
-use Rattle.world_rules.specs.InStep.{IsTakenUpTo, IsSendable, IsPendingAt, IsSketchPending, IsFitting}
-use Rattle.world_rules.proofs.Steps.{Agree, tree_at-acked, tree_at-next}
-use Rattle.mod_log.proofs.Entries.{legal_each}
+use Rattle.world_rules.specs.InStep.{IsTakenUpTo, IsSendable, IsPendingAt, IsRefusedBehind, IsSketchPending, IsFitting}
+use Rattle.world_rules.proofs.Next.{tree_at-acked, tree_at-acknowledged, left_behind, above_as}
+use Rattle.world_rules.proofs.Steps.{Agree}
+use Rattle.mod_log.proofs.Entries.{acknowledged_is_log}
 
 -- ---- an entry is logged
 
@@ -38,13 +37,17 @@ module _ (client : ℕ) (log : Log) (last : ℕ) (volume : Volume) (packets : Li
   sendable-logged : (entry : Entry) (number : ℕ) → IsSendable log number → IsSendable (logged entry log) number
   sendable-logged entry number may = record { at_most_next = may.at_most_next; at_most_logged = omega (arith, may.at_most_logged, length-append log.pending (entry ∷ [])) }
 
+  refused-logged : (entry : Entry) (upto : ℕ) → IsRefusedBehind log last upto → IsRefusedBehind (logged entry log) last upto
+  refused-logged entry upto is = record { at_most_taken = is.at_most_taken; one_is_left = omega (arith, is.one_is_left, length-append log.pending (entry ∷ [])) }
+
   fitting-logged : (entry : Entry) (message : Message) → IsFitting log last volume message → IsFitting (logged entry log) last volume message
-  fitting-logged entry (Store of number effects base) fits = (sendable-logged entry number fits.0, λ above. still_pending log entry number effects base (fits.1 above))
+  fitting-logged entry (Store of number parts) fits =
+      (sendable-logged entry number fits.0, above_as log (logged entry log) last last (λ n effects base above is. still_pending log entry n effects base (is above)) number parts fits.1)
   fitting-logged entry (Pull of number) fits = fits
-  fitting-logged entry (Accepted of number) fits = fits
-  fitting-logged entry (Stale of number path theirs ours) fits = (sendable-logged entry number fits.0, λ e. subst (λ t. version_at t path < version_at volume path) (sym (tree_at-logged entry)) (fits.1 e))
-  fitting-logged entry (Unfit of number index cause) fits = (sendable-logged entry number fits.0, λ e. subst (IsAhead volume) (sym (tree_at-logged entry)) (fits.1 e))
-  fitting-logged entry (Full of number index cause) fits = (sendable-logged entry number fits.0, λ e. subst (IsAhead volume) (sym (tree_at-logged entry)) (fits.1 e))
+  fitting-logged entry (Accepted of number upto) fits = fits
+  fitting-logged entry (Stale of number upto path theirs ours) fits = (refused-logged entry upto fits.0, λ e. subst (λ t. version_at t path < version_at volume path) (sym (tree_at-logged entry)) (fits.1 e))
+  fitting-logged entry (Unfit of number upto index cause) fits = (refused-logged entry upto fits.0, λ e. subst (IsAhead volume) (sym (tree_at-logged entry)) (fits.1 e))
+  fitting-logged entry (Full of number upto index cause) fits = (refused-logged entry upto fits.0, λ e. subst (IsAhead volume) (sym (tree_at-logged entry)) (fits.1 e))
   fitting-logged entry (Gap of number beyond) fits = fits
   fitting-logged entry (Snapshot of number upto seen) fits = fits
   fitting-logged entry (Operate of sketched) fits = (sendable-logged entry sketched.seq fits.0, λ above. still_sketched log entry sketched (fits.1 above))
@@ -62,73 +65,65 @@ module _ (client : ℕ) (log : Log) (last : ℕ) (volume : Volume) (packets : Li
     tree = now.tree;
   }
 
--- ---- the first pending entry is acknowledged
+-- ---- entries that were taken are acknowledged
 
-module _ (acked : ℕ) (tree : Volume) (entry : Entry) (entries : List Entry) where
-  -- the log that waits for its first entry, and the log after it
-  abbrev pub before : Log
-  before = record { acked = acked; base = tree; pending = entry ∷ entries }
-
-  abbrev pub settled : Log
-  settled = record { acked = acked + 1; base = changed_all entry.effects tree; pending = entries }
-
-  IsLog-settled : IsLog before → IsLog settled
-  IsLog-settled is = record {
-    base_is = applied_all-tree entry.effects 0 tree _ is.base_is (legal_each entry.effects is.entries.0.fits.each) is.entries.0.applies;
-    entries = is.entries.1;
-    few = omega (arith, is.few);
-    small = omega (arith, is.small, length-append (spelled entry) (flat_map spelled entries));
-    last = omega (arith, is.last);
-  }
-
-  -- acknowledging up to the next number takes the first entry
-  pub acknowledged-next : acknowledged (acked + 1) before ≡ settled
-  acknowledged-next =
-      let one : acked + 1 - acked ≡ 1 = omega arith in
-      λ i. record { acked = acked + 1; base = after (take (one i) (entry ∷ entries)) tree; pending = drop (one i) (entry ∷ entries) }
-
-module _ (client acked : ℕ) (tree : Volume) (entry : Entry) (entries : List Entry) (last : ℕ) (volume : Volume) (packets : List Message) where
-  abbrev old_log : Log
-  old_log = before acked tree entry entries
-
+module _ (client : ℕ) (log : Log) (upto last : ℕ) (volume : Volume) (packets : List Message) (low : log.acked ≤ upto) (high : upto ≤ last) (now : Agree client log last volume packets) where
   abbrev next_log : Log
-  next_log = settled acked tree entry entries
+  next_log = acknowledged upto log
 
-  pub tree_at-acknowledged : last ≡ acked + 1 → tree_at last next_log ≡ tree_at last old_log
-  tree_at-acknowledged is = tree_at-acked next_log last is ∙ sym (tree_at-next old_log last entry entries refl is)
+  left_length : length next_log.pending ≡ length log.pending - (upto - log.acked)
+  left_length = length-drop (upto - log.acked) log.pending
 
-  sendable-acknowledged : (number : ℕ) → IsSendable old_log number → IsSendable next_log number
-  sendable-acknowledged number may = record { at_most_next = omega (arith, may.at_most_next); at_most_logged = omega (arith, may.at_most_next) }
+  sendable-acknowledged : (number : ℕ) → IsSendable log number → IsSendable next_log number
+  sendable-acknowledged number may =
+      record { at_most_next = omega (arith, may.at_most_next, low); at_most_logged = omega (arith, may.at_most_logged, left_length, low, high, now.not_higher.at_most_logged) }
 
-  fitting-acknowledged : last ≡ acked + 1 → (message : Message) → IsFitting old_log last volume message → IsFitting next_log last volume message
-  fitting-acknowledged is (Store of number effects base) fits = (sendable-acknowledged number fits.0, λ above. absurd (omega (arith, fits.0.at_most_next)))
-  fitting-acknowledged is (Pull of number) fits = fits
-  fitting-acknowledged is (Accepted of number) fits = fits
-  fitting-acknowledged is (Stale of number path theirs ours) fits = (sendable-acknowledged number fits.0, λ e. absurd (omega (arith, fits.0.at_most_next)))
-  fitting-acknowledged is (Unfit of number index cause) fits = (sendable-acknowledged number fits.0, λ e. absurd (omega (arith, fits.0.at_most_next)))
-  fitting-acknowledged is (Full of number index cause) fits = (sendable-acknowledged number fits.0, λ e. absurd (omega (arith, fits.0.at_most_next)))
-  fitting-acknowledged is (Gap of number beyond) fits = fits
-  fitting-acknowledged is (Snapshot of number upto seen) fits = fits
-  fitting-acknowledged is (Operate of sketched) fits = (sendable-acknowledged sketched.seq fits.0, λ above. absurd (omega (arith, fits.0.at_most_next)))
-  fitting-acknowledged is (Done of number) fits = fits
-  fitting-acknowledged is (Declined of number cause) fits = tt
-  fitting-acknowledged is (Malformed code offset) fits = tt
+  refused-acknowledged : (told : ℕ) → IsRefusedBehind log last told → IsRefusedBehind next_log last told
+  refused-acknowledged told is =
+      record { at_most_taken = is.at_most_taken; one_is_left = omega (arith, is.one_is_left, left_length, low, high, now.not_higher.at_most_logged) }
 
-  -- as an Accepted of the entry says
-  pub is_next : Agree client old_log last volume packets → acked + 1 ≤ last → last ≡ acked + 1
-  is_next now at_least = omega (arith, now.not_higher.at_most_ahead)
+  -- an entry that was not taken is still pending
+  entry-left : (entry : Entry) → IsIn entry log.pending → last < entry.seq → IsIn entry next_log.pending
+  entry-left entry among above = left_behind (upto - log.acked) (log.acked + 1) log.base log.pending entry now.log_is.entries among (omega (arith, above, low, high))
 
-  pub acknowledged_agree : acked + 1 ≤ last → Agree client old_log last volume packets → Agree client next_log last volume packets
-  acknowledged_agree at_least now =
-      let is = is_next now at_least in
-      record {
-        not_lower = at_least;
-        not_higher = record { at_most_ahead = omega (arith, is); at_most_logged = omega (arith, is) };
-        behind = subst (λ t. IsBehind t volume) (sym (tree_at-acknowledged is)) now.behind;
-        fitting = λ message among own. fitting-acknowledged is message (now.fitting message among own);
-        log_is = IsLog-settled acked tree entry entries now.log_is;
-        tree = now.tree;
-      }
+  pending-left : (number : ℕ) (effects : List Effect) (base : List Base) → last < number → (last < number → IsPendingAt log number effects base) → IsPendingAt next_log number effects base
+  pending-left number effects base above is =
+      let at = is above in
+      (at.0, entry-left at.0 at.1 (omega (arith, above, at.2)), at.2, at.3, at.4)
+
+  sketch-left : (sketched : SketchEntry) → last < sketched.seq → IsSketchPending log sketched → IsSketchPending next_log sketched
+  sketch-left sketched above is = (is.0, entry-left is.0 is.1 (omega (arith, above, is.2.numbered)), is.2)
+
+  pub tree_at-left : tree_at last next_log ≡ tree_at last log
+  tree_at-left = tree_at-acknowledged log upto last low high
+
+  fitting-acknowledged : (message : Message) → IsFitting log last volume message → IsFitting next_log last volume message
+  fitting-acknowledged (Store of number parts) fits = (sendable-acknowledged number fits.0, above_as log next_log last last pending-left number parts fits.1)
+  fitting-acknowledged (Pull of number) fits = fits
+  fitting-acknowledged (Accepted of number told) fits = fits
+  fitting-acknowledged (Stale of number told path theirs ours) fits =
+      (refused-acknowledged told fits.0, λ e. subst (λ t. version_at t path < version_at volume path) (sym tree_at-left) (fits.1 (omega (arith, e, low))))
+  fitting-acknowledged (Unfit of number told index cause) fits = (refused-acknowledged told fits.0, λ e. subst (IsAhead volume) (sym tree_at-left) (fits.1 (omega (arith, e, low))))
+  fitting-acknowledged (Full of number told index cause) fits = (refused-acknowledged told fits.0, λ e. subst (IsAhead volume) (sym tree_at-left) (fits.1 (omega (arith, e, low))))
+  fitting-acknowledged (Gap of number beyond) fits = fits
+  fitting-acknowledged (Snapshot of number told seen) fits = fits
+  fitting-acknowledged (Operate of sketched) fits = (sendable-acknowledged sketched.seq fits.0, λ above. sketch-left sketched above (fits.1 above))
+  fitting-acknowledged (Done of number) fits = fits
+  fitting-acknowledged (Declined of number cause) fits = tt
+  fitting-acknowledged (Malformed code offset) fits = tt
+
+  pub acknowledged_agree : Agree client next_log last volume packets
+  acknowledged_agree = record {
+    not_lower = high;
+    not_higher = record {
+      at_most_ahead = omega (arith, now.not_higher.at_most_ahead, low);
+      at_most_logged = omega (arith, now.not_higher.at_most_logged, left_length, low, high);
+    };
+    behind = subst (λ t. IsBehind t volume) (sym tree_at-left) now.behind;
+    fitting = λ message among own. fitting-acknowledged message (now.fitting message among own);
+    log_is = acknowledged_is_log log upto now.log_is low (omega (arith, high, now.not_higher.at_most_logged));
+    tree = now.tree;
+  }
 
 -- ---- a snapshot is pulled where nothing is pending
 
@@ -140,12 +135,13 @@ module _ (client acked : ℕ) (tree seen : Volume) (last : ℕ) (volume : Volume
   renewed = record { acked = acked; base = seen; pending = [] }
 
   fitting-pulled : last ≡ acked → (message : Message) → IsFitting idle last volume message → IsFitting renewed last volume message
-  fitting-pulled is (Store of number effects base) fits = (record { at_most_next = fits.0.at_most_next; at_most_logged = fits.0.at_most_logged }, fits.1)
+  fitting-pulled is (Store of number parts) fits =
+      (record { at_most_next = fits.0.at_most_next; at_most_logged = fits.0.at_most_logged }, above_as idle renewed last last (λ n effects base above is. is above) number parts fits.1)
   fitting-pulled is (Pull of number) fits = fits
-  fitting-pulled is (Accepted of number) fits = fits
-  fitting-pulled is (Stale of number path theirs ours) fits = (record { at_most_next = fits.0.at_most_next; at_most_logged = fits.0.at_most_logged }, λ e. absurd (omega (arith, fits.0.at_most_logged)))
-  fitting-pulled is (Unfit of number index cause) fits = (record { at_most_next = fits.0.at_most_next; at_most_logged = fits.0.at_most_logged }, λ e. absurd (omega (arith, fits.0.at_most_logged)))
-  fitting-pulled is (Full of number index cause) fits = (record { at_most_next = fits.0.at_most_next; at_most_logged = fits.0.at_most_logged }, λ e. absurd (omega (arith, fits.0.at_most_logged)))
+  fitting-pulled is (Accepted of number upto) fits = fits
+  fitting-pulled is (Stale of number upto path theirs ours) fits = (record { at_most_taken = fits.0.at_most_taken; one_is_left = fits.0.one_is_left }, λ e. absurd (omega (arith, e, fits.0.one_is_left)))
+  fitting-pulled is (Unfit of number upto index cause) fits = (record { at_most_taken = fits.0.at_most_taken; one_is_left = fits.0.one_is_left }, λ e. absurd (omega (arith, e, fits.0.one_is_left)))
+  fitting-pulled is (Full of number upto index cause) fits = (record { at_most_taken = fits.0.at_most_taken; one_is_left = fits.0.one_is_left }, λ e. absurd (omega (arith, e, fits.0.one_is_left)))
   fitting-pulled is (Gap of number beyond) fits = fits
   fitting-pulled is (Snapshot of number upto older) fits = fits
   fitting-pulled is (Operate of sketched) fits = (record { at_most_next = fits.0.at_most_next; at_most_logged = fits.0.at_most_logged }, fits.1)

@@ -1,5 +1,5 @@
 -- Where no content is taken for another at the end of some moves, none is on the way.
-use Rattle.std.proofs.Common.{◌≡◌, ◌⊎◌, inl, inr, ⊎_elim, ℕ, zero, suc, ◌+◌, ◌-◌, Bool, List, [], ◌∷◌, ◌++◌, drop, sym, subst, append_assoc}
+use Rattle.std.proofs.Common.{◌≡◌, ◌⊎◌, inl, inr, ⊎_elim, ℕ, zero, suc, ◌-◌, Bool, List, [], ◌∷◌, ◌++◌, drop, sym, subst, append_assoc}
 use Rattle.tree_values.specs.Lists.{IsIn}
 use Rattle.vol_tree.proofs.Behind.{IsIn-left, IsIn-right}
 use Rattle.mod_log.specs.declared.log.Entry.{Entry}
@@ -24,7 +24,7 @@ packet_stays : (move : Move) (state : State) (message : Message) → IsIn messag
 packet_stays (Network step) state message among = kept_packet step state.world message among
 packet_stays (Notes ask) state message among = among
 packet_stays (Logs entry) state message among = among
-packet_stays (Acknowledges reply) state message among = among
+packet_stays (Acknowledges upto reply) state message among = among
 packet_stays (Pulls last seen) state message among = among
 packet_stays Saves state message among = among
 
@@ -39,7 +39,7 @@ pending_before : (move : Move) (state : State) (entry : Entry) → IsIn entry (m
 pending_before (Network step) state entry among = IsIn-left entry state.log.pending [] among
 pending_before (Notes ask) state entry among = IsIn-left entry state.log.pending [] among
 pending_before (Logs logged) state entry among = among
-pending_before (Acknowledges reply) state entry among = IsIn-left entry state.log.pending [] (in_drop (state.log.acked + 1 - state.log.acked) entry state.log.pending among)
+pending_before (Acknowledges upto reply) state entry among = IsIn-left entry state.log.pending [] (in_drop (upto - state.log.acked) entry state.log.pending among)
 pending_before (Pulls last seen) state entry among = IsIn-left entry state.log.pending [] among
 pending_before Saves state entry among = IsIn-left entry state.log.pending [] among
 
@@ -48,7 +48,7 @@ kept_before : (move : Move) (state : State) (entry : Entry) → IsIn entry (move
 kept_before (Network step) state entry among = inl among
 kept_before (Notes ask) state entry among = inl among
 kept_before (Logs logged) state entry among = inl among
-kept_before (Acknowledges reply) state entry among = inl among
+kept_before (Acknowledges upto reply) state entry among = inl among
 kept_before (Pulls last seen) state entry among = inl among
 kept_before Saves state entry among = inr among
 

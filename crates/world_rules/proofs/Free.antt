@@ -47,10 +47,10 @@ module _ (MaySend : Message → Type 0) (start : World)
 
 -- what an operation licenses it licenses for good
 licensed_later : (client : ℕ) (before after : List Message) (message : Message) → ((packet : Message) → IsIn packet before → IsIn packet after) → IsLicensed client before message → IsLicensed client after message
-licensed_later client before after (Store of number effects base) stay may = (may.0, (may.1.0, stay (Operate client may.1.0) may.1.1, may.1.2))
+licensed_later client before after (Store of number parts) stay may = (may.0, (may.1.0, stay (Operate client may.1.0) may.1.1, may.1.2))
 licensed_later client before after (Pull of number) stay may = (may.0, (may.1.0, stay (Operate client may.1.0) may.1.1, may.1.2))
 licensed_later client before after (Declined of number cause) stay may = (may.0, (may.1.0, stay (Operate client may.1.0) may.1.1, may.1.2))
-licensed_later client before after (Done of number) stay may = (may.0, (may.1.0, stay (Operate client may.1.0) may.1.1, may.1.2), stay (Accepted client number) may.2)
+licensed_later client before after (Done of number) stay may = (may.0, (may.1.0, stay (Operate client may.1.0) may.1.1, may.1.2), (may.2.0, stay (Accepted client number may.2.0) may.2.1))
 licensed_later client before after _ stay may = absurd may
 
 pub free_later : (before after : World) (message : Message) → after.client ≡ before.client → ((packet : Message) → IsIn packet before.packets → IsIn packet after.packets) → IsFree before message → IsFree after message

@@ -1,9 +1,10 @@
 pub mod Asks
 pub mod Allowing
 pub mod Settled
-pub mod Replies
-pub mod Steps
 pub mod Sending
+pub mod Replies
+pub mod Next
+pub mod Steps
 pub mod Relaying
 pub mod Client
 pub mod Events

@@ -9,7 +9,7 @@ use Rattle.wire_frames.specs.declared.message.Message.{Message}
 use Rattle.wire_frames.specs.declared.message.Message.TheVariants.{Store, Operate, Pull, Unfit, Full}
 use Rattle.wire_frames.specs.Frame.{client_of}
 use Rattle.world_rules.specs.declared.asking.Ask.{Ask}
-use Rattle.world_rules.specs.Served.{Served, Verdict, Repeated, Early, Outdated, Refused, Taken, verdict, is_want_of_room, reply, answer}
+use Rattle.world_rules.specs.Served.{Served, Verdict, Repeated, Early, Outdated, Refused, Taken, served_through, verdict_through, is_want_of_room, end_of, reply, answer}
 use Rattle.world_rules.specs.World.{Step, Send, Deliver, Other, Relay, happens, IsForServer, IsLicensed, IsAllowed}
 use Rattle.world_rules.specs.InStep.{MaySend, HasNoOperation, HasNoCollision}
 use Rattle.world_rules.specs.Run.{State, Move, Network, Notes, Logs, Acknowledges, Pulls, Saves, moved, IsPossible, AllPossible, moved_by, MaySendKept, Runs}
@@ -35,19 +35,19 @@ other_is_none : (client : ℕ) (message : Message) → client_of message ≢ cli
 other_is_none client (Operate of sketched) differs is = differs is
 other_is_none client _ differs is = is
 
-reply_is_none : (client of number last : ℕ) (judgement : Verdict) → IsOperation client (reply of number last judgement) → ⊥
-reply_is_none client of number last Repeated is = is
-reply_is_none client of number last Early is = is
-reply_is_none client of number last (Outdated conflict) is = is
-reply_is_none client of number last (Taken volume) is = is
-reply_is_none client of number last (Refused cause) is = by (is_want_of_room cause.1) is
+reply_is_none : (client of number end last : ℕ) (judgement : Verdict) → IsOperation client (reply of number end last judgement) → ⊥
+reply_is_none client of number end last Repeated is = is
+reply_is_none client of number end last Early is = is
+reply_is_none client of number end last (Outdated conflict) is = is
+reply_is_none client of number end last (Taken volume) is = is
+reply_is_none client of number end last (Refused cause) is = by (is_want_of_room cause.1) is
   where
-    by : (full : Bool) → IsOperation client (if full then Full of number cause.0 cause.1 else Unfit of number cause.0 cause.1) → ⊥
+    by : (full : Bool) → IsOperation client (if full then Full of number last cause.0 cause.1 else Unfit of number last cause.0 cause.1) → ⊥
     by true is = is
     by false is = is
 
 answer_is_none : (client : ℕ) (message : Message) (served : Served) → IsForServer message → IsOperation client (answer message served) → ⊥
-answer_is_none client (Store of number effects base) served for is = reply_is_none client of number (served.last of) (verdict of number effects base served) is
+answer_is_none client (Store of number parts) served for is = reply_is_none client of number (end_of number parts) ((served_through of number parts served).last of) (verdict_through of number parts served) is
 answer_is_none client (Pull of number) served for is = is
 answer_is_none client _ served for is = for
 
@@ -73,7 +73,7 @@ module _ (client : ℕ) (sketched : SketchEntry) where
   before_move state (Network step) about may among = before_step state step about may among
   before_move state (Notes ask) about may among = among
   before_move state (Logs entry) about may among = among
-  before_move state (Acknowledges reply) about may among = among
+  before_move state (Acknowledges upto reply) about may among = among
   before_move state (Pulls last seen) about may among = among
   before_move state Saves about may among = among
 
@@ -81,7 +81,7 @@ module _ (client : ℕ) (sketched : SketchEntry) where
   about_move state (Network step) = same_client step state.world
   about_move state (Notes ask) = refl
   about_move state (Logs entry) = refl
-  about_move state (Acknowledges reply) = refl
+  about_move state (Acknowledges upto reply) = refl
   about_move state (Pulls last seen) = refl
   about_move state Saves = refl
 

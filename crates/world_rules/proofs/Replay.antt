@@ -1,8 +1,10 @@
 -- The served state is always the opening one after the taken entries.
-use Rattle.std.proofs.Common.{◌≡◌, ℕ, Bool, List, [], ◌∷◌, ◌++◌, refl, sym, ◌∙◌, ap, subst}
+use Rattle.std.specs.Prelude.{if◌then◌else◌}
+use Rattle.wire_frames.specs.declared.parts.Part.{Part}
+use Rattle.std.proofs.Common.{◌≡◌, ℕ, ◌+◌, Bool, List, [], ◌∷◌, ◌++◌, refl, sym, ◌∙◌, ap, subst}
 use Rattle.wire_frames.specs.declared.message.Message.{Message}
 use Rattle.wire_frames.specs.declared.message.Message.TheVariants.{Store, Pull}
-use Rattle.world_rules.specs.Served.{Served, TakenEntry, entry_stored, as_store, Verdict, Repeated, Early, Outdated, Refused, Taken, verdict, served_after, state_after, taken_if, taken_of, replay}
+use Rattle.world_rules.specs.Served.{Served, TakenEntry, entry_stored, Verdict, Repeated, Early, Outdated, Refused, Taken, verdict, served_after, passes, served_through, state_after, taken_if, taken_through, taken_of, state_behind, replay}
 use Rattle.mod_log.specs.declared.log.Entry.{Entry}
 use Rattle.world_rules.specs.declared.asking.Ask.{Ask}
 use Rattle.world_rules.specs.World.{World, Step, Send, Deliver, Other, Relay, happens, happen, IsReplayed}
@@ -10,7 +12,7 @@ use Rattle.world_rules.specs.Run.{State, Move, Network, Notes, Logs, Acknowledge
 
 pub replay-append : (xs ys : List TakenEntry) (served : Served) → replay (xs ++ ys) served ≡ replay ys (replay xs served)
 replay-append [] ys served = refl
-replay-append (x ∷ xs) ys served = replay-append xs ys (state_after (as_store x) served)
+replay-append (x ∷ xs) ys served = replay-append xs ys (state_behind x served)
 
 replay_if : (of number : ℕ) (effects : _) (base : _) (served : Served) (judgement : Verdict) → verdict of number effects base served ≡ judgement → replay (taken_if judgement (entry_stored of number effects base)) served ≡ served_after of number judgement served
 replay_if of number effects base served Repeated is = refl
@@ -19,8 +21,25 @@ replay_if of number effects base served (Outdated conflict) is = refl
 replay_if of number effects base served (Refused cause) is = refl
 replay_if of number effects base served (Taken volume) is = ap (λ v. served_after of number v served) is
 
+-- the entries of a store that are taken lead to the state behind it
+replay-through : (of number : ℕ) (parts : List Part) (served : Served) → replay (taken_through of number parts served) served ≡ served_through of number parts served
+replay-through of number [] served = refl
+replay-through of number (part ∷ parts) served =
+    let judgement = verdict of number part.effects part.base served in
+    by judgement (replay_if of number part.effects part.base served judgement refl) (replay-through of (number + 1) parts (served_after of number judgement served))
+  where
+    by : (j : Verdict) → replay (taken_if j (entry_stored of number part.effects part.base)) served ≡ served_after of number j served
+        → replay (taken_through of (number + 1) parts (served_after of number j served)) (served_after of number j served) ≡ served_through of (number + 1) parts (served_after of number j served)
+        → replay (taken_if j (entry_stored of number part.effects part.base) ++ (if passes j then taken_through of (number + 1) parts (served_after of number j served) else [])) served
+        ≡ (if passes j then served_through of (number + 1) parts (served_after of number j served) else served_after of number j served)
+    by Repeated first rest = rest
+    by Early first rest = refl
+    by (Outdated conflict) first rest = refl
+    by (Refused cause) first rest = refl
+    by (Taken volume) first rest = ap (replay (taken_through of (number + 1) parts (served_after of number (Taken volume) served))) first ∙ rest
+
 pub replay-taken : (message : Message) (served : Served) → replay (taken_of message served) served ≡ state_after message served
-replay-taken (Store of number effects base) served = replay_if of number effects base served _ refl
+replay-taken (Store of number parts) served = replay-through of number parts served
 replay-taken (Pull of number) served = refl
 replay-taken _ served = refl
 
@@ -42,7 +61,7 @@ move_replayed : (state : State) (move : Move) → IsReplayed state.world → IsR
 move_replayed state (Network step) is = step_replayed state.world step is
 move_replayed state (Notes ask) is = is
 move_replayed state (Logs entry) is = is
-move_replayed state (Acknowledges reply) is = is
+move_replayed state (Acknowledges upto reply) is = is
 move_replayed state (Pulls last seen) is = is
 move_replayed state Saves is = is
 

@@ -1,5 +1,5 @@
 -- What a server answers to a valid store or pull is valid, and what it holds then is legal.
-use Rattle.std.proofs.Common.{◌≡◌, ◌⊎◌, inl, inr, ⊎_elim, ℕ, ◌+◌, ◌-◌, ◌<◌, ◌≤◌, Bool, true, false, not, cond, List, [], ◌∷◌, length, find, Option, Some, None, option_map, Result, Ok, Err, refl, sym, ap, ◌∙◌, subst, arith}
+use Rattle.std.proofs.Common.{◌≡◌, ◌⊎◌, inl, inr, ⊎_elim, ℕ, ◌+◌, ◌-◌, ◌<◌, ◌≤◌, Bool, true, false, true≢false, not, cond, List, [], ◌∷◌, length, find, Option, Some, None, option_map, Result, Ok, Err, refl, sym, ap, ◌∙◌, subst, arith}
 use Rattle.std.specs.Prelude.{◌==◌, ◌^◌, nat_lt, nat_le, ◌&&◌, if◌then◌else◌}
 use Rattle.std.specs.List.{AllByRecursion}
 use Rattle.std.proofs.lemmas.Bool.Decides.{nat_tests}
@@ -11,18 +11,22 @@ use Rattle.tree_values.specs.declared.node.Effect.{Effect}
 use Rattle.tree_values.specs.declared.node.Effect.TheVariants.{Make, Put, Remove, Move, Mode}
 use Rattle.tree_values.specs.declared.node.TreeError.{TreeError}
 use Rattle.tree_values.specs.declared.node.TreeError.TheVariants.{NotEmpty}
-use Rattle.tree_values.specs.Tree.{Volume, IsRow, IsTree, version_at, is_child, refusals, apply, changed, IsLegalEffect}
+use Rattle.tree_values.specs.Tree.{Volume, IsRow, IsTree, version_at, is_child, refusals, apply, changed}
 use Rattle.tree_values.specs.Effects.{apply_all, unless_refused_at, Conflict, first_conflict}
 use Rattle.tree_values.specs.Spelling.{EffectFits, BaseFits}
 use Rattle.file_paths.proofs.PathLemmas.{front_is_path}
 use Rattle.tree_values.proofs.Undoing.{find_among}
 use Rattle.vol_tree.proofs.Behind.{applied-tree, applied_all-tree}
 use Rattle.wire_frames.specs.Fault.{UnfitFits, FullFits}
-use Rattle.wire_frames.specs.Frame.{IsValid}
+use Rattle.wire_frames.specs.Frame.{ConflictFits, IsValid}
 use Rattle.wire_frames.specs.declared.message.Message.{Message}
-use Rattle.wire_frames.specs.declared.message.Message.TheVariants.{Store, Pull, Unfit, Full}
-use Rattle.world_rules.specs.Served.{Served, IsServed, with_last, judged, is_want_of_room, refusal, reply, served_after, answer, state_after}
+use Rattle.wire_frames.specs.declared.message.Message.TheVariants.{Store, Pull, Accepted, Unfit, Full}
+use Rattle.wire_frames.specs.declared.parts.Part.{Part}
+use Rattle.wire_frames.specs.Parts.{PartFits}
+use Rattle.world_rules.specs.Served.{Served, IsServed, with_last, Verdict, Repeated, Early, Outdated, Refused, Taken, judged, verdict, served_after, passes, served_through, verdict_through, is_want_of_room, refusal, end_of, reply, answer, state_after}
 use Rattle.world_rules.specs.World.{IsForServer}
+use Rattle.world_rules.proofs.Sending.{some_parts, small_parts}
+use Rattle.byte_fields.proofs.Facts.{eq_itself, le_holds, le_of, lt_of, not_lt_of}
 use Rattle.mod_log.proofs.BasesFit.{version-small}
 use Rattle.mod_log.proofs.Entries.{legal_each}
 
@@ -173,10 +177,6 @@ refused_all-told (effect ∷ later) at rows cause fits tree e = by (apply effect
 
 -- ---- what a base and a tree hold
 
--- what a Stale tells
-abbrev pub ConflictFits : Conflict → Type 0
-ConflictFits c = IsPath c.path × (c.theirs < 2 ^ 64) × (c.ours < 2 ^ 64) × (not (c.ours == c.theirs) ≡ true)
-
 differ : (theirs ours : ℕ) → (theirs == ours) ≡ false → not (ours == theirs) ≡ true
 differ theirs ours e = grind (arith, nat_tests)
 
@@ -191,47 +191,7 @@ conflict-fits (base ∷ bases) rows c fits tree e = by (version_at rows base.pat
         let same : record { path = base.path; theirs = version_at rows base.path; ours = base.version } ≡ c = cc in
         subst ConflictFits same (fits.0.0, version-small rows base.path tree, fits.0.1, differ _ _ is)
 
--- ---- the answers
-
-refusal-valid : (client number index : ℕ) (fault : TreeError) → ((nat_le 1 client && nat_le client 64) ≡ true) → nat_le 1 number ≡ true → number < 2 ^ 64 → index < 2 ^ 32 → IsTold fault → IsValid (refusal client number index fault)
-refusal-valid client number index fault client_fits number_fits small index_fits told = ⊎_elim
-    (λ full.
-    let P : Bool → Type 0 = λ b. IsValid (if b then Full client number index fault else Unfit client number index fault) in
-    subst P (sym full.0) (record { client_fits = client_fits; number_fits = number_fits; number_small = small; body_fits = (index_fits, full.1) }))
-    (λ unfit.
-    let P : Bool → Type 0 = λ b. IsValid (if b then Full client number index fault else Unfit client number index fault) in
-    subst P (sym unfit.0) (record { client_fits = client_fits; number_fits = number_fits; number_small = small; body_fits = (index_fits, unfit.1) }))
-    told
-
-gap : (last number : ℕ) → nat_lt (last + 1) number ≡ true → nat_le (last + 2) number ≡ true
-gap last number e = grind (arith, nat_tests)
-
-store-answered : (client number : ℕ) (effects : List Effect) (base : List Base) (s : Served) → IsValid (Store client number effects base) → IsServed s → IsValid (answer (Store client number effects base) s)
-store-answered client number effects base s valid served =
-    by (nat_le number (s.last client)) (nat_lt (s.last client + 1) number) refl (first_conflict base s.volume) refl (apply_all 0 effects s.volume) refl
-  where
-    by : (repeated beyond : Bool) → nat_lt (s.last client + 1) number ≡ beyond → (conflict : Option Conflict) → first_conflict base s.volume ≡ conflict
-        → (applied : Result Volume (ℕ × TreeError)) → apply_all 0 effects s.volume ≡ applied → IsValid (reply client number (s.last client) (judged repeated beyond conflict applied))
-    by true beyond is_beyond conflict is_conflict applied is_applied =
-        record { client_fits = valid.client_fits; number_fits = valid.number_fits; number_small = valid.number_small; body_fits = tt }
-    by false true is_beyond conflict is_conflict applied is_applied =
-        record { client_fits = valid.client_fits; number_fits = valid.number_fits; number_small = valid.number_small; body_fits = (served.small client, gap _ _ is_beyond) }
-    by false false is_beyond (Some conflict) is_conflict applied is_applied =
-        record { client_fits = valid.client_fits; number_fits = valid.number_fits; number_small = valid.number_small; body_fits = conflict-fits base s.volume conflict valid.body_fits.1.1 served.tree is_conflict }
-    by false false is_beyond None is_conflict (Err cause) is_applied =
-        let told = refused_all-told effects 0 s.volume cause valid.body_fits.0.each served.tree is_applied in
-        refusal-valid client number cause.0 cause.1 valid.client_fits valid.number_fits valid.number_small (omega (arith, told.0, valid.body_fits.0.few)) told.1
-    by false false is_beyond None is_conflict (Ok volume) is_applied =
-        record { client_fits = valid.client_fits; number_fits = valid.number_fits; number_small = valid.number_small; body_fits = tt }
-
--- the answer to a valid store or pull is valid
-pub answer-valid : (m : Message) (s : Served) → IsValid m → IsServed s → IsForServer m → IsValid (answer m s)
-answer-valid (Store client number effects base) s valid served for_server = store-answered client number effects base s valid served
-answer-valid (Pull client number) s valid served for_server =
-    record { client_fits = valid.client_fits; number_fits = refl; number_small = valid.number_small; body_fits = (served.small client, served.tree) }
-answer-valid _ s valid served for_server = absurd for_server
-
--- ---- the state after
+-- ---- what is served then
 
 with_last-small : (last : ℕ → ℕ) (client number other : ℕ) → last other < 2 ^ 64 → number < 2 ^ 64 → with_last last client number other < 2 ^ 64
 with_last-small last client number other old new = by (other == client)
@@ -260,36 +220,126 @@ raised-legal client number volume s low high small tree served = record {
   of_no_others = λ other above. with_last-other s.last client number other (apart_above client other high above) ∙ served.of_no_others other above;
 }
 
-client_low : (client : ℕ) → (nat_le 1 client && nat_le client 64) ≡ true → 1 ≤ client
+pub client_low : (client : ℕ) → (nat_le 1 client && nat_le client 64) ≡ true → 1 ≤ client
 client_low client e = grind (arith, nat_tests)
 
-client_high : (client : ℕ) → (nat_le 1 client && nat_le client 64) ≡ true → client ≤ 64
+pub client_high : (client : ℕ) → (nat_le 1 client && nat_le client 64) ≡ true → client ≤ 64
 client_high client e = grind (arith, nat_tests)
 
--- a valid store is of a client from 1 to 64
-pub store-client : (client number : ℕ) (effects : List Effect) (base : List Base) → IsValid (Store client number effects base) → (1 ≤ client) × (client ≤ 64)
-store-client client number effects base valid = (client_low client valid.client_fits, client_high client valid.client_fits)
+-- and the given one's is the given number
+with_last-own : (last : ℕ → ℕ) (client number : ℕ) → with_last last client number client ≡ number
+with_last-own last client number = ap (λ b. if b then number else last client) (eq_itself client)
 
--- each effect of a valid store has legal paths
-pub store-effects : (client number : ℕ) (effects : List Effect) (base : List Base) → IsValid (Store client number effects base) → AllByRecursion IsLegalEffect effects
-store-effects client number effects base valid = legal_each effects valid.body_fits.0.each
+-- ---- the answers
 
-store-keeps : (client number : ℕ) (effects : List Effect) (base : List Base) (s : Served) → IsValid (Store client number effects base) → IsServed s → IsServed (state_after (Store client number effects base) s)
-store-keeps client number effects base s valid served =
-    by (nat_le number (s.last client)) (nat_lt (s.last client + 1) number) (first_conflict base s.volume) (apply_all 0 effects s.volume) refl
-  where
-    by : (repeated beyond : Bool) (conflict : Option Conflict) (applied : Result Volume (ℕ × TreeError)) → apply_all 0 effects s.volume ≡ applied
-        → IsServed (served_after client number (judged repeated beyond conflict applied) s)
-    by true beyond conflict applied is_applied = served
-    by false true conflict applied is_applied = served
-    by false false (Some conflict) applied is_applied = served
-    by false false None (Err cause) is_applied = served
-    by false false None (Ok volume) is_applied =
-        let client_is = store-client client number effects base valid in
-        let tree = applied_all-tree effects 0 s.volume volume served.tree (legal_each effects valid.body_fits.0.each) is_applied in
-        raised-legal client number volume s client_is.0 client_is.1 valid.number_small tree served
+gap : (last number : ℕ) → nat_lt (last + 1) number ≡ true → nat_le (last + 2) number ≡ true
+gap last number e = grind (arith, nat_tests)
+
+module _ (client number end : ℕ) (client_fits : (nat_le 1 client && nat_le client 64) ≡ true) (number_fits : nat_le 1 number ≡ true) (number_small : number < 2 ^ 64) (end_small : end < 2 ^ 64) (behind : number ≤ end) where
+  pub refusal-valid : (upto index : ℕ) (fault : TreeError) → upto < 2 ^ 64 → number ≤ upto + 1 → index < 2 ^ 32 → IsTold fault → IsValid (refusal client number upto index fault)
+  refusal-valid upto index fault small low index_fits told = ⊎_elim
+      (λ full.
+      let P : Bool → Type 0 = λ b. IsValid (if b then Full client number upto index fault else Unfit client number upto index fault) in
+      subst P (sym full.0) (record { client_fits = client_fits; number_fits = number_fits; number_small = number_small; body_fits = ((small, le_holds number (upto + 1) low), index_fits, full.1) }))
+      (λ unfit.
+      let P : Bool → Type 0 = λ b. IsValid (if b then Full client number upto index fault else Unfit client number upto index fault) in
+      subst P (sym unfit.0) (record { client_fits = client_fits; number_fits = number_fits; number_small = number_small; body_fits = ((small, le_holds number (upto + 1) low), index_fits, unfit.1) }))
+      told
+
+  pub accepted-valid : IsValid (Accepted client number end)
+  accepted-valid = record { client_fits = client_fits; number_fits = number_fits; number_small = number_small; body_fits = (end_small, le_holds number end behind) }
+
+  -- ---- one entry
+
+  -- What the verdict on the entry of number `n` says: what is served then is legal, where the next is looked at, too, this one is
+  -- taken, and where it is not, a valid reply is given.
+  pub record IsSound (n : ℕ) (s : Served) (judgement : Verdict) : Type 0 where
+    pub legal : IsServed (served_after client n judgement s)
+    pub up : passes judgement ≡ true → n ≤ (served_after client n judgement s).last client
+    pub valid : passes judgement ≡ false → IsValid (reply client number end (s.last client) judgement)
+
+  pub entry_sound : (n : ℕ) (part : Part) (s : Served) → PartFits part → IsServed s → number ≤ n → n < 2 ^ 64 → (n ≡ number) ⊎ (n ≤ s.last client + 1) → IsSound n s (verdict client n part.effects part.base s)
+  entry_sound n part s fits served low small next =
+      by (nat_le n (s.last client)) refl (nat_lt (s.last client + 1) n) refl (first_conflict part.base s.volume) refl (apply_all 0 part.effects s.volume) refl
+    where
+      -- the number is not too far on
+      near : nat_lt (s.last client + 1) n ≡ false → number ≤ s.last client + 1
+      near e = omega (arith, not_lt_of (s.last client + 1) n e, low)
+
+      early : nat_lt (s.last client + 1) n ≡ true → s.last client + 2 ≤ number
+      early e = ⊎_elim (λ (is : n ≡ number). omega (arith, lt_of (s.last client + 1) n e, is)) (λ (le : n ≤ s.last client + 1). absurd (omega (arith, lt_of (s.last client + 1) n e, le))) next
+
+      by : (repeated : Bool) → nat_le n (s.last client) ≡ repeated → (beyond : Bool) → nat_lt (s.last client + 1) n ≡ beyond → (conflict : Option Conflict) → first_conflict part.base s.volume ≡ conflict
+          → (applied : Result Volume (ℕ × TreeError)) → apply_all 0 part.effects s.volume ≡ applied → IsSound n s (judged repeated beyond conflict applied)
+      by true is_repeated beyond is_beyond conflict is_conflict applied is_applied = record { legal = served; up = λ e. le_of n (s.last client) is_repeated; valid = λ e. absurd (true≢false e) }
+      by false is_repeated true is_beyond conflict is_conflict applied is_applied = record {
+        legal = served;
+        up = λ e. absurd (true≢false (sym e));
+        valid = λ e. record { client_fits = client_fits; number_fits = number_fits; number_small = number_small; body_fits = (served.small client, le_holds (s.last client + 2) number (early is_beyond)) };
+      }
+      by false is_repeated false is_beyond (Some conflict) is_conflict applied is_applied = record {
+        legal = served;
+        up = λ e. absurd (true≢false (sym e));
+        valid = λ e. record {
+          client_fits = client_fits;
+          number_fits = number_fits;
+          number_small = number_small;
+          body_fits = ((served.small client, le_holds number (s.last client + 1) (near is_beyond)), conflict-fits part.base s.volume conflict fits.1.1 served.tree is_conflict);
+        };
+      }
+      by false is_repeated false is_beyond None is_conflict (Err cause) is_applied =
+          let told = refused_all-told part.effects 0 s.volume cause fits.0.each served.tree is_applied in
+          record {
+            legal = served;
+            up = λ e. absurd (true≢false (sym e));
+            valid = λ e. refusal-valid (s.last client) cause.0 cause.1 (served.small client) (near is_beyond) (omega (arith, told.0, fits.0.few)) told.1;
+          }
+      by false is_repeated false is_beyond None is_conflict (Ok volume) is_applied = record {
+        legal = raised-legal client n volume s (client_low client client_fits) (client_high client client_fits) small (applied_all-tree part.effects 0 s.volume volume served.tree (legal_each part.effects fits.0.each) is_applied) served;
+        up = λ e. omega (arith, with_last-own s.last client n);
+        valid = λ e. absurd (true≢false e);
+      }
+
+  -- ---- the entries of a store
+
+  record AreSound (next : Served) (judgement : Verdict) : Type 0 where
+    legal : IsServed next
+    valid : IsValid (reply client number end (next.last client) judgement)
+
+  entries_sound : (n : ℕ) (parts : List Part) (s : Served) → AllByRecursion PartFits parts → IsServed s → number ≤ n → n + length parts ≤ 18446744073709551616 → (n ≡ number) ⊎ (n ≤ s.last client + 1)
+      → AreSound (served_through client n parts s) (verdict_through client n parts s)
+  entries_sound n [] s fits served low small next = record { legal = served; valid = accepted-valid }
+  entries_sound n (part ∷ parts) s fits served low small next =
+      let judgement = verdict client n part.effects part.base s in
+      let first = entry_sound n part s fits.0 served low (omega (arith, small)) next in
+      by judgement first (λ up. entries_sound (n + 1) parts (served_after client n judgement s) fits.1 first.legal (omega (arith, low)) (omega (arith, small)) (inr (omega (arith, up))))
+    where
+      by : (j : Verdict) → IsSound n s j → (n ≤ (served_after client n j s).last client → AreSound (served_through client (n + 1) parts (served_after client n j s)) (verdict_through client (n + 1) parts (served_after client n j s)))
+          → AreSound (if passes j then served_through client (n + 1) parts (served_after client n j s) else served_after client n j s) (if passes j then verdict_through client (n + 1) parts (served_after client n j s) else j)
+      by Repeated one rest = rest (one.up refl)
+      by (Taken volume) one rest = rest (one.up refl)
+      by Early one rest = record { legal = one.legal; valid = one.valid refl }
+      by (Outdated conflict) one rest = record { legal = one.legal; valid = one.valid refl }
+      by (Refused cause) one rest = record { legal = one.legal; valid = one.valid refl }
+
+-- a valid store leaves what is served legal, and its reply is valid
+pub store-sound : (client number : ℕ) (parts : List Part) (s : Served) → IsValid (Store client number parts) → IsServed s
+    → IsServed (state_after (Store client number parts) s) × IsValid (answer (Store client number parts) s)
+store-sound client number parts s valid served =
+    let fits = valid.body_fits in
+    let some = some_parts number parts fits in
+    let small = small_parts number parts fits in
+    let sound = entries_sound client number (end_of number parts) valid.client_fits valid.number_fits valid.number_small (omega (arith, some, small)) (omega (arith, some)) number parts s fits.each served (omega arith) small (inl refl) in
+    (sound.legal, sound.valid)
+
+-- the answer to a valid store or pull is valid
+pub answer-valid : (m : Message) (s : Served) → IsValid m → IsServed s → IsForServer m → IsValid (answer m s)
+answer-valid (Store client number parts) s valid served for_server = (store-sound client number parts s valid served).1
+answer-valid (Pull client number) s valid served for_server =
+    record { client_fits = valid.client_fits; number_fits = refl; number_small = valid.number_small; body_fits = (served.small client, served.tree) }
+answer-valid _ s valid served for_server = absurd for_server
 
 -- a valid message leaves what a server holds legal
 pub state_after-legal : (m : Message) (s : Served) → IsValid m → IsServed s → IsServed (state_after m s)
-state_after-legal (Store client number effects base) s valid served = store-keeps client number effects base s valid served
+state_after-legal (Store client number parts) s valid served = (store-sound client number parts s valid served).0
 state_after-legal _ s valid served = served

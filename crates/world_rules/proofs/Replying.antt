@@ -1,5 +1,5 @@
 -- What the replies say to a client in step.
-use Rattle.std.proofs.Common.{◌≡◌, ℕ, ◌+◌, ◌<◌, ◌≤◌, false, List, [], ◌++◌, length, refl, sym, ap, subst, arith}
+use Rattle.std.proofs.Common.{◌≡◌, ℕ, ◌<◌, ◌≤◌, false, List, [], ◌++◌, length, refl, sym, ap, subst, arith}
 use Rattle.file_paths.specs.Path.{FilePath}
 use Rattle.tree_values.specs.Tree.{Volume, version_at}
 use Rattle.tree_values.specs.Lists.{IsIn}
@@ -11,7 +11,7 @@ use Rattle.world_rules.specs.declared.asking.Ask.{Ask}
 use Rattle.world_rules.specs.World.{World, IsFresh}
 use Rattle.world_rules.specs.InStep.{InStep, IsRefusal, HasNoCollision}
 use Rattle.world_rules.specs.Run.{kept_at}
-use Rattle.world_rules.proofs.Steps.{tree_at-acked}
+use Rattle.world_rules.proofs.Next.{tree_at-acked}
 use Rattle.world_rules.proofs.Colliding.{none_collides}
 use Rattle.world_rules.proofs.Runs.{moved_by_runs, runs_in_step}
 
@@ -33,19 +33,19 @@ fresh_newer client log made old new last seen path now none fresh =
 pub no_gap : (client : ℕ) (log : Log) (world : World) (number last : ℕ) → InStep client log world → IsIn (Gap client number last) world.packets → ⊥
 no_gap client log world number last now among = now.fitting (Gap client number last) among refl
 
-pub accepted_taken : (client : ℕ) (log : Log) (world : World) (number : ℕ) → InStep client log world → IsIn (Accepted client number) world.packets → number ≤ world.served.last client
-accepted_taken client log world number now among = now.fitting (Accepted client number) among refl
+pub accepted_taken : (client : ℕ) (log : Log) (world : World) (number upto : ℕ) → InStep client log world → IsIn (Accepted client number upto) world.packets → upto ≤ world.served.last client
+accepted_taken client log world number upto now among = now.fitting (Accepted client number upto) among refl
 
 pub done_taken : (client : ℕ) (log : Log) (world : World) (number : ℕ) → InStep client log world → IsIn (Done client number) world.packets → number ≤ world.served.last client
 done_taken client log world number now among = now.fitting (Done client number) among refl
 
-pub stale_ahead : (client : ℕ) (log : Log) (world : World) (path : FilePath) (theirs ours : ℕ) → InStep client log world
-    → IsIn (Stale client (log.acked + 1) path theirs ours) world.packets → version_at (tree_at (world.served.last client) log) path < version_at world.served.volume path
-stale_ahead client log world path theirs ours now among = (now.fitting (Stale client (log.acked + 1) path theirs ours) among refl).1 refl
+pub stale_ahead : (client : ℕ) (log : Log) (world : World) (number upto : ℕ) (path : FilePath) (theirs ours : ℕ) → InStep client log world → log.acked ≤ upto
+    → IsIn (Stale client number upto path theirs ours) world.packets → version_at (tree_at (world.served.last client) log) path < version_at world.served.volume path
+stale_ahead client log world number upto path theirs ours now low among = (now.fitting (Stale client number upto path theirs ours) among refl).1 low
 
-pub refused_ahead : (client : ℕ) (log : Log) (world : World) (reply : Message) → InStep client log world → IsRefusal client (log.acked + 1) reply → IsIn reply world.packets
+pub refused_ahead : (client : ℕ) (log : Log) (world : World) (number : ℕ) (reply : Message) → InStep client log world → log.acked < number → IsRefusal client number reply → IsIn reply world.packets
     → IsAhead world.served.volume (tree_at (world.served.last client) log)
-refused_ahead client log world (Stale of number path theirs ours) now is among = (path, (now.fitting (Stale of number path theirs ours) among is.0).1 is.1)
-refused_ahead client log world (Unfit of number index fault) now is among = (now.fitting (Unfit of number index fault) among is.0).1 is.1
-refused_ahead client log world (Full of number index fault) now is among = (now.fitting (Full of number index fault) among is.0).1 is.1
-refused_ahead client log world _ now is among = absurd is
+refused_ahead client log world number (Stale of stored upto path theirs ours) now low is among = (path, (now.fitting (Stale of stored upto path theirs ours) among is.0).1 (omega (arith, low, is.1)))
+refused_ahead client log world number (Unfit of stored upto index fault) now low is among = (now.fitting (Unfit of stored upto index fault) among is.0).1 (omega (arith, low, is.1))
+refused_ahead client log world number (Full of stored upto index fault) now low is among = (now.fitting (Full of stored upto index fault) among is.0).1 (omega (arith, low, is.1))
+refused_ahead client log world number _ now low is among = absurd is

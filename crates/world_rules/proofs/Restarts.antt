@@ -40,7 +40,7 @@ module _ (client : ℕ) (ships : Bool) where
       inl (runs_then client ships [] [] (ask ∷ []) (asks_in moves) (restarted state) (restarted (moved (Notes ask) state)) (restarted (moved_by moves (moved (Notes ask) state)))
       (runs_once client ships (restarted state) (Notes ask) may) rest)
   unkept_later state (Logs entry) moves may rest = inl rest
-  unkept_later state (Acknowledges reply) moves may rest = inl rest
+  unkept_later state (Acknowledges upto reply) moves may rest = inl rest
   unkept_later state (Pulls last seen) moves may rest = inl rest
   unkept_later state Saves moves may rest =
       inr (

@@ -11,36 +11,34 @@ use Rattle.vol_tree.specs.Behind.{IsBehind}
 use Rattle.tree_values.specs.Lists.{IsIn}
 use Rattle.vol_tree.proofs.Behind.{IsIn-left, IsIn-right, applied_all-tree, same_volume}
 use Rattle.mod_log.specs.declared.log.Entry.{Entry}
-use Rattle.mod_log.specs.Log.{Log, IsLog, AreEntriesOf, after, tree_at, acknowledged, pulled, new_log}
+use Rattle.mod_log.specs.Log.{Log, IsLog, AreEntriesOf, after, tree_at, pulled, new_log}
 use Rattle.wire_frames.specs.declared.message.Message.{Message}
-use Rattle.wire_frames.specs.declared.message.Message.TheVariants.{Store, Operate, Pull, Accepted, Snapshot, Done}
+use Rattle.wire_frames.specs.declared.message.Message.TheVariants.{Store, Operate, Pull, Accepted, Stale, Unfit, Snapshot, Done, Full}
 use Rattle.wire_frames.specs.Frame.{client_of, IsValid}
 use Rattle.world_rules.specs.declared.asking.Ask.{Ask}
 use Rattle.world_rules.specs.Served.{TakenEntry, entry_stored, IsServed}
 use Rattle.world_rules.specs.World.{World, Step, Send, Deliver, Other, Relay, happens, happen, noted, Is, IsAllowed, AreAllowed, MovedBy, Moved}
 use Rattle.world_rules.specs.Asking.{AnswersStand}
-use Rattle.world_rules.specs.InStep.{InStep, MaySend, IsAcceptance, HasNoCollision}
+use Rattle.world_rules.specs.InStep.{InStep, MaySend, TellsTaken, HasNoCollision}
 use Rattle.world_rules.specs.Run.{State, kept_at, restarted, AreInStep, MaySendKept, Move, Network, Notes, Logs, Acknowledges, Pulls, Saves, moved, IsPossible, AllPossible, moved_by, entry_in, entries_in, ask_in, asks_in, taken_by, taken_in_move, taken_in, own, numbered, entries_between, AreAllOf, OthersSpare, IsSameAt, Runs}
 use Rattle.world_rules.proofs.Asks.{in_either, asked_among, noted-none, noted-noted, answers_stay, answers_append}
-use Rattle.world_rules.proofs.Steps.{Agree, tree_at-acked, TakesFirst}
-use Rattle.world_rules.proofs.Client.{logged_agree, tree_at-logged, acknowledged-next, acknowledged_agree, is_next, tree_at-acknowledged, pulled_agree, IsLog-new, new_behind}
+use Rattle.world_rules.proofs.Next.{take_next, drop_within, drop_twice, tree_at-acked, tree_at-acknowledged, TakesInOrder, takes_up}
+use Rattle.world_rules.proofs.Steps.{Agree}
+use Rattle.world_rules.proofs.Client.{logged_agree, tree_at-logged, acknowledged_agree, pulled_agree, IsLog-new, new_behind}
 use Rattle.world_rules.proofs.Events.{agree, in_step, steps_on, noted_in_step}
 use Rattle.world_rules.proofs.Colliding.{packets_stay, IsApart, AreApart, apart_here, apart_next, apart_in_memory, kept_apart, both_apart, run_apart, run_both_apart, kept_none}
 use Rattle.mod_log.proofs.Entries.{legal_each}
 
 -- ---- the client's moves on a log in step
 
-acknowledged_pending : (client acked : ℕ) (tree : Volume) (pending : List Entry) (last : ℕ) (volume : Volume) (packets : List Message) → pending ≢ [] → acked + 1 ≤ last
-    → Agree client (record { acked = acked; base = tree; pending = pending }) last volume packets → Agree client (acknowledged (acked + 1) (record { acked = acked; base = tree; pending = pending })) last volume packets
-acknowledged_pending client acked tree [] last volume packets some at_least now = absurd (some refl)
-acknowledged_pending client acked tree (entry ∷ entries) last volume packets some at_least now =
-    subst (λ log. Agree client log last volume packets) (sym (acknowledged-next acked tree entry entries)) (acknowledged_agree client acked tree entry entries last volume packets at_least now)
-
--- what was accepted was taken
-pub accepted_at_most : (client : ℕ) (log : Log) (world : World) (number : ℕ) (reply : Message) → InStep client log world → IsAcceptance client number reply → IsIn reply world.packets → number ≤ world.served.last client
-accepted_at_most client log world number (Accepted of accepted) now is among = omega (arith, now.fitting (Accepted of accepted) among is.0, is.1)
-accepted_at_most client log world number (Done of accepted) now is among = omega (arith, now.fitting (Done of accepted) among is.0, is.1)
-accepted_at_most client log world number _ now is among = absurd is
+-- what a reply tells to be taken was taken
+pub told_at_most : (client : ℕ) (log : Log) (world : World) (number : ℕ) (reply : Message) → InStep client log world → TellsTaken client number reply → IsIn reply world.packets → number ≤ world.served.last client
+told_at_most client log world number (Accepted of stored upto) now is among = omega (arith, now.fitting (Accepted of stored upto) among is.0, is.1)
+told_at_most client log world number (Stale of stored upto path theirs ours) now is among = omega (arith, (now.fitting (Stale of stored upto path theirs ours) among is.0).0.at_most_taken, is.1)
+told_at_most client log world number (Unfit of stored upto index fault) now is among = omega (arith, (now.fitting (Unfit of stored upto index fault) among is.0).0.at_most_taken, is.1)
+told_at_most client log world number (Full of stored upto index fault) now is among = omega (arith, (now.fitting (Full of stored upto index fault) among is.0).0.at_most_taken, is.1)
+told_at_most client log world number (Done of accepted) now is among = omega (arith, now.fitting (Done of accepted) among is.0, is.1)
+told_at_most client log world number _ now is among = absurd is
 
 pulled_idle : (client acked : ℕ) (tree : Volume) (pending : List Entry) (seen : Volume) (last : ℕ) (volume : Volume) (packets : List Message) (upto : ℕ) → pending ≡ [] → IsIn (Snapshot client acked upto seen) packets
     → Agree client (record { acked = acked; base = tree; pending = pending }) last volume packets → Agree client (record { acked = acked; base = seen; pending = pending }) last volume packets
@@ -71,10 +69,8 @@ pub move_keeps : (client : ℕ) (ships : Bool) (state : State) (move : Move) →
 move_keeps client ships state (Network step) now may none = (steps_on client ships state.log state.world step now (allowed_log client ships state step may) none).in_step
 move_keeps client ships state (Notes ask) now may none = noted_in_step client state.log state.world (ask ∷ []) now
 move_keeps client ships state (Logs entry) now may none = same_world client state.log _ state.world now (logged_agree client state.log _ _ _ (agree client state.log state.world now) entry may)
-move_keeps client ships state (Acknowledges reply) now may none = same_world client state.log _ state.world now
-    (acknowledged_pending client state.log.acked state.log.base state.log.pending _ _ _ may.0
-    (accepted_at_most client state.log state.world (state.log.acked + 1) reply now may.1 may.2)
-    (agree client state.log state.world now))
+move_keeps client ships state (Acknowledges upto reply) now may none = same_world client state.log _ state.world now
+    (acknowledged_agree client state.log upto _ _ _ may.0 (told_at_most client state.log state.world upto reply now may.1 may.2) (agree client state.log state.world now))
 move_keeps client ships state (Pulls last seen) now may none = same_world client state.log _ state.world now
     (pulled_idle client state.log.acked state.log.base state.log.pending seen _ _ _ last may.0 may.2 (agree client state.log state.world now))
 move_keeps client ships state Saves now may none = now
@@ -90,7 +86,7 @@ kept_moves : (client : ℕ) (ships : Bool) (state : State) (move : Move) → Are
 kept_moves client ships state (Network step) now may none = (steps_on client ships state.kept state.world step now.kept (allowed_kept client ships state step may) none).in_step
 kept_moves client ships state (Notes ask) now may none = noted_in_step client state.kept state.world (ask ∷ []) now.kept
 kept_moves client ships state (Logs entry) now may none = now.kept
-kept_moves client ships state (Acknowledges reply) now may none = now.kept
+kept_moves client ships state (Acknowledges upto reply) now may none = now.kept
 kept_moves client ships state (Pulls last seen) now may none = now.kept
 kept_moves client ships state Saves now may none = now.in_memory
 
@@ -109,24 +105,6 @@ moves_keep_both client ships (move ∷ moves) state now may apart =
     moves_keep_both client ships moves (moved move state) (keep_first client ships move moves state now may.0 apart) may.1 (both_apart client move moves state apart)
 
 -- ---- what is taken of the client are its entries, in order
-
-take_next : {X : Type 0} (k : ℕ) (xs : List X) (x : X) (rest : List X) → drop k xs ≡ x ∷ rest → take (suc k) xs ≡ take k xs ++ x ∷ []
-take_next zero [] x rest e = absurd (cc)
-take_next zero (y ∷ xs) x rest e = let same : y ≡ x = cc in ap (λ z. z ∷ []) same
-take_next (suc k) [] x rest e = absurd (cc)
-take_next (suc k) (y ∷ xs) x rest e = ap (λ zs. y ∷ zs) (take_next k xs x rest e)
-
-drop_next : {X : Type 0} (k : ℕ) (xs : List X) (x : X) (rest : List X) → drop k xs ≡ x ∷ rest → drop (suc k) xs ≡ rest
-drop_next zero [] x rest e = absurd (cc)
-drop_next zero (y ∷ xs) x rest e = cc
-drop_next (suc k) [] x rest e = absurd (cc)
-drop_next (suc k) (y ∷ xs) x rest e = drop_next k xs x rest e
-
-drop_within : {X : Type 0} (k : ℕ) (xs : List X) (x : X) (rest : List X) → drop k xs ≡ x ∷ rest → suc k ≤ length xs
-drop_within zero [] x rest e = absurd (cc)
-drop_within zero (y ∷ xs) x rest e = omega arith
-drop_within (suc k) [] x rest e = absurd (cc)
-drop_within (suc k) (y ∷ xs) x rest e = omega (arith, drop_within k xs x rest e)
 
 length-numbered : (client number : ℕ) (entries : List Entry) → length (numbered client number entries) ≡ length entries
 length-numbered client number [] = refl
@@ -164,30 +142,31 @@ module _ (client acked first : ℕ) (low : acked ≤ first) where
   abbrev last_of : State → ℕ
   last_of state = state.world.served.last client
 
-  step_in_order : (state : State) (step : Step) (entered : List Entry) (taken news : List TakenEntry)
-      → TakesFirst client state.log (last_of state) (last_of (moved (Network step) state)) (own client news) → InOrder state entered taken → InOrder (moved (Network step) state) entered (taken ++ news)
-  step_in_order state step entered taken news (inl none) told = record {
+  -- the entries up to a number, and those that are taken behind it
+  taken_in_order : (log : Log) (entered : List Entry) (last next : ℕ) (taken : List TakenEntry) → acked ≤ log.acked → log.pending ≡ drop (log.acked - acked) entered → log.acked ≤ last → first ≤ last
+      → TakesInOrder client log last next taken → entries_between client acked first next entered ≡ entries_between client acked first last entered ++ taken
+  taken_in_order log entered last next [] above pending low from takes = ap (λ n. entries_between client acked first n entered) takes ∙ sym (append-nil _)
+  taken_in_order log entered last next (one ∷ more) above pending low from takes =
+      let entry = takes.0 in
+      let count : (log.acked - acked) + (last - log.acked) ≡ last - acked = omega (arith, above, low) in
+      let is : drop (last - acked) entered ≡ entry ∷ takes.1.rest =
+      ap (λ n. drop n entered) (sym count) ∙ sym (drop_twice (log.acked - acked) (last - log.acked) entered) ∙ ap (drop (last - log.acked)) (sym pending) ∙ takes.1.is in
+      let here = taken_next last entered takes.1.rest entry from is in
+      let later = taken_in_order log entered (last + 1) next more above pending (omega (arith, low)) (omega (arith, from)) takes.3 in
+      later
+      ∙ ap (λ before. before ++ more) (here ∙ ap (λ (t : TakenEntry). entries_between client acked first last entered ++ t ∷ []) (sym takes.2))
+      ∙ append_assoc (entries_between client acked first last entered) (one ∷ []) more
+
+  step_in_order : (state : State) (step : Step) (entered : List Entry) (taken news : List TakenEntry) → state.log.acked ≤ last_of state
+      → TakesInOrder client state.log (last_of state) (last_of (moved (Network step) state)) (own client news) → InOrder state entered taken → InOrder (moved (Network step) state) entered (taken ++ news)
+  step_in_order state step entered taken news low takes told = record {
     above = told.above;
     within = told.within;
-    last_above = omega (arith, told.last_above, none.1);
+    last_above = omega (arith, told.last_above, takes_up client state.log (last_of state) (last_of (moved (Network step) state)) (own client news) takes);
     pending = told.pending;
-    own_taken = taken_more taken news _ [] told.own_taken none.0 ∙ append-nil _ ∙ ap (λ n. entries_between client acked first n entered) (sym none.1);
+    own_taken = taken_more taken news _ (own client news) told.own_taken refl
+        ∙ sym (taken_in_order state.log entered (last_of state) (last_of (moved (Network step) state)) (own client news) told.above told.pending low told.last_above takes);
   }
-  step_in_order state step entered taken news (inr some) told =
-      let entry = some.0 in
-      let last = last_of state in
-      let is : drop (last - acked) entered ≡ entry ∷ some.1 = ap (λ n. drop (n - acked) entered) some.3 ∙ sym told.pending ∙ some.2 in
-      let next : last_of (moved (Network step) state) ≡ last_of state + 1 = omega (arith, some.3, some.4) in
-      let number : state.log.acked + 1 ≡ last_of state + 1 = omega (arith, some.3) in
-      record {
-        above = told.above;
-        within = told.within;
-        last_above = omega (arith, told.last_above, next);
-        pending = told.pending;
-        own_taken = taken_more taken news _ _ told.own_taken (some.5 ∙ ap (λ n. entry_stored client n entry.effects entry.base ∷ []) number)
-            ∙ sym (taken_next last entered some.1 entry told.last_above is)
-            ∙ ap (λ n. entries_between client acked first n entered) (sym next);
-      }
 
   -- after an entry is logged the ones up to the last are the same
   taken_same : (last : ℕ) (entered : List Entry) (entry : Entry) → last ≤ acked + length entered → entries_between client acked first last (entered ++ entry ∷ []) ≡ entries_between client acked first last entered
@@ -210,22 +189,19 @@ module _ (client acked first : ℕ) (low : acked ≤ first) where
         own_taken = own_nil taken _ told.own_taken ∙ sym (taken_same (last_of state) entered entry (omega (arith, now.not_higher.at_most_logged, pending_long, told.within, told.above)));
       }
 
-  -- the acknowledged number goes up by one where an entry is pending
-  acknowledged_in_order : (world : World) (kept : Log) (number : ℕ) (tree : Volume) (pending : List Entry) (entered : List Entry) (taken : List TakenEntry) → pending ≢ []
-      → InOrder (record { log = record { acked = number; base = tree; pending = pending }; kept = kept; world = world }) entered taken
-      → InOrder (record { log = acknowledged (number + 1) (record { acked = number; base = tree; pending = pending }); kept = kept; world = world }) entered taken
-  acknowledged_in_order world kept number tree [] entered taken some told = absurd (some refl)
-  acknowledged_in_order world kept number tree (entry ∷ entries) entered taken some told =
-      let within = drop_within (number - acked) entered entry entries (sym told.pending) in
-      let more : number + 1 - acked ≡ suc (number - acked) = omega (arith, told.above) in
-      subst (λ log. InOrder (record { log = log; kept = kept; world = world }) entered taken) (sym (acknowledged-next number tree entry entries))
-      (record {
-        above = omega (arith, told.above);
-        within = omega (arith, told.above, within);
+  -- the acknowledged number goes up
+  acknowledged_in_order : (state : State) (upto : ℕ) (reply : Message) (entered : List Entry) (taken : List TakenEntry) → state.log.acked ≤ upto → upto ≤ state.log.acked + length state.log.pending
+      → InOrder state entered taken → InOrder (moved (Acknowledges upto reply) state) entered taken
+  acknowledged_in_order state upto reply entered taken low within told =
+      let long : length state.log.pending ≡ length entered - (state.log.acked - acked) = ap length told.pending ∙ length-drop (state.log.acked - acked) entered in
+      let count : (state.log.acked - acked) + (upto - state.log.acked) ≡ upto - acked = omega (arith, told.above, low) in
+      record {
+        above = omega (arith, told.above, low);
+        within = omega (arith, told.above, told.within, within, long);
         last_above = told.last_above;
-        pending = sym (ap (λ k. drop k entered) more ∙ drop_next (number - acked) entered entry entries (sym told.pending));
+        pending = ap (drop (upto - state.log.acked)) told.pending ∙ drop_twice (state.log.acked - acked) (upto - state.log.acked) entered ∙ ap (λ n. drop n entered) count;
         own_taken = told.own_taken;
-      })
+      }
 
   InOrder-nil : (state : State) (entered : List Entry) (taken : List TakenEntry) → InOrder state entered taken → InOrder state (entered ++ []) (taken ++ [])
   InOrder-nil state entered taken told = subst (λ es. InOrder state es (taken ++ [])) (sym (append-nil entered)) (subst (λ ms. InOrder state entered ms) (sym (append-nil taken)) told)
@@ -236,11 +212,13 @@ module _ (client acked first : ℕ) (low : acked ≤ first) where
   move_in_order ships state (Network step) entered taken now may none told =
       let on = steps_on client ships state.log state.world step now (allowed_log client ships state step may) none in
       subst (λ es. InOrder (moved (Network step) state) es (taken ++ taken_by step state.world.served)) (sym (append-nil entered))
-      (step_in_order state step entered taken (taken_by step state.world.served) on.takes told)
+      (step_in_order state step entered taken (taken_by step state.world.served) now.not_lower on.takes told)
   move_in_order ships state (Notes ask) entered taken now may none told =
       InOrder-nil _ entered taken (record { above = told.above; within = told.within; last_above = told.last_above; pending = told.pending; own_taken = told.own_taken })
   move_in_order ships state (Logs entry) entered taken now may none told = logs_in_order state entry entered taken now told
-  move_in_order ships state (Acknowledges reply) entered taken now may none told = InOrder-nil _ entered taken (acknowledged_in_order state.world state.kept state.log.acked state.log.base state.log.pending entered taken may.0 told)
+  move_in_order ships state (Acknowledges upto reply) entered taken now may none told =
+      let high = told_at_most client state.log state.world upto reply now may.1 may.2 in
+      InOrder-nil _ entered taken (acknowledged_in_order state upto reply entered taken may.0 (omega (arith, high, now.not_higher.at_most_logged)) told)
   move_in_order ships state (Pulls last seen) entered taken now may none told =
       InOrder-nil _ entered taken (record { above = told.above; within = told.within; last_above = told.last_above; pending = told.pending; own_taken = told.own_taken })
   move_in_order ships state Saves entered taken now may none told =
@@ -263,16 +241,6 @@ module _ (client acked first : ℕ) (low : acked ≤ first) where
 abbrev pub IsSameVersion : ℕ → Log → World → FilePath → Type 0
 IsSameVersion client log world path = version_at (tree_at (world.served.last client) log) path ≡ version_at world.served.volume path
 
-acknowledged_same : (client acked : ℕ) (tree : Volume) (pending : List Entry) (last : ℕ) (volume : Volume) (packets : List Message) (path : FilePath) → pending ≢ [] → acked + 1 ≤ last
-    → Agree client (record { acked = acked; base = tree; pending = pending }) last volume packets
-    → version_at (tree_at last (record { acked = acked; base = tree; pending = pending })) path ≡ version_at volume path
-    → version_at (tree_at last (acknowledged (acked + 1) (record { acked = acked; base = tree; pending = pending }))) path ≡ version_at volume path
-acknowledged_same client acked tree [] last volume packets path some at_least now e = absurd (some refl)
-acknowledged_same client acked tree (entry ∷ entries) last volume packets path some at_least now e =
-    ap (λ log. version_at (tree_at last log) path) (acknowledged-next acked tree entry entries)
-    ∙ ap (λ t. version_at t path) (tree_at-acknowledged client acked tree entry entries last volume packets (is_next client acked tree entry entries last volume packets now at_least))
-    ∙ e
-
 pulled_same : (client : ℕ) (log : Log) (seen : Volume) (last : ℕ) (volume : Volume) (packets : List Message) (upto : ℕ) (path : FilePath) → log.pending ≡ []
     → IsIn (Snapshot client log.acked upto seen) packets → version_at log.base path ≤ version_at seen path → Agree client log last volume packets
     → version_at (tree_at last log) path ≡ version_at volume path → version_at (tree_at last (pulled seen log)) path ≡ version_at volume path
@@ -288,9 +256,8 @@ move_spares : (client : ℕ) (ships : Bool) (path : FilePath) (state : State) (m
 move_spares client ships path state (Network step) spare now may none same = (steps_on client ships state.log state.world step now (allowed_log client ships state step may) none).same path spare same
 move_spares client ships path state (Notes ask) spare now may none same = same
 move_spares client ships path state (Logs entry) spare now may none same = ap (λ t. version_at t path) (tree_at-logged client state.log _ _ _ (agree client state.log state.world now) entry) ∙ same
-move_spares client ships path state (Acknowledges reply) spare now may none same =
-    acknowledged_same client state.log.acked state.log.base state.log.pending _ _ _ path may.0
-    (accepted_at_most client state.log state.world (state.log.acked + 1) reply now may.1 may.2) (agree client state.log state.world now) same
+move_spares client ships path state (Acknowledges upto reply) spare now may none same =
+    ap (λ t. version_at t path) (tree_at-acknowledged state.log upto (state.world.served.last client) may.0 (told_at_most client state.log state.world upto reply now may.1 may.2)) ∙ same
 move_spares client ships path state (Pulls last seen) spare now may none same = pulled_same client state.log seen _ _ _ last path may.0 may.2 (may.3 path) (agree client state.log state.world now) same
 move_spares client ships path state Saves spare now may none same = same
 
@@ -310,7 +277,7 @@ kept_spares : (client : ℕ) (ships : Bool) (path : FilePath) (state : State) (m
 kept_spares client ships path state (Network step) spare now may none same kept = (steps_on client ships state.kept state.world step now.kept (allowed_kept client ships state step may) none).same path spare kept
 kept_spares client ships path state (Notes ask) spare now may none same kept = kept
 kept_spares client ships path state (Logs entry) spare now may none same kept = kept
-kept_spares client ships path state (Acknowledges reply) spare now may none same kept = kept
+kept_spares client ships path state (Acknowledges upto reply) spare now may none same kept = kept
 kept_spares client ships path state (Pulls last seen) spare now may none same kept = kept
 kept_spares client ships path state Saves spare now may none same kept = same
 
@@ -503,7 +470,7 @@ runs_once client ships state move may = record { moves = move ∷ []; entries = 
 -- ---- a client that may ship more
 
 may_send_more : (client : ℕ) (ships more : Bool) (log : Log) (message : Message) → (IsTrue ships → IsTrue more) → MaySend client ships log message → MaySend client more log message
-may_send_more client ships more log (Store of number effects base) grows may = may
+may_send_more client ships more log (Store of number parts) grows may = may
 may_send_more client ships more log (Operate of sketched) grows may = (may.0, may.1, may.2, grows may.3)
 may_send_more client ships more log (Pull of number) grows may = may
 may_send_more client ships more log _ grows may = absurd may
@@ -518,7 +485,7 @@ possible_more : (client : ℕ) (ships more : Bool) (state : State) (move : Move)
 possible_more client ships more state (Network step) grows may = allowed_more client ships more state step grows may
 possible_more client ships more state (Notes ask) grows may = may
 possible_more client ships more state (Logs entry) grows may = may
-possible_more client ships more state (Acknowledges reply) grows may = may
+possible_more client ships more state (Acknowledges upto reply) grows may = may
 possible_more client ships more state (Pulls last seen) grows may = may
 possible_more client ships more state Saves grows may = may
 
@@ -587,7 +554,7 @@ taken_by_move : (move : Move) (state : State) → (moved move state).world.taken
 taken_by_move (Network step) state = taken_by_step step state.world
 taken_by_move (Notes ask) state = sym (append-nil state.world.taken)
 taken_by_move (Logs entry) state = sym (append-nil state.world.taken)
-taken_by_move (Acknowledges reply) state = sym (append-nil state.world.taken)
+taken_by_move (Acknowledges upto reply) state = sym (append-nil state.world.taken)
 taken_by_move (Pulls last seen) state = sym (append-nil state.world.taken)
 taken_by_move Saves state = sym (append-nil state.world.taken)
 
@@ -611,7 +578,7 @@ asked_by_move : (move : Move) (state : State) → (moved move state).world.asks 
 asked_by_move (Network step) state = asked_by_step step state.world ∙ sym (append-nil state.world.asks)
 asked_by_move (Notes ask) state = refl
 asked_by_move (Logs entry) state = sym (append-nil state.world.asks)
-asked_by_move (Acknowledges reply) state = sym (append-nil state.world.asks)
+asked_by_move (Acknowledges upto reply) state = sym (append-nil state.world.asks)
 asked_by_move (Pulls last seen) state = sym (append-nil state.world.asks)
 asked_by_move Saves state = sym (append-nil state.world.asks)
 
@@ -636,7 +603,7 @@ module _ (client : ℕ) (ships : Bool) where
       answers_stay (ask ∷ []) state.world (moved_by moves (moved (Notes ask) state)).world (λ message among. packets_stay moves (moved (Notes ask) state) message among) (may.1, tt)
   answer_in (Network step) moves state may = tt
   answer_in (Logs entry) moves state may = tt
-  answer_in (Acknowledges reply) moves state may = tt
+  answer_in (Acknowledges upto reply) moves state may = tt
   answer_in (Pulls last seen) moves state may = tt
   answer_in Saves moves state may = tt
 
@@ -656,7 +623,7 @@ module _ (client : ℕ) (ships : Bool) where
   request_in (Notes asked) moves state ask may (inr among) = absurd among
   request_in (Network step) moves state ask may among = absurd among
   request_in (Logs entry) moves state ask may among = absurd among
-  request_in (Acknowledges reply) moves state ask may among = absurd among
+  request_in (Acknowledges upto reply) moves state ask may among = absurd among
   request_in (Pulls last seen) moves state ask may among = absurd among
   request_in Saves moves state ask may among = absurd among
 

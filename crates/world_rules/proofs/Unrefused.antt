@@ -1,12 +1,10 @@
 -- Where nobody else writes, no entry of the client is refused.
-use Rattle.std.proofs.Common.{◌≡◌, ⊎_elim, ℕ, ◌+◌, ◌<◌, ◌≤◌, true, false, List, [], ◌∷◌, ◌++◌, Option, None, Some, Result, Ok, Err, refl, sym, ◌∙◌, ap, subst, arith, append-nil}
+use Rattle.std.proofs.Common.{◌≡◌, ⊎_elim, ℕ, ◌+◌, ◌≤◌, true, false, List, [], ◌∷◌, ◌++◌, refl, sym, ◌∙◌, ap, subst, arith, append-nil}
 use Rattle.std.specs.Prelude.{Bool, nat_le, if◌then◌else◌}
-use Rattle.std.proofs.lemmas.Bool.Decides.{nat_tests}
+use Rattle.byte_fields.proofs.Facts.{le_of, not_le_of}
 use Rattle.tree_values.specs.Tree.{Volume, version_at}
-use Rattle.tree_values.specs.Effects.{Conflict}
 use Rattle.tree_values.specs.Lists.{IsIn}
 use Rattle.vol_tree.specs.Behind.{IsAhead}
-use Rattle.tree_values.specs.declared.node.TreeError.{TreeError}
 use Rattle.vol_tree.proofs.Behind.{IsIn-left, IsIn-right}
 use Rattle.mod_log.specs.declared.log.Entry.{Entry}
 use Rattle.mod_log.specs.Log.{Log, tree_at}
@@ -14,7 +12,7 @@ use Rattle.wire_frames.specs.declared.message.Message.{Message}
 use Rattle.wire_frames.specs.declared.message.Message.TheVariants.{Store, Operate, Pull, Stale, Unfit, Full}
 use Rattle.wire_frames.specs.Frame.{client_of}
 use Rattle.world_rules.specs.declared.asking.Ask.{Ask}
-use Rattle.world_rules.specs.Served.{judged, is_want_of_room, reply, answer}
+use Rattle.world_rules.specs.Served.{Served, Verdict, Repeated, Early, Outdated, Refused, Taken, served_through, verdict_through, is_want_of_room, end_of, reply, answer}
 use Rattle.world_rules.specs.World.{World, Step, Send, Deliver, Other, Relay, happens, IsForServer, IsLicensed, IsAllowed}
 use Rattle.world_rules.specs.InStep.{InStep, MaySend, IsRefusal, HasNoCollision}
 use Rattle.world_rules.specs.Run.{State, Move, Network, Notes, Logs, Acknowledges, Pulls, Saves, moved, IsPossible, AllPossible, moved_by, entry_in, ask_in, taken_in_move, taken_in, AreAllOf, Runs}
@@ -31,54 +29,40 @@ never_ahead a b same ahead = absurd (omega (arith, ahead.1, ap (λ (v : Volume).
 -- ---- what refuses
 
 refusal_client : (client number : ℕ) (message : Message) → IsRefusal client number message → client_of message ≡ client
-refusal_client client number (Stale of refused path theirs ours) is = is.0
-refusal_client client number (Unfit of refused index fault) is = is.0
-refusal_client client number (Full of refused index fault) is = is.0
+refusal_client client number (Stale of stored upto path theirs ours) is = is.0
+refusal_client client number (Unfit of stored upto index fault) is = is.0
+refusal_client client number (Full of stored upto index fault) is = is.0
 refusal_client client number _ is = absurd is
 
 sent_refuses_none : (client : ℕ) (ships : Bool) (log : Log) (number : ℕ) (message : Message) → MaySend client ships log message → IsRefusal client number message → ⊥
-sent_refuses_none client ships log number (Store of stored effects base) may is = is
+sent_refuses_none client ships log number (Store of stored parts) may is = is
 sent_refuses_none client ships log number (Operate of sketched) may is = is
 sent_refuses_none client ships log number (Pull of known) may is = is
 sent_refuses_none client ships log number _ may is = may
 
--- a refusal of the client's entry is in step at most with the next number
-refused_number : (client : ℕ) (log : Log) (world : World) (number : ℕ) (message : Message) → InStep client log world → IsRefusal client number message → IsIn message world.packets → number ≤ log.acked + 1
-refused_number client log world number (Stale of refused path theirs ours) now is among = omega (arith, is.1, (now.fitting (Stale of refused path theirs ours) among is.0).0.at_most_next)
-refused_number client log world number (Unfit of refused index fault) now is among = omega (arith, is.1, (now.fitting (Unfit of refused index fault) among is.0).0.at_most_next)
-refused_number client log world number (Full of refused index fault) now is among = omega (arith, is.1, (now.fitting (Full of refused index fault) among is.0).0.at_most_next)
-refused_number client log world number _ now is among = absurd is
-
-at_most : (n : ℕ) (number : ℕ) → number ≤ n + 1 → (number ≡ n + 1 → ⊥) → number ≤ n
-at_most n number near other = by (nat_le number n) refl
-  where
-    by : (b : Bool) → nat_le number n ≡ b → number ≤ n
-    by true e = grind (arith, nat_tests)
-    by false e =
-        let above : n < number = grind (arith, nat_tests) in
-        absurd (other (omega (arith, near, above)))
-
--- where the served tree is the client's, none refuses the next one
+-- where the served tree is the client's, none refuses an entry that is not acknowledged
 refused_before : (client : ℕ) (log : Log) (world : World) → InStep client log world → world.served.volume ≡ tree_at (world.served.last client) log
     → (number : ℕ) (message : Message) → IsRefusal client number message → IsIn message world.packets → number ≤ log.acked
-refused_before client log world now same number message is among =
-    at_most log.acked number (refused_number client log world number message now is among)
-    (λ next. never_ahead world.served.volume (tree_at (world.served.last client) log) same
-    (refused_ahead client log world message now (subst (λ (n : ℕ). IsRefusal client n message) next is) among))
-
--- ---- the server refuses no store whose number it has taken
-
-refuses_later : (client number of stored last : ℕ) (beyond : Bool) (conflict : Option Conflict) (applied : Result Volume (ℕ × TreeError)) (known : Bool) → nat_le stored last ≡ known
-    → IsRefusal client number (reply of stored last (judged known beyond conflict applied)) → (of ≡ client) × (number ≡ stored) × (last < stored)
-refuses_later client number of stored last beyond conflict applied true e is = absurd is
-refuses_later client number of stored last true conflict applied false e is = absurd is
-refuses_later client number of stored last false (Some conflict) applied false e is = (is.0, sym is.1, grind (arith, nat_tests))
-refuses_later client number of stored last false None (Ok volume) false e is = absurd is
-refuses_later client number of stored last false None (Err cause) false e is = by (is_want_of_room cause.1) is
+refused_before client log world now same number message is among = by (nat_le number log.acked) refl
   where
-    by : (full : Bool) → IsRefusal client number (if full then Full of stored cause.0 cause.1 else Unfit of stored cause.0 cause.1) → (of ≡ client) × (number ≡ stored) × (last < stored)
-    by true is = (is.0, sym is.1, grind (arith, nat_tests))
-    by false is = (is.0, sym is.1, grind (arith, nat_tests))
+    by : (b : Bool) → nat_le number log.acked ≡ b → number ≤ log.acked
+    by true e = le_of number log.acked e
+    by false e =
+        absurd (never_ahead world.served.volume (tree_at (world.served.last client) log) same
+        (refused_ahead client log world number message now (not_le_of number log.acked e) is among))
+
+-- ---- a refusal that the server gives is of the entry behind those that it has taken
+
+refuses_next : (client number of stored end last : ℕ) (judgement : Verdict) → IsRefusal client number (reply of stored end last judgement) → (of ≡ client) × (last + 1 ≡ number)
+refuses_next client number of stored end last Repeated is = absurd is
+refuses_next client number of stored end last Early is = absurd is
+refuses_next client number of stored end last (Outdated conflict) is = is
+refuses_next client number of stored end last (Taken volume) is = absurd is
+refuses_next client number of stored end last (Refused cause) is = by (is_want_of_room cause.1) is
+  where
+    by : (full : Bool) → IsRefusal client number (if full then Full of stored last cause.0 cause.1 else Unfit of stored last cause.0 cause.1) → (of ≡ client) × (last + 1 ≡ number)
+    by true is = is
+    by false is = is
 
 -- ---- no refusal joins
 
@@ -102,11 +86,12 @@ module _ (client : ℕ) (log : Log) (world : World) (now : InStep client log wor
       answered : (m : Message) → IsForServer m → IsIn m world.packets → InStep client log (happens (Deliver m true) world)
           → (happens (Deliver m true) world).served.volume ≡ tree_at ((happens (Deliver m true) world).served.last client) log
           → IsRefusal client number (answer m world.served) → IsIn (answer m world.served) (happens (Deliver m true) world).packets → ⊥
-      answered (Store of stored effects base) for sent next same is among =
-          let told = refuses_later client number of stored (world.served.last of) _ _ _ _ refl is in
-          let last_is : world.served.last of ≡ world.served.last client = ap world.served.last told.0 in
-          let before = refused_before client log (happens (Deliver (Store of stored effects base) true) world) next same number (answer (Store of stored effects base) world.served) is among in
-          absurd (omega (arith, told.1, told.2, last_is, now.not_lower, before))
+      answered (Store of stored parts) for sent next same is among =
+          let after : Served = served_through of stored parts world.served in
+          let told = refuses_next client number of stored (end_of stored parts) (after.last of) (verdict_through of stored parts world.served) is in
+          let last_is : after.last of ≡ after.last client = ap after.last told.0 in
+          let before = refused_before client log (happens (Deliver (Store of stored parts) true) world) next same number (answer (Store of stored parts) world.served) is among in
+          absurd (omega (arith, told.1, last_is, next.not_lower, before))
       answered (Pull of known) for sent next same is among = is
       answered _ for sent next same is among = for
 
@@ -128,7 +113,7 @@ module _ (client : ℕ) (ships : Bool) where
       step_back client state.log state.world now ships step (allowed_log client ships state step may) (move_keeps client ships state (Network step) now may none) same number message is among
   move_back (Notes ask) state now may none same number message is among = among
   move_back (Logs entry) state now may none same number message is among = among
-  move_back (Acknowledges reply) state now may none same number message is among = among
+  move_back (Acknowledges upto reply) state now may none same number message is among = among
   move_back (Pulls last seen) state now may none same number message is among = among
   move_back Saves state now may none same number message is among = among
 

@@ -16,7 +16,7 @@ use Rattle.world_rules.specs.World.{World, Moved, IsFresh}
 
 -- a store and a pull are requests to the server, an operation is one to the surrogate
 abbrev pub IsRequest : Peer → Message → Type 0
-IsRequest Server (Store client number effects base) = Unit {0}
+IsRequest Server (Store client number parts) = Unit {0}
 IsRequest Server (Pull client number) = Unit {0}
 IsRequest Server _ = ⊥
 IsRequest Surrogate (Operate client sketched) = Unit {0}

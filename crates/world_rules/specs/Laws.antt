@@ -1,5 +1,5 @@
 -- What holds of every run of a client in its world.
-use Rattle.std.specs.Prelude.{◌≡◌, ◌≢◌, ℕ, ◌+◌, ◌-◌, ◌<◌, ◌≤◌, Bool, false, List, [], ◌++◌, drop}
+use Rattle.std.specs.Prelude.{◌≡◌, ◌≢◌, ℕ, ◌+◌, ◌-◌, ◌<◌, ◌≤◌, Bool, false, List, [], ◌∷◌, ◌++◌, drop}
 use Rattle.file_paths.specs.Path.{FilePath}
 use Rattle.tree_values.specs.Tree.{Volume, version_at}
 use Rattle.tree_values.specs.Lists.{IsIn}
@@ -10,13 +10,14 @@ use Rattle.mod_log.specs.Log.{Log, tree_at, IsLog, new_log}
 use Rattle.mod_log.specs.Sketched.{IsSketchOf}
 use Rattle.wire_frames.specs.declared.message.Message.{Message}
 use Rattle.wire_frames.specs.declared.message.Message.TheVariants.{Store, Operate, Pull, Accepted, Stale, Gap, Snapshot, Done}
+use Rattle.wire_frames.specs.Parts.{part_of}
 use Rattle.wire_frames.specs.Frame.{client_of, IsValid}
 use Rattle.world_rules.specs.declared.asking.Ask.{Ask}
 use Rattle.world_rules.specs.Served.{IsServed}
 use Rattle.world_rules.specs.World.{World, Step, Relay, happens, happen, IsReplayed, IsAllowed, IsFree, GoesOnAlone, MovedAlone, Moved}
 use Rattle.world_rules.specs.World.{IsFresh}
 use Rattle.world_rules.specs.Asking.{AnswersStand}
-use Rattle.world_rules.specs.InStep.{InStep, MaySend, IsRefusal, HasNoCollision, HasNoOperation}
+use Rattle.world_rules.specs.InStep.{InStep, MaySend, IsRefusal, HasNoCollision, HasNoOperation, parts_of, IsStorable}
 use Rattle.world_rules.specs.Run.{State, kept_at, restarted, AreInStep, Runs, taken_in, own, entries_between, AreAllOf, OthersSpare}
 use Rattle.world_rules.specs.Run.{IsSameAt}
 
@@ -65,10 +66,20 @@ AsksArePossible = (client : ℕ) (ships : Bool) (log : Log) (request : Message) 
     → MaySend client ships log request → Moved request made old new → AnswersStand new made
     → Runs client ships [] made (kept_at log old) (kept_at log new)
 
--- The store of each pending entry is a valid message.
+-- The store of a front of what is pending may be sent, where one store can carry that.
+abbrev pub PendingFrontsMayBeSent : Type 0
+PendingFrontsMayBeSent = (client : ℕ) (ships : Bool) (log : Log) (front left : List Entry) → IsLog log → log.pending ≡ front ++ left
+    → IsStorable front → MaySend client ships log (Store client (log.acked + 1) (parts_of front))
+
+-- What the client may send is valid.
+abbrev pub SendingsAreValid : Type 0
+SendingsAreValid = (client : ℕ) (ships : Bool) (log : Log) (message : Message) → 1 ≤ client → client ≤ 64 → IsLog log
+    → MaySend client ships log message → IsValid message
+
+-- The store of each pending entry alone is a valid message.
 abbrev pub PendingStoresAreValid : Type 0
 PendingStoresAreValid = (client : ℕ) → 1 ≤ client → client ≤ 64 → (log : Log) (entry : Entry) → IsLog log → IsIn entry log.pending
-    → IsValid (Store client entry.seq entry.effects entry.base)
+    → IsValid (Store client entry.seq (part_of entry.effects entry.base ∷ []))
 
 -- And so is the operation of each that a command made.
 abbrev pub PendingOperationsAreValid : Type 0
@@ -128,7 +139,7 @@ LoneClientsEntriesAreTaken = (client : ℕ) (ships : Bool) (entries : List Entry
 
 -- ---- what the client wrote
 
--- A path whose version was the client's, and that no other client's taken store touches, has at the end what the client's
+-- A path whose version was the client's, and that no other client's taken entry touches, has at the end what the client's
 -- tree had after the entries that were taken.
 abbrev pub SparedPathsAreTheClients : Type 0
 SparedPathsAreTheClients = (client : ℕ) (ships : Bool) (entries : List Entry) (made : List Ask) (old new : State) (path : FilePath)
@@ -231,8 +242,8 @@ RunsAnswersStand = (client : ℕ) (ships : Bool) (entries : List Entry) (made : 
 
 -- What was accepted was taken.
 abbrev pub AcceptedEntriesWereTaken : Type 0
-AcceptedEntriesWereTaken = (client : ℕ) (log : Log) (world : World) (number : ℕ) → InStep client log world
-    → IsIn (Accepted client number) world.packets → number ≤ world.served.last client
+AcceptedEntriesWereTaken = (client : ℕ) (log : Log) (world : World) (number upto : ℕ) → InStep client log world
+    → IsIn (Accepted client number upto) world.packets → upto ≤ world.served.last client
 
 -- And so was what is done.
 abbrev pub DoneEntriesWereTaken : Type 0
@@ -244,17 +255,18 @@ abbrev pub NoGapComes : Type 0
 NoGapComes =
     (client : ℕ) (log : Log) (world : World) (number last : ℕ) → InStep client log world → IsIn (Gap client number last) world.packets → ⊥
 
--- Where the first pending entry is stale, the path that the reply names has a newer version at the server than in the
+-- Where an entry that is not acknowledged is stale, the path that the reply names has a newer version at the server than in the
 -- client's tree after the last taken entry.
 abbrev pub StaleNamesAPathAhead : Type 0
-StaleNamesAPathAhead = (client : ℕ) (log : Log) (world : World) (path : FilePath) (theirs ours : ℕ) → InStep client log world
-    → IsIn (Stale client (log.acked + 1) path theirs ours) world.packets
+StaleNamesAPathAhead =
+    (client : ℕ) (log : Log) (world : World) (number upto : ℕ) (path : FilePath) (theirs ours : ℕ) → InStep client log world
+    → log.acked ≤ upto → IsIn (Stale client number upto path theirs ours) world.packets
     → version_at (tree_at (world.served.last client) log) path < version_at world.served.volume path
 
--- Where the first pending entry is refused, some path has.
+-- Where an entry that is not acknowledged is refused, some path has.
 abbrev pub RefusalsShowAPathAhead : Type 0
-RefusalsShowAPathAhead = (client : ℕ) (log : Log) (world : World) (reply : Message) → InStep client log world
-    → IsRefusal client (log.acked + 1) reply → IsIn reply world.packets
+RefusalsShowAPathAhead = (client : ℕ) (log : Log) (world : World) (number : ℕ) (reply : Message) → InStep client log world
+    → log.acked < number → IsRefusal client number reply → IsIn reply world.packets
     → IsAhead world.served.volume (tree_at (world.served.last client) log)
 
 -- Where nothing is pending, a snapshot that echoes the client's pull has the acknowledged number as its last.

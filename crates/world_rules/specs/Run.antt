@@ -12,7 +12,7 @@ use Rattle.world_rules.specs.Served.{Served, TakenEntry, entry_stored, taken_of}
 use Rattle.world_rules.specs.World.{World, Step, Deliver, happens, noted, IsAllowed}
 use Rattle.world_rules.specs.declared.asking.Ask.{Ask}
 use Rattle.world_rules.specs.Asking.{AnswerStands}
-use Rattle.world_rules.specs.InStep.{InStep, MaySend, IsAcceptance}
+use Rattle.world_rules.specs.InStep.{InStep, MaySend, TellsTaken}
 
 -- the client's log in memory, the log that is kept of it outside memory, and the world
 pub record State : Type 0 where
@@ -36,8 +36,8 @@ pub data Move : Type 0 where
   Notes : Ask → Move
   -- the client logs an entry
   Logs : Entry → Move
-  -- the client acknowledges its first pending entry on this reply
-  Acknowledges : Message → Move
+  -- the client acknowledges its pending entries up to this number on this reply
+  Acknowledges : ℕ → Message → Move
   -- the client takes these rows of a snapshot as its base
   Pulls : ℕ → Volume → Move
   -- The client's log is kept from here on. A keeping that is refused is this move, too, where it leaves what was to be kept,
@@ -49,7 +49,7 @@ abbrev pub moved : Move → State → State
 moved (Network step) state = record { log = state.log; kept = state.kept; world = happens step state.world }
 moved (Notes ask) state = record { log = state.log; kept = state.kept; world = noted (ask ∷ []) state.world }
 moved (Logs entry) state = record { log = logged entry state.log; kept = state.kept; world = state.world }
-moved (Acknowledges reply) state = record { log = acknowledged (state.log.acked + 1) state.log; kept = state.kept; world = state.world }
+moved (Acknowledges upto reply) state = record { log = acknowledged upto state.log; kept = state.kept; world = state.world }
 moved (Pulls last seen) state = record { log = pulled seen state.log; kept = state.kept; world = state.world }
 moved Saves state = kept_at state.log state.world
 
@@ -57,15 +57,15 @@ moved Saves state = kept_at state.log state.world
 abbrev pub MaySendKept : ℕ → Bool → State → Message → Type 0
 MaySendKept client ships state message = MaySend client ships state.log message × (state.kept ≡ state.log)
 
--- The client sends what its kept log may send, logs an entry with which it has a log, acknowledges on a reply that was sent and accepts
--- its first pending entry, and pulls a snapshot that was sent, has its acknowledged number as the last and is at no path older than
+-- The client sends what its kept log may send, logs an entry with which it has a log, acknowledges on a reply that was sent and tells
+-- what was taken, and pulls a snapshot that was sent, has its acknowledged number as the last and is at no path older than
 -- its base. What was asked was sent, and what was answered stands. It may be kept at any time.
 abbrev pub IsPossible : ℕ → Bool → State → Move → Type 0
 IsPossible client ships state (Network step) = IsAllowed (MaySendKept client ships state) state.world step
 IsPossible client ships state (Notes ask) = IsIn ask.request state.world.packets × AnswerStands state.world ask
 IsPossible client ships state (Logs entry) = IsLog (logged entry state.log)
-IsPossible client ships state (Acknowledges reply) =
-    (state.log.pending ≢ []) × IsAcceptance client (state.log.acked + 1) reply × IsIn reply state.world.packets
+IsPossible client ships state (Acknowledges upto reply) =
+    (state.log.acked ≤ upto) × TellsTaken client upto reply × IsIn reply state.world.packets
 IsPossible client ships state (Pulls last seen) =
     (state.log.pending ≡ []) × (last ≡ state.log.acked) × IsIn (Snapshot client state.log.acked last seen) state.world.packets
     × ((path : FilePath) → version_at state.log.base path ≤ version_at seen path)
@@ -101,12 +101,12 @@ abbrev pub asks_in : List Move → List Ask
 asks_in [] = []
 asks_in (move ∷ moves) = ask_in move ++ asks_in moves
 
--- the entry that the server takes in a step
+-- the entries that the server takes in a step
 abbrev pub taken_by : Step → Served → List TakenEntry
 taken_by (Deliver message joins) served = taken_of message served
 taken_by _ served = []
 
--- the entry that the server takes in a move
+-- the entries that the server takes in a move
 abbrev pub taken_in_move : Move → State → List TakenEntry
 taken_in_move (Network step) state = taken_by step state.world.served
 taken_in_move _ state = []

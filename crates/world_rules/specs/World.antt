@@ -1,7 +1,10 @@
 -- The world about one client: what the server holds, every message that was ever sent, and what the client asked.
 -- A message that is lost is one that is never delivered, or whose answer does not join the packets.
 use Rattle.std.specs.Prelude.{◌≡◌, ◌≢◌, ◌⊎◌, ℕ, ◌+◌, ◌-◌, ◌≤◌, Bool, List, [], ◌∷◌, ◌++◌, length, if◌then◌else◌}
+use Rattle.tree_values.specs.declared.node.Effect.{Effect}
 use Rattle.tree_values.specs.Lists.{IsIn}
+use Rattle.wire_frames.specs.declared.parts.Part.{Part}
+use Rattle.wire_frames.specs.Parts.{part_of}
 use Rattle.wire_frames.specs.declared.message.Message.{Message}
 use Rattle.wire_frames.specs.declared.message.Message.TheVariants.{Store, Operate, Pull, Accepted, Done, Declined}
 use Rattle.wire_frames.specs.Frame.{client_of, IsValid}
@@ -86,7 +89,7 @@ happen (step ∷ steps) world = happen steps (happens step world)
 
 -- only stores and pulls go to the server
 abbrev pub IsForServer : Message → Type 0
-IsForServer (Store client number effects base) = Unit {0}
+IsForServer (Store client number parts) = Unit {0}
 IsForServer (Pull client number) = Unit {0}
 IsForServer _ = ⊥
 
@@ -94,16 +97,23 @@ IsForServer _ = ⊥
 abbrev pub IsOperated : ℕ → List Message → (SketchEntry → Type 0) → Type 0
 IsOperated client packets Holds = (sketched : SketchEntry) × IsIn (Operate client sketched) packets × Holds sketched
 
--- What an operation of the client lets a surrogate send: its store, with contents of the sketches' lengths and prints, the pull before it,
--- that it is declined, and, once its store was accepted, that it is done.
+-- a store of the client with this number was accepted
+abbrev pub IsAcceptedIn : ℕ → ℕ → List Message → Type 0
+IsAcceptedIn client number packets = (upto : ℕ) × IsIn (Accepted client number upto) packets
+
+-- these parts are one, with the base of an operation and with contents of its sketches' lengths and prints
+abbrev pub AreFilled : SketchEntry → List Part → Type 0
+AreFilled sketched parts = (effects : List Effect) × (parts ≡ part_of effects sketched.base ∷ []) × AllFill sketched.effects effects
+
+-- What an operation of the client lets a surrogate send: its store of one entry, with contents of the sketches' lengths and prints, the
+-- pull before it, that it is declined, and, once its store was accepted, that it is done.
 abbrev pub IsLicensed : ℕ → List Message → Message → Type 0
-IsLicensed client packets (Store of number effects base) =
-    (of ≡ client) × IsOperated client packets
-    (λ sketched. (number ≡ sketched.seq) × (base ≡ sketched.base) × AllFill sketched.effects effects)
+IsLicensed client packets (Store of number parts) =
+    (of ≡ client) × IsOperated client packets (λ sketched. (number ≡ sketched.seq) × AreFilled sketched parts)
 IsLicensed client packets (Pull of number) = (of ≡ client) × IsOperated client packets (λ sketched. number ≡ sketched.seq - 1)
 IsLicensed client packets (Declined of number cause) = (of ≡ client) × IsOperated client packets (λ sketched. number ≡ sketched.seq)
 IsLicensed client packets (Done of number) =
-    (of ≡ client) × IsOperated client packets (λ sketched. number ≡ sketched.seq) × IsIn (Accepted client number) packets
+    (of ≡ client) × IsOperated client packets (λ sketched. number ≡ sketched.seq) × IsAcceptedIn client number packets
 IsLicensed client packets _ = ⊥
 
 -- a valid message that a surrogate may send for the world's client, or one of another client

@@ -2,6 +2,7 @@
 ghost use Rattle.world_rules.specs.Laws.{RunsStayInStep, RelaysKeepInStep, RestartsStayInStep};
 ghost use Rattle.world_rules.specs.Laws.{OperationsNeedASurrogate, ClientsWithoutOperationsNeverCollide};
 ghost use Rattle.world_rules.specs.Laws.{NewClientsAreInStep, AsksArePossible, PendingStoresAreValid};
+ghost use Rattle.world_rules.specs.Laws.{PendingFrontsMayBeSent, SendingsAreValid};
 ghost use Rattle.world_rules.specs.Laws.{PendingOperationsAreValid, RunsNeedNoSurrogate, RunsJoin, RestartsEndRuns};
 ghost use Rattle.world_rules.specs.Laws.{SilentClientsRun, EntriesAreTakenOnce, LaterEntriesArePending};
 ghost use Rattle.world_rules.specs.Laws.{LoneClientsEntriesAreTaken, SparedPathsAreTheClients, SparedPathsAreKept};
@@ -14,8 +15,8 @@ ghost use Rattle.world_rules.specs.Laws.{StaleNamesAPathAhead, RefusalsShowAPath
 ghost use Rattle.world_rules.specs.Laws.{FreshPullsAreNotOlder};
 
 /// Every run from a log in step ends in step, with what is kept of the log, and so does a new beginning with that, and what a
-/// surrogate sends. A client without a surrogate sends no operation. A new client begins in step, asking is a run, and each pending
-/// entry can be sent as a store, and as an operation where a command made it.
+/// surrogate sends. A client without a surrogate sends no operation. A new client begins in step, asking is a run. The first
+/// pending entries can be sent as one store, each pending entry as a store of its own, and as an operation where a command made it.
 pub fn runs_stay_in_step()
     ensures runs { RunsStayInStep }
     ensures relays { RelaysKeepInStep }
@@ -24,6 +25,8 @@ pub fn runs_stay_in_step()
     ensures restarts { RestartsStayInStep }
     ensures beginning { NewClientsAreInStep }
     ensures asking { AsksArePossible }
+    ensures fronts { PendingFrontsMayBeSent }
+    ensures valid { SendingsAreValid }
     ensures stores { PendingStoresAreValid }
     ensures shipping { PendingOperationsAreValid }
 {}

@@ -1,7 +1,7 @@
 use Rattle.world_rules.proofs.Runs.{both_in_step, restarts, new_in_step, moved_runs}
 use Rattle.world_rules.proofs.Events.{relayed_in_step}
 use Rattle.world_rules.proofs.Operations.{operated_before, never_collides}
-use Rattle.world_rules.proofs.Sending.{pending_valid, operation_valid}
+use Rattle.world_rules.proofs.Sending.{pending_valid, operation_valid, sent_valid, fronts_may}
 use Rattle.world_rules.proofs.laws.runs_stay_in_step.Goals as goal
 
 pub returns-clause-runs : goal.returns-clause-runs
@@ -24,6 +24,12 @@ returns-clause-beginning c = new_in_step
 
 pub returns-clause-asking : goal.returns-clause-asking
 returns-clause-asking c = moved_runs
+
+pub returns-clause-fronts : goal.returns-clause-fronts
+returns-clause-fronts c = fronts_may
+
+pub returns-clause-valid : goal.returns-clause-valid
+returns-clause-valid c = sent_valid
 
 pub returns-clause-stores : goal.returns-clause-stores
 returns-clause-stores c = pending_valid
