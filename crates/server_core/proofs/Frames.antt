@@ -1,6 +1,6 @@
 -- Replies in frames.
-use Rattle.std.proofs.Common.{◌≡◌, ◌∙◌, ◌⊎◌, inl, inr, ℕ, List, [], ◌∷◌, ◌++◌, length, map, Option, Result, Ok, Err, ap, refl, sym, subst, arith}
-use Rattle.std.specs.Prelude.{option_to_list, if◌then◌else◌}
+use Rattle.std.proofs.Common.{◌≡◌, ◌∙◌, ℕ, List, [], ◌∷◌, ◌++◌, Option, Result, Ok, Err, ap, refl, sym, arith}
+use Rattle.std.specs.Prelude.{option_to_list}
 use Rattle.std.proofs.lemmas.List.{append-nil, append_assoc}
 use Rattle.wire_frames.specs.Frame.{IsValid, frame}
 use Rattle.wire_frames.proofs.Frames.{frame_found, frame_again}
@@ -15,16 +15,15 @@ use Rattle.std.specs.List.{cons_option}
 use Rattle.std.specs.Result.{result_ok}
 use Rattle.server_core.specs.Framing.{answer_to, state_with, is_any, takes_read, frames_after, messages_of}
 use Rattle.store_image.specs.declared.record.ServerRecord.{ServerRecord}
-use Rattle.server_core.specs.Keeping.{record_of_taken, records_taken}
-use Rattle.server_core.specs.Laws.{state_after_all, taken_among, FramesAreAnswered, OtherBytesAreMalformed, FramesActAsTheirMessages, OneEntryIsTaken}
-use Rattle.server_core.proofs.Many.{IsIdle, IsTaken, idle_or_taken}
+use Rattle.server_core.specs.Keeping.{record_of_all, records_taken}
+use Rattle.server_core.specs.Laws.{state_after_all, taken_among, FramesAreAnswered, OtherBytesAreMalformed, FramesActAsTheirMessages, EntriesTellWhatChanges}
 
 not_for_server : (s : Served) → IsValid (Malformed 7 0)
 not_for_server s = record { client_fits = refl; number_fits = refl; number_small = omega arith; body_fits = (omega arith, refl, omega arith, refl) }
 
 -- the answer to a valid message is valid
 pub answer-is-valid : (m : Message) (s : Served) → IsValid m → IsServed s → IsValid (answer m s)
-answer-is-valid (Store client number effects base) s valid served = answer-valid (Store client number effects base) s valid served tt
+answer-is-valid (Store client number parts) s valid served = answer-valid (Store client number parts) s valid served tt
 answer-is-valid (Pull client number) s valid served = answer-valid (Pull client number) s valid served tt
 answer-is-valid _ s valid served = not_for_server s
 
@@ -54,19 +53,11 @@ frames_act (bytes ∷ frames) s = by (frame_of bytes) (frames_act frames)
 
 -- ---- what is taken of frames
 
--- one entry, where there is any
-abbrev IsOne : List TakenEntry → Type 0
-IsOne es = length es ≡ (if is_any es then 1 else 0)
-
-one_of : (message : Message) (s : Served) → IsIdle message s ⊎ IsTaken message s → IsOne (taken_of message s)
-one_of message s (inl idle) = subst IsOne (sym idle.nothing) refl
-one_of message s (inr taken) = subst IsOne (sym taken.taken) refl
-
-pub one_entry_is_taken : OneEntryIsTaken
-one_entry_is_taken bytes s = by (frame_of bytes)
+pub entries_tell : EntriesTellWhatChanges
+entries_tell bytes s = by (frame_of bytes)
   where
-    by : (read : Result Message FrameError) → length (taken_among (cons_option (result_ok read) []) s) ≡ (if takes_read read s then 1 else 0)
-    by (Ok message) = ap length (append-nil (taken_of message s)) ∙ one_of message s (idle_or_taken message s)
+    by : (read : Result Message FrameError) → is_any (taken_among (cons_option (result_ok read) []) s) ≡ takes_read read s
+    by (Ok message) = ap is_any (append-nil (taken_of message s))
     by (Err refusal) = refl
 
 pub taken_among-append : (xs ys : List (List ℕ)) (s : Served) → taken_among (messages_of (xs ++ ys)) s ≡ taken_among (messages_of xs) s ++ taken_among (messages_of ys) (frames_after xs s)
@@ -82,10 +73,13 @@ taken_among-append (bytes ∷ frames) ys s = by (frame_of bytes) (taken_among-ap
     by (Err refusal) rest = rest s
 
 -- the record of one frame that spells a message
-pub record-one : (message : Message) (bytes : List ℕ) (s : Served) (note : Option ServerRecord) → frame_of bytes ≡ Ok message → option_to_list note ≡ map record_of_taken (taken_of message s) → option_to_list note ≡ records_taken (bytes ∷ []) s
-record-one message bytes s note is noted =
-    noted ∙ ap (map record_of_taken) (sym (append-nil (taken_of message s))) ∙ ap (λ (read : Result Message FrameError). map record_of_taken (taken_among (cons_option (result_ok read) []) s)) (sym is)
+pub record-one : (message : Message) (bytes : List ℕ) (s : Served) (note : Option ServerRecord) → frame_of bytes ≡ Ok message → note ≡ record_of_all (taken_of message s) → option_to_list note ≡ records_taken (bytes ∷ []) s
+record-one message bytes s told is noted =
+    ap option_to_list noted
+    ∙ ap (λ (es : List TakenEntry). option_to_list (record_of_all es)) (sym (append-nil (taken_of message s)))
+    ∙ ap (λ (read : Result Message FrameError). option_to_list (record_of_all (taken_among (cons_option (result_ok read) []) s))) (sym is)
+    ∙ sym (append-nil _)
 
 -- there is none of one that is refused
 pub record-none : (refusal : FrameError) (bytes : List ℕ) (s : Served) → frame_of bytes ≡ Err refusal → [] ≡ records_taken (bytes ∷ []) s
-record-none refusal bytes s is = ap (λ (read : Result Message FrameError). map record_of_taken (taken_among (cons_option (result_ok read) []) s)) (sym is)
+record-none refusal bytes s is = ap (λ (read : Result Message FrameError). option_to_list (record_of_all (taken_among (cons_option (result_ok read) []) s)) ++ []) (sym is)

@@ -1,6 +1,11 @@
 pub mod Numbers
 pub mod Cases
+pub mod Through
 pub mod Many
 pub mod Frames
 pub mod Noting
+pub mod Merging
 pub mod Records
+pub mod Underway
+pub mod Looking
+pub mod Going

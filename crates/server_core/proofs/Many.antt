@@ -1,9 +1,11 @@
 -- Stores that come in any order and any number of times.
-use Rattle.std.proofs.Common.{◌≡◌, ◌⊎◌, inl, inr, ℕ, ◌+◌, Bool, true, false, cond, List, [], ◌∷◌, ◌++◌, length, map, Option, Some, None, Result, Ok, Err, refl, sym, ap, ◌∙◌, subst, arith, eqb-true}
-use Rattle.std.specs.Prelude.{◌==◌, nat_lt, nat_le, count_by, if◌then◌else◌}
+use Rattle.std.proofs.Common.{◌≡◌, ℕ, ◌+◌, ◌<◌, ◌≤◌, Bool, true, false, cond, List, [], ◌∷◌, ◌++◌, length, get_or, drop, map, Option, None, Ok, refl, sym, ap, ◌∙◌, subst, arith, eqb-true, append-nil, length-append}
+use Rattle.std.specs.Prelude.{◌==◌, count_by, if◌then◌else◌}
 use Rattle.std.specs.List.{flat_map, range_with_len, sum_by}
 use Rattle.std.proofs.lemmas.Bool.Decides.{nat_tests}
+use Rattle.std.proofs.lemmas.List.Elements.{filter-append}
 use Rattle.byte_fields.proofs.Facts.{eq_itself}
+use Rattle.std.proofs.lemmas.List.{map-append}
 use Rattle.std.proofs.lemmas.Grind.{flat_map-append}
 use Rattle.std.proofs.lemmas.List.Concat.{flat_map-cons}
 use Rattle.std.proofs.lemmas.List.Sums.{sum_by-append}
@@ -12,75 +14,14 @@ use Rattle.tree_values.specs.declared.node.Base.{Base}
 use Rattle.tree_values.specs.declared.node.Effect.{Effect}
 use Rattle.tree_values.specs.declared.node.Effect.TheVariants.{Make, Put, Remove, Move, Mode}
 use Rattle.tree_values.specs.declared.node.Node.{Node}
-use Rattle.tree_values.specs.declared.node.TreeError.{TreeError}
 use Rattle.tree_values.specs.Tree.{Volume, version_at, node_at, touched, touched_paths, changed}
-use Rattle.tree_values.specs.Effects.{apply_all, changed_all, touched_all, Conflict, first_conflict}
+use Rattle.tree_values.specs.Effects.{apply_all, changed_all, touched_all}
 use Rattle.vol_tree.proofs.Behind.{version-touched, applied-changes}
-use Rattle.wire_frames.specs.declared.message.Message.{Message}
-use Rattle.wire_frames.specs.declared.message.Message.TheVariants.{Store}
-use Rattle.world_rules.specs.Served.{Served, TakenEntry, entry_stored, judged, served_after, state_after, taken_if, taken_of, replay, with_last}
+use Rattle.world_rules.specs.Served.{Served, TakenEntry, entry_stored, state_after, taken_of, replay, with_last}
 use Rattle.world_rules.specs.Run.{own}
 use Rattle.world_rules.proofs.Replay.{replay-append, replay-taken}
-use Rattle.server_core.specs.Laws.{state_after_all, taken_among, numbers_of, touches, TakenEntriesTellTheState}
-
--- ---- what becomes of one message
-
--- it changes nothing
-pub record IsIdle (message : Message) (s : Served) : Type 0 where
-  pub nothing : taken_of message s ≡ []
-  pub same : state_after message s ≡ s
-
--- it is the client's next store, and its effects are applied
-pub record IsTaken (message : Message) (s : Served) : Type 0 where
-  pub client : ℕ
-  pub number : ℕ
-  pub effects : List Effect
-  pub base : List Base
-  pub new : Volume
-  pub is : message ≡ Store client number effects base
-  pub next : number ≡ s.last client + 1
-  pub applies : apply_all 0 effects s.volume ≡ Ok new
-  pub taken : taken_of message s ≡ entry_stored client number effects base ∷ []
-  pub holds : state_after message s ≡ record { volume = new; last = with_last s.last client number }
-
-next_number : (n last : ℕ) → nat_le n last ≡ false → nat_lt (last + 1) n ≡ false → n ≡ last + 1
-next_number n last above within = grind (arith, nat_tests)
-
-pub idle_or_taken : (message : Message) (s : Served) → IsIdle message s ⊎ IsTaken message s
-idle_or_taken (Store client number effects base) s =
-    by (nat_le number (s.last client)) refl (nat_lt (s.last client + 1) number) refl (first_conflict base s.volume) refl (apply_all 0 effects s.volume) refl
-  where
-    by : (r : Bool) → nat_le number (s.last client) ≡ r → (b : Bool) → nat_lt (s.last client + 1) number ≡ b → (c : Option Conflict) → first_conflict base s.volume ≡ c
-        → (a : Result Volume (ℕ × TreeError)) → apply_all 0 effects s.volume ≡ a → IsIdle (Store client number effects base) s ⊎ IsTaken (Store client number effects base) s
-    by true is_r b is_b c is_c a is_a = inl (record {
-      nothing = λ i. taken_if (judged (is_r i) (is_b i) (is_c i) (is_a i)) (entry_stored client number effects base);
-      same = λ i. served_after client number (judged (is_r i) (is_b i) (is_c i) (is_a i)) s;
-    })
-    by false is_r true is_b c is_c a is_a = inl (record {
-      nothing = λ i. taken_if (judged (is_r i) (is_b i) (is_c i) (is_a i)) (entry_stored client number effects base);
-      same = λ i. served_after client number (judged (is_r i) (is_b i) (is_c i) (is_a i)) s;
-    })
-    by false is_r false is_b (Some c) is_c a is_a = inl (record {
-      nothing = λ i. taken_if (judged (is_r i) (is_b i) (is_c i) (is_a i)) (entry_stored client number effects base);
-      same = λ i. served_after client number (judged (is_r i) (is_b i) (is_c i) (is_a i)) s;
-    })
-    by false is_r false is_b None is_c (Err cause) is_a = inl (record {
-      nothing = λ i. taken_if (judged (is_r i) (is_b i) (is_c i) (is_a i)) (entry_stored client number effects base);
-      same = λ i. served_after client number (judged (is_r i) (is_b i) (is_c i) (is_a i)) s;
-    })
-    by false is_r false is_b None is_c (Ok volume) is_a = inr (record {
-      client = client;
-      number = number;
-      effects = effects;
-      base = base;
-      new = volume;
-      is = refl;
-      next = next_number _ _ is_r is_b;
-      applies = is_a;
-      taken = λ i. taken_if (judged (is_r i) (is_b i) (is_c i) (is_a i)) (entry_stored client number effects base);
-      holds = λ i. served_after client number (judged (is_r i) (is_b i) (is_c i) (is_a i)) s;
-    })
-idle_or_taken _ s = inl (record { nothing = refl; same = refl })
+use Rattle.server_core.specs.Laws.{taken_among, numbers_of, touches, StoresAreTakenInOrder, VersionsCountTouches, TakenEntriesTellTheState}
+use Rattle.server_core.proofs.Through.{raised_to, Rule, of_messages}
 
 -- ---- numbers
 
@@ -97,55 +38,52 @@ others_keep last client number other e = ap (λ b. if b then number else last ot
 abbrev GoOn : ℕ → ℕ → List ℕ → Type 0
 GoOn first last numbers = (numbers ≡ range_with_len (first + 1) (length numbers)) × (last ≡ first + length numbers)
 
-go_on : (first last : ℕ) (numbers : List ℕ) → GoOn (first + 1) last numbers → GoOn first last ((first + 1) ∷ numbers)
-go_on first last numbers rest = (ap (λ ns. (first + 1) ∷ ns) rest.0, omega (arith, rest.1))
+range_both : (start : ℕ) (xs ys : List ℕ) → xs ≡ range_with_len start (length xs) → ys ≡ range_with_len (start + length xs) (length ys) → xs ++ ys ≡ range_with_len start (length (xs ++ ys))
+range_both start [] ys is are = are ∙ ap (λ n. range_with_len n (length ys)) (omega arith)
+range_both start (x ∷ xs) ys is are =
+    let both : x ∷ xs ≡ start ∷ range_with_len (start + 1) (length xs) = is in
+    let head : x ≡ start = ap (λ (zs : List ℕ). get_or zs 0 x) both in
+    let tail : xs ≡ range_with_len (start + 1) (length xs) = ap (λ (zs : List ℕ). drop 1 zs) both in
+    let more : start + length (x ∷ xs) ≡ start + 1 + length xs = omega arith in
+    let rest = range_both (start + 1) xs ys tail (are ∙ ap (λ n. range_with_len n (length ys)) more) in
+    λ i. head i ∷ rest i
 
--- what is to be shown of the messages from here on, the first of which gives these entries and this state
-abbrev OfTheRest : ℕ → Served → List Message → List TakenEntry → Served → Type 0
-OfTheRest client s messages front after = GoOn (s.last client) ((state_after_all messages after).last client) (numbers_of client (front ++ taken_among messages after))
+go_on : (first middle last : ℕ) (xs ys : List ℕ) → GoOn first middle xs → GoOn middle last ys → GoOn first last (xs ++ ys)
+go_on first middle last xs ys one two =
+    let here : middle + 1 ≡ first + 1 + length xs = omega (arith, one.1) in
+    (range_both (first + 1) xs ys one.0 (two.0 ∙ ap (λ n. range_with_len n (length ys)) here), omega (arith, one.1, two.1, length-append xs ys))
 
-counts_its_own : (number client : ℕ) (s : Served) (messages : List Message) (after : Served) → number ≡ s.last client + 1 → after.last client ≡ number
-    → OfTheRest client after messages [] after → GoOn (s.last client) ((state_after_all messages after).last client) (number ∷ numbers_of client (taken_among messages after))
-counts_its_own number client s messages after next last rest =
-    let there : after.last client ≡ s.last client + 1 = last ∙ next in
-    let P : ℕ → Type 0 = λ n. GoOn (s.last client) ((state_after_all messages after).last client) (n ∷ numbers_of client (taken_among messages after)) in
-    let Q : ℕ → Type 0 = λ n. GoOn n ((state_after_all messages after).last client) (numbers_of client (taken_among messages after)) in
-    subst P (sym next) (go_on _ _ _ (subst Q there rest))
+-- the numbers of a client's taken entries go on from its last number
+abbrev InOrder : ℕ → Served → List TakenEntry → Served → Type 0
+InOrder client s taken t = GoOn (s.last client) (t.last client) (numbers_of client taken)
 
-takes_one : (owner number : ℕ) (effects : List Effect) (base : List Base) (new : Volume) (client : ℕ) (s : Served) (messages : List Message) → number ≡ s.last owner + 1
-    → ((after : Served) → OfTheRest client after messages [] after)
-    → OfTheRest client s messages (entry_stored owner number effects base ∷ []) (record { volume = new; last = with_last s.last owner number })
-takes_one owner number effects base new client s messages next rest = by (owner == client) refl
+numbers_both : (client : ℕ) (first second : List TakenEntry) → numbers_of client (first ++ second) ≡ numbers_of client first ++ numbers_of client second
+numbers_both client first second =
+    let number : TakenEntry → ℕ = λ entry. entry.number in
+    ap (map number) (filter-append (λ (entry : TakenEntry). entry.client == client) first second) ∙ map-append number (own client first) (own client second)
+
+one_in_order : (client owner number : ℕ) (effects : List Effect) (base : List Base) (new : Volume) (s : Served) → number ≡ s.last owner + 1 → InOrder client s (entry_stored owner number effects base ∷ []) (raised_to owner number new s)
+one_in_order client owner number effects base new s next = by (owner == client) refl
   where
     by : (b : Bool) → (owner == client) ≡ b
-        → GoOn (s.last client) ((state_after_all messages (record { volume = new; last = with_last s.last owner number })).last client)
-        (map (λ (entry : TakenEntry). entry.number)
-        (cond b (entry_stored owner number effects base ∷ own client (taken_among messages (record { volume = new; last = with_last s.last owner number })))
-        (own client (taken_among messages (record { volume = new; last = with_last s.last owner number })))))
+        → GoOn (s.last client) (with_last s.last owner number client) (map (λ (entry : TakenEntry). entry.number) (if b then entry_stored owner number effects base ∷ [] else []))
     by true e =
         let same : owner ≡ client = eqb-true owner client e in
         let last : with_last s.last owner number client ≡ number = subst (λ c. with_last s.last owner number c ≡ number) same (raised s.last owner number) in
-        counts_its_own number client s messages (record { volume = new; last = with_last s.last owner number }) (next ∙ ap (λ c. s.last c + 1) same) last (rest _)
-    by false e =
-        let Q : ℕ → Type 0 = λ n. GoOn n ((state_after_all messages (record { volume = new; last = with_last s.last owner number })).last client) (numbers_of client (taken_among messages (record { volume = new; last = with_last s.last owner number }))) in
-        subst Q (others_keep s.last owner number client e) (rest _)
+        let here : number ≡ s.last client + 1 = next ∙ ap (λ c. s.last c + 1) same in
+        (ap (λ n. n ∷ []) here, omega (arith, last, here))
+    by false e = (refl, omega (arith, others_keep s.last owner number client e))
 
-along : (client : ℕ) (s : Served) (message : Message) (messages : List Message) (front : List TakenEntry) (after : Served) → taken_of message s ≡ front → state_after message s ≡ after
-    → OfTheRest client s messages front after → OfTheRest client s messages (taken_of message s) (state_after message s)
-along client s message messages front after is_front is_after goal =
-    subst (λ ts. OfTheRest client s messages ts (state_after message s)) (sym is_front) (subst (λ t. OfTheRest client s messages front t) (sym is_after) goal)
+in_order : (client : ℕ) → Rule (InOrder client)
+in_order client = record {
+  nothing = λ s. (refl, omega arith);
+  one = λ owner number effects base new s next applies. one_in_order client owner number effects base new s next;
+  joined = λ s t u first second one two. subst (GoOn (s.last client) (u.last client)) (sym (numbers_both client first second)) (go_on (s.last client) (t.last client) (u.last client) (numbers_of client first) (numbers_of client second) one two);
+}
 
 -- the numbers of what is taken of a client go on from its last one
-pub stores_in_order : (messages : List Message) (s : Served) (client : ℕ) → GoOn (s.last client) ((state_after_all messages s).last client) (numbers_of client (taken_among messages s))
-stores_in_order [] s client = (refl, omega arith)
-stores_in_order (message ∷ messages) s client = step message s (idle_or_taken message s) (λ t. stores_in_order messages t client)
-  where
-    step : (message : Message) (s : Served) → IsIdle message s ⊎ IsTaken message s → ((after : Served) → OfTheRest client after messages [] after)
-        → OfTheRest client s messages (taken_of message s) (state_after message s)
-    step message s (inl is) rest = along client s message messages [] s is.nothing is.same (rest s)
-    step message s (inr is) rest =
-        along client s message messages (entry_stored is.client is.number is.effects is.base ∷ []) (record { volume = is.new; last = with_last s.last is.client is.number })
-        is.taken is.holds (takes_one is.client is.number is.effects is.base is.new client s messages is.next rest)
+pub stores_in_order : StoresAreTakenInOrder
+stores_in_order messages s client = of_messages (InOrder client) (in_order client) messages s
 
 -- ---- versions
 
@@ -192,37 +130,35 @@ touches-cons path entry taken =
     ∙ ap (counted path) (touched_all-append entry.effects (flat_map effects taken))
     ∙ counted-append path (touched_all entry.effects) (touched_all (flat_map effects taken))
 
--- the version grows by the touches of these entries and those taken from here on
-abbrev Grows : FilePath → Served → List Message → List TakenEntry → Served → Type 0
-Grows path s messages front after = version_at (state_after_all messages after).volume path ≡ version_at s.volume path + touches path (front ++ taken_among messages after)
+touches-nil : (path : FilePath) → touches path [] ≡ 0
+touches-nil path = refl
 
-grows_along : (path : FilePath) (s : Served) (message : Message) (messages : List Message) (front : List TakenEntry) (after : Served) → taken_of message s ≡ front → state_after message s ≡ after
-    → Grows path s messages front after → Grows path s messages (taken_of message s) (state_after message s)
-grows_along path s message messages front after is_front is_after goal =
-    subst (λ ts. Grows path s messages ts (state_after message s)) (sym is_front) (subst (λ t. Grows path s messages front t) (sym is_after) goal)
+touches-both : (path : FilePath) (first second : List TakenEntry) → touches path (first ++ second) ≡ touches path first + touches path second
+touches-both path [] second = omega (arith, touches-nil path)
+touches-both path (entry ∷ entries) second =
+    omega (arith, touches-cons path entry (entries ++ second), touches-cons path entry entries, touches-both path entries second)
 
-grows_by_one : (owner number : ℕ) (effects : List Effect) (base : List Base) (new : Volume) (path : FilePath) (s : Served) (messages : List Message) → apply_all 0 effects s.volume ≡ Ok new
-    → ((after : Served) → Grows path after messages [] after)
-    → Grows path s messages (entry_stored owner number effects base ∷ []) (record { volume = new; last = with_last s.last owner number })
-grows_by_one owner number effects base new path s messages applies rest =
-    let after : Served = record { volume = new; last = with_last s.last owner number } in
+-- the version grows by the touches of the taken entries
+abbrev Grows : FilePath → Served → List TakenEntry → Served → Type 0
+Grows path s taken t = version_at t.volume path ≡ version_at s.volume path + touches path taken
+
+one_grows : (path : FilePath) (client number : ℕ) (effects : List Effect) (base : List Base) (new : Volume) (s : Served) → number ≡ s.last client + 1 → apply_all 0 effects s.volume ≡ Ok new
+    → Grows path s (entry_stored client number effects base ∷ []) (raised_to client number new s)
+one_grows path client number effects base new s next applies =
     let is = applied-changes effects 0 s.volume new applies in
     let here : version_at new path ≡ version_at s.volume path + counted path (touched_all effects) = ap (λ v. version_at v path) is ∙ version-changed_all effects s.volume path in
-    let there = rest after in
-    let split = touches-cons path (entry_stored owner number effects base) (taken_among messages after) in
-    omega (arith, here, there, split)
+    omega (arith, here, touches-cons path (entry_stored client number effects base) [], touches-nil path)
+
+grows : (path : FilePath) → Rule (Grows path)
+grows path = record {
+  nothing = λ s. omega (arith, touches-nil path);
+  one = one_grows path;
+  joined = λ s t u first second one two. omega (arith, one, two, touches-both path first second);
+}
 
 -- a path's version grows by the touches of the entries that are taken
-pub versions_grow : (messages : List Message) (s : Served) (path : FilePath) → Grows path s messages [] s
-versions_grow [] s path = omega arith
-versions_grow (message ∷ messages) s path = step message s (idle_or_taken message s) (λ t. versions_grow messages t path)
-  where
-    step : (message : Message) (s : Served) → IsIdle message s ⊎ IsTaken message s → ((after : Served) → Grows path after messages [] after)
-        → Grows path s messages (taken_of message s) (state_after message s)
-    step message s (inl is) rest = grows_along path s message messages [] s is.nothing is.same (rest s)
-    step message s (inr is) rest =
-        grows_along path s message messages (entry_stored is.client is.number is.effects is.base ∷ []) (record { volume = is.new; last = with_last s.last is.client is.number })
-        is.taken is.holds (grows_by_one is.client is.number is.effects is.base is.new path s messages is.applies rest)
+pub versions_grow : VersionsCountTouches
+versions_grow messages s path = of_messages (Grows path) (grows path) messages s
 
 -- ---- the entries that are taken tell the state
 
@@ -232,3 +168,29 @@ taken_tell (message ∷ messages) s =
     taken_tell messages (state_after message s)
     ∙ ap (λ (t : Served). replay (taken_among messages (state_after message s)) t) (sym (replay-taken message s))
     ∙ sym (replay-append (taken_of message s) (taken_among messages (state_after message s)) s)
+
+-- ---- whether anything is taken
+
+-- Where nothing is taken the state is the same, and where an entry is, some client's last number is higher.
+abbrev pub Changes : Served → List TakenEntry → Served → Type 0
+Changes s [] t = t ≡ s
+Changes s (entry ∷ entries) t = (s.last entry.client < t.last entry.client) × ((client : ℕ) → s.last client ≤ t.last client)
+
+not_lower : (last : ℕ → ℕ) (owner number client : ℕ) → number ≡ last owner + 1 → last client ≤ with_last last owner number client
+not_lower last owner number client next = by (client == owner) refl
+  where
+    by : (b : Bool) → (client == owner) ≡ b → last client ≤ (if b then number else last client)
+    by true e = omega (arith, next, ap last (eqb-true client owner e))
+    by false e = omega arith
+
+changes_then : (s t u : Served) (first second : List TakenEntry) → Changes s first t → Changes t second u → Changes s (first ++ second) u
+changes_then s t u [] second one two = subst (λ (x : Served). Changes x second u) one two
+changes_then s t u (entry ∷ entries) [] one two = subst (λ (ts : List TakenEntry). Changes s (entry ∷ ts) u) (sym (append-nil entries)) (subst (λ (x : Served). (s.last entry.client < x.last entry.client) × ((client : ℕ) → s.last client ≤ x.last client)) (sym two) one)
+changes_then s t u (entry ∷ entries) (other ∷ others) one two = (omega (arith, one.0, two.1 entry.client), λ client. omega (arith, one.1 client, two.1 client))
+
+pub changes : Rule Changes
+changes = record {
+  nothing = λ s. refl;
+  one = λ client number effects base new s next applies. (omega (arith, raised s.last client number, next), λ other. not_lower s.last client number other next);
+  joined = changes_then;
+}

@@ -1,5 +1,5 @@
 -- The numbers that a server counts: their view, and what raising one of them does to it.
-use Rattle.std.proofs.Common.{◌≡◌, ℕ, zero, suc, ◌-◌, ◌^◌, ◌<◌, ◌≤◌, Bool, true, false, List, [], length, get_or, set, replicate, refl, sym, subst, arith, eqb-true}
+use Rattle.std.proofs.Common.{◌≡◌, ℕ, zero, suc, ◌-◌, ◌^◌, ◌<◌, ◌≤◌, Bool, true, false, List, [], ◌∷◌, length, get_or, set, replicate, refl, sym, ap, ◌∙◌, subst, arith, eqb-true}
 use Rattle.std.specs.Prelude.{◌==◌, nat_lt, if◌then◌else◌}
 use Rattle.std.proofs.lemmas.Bool.{eqb-false, ltb-true}
 use Rattle.byte_fields.proofs.Facts.{not_lt_of}
@@ -7,7 +7,10 @@ use Rattle.std.proofs.lemmas.List.{get_or-set_same, get_or-set_other, get_or-rep
 use Rattle.tree_values.specs.Tree.{Volume, IsTree}
 use Rattle.vol_tree.proofs.Behind.{IsTree-empty}
 use Rattle.world_rules.specs.Served.{IsServed, new_served, with_last}
-use Rattle.server_core.specs.Holding.{last_number, served}
+use Rattle.tree_values.specs.declared.node.Row.{Row}
+use Rattle.vol_tree.specs.Undos.{undone_all}
+use Rattle.server_core.specs.Inside.{taken_back}
+use Rattle.server_core.specs.Holding.{Holding, last_number, served}
 
 -- ---- raising a number
 
@@ -30,6 +33,26 @@ last_number-set last client number low high = λ i. λ other. raised_at last cli
 pub served-raised : (rows : Volume) (last : List ℕ) (client number : ℕ) → 1 ≤ client → client ≤ length last
     → served (record { rows = rows; last = set last (client - 1) number }) ≡ record { volume = rows; last = with_last (last_number last) client number }
 served-raised rows last client number low high = let same = last_number-set last client number low high in λ i. record { volume = rows; last = same i }
+
+-- ---- putting a number back
+
+put_back : (xs : List ℕ) (k n : ℕ) → k < length xs → set (set xs k n) k (get_or xs k 0) ≡ xs
+put_back [] k n lt = absurd (omega (arith, lt))
+put_back (x ∷ xs) zero n lt = refl
+put_back (x ∷ xs) (suc k) n lt = ap (λ ys. x ∷ ys) (put_back xs k n (omega (arith, lt)))
+
+number_back : (last : List ℕ) (client number : ℕ) → 1 ≤ client → client ≤ length last → set (set last (client - 1) number) (client - 1) (last_number last client) ≡ last
+number_back last zero number low high = absurd (omega (arith, low))
+number_back last (suc k) number low high =
+    let at : suc k - 1 ≡ k = omega arith in
+    ap (λ n. set (set last n number) n (get_or last k 0)) at ∙ put_back last k number (omega (arith, high))
+
+-- taking an entry back gives what was held before
+pub back_is : (old new : Holding) (client number : ℕ) (undos : List (List Row)) → 1 ≤ client → client ≤ length old.last → undone_all undos new.rows ≡ old.rows → new.last ≡ set old.last (client - 1) number
+    → taken_back client (last_number old.last client) undos new ≡ old
+back_is old new client number undos low high rows last =
+    let lasts = ap (λ (l : List ℕ). set l (client - 1) (last_number old.last client)) last ∙ number_back old.last client number low high in
+    λ i. record { rows = rows i; last = lasts i }
 
 -- ---- a new server
 

@@ -33,12 +33,12 @@ abbrev pub is_any : List TakenEntry → Bool
 is_any [] = false
 is_any (entry ∷ entries) = true
 
--- whether what was read is a store that is taken
+-- whether what was read is a store of which an entry is taken
 abbrev pub takes_read : Result Message FrameError → Served → Bool
 takes_read (Ok message) served = is_any (taken_of message served)
 takes_read (Err refusal) served = false
 
--- whether the frame has a store that is taken, which alone changes what is served
+-- whether the frame has a store of which an entry is taken, which alone changes what is served
 abbrev pub takes : List ℕ → Served → Bool
 takes bytes served = takes_read (frame_of bytes) served
 

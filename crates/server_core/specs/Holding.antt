@@ -1,7 +1,5 @@
 -- What a server keeps: its rows, and the numbers that it counts for its clients.
-use Rattle.wire_frames.specs.declared.message.Message.{Message}
-use Rattle.wire_frames.specs.declared.message.Message.TheVariants.{Accepted}
-use Rattle.std.specs.Prelude.{Bool, true, false, ℕ, List, ◌∷◌, slice_index_or}
+use Rattle.std.specs.Prelude.{ℕ, List, ◌∷◌, slice_index_or}
 use Rattle.tree_values.specs.Tree.{Volume}
 use Rattle.world_rules.specs.Served.{Served}
 
@@ -17,8 +15,3 @@ last_number last client = slice_index_or (0 ∷ last) client 0
 -- the served state that it stands for
 abbrev pub served : Holding → Served
 served holding = record { volume = holding.rows; last = last_number holding.last }
-
--- whether a reply accepts a store
-abbrev pub is_acceptance : Message → Bool
-is_acceptance (Accepted client number) = true
-is_acceptance _ = false

@@ -1,5 +1,6 @@
 -- What images and records keep of a server.
-use Rattle.std.specs.Prelude.{◌≡◌, ℕ, ◌≤◌, ◌<◌, ◌^◌, List, ◌++◌, length, map, take, Option, Some, None, Ok}
+use Rattle.std.specs.Prelude.{◌≡◌, ℕ, ◌≤◌, ◌<◌, ◌^◌, List, [], ◌∷◌, ◌++◌, length, take, Option, Some, None, Ok, option_to_list}
+use Rattle.std.specs.List.{flat_map}
 use Rattle.tree_values.specs.Effects.{apply_all}
 use Rattle.tree_values.specs.Spelling.{EffectsFit}
 use Rattle.wire_frames.specs.Limits.{max_client}
@@ -10,7 +11,7 @@ use Rattle.store_image.specs.Spelling.{server}
 use Rattle.store_image.specs.Image.{IsKeptForServer, IsKeptWholeForServer}
 use Rattle.world_rules.specs.Served.{Served, TakenEntry, new_served, with_last}
 use Rattle.server_core.specs.Holding.{Holding, served}
-use Rattle.server_core.specs.Framing.{messages_of}
+use Rattle.server_core.specs.Framing.{frame_after, messages_of}
 use Rattle.server_core.specs.Laws.{taken_among}
 
 -- the image of what a server holds
@@ -65,13 +66,26 @@ abbrev pub NoteLeads : Option ServerRecord → Served → Served → Type 0
 NoteLeads None before after = after ≡ before
 NoteLeads (Some note) before after = Leads note before after
 
--- the record of an entry that was taken: whose it is, its number and its effects
-abbrev pub record_of_taken : TakenEntry → ServerRecord
-record_of_taken entry = record { client = entry.client; last = entry.number; effects = entry.effects }
+-- the number of the last of these entries
+abbrev pub last_taken : ℕ → List TakenEntry → ℕ
+last_taken number [] = number
+last_taken number (entry ∷ entries) = last_taken entry.number entries
 
--- the records of the entries that are taken of these frames, in order
+-- One record of all entries that were taken of a store, which are of one client: whose they are, the number of the last, and their
+-- effects, one after the other. There is none where none was taken.
+abbrev pub record_of_all : List TakenEntry → Option ServerRecord
+record_of_all [] = None
+record_of_all (entry ∷ entries) = Some (record {
+  client = entry.client;
+  last = last_taken entry.number entries;
+  effects = flat_map (λ taken. taken.effects) (entry ∷ entries);
+})
+
+-- the records of what is taken of these frames, one for each of which anything is, in order
 abbrev pub records_taken : List (List ℕ) → Served → List ServerRecord
-records_taken frames state = map record_of_taken (taken_among (messages_of frames) state)
+records_taken [] state = []
+records_taken (bytes ∷ frames) state =
+    option_to_list (record_of_all (taken_among (messages_of (bytes ∷ [])) state)) ++ records_taken frames (frame_after bytes state)
 
 -- what is kept whole is kept
 abbrev pub WholeIsKept : Type 0

@@ -1,6 +1,7 @@
--- What a server answers to a store, case by case, and what becomes of stores that come in any order and any number of times.
+-- What a server answers to a store, entry by entry and case by case, and what becomes of stores that come in any order and any number
+-- of times.
 use Rattle.std.specs.Prelude.{◌≡◌, ℕ, ◌+◌, ◌<◌, ◌≤◌, true, false, Ok, Err, List, [], ◌∷◌, ◌++◌, length, map}
-use Rattle.std.specs.Prelude.{count_by, if◌then◌else◌}
+use Rattle.std.specs.Prelude.{count_by}
 use Rattle.std.specs.List.{AllByRecursion, flat_map, range_with_len}
 use Rattle.file_paths.specs.Path.{FilePath, is_same_path}
 use Rattle.tree_values.specs.declared.node.Base.{Base}
@@ -8,6 +9,8 @@ use Rattle.tree_values.specs.declared.node.Effect.{Effect}
 use Rattle.tree_values.specs.declared.node.TreeError.{TreeError}
 use Rattle.tree_values.specs.Tree.{Volume, version_at, apply}
 use Rattle.tree_values.specs.Effects.{apply_all, touched_all}
+use Rattle.wire_frames.specs.declared.parts.Part.{Part}
+use Rattle.wire_frames.specs.Parts.{part_of}
 use Rattle.wire_frames.specs.declared.message.Message.{Message}
 use Rattle.wire_frames.specs.declared.message.Message.TheVariants.{Store, Pull, Accepted, Stale, Unfit, Gap, Snapshot, Full, Malformed}
 use Rattle.wire_frames.specs.declared.message.FrameError.{FrameError}
@@ -16,8 +19,10 @@ use Rattle.wire_frames.specs.Malformed.{refusal_code, refusal_offset}
 use Rattle.wire_frames.specs.Reading.{frame_of}
 use Rattle.byte_fields.specs.Codec.{IsBytes}
 use Rattle.world_rules.specs.World.{IsForServer}
-use Rattle.server_core.specs.Framing.{frame_answer, frame_after, frames_after, takes, messages_of}
-use Rattle.world_rules.specs.Served.{Served, TakenEntry, answer, state_after, taken_of, replay, with_last, is_want_of_room}
+use Rattle.server_core.specs.Framing.{frame_answer, frame_after, frames_after, is_any, takes, messages_of}
+use Rattle.world_rules.specs.Served.{Served, TakenEntry, served_through, verdict_through, end_of, answer, state_after}
+use Rattle.world_rules.specs.Served.{taken_of, replay, with_last}
+use Rattle.world_rules.specs.Served.{is_want_of_room}
 use Rattle.world_rules.specs.Run.{own}
 
 -- ---- one store
@@ -27,53 +32,67 @@ pub record IsServedAs (message : Message) (served : Served) (reply : Message) (a
   pub replies : answer message served ≡ reply
   pub holds : state_after message served ≡ after
 
--- the path still has the version that the store rests on
+-- The entries of a store behind its first are gone through from the state behind that one, and end the store as they would without it.
+pub record GoesOn (client number : ℕ) (first : Part) (later : List Part) (served middle : Served) : Type 0 where
+  pub holds : served_through client number (first ∷ later) served ≡ served_through client (number + 1) later middle
+  pub ends : verdict_through client number (first ∷ later) served ≡ verdict_through client (number + 1) later middle
+
+-- the path still has the version that the entry rests on
 abbrev pub IsCurrent : Volume → Base → Type 0
 IsCurrent volume base = version_at volume base.path ≡ base.version
 
--- a number that was accepted before is accepted again, and changes nothing
+-- a store whose last number was accepted before is accepted again, and changes nothing
 abbrev pub RepeatsChangeNothing : Type 0
-RepeatsChangeNothing = (client number : ℕ) (effects : List Effect) (base : List Base) (served : Served) → number ≤ served.last client
-    → IsServedAs (Store client number effects base) served (Accepted client number) served
+RepeatsChangeNothing = (client number : ℕ) (parts : List Part) (served : Served) → number + length parts ≤ served.last client + 1
+    → IsServedAs (Store client number parts) served (Accepted client number (end_of number parts)) served
 
--- to a number beyond the next the last accepted one is told
+-- to a store whose number is beyond the next the last accepted one is told
 abbrev pub GapsChangeNothing : Type 0
-GapsChangeNothing = (client number : ℕ) (effects : List Effect) (base : List Base) (served : Served) → served.last client + 1 < number
-    → IsServedAs (Store client number effects base) served (Gap client number (served.last client)) served
+GapsChangeNothing = (client number : ℕ) (first : Part) (later : List Part) (served : Served) → served.last client + 1 < number
+    → IsServedAs (Store client number (first ∷ later)) served (Gap client number (served.last client)) served
 
--- the next number is refused at the first path of its base that has another version
-abbrev pub StaleStoresChangeNothing : Type 0
-StaleStoresChangeNothing = (client : ℕ) (effects : List Effect) (before : List Base) (first : Base) (later : List Base) (served : Served)
-    → AllByRecursion (IsCurrent served.volume) before → (IsCurrent served.volume first → ⊥)
-    → let number = served.last client + 1 in
-    let theirs = version_at served.volume first.path in
-    IsServedAs (Store client number effects (before ++ first ∷ later)) served (Stale client number first.path theirs first.version) served
+-- an entry whose number was accepted before is passed, and changes nothing
+abbrev pub KnownEntriesArePassed : Type 0
+KnownEntriesArePassed = (client number : ℕ) (first : Part) (later : List Part) (served : Served) → number ≤ served.last client
+    → GoesOn client number first later served served
+
+-- the entry of the next number is refused at the first path of its base that has another version, and the store with it
+abbrev pub StaleEntriesEndStores : Type 0
+StaleEntriesEndStores =
+    (client : ℕ) (effects : List Effect) (before : List Base) (base : Base) (others : List Base) (later : List Part) (served : Served)
+    → AllByRecursion (IsCurrent served.volume) before → (IsCurrent served.volume base → ⊥)
+    → let last = served.last client in
+    let first = part_of effects (before ++ base ∷ others) in
+    let theirs = version_at served.volume base.path in
+    IsServedAs (Store client (last + 1) (first ∷ later)) served (Stale client (last + 1) last base.path theirs base.version) served
 
 -- else it is refused at its first effect that does not apply after those before it: as Full for want of room
-abbrev pub FullStoresChangeNothing : Type 0
-FullStoresChangeNothing = (client : ℕ) (before : List Effect) (first : Effect) (later : List Effect) (base : List Base)
+abbrev pub FullEntriesEndStores : Type 0
+FullEntriesEndStores = (client : ℕ) (before : List Effect) (effect : Effect) (others : List Effect) (base : List Base) (later : List Part)
     → (served : Served) (middle : Volume) (fault : TreeError)
     → AllByRecursion (IsCurrent served.volume) base
-    → apply_all 0 before served.volume ≡ Ok middle → apply first middle ≡ Err fault → is_want_of_room fault ≡ true
-    → let number = served.last client + 1 in
-    IsServedAs (Store client number (before ++ first ∷ later) base) served (Full client number (length before) fault) served
+    → apply_all 0 before served.volume ≡ Ok middle → apply effect middle ≡ Err fault → is_want_of_room fault ≡ true
+    → let last = served.last client in
+    let first = part_of (before ++ effect ∷ others) base in
+    IsServedAs (Store client (last + 1) (first ∷ later)) served (Full client (last + 1) last (length before) fault) served
 
 -- and as Unfit for any other cause
-abbrev pub UnfitStoresChangeNothing : Type 0
-UnfitStoresChangeNothing = (client : ℕ) (before : List Effect) (first : Effect) (later : List Effect) (base : List Base)
+abbrev pub UnfitEntriesEndStores : Type 0
+UnfitEntriesEndStores = (client : ℕ) (before : List Effect) (effect : Effect) (others : List Effect) (base : List Base) (later : List Part)
     → (served : Served) (middle : Volume) (fault : TreeError)
     → AllByRecursion (IsCurrent served.volume) base
-    → apply_all 0 before served.volume ≡ Ok middle → apply first middle ≡ Err fault → is_want_of_room fault ≡ false
-    → let number = served.last client + 1 in
-    IsServedAs (Store client number (before ++ first ∷ later) base) served (Unfit client number (length before) fault) served
+    → apply_all 0 before served.volume ≡ Ok middle → apply effect middle ≡ Err fault → is_want_of_room fault ≡ false
+    → let last = served.last client in
+    let first = part_of (before ++ effect ∷ others) base in
+    IsServedAs (Store client (last + 1) (first ∷ later)) served (Unfit client (last + 1) last (length before) fault) served
 
--- else it is accepted: its effects are applied, and its number is the client's last, while every other client keeps its own
-abbrev pub OtherStoresAreTaken : Type 0
-OtherStoresAreTaken = (client : ℕ) (effects : List Effect) (base : List Base) (served : Served) (new : Volume)
+-- else it is taken: its effects are applied, and its number is the client's last, while every other client keeps its own
+abbrev pub OtherEntriesAreTaken : Type 0
+OtherEntriesAreTaken = (client : ℕ) (effects : List Effect) (base : List Base) (later : List Part) (served : Served) (new : Volume)
     → AllByRecursion (IsCurrent served.volume) base → apply_all 0 effects served.volume ≡ Ok new
     → let number = served.last client + 1 in
     let after : Served = record { volume = new; last = with_last served.last client number } in
-    IsServedAs (Store client number effects base) served (Accepted client number) after
+    GoesOn client number (part_of effects base) later served after
 
 -- a pull is answered by all rows and the client's last number
 abbrev pub PullsTellTheRows : Type 0
@@ -135,16 +154,15 @@ OtherBytesAreMalformed = (bytes : List ℕ) (served : Served) → IsBytes bytes 
     → (refusal : FrameError) × (frame_of bytes ≡ Err refusal)
     × (frame_answer bytes served ≡ frame (Malformed (refusal_code refusal) (refusal_offset refusal))) × (frame_after bytes served ≡ served)
 
--- a frame whose store is taken raises the last number of some client by one; any other frame changes nothing
+-- a frame of whose store an entry is taken raises the last number of some client; any other frame changes nothing
 abbrev pub TakenFramesChangeTheState : Type 0
 TakenFramesChangeTheState = (bytes : List ℕ) (served : Served)
-    → (takes bytes served ≡ true → (client : ℕ) × ((frame_after bytes served).last client ≡ served.last client + 1))
+    → (takes bytes served ≡ true → (client : ℕ) × (served.last client < (frame_after bytes served).last client))
     × (takes bytes served ≡ false → frame_after bytes served ≡ served)
 
--- one entry is taken of a frame that changes what is served, and none of any other
-abbrev pub OneEntryIsTaken : Type 0
-OneEntryIsTaken = (bytes : List ℕ) (served : Served)
-    → length (taken_among (messages_of (bytes ∷ [])) served) ≡ (if takes bytes served then 1 else 0)
+-- entries are taken of a frame exactly where it changes what is served
+abbrev pub EntriesTellWhatChanges : Type 0
+EntriesTellWhatChanges = (bytes : List ℕ) (served : Served) → is_any (taken_among (messages_of (bytes ∷ [])) served) ≡ takes bytes served
 
 -- frames do what their messages do; bytes that are refused change nothing
 abbrev pub FramesActAsTheirMessages : Type 0

@@ -1,19 +1,20 @@
 // What a server makes of stores: functions that do nothing, whose contracts are laws.
-ghost use Rattle.server_core.specs.Laws.{RepeatsChangeNothing, GapsChangeNothing, StaleStoresChangeNothing};
-ghost use Rattle.server_core.specs.Laws.{FullStoresChangeNothing, UnfitStoresChangeNothing, OtherStoresAreTaken};
+ghost use Rattle.server_core.specs.Laws.{RepeatsChangeNothing, GapsChangeNothing, KnownEntriesArePassed, StaleEntriesEndStores};
+ghost use Rattle.server_core.specs.Laws.{FullEntriesEndStores, UnfitEntriesEndStores, OtherEntriesAreTaken};
 ghost use Rattle.server_core.specs.Laws.{PullsTellTheRows, OthersAreMalformed, StoresAreTakenInOrder, VersionsCountTouches};
 ghost use Rattle.server_core.specs.Laws.{TakenEntriesTellTheState, FramesActAsTheirMessages, FramesAreAnswered, OtherBytesAreMalformed};
-ghost use Rattle.server_core.specs.Laws.{TakenFramesChangeTheState, OneEntryIsTaken};
+ghost use Rattle.server_core.specs.Laws.{TakenFramesChangeTheState, EntriesTellWhatChanges};
 ghost use Rattle.server_core.specs.Keeping.{OneStateIsKept, RecordsLeadOn, TornRecordsAreDropped, WholeIsKept};
 
 /// States the answer to a message and what is held then, case by case.
 pub fn messages_are_answered()
     ensures repeated { RepeatsChangeNothing }
     ensures early { GapsChangeNothing }
-    ensures stale { StaleStoresChangeNothing }
-    ensures full { FullStoresChangeNothing }
-    ensures unfit { UnfitStoresChangeNothing }
-    ensures taken { OtherStoresAreTaken }
+    ensures known { KnownEntriesArePassed }
+    ensures stale { StaleEntriesEndStores }
+    ensures full { FullEntriesEndStores }
+    ensures unfit { UnfitEntriesEndStores }
+    ensures taken { OtherEntriesAreTaken }
     ensures pulled { PullsTellTheRows }
     ensures others { OthersAreMalformed }
 {}
@@ -34,7 +35,7 @@ pub fn frames_are_answered()
     ensures spelled { FramesAreAnswered }
     ensures others { OtherBytesAreMalformed }
     ensures taken { TakenFramesChangeTheState }
-    ensures entry { OneEntryIsTaken }
+    ensures entry { EntriesTellWhatChanges }
 {}
 
 /// States that what is kept is kept for one served state.

@@ -15,12 +15,11 @@ use Rattle.port_serving.specs.Inside.{UsesSoFar}
 use Rattle.port_serving.proofs.Connections as ports
 use Rattle.store_image.specs.declared.record.ServerRecord.{ServerRecord}
 use Rattle.world_rules.specs.Served.{Served}
-use Rattle.server_core.specs.Framing.{frame_answer, frame_after, frames_after, takes, change, messages_of}
+use Rattle.server_core.specs.Framing.{frame_answer, frame_after, frames_after, takes, change}
 use Rattle.server_core.specs.Keeping.{records_taken}
-use Rattle.server_core.specs.Laws.{taken_among}
 use Rattle.server_prog.specs.declared.journal.Journal.{Journal}
 use Rattle.server_prog.specs.declared.journal.Journal.TheVariants.{Unsaved}
-use Rattle.server_prog.specs.Serving.{ServedBy, KeptAs, IsKeptAfter, PerhapsKept, IsRecordedAfter, ServesConnections, ServerTelling}
+use Rattle.server_prog.specs.Serving.{ServedBy, KeptAs, IsKeptAfter, PerhapsKept, first_and_records, IsRecordedAfter, ServesConnections, ServerTelling}
 use Rattle.server_prog.specs.Inside.{is_saved, Journals, Puts, KeepsOn, ServerMayKeep, IsJournalOf, ServesNext, BreaksConnection, ServesSoFar, ServesAll, ServesFront}
 use Rattle.server_prog.proofs.Appending.{still, puts_none}
 use Rattle.server_prog.proofs.Recording.{counted_none, counted_frames, recorded}
@@ -173,7 +172,7 @@ so_far_begins tally s a none = record {
   serves = serves_none s a.kept;
   journals = tt;
   saved = refl;
-  counted = counted_none a.kept s;
+  counted = counted_none a.kept;
 }
 
 -- one more take
@@ -193,7 +192,7 @@ so_far_next takes tally new how j k s t u a b c other is before one =
           one.saved ∙ ap (λ p. p || change (frames_taken last) t) before.saved ∙ sym more
           ∙ ap (λ fs. change fs s) (sym (ports.frames_taken-append before.connections last));
       counted =
-          subst (λ (fs : List (List ℕ)). Told a.kept c.kept (IsJournalOf k (taken_among (messages_of fs) s) s)) (sym (ports.frames_taken-append before.connections last))
+          subst (λ (fs : List (List ℕ)). Told a.kept c.kept (IsJournalOf k (first_and_records fs s))) (sym (ports.frames_taken-append before.connections last))
           (counted_frames j k xs (frames_taken last) one.note s t u a.kept b.kept c.kept state (holds last t u one.serves.replies) one.noted before.counted one.puts);
     }
 

@@ -1,5 +1,5 @@
 -- Words that only contracts below the whole run cite.
-use Rattle.std.specs.Prelude.{◌≡◌, ◌≤◌, ◌⊎◌, ℕ, ◌+◌, nat_le, Bool, true, false, ◌||◌, List, [], ◌∷◌, length, map, if◌then◌else◌}
+use Rattle.std.specs.Prelude.{◌≡◌, ◌≤◌, ◌⊎◌, ℕ, ◌+◌, nat_le, Bool, true, false, ◌||◌, List, [], length, if◌then◌else◌}
 use Rattle.std.specs.Prelude.{Option, None, Some, IfSome, is_some, option_to_list}
 use Rattle.outside.specs.Outside.{Told}
 use Rattle.outside.specs.declared.errors.SinkError.{SinkError}
@@ -15,15 +15,14 @@ use Rattle.store_image.specs.declared.image.TheConstants.{MAX_SERVER_IMAGE, MAX_
 use Rattle.store_image.specs.declared.record.ServerRecord.{ServerRecord}
 use Rattle.store_image.specs.Records.{server_record, server_records}
 use Rattle.outside.specs.Keeper.{followed_by}
-use Rattle.world_rules.specs.Served.{Served, TakenEntry, as_store, state_after}
-use Rattle.server_core.specs.Framing.{change, messages_of}
-use Rattle.server_core.specs.Keeping.{IsKeptWholeForServed, record_of_taken, records_taken}
-use Rattle.server_core.specs.Laws.{taken_among}
+use Rattle.world_rules.specs.Served.{Served}
+use Rattle.server_core.specs.Framing.{change}
+use Rattle.server_core.specs.Keeping.{IsKeptWholeForServed, records_taken}
 use Rattle.server_prog.specs.declared.journal.Journal.{Journal}
 use Rattle.server_prog.specs.declared.journal.Journal.TheVariants as journals
 use Rattle.server_prog.specs.declared.run.Stopped.{Stopped}
 use Rattle.server_prog.specs.declared.run.Stopped.TheVariants as stops
-use Rattle.server_prog.specs.Serving.{KeptAs, IsKeptAfter, PerhapsKept, IsImageWithRecords, IsRecordedAfter}
+use Rattle.server_prog.specs.Serving.{KeptAs, IsKeptAfter, PerhapsKept, IsImageWithRecords, first_and_records, IsRecordedAfter}
 use Rattle.server_prog.specs.Serving.{ServedBy, ServesConnections, ServerTelling}
 
 -- ---- what this run has kept
@@ -69,14 +68,13 @@ pub record KeepsOn (note : Option ServerRecord) (journal next : Journal) (after 
   pub kept : Told old new (KeptAs (is_some note) after)
   pub puts : Told old new (Puts note journal next after)
 
--- the journal of these entries, which were taken from this state on: nothing was saved without one; else it counts the bytes of
--- the records behind an image for the state after the first one, where a run appends so many
-abbrev pub IsJournalOf : Journal → List TakenEntry → Served → Option (List ℕ) → Option (List ℕ) → Type 0
-IsJournalOf journal [] before old new = (journal ≡ journals.Unsaved) × (new ≡ old)
-IsJournalOf journal (first ∷ later) before old new =
-    length (server_records (map record_of_taken later)) ≤ MAX_RECORDS
-    → (journal ≡ journals.Saved (length (server_records (map record_of_taken later))))
-    × IsImageWithRecords (state_after (as_store first) before) (map record_of_taken later) new
+-- the journal of frames, of which this is the state after the first that changed it, with the records of the later ones: nothing was
+-- saved where none did; else it counts the bytes of the records behind an image for that state, where a run appends so many
+abbrev pub IsJournalOf : Journal → Option (Served × List ServerRecord) → Option (List ℕ) → Option (List ℕ) → Type 0
+IsJournalOf journal None old new = (journal ≡ journals.Unsaved) × (new ≡ old)
+IsJournalOf journal (Some first) old new =
+    length (server_records first.1) ≤ MAX_RECORDS
+    → (journal ≡ journals.Saved (length (server_records first.1))) × IsImageWithRecords first.0 first.1 new
 
 -- its keeping was refused: what is kept has the change or not
 abbrev pub ServerMayKeep : Bool → Journal → Served → Served → Option (Option (List ℕ)) → Option (Option (List ℕ)) → Type 0
@@ -110,7 +108,7 @@ pub record ServesSoFar (made : ℕ) (tally : Tally) (journal : Journal) (before 
   pub serves : ServesConnections connections before after old.kept new.kept
   pub journals : Journals journal after new.kept
   pub saved : is_saved journal ≡ change (frames_taken connections) before
-  pub counted : Told old.kept new.kept (IsJournalOf journal (taken_among (messages_of (frames_taken connections)) before) before)
+  pub counted : Told old.kept new.kept (IsJournalOf journal (first_and_records (frames_taken connections) before))
 
 -- at the end of the takes, or of the connections
 pub record ServesAll (count : ℕ) (tally : Tally) (before after : Served) (old new : ServerTelling) : Type 0 where

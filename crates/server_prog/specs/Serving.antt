@@ -1,15 +1,14 @@
 -- What a server does with the frames that it takes, and what is kept of it.
-use Rattle.std.specs.Prelude.{◌≡◌, ◌≤◌, ◌⊎◌, ℕ, ◌+◌, Bool, true, false, List, [], ◌∷◌, ◌++◌, length, map, Option, Some}
+use Rattle.std.specs.Prelude.{◌≡◌, ◌≤◌, ◌⊎◌, ℕ, ◌+◌, Bool, true, false, List, [], ◌∷◌, ◌++◌, length, Option, None, Some, if◌then◌else◌}
 use Rattle.outside.specs.Outside.{Told}
 use Rattle.outside.specs.Port.{PortTelling}
 use Rattle.port_serving.specs.Serving.{Connection, exchanges, frames_taken}
 use Rattle.store_image.specs.declared.image.TheConstants.{MAX_SERVER_IMAGE, MAX_RECORDS}
 use Rattle.store_image.specs.declared.record.ServerRecord.{ServerRecord}
 use Rattle.store_image.specs.Records.{server_records}
-use Rattle.world_rules.specs.Served.{Served, TakenEntry, as_store, state_after}
-use Rattle.server_core.specs.Framing.{frame_answer, frame_after, frames_after, change, messages_of}
-use Rattle.server_core.specs.Keeping.{IsKeptForServed, IsImageForServed, record_of_taken}
-use Rattle.server_core.specs.Laws.{taken_among}
+use Rattle.world_rules.specs.Served.{Served}
+use Rattle.server_core.specs.Framing.{frame_answer, frame_after, frames_after, takes, change}
+use Rattle.server_core.specs.Keeping.{IsKeptForServed, IsImageForServed, records_taken}
 
 -- each frame is replied to as the definition says, of the state that the frames before it left
 abbrev pub ServedBy : List (List ℕ × List ℕ) → Served → Served → Type 0
@@ -44,18 +43,23 @@ pub record IsImageWithRecords (state : Served) (notes : List ServerRecord) (now 
   pub kept : IsImageForServed state image
   pub here : now ≡ Some (image ++ server_records notes)
 
--- what is kept under the server's name once these entries were taken, from this state on: without an entry what was kept before;
--- else an image for the state after the first one and the record of each later one, in order, where these records together have
--- at most as many bytes as a run appends
-abbrev pub IsKeptOfTaken : List TakenEntry → Served → Option (List ℕ) → Option (List ℕ) → Type 0
-IsKeptOfTaken [] before old new = new ≡ old
-IsKeptOfTaken (first ∷ later) before old new =
-    length (server_records (map record_of_taken later)) ≤ MAX_RECORDS
-    → IsImageWithRecords (state_after (as_store first) before) (map record_of_taken later) new
+-- the state after the first of these frames that changes it, and one record of each later one that does, in order; none where no
+-- frame does
+abbrev pub first_and_records : List (List ℕ) → Served → Option (Served × List ServerRecord)
+first_and_records [] state = None
+first_and_records (frame ∷ frames) state =
+    let after = frame_after frame state in
+    if takes frame state then Some (after, records_taken frames after) else first_and_records frames after
 
--- the same of the entries that are taken of these frames: one of each frame that changes the state
+-- what is kept under the server's name: where no frame changed the state, what was kept before; else an image for the state after the
+-- first that did and behind it the records of the later ones, where these together have at most as many bytes as a run appends
+abbrev pub IsKeptWith : Option (Served × List ServerRecord) → Option (List ℕ) → Option (List ℕ) → Type 0
+IsKeptWith None old new = new ≡ old
+IsKeptWith (Some first) old new = length (server_records first.1) ≤ MAX_RECORDS → IsImageWithRecords first.0 first.1 new
+
+-- the same of these frames
 abbrev pub IsRecordedAfter : List (List ℕ) → Served → Option (List ℕ) → Option (List ℕ) → Type 0
-IsRecordedAfter frames before old new = IsKeptOfTaken (taken_among (messages_of frames) before) before old new
+IsRecordedAfter frames before old new = IsKeptWith (first_and_records frames before) old new
 
 -- a server that held one state replied to the frames of these connections, and holds the other state now; what is kept under
 -- its name, where the keeper tells it, became this

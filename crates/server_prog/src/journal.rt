@@ -1,4 +1,4 @@
-// What a run keeps of the server: a save first, and then a record for each store that is taken.
+// What a run keeps of the server: a save first, and then a record for each frame of which an entry is taken.
 ghost use Rattle.std.specs.Prelude.{◌≡◌, true, Some, is_some, IfOk, IfSome, OnErr};
 ghost use Rattle.outside.specs.Outside.{CountsFault};
 ghost use Rattle.outside.specs.Keeper.{kept_under};
@@ -50,7 +50,7 @@ fn spelled(note: ServerRecord) -> Result<Vec<u8>, AllocError>
     piece
 }
 
-/// Keeps what a store has changed. Behind a saved image it appends the store's record, as long as the records are few; else it
+/// Keeps what a frame has changed. Behind a saved image it appends the frame's record, as long as the records are few; else it
 /// saves the whole image.
 #[tactic(auto, using(crate::proofs::Others::others_none, crate::proofs::Others::others_saved, crate::proofs::Others::others_appended))]
 fn keep_record<K: Keeper>(

@@ -36,9 +36,9 @@ LISTEN is an address with a port. IMAGE names the file in which the server is
 kept, before it answers; where there is none the server is new. IMAGE.new and
 IMAGE.lock belong to it, and no other program has it meanwhile. IMAGE is made
 for its owner alone, with the rights 0600; rights that you give it stay. COUNT
-is how many connections are taken, from 1 to 65536: one for each change that a
-client syncs, one for each pull, and one for each stranger. A server that has
-ended goes on from its image.
+is how many connections are taken, from 1 to 65536: one for up to eight changes
+that a client syncs, one for each pull, and one for each stranger. A server that
+has ended goes on from its image.
 
 Standard error says where the server listens, and why it ends with a status
 that is not 0. With HAURPIKO_LOG=1 in the environment it has a line for each
@@ -64,7 +64,7 @@ Options:
 
 const VERSION: &str = "\
 server 0.1.0
-frames: version 2; images: written: version 2; read: versions 1 and 2
+frames: version 3; images: written: version 2; read: versions 1 and 2
 kit: rattle-kit-13f logic dac8208d650f15bf
 ";
 
