@@ -134,16 +134,16 @@ module _ (sketched : SketchEntry) (copy : Volume) where
       subst (λ e. Tries true rows c e work more reaction ⊎ ((reaction ≡ declining now c e.seq NoMemory) × (more ≡ []))) is_s handles in
       subst (λ r. Caused (r ++ more) all reaction) (sym none)
       (⊎_elim (λ t. tries_caused true c all rows work more reaction (inr pulled) (λ e. pulled) t) (λ t. subst (Caused more all) (sym t.0) tt) tries)
-  fetched server work asks made c s now request (Some (Store k n e b)) runs more reaction is_s none settles handles = absurd handles
+  fetched server work asks made c s now request (Some (Store k n ps)) runs more reaction is_s none settles handles = absurd handles
   fetched server work asks made c s now request (Some (Operate k e)) runs more reaction is_s none settles handles = absurd handles
   fetched server work asks made c s now request (Some (Pull k n)) runs more reaction is_s none settles handles = absurd handles
-  fetched server work asks made c s now request (Some (Accepted k n)) runs more reaction is_s none settles handles = absurd handles
-  fetched server work asks made c s now request (Some (Stale k n p t o)) runs more reaction is_s none settles handles = absurd handles
-  fetched server work asks made c s now request (Some (Unfit k n x f)) runs more reaction is_s none settles handles = absurd handles
+  fetched server work asks made c s now request (Some (Accepted k n u)) runs more reaction is_s none settles handles = absurd handles
+  fetched server work asks made c s now request (Some (Stale k n u p t o)) runs more reaction is_s none settles handles = absurd handles
+  fetched server work asks made c s now request (Some (Unfit k n u x f)) runs more reaction is_s none settles handles = absurd handles
   fetched server work asks made c s now request (Some (Gap k n l)) runs more reaction is_s none settles handles = absurd handles
   fetched server work asks made c s now request (Some (Done k n)) runs more reaction is_s none settles handles = absurd handles
   fetched server work asks made c s now request (Some (Declined k n e)) runs more reaction is_s none settles handles = absurd handles
-  fetched server work asks made c s now request (Some (Full k n x f)) runs more reaction is_s none settles handles = absurd handles
+  fetched server work asks made c s now request (Some (Full k n u x f)) runs more reaction is_s none settles handles = absurd handles
   fetched server work asks made c s now request (Some (Malformed k o)) runs more reaction is_s none settles handles = absurd handles
 
   closed_caused : (server : List ℕ) (asks made : List Ask) (runs : List Run) (failed c n : ℕ) (now before : Volume) (request reply : Message) → made ≡ settled Server server request failed reply

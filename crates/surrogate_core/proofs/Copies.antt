@@ -1,5 +1,5 @@
 -- After a handling the copy is the one from before, or a snapshot of it, or that one with the effects that were accepted.
-use Rattle.std.proofs.Common.{◌≡◌, ◌⊎◌, inl, inr, ⊎_elim, ℕ, zero, suc, ◌-◌, Bool, true, false, List, [], ◌∷◌, ◌++◌, Option, Some, None, Result, Ok, Err, refl, sym, ap, subst, append_assoc}
+use Rattle.std.proofs.Common.{◌≡◌, ◌⊎◌, inl, inr, ⊎_elim, ℕ, zero, suc, ◌+◌, ◌-◌, ◌<◌, ◌≤◌, Bool, true, false, List, [], ◌∷◌, ◌++◌, Option, Some, None, Result, Ok, Err, refl, sym, ap, subst, append_assoc, arith}
 use Rattle.std.proofs.lemmas.List.{append-nil}
 use Rattle.std.specs.Prelude.{find}
 use Rattle.std.specs.List.{flat_map}
@@ -18,9 +18,11 @@ use Rattle.replay_judge.specs.declared.verdict.Verdict.TheVariants as verdicts
 use Rattle.replay_judge.specs.Judgement.{IsJudgement}
 use Rattle.replay_judge.specs.Laws.{AgreementsFill}
 use Rattle.replay_judge.specs.declared.verdict.Verdict.{Verdict}
+use Rattle.wire_frames.specs.Parts.{part_of}
 use Rattle.wire_frames.specs.declared.cause.Cause.TheVariants.{NoMemory}
 use Rattle.wire_frames.specs.declared.message.Message.TheVariants.{Store, Operate, Pull, Accepted, Stale, Unfit, Gap, Snapshot, Done, Declined, Full, Malformed}
-use Rattle.wire_frames.specs.Frame.{Echoes}
+use Rattle.byte_fields.proofs.Facts.{le_of}
+use Rattle.wire_frames.specs.Frame.{IsValid, Echoes}
 use Rattle.wire_frames.specs.declared.cause.Cause.{Cause}
 use Rattle.wire_frames.specs.declared.message.Message.{Message}
 use Rattle.world_rules.specs.declared.asking.Peer.TheVariants.{Server}
@@ -41,7 +43,7 @@ module _ (agreements_fill : AgreementsFill) (client : ℕ) (sketched : SketchEnt
     pub same_client : c ≡ client
     pub same_number : n ≡ sketched.seq
     pub effects : List Effect
-    pub request_is : request ≡ Store client sketched.seq effects sketched.base
+    pub request_is : request ≡ Store client sketched.seq (part_of effects sketched.base ∷ [])
     pub fills : AllFill sketched.effects effects
     pub tried : IsTried copy asks before
     pub applied : apply_all 0 effects before ≡ Ok now
@@ -106,26 +108,30 @@ module _ (agreements_fill : AgreementsFill) (client : ℕ) (sketched : SketchEnt
 
   -- ---- a round
 
-  accepted_by : (n : ℕ) (effects : List Effect) (reply : Message) → Echoes (Store client n effects sketched.base) reply → refusal_kind reply ≡ None → reply ≡ Accepted client n
-  accepted_by n effects (Accepted c k) echoes none = λ i. Accepted (sym echoes.1 i) (sym echoes.2 i)
-  accepted_by n effects (Store c k e b) echoes none = absurd echoes.0
-  accepted_by n effects (Operate c s) echoes none = absurd echoes.0
-  accepted_by n effects (Pull c k) echoes none = absurd echoes.0
-  accepted_by n effects (Stale c k p t o) echoes none = absurd (cc)
-  accepted_by n effects (Unfit c k x f) echoes none = absurd (cc)
-  accepted_by n effects (Gap c k l) echoes none = absurd (cc)
-  accepted_by n effects (Snapshot c k l r) echoes none = absurd echoes.0
-  accepted_by n effects (Done c k) echoes none = absurd echoes.0
-  accepted_by n effects (Declined c k cause) echoes none = absurd echoes.0
-  accepted_by n effects (Full c k x f) echoes none = absurd (cc)
-  accepted_by n effects (Malformed c o) echoes none = absurd echoes.0
+  accepted_by : (n : ℕ) (effects : List Effect) (reply : Message) → IsValid reply → Echoes (Store client n (part_of effects sketched.base ∷ [])) reply → refusal_kind reply ≡ None → reply ≡ Accepted client n n
+  accepted_by n effects (Accepted c k u) valid echoes none =
+      let low : k ≤ u = le_of k u valid.body_fits.1 in
+      let high : u < n + 1 = echoes.3 in
+      let only : u ≡ n = omega (arith, low, high, echoes.2) in
+      λ i. Accepted (sym echoes.1 i) (sym echoes.2 i) (only i)
+  accepted_by n effects (Store c k ps) valid echoes none = absurd echoes.0
+  accepted_by n effects (Operate c s) valid echoes none = absurd echoes.0
+  accepted_by n effects (Pull c k) valid echoes none = absurd echoes.0
+  accepted_by n effects (Stale c k u p t o) valid echoes none = absurd (cc)
+  accepted_by n effects (Unfit c k u x f) valid echoes none = absurd (cc)
+  accepted_by n effects (Gap c k l) valid echoes none = absurd (cc)
+  accepted_by n effects (Snapshot c k l r) valid echoes none = absurd echoes.0
+  accepted_by n effects (Done c k) valid echoes none = absurd echoes.0
+  accepted_by n effects (Declined c k cause) valid echoes none = absurd echoes.0
+  accepted_by n effects (Full c k u x f) valid echoes none = absurd (cc)
+  accepted_by n effects (Malformed c o) valid echoes none = absurd echoes.0
 
   closed_on : (server : List ℕ) (asks : List Ask) (failed n : ℕ) (c : ℕ) (before now : Volume) (request reply : Message) → Asks asks c n before request now
-      → Echoes request reply → (kind : Option ℕ) → refusal_kind reply ≡ kind
+      → IsValid reply → Echoes request reply → (kind : Option ℕ) → refusal_kind reply ≡ kind
       → IsAt (asks ++ settled Server server request failed reply) (closed now c n before kind)
-  closed_on server asks failed n c before now request reply held echoes (Some kind) e = (held.same_client, held.same_number, tried_more asks _ before held.tried)
-  closed_on server asks failed n c before now request reply held echoes None e =
-      let is : reply ≡ Accepted client sketched.seq = accepted_by sketched.seq held.effects reply (subst (λ m. Echoes m reply) held.request_is echoes) e in (
+  closed_on server asks failed n c before now request reply held valid echoes (Some kind) e = (held.same_client, held.same_number, tried_more asks _ before held.tried)
+  closed_on server asks failed n c before now request reply held valid echoes None e =
+      let is : reply ≡ Accepted client sketched.seq sketched.seq = accepted_by sketched.seq held.effects reply valid (subst (λ m. Echoes m reply) held.request_is echoes) e in (
         held.same_client,
         held.same_number,
         record {
@@ -160,16 +166,16 @@ module _ (agreements_fill : AgreementsFill) (client : ℕ) (sketched : SketchEnt
       let tries = subst (λ d. Tries true rows d sketched work runs reaction ⊎ ((reaction ≡ declining now d sketched.seq NoMemory) × (runs ≡ []))) is_c
       (subst (λ e. Tries true rows c e work runs reaction ⊎ ((reaction ≡ declining now c e.seq NoMemory) × (runs ≡ []))) is_s handles) in
       subst (λ m. IsAt (asks ++ m) reaction) (sym settles.4) (snapshot_on server work asks settles.0 k n last rows now request runs reaction same tries)
-  fetched_on server work asks made c s now request (Some (Store k n e b)) runs reaction is_c is_s same settles handles = absurd handles
+  fetched_on server work asks made c s now request (Some (Store k n ps)) runs reaction is_c is_s same settles handles = absurd handles
   fetched_on server work asks made c s now request (Some (Operate k e)) runs reaction is_c is_s same settles handles = absurd handles
   fetched_on server work asks made c s now request (Some (Pull k n)) runs reaction is_c is_s same settles handles = absurd handles
-  fetched_on server work asks made c s now request (Some (Accepted k n)) runs reaction is_c is_s same settles handles = absurd handles
-  fetched_on server work asks made c s now request (Some (Stale k n p t o)) runs reaction is_c is_s same settles handles = absurd handles
-  fetched_on server work asks made c s now request (Some (Unfit k n x f)) runs reaction is_c is_s same settles handles = absurd handles
+  fetched_on server work asks made c s now request (Some (Accepted k n u)) runs reaction is_c is_s same settles handles = absurd handles
+  fetched_on server work asks made c s now request (Some (Stale k n u p t o)) runs reaction is_c is_s same settles handles = absurd handles
+  fetched_on server work asks made c s now request (Some (Unfit k n u x f)) runs reaction is_c is_s same settles handles = absurd handles
   fetched_on server work asks made c s now request (Some (Gap k n l)) runs reaction is_c is_s same settles handles = absurd handles
   fetched_on server work asks made c s now request (Some (Done k n)) runs reaction is_c is_s same settles handles = absurd handles
   fetched_on server work asks made c s now request (Some (Declined k n e)) runs reaction is_c is_s same settles handles = absurd handles
-  fetched_on server work asks made c s now request (Some (Full k n x f)) runs reaction is_c is_s same settles handles = absurd handles
+  fetched_on server work asks made c s now request (Some (Full k n u x f)) runs reaction is_c is_s same settles handles = absurd handles
   fetched_on server work asks made c s now request (Some (Malformed k o)) runs reaction is_c is_s same settles handles = absurd handles
 
   -- a store was asked
@@ -181,7 +187,7 @@ module _ (agreements_fill : AgreementsFill) (client : ℕ) (sketched : SketchEnt
   stored_on server work asks made c n before now request (Some reply) runs reaction held settles handles =
       subst (IsAt _) (sym handles.0)
       (subst (λ m. IsAt (asks ++ m) (closed now c n before (refusal_kind reply))) (sym settles.4)
-      (closed_on server asks settles.0 n c before now request reply held settles.3 (refusal_kind reply) refl))
+      (closed_on server asks settles.0 n c before now request reply held settles.2 settles.3 (refusal_kind reply) refl))
 
   round_on : (server work : List ℕ) (asks : List Ask) (step : Step) (phase : Phase) (now : Volume) (round : Round) → IsOn asks step phase now
       → IsRound server work (record { step = step; after = record { copy = now; phase = phase } }) round → IsAt (asks ++ round.asks) round.after
@@ -228,7 +234,7 @@ module _ (agreements_fill : AgreementsFill) (client : ℕ) (sketched : SketchEnt
   pub may_ask_on : (asks : List Ask) (request : Message) (phase : Phase) (now : Volume) → IsOn asks (steps.Ask request) phase now → MayAsk client sketched request
   may_ask_on asks request Idle now on = absurd on
   may_ask_on asks request (Fetching c s) now on = subst (MayAsk client sketched) (sym on.3) (refl, refl)
-  may_ask_on asks request (Holding c n before) now on = subst (MayAsk client sketched) (sym on.request_is) (refl, refl, refl, on.fills)
+  may_ask_on asks request (Holding c n before) now on = subst (MayAsk client sketched) (sym on.request_is) (refl, refl, (on.effects, refl, on.fills))
 
   -- each ask goes to the server at the address, and is one that the operation may ask
   abbrev pub AreOf : List ℕ → List Ask → Type 0

@@ -95,11 +95,11 @@ answered_so server request reply m failed ask among e = by (apart ask (failures 
     by (inr (inl is)) = ap (λ a. message_of a m) (sym (ap (λ a. a.answer) is) ∙ e)
     by (inr (inr none)) = absurd none
 
-module _ (server work : List ℕ) (ask : Ask) (k m : ℕ) (e : ask.answer ≡ Reply (Accepted k m)) where
+module _ (server work : List ℕ) (ask : Ask) (k m u : ℕ) (e : ask.answer ≡ Reply (Accepted k m u)) where
   abbrev IsDone : Reaction → Type 0
   IsDone reaction = (now : Volume) × (c n : ℕ) × (reaction ≡ answering now (Done c n))
 
-  came_done : (phase : Phase) (now : Volume) (runs : List Run) (reaction : Reaction) → HandlesReply phase now (Accepted k m) work runs reaction → IsDone reaction
+  came_done : (phase : Phase) (now : Volume) (runs : List Run) (reaction : Reaction) → HandlesReply phase now (Accepted k m u) work runs reaction → IsDone reaction
   came_done Idle now runs reaction handles = absurd handles
   came_done (Fetching c s) now runs reaction handles = absurd handles
   came_done (Holding c n before) now runs reaction handles = (now, c, n, handles.0)
@@ -110,7 +110,7 @@ module _ (server work : List ℕ) (ask : Ask) (k m : ℕ) (e : ask.answer ≡ Re
       absurd (subst IsAnswered (sym e ∙ ap (λ a. a.answer) (failed_in ask (ask_of Server server request Failed) 8 (subst (IsIn ask) settles among))) tt)
   settled_done request phase now asks (Some reply) runs reaction among settles handles =
       came_done phase now runs reaction (subst (λ r. HandlesReply phase now r work runs reaction)
-      (answered_so server request reply (Accepted k m) settles.0 ask (subst (IsIn ask) settles.4 among) e) handles)
+      (answered_so server request reply (Accepted k m u) settles.0 ask (subst (IsIn ask) settles.4 among) e) handles)
 
   round_done : (step : Step) (phase : Phase) (now : Volume) (round : Round) → IsIn ask round.asks
       → IsRound server work (record { step = step; after = record { copy = now; phase = phase } }) round → IsDone round.after
@@ -134,8 +134,8 @@ answer_of (steps.Answer reply) m = reply
 answer_of (steps.Ask request) m = m
 
 pub accepted_handlings : AgreementsFill → AcceptedHandlingsAreDone
-accepted_handlings agreements_fill server work copy after client sketched runs asks reply ask c n handling among e =
-    let done = goes_done server work ask c n e handling.rounds handling.first (answering after reply) (subst (IsIn ask) handling.asks_are among) handling.goes_on in
+accepted_handlings agreements_fill server work copy after client sketched runs asks reply ask c n u handling among e =
+    let done = goes_done server work ask c n u e handling.rounds handling.first (answering after reply) (subst (IsIn ask) handling.asks_are among) handling.goes_on in
     let is : reply ≡ Done done.1 done.2 = ap (λ r. answer_of r.step reply) done.3 in
     let ends = subst (EndsOperation client sketched copy asks after) is (keeps_the_copy agreements_fill client sketched copy server work runs asks reply after handling) in
     is ∙ ap (λ a. Done a done.2) ends.0 ∙ ap (Done client) ends.1

@@ -1,5 +1,5 @@
 -- What a copy refuses can be told, and what is agreed on can be asked.
-use Rattle.std.proofs.Common.{◌≡◌, inl, inr, ℕ, List, Option, Some, None, Result, Ok, Err, IfOk, subst}
+use Rattle.std.proofs.Common.{◌≡◌, inl, inr, ℕ, List, Option, Some, None, Result, Ok, Err, IfOk, sym, subst}
 use Rattle.std.specs.Prelude.{find}
 use Rattle.tree_values.specs.Tree.{Volume, IsTree}
 use Rattle.tree_values.specs.Effects.{apply_all}
@@ -18,6 +18,7 @@ use Rattle.replay_judge.specs.declared.verdict.Verdict.{Verdict}
 use Rattle.replay_judge.specs.declared.verdict.Verdict.TheVariants.{Agree, Status, OddTree, Mismatch}
 use Rattle.replay_judge.proofs.Agreed.{all_fill}
 use Rattle.wire_frames.specs.Frame.{IsValid}
+use Rattle.wire_frames.specs.declared.parts.Part.{Part}
 use Rattle.wire_frames.specs.declared.cause.Cause.{Cause}
 use Rattle.wire_frames.specs.declared.message.Message.TheVariants.{Store, Operate}
 use Rattle.wire_frames.proofs.Standing.{filled_stores}
@@ -61,7 +62,7 @@ agreed_fills sketched job outcome effects judged = all_fill sketched.effects _ e
 
 pub agreed_fit : (client : ℕ) (sketched : SketchEntry) (job : Job) (outcome : Outcome) (effects : List Effect) → IsValid (Operate client sketched)
     → IsJudgement sketched job outcome (Agree effects) → EffectsFit effects
-agreed_fit client sketched job outcome effects valid judged = (filled_stores client sketched effects valid (agreed_fills sketched job outcome effects judged)).body_fits.0
+agreed_fit client sketched job outcome effects valid judged = (filled_stores client sketched effects valid (agreed_fills sketched job outcome effects judged)).body_fits.each.0.0
 
 -- what is held is what was agreed on
 abbrev Holds : SketchEntry → Result HeldEffects Cause → Type 0
@@ -82,7 +83,8 @@ verdict_holds sketched copy job outcome (OddTree i) judged = tt
 verdict_holds sketched copy job outcome (Mismatch path) judged = tt
 
 pub store_valid : (client : ℕ) (sketched : SketchEntry) (old new : Volume) (job : Job) (outcome : Outcome) (result : Result Held Cause) → IsValid (Operate client sketched)
-    → IsJudgedReplay old new sketched job outcome result → IfOk result (λ held. IsValid (Store client sketched.seq held.effects sketched.base))
+    → IsJudgedReplay old new sketched job outcome result → IfOk result (λ held. IsValid (Store client sketched.seq held.entries))
 store_valid client sketched old new job outcome (Ok held) valid replayed =
-    filled_stores client sketched held.effects valid (subst (Holds sketched) replayed.held.0 (verdict_holds sketched old job outcome replayed.verdict replayed.judged))
+    subst (λ (parts : List Part). IsValid (Store client sketched.seq parts)) (sym replayed.held.entry)
+    (filled_stores client sketched replayed.held.effects valid (subst (Holds sketched) replayed.held.is_wanted (verdict_holds sketched old job outcome replayed.verdict replayed.judged)))
 store_valid client sketched old new job outcome (Err cause) valid replayed = tt

@@ -3,7 +3,8 @@ use Rattle.std.proofs.Common.{◌≡◌, inl, inr, ℕ, ◌-◌, List, [], ◌�
 use native.Mathlib.Decide.{ℕ_discrete}
 use Rattle.tree_values.specs.Lists.{IsIn}
 use Rattle.tree_values.specs.Tree.{Volume}
-use Rattle.tree_values.specs.declared.node.Base.{Base}
+use Rattle.wire_frames.specs.Parts.{part_of}
+use Rattle.wire_frames.specs.declared.parts.Part.{Part}
 use Rattle.mod_log.specs.declared.sketching.SketchEntry.{SketchEntry}
 use Rattle.replay_judge.proofs.Agreed.{all_fill}
 use Rattle.wire_frames.specs.Frame.{client_of, IsValid}
@@ -34,27 +35,26 @@ module _ (client : ℕ) (sketched : SketchEntry) where
 
   -- ---- what is asked
 
-  store_as : (of number : ℕ) (base : List Base) → of ≡ client → number ≡ sketched.seq → base ≡ sketched.base
-      → (effects : List _) → IsValid (Store client sketched.seq effects sketched.base) → IsValid (Store of number effects base)
-  store_as of number base is_client is_number is_base effects valid =
-      subst (λ (c : ℕ). IsValid (Store c number effects base)) (sym is_client)
-      (subst (λ (n : ℕ). IsValid (Store client n effects base)) (sym is_number)
-      (subst (λ (b : List Base). IsValid (Store client sketched.seq effects b)) (sym is_base) valid))
+  store_as : (of number : ℕ) (parts other : List Part) → of ≡ client → number ≡ sketched.seq → parts ≡ other → IsValid (Store client sketched.seq other) → IsValid (Store of number parts)
+  store_as of number parts other is_client is_number are valid =
+      subst (λ (c : ℕ). IsValid (Store c number parts)) (sym is_client)
+      (subst (λ (n : ℕ). IsValid (Store client n parts)) (sym is_number)
+      (subst (λ (ps : List Part). IsValid (Store client sketched.seq ps)) (sym are) valid))
 
   pull_as : (of number : ℕ) → of ≡ client → number ≡ sketched.seq - 1 → IsValid (Pull client (sketched.seq - 1)) → IsValid (Pull of number)
   pull_as of number is_client is_number valid =
       subst (λ (c : ℕ). IsValid (Pull c number)) (sym is_client) (subst (λ (n : ℕ). IsValid (Pull client n)) (sym is_number) valid)
 
   pub may_ask_valid : IsValid (Operate client sketched) → (message : Message) → MayAsk client sketched message → IsValid message
-  may_ask_valid valid (Store of number effects base) may = store_as of number base may.0 may.1 may.2 effects (filled_stores client sketched effects valid may.3)
+  may_ask_valid valid (Store of number parts) may = store_as of number parts (part_of may.2.0 sketched.base ∷ []) may.0 may.1 may.2.1 (filled_stores client sketched may.2.0 valid may.2.2)
   may_ask_valid valid (Pull of number) may = pull_as of number may.0 may.1 (pull_valid client sketched valid)
   may_ask_valid valid _ may = absurd may
 
   pub may_ask_free : IsValid (Operate client sketched) → (message : Message) (world : World) → MayAsk client sketched message
       → (client ≡ world.client → IsIn (Operate client sketched) world.packets) → IsFree world message
-  may_ask_free valid (Store of number effects base) world may operated =
-      free_as client (Store of number effects base) world (may_ask_valid valid (Store of number effects base) may) may.0
-      (λ own. (may.0 ∙ own, (sketched, there world operated own, (may.1, may.2, may.3)))) (ℕ_discrete client world.client)
+  may_ask_free valid (Store of number parts) world may operated =
+      free_as client (Store of number parts) world (may_ask_valid valid (Store of number parts) may) may.0
+      (λ own. (may.0 ∙ own, (sketched, there world operated own, (may.1, may.2)))) (ℕ_discrete client world.client)
   may_ask_free valid (Pull of number) world may operated =
       free_as client (Pull of number) world (may_ask_valid valid (Pull of number) may) may.0
       (λ own. (may.0 ∙ own, (sketched, there world operated own, may.1))) (ℕ_discrete client world.client)
@@ -73,14 +73,17 @@ module _ (client : ℕ) (sketched : SketchEntry) where
       free_as client (Declined of number cause) world valid ends.0 (λ own. (ends.0 ∙ own, (sketched, there world operated own, ends.1))) (ℕ_discrete client world.client)
   ends_free world operated copy after asks (Done of number) stand valid ends =
       let done = ends.2 in
-      let accepted : IsIn (Accepted client sketched.seq) world.packets =
+      let accepted : IsIn (Accepted client sketched.seq sketched.seq) world.packets =
       (subst (λ (a : Answer). ReplyStands world done.ask.request a) done.accepted (stands world done.ask asks stand done.among)).0 in
       free_as client (Done of number) world valid ends.0
       (λ own. (
         ends.0 ∙ own,
         (sketched, there world operated own, ends.1),
-        subst (λ (c : ℕ). IsIn (Accepted c number) world.packets) own
-            (subst (λ (n : ℕ). IsIn (Accepted client n) world.packets) (sym ends.1) accepted),
+        (
+          sketched.seq,
+          subst (λ (c : ℕ). IsIn (Accepted c number sketched.seq) world.packets) own
+              (subst (λ (n : ℕ). IsIn (Accepted client n sketched.seq) world.packets) (sym ends.1) accepted),
+        ),
       )) (ℕ_discrete client world.client)
   ends_free world operated copy after asks _ stand valid ends = absurd ends
 

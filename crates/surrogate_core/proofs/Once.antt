@@ -83,16 +83,16 @@ module _ (sketched : SketchEntry) (work : List ℕ) where
       let tries : Tries true rows c sketched work more reaction ⊎ ((reaction ≡ declining now c sketched.seq NoMemory) × (more ≡ [])) =
       subst (λ e. Tries true rows c e work more reaction ⊎ ((reaction ≡ declining now c e.seq NoMemory) × (more ≡ []))) is_s handles in
       subst (λ r. Once (r ++ more) reaction) (sym none) (⊎_elim (λ t. tries_once true rows c more reaction t) (λ t. subst (Once more) (sym t.0) (none_run more t.1)) tries)
-  fetched c s now (Some (Store k n e b)) runs more reaction is_s none handles = absurd handles
+  fetched c s now (Some (Store k n ps)) runs more reaction is_s none handles = absurd handles
   fetched c s now (Some (Operate k e)) runs more reaction is_s none handles = absurd handles
   fetched c s now (Some (Pull k n)) runs more reaction is_s none handles = absurd handles
-  fetched c s now (Some (Accepted k n)) runs more reaction is_s none handles = absurd handles
-  fetched c s now (Some (Stale k n p t o)) runs more reaction is_s none handles = absurd handles
-  fetched c s now (Some (Unfit k n x f)) runs more reaction is_s none handles = absurd handles
+  fetched c s now (Some (Accepted k n u)) runs more reaction is_s none handles = absurd handles
+  fetched c s now (Some (Stale k n u p t o)) runs more reaction is_s none handles = absurd handles
+  fetched c s now (Some (Unfit k n u x f)) runs more reaction is_s none handles = absurd handles
   fetched c s now (Some (Gap k n l)) runs more reaction is_s none handles = absurd handles
   fetched c s now (Some (Done k n)) runs more reaction is_s none handles = absurd handles
   fetched c s now (Some (Declined k n e)) runs more reaction is_s none handles = absurd handles
-  fetched c s now (Some (Full k n x f)) runs more reaction is_s none handles = absurd handles
+  fetched c s now (Some (Full k n u x f)) runs more reaction is_s none handles = absurd handles
   fetched c s now (Some (Malformed k o)) runs more reaction is_s none handles = absurd handles
 
   closed_once : (c n : ℕ) (now before : Volume) (runs : List Run) (kind : Option ℕ) → IsOfJob sketched work runs → Once runs (closed now c n before kind)

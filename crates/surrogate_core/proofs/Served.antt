@@ -9,6 +9,7 @@ use Rattle.cmd_capture.specs.declared.runner.Run.{Run}
 use Rattle.cmd_capture.specs.Runs.{RunnerTelling, HasRun}
 use Rattle.mod_log.specs.declared.sketching.SketchEntry.{SketchEntry}
 use Rattle.replay_judge.proofs.Agreed.{all_fill}
+use Rattle.wire_frames.specs.Parts.{part_of}
 use Rattle.wire_frames.specs.declared.message.Message.{Message}
 use Rattle.wire_frames.specs.declared.message.Message.TheVariants as messages
 use Rattle.wire_frames.specs.declared.message.Message.TheVariants.{Store, Operate, Pull}
@@ -116,7 +117,7 @@ module _ (server work : List ℕ) (copy : Volume) (client : ℕ) (sketched : Ske
       Pull_of : ℕ → SketchEntry → Message
       Pull_of x e = Pull x (e.seq - 1)
   awaits_on asks request (Holding c n before) now is =
-      (is.effects, sketched.base, is.request_is ∙ ap (λ (x : ℕ). Store x sketched.seq is.effects sketched.base) (sym is.same_client) ∙ ap (λ (k : ℕ). Store c k is.effects sketched.base) (sym is.same_number))
+      (is.effects, sketched.base, is.request_is ∙ ap (λ (x : ℕ). Store x sketched.seq (part_of is.effects sketched.base ∷ [])) (sym is.same_client) ∙ ap (λ (k : ℕ). Store c k (part_of is.effects sketched.base ∷ [])) (sym is.same_number))
 
   waits_on : (asks : List Ask) (reply : Message) (phase : Phase) (now : Volume) → IsOn all_fill client sketched copy asks (steps.Answer reply) phase now → phase ≡ Idle
   waits_on asks reply Idle now is = refl

@@ -14,6 +14,7 @@ use Rattle.mod_log.specs.declared.sketching.SketchEntry.{SketchEntry}
 use Rattle.wire_frames.specs.declared.cause.Cause.{Cause}
 use Rattle.wire_frames.specs.declared.cause.Cause.TheVariants.{NotRun, NoMemory}
 use Rattle.wire_frames.specs.declared.message.Message.{Message}
+use Rattle.wire_frames.specs.declared.parts.Part.{Part}
 use Rattle.wire_frames.specs.declared.message.Message.TheVariants as messages
 use Rattle.surrogate_core.specs.declared.step.Step.{Step}
 use Rattle.surrogate_core.specs.declared.step.Step.TheVariants as steps
@@ -88,11 +89,12 @@ module _ (pulled : Bool) (copy : Volume) (client : ℕ) (sketched : SketchEntry)
         by : (result : Result Held Cause) → (replayed : IsJudgedReplay copy now sketched job outcome result) → IsConcluded client sketched result step state
             → reaction_of step state now ≡ after_verdict copy client sketched (held_by copy job replayed.verdict)
         by (Ok held) replayed concluded =
-            let asks = steps.Ask (messages.Store client sketched.seq held.effects sketched.base) in
+            let asks = steps.Ask (messages.Store client sketched.seq held.entries) in
             ap (λ (s : Step). reaction_of s state now) concluded.0
             ∙ ap (λ (s : State). reaction_of asks s now) concluded.1
-            ∙ ap (λ (before : Volume). record { step = asks; after = record { copy = now; phase = Holding client sketched.seq before } }) replayed.held.1.undoes
-            ∙ sym (ap (after_verdict copy client sketched) replayed.held.0)
+            ∙ ap (λ (before : Volume). record { step = asks; after = record { copy = now; phase = Holding client sketched.seq before } }) replayed.held.undoes
+            ∙ ap (λ (parts : List Part). record { step = steps.Ask (messages.Store client sketched.seq parts); after = record { copy = now; phase = Holding client sketched.seq copy } }) replayed.held.entry
+            ∙ sym (ap (after_verdict copy client sketched) replayed.held.is_wanted)
         by (Err cause) replayed concluded =
             let answers = steps.Answer (messages.Declined client sketched.seq cause) in
             ap (λ (s : Step). reaction_of s state now) concluded.0
@@ -145,16 +147,16 @@ starved_still pulled client sketched work machine state old new step runner ran 
 starved_snapshot : (client : ℕ) (sketched : SketchEntry) (copy : Volume) (reply : Message) (rows : Volume) (work : List ℕ) (reaction : Reaction) → snapshot_rows reply ≡ Some rows
     → reaction ≡ declining copy client sketched.seq NoMemory → HandlesReply (Fetching client sketched) copy reply work [] reaction
 starved_snapshot client sketched copy (messages.Snapshot c n last seen) rows work reaction found is = inr (is, refl)
-starved_snapshot client sketched copy (messages.Store c n es bs) rows work reaction found is = absurd (cc)
+starved_snapshot client sketched copy (messages.Store c n ps) rows work reaction found is = absurd (cc)
 starved_snapshot client sketched copy (messages.Operate c e) rows work reaction found is = absurd (cc)
 starved_snapshot client sketched copy (messages.Pull c n) rows work reaction found is = absurd (cc)
-starved_snapshot client sketched copy (messages.Accepted c n) rows work reaction found is = absurd (cc)
-starved_snapshot client sketched copy (messages.Stale c n p theirs ours) rows work reaction found is = absurd (cc)
-starved_snapshot client sketched copy (messages.Unfit c n i fault) rows work reaction found is = absurd (cc)
+starved_snapshot client sketched copy (messages.Accepted c n u) rows work reaction found is = absurd (cc)
+starved_snapshot client sketched copy (messages.Stale c n u p theirs ours) rows work reaction found is = absurd (cc)
+starved_snapshot client sketched copy (messages.Unfit c n u i fault) rows work reaction found is = absurd (cc)
 starved_snapshot client sketched copy (messages.Gap c n last) rows work reaction found is = absurd (cc)
 starved_snapshot client sketched copy (messages.Done c n) rows work reaction found is = absurd (cc)
 starved_snapshot client sketched copy (messages.Declined c n why) rows work reaction found is = absurd (cc)
-starved_snapshot client sketched copy (messages.Full c n i fault) rows work reaction found is = absurd (cc)
+starved_snapshot client sketched copy (messages.Full c n u i fault) rows work reaction found is = absurd (cc)
 starved_snapshot client sketched copy (messages.Malformed code offset) rows work reaction found is = absurd (cc)
 
 pub snapshot_starved : (client : ℕ) (sketched : SketchEntry) (machine : Machine) (reply : Message) (rows : Volume) (work : List ℕ) (step : Step) (runner : RunnerTelling) → machine.phase ≡ Idle
@@ -179,14 +181,14 @@ tried_snapshot client sketched copy (messages.Snapshot c n last seen) rows work 
     some_of : Option Volume → Volume → Volume
     some_of (Some r) d = r
     some_of None d = d
-tried_snapshot client sketched copy (messages.Store c n es bs) rows work runs reaction found tries = absurd (cc)
+tried_snapshot client sketched copy (messages.Store c n ps) rows work runs reaction found tries = absurd (cc)
 tried_snapshot client sketched copy (messages.Operate c e) rows work runs reaction found tries = absurd (cc)
 tried_snapshot client sketched copy (messages.Pull c n) rows work runs reaction found tries = absurd (cc)
-tried_snapshot client sketched copy (messages.Accepted c n) rows work runs reaction found tries = absurd (cc)
-tried_snapshot client sketched copy (messages.Stale c n p theirs ours) rows work runs reaction found tries = absurd (cc)
-tried_snapshot client sketched copy (messages.Unfit c n i fault) rows work runs reaction found tries = absurd (cc)
+tried_snapshot client sketched copy (messages.Accepted c n u) rows work runs reaction found tries = absurd (cc)
+tried_snapshot client sketched copy (messages.Stale c n u p theirs ours) rows work runs reaction found tries = absurd (cc)
+tried_snapshot client sketched copy (messages.Unfit c n u i fault) rows work runs reaction found tries = absurd (cc)
 tried_snapshot client sketched copy (messages.Gap c n last) rows work runs reaction found tries = absurd (cc)
 tried_snapshot client sketched copy (messages.Done c n) rows work runs reaction found tries = absurd (cc)
 tried_snapshot client sketched copy (messages.Declined c n why) rows work runs reaction found tries = absurd (cc)
-tried_snapshot client sketched copy (messages.Full c n i fault) rows work runs reaction found tries = absurd (cc)
+tried_snapshot client sketched copy (messages.Full c n u i fault) rows work runs reaction found tries = absurd (cc)
 tried_snapshot client sketched copy (messages.Malformed code offset) rows work runs reaction found tries = absurd (cc)

@@ -22,6 +22,7 @@ use Rattle.replay_judge.specs.Judgement.{IsJudgement}
 use Rattle.replay_judge.specs.declared.verdict.Verdict.{Verdict}
 use Rattle.replay_judge.specs.declared.verdict.Verdict.TheVariants as verdicts
 use Rattle.wire_frames.specs.Frame.{IsValid, Echoes}
+use Rattle.wire_frames.specs.Parts.{part_of}
 use Rattle.wire_frames.specs.declared.cause.Cause.{Cause}
 use Rattle.wire_frames.specs.declared.cause.Cause.TheVariants.{OtherJob, NoJob, NoServer, NotRun, Status, OddTree, Mismatch, Clash, NotFit}
 use Rattle.wire_frames.specs.declared.cause.Cause.TheVariants.{Refused, NoMemory}
@@ -131,7 +132,7 @@ held_by copy job (verdicts.Agree effects) = unless_clash copy effects (find (cla
 -- the store of what the copy took is asked
 abbrev pub after_verdict : Volume → ℕ → SketchEntry → Result Held Cause → Reaction
 after_verdict copy client sketched (Ok held) = record {
-  step = steps.Ask (Store client sketched.seq held.effects sketched.base);
+  step = steps.Ask (Store client sketched.seq (part_of held.effects sketched.base ∷ []));
   after = record { copy = held.copy; phase = Holding client sketched.seq copy };
 }
 after_verdict copy client sketched (Err cause) = declining copy client sketched.seq cause
@@ -175,10 +176,10 @@ Operates copy work message runs reaction = (reaction ≡ answering copy (Malform
 
 -- the number of a reply's kind, where it refuses a store
 abbrev pub refusal_kind : Message → Option ℕ
-refusal_kind (Stale client number path theirs ours) = Some 18
-refusal_kind (Unfit client number index fault) = Some 19
+refusal_kind (Stale client number upto path theirs ours) = Some 18
+refusal_kind (Unfit client number upto index fault) = Some 19
 refusal_kind (Gap client number last) = Some 20
-refusal_kind (Full client number index fault) = Some 24
+refusal_kind (Full client number upto index fault) = Some 24
 refusal_kind message = None
 
 -- what was held is kept where the store was accepted, and else taken back
@@ -191,7 +192,7 @@ abbrev pub Expects : Phase → Message → Type 0
 Expects Idle reply = ⊥
 Expects (Fetching client sketched) reply = IsValid reply × Echoes (Pull client (sketched.seq - 1)) reply
 Expects (Holding client number before) reply =
-    IsValid reply × ((effects : List Effect) × (base : List Base) × Echoes (Store client number effects base) reply)
+    IsValid reply × ((effects : List Effect) × (base : List Base) × Echoes (Store client number (part_of effects base ∷ [])) reply)
 
 -- What a reply comes to. A snapshot is the copy from here on, unless memory is wanted for it.
 abbrev pub HandlesReply : Phase → Volume → Message → List ℕ → List Run → Reaction → Type 0

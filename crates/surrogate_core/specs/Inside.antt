@@ -1,5 +1,5 @@
 -- How the surrogate's fields stand for what callers see, and what its private functions give one another.
-use Rattle.std.specs.Prelude.{◌≡◌, ℕ, ◌-◌, List, [], Option, Some, None, Result, Ok, Err}
+use Rattle.std.specs.Prelude.{◌≡◌, ℕ, ◌-◌, List, [], ◌∷◌, Option, Some, None, Result, Ok, Err}
 use Rattle.tree_values.specs.Tree.{Volume}
 use Rattle.tree_values.specs.declared.node.Effect.{Effect}
 use Rattle.tree_values.specs.declared.node.Base.{Base}
@@ -12,6 +12,7 @@ use Rattle.mod_log.specs.declared.sketching.SketchEntry.{SketchEntry}
 use Rattle.replay_judge.specs.declared.verdict.Verdict.{Verdict}
 use Rattle.replay_judge.specs.Judgement.{IsJudgement}
 use Rattle.wire_frames.specs.Frame.{IsValid}
+use Rattle.wire_frames.specs.Parts.{part_of}
 use Rattle.wire_frames.specs.declared.cause.Cause.{Cause}
 use Rattle.wire_frames.specs.declared.message.Message.{Message}
 use Rattle.wire_frames.specs.declared.message.Message.TheVariants.{Store, Operate, Pull, Snapshot, Done, Declined, Malformed}
@@ -58,27 +59,30 @@ snapshot_rows message = None
 
 -- ---- trying an operation
 
--- the copy took these effects, and gives them back
-pub record TakesEffects (old new : Volume) (held : Held) : Type 0 where
+-- the copy took these effects, which are those of the one entry that is held, and gives them back
+pub record TakesEffects (old new : Volume) (base : List Base) (wanted : Result HeldEffects Cause) (held : Held) : Type 0 where
+  pub effects : List Effect
+  pub is_wanted : wanted ≡ Ok (record { effects = effects; copy = new })
+  pub entry : held.entries ≡ part_of effects base ∷ []
   pub undoes : undone_all held.undos.items new ≡ old
   pub can_undo : CanUndoAll held.undos.items new
 
 -- what is held came to this, and left the copy with the effects or as it was
-abbrev pub IsHeld : Volume → Volume → Result HeldEffects Cause → Result Held Cause → Type 0
-IsHeld old new wanted (Ok held) = (wanted ≡ Ok (record { effects = held.effects; copy = new })) × TakesEffects old new held
-IsHeld old new wanted (Err cause) = (wanted ≡ Err cause) × (new ≡ old)
+abbrev pub IsHeld : Volume → Volume → List Base → Result HeldEffects Cause → Result Held Cause → Type 0
+IsHeld old new base wanted (Ok held) = TakesEffects old new base wanted held
+IsHeld old new base wanted (Err cause) = (wanted ≡ Err cause) × (new ≡ old)
 
 -- the outcome was judged, and that came to this
 pub record IsJudgedReplay (old new : Volume) (sketched : SketchEntry) (job : Job) (outcome : Outcome) (result : Result Held Cause) :
     Type 0 where
   pub verdict : Verdict
   pub judged : IsJudgement sketched job outcome verdict
-  pub held : IsHeld old new (held_by old job verdict) result
+  pub held : IsHeld old new sketched.base (held_by old job verdict) result
 
 -- the step and the state behind a run: the store of what is held is asked, or the operation is declined
 abbrev pub IsConcluded : ℕ → SketchEntry → Result Held Cause → Step → State → Type 0
 IsConcluded client sketched (Ok held) step state =
-    (step ≡ steps.Ask (Store client sketched.seq held.effects sketched.base)) × (state ≡ IsHolding client sketched.seq held.undos)
+    (step ≡ steps.Ask (Store client sketched.seq held.entries)) × (state ≡ IsHolding client sketched.seq held.undos)
 IsConcluded client sketched (Err cause) step state = (step ≡ steps.Answer (Declined client sketched.seq cause)) × (state ≡ IsIdle)
 
 -- memory was wanted before a run, or behind it
@@ -98,7 +102,8 @@ asks_left (Holding client number before) = 1
 abbrev pub Awaits : Phase → Message → Type 0
 Awaits Idle asked = ⊥
 Awaits (Fetching client sketched) asked = asked ≡ Pull client (sketched.seq - 1)
-Awaits (Holding client number before) asked = (effects : List Effect) × (base : List Base) × (asked ≡ Store client number effects base)
+Awaits (Holding client number before) asked =
+    (effects : List Effect) × (base : List Base) × (asked ≡ Store client number (part_of effects base ∷ []))
 
 -- what a link tells of these asks of one request
 pub record Asked (request : Message) (asks : List Ask) (old new : LinkTelling) : Type 0 where

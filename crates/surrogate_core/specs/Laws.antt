@@ -13,6 +13,7 @@ use Rattle.mod_log.specs.declared.sketching.SketchEntry.{SketchEntry}
 use Rattle.replay_judge.specs.Judgement.{IsJudgement}
 use Rattle.replay_judge.specs.declared.verdict.Verdict.{Verdict}
 use Rattle.replay_judge.specs.declared.verdict.Verdict.TheVariants as verdicts
+use Rattle.wire_frames.specs.Parts.{part_of}
 use Rattle.wire_frames.specs.declared.cause.Cause.{Cause}
 use Rattle.wire_frames.specs.declared.cause.Cause.TheVariants.{OtherJob, NoJob, NoServer, NotRun, Status, OddTree, Mismatch, Clash, NotFit}
 use Rattle.wire_frames.specs.declared.cause.Cause.TheVariants.{Refused, NoMemory}
@@ -77,8 +78,8 @@ pub record IsDoneBy (client : ℕ) (sketched : SketchEntry) (copy : Volume) (ask
   pub fills : AllFill sketched.effects effects
   pub ask : Ask
   pub among : IsIn ask asks
-  pub asked : ask.request ≡ messages.Store client sketched.seq effects sketched.base
-  pub accepted : ask.answer ≡ Reply (messages.Accepted client sketched.seq)
+  pub asked : ask.request ≡ messages.Store client sketched.seq (part_of effects sketched.base ∷ [])
+  pub accepted : ask.answer ≡ Reply (messages.Accepted client sketched.seq sketched.seq)
   pub copy_is : apply_all 0 effects tried ≡ Ok after
 
 -- the answer is of the operation; a decline leaves the tried copy as it was, and Done leaves it with what was accepted
@@ -186,6 +187,6 @@ JudgedTriesGoOn = (pulled : Bool) (tried : Volume) (client : ℕ) (sketched : Sk
 abbrev pub AcceptedHandlingsAreDone : Type 0
 AcceptedHandlingsAreDone =
     (server work : List ℕ) (copy after : Volume) (client : ℕ) (sketched : SketchEntry) (runs : List Run) (asks : List Ask) (reply : Message)
-    (ask : Ask) (of number : ℕ) → Handling server work copy client sketched runs asks reply after → IsIn ask asks
-    → ask.answer ≡ Reply (messages.Accepted of number)
+    (ask : Ask) (of number upto : ℕ) → Handling server work copy client sketched runs asks reply after → IsIn ask asks
+    → ask.answer ≡ Reply (messages.Accepted of number upto)
     → reply ≡ messages.Done client sketched.seq

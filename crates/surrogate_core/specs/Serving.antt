@@ -1,17 +1,16 @@
 -- What serving one message did.
-use Rattle.std.specs.Prelude.{◌≡◌, ℕ, ◌-◌, List, [], Option, Result, Ok, Err}
+use Rattle.std.specs.Prelude.{◌≡◌, ℕ, ◌-◌, List, [], Result, Ok, Err}
 use Rattle.std.specs.declared.alloc.AllocError.{AllocError}
 use Rattle.tree_values.specs.Tree.{Volume}
 use Rattle.cmd_capture.specs.declared.runner.Run.{Run}
 use Rattle.cmd_capture.specs.Runs.{RunnerTelling, HasRun}
-use Rattle.mod_log.specs.Sketched.{AllFill}
 use Rattle.mod_log.specs.declared.sketching.SketchEntry.{SketchEntry}
 use Rattle.wire_frames.specs.declared.cause.Cause.{Cause}
 use Rattle.wire_frames.specs.declared.cause.Cause.TheVariants.{NotRun}
 use Rattle.wire_frames.specs.declared.message.Message.{Message}
 use Rattle.wire_frames.specs.declared.message.Message.TheVariants.{Store, Operate, Pull, Declined, Malformed}
 use Rattle.world_rules.specs.declared.asking.Ask.{Ask}
-use Rattle.world_rules.specs.World.{World, MovedBy}
+use Rattle.world_rules.specs.World.{World, MovedBy, AreFilled}
 use Rattle.world_rules.specs.Asking.{AnswersStand}
 use Rattle.world_rules.specs.Settling.{failed_asks}
 use Rattle.world_rules.specs.Telling.{LinkTelling, ToldWorlds, HadTroubles}
@@ -45,8 +44,7 @@ pub record Steps (did : List Run → Reaction → Type 0) (reaction : Reaction) 
 
 -- what a handling may ask
 abbrev pub MayAsk : ℕ → SketchEntry → Message → Type 0
-MayAsk client sketched (Store of number effects base) =
-    (of ≡ client) × (number ≡ sketched.seq) × (base ≡ sketched.base) × AllFill sketched.effects effects
+MayAsk client sketched (Store of number parts) = (of ≡ client) × (number ≡ sketched.seq) × AreFilled sketched parts
 MayAsk client sketched (Pull of number) = (of ≡ client) × (number ≡ sketched.seq - 1)
 MayAsk client sketched _ = ⊥
 

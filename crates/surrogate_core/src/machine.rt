@@ -1,6 +1,6 @@
 //! The surrogate's machine: its copy, and what it waits for.
 
-ghost use Rattle.std.specs.Prelude.{◌≡◌, ℕ, Bool, [], None, false, true, Ok, Err, IfOk, IfErr, IfSome, OnErr};
+ghost use Rattle.std.specs.Prelude.{◌≡◌, Bool, [], None, false, true, Ok, Err, IfOk, IfErr, IfSome, OnErr};
 ghost use Rattle.cmd_capture.specs.Rows.{AreJobRows};
 ghost use Rattle.tree_values.specs.Tree.{Volume};
 ghost use Rattle.vol_tree.specs.Undos.{undone_all, CanUndoAll};
@@ -10,7 +10,7 @@ ghost use Rattle.wire_frames.specs.Frame.{IsValid};
 ghost use Rattle.wire_frames.specs.declared.message.Message.TheVariants.{Store, Operate, Done, Declined};
 ghost use Rattle.surrogate_core.specs.declared.step.Step.TheVariants as steps;
 ghost use Rattle.surrogate_core.specs.declared.machine.State.TheVariants as states;
-ghost use Rattle.surrogate_core.specs.Handling.{Idle, Fetching, IsAsking, is_fetching, idle, copy_before, declining, job_for};
+ghost use Rattle.surrogate_core.specs.Handling.{Idle, Fetching, IsAsking, is_fetching, idle, copy_before, job_for};
 ghost use Rattle.surrogate_core.specs.Handling.{closed, refusal_kind, Tries, Operates, AfterJob, Expects, HandlesReply};
 ghost use Rattle.surrogate_core.specs.Handling.{IsSilenced, IsFitStep};
 ghost use Rattle.cmd_capture.specs.Runs.{telling, IsAskedOnce, IsAskedAtMostOnce};
@@ -371,7 +371,7 @@ fn perform<R: Runner>(
 #[tactic(auto, using(crate::proofs::Valid::done_valid))]
 fn conclude(client: u8, sketched: SketchEntry, held: Result<Held, Cause>) -> (Step, State)
     requires valid { IsValid (Operate client sketched) }
-    requires store { IfOk held (λ held. IsValid (Store client sketched.seq held.effects sketched.base)) }
+    requires store { IfOk held (λ held. IsValid (Store client sketched.seq held.entries)) }
     requires cause { IfErr held CauseFits }
     requires none_failed { IfErr held (λ cause. failed_cause cause ≡ 0) }
     ensures held { IsConcluded client sketched held result.0 result.1 }
@@ -391,23 +391,19 @@ fn conclude(client: u8, sketched: SketchEntry, held: Result<Held, Cause>) -> (St
 
 /// Asks for the store of effects that the copy has taken.
 fn hold(client: u8, sketched: SketchEntry, held: Held) -> (Step, State)
-    requires { IsValid (Store client sketched.seq held.effects sketched.base) }
-    ensures step { result.0 ≡ steps.Ask (Store client sketched.seq held.effects sketched.base) }
+    requires { IsValid (Store client sketched.seq held.entries) }
+    ensures step { result.0 ≡ steps.Ask (Store client sketched.seq held.entries) }
     ensures state { result.1 ≡ states.Holding client sketched.seq held.undos }
     ensures sent { IsFitStep result.0 }
 {
-    let SketchEntry {
-        seq: number,
-        base,
-        ..
-    } = sketched;
-    let Held { effects, undos } = held;
+    let number = sketched.seq;
+    drop(sketched);
+    let Held { entries, undos } = held;
     (
         Step::Ask(Message::Store {
             client,
             number,
-            effects,
-            base,
+            entries,
         }),
         State::Holding {
             client,

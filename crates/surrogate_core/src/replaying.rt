@@ -1,5 +1,5 @@
 // The job of an operation, and what its outcome comes to on the copy.
-ghost use Rattle.std.specs.Prelude.{◌≡◌, ℕ, find, if◌then◌else◌, Ok, Err, IfOk, IfErr, OnErr};
+ghost use Rattle.std.specs.Prelude.{◌≡◌, ℕ, [], ◌∷◌, find, if◌then◌else◌, Ok, Err, IfOk, IfErr, OnErr};
 ghost use Rattle.std.specs.Str.{bytes_eq};
 ghost use Rattle.byte_fields.specs.Codec.{IsBytes};
 ghost use Rattle.tree_values.specs.Spelling.{EffectsFit};
@@ -9,6 +9,7 @@ ghost use Rattle.work_area.specs.Changes.{clashes, first_path as path_of};
 ghost use Rattle.wire_frames.specs.Cause.{CauseFits};
 ghost use Rattle.wire_frames.specs.declared.cause.Cause.TheVariants.{OtherJob, Clash};
 ghost use Rattle.wire_frames.specs.Frame.{IsValid};
+ghost use Rattle.wire_frames.specs.Parts.{part_of};
 ghost use Rattle.wire_frames.specs.declared.message.Message.TheVariants.{Operate};
 ghost use Rattle.surrogate_core.specs.Handling.{job_for, unless_clash};
 ghost use Rattle.surrogate_core.specs.Serving.{failed_cause};
@@ -18,14 +19,15 @@ use cmd_capture::{Job, Outcome, job_print};
 use mod_log::SketchEntry;
 use replay_judge::{Verdict, judge};
 use std::alloc::{AllocError, Global};
-use vol_tree::{ApplyAllError, Effect, Effects, Tree, TryCopy, Undo, apply_all};
-use wire_frames::Cause;
+use vol_tree::{ApplyAllError, Bases, Effect, Effects, Tree, TryCopy, Undo, apply_all};
+use wire_frames::{Cause, Part, Parts};
 use work_area::{JobError, clashing, first_path, job_of};
 
 /// Agreed effects that the copy has taken, and how they are undone.
 #[derive(Drop)]
 pub(crate) struct Held {
-    pub(crate) effects: Effects,
+    /// The one entry of the store.
+    pub(crate) entries: Parts,
     pub(crate) undos: Vec<Undo>,
 }
 
@@ -92,7 +94,7 @@ pub(crate) fn replay(
     ensures none_failed { IfOk result (λ held. IfErr held (λ cause. failed_cause cause ≡ 0)) }
 {
     match judge(alloc, sketched, job, outcome) {
-        Ok(Verdict::Agree(effects)) => take(copy, job, effects),
+        Ok(Verdict::Agree(effects)) => take(alloc, copy, job, effects, &sketched.base),
         Ok(Verdict::Status { logged, replayed }) => Ok(Err(Cause::Status { logged, replayed })),
         Ok(Verdict::OddTree(index)) => Ok(Err(Cause::OddTree(index))),
         Ok(Verdict::Mismatch(path)) => {
@@ -103,11 +105,19 @@ pub(crate) fn replay(
     }
 }
 
-/// Applies the effects to the copy, unless one of them meets what the job did not have.
-fn take(copy: &mut Tree, job: &Job, effects: Effects) -> Result<Result<Held, Cause>, AllocError>
+/// Applies the effects to the copy, unless one of them meets what the job did not have. The store's list is made before, since behind
+/// the applying nothing may fail.
+fn take(
+    alloc: Global,
+    copy: &mut Tree,
+    job: &Job,
+    effects: Effects,
+    base: &Bases,
+) -> Result<Result<Held, Cause>, AllocError>
     requires rows { AreJobRows job.now.rows }
     requires effects { EffectsFit effects }
-    ensures ok { IfOk result (IsHeld copy.old copy.new (unless_clash copy.old effects (find (clashes copy.old job.now.rows) effects))) }
+    ensures ok { IfOk result (IsHeld copy.old copy.new base.now
+        (unless_clash copy.old effects (find (clashes copy.old job.now.rows) effects))) }
     ensures err { OnErr result (copy.new ≡ copy.old) }
     ensures fits { IfOk result (λ held. IfErr held CauseFits) }
     ensures none_failed { IfOk result (λ held. IfErr held (λ cause. failed_cause cause ≡ 0)) }
@@ -121,17 +131,28 @@ fn take(copy: &mut Tree, job: &Job, effects: Effects) -> Result<Result<Held, Cau
             Err(refused) => Err(refused),
         };
     }
-    match apply_all(copy, &effects) {
-        Ok(undos) => Ok(Ok(Held { effects, undos })),
+    let entries = one_entry(alloc, effects, base)?;
+    match apply_all(copy, &entries.as_slice()[0].effects) {
+        Ok(undos) => Ok(Ok(Held { entries, undos })),
         Err(ApplyAllError::At(index, fault)) => {
-            drop(effects);
+            drop(entries);
             Ok(Err(Cause::NotFit { index, fault }))
         }
         Err(ApplyAllError::Memory) => {
-            drop(effects);
+            drop(entries);
             Err(AllocError)
         }
     }
+}
+
+/// A store's list of one entry: these effects on this base.
+fn one_entry(alloc: Global, effects: Effects, base: &Bases) -> Result<Parts, AllocError>
+    ensures { IfOk result (λ entries. entries ≡ part_of effects base.now ∷ []) }
+{
+    let base = base.copy()?;
+    let mut entries = Parts::new(alloc);
+    entries.push(Part { effects, base })?;
+    Ok(entries)
 }
 
 /// The cause that names the effect.

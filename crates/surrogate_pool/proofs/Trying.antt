@@ -1,6 +1,6 @@
 -- How tries of one request, at one address after the other, follow one another.
 use Rattle.std.proofs.Common.{◌≡◌, inl, inr, ℕ, ◌+◌, ◌≤◌, Bool, true, false, List, [], ◌∷◌, ◌++◌, length, Option, None, Some, Result, Ok, Err, Vec, refl, sym, ◌∙◌, ap, subst, arith, append_assoc, length-append}
-use Rattle.std.specs.Prelude.{filter, if◌then◌else◌}
+use Rattle.std.specs.Prelude.{filter, map, if◌then◌else◌}
 use Rattle.std.specs.List.{AllByRecursion}
 use Rattle.std.specs.Option.{unwrap_or, ok_or}
 use Rattle.std.specs.declared.alloc.Global.{Global}
@@ -22,7 +22,7 @@ use Rattle.world_rules.specs.Asking.{ask_of, AsksOnce}
 use Rattle.world_rules.proofs.Asks.{moved_then, moved_none, moved_packets}
 use Rattle.surrogate_pool.specs.Rounds.{is_done, tells_done, better, pooled, is_answer, is_answered, AsksEach, IsRound}
 use Rattle.surrogate_pool.specs.Addresses.{addresses_in}
-use Rattle.surrogate_pool.specs.Inside.{is_answer_of, round_of, IsSentReply, IsPooled, IsFirst, HasTried, HasAsked}
+use Rattle.surrogate_pool.specs.Inside.{is_answer_of, round_of, IsSentReply, IsPooled, HasAsked}
 
 -- ---- lists
 
@@ -33,6 +33,25 @@ all_append P (x ∷ xs) ys first second = (first.0, all_append P xs ys first.1 s
 all_both : {X : Type 0} (P Q : X → Type 0) (xs : List X) → AllByRecursion P xs → AllByRecursion Q xs → AllByRecursion (λ x. P x × Q x) xs
 all_both P Q [] first second = tt
 all_both P Q (x ∷ xs) first second = ((first.0, second.0), all_both P Q xs first.1 second.1)
+
+-- ---- what was tried so far
+
+-- the first reply so far, which does not tell that the operation is done
+abbrev pub IsFirst : Message → Option (Vec ℕ Global) → Answer → World → Type 0
+IsFirst request None answer world = answer ≡ Failed
+IsFirst request (Some frame) answer world =
+    (reply : Message) × IsSentReply request frame.items reply world × (answer ≡ Reply reply) × (is_done reply ≡ false)
+
+-- surrogates at these addresses were asked, of which none told that the operation is done
+pub record HasTried (request : Message) (tried : List (List ℕ)) (first : Option (Vec ℕ Global)) (old new : World) : Type 0 where
+  pub made : List Ask
+  pub moved : Moved request made old new
+  pub answered : filter is_answered made ≡ made
+  pub at : map (λ ask. ask.address) made ≡ tried
+  pub of_surrogates : AllByRecursion (λ ask. ask.to ≡ Surrogate) made
+  pub of_request : AllByRecursion (λ ask. ask.request ≡ request) made
+  pub passed : AllByRecursion (λ ask. tells_done ask.answer ≡ false) made
+  pub first_is : IsFirst request first (pooled made) new
 
 -- ---- what is made of answers
 

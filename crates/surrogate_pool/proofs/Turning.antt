@@ -15,8 +15,8 @@ use Rattle.world_rules.specs.Asking.{AsksOnce}
 use Rattle.world_rules.proofs.Asks.{told_as, told_then}
 use Rattle.surrogate_pool.specs.Addresses.{addresses_in}
 use Rattle.surrogate_pool.specs.Rounds.{is_done}
-use Rattle.surrogate_pool.specs.Inside.{HasTried, HasAsked}
-use Rattle.surrogate_pool.proofs.Trying.{first_of, result_of, tried_failed, tried_reply, asked_all, asked_in_part, asked_done}
+use Rattle.surrogate_pool.specs.Inside.{HasAsked}
+use Rattle.surrogate_pool.proofs.Trying.{HasTried, first_of, result_of, tried_failed, tried_reply, asked_all, asked_in_part, asked_done}
 
 -- the bytes behind a reference
 abbrev pub text_of : Bor (List ℕ) → List ℕ

@@ -1,12 +1,11 @@
 -- Words that only contracts inside the pool cite: what its asks of one request came to.
-use Rattle.std.specs.Prelude.{◌≡◌, ℕ, ◌≤◌, Bool, true, false, List, [], map, filter, Option, None, Some, Result, Ok, Err, Vec}
+use Rattle.std.specs.Prelude.{◌≡◌, ℕ, ◌≤◌, Bool, true, false, List, filter, Result, Ok, Err, Vec}
 use Rattle.std.specs.List.{AllByRecursion}
 use Rattle.std.specs.declared.alloc.Global.{Global}
 use Rattle.tree_values.specs.Lists.{IsIn}
 use Rattle.wire_frames.specs.declared.message.Message.{Message}
 use Rattle.wire_frames.specs.Frame.{Spells, Echoes}
 use Rattle.world_rules.specs.declared.asking.Peer.{Peer}
-use Rattle.world_rules.specs.declared.asking.Peer.TheVariants.{Surrogate}
 use Rattle.world_rules.specs.declared.asking.Ask.{Ask}
 use Rattle.world_rules.specs.declared.asking.Answer.{Answer}
 use Rattle.world_rules.specs.declared.asking.Answer.TheVariants.{Reply, Failed}
@@ -14,7 +13,7 @@ use Rattle.world_rules.specs.declared.link.LinkError.{LinkError}
 use Rattle.world_rules.specs.declared.link.LinkError.TheVariants.{Failed as LinkFailed, Memory as LinkMemory}
 use Rattle.world_rules.specs.World.{World, Moved}
 use Rattle.surrogate_pool.specs.declared.pool.Round.{Round}
-use Rattle.surrogate_pool.specs.Rounds.{is_done, tells_done, pooled, is_answered, IsRound}
+use Rattle.surrogate_pool.specs.Rounds.{pooled, is_answered, IsRound}
 
 -- an ask with this result was answered, or failed
 abbrev pub is_answer_of : Result (Vec ℕ Global) LinkError → Bool
@@ -45,20 +44,3 @@ pub record HasAsked (to : Peer) (address : List ℕ) (request : Message) (tries 
   pub round : IsRound (round_of address tries result) (filter is_answered made)
   pub some : is_answer_of result ≡ true → 1 ≤ tries
   pub pools : IsPooled request result (pooled (filter is_answered made)) new
-
--- the first reply so far, which does not tell that the operation is done
-abbrev pub IsFirst : Message → Option (Vec ℕ Global) → Answer → World → Type 0
-IsFirst request None answer world = answer ≡ Failed
-IsFirst request (Some frame) answer world =
-    (reply : Message) × IsSentReply request frame.items reply world × (answer ≡ Reply reply) × (is_done reply ≡ false)
-
--- surrogates at these addresses were asked, of which none told that the operation is done
-pub record HasTried (request : Message) (tried : List (List ℕ)) (first : Option (Vec ℕ Global)) (old new : World) : Type 0 where
-  pub made : List Ask
-  pub moved : Moved request made old new
-  pub answered : filter is_answered made ≡ made
-  pub at : map (λ ask. ask.address) made ≡ tried
-  pub of_surrogates : AllByRecursion (λ ask. ask.to ≡ Surrogate) made
-  pub of_request : AllByRecursion (λ ask. ask.request ≡ request) made
-  pub passed : AllByRecursion (λ ask. tells_done ask.answer ≡ false) made
-  pub first_is : IsFirst request first (pooled made) new

@@ -1,5 +1,5 @@
 -- What a pool passes on, of what its link's asks were answered.
-use Rattle.std.specs.Prelude.{◌≡◌, ℕ, true, false, List, [], map}
+use Rattle.std.specs.Prelude.{◌≡◌, ℕ, true, false, List, map}
 use Rattle.std.specs.List.{AllByRecursion}
 use Rattle.tree_values.specs.Lists.{IsIn}
 use Rattle.world_rules.specs.declared.asking.Ask.{Ask}

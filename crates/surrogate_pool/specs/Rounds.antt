@@ -1,10 +1,11 @@
 -- What a pool keeps of its asks, and the world that it tells: its link's, with each of its own asks in place of those that it made for it.
-use Rattle.std.specs.Prelude.{◌≡◌, ◌⊎◌, ℕ, ◌+◌, ◌-◌, Bool, true, false, if◌then◌else◌, List, [], ◌∷◌, ◌++◌, length, map, take, drop, filter}
+use Rattle.std.specs.Prelude.{◌≡◌, ◌⊎◌, ℕ, ◌-◌, Bool, true, false, if◌then◌else◌, List, [], ◌∷◌, ◌++◌, length, map, take, drop, filter}
 use Rattle.std.specs.Prelude.{reverse, fold, option_map}
 use Rattle.std.specs.List.{AllByRecursion}
 use Rattle.wire_frames.specs.declared.message.Message.{Message}
 use Rattle.wire_frames.specs.declared.message.Kind.{Kind}
-use Rattle.wire_frames.specs.declared.message.Kind.TheVariants.{Done}
+use Rattle.wire_frames.specs.declared.message.Kind.TheVariants.{Store, Operate, Pull, Accepted, Stale, Unfit, Gap, Snapshot, Done, Declined}
+use Rattle.wire_frames.specs.declared.message.Kind.TheVariants.{Full, Malformed}
 use Rattle.wire_frames.specs.Frame.{kind}
 use Rattle.world_rules.specs.declared.asking.Peer.TheVariants.{Server, Surrogate}
 use Rattle.world_rules.specs.declared.asking.Ask.{Ask}
@@ -20,8 +21,18 @@ use Rattle.surrogate_pool.specs.Addresses.{addresses_in}
 
 -- replies of this kind tell that the operation is done
 abbrev pub is_done_kind : Kind → Bool
+is_done_kind Store = false
+is_done_kind Operate = false
+is_done_kind Pull = false
+is_done_kind Accepted = false
+is_done_kind Stale = false
+is_done_kind Unfit = false
+is_done_kind Gap = false
+is_done_kind Snapshot = false
 is_done_kind Done = true
-is_done_kind _ = false
+is_done_kind Declined = false
+is_done_kind Full = false
+is_done_kind Malformed = false
 
 abbrev pub is_done : Message → Bool
 is_done reply = is_done_kind (kind reply)

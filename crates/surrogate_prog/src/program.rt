@@ -71,7 +71,7 @@ Options:
 
 const VERSION: &str = "\
 surrogate 0.1.0
-frames: version 2
+frames: version 3
 kit: rattle-kit-13f logic dac8208d650f15bf
 ";
 

@@ -8,8 +8,8 @@ use Rattle.world_rules.specs.declared.link.LinkError.{LinkError}
 use Rattle.world_rules.specs.Telling.{LinkTelling, ToldWorlds}
 use Rattle.world_rules.specs.Asking.{IsReplyTo}
 use Rattle.surrogate_pool.specs.Addresses.{addresses_in}
-use Rattle.surrogate_pool.specs.Inside.{HasTried, HasAsked}
-use Rattle.surrogate_pool.proofs.Trying.{first_of, result_of}
+use Rattle.surrogate_pool.specs.Inside.{HasAsked}
+use Rattle.surrogate_pool.proofs.Trying.{HasTried, first_of, result_of}
 use Rattle.surrogate_pool.proofs.Turning.{text_of, no_first, first_replies, some_address, told_all, told_done, told_broken, told_failed, told_reply}
 use Rattle.surrogate_pool.proofs.tries.ask_each.Goals as goal
 use Rattle.surrogate_pool.proofs.tries.ask_each.Goals.{in-Ok-ask+else-is_done, in-Err-Failed}

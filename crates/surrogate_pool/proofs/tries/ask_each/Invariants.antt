@@ -6,7 +6,7 @@ use Rattle.wire_frames.specs.Frame.{Spells}
 use Rattle.world_rules.specs.Telling.{ToldWorlds}
 use Rattle.world_rules.specs.Asking.{IsReplyTo}
 use Rattle.surrogate_pool.specs.Addresses.{addresses_in}
-use Rattle.surrogate_pool.specs.Inside.{HasTried}
+use Rattle.surrogate_pool.proofs.Trying.{HasTried}
 use Rattle.surrogate_pool.proofs.tries.ask_each.Given as goal
 
 abbrev pub invariant-loop-tried : goal.invariant-loop-tried
