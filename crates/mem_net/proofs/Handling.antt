@@ -1,5 +1,5 @@
 -- What serving an operation over the wires comes to, once the surrogate's own asks are forgotten.
-use Rattle.std.proofs.Common.{◌≡◌, inl, inr, ⊎_elim, ℕ, zero, suc, ◌≤◌, List, [], ◌∷◌, ◌++◌, length, take, Some, Result, Ok, Err, IfOk, OnOk, refl, sym, ◌∙◌, ap, subst}
+use Rattle.std.proofs.Common.{◌≡◌, inl, inr, ⊎_elim, ℕ, zero, suc, ◌≤◌, List, [], ◌∷◌, ◌++◌, length, take, Some, Result, Ok, Err, IfOk, OnOk, refl, sym, ◌∙◌, ap, subst, arith}
 use Rattle.std.specs.Prelude.{OnErr}
 use Rattle.std.specs.declared.alloc.AllocError.{AllocError}
 use Rattle.outside.specs.Outside.{RoseBy}
@@ -116,8 +116,8 @@ module _ (client : ℕ) (sketched : SketchEntry) (copy after : Volume) (runs : L
 
   -- the reply is one to the operation
   ends_echoing : (reply : Message) → EndsOperation client sketched copy asks after reply → Echoes (Operate client sketched) reply
-  ends_echoing (Declined of number cause) ends = (tt, sym ends.0, sym ends.1)
-  ends_echoing (Done of number) ends = (tt, sym ends.0, sym ends.1)
+  ends_echoing (Declined of number cause) ends = (tt, sym ends.0, sym ends.1, omega arith)
+  ends_echoing (Done of number) ends = (tt, sym ends.0, sym ends.1, omega arith)
   ends_echoing _ ends = absurd ends
 
   pub handling_echoes : (reply : Message) → Handling server_address work_folder copy client sketched runs asks reply after → Echoes (Operate client sketched) reply

@@ -78,7 +78,7 @@ impl<R: Drop> MemNet<R> {
 }
 
 impl<R> MemNet<R> {
-    ghost use Rattle.std.specs.Prelude.{option_map, slice_get};
+    ghost use Rattle.std.specs.Prelude.{length, option_map, slice_get};
     ghost use Rattle.std.specs.Option.{option_copied};
     ghost use Rattle.wire_frames.specs.Frame.{frame};
 
@@ -108,6 +108,13 @@ impl<R> MemNet<R> {
         ensures { option_copied result ≡ option_map frame (slice_get self.now.wires.packets k) }
     {
         self.parts.wires.packet(k)
+    }
+
+    /// How many fates are left for the asks to come.
+    pub fn fates_left(&self) -> usize
+        ensures { result ≡ length self.now.wires.fates }
+    {
+        self.parts.wires.fates_left()
     }
 
     /// How many asks were lost or answered by an old packet. The count stands still at the end of its type.

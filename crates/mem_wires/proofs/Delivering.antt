@@ -39,7 +39,7 @@ moved-same a d same = free_as (world_of a) (world_of a) (world_of d) (free_none 
 -- ---- a late packet
 
 late_some : (m : Message) (w : World) → IsForServer m → delivered m true w ≡ delivered_late (Some m) w
-late_some (Store client number effects base) w for = refl
+late_some (Store client number parts) w for = refl
 late_some (Pull client number) w for = refl
 late_some _ w for = absurd for
 
@@ -50,19 +50,19 @@ late-delivered m found w is for = late_some m w for ∙ sym (ap (λ (o : Option 
 -- ---- an injected message
 
 inject_store : (m : Message) (w : World) → is_store m ≡ true → (client_of m ≡ w.client → ⊥) → delivered m true (sent m w) ≡ injected (Ok m) w
-inject_store (Store client number effects base) w is other =
-    let m = Store client number effects base in
+inject_store (Store client number parts) w is other =
+    let m = Store client number parts in
     sym (ap (λ (b : Bool). if b then w else delivered m true (sent m w)) (eq_fails client w.client other))
 inject_store _ w is other = absurd (cc)
 
 inject_own : (m : Message) (w : World) → client_of m ≡ w.client → w ≡ injected (Ok m) w
-inject_own (Store client number effects base) w is =
-    let m = Store client number effects base in
+inject_own (Store client number parts) w is =
+    let m = Store client number parts in
     sym (ap (λ (b : Bool). if b then w else delivered m true (sent m w)) (eq_holds client w.client is))
 inject_own _ w is = refl
 
 inject_other : (m : Message) (w : World) → is_store m ≡ false → w ≡ injected (Ok m) w
-inject_other (Store client number effects base) w is = absurd (cc)
+inject_other (Store client number parts) w is = absurd (cc)
 inject_other _ w is = refl
 
 module _ (found : Result Message FrameError) (w : World) where

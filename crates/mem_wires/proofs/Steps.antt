@@ -126,14 +126,14 @@ module _ (to : Peer) (address : List ℕ) (m : Message) where
   lost_once a d (Err LinkFailed) among met = noted_ask to address m Failed a a d (moved_by_none (Is m) a) met
   lost_once a d (Err LinkMemory) among met = met
 
-module _ (to : Peer) (address : List ℕ) (m : Message) (for : IsForServer m) where
+module _ (to : Peer) (address : List ℕ) (m : Message) (for : IsForServer m) (valid : IsValid m) where
   -- a request that was handled is answered
   once-answered : (bytes : Vec ℕ Global) (a d : World) → IsIn m a.packets → IsAnswered to address m a d bytes.items → AsksSent to address m a d (Ok bytes)
   once-answered bytes a d among is =
       let reply = answer m a.served in (
         reply,
         is.0,
-        answer-echoes m a.served for,
+        answer-echoes m a.served for valid,
         subst (λ (w : World). IsIn reply w.packets) (sym is.1) (IsIn-last reply a.packets),
         noted_ask to address m (Reply reply) a (delivered m true a) d (free_delivered m a for among m) is.1,
       )

@@ -66,14 +66,14 @@ IsEndOf rest fates = (count : ℕ) × (rest ≡ drop count fates)
 
 -- a late request is delivered, and its answer joins the packets
 abbrev pub delivered_late : Option Message → World → World
-delivered_late (Some (Store client number effects base)) world = delivered (Store client number effects base) true world
+delivered_late (Some (Store client number parts)) world = delivered (Store client number parts) true world
 delivered_late (Some (Pull client number)) world = delivered (Pull client number) true world
 delivered_late _ world = world
 
 -- another client's store joins the packets, is delivered, and its answer joins the packets
 abbrev pub injected : Result Message FrameError → World → World
-injected (Ok (Store client number effects base)) world =
-    let store = Store client number effects base in
+injected (Ok (Store client number parts)) world =
+    let store = Store client number parts in
     if client == world.client then world else delivered store true (sent store world)
 injected _ world = world
 

@@ -1,7 +1,8 @@
 -- What goes on while an ask is under way: the words of the calls that an ask is made of.
 use Rattle.std.specs.Prelude.{◌≡◌, ◌⊎◌, ℕ, ◌+◌, ◌≤◌, Bool, true, false, List, [], ◌∷◌, ◌++◌, Option, Some, None, Result, Ok, Err, Vec}
-use Rattle.std.specs.Prelude.{if◌then◌else◌}
+use Rattle.std.specs.Prelude.{nat_lt, if◌then◌else◌}
 use Rattle.std.specs.declared.alloc.Global.{Global}
+use Rattle.wire_frames.specs.declared.parts.Part.{Part}
 use Rattle.wire_frames.specs.declared.message.Message.{Message}
 use Rattle.wire_frames.specs.declared.message.Message.TheVariants.{Store}
 use Rattle.wire_frames.specs.Frame.{Spells, Echoes}
@@ -11,12 +12,12 @@ use Rattle.world_rules.specs.declared.link.LinkError.{LinkError}
 use Rattle.world_rules.specs.declared.link.LinkError.TheVariants.{Failed, Memory}
 use Rattle.world_rules.specs.declared.asking.Answer.TheVariants.{Reply}
 use Rattle.world_rules.specs.declared.asking.Answer.TheVariants as answers
-use Rattle.world_rules.specs.Served.{answer}
+use Rattle.world_rules.specs.Served.{TakenEntry, entry_stored, answer}
 use Rattle.world_rules.specs.World.{World, Is, MovedBy, sendings}
 use Rattle.world_rules.specs.Asking.{ask_of}
 use Rattle.mem_wires.specs.declared.fate.Fate.{Fate}
 use Rattle.mem_wires.specs.Wire.{Wire, world_of}
-use Rattle.mem_wires.specs.Fates.{decides, is_trouble, deciding, left_after, at_decision, IsEndOf, MeetsFate}
+use Rattle.mem_wires.specs.Fates.{decides, deciding, left_after, at_decision, IsEndOf, MeetsFate}
 
 -- the world moved by steps that may come while any request is asked
 abbrev pub MovedFree : World → World → Type 0
@@ -71,5 +72,19 @@ pub record IsUndecided (old new : Wire) : Type 0 where
   pub troubles : new.troubles ≡ old.troubles
 
 abbrev pub is_store : Message → Bool
-is_store (Store client number effects base) = true
+is_store (Store client number parts) = true
 is_store _ = false
+
+-- ---- what a delivery notes
+
+-- the entries of a client, numbered on from this number, that are above another
+abbrev pub entries_above : ℕ → ℕ → List Part → ℕ → List TakenEntry
+entries_above client number [] last = []
+entries_above client number (part ∷ parts) last =
+    (if nat_lt last number then entry_stored client number part.effects part.base ∷ [] else [])
+    ++ entries_above client (number + 1) parts last
+
+-- those of a store; any other message has none
+abbrev pub stored_above : Message → ℕ → List TakenEntry
+stored_above (Store client number parts) last = entries_above client number parts last
+stored_above _ last = []

@@ -1,10 +1,8 @@
 -- The wires of one client and one server in memory, as contracts see them.
-use Rattle.std.specs.Prelude.{ℕ, List, [], ◌∷◌}
-use Rattle.std.specs.List.{flat_map}
+use Rattle.std.specs.Prelude.{ℕ, List, []}
 use Rattle.wire_frames.specs.declared.message.Message.{Message}
-use Rattle.wire_frames.specs.declared.message.Message.TheVariants.{Store}
 use Rattle.world_rules.specs.declared.asking.Ask.{Ask}
-use Rattle.world_rules.specs.Served.{Served, TakenEntry, entry_stored}
+use Rattle.world_rules.specs.Served.{Served, TakenEntry}
 use Rattle.world_rules.specs.World.{World}
 use Rattle.server_core.specs.Holding.{Holding, served}
 use Rattle.mem_wires.specs.declared.fate.Fate.{Fate}
@@ -15,25 +13,20 @@ pub record Wire : Type 0 where
   -- what the server held when the wires were made
   pub opening : Holding
   pub server : Holding
-  -- the stores that were taken
-  pub taken : List Message
+  -- the entries that were taken, in order
+  pub taken : List TakenEntry
   pub packets : List Message
   pub asks : List Ask
   -- what becomes of the asks to come, in order
   pub fates : List Fate
   pub troubles : ℕ
 
--- the entry of a store
-abbrev pub stored_in : Message → List TakenEntry
-stored_in (Store client number effects base) = entry_stored client number effects base ∷ []
-stored_in message = []
-
 -- the world that the wires tell
 abbrev pub world_of : Wire → World
 world_of wires = record {
   client = wires.client;
   opening = served wires.opening;
-  taken = flat_map stored_in wires.taken;
+  taken = wires.taken;
   served = served wires.server;
   packets = wires.packets;
   asks = wires.asks;

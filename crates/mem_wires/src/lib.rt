@@ -4,6 +4,7 @@
 
 mod fate;
 mod packet;
+mod taken;
 mod wires;
 
 pub use fate::Fate;

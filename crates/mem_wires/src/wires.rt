@@ -6,6 +6,7 @@ ghost use Rattle.mem_wires.specs.Underway.{is_store};
 
 use crate::fate::Fate;
 use crate::packet::Packet;
+use crate::taken::{Taken, note_above};
 use server_core::Server;
 use std::alloc::{AllocError, Global};
 use std::collections::VecDeque;
@@ -15,7 +16,7 @@ use wire_frames::{FrameError, Message, echoes, read};
 use world_rules::{Answer, Ask, Link, LinkError, Peer};
 
 /// One client, one server and the packets between them, which are kept for good. Contracts see the world about the
-/// client: what was served at first and is served now, each store that was taken, every message that was sent, and
+/// client: what was served at first and is served now, each entry that was taken, every message that was sent, and
 /// each ask.
 #[derive(Drop)]
 pub struct Wires {
@@ -23,7 +24,7 @@ pub struct Wires {
     client: u8,
     opening: Server,
     server: Server,
-    taken: Vec<Message>,
+    taken: Vec<Taken>,
     packets: Vec<Packet>,
     asks: Vec<Ask>,
     fates: VecDeque<Fate>,
@@ -57,13 +58,13 @@ impl Wires {
     ghost use Rattle.wire_frames.specs.Frame.{IsValid, Spells, Echoes, client_of, frame};
     ghost use Rattle.wire_frames.specs.Reading.{frame_of};
     ghost use Rattle.server_core.specs.Holding.{served};
-    ghost use Rattle.world_rules.specs.Served.{answer, IsServed};
+    ghost use Rattle.world_rules.specs.Served.{answer, state_after, IsServed};
     ghost use Rattle.world_rules.specs.World.{Is, MovedBy, sent, delivered};
     ghost use Rattle.world_rules.specs.Asking.{ask_of};
     ghost use Rattle.mem_wires.specs.Wire.{Wire, world_of, new_world};
     ghost use Rattle.mem_wires.specs.Fates.{decides, deciding, left_after, at_decision, befallen, delivered_late, injected};
     ghost use Rattle.mem_wires.specs.Fates.{answered, one_more, troubles_after, IsEndOf, IsNoReply};
-    ghost use Rattle.mem_wires.specs.Underway.{MovedFree, IsSent, KeepsFates, decision, MeetsUnlessMemory, IsUndecided};
+    ghost use Rattle.mem_wires.specs.Underway.{MovedFree, IsSent, KeepsFates, decision, MeetsUnlessMemory, IsUndecided, stored_above};
     ghost use Rattle.mem_wires.specs.declared.fate.Fate.TheVariants.{Pass, LoseRequest, Old};
 
     /// The wires of a client and this server, over which nothing was sent. The asks meet these fates in their order;
@@ -110,6 +111,13 @@ impl Wires {
             Some(packet) => Some(packet.frame()),
             None => None,
         }
+    }
+
+    /// How many fates are left for the asks to come.
+    pub fn fates_left(&self) -> usize
+        ensures { result ≡ length self.now.fates }
+    {
+        self.fates.len()
     }
 
     /// How many asks were lost or answered by an old packet. The count stands still at the end of its type.
@@ -216,7 +224,7 @@ impl Wires {
         Ok(())
     }
 
-    /// The number of the last store that the server took of a message's client.
+    /// The number of the last entry that the server took of a message's client.
     fn last_of(&self, message: &Message) -> u64
         requires valid { IsValid message.now }
         requires request { IsForServer message.now }
@@ -231,7 +239,39 @@ impl Wires {
         }
     }
 
-    /// The server handles a request; a store that it takes joins the taken ones.
+    /// Copies of a store's entries that are numbered above this number join the taken ones.
+    fn note_entries(&mut self, request: &Message, last: u64) -> Result<(), AllocError>
+        requires { IsValid request.now }
+        ensures ok { OnOk result (self.new.taken ≡ self.old.taken ++ stored_above request.now last) }
+        ensures front { take (length self.old.taken) self.new.taken ≡ self.old.taken }
+        ensures rest { self.new ≡ record self.old { taken = self.new.taken } }
+    {
+        match request {
+            Message::Store {
+                client,
+                number,
+                entries,
+            } => note_above(&mut self.taken, *client, *number, entries.as_slice(), last),
+            _ => Ok(()),
+        }
+    }
+
+    /// The server serves a request, behind copies of its entries that are numbered above this number.
+    fn serve_noted(&mut self, request: &Message, last: u64) -> Result<Message, AllocError>
+        requires valid { IsValid request.now }
+        ensures ok { IfOk result (λ reply. reply ≡ answer request.now (served self.old.server)) }
+        ensures state { OnOk result (served self.new.server ≡ state_after request.now (served self.old.server)) }
+        ensures noted { OnOk result (self.new.taken ≡ self.old.taken ++ stored_above request.now last) }
+        ensures front { take (length self.old.taken) self.new.taken ≡ self.old.taken }
+        ensures err { OnErr result (self.new.server ≡ self.old.server) }
+        ensures rest { self.new ≡ record self.old { server = self.new.server; taken = self.new.taken } }
+    {
+        self.note_entries(request, last)?;
+        self.server.serve(request)
+    }
+
+    /// The server handles a request. The entries that it takes join the taken ones: of those numbered above the client's last
+    /// number they are the first, as many as it rises by.
     fn handle(&mut self, request: &Message) -> Result<Message, AllocError>
         requires valid { IsValid request.now }
         requires request { IsForServer request.now }
@@ -242,20 +282,10 @@ impl Wires {
     {
         let before = self.last_of(request);
         let count = self.taken.len();
-        let store = request.copy()?;
-        self.taken.push(store)?;
-        let reply = match self.server.serve(request) {
-            Ok(reply) => reply,
-            Err(refused) => {
-                self.taken.truncate(count);
-                return Err(refused);
-            }
-        };
-        if self.last_of(request) != before {
-            return Ok(reply);
-        }
-        self.taken.truncate(count);
-        Ok(reply)
+        let reply = self.serve_noted(request, before);
+        let taken = self.last_of(request) - before;
+        self.taken.truncate(count + taken as usize);
+        reply
     }
 
     /// A packet that is a request is handled, and the reply joins the packets.

@@ -70,7 +70,7 @@ returns-in-Server-clause-reply g c = λ request spells.
     let d = world_of c.meet.new.self in
     let asked = same_request m c.requires.request.0 (c.in-Ok.ensures.only c.requires.request.0 c.requires.request.1.0 c.requires.request.1.1) in
     let for : IsForServer m = for_server to c.requires.request.0 m c.in-Server.is asked c.requires.request.2 in
-    let once = asks_once to c.args.address.now m for c.in-Ok-reach.decided b d c.meet.result c.in-Ok-reach.ensures.sent c.meet.ensures.met in
+    let once = asks_once to c.args.address.now m for c.in-Ok.ensures.found.0 c.in-Ok-reach.decided b d c.meet.result c.in-Ok-reach.ensures.sent c.meet.ensures.met in
     subst (λ (x : Message). IfOk c.meet.result (λ (bytes : Vec ℕ Global). IsReplyTo x bytes.items)) (sym same)
     (replied to c.args.address.now m b d c.meet.result once)
 
@@ -85,7 +85,7 @@ returns-in-Server-clause-world g c = λ request spells.
     let d = world_of c.meet.new.self in
     let asked = same_request m c.requires.request.0 (c.in-Ok.ensures.only c.requires.request.0 c.requires.request.1.0 c.requires.request.1.1) in
     let for : IsForServer m = for_server to c.requires.request.0 m c.in-Server.is asked c.requires.request.2 in
-    let once = asks_once to address m for c.in-Ok-reach.decided b d c.meet.result c.in-Ok-reach.ensures.sent c.meet.ensures.met in
+    let once = asks_once to address m for c.in-Ok.ensures.found.0 c.in-Ok-reach.decided b d c.meet.result c.in-Ok-reach.ensures.sent c.meet.ensures.met in
     subst (λ (x : Message). AsksOnce to address x a d c.meet.result) (sym same) (asks_on to address m a b d c.meet.result c.in-Ok-reach.ensures.asking once)
 
 pub returns-in-Server-clause-direct : goal.returns-in-Server-clause-direct
@@ -103,7 +103,7 @@ returns-in-Server-clause-direct g c = λ request spells to_server quiet.
     let for : IsForServer m = for_server to c.requires.request.0 m c.in-Server.is asked c.requires.request.2 in
     subst (λ (x : Message). IsDirect to address x a d c.meet.result) (sym same)
     (directly_on to address m a b d c.meet.result c.in-Ok-reach.ensures.asking
-    (calm_directly to address m for c.in-Ok-reach.decided b d before c.meet.result c.in-Ok-reach.ensures.sent c.meet.ensures.met
+    (calm_directly to address m for c.in-Ok.ensures.found.0 c.in-Ok-reach.decided b d before c.meet.result c.in-Ok-reach.ensures.sent c.meet.ensures.met
     (λ rose. quiet (rose_later c.args.self.now.wires.troubles before now c.in-Ok-reach.ensures.takes.later (subst (λ (n : ℕ). Rose before n) (sym c.meet.ensures.troubles) rose)))))
 
 pub returns-in-Server-clause-kept : goal.returns-in-Server-clause-kept
@@ -125,11 +125,11 @@ returns-in-Server-clause-kept g c =
     let reaches = c.in-Ok-reach.ensures.reaches in
     let was = was_taken reaches.0 (with_world (sent m (world_of a)) (scene c.args.self.now)) fate (scene c.reach.new.self) reaches.1 in
     spent to address m a d was.taken (was.split ∙ ap (λ (l : List Fate). was.taken ++ l) (sym c.meet.ensures.fates)) (le_trans was.later c.meet.ensures.later) result
-    (asks_on to address m (world_of a) (world_of b) (world_of d) result asking (asks_once to address m for fate (world_of b) (world_of d) result among met))
+    (asks_on to address m (world_of a) (world_of b) (world_of d) result asking (asks_once to address m for c.in-Ok.ensures.found.0 fate (world_of b) (world_of d) result among met))
     (λ quiet want. c.meet.ensures.troubles ∙ want_after fate result b.troubles want ∙ (was.calm quiet).0)
     (λ quiet served. (
       c.meet.ensures.troubles ∙ quiet_after fate result b.troubles (was.calm quiet).1 ∙ (was.calm quiet).0,
-      directly_on to address m (world_of a) (world_of b) (world_of d) result asking (asks_directly to address m for fate (world_of b) (world_of d) result among met (was.calm quiet).1),
+      directly_on to address m (world_of a) (world_of b) (world_of d) result asking (asks_directly to address m for c.in-Ok.ensures.found.0 fate (world_of b) (world_of d) result among met (was.calm quiet).1),
     ))
 
 pub returns-in-Server-clause-fates : goal.returns-in-Server-clause-fates

@@ -1,74 +1,50 @@
-use Rattle.std.proofs.Common.{◌≡◌, ◌≢◌, ◌∙◌, ℕ, List, [], ◌∷◌, ◌++◌, take, length, sym, ap, subst, arith}
-use Rattle.std.proofs.lemmas.Bool.Decides.{nat_tests}
-use Rattle.std.specs.List.{flat_map}
-use Rattle.std.proofs.lemmas.Grind.{flat_map-append}
-use Rattle.std.proofs.lemmas.List.{append-nil}
-use Rattle.wire_frames.specs.declared.message.Message.{Message}
-use Rattle.wire_frames.specs.Frame.{IsValid, client_of}
-use Rattle.world_rules.specs.Served.{Served, TakenEntry, answer, state_after}
-use Rattle.world_rules.proofs.Replies.{answer-valid}
+use Rattle.std.proofs.Common.{◌≡◌, ◌∙◌, ◌+◌, ◌-◌, ℕ, length, take, ap, arith}
 use Rattle.server_core.specs.Holding.{served}
-use Rattle.mem_wires.specs.Wire.{Wire, stored_in}
-use Rattle.mem_wires.proofs.Taking.{taken-none, taken-one, take_front}
+use Rattle.mem_wires.specs.Wire.{Wire}
+use Rattle.mem_wires.proofs.Taking.{on_both, reply_valid, not_lower, cut_within, cut_is}
 use Rattle.mem_wires.proofs.wires.Wires.handle.Goals as goal
 
-pub returns-then-last_of-before-clause-ok : goal.returns-then-last_of-before-clause-ok
-returns-then-last_of-before-clause-ok c =
-    let m = c.args.request.now in
-    let is : c.in-Ok.reply ≡ answer m (served c.args.self.now.server) = c.in-Ok.ensures.ok ∙ ap (λ (n : Wire). answer m (served n.server)) c.self.view_is in
-    (is, subst IsValid (sym is) (answer-valid m (served c.args.self.now.server) c.requires.valid c.last_of-before.ensures.legal c.requires.request))
+pub overflow_sub-taken : goal.overflow_sub-taken
+overflow_sub-taken c =
+    let a : Wire = c.args.self.now in
+    let b : Wire = c.serve_noted-reply.new.self in
+    let done = c.serve_noted-reply.ensures in
+    not_lower c.args.request.now c.requires.request a.server b.server a.taken b.taken c.last_of-before.result c.last_of.result c.last_of-before.ensures.last c.last_of.ensures.last c.serve_noted-reply.result done.state done.err
+
+pub overflow_add-count : goal.overflow_add-count
+overflow_add-count c =
+    let a : Wire = c.args.self.now in
+    let b : Wire = c.serve_noted-reply.new.self in
+    let done = c.serve_noted-reply.ensures in
+    let within = cut_within c.args.request.now c.requires.request a.server b.server a.taken b.taken c.last_of-before.result c.last_of.result c.last_of-before.ensures.last c.last_of.ensures.last c.serve_noted-reply.result done.state done.err done.noted done.front in
+    let count : c.len-count.result ≡ length a.taken = omega (arith, c.len-count.ensures, c.self.inside.taken.ok.0, ap (λ (n : Wire). length n.taken) c.self.view_is) in
+    let long : length c.self-2.inside.taken.items ≡ length b.taken = ap (λ (n : Wire). length n.taken) c.self-2.view_is in
+    omega (arith, within, count, long, c.self-2.inside.taken.ok.0, c.self-2.inside.taken.ok.1, c.self-2.inside.taken.small)
 
 pub returns-clause-ok : goal.returns-clause-ok
-returns-clause-ok c =
-    let m = c.args.request.now in
-    let is : c.in-Ok.reply ≡ answer m (served c.args.self.now.server) = c.in-Ok.ensures.ok ∙ ap (λ (n : Wire). answer m (served n.server)) c.self.view_is in
-    (is, subst IsValid (sym is) (answer-valid m (served c.args.self.now.server) c.requires.valid c.last_of-before.ensures.legal c.requires.request))
-
-pub returns-then-last_of-before-clause-world : goal.returns-then-last_of-before-clause-world
-returns-then-last_of-before-clause-world c =
-    let m = c.args.request.now in
-    let a : Wire = c.args.self.now in
-    let s : Served = served a.server in
-    let old = c.self.inside.taken.items in
-    let state : served c.serve.new.self ≡ state_after m s = c.in-Ok.ensures.state ∙ ap (λ (n : Wire). state_after m (served n.server)) c.self.view_is in
-    let differs : c.last_of.result ≢ c.last_of-before.result = λ (e : c.last_of.result ≡ c.last_of-before.result). grind (arith, nat_tests, c.if-last_of-before.true) in
-    let other : (state_after m s).last (client_of m) ≢ s.last (client_of m) =
-    λ e. differs (c.last_of.ensures.last ∙ ap (λ (t : Served). t.last (client_of m)) state ∙ e ∙ sym c.last_of-before.ensures.last) in
-    let taking = ap (flat_map stored_in)
-    (c.in_ok-push.ensures.items ∙ ap (λ (x : Message). old ++ x ∷ []) c.in_ok-store.ensures ∙ ap (λ (n : Wire). n.taken ++ m ∷ []) c.self.view_is)
-    ∙ flat_map-append stored_in a.taken (m ∷ [])
-    ∙ ap (λ (l : List TakenEntry). flat_map stored_in a.taken ++ l) (sym (taken-one m s c.requires.request other)) in
-    λ i. record {
-      client = (ap (λ (n : Wire). n.client) c.self.view_is) i;
-      opening = (ap (λ (n : Wire). served n.opening) c.self.view_is) i;
-      taken = taking i;
-      served = state i;
-      packets = (ap (λ (n : Wire). n.packets) c.self.view_is) i;
-      asks = (ap (λ (n : Wire). n.asks) c.self.view_is) i;
-    }
+returns-clause-ok c = reply_valid c.args.request.now (served c.args.self.now.server) c.serve_noted-reply.result c.requires.valid c.last_of-before.ensures.legal c.requires.request c.serve_noted-reply.ensures.ok
 
 pub returns-clause-world : goal.returns-clause-world
 returns-clause-world c =
     let m = c.args.request.now in
     let a : Wire = c.args.self.now in
-    let s : Served = served a.server in
-    let old = c.self.inside.taken.items in
-    let state : served c.serve.new.self ≡ state_after m s = c.in-Ok.ensures.state ∙ ap (λ (n : Wire). state_after m (served n.server)) c.self.view_is in
-    let same_last : c.last_of.result ≡ c.last_of-before.result = grind (arith, nat_tests, c.if-last_of-before.false) in
-    let same : (state_after m s).last (client_of m) ≡ s.last (client_of m) =
-    sym (ap (λ (t : Served). t.last (client_of m)) state) ∙ sym c.last_of.ensures.last ∙ same_last ∙ c.last_of-before.ensures.last in
-    let long : c.len-count.result ≡ length old = omega arith in
-    let front : take (length old) (old ++ c.in_ok-store.store ∷ []) ≡ old = take_front old (c.in_ok-store.store ∷ []) in
-    let taking = ap (flat_map stored_in)
-    (c.truncate-2.ensures.items ∙ ap (λ (l : List Message). take c.len-count.result l) c.in_ok-push.ensures.items
-    ∙ ap (λ (n : ℕ). take n (old ++ c.in_ok-store.store ∷ [])) long ∙ front ∙ ap (λ (n : Wire). n.taken) c.self.view_is)
-    ∙ sym (append-nil (flat_map stored_in a.taken))
-    ∙ ap (λ (l : List TakenEntry). flat_map stored_in a.taken ++ l) (sym (taken-none m s c.requires.request same)) in
+    let b : Wire = c.serve_noted-reply.new.self in
+    let done = c.serve_noted-reply.ensures in
+    let more : ℕ = c.last_of.result - c.last_of-before.result in
+    let count : c.len-count.result ≡ length a.taken = omega (arith, c.len-count.ensures, c.self.inside.taken.ok.0, ap (λ (n : Wire). length n.taken) c.self.view_is) in
+    let inside = c.self-2.view_is in
+    on_both c.serve_noted-reply.result done.state done.noted
+    (λ state noted.
+    let cut = cut_is m c.requires.request a.server b.server a.taken b.taken c.last_of-before.result c.last_of.result c.last_of-before.ensures.last c.last_of.ensures.last state noted in
+    let taking = c.truncate.ensures.items
+    ∙ ap (λ (k : ℕ). take (k + more) c.self-2.inside.taken.items) count
+    ∙ ap (λ (n : Wire). take (length a.taken + more) n.taken) inside
+    ∙ cut in
     λ i. record {
-      client = (ap (λ (n : Wire). n.client) c.self.view_is) i;
-      opening = (ap (λ (n : Wire). served n.opening) c.self.view_is) i;
+      client = (ap (λ (n : Wire). n.client) inside ∙ ap (λ (n : Wire). n.client) done.rest) i;
+      opening = (ap (λ (n : Wire). served n.opening) inside ∙ ap (λ (n : Wire). served n.opening) done.rest) i;
       taken = taking i;
-      served = state i;
-      packets = (ap (λ (n : Wire). n.packets) c.self.view_is) i;
-      asks = (ap (λ (n : Wire). n.asks) c.self.view_is) i;
-    }
+      served = (ap (λ (n : Wire). served n.server) inside ∙ state) i;
+      packets = (ap (λ (n : Wire). n.packets) inside ∙ ap (λ (n : Wire). n.packets) done.rest) i;
+      asks = (ap (λ (n : Wire). n.asks) inside ∙ ap (λ (n : Wire). n.asks) done.rest) i;
+    })

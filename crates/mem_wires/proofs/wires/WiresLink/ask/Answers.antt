@@ -30,7 +30,7 @@ returns-in-Server-clause-reply c = λ request spells.
     let d = world_of c.meet.new.self in
     let asked = same_request m c.requires.0 (c.in-Ok.ensures.only c.requires.0 c.requires.1.0 c.requires.1.1) in
     let for : IsForServer m = for_server c.args.to c.requires.0 m c.in-Server.is asked c.requires.2 in
-    let once = asks_once c.args.to c.args.address.now m for c.in-Ok-reach.decided b d c.meet.result c.in-Ok-reach.ensures.sent c.meet.ensures.met in
+    let once = asks_once c.args.to c.args.address.now m for c.in-Ok.ensures.found.0 c.in-Ok-reach.decided b d c.meet.result c.in-Ok-reach.ensures.sent c.meet.ensures.met in
     subst (λ (x : Message). IfOk c.meet.result (λ (bytes : Vec ℕ Global). IsReplyTo x bytes.items)) (sym same)
     (replied c.args.to c.args.address.now m b d c.meet.result once)
 
@@ -43,7 +43,7 @@ returns-in-Server-clause-world c = λ request spells.
     let d = world_of c.meet.new.self in
     let asked = same_request m c.requires.0 (c.in-Ok.ensures.only c.requires.0 c.requires.1.0 c.requires.1.1) in
     let for : IsForServer m = for_server c.args.to c.requires.0 m c.in-Server.is asked c.requires.2 in
-    let once = asks_once c.args.to c.args.address.now m for c.in-Ok-reach.decided b d c.meet.result c.in-Ok-reach.ensures.sent c.meet.ensures.met in
+    let once = asks_once c.args.to c.args.address.now m for c.in-Ok.ensures.found.0 c.in-Ok-reach.decided b d c.meet.result c.in-Ok-reach.ensures.sent c.meet.ensures.met in
     subst (λ (x : Message). AsksOnce c.args.to c.args.address.now x a d c.meet.result) (sym same)
     (asks_on c.args.to c.args.address.now m a b d c.meet.result c.in-Ok-reach.ensures.asking once)
 
@@ -59,7 +59,7 @@ returns-in-Server-clause-direct c = λ request spells to_server quiet.
     let for : IsForServer m = for_server c.args.to c.requires.0 m c.in-Server.is asked c.requires.2 in
     subst (λ (x : Message). IsDirect c.args.to c.args.address.now x a d c.meet.result) (sym same)
     (directly_on c.args.to c.args.address.now m a b d c.meet.result c.in-Ok-reach.ensures.asking
-    (calm_directly c.args.to c.args.address.now m for c.in-Ok-reach.decided b d before c.meet.result c.in-Ok-reach.ensures.sent c.meet.ensures.met
+    (calm_directly c.args.to c.args.address.now m for c.in-Ok.ensures.found.0 c.in-Ok-reach.decided b d before c.meet.result c.in-Ok-reach.ensures.sent c.meet.ensures.met
     (λ rose. quiet (subst (λ (n : ℕ). Rose n c.meet.new.self.troubles) c.in-Ok-reach.ensures.troubles (subst (λ (n : ℕ). Rose before n) (sym c.meet.ensures.troubles) rose)))))
 
 -- ---- want of memory before the request is sent
@@ -116,7 +116,7 @@ returns-in-Server-clause-kept c =
     let fate = c.in-Ok-reach.decided in
     let asked = same_request m c.requires.0 (c.in-Ok.ensures.only c.requires.0 c.requires.1.0 c.requires.1.1) in
     let for : IsForServer m = for_server to c.requires.0 m c.in-Server.is asked c.requires.2 in
-    let once = asks_once to address m for fate (world_of b) (world_of d) c.meet.result c.in-Ok-reach.ensures.sent c.meet.ensures.met in
+    let once = asks_once to address m for c.in-Ok.ensures.found.0 fate (world_of b) (world_of d) c.meet.result c.in-Ok-reach.ensures.sent c.meet.ensures.met in
     let counted : d.troubles ≡ troubles_after fate c.meet.result a.troubles =
     c.meet.ensures.troubles ∙ ap (troubles_after fate c.meet.result) c.in-Ok-reach.ensures.troubles in
     let calm : AreQuiet (taken_of a.fates) → is_trouble fate ≡ false = λ quiet. ap is_trouble c.in-Ok-reach.ensures.fate ∙ quiet_deciding a.fates quiet in
@@ -127,7 +127,7 @@ returns-in-Server-clause-kept c =
     (λ quiet served. (
       counted ∙ quiet_after fate c.meet.result a.troubles (calm quiet),
       directly_on to address m (world_of a) (world_of b) (world_of d) c.meet.result c.in-Ok-reach.ensures.asking
-          (asks_directly to address m for fate (world_of b) (world_of d) c.meet.result c.in-Ok-reach.ensures.sent c.meet.ensures.met (calm quiet)),
+          (asks_directly to address m for c.in-Ok.ensures.found.0 fate (world_of b) (world_of d) c.meet.result c.in-Ok-reach.ensures.sent c.meet.ensures.met (calm quiet)),
     ))
 
 pub returns-in-Surrogate-clause-kept : goal.returns-in-Surrogate-clause-kept
