@@ -27,11 +27,11 @@ unkept_rises keepers.Memory before between now same counts = unrisen (syncs.Memo
 -- no reply ends a sync as a failed keeping does
 pub end_by_reply : (number : ℕ) (reply : Option Message) (end : SyncEnd) → Some end ≡ end_by number reply → end ≡ syncs.KeepFault → ⊥
 end_by_reply number None end by is = absurd (cc)
-end_by_reply number (Some (Accepted client seq)) end by is = absurd (cc)
+end_by_reply number (Some (Accepted client seq upto)) end by is = absurd (cc)
 end_by_reply number (Some (Done client seq)) end by is = absurd (cc)
-end_by_reply number (Some (Stale client seq path theirs ours)) end by is = absurd (cc)
-end_by_reply number (Some (Unfit client seq index fault)) end by is = absurd (cc)
-end_by_reply number (Some (Full client seq index fault)) end by is = absurd (cc)
+end_by_reply number (Some (Stale client seq upto path theirs ours)) end by is = absurd (cc)
+end_by_reply number (Some (Unfit client seq upto index fault)) end by is = absurd (cc)
+end_by_reply number (Some (Full client seq upto index fault)) end by is = absurd (cc)
 end_by_reply number (Some (Gap client seq last)) end by is = absurd (cc)
 end_by_reply number (Some _) end by is = absurd (cc)
 

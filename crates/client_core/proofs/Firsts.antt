@@ -1,14 +1,15 @@
--- The first pending entry: it has the next number, and its store may be sent.
-use Rattle.std.proofs.Common.{Bool, false, ◌≡◌, ◌≢◌, inl, ℕ, ◌+◌, ◌-◌, ◌<◌, ◌≤◌, List, [], ◌∷◌, length, drop, Some, None, slice_get, refl, sym, ◌∙◌, ap, subst, arith}
+-- The first pending entry: it has the next number, and the store of its window may be sent.
+use Rattle.std.proofs.Common.{Bool, ◌≡◌, ◌≢◌, inl, inr, ℕ, zero, suc, ◌+◌, ◌-◌, ◌<◌, ◌≤◌, List, [], ◌∷◌, length, Some, None, slice_get, refl, sym, ◌∙◌, ap, subst, arith}
+use Rattle.std.proofs.lemmas.List.{length-drop}
 use Rattle.tree_values.specs.Tree.{Volume}
 use Rattle.tree_values.specs.Lists.{IsIn}
 use Rattle.mod_log.specs.declared.log.Entry.{Entry}
 use Rattle.mod_log.specs.Log.{Log, IsLog, AreEntriesOf, acknowledged}
-use Rattle.mod_log.specs.Origin.{MadeByFits}
 use Rattle.wire_frames.specs.Frame.{IsValid}
 use Rattle.world_rules.specs.InStep.{MaySend}
-use Rattle.world_rules.proofs.Sending.{sent_valid}
-use Rattle.client_core.specs.Syncing.{IsFirst, store_of}
+use Rattle.world_rules.proofs.Sending.{fronts_may, pending_valid}
+use Rattle.client_core.specs.declared.route.Route.{Route}
+use Rattle.client_core.specs.Syncing.{IsFirst, IsWindow, store_of, store_alone}
 
 pub first_is : (pending : List Entry) (entry : Entry) → Some entry ≡ slice_get pending 0 → IsFirst entry pending
 first_is [] entry is = absurd (cc)
@@ -38,28 +39,32 @@ first_in (e ∷ entries) entry first = inl (sym first)
 pub first_number : (log : Log) (entry : Entry) → IsLog log → IsFirst entry log.pending → entry.seq ≡ log.acked + 1
 first_number log entry is first = numbered (log.acked + 1) log.base log.pending entry is.entries first
 
-fitting : (number : ℕ) (base : Volume) (pending : List Entry) (entry : Entry) → AreEntriesOf number base pending → IsFirst entry pending → MadeByFits entry.origin
-fitting number base [] entry are first = absurd first
-fitting number base (e ∷ entries) entry are first = subst (λ (x : Entry). MadeByFits x.origin) first are.0.origin_fits
+-- ---- what may be sent
 
--- what made it has a spelling
-pub first_made : (log : Log) (entry : Entry) → IsLog log → IsFirst entry log.pending → MadeByFits entry.origin
-first_made log entry is first = fitting (log.acked + 1) log.base log.pending entry is.entries first
+pub may_send : (client : ℕ) (ships : Bool) (route : Route) (log : Log) (entry : Entry) (chosen : List Entry) → IsLog log → IsFirst entry log.pending → IsWindow client route log.pending chosen
+    → MaySend client ships log (store_of client entry.seq chosen)
+may_send client ships route log entry chosen is first window =
+    subst (λ (number : ℕ). MaySend client ships log (store_of client number chosen)) (sym (first_number log entry is first)) (fronts_may client ships log chosen window.left is window.front window.fits.storable)
 
-pub may_send : (client : ℕ) (ships : Bool) (log : Log) (entry : Entry) → IsLog log → IsFirst entry log.pending → MaySend client ships log (store_of client entry)
-may_send client ships log entry is first = (refl, first_number log entry is first, (entry, first_in log.pending entry first, refl, refl, refl))
+-- the store of the first entry alone is valid
+pub store_valid : (client : ℕ) (log : Log) (entry : Entry) → 1 ≤ client → client ≤ 64 → IsLog log → IsFirst entry log.pending → IsValid (store_alone client entry)
+store_valid client log entry low high is first = pending_valid client low high log entry is (first_in log.pending entry first)
 
-pub store_valid : (client : ℕ) (log : Log) (entry : Entry) → 1 ≤ client → client ≤ 64 → IsLog log → IsFirst entry log.pending → IsValid (store_of client entry)
-store_valid client log entry low high is first = sent_valid client false log.acked log.base log.pending (store_of client entry) low high is (may_send client false log entry is first)
+-- what stands at a place is pending, and its store is valid
+pub got_in : (pending : List Entry) (i : ℕ) (entry : Entry) → Some entry ≡ slice_get pending i → IsIn entry pending
+got_in [] i entry is = absurd (cc is)
+got_in (first ∷ entries) zero entry is = let same : entry ≡ first = cc is in inl same
+got_in (first ∷ entries) (suc i) entry is = inr (got_in entries i entry is)
 
-acknowledged-length : (number : ℕ) (acked : ℕ) (base : Volume) (pending : List Entry) (entry : Entry) → number ≡ acked + 1 → IsFirst entry pending
-    → length (acknowledged number (record { acked = acked; base = base; pending = pending })).pending < length pending
-acknowledged-length number acked base [] entry next first = absurd first
-acknowledged-length number acked base (e ∷ entries) entry next first =
-    let one : number - acked ≡ 1 = omega arith in
-    omega (arith, ap (λ (n : ℕ). length (drop n (e ∷ entries))) one)
+pub pending_store : (client : ℕ) (log : Log) (entry : Entry) → 1 ≤ client → client ≤ 64 → IsLog log → IsIn entry log.pending → IsValid (store_alone client entry)
+pending_store client log entry low high is among = pending_valid client low high log entry is among
 
--- one entry fewer is pending
-pub shorter : (log next : Log) (entry : Entry) → IsLog log → IsFirst entry log.pending → next ≡ acknowledged entry.seq log → length next.pending < length log.pending
-shorter log next entry is first new =
-    omega (arith, ap (λ (l : Log). length l.pending) new, acknowledged-length entry.seq log.acked log.base log.pending entry (first_number log entry is first) first)
+-- ---- once some are acknowledged
+
+-- fewer are pending
+pub shorter : (log next : Log) (upto : ℕ) → log.acked < upto → 1 ≤ length log.pending → next ≡ acknowledged upto log → length next.pending < length log.pending
+shorter log next upto more some new = omega (arith, ap (λ (l : Log). length l.pending) new, length-drop (upto - log.acked) log.pending)
+
+-- one is left
+pub some_left : (log : Log) (upto : ℕ) → log.acked ≤ upto → upto < log.acked + length log.pending → (acknowledged upto log).pending ≢ []
+some_left log upto low high none = absurd (omega (arith, ap (λ (entries : List Entry). length entries) none, length-drop (upto - log.acked) log.pending))

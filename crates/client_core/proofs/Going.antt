@@ -1,5 +1,7 @@
 -- How what a client did goes on from call to call.
-use Rattle.std.proofs.Common.{Bool, ◌≡◌, ◌≢◌, ◌⊎◌, inl, inr, ⊎_elim, ℕ, zero, suc, ◌+◌, ◌-◌, List, [], ◌∷◌, ◌++◌, drop, Option, None, Some, unwrap_or, option_map, Result, Ok, Err, IfOk, refl, sym, ◌∙◌, ap, subst, arith, append_assoc}
+use Rattle.std.proofs.Common.{Bool, ◌≡◌, ◌≢◌, ◌⊎◌, inl, inr, ⊎_elim, ℕ, zero, suc, ◌+◌, ◌-◌, ◌<◌, ◌≤◌, List, [], ◌∷◌, ◌++◌, drop, Option, None, Some, unwrap_or, option_map, Result, Ok, Err, IfOk, refl, sym, ◌∙◌, ap, subst, arith, append_assoc}
+use Rattle.std.specs.Prelude.{if◌then◌else◌}
+use Rattle.std.proofs.lemmas.Bool.{lt-ltb, le-ltb}
 use Rattle.std.proofs.lemmas.List.{append-nil}
 use Rattle.outside.specs.Outside.{Told, RoseBy, Rose}
 use Rattle.cmd_capture.specs.declared.runner.Run.{Run}
@@ -8,13 +10,13 @@ use Rattle.outside.specs.Keeper.{Images}
 use Rattle.tree_values.specs.Lists.{IsIn}
 use Rattle.vol_tree.proofs.Behind.{IsIn-left, IsIn-right}
 use Rattle.mod_log.specs.declared.log.Entry.{Entry}
-use Rattle.mod_log.specs.Log.{Log, IsLog, logged}
+use Rattle.mod_log.specs.Log.{Log, IsLog, logged, acknowledged, tree_after}
 use Rattle.wire_frames.specs.declared.message.Message.{Message}
 use Rattle.world_rules.specs.declared.asking.Ask.{Ask}
 use Rattle.world_rules.specs.World.{World}
 use Rattle.world_rules.specs.Telling.{LinkTelling, ToldWorlds, HadTroubles}
 use Rattle.world_rules.specs.Settling.{failed_asks}
-use Rattle.world_rules.specs.InStep.{InStep, HasNoCollision, IsAcceptance}
+use Rattle.world_rules.specs.InStep.{InStep, HasNoCollision, TellsTaken}
 use Rattle.world_rules.specs.Run.{State, Runs, kept_at, Acknowledges, Logs, Saves}
 use Rattle.world_rules.proofs.Asks.{told_then, told_as, told_start, in_either}
 use Rattle.world_rules.proofs.Colliding.{fewer_collide}
@@ -23,7 +25,7 @@ use Rattle.world_rules.proofs.Settled.{failed-append}
 use Rattle.store_image.specs.Image.{Keeps}
 use Rattle.client_core.specs.declared.pulling.PullEnd.{PullEnd}
 use Rattle.client_core.specs.Trace.{Trace, nothing, followed, asking, changing, logging, running, pulling, last_log, log_before_last, IsLastOrBefore}
-use Rattle.client_core.specs.Syncing.{acknowledged_first}
+use Rattle.client_core.specs.Syncing.{acknowledging}
 use Rattle.client_core.specs.Keeping.{OthersStay, IsSmall, StaysSmall, IsKept, Kept, Keeping}
 use Rattle.client_core.specs.Goes.{Goes, WorldGoes, stand, no_runner}
 use Rattle.client_core.specs.Honest.{IsTruePull}
@@ -54,6 +56,22 @@ followed-assoc a b c =
       changes = append_assoc a.changes b.changes c.changes i;
       pulls = append_assoc a.pulls b.pulls c.pulls i;
     }
+
+-- ---- what a last turn acknowledges
+
+-- a log that acknowledges up to its own number stays
+pub acknowledged_same : (log : Log) (upto : ℕ) → upto ≡ log.acked → acknowledged upto log ≡ log
+acknowledged_same log upto is =
+    let none : upto - log.acked ≡ 0 = omega (arith, is) in
+    λ i. record { acked = is i; base = tree_after (none i) log; pending = drop (none i) log.pending }
+
+pub acknowledging_some : (before after : Log) → before.acked < after.acked → acknowledging before after ≡ changing after
+acknowledging_some before after more = ap (λ (test : Bool). if test then changing after else nothing) (lt-ltb before.acked after.acked more)
+
+pub acknowledging_none : (before after : Log) → after.acked ≡ before.acked → acknowledging before after ≡ nothing
+acknowledging_none before after same =
+    let low : after.acked ≤ before.acked = omega (arith, same) in
+    ap (λ (test : Bool). if test then changing after else nothing) (le-ltb before.acked after.acked low)
 
 pub changed_so : (changes : List Log) (change : Log) (more : List Log) → changes ≡ change ∷ more → changes ≢ []
 changed_so changes change more is = λ none. absurd (cc (sym none ∙ is))
@@ -87,7 +105,7 @@ has_run_alone xs m r alone =
 
 -- ---- what is kept
 
-last_log-append : (log : Log) (xs ys : List Log) → last_log log (xs ++ ys) ≡ last_log (last_log log xs) ys
+pub last_log-append : (log : Log) (xs ys : List Log) → last_log log (xs ++ ys) ≡ last_log (last_log log xs) ys
 last_log-append log [] ys = refl
 last_log-append log (x ∷ xs) ys = last_log-append x xs ys
 
@@ -333,15 +351,15 @@ module _ (name : List ℕ) (client : ℕ) (ships : Bool) where
         });
   }
 
-  -- such as the acknowledgement of the first pending entry on a reply that was sent
-  pub goes_acked : (T : Trace → Type 0) (reply : Message) (asks : List Ask) (s : Log) (i : Option Images) (r : RunnerTelling) (t u : LinkTelling) → IsKept i name client s
-      → ToldWorlds t u (λ x y. Runs client ships [] asks (kept_at s x) (kept_at s y) × IsIn reply y.packets) → HadTroubles (failed_asks asks) t u → s.pending ≢ [] → IsAcceptance client (s.acked + 1) reply
-      → T (followed (asking asks) (changing (acknowledged_first s))) → Goes client ships name T s (acknowledged_first s) s i i r r t u
-  goes_acked T reply asks s i r t u keeps told rose some is turn =
-      goes_changed T asks s (acknowledged_first s) i r t u keeps
+  -- such as the acknowledgement up to a number, on a reply that was sent and tells it to be taken
+  pub goes_acked : (T : Trace → Type 0) (upto : ℕ) (reply : Message) (asks : List Ask) (s : Log) (i : Option Images) (r : RunnerTelling) (t u : LinkTelling) → IsKept i name client s
+      → ToldWorlds t u (λ x y. Runs client ships [] asks (kept_at s x) (kept_at s y) × IsIn reply y.packets) → HadTroubles (failed_asks asks) t u → s.acked ≤ upto → TellsTaken client upto reply
+      → T (followed (asking asks) (changing (acknowledged upto s))) → Goes client ships name T s (acknowledged upto s) s i i r r t u
+  goes_acked T upto reply asks s i r t u keeps told rose above tells turn =
+      goes_changed T asks s (acknowledged upto s) i r t u keeps
       (told_as t.world u.world (λ x y. Runs client ships [] asks (kept_at s x) (kept_at s y) × IsIn reply y.packets)
-      (λ x y. Runs client ships [] asks (kept_at s x) (kept_at s y) × Runs client ships [] [] (kept_at s y) (stand (acknowledged_first s) s y)) told
-      (λ x y asked. (asked.0, runs_once client ships (kept_at s y) (Acknowledges reply) (some, is, asked.1))))
+      (λ x y. Runs client ships [] asks (kept_at s x) (kept_at s y) × Runs client ships [] [] (kept_at s y) (stand (acknowledged upto s) s y)) told
+      (λ x y asked. (asked.0, runs_once client ships (kept_at s y) (Acknowledges upto reply) (above, tells, asked.1))))
       rose turn
 
   -- an entry that is logged, and not kept yet

@@ -1,5 +1,5 @@
 -- What a keeping that adds to what is kept finds there, and what it leaves.
-use Rattle.std.proofs.Common.{Bool, true, false, ◌≡◌, ◌≢◌, ◌⊎◌, inl, inr, ⊎_elim, ℕ, zero, suc, ◌+◌, ◌-◌, ◌≤◌, ◌<◌, List, [], ◌∷◌, ◌++◌, length, take, drop, map, Option, None, Some, IfSome, Result, Ok, Err, refl, sym, ◌∙◌, ap, subst, arith, append_assoc}
+use Rattle.std.proofs.Common.{Bool, true, false, ◌≡◌, ◌⊎◌, inl, inr, ⊎_elim, ℕ, zero, suc, ◌+◌, ◌-◌, ◌≤◌, ◌<◌, List, [], ◌∷◌, ◌++◌, length, take, drop, map, Option, None, Some, IfSome, Result, Ok, Err, refl, sym, ◌∙◌, ap, subst, arith, append_assoc}
 use Rattle.std.specs.Prelude.{if◌then◌else◌, nat_le, ◌&&◌, slice_get}
 use Rattle.std.specs.List.{flat_map}
 use Rattle.std.specs.Option.{option_to_list}
@@ -13,7 +13,7 @@ use Rattle.outside.specs.declared.errors.KeepError.{KeepError}
 use Rattle.tree_values.specs.Tree.{Volume}
 use Rattle.tree_values.specs.Effects.{changed_all}
 use Rattle.mod_log.specs.declared.log.Entry.{Entry}
-use Rattle.mod_log.specs.Log.{Log, entry, tree_after, IsEntryOf, AreEntriesOf, IsLog, logged}
+use Rattle.mod_log.specs.Log.{Log, entry, tree_after, IsEntryOf, AreEntriesOf, IsLog, logged, acknowledged}
 use Rattle.mod_log.proofs.Entries.{log_entry_at}
 use Rattle.store_image.specs.declared.record.ClientRecord.{ClientRecord}
 use Rattle.store_image.specs.declared.record.ClientRecord.TheVariants.{Logged, Acked}
@@ -26,7 +26,6 @@ use Rattle.client_core.specs.declared.keeping.Journal.{Journal}
 use Rattle.client_core.specs.declared.keeping.Piece.{Piece}
 use Rattle.client_core.specs.Client.{Client}
 use Rattle.client_core.specs.Journal.{last_logged, notes_since, bytes_with, may_add, next_notes, bytes_after, journal_with, journal_after}
-use Rattle.client_core.specs.Syncing.{acknowledged_first}
 use Rattle.client_core.specs.Keeping.{IsKept, log_until, IsReadyFor, IsReady, IsKeptNext, AddsSome, StillKeeps, OthersStay, IsSmall, StaysSmall, most_records, LeavesKept, KeepsNext}
 use Rattle.client_core.specs.Inside.{LeadsTo, MayKeep, IsPiece, IsWithin, IsCounted}
 
@@ -232,38 +231,34 @@ module _ (name : List ℕ) (number : ℕ) (log : Log) where
       let none = drop_of_length-le log.pending {i = j.last - log.acked} (omega (arith, current.last)) in
       few_notes (may_add j false log) (notes_since j false log) (subst (λ (es : List Entry). length (map Logged es ++ []) ≤ 1) (sym none) (omega arith))
 
-  module _ (some : log.pending ≢ []) where
-    some_of : (entries : List Entry) → entries ≢ [] → 1 ≤ length entries
-    some_of [] some = absurd (some refl)
-    some_of (entry ∷ entries) some = omega arith
+  module _ (upto : ℕ) (rose : log.acked < upto) (high : upto ≤ log.acked + length log.pending) where
+    abbrev next_log : Log
+    next_log = acknowledged upto log
 
-    -- the number of the first pending entry, where the log was kept before it was acknowledged
-    pub acked_note : (j : Journal) → j.last ≡ last_logged log → notes_since j true (acknowledged_first log) ≡ Acked (log.acked + 1) ∷ []
+    -- the acknowledged number, where the log was kept before
+    pub acked_note : (j : Journal) → j.last ≡ last_logged log → notes_since j true next_log ≡ Acked upto ∷ []
     acked_note j is =
-        let m = log.acked + 1 - log.acked in
+        let m = upto - log.acked in
         let left = length-drop m log.pending in
-        let many = some_of log.pending some in
-        let none = drop_of_length-le (drop m log.pending) {i = j.last - (log.acked + 1)} (omega (arith, left, is, many)) in
-        ap (λ (es : List Entry). map Logged es ++ Acked (log.acked + 1) ∷ []) none
+        let none = drop_of_length-le (drop m log.pending) {i = j.last - upto} (omega (arith, left, is, rose, high)) in
+        ap (λ (es : List Entry). map Logged es ++ Acked upto ∷ []) none
 
-    pub acked_one : (journal : Option Journal) (i : Option Images) → JournalIsCurrent i name number log journal → IsOneAtMost i (next_notes journal true (acknowledged_first log))
+    pub acked_one : (journal : Option Journal) (i : Option Images) → JournalIsCurrent i name number log journal → IsOneAtMost i (next_notes journal true next_log)
     acked_one journal None current = tt
     acked_one None (Some i) current = tt
     acked_one (Some j) (Some i) current =
-        few_notes (may_add j true (acknowledged_first log)) (notes_since j true (acknowledged_first log))
-        (subst (λ (notes : List ClientRecord). length notes ≤ 1) (sym (acked_note j current.last)) (omega arith))
+        few_notes (may_add j true next_log) (notes_since j true next_log) (subst (λ (notes : List ClientRecord). length notes ≤ 1) (sym (acked_note j current.last)) (omega arith))
 
-    acked_leads : (j : Journal) (found : Option (List ℕ)) → IsCurrentFor number log j found → LeadsTo number (acknowledged_first log) (notes_since j true (acknowledged_first log)) found
+    acked_leads : (j : Journal) (found : Option (List ℕ)) → IsCurrentFor number log j found → LeadsTo number next_log (notes_since j true next_log) found
     acked_leads j found current =
-        let many = some_of log.pending some in
-        subst (λ (notes : List ClientRecord). LeadsTo number (acknowledged_first log) notes found) (sym (acked_note j current.last))
-        (record { bytes = current.bytes; stands = current.stands; base = log; whole = current.whole; noted = ((omega arith, omega (arith, many)), tt); leads = refl })
+        subst (λ (notes : List ClientRecord). LeadsTo number next_log notes found) (sym (acked_note j current.last))
+        (record { bytes = current.bytes; stands = current.stands; base = log; whole = current.whole; noted = ((rose, high), tt); leads = refl })
 
-    pub may_keep_acked : (journal : Option Journal) (i : Option Images) → JournalIsCurrent i name number log journal → MayKeep (next_notes journal true (acknowledged_first log)) i name number (acknowledged_first log)
+    pub may_keep_acked : (journal : Option Journal) (i : Option Images) → JournalIsCurrent i name number log journal → MayKeep (next_notes journal true next_log) i name number next_log
     may_keep_acked None i current = tt
-    may_keep_acked (Some j) i current = by (may_add j true (acknowledged_first log)) i current
+    may_keep_acked (Some j) i current = by (may_add j true next_log) i current
       where
-        by : (may : Bool) (i : Option Images) → JournalIsCurrent i name number log (Some j) → MayKeep (if may then Some (notes_since j true (acknowledged_first log)) else None) i name number (acknowledged_first log)
+        by : (may : Bool) (i : Option Images) → JournalIsCurrent i name number log (Some j) → MayKeep (if may then Some (notes_since j true next_log) else None) i name number next_log
         by true None current = tt
         by true (Some i) current = acked_leads j (i name) current
         by false i current = tt

@@ -5,7 +5,6 @@ pub mod Going
 pub mod Journal
 pub mod Licensing
 pub mod Locals
-pub mod Noted
 pub mod Noting
 pub mod Olders
 pub mod Overtaken
@@ -13,6 +12,8 @@ pub mod Putting
 pub mod Pulls
 pub mod Runs
 pub mod Ships
+pub mod Sketching
 pub mod Standing
 pub mod Syncs
 pub mod Truths
+pub mod Windows

@@ -1,7 +1,7 @@
 -- Changes that are kept one by one: how they go on from call to call.
-use Rattle.std.proofs.Common.{Bool, true, false, ◌≡◌, ◌≢◌, ℕ, zero, suc, ◌+◌, ◌-◌, ◌≤◌, List, [], ◌∷◌, ◌++◌, length, drop, map, Option, None, Some, IfSome, Ok, refl, sym, ◌∙◌, ap, subst, arith, append_assoc}
+use Rattle.std.proofs.Common.{Bool, true, false, ◌≡◌, ℕ, ◌+◌, ◌-◌, ◌<◌, ◌≤◌, List, [], ◌∷◌, ◌++◌, length, drop, map, Option, None, Some, IfSome, Ok, refl, sym, ◌∙◌, ap, subst, arith, append_assoc}
 use Rattle.std.specs.Prelude.{if◌then◌else◌, nat_le, ◌&&◌, option_map}
-use Rattle.std.proofs.lemmas.List.{append-nil, length-append, length-drop, drop-append-le}
+use Rattle.std.proofs.lemmas.List.{append-nil, length-append, drop-append-le}
 use Rattle.std.proofs.lemmas.Grind.{flat_map-append}
 use Rattle.std.proofs.Math.ListN.{drop_of_length-le}
 use Rattle.std.proofs.lemmas.Bool.{le-leb}
@@ -9,21 +9,18 @@ use Rattle.outside.specs.Outside.{Told}
 use Rattle.outside.specs.Keeper.{Images}
 use Rattle.outside.specs.declared.errors.KeepError.{KeepError}
 use Rattle.mod_log.specs.declared.log.Entry.{Entry}
-use Rattle.mod_log.specs.Log.{Log, logged}
+use Rattle.mod_log.specs.Log.{Log, logged, acknowledged}
 use Rattle.store_image.specs.declared.record.ClientRecord.{ClientRecord}
 use Rattle.store_image.specs.declared.record.ClientRecord.TheVariants.{Logged, Acked}
 use Rattle.store_image.specs.declared.image.TheConstants.{MAX_RECORDS}
 use Rattle.store_image.specs.Records.{client_record, client_records, with_record, with_records}
 use Rattle.store_image.specs.Spelling.{client as image}
-use Rattle.world_rules.proofs.Asks.{told_then, told_start}
+use Rattle.world_rules.proofs.Asks.{told_then, told_as, told_start}
 use Rattle.client_core.specs.declared.keeping.Journal.{Journal}
 use Rattle.client_core.specs.Client.{Client}
 use Rattle.client_core.specs.Journal.{last_logged, notes_since, bytes_with, may_add, next_notes, journal_after}
-use Rattle.client_core.specs.Syncing.{acknowledged_first}
-use Rattle.client_core.specs.Causes.{AcknowledgesSome}
 use Rattle.client_core.specs.Keeping.{IsKeptReady, KeepsNext}
-use Rattle.client_core.specs.Noting.{logs_behind, AreRecorded, acknowledgements, records_between, AreAdded, KeepsRecords, KeepsChanges}
-use Rattle.client_core.proofs.Acknowledging.{some_left}
+use Rattle.client_core.specs.Noting.{logs_behind, AreRecorded, AreAdded, KeepsRecords, KeepsChanges, records_logged, KeepsLogged}
 use Rattle.client_core.proofs.Journal.{JournalIsCurrent, ready_current, acked_note}
 
 -- ---- records, and the logs behind them
@@ -92,35 +89,51 @@ module _ (name : List ℕ) where
   pub keeps_none : (x : Client) (i : Option Images) → Told i i (KeepsRecords name x x [])
   keeps_none x i = told_start i (KeepsRecords name x x []) (λ a. record { number = refl; leads = refl; added = (refl, refl) })
 
--- ---- the records between two logs
+-- ---- the records of what was logged between two logs
 
-nothing_left : (n : ℕ) → n - n ≡ 0
-nothing_left n = omega arith
+pub records_none : (log : Log) → records_logged log log ≡ []
+records_none log = ap (map Logged) (drop_of_length-le log.pending {i = last_logged log - log.acked} (omega arith))
 
-pub between_same : (log : Log) → records_between log log ≡ []
-between_same log =
-    let none = drop_of_length-le log.pending {i = last_logged log - log.acked} (omega arith) in
-    ap (λ (n : ℕ). acknowledgements n log.acked ++ map Logged (drop (last_logged log - log.acked) log.pending)) (nothing_left log.acked) ∙ ap (map Logged) none
-
-pub between_logged : (log : Log) (e : Entry) → records_between log (logged e log) ≡ Logged e ∷ []
-between_logged log e =
+pub records_one : (log : Log) (e : Entry) → records_logged log (logged e log) ≡ Logged e ∷ []
+records_one log e =
     let n = last_logged log - log.acked in
     let rest = drop-append-le n log.pending (e ∷ []) (omega arith) in
     let none = drop_of_length-le log.pending {i = n} (omega arith) in
     let one : drop n (log.pending ++ e ∷ []) ≡ e ∷ [] = rest ∙ ap (λ (es : List Entry). es ++ e ∷ []) none in
-    ap (λ (m : ℕ). acknowledgements m log.acked ++ map Logged (drop n (log.pending ++ e ∷ []))) (nothing_left log.acked) ∙ ap (map Logged) one
+    ap (map Logged) one
 
-pub between_acked : (before after : Log) (count : ℕ) → after.acked ≡ before.acked + count → AcknowledgesSome before after → records_between before after ≡ acknowledgements count before.acked
-between_acked before after count is some =
-    let many : after.acked - before.acked ≡ count = omega (arith, is) in
-    let number : after.acked ≡ some.0 = ap (λ (l : Log). l.acked) some.3 in
-    let left : length after.pending ≡ length before.pending - (some.0 - before.acked) = ap (λ (l : Log). length l.pending) some.3 ∙ length-drop (some.0 - before.acked) before.pending in
-    let none = drop_of_length-le after.pending {i = last_logged before - after.acked} (omega (arith, number, left, some.1, some.2)) in
-    ap (λ (n : ℕ). acknowledgements n before.acked ++ map Logged (drop (last_logged before - after.acked) after.pending)) many
-    ∙ ap (λ (es : List Entry). acknowledgements count before.acked ++ map Logged es) none ∙ append-nil (acknowledgements count before.acked)
+pub keeps_same : (name : List ℕ) (x : Client) (i : Option Images) → KeepsLogged name x x i i
+keeps_same name x i = subst (λ (notes : List ClientRecord). Told i i (KeepsRecords name x x notes)) (sym (records_none x.log)) (keeps_none name x i)
 
-pub keeps_same : (name : List ℕ) (x : Client) (i : Option Images) → KeepsChanges name x x i i
-keeps_same name x i = subst (λ (notes : List ClientRecord). Told i i (KeepsRecords name x x notes)) (sym (between_same x.log)) (keeps_none name x i)
+-- ---- changes
+
+module _ (name : List ℕ) where
+  pub logged_changes : (x y : Client) (changes : List Log) (i j : Option Images) → changes ≡ logs_behind x.log (records_logged x.log y.log) → KeepsLogged name x y i j → KeepsChanges name x y changes i j
+  logged_changes x y changes i j is kept =
+      told_as i j (KeepsRecords name x y (records_logged x.log y.log)) (λ a b. (notes : List ClientRecord) × (changes ≡ logs_behind x.log notes) × KeepsRecords name x y notes a b) kept
+      (λ a b keeps. (records_logged x.log y.log, is, keeps))
+
+  -- of one record
+  pub noted_changes : (x y : Client) (note : ClientRecord) (i j : Option Images) → Told i j (KeepsRecords name x y (note ∷ [])) → KeepsChanges name x y (with_record x.log note ∷ []) i j
+  noted_changes x y note i j kept =
+      told_as i j (KeepsRecords name x y (note ∷ [])) (λ a b. (notes : List ClientRecord) × (with_record x.log note ∷ [] ≡ logs_behind x.log notes) × KeepsRecords name x y notes a b) kept
+      (λ a b keeps. (note ∷ [], refl, keeps))
+
+  pub changes_same : (x : Client) (i : Option Images) → KeepsChanges name x x [] i i
+  changes_same x i =
+      told_as i i (KeepsRecords name x x []) (λ a b. (notes : List ClientRecord) × ([] ≡ logs_behind x.log notes) × KeepsRecords name x x notes a b) (keeps_none name x i) (λ a b keeps. ([], refl, keeps))
+
+  pub changes_then : (x y z : Client) (xs ys : List Log) (i j l : Option Images) → KeepsChanges name x y xs i j → KeepsChanges name y z ys j l → KeepsChanges name x z (xs ++ ys) i l
+  changes_then x y z xs ys i j l first second =
+      told_then i j l (λ a b. (notes : List ClientRecord) × (xs ≡ logs_behind x.log notes) × KeepsRecords name x y notes a b)
+      (λ a b. (notes : List ClientRecord) × (ys ≡ logs_behind y.log notes) × KeepsRecords name y z notes a b)
+      (λ a b. (notes : List ClientRecord) × (xs ++ ys ≡ logs_behind x.log notes) × KeepsRecords name x z notes a b)
+      first second
+      (λ a b c p q. (
+        p.0 ++ q.0,
+        ap (λ (logs : List Log). logs ++ ys) p.1 ∙ ap (λ (logs : List Log). logs_behind x.log p.0 ++ logs) (q.1 ∙ ap (λ (log : Log). logs_behind log q.0) p.2.leads) ∙ sym (logs_passed x.log p.0 q.0),
+        records_then name x y z p.0 q.0 a b c p.2 q.2,
+      ))
 
 -- ---- one change that is kept
 
@@ -170,17 +183,17 @@ logged_next name number log e (Some j) a current =
     let one : drop n (log.pending ++ e ∷ []) ≡ e ∷ [] = rest ∙ ap (λ (es : List Entry). es ++ e ∷ []) none in
     (ap (λ (es : List Entry). map Logged es ++ []) one, omega (arith, current.last))
 
--- the first pending entry, which was acknowledged since
-acked_next : (name : List ℕ) (number : ℕ) (log : Log) → log.pending ≢ [] → (journal : Option Journal) (a : Images) → JournalIsCurrent (Some a) name number log journal
-    → IsNext name number (acknowledged_first log) log (Acked (log.acked + 1)) refl journal true
-acked_next name number log some None a current = tt
-acked_next name number log some (Some j) a current = (acked_note name number log some j current.last, omega (arith, current.last, some_left log.pending some))
+-- the number up to which entries were acknowledged since
+acked_next : (name : List ℕ) (number : ℕ) (log : Log) (upto : ℕ) → log.acked < upto → upto ≤ log.acked + length log.pending → (journal : Option Journal) (a : Images) → JournalIsCurrent (Some a) name number log journal
+    → IsNext name number (acknowledged upto log) log (Acked upto) refl journal true
+acked_next name number log upto rose high None a current = tt
+acked_next name number log upto rose high (Some j) a current = (acked_note name number log upto rose high j current.last, omega (arith, current.last, high))
 
 module _ (name : List ℕ) (x mid y : Client) (done : Unit {0}) (i j : Option Images) where
   -- a client that was kept, logged an entry, and was kept again
   pub keeps_logged : (e : Entry) → mid.number ≡ x.number → mid.log ≡ logged e x.log → mid.journal ≡ x.journal → y.number ≡ mid.number → y.log ≡ mid.log
       → y.journal ≡ journal_after {E = KeepError} mid.journal (next_notes mid.journal false mid.log) mid.log (Ok done) → IsKeptReady i name x
-      → Told i j (KeepsNext {E = KeepError} name mid.number mid.log (next_notes mid.journal false mid.log) (Ok done)) → KeepsChanges name x y i j
+      → Told i j (KeepsNext {E = KeepError} name mid.number mid.log (next_notes mid.journal false mid.log) (Ok done)) → KeepsLogged name x y i j
   keeps_logged e number log journal same_number same_log next kept told =
       let later : Client = record { number = x.number; log = logged e x.log; journal = x.journal } in
       let was : mid ≡ later = λ k. record { number = number k; log = log k; journal = journal k } in
@@ -190,47 +203,27 @@ module _ (name : List ℕ) (x mid y : Client) (done : Unit {0}) (i j : Option Im
       let left : y.journal ≡ after.journal = next ∙ ap (λ (c : Client). journal_after {E = KeepError} c.journal (next_notes c.journal false c.log) c.log (Ok done)) was in
       let now : y ≡ after = λ k. record { number = (same_number ∙ number) k; log = (same_log ∙ log) k; journal = left k } in
       let current = λ (a : Images) (is : i ≡ Some a). subst (λ (k : Option Images). JournalIsCurrent k name x.number x.log x.journal) is (ready_current name x.number x.log x.journal i kept.0 kept.1) in
-      subst (λ (c : Client). KeepsChanges name x c i j) (sym now)
-      (subst (λ (notes : List ClientRecord). Told i j (KeepsRecords name x after notes)) (sym (between_logged x.log e))
+      subst (λ (c : Client). KeepsLogged name x c i j) (sym now)
+      (subst (λ (notes : List ClientRecord). Told i j (KeepsRecords name x after notes)) (sym (records_one x.log e))
       (one_keeps_records name x.number (logged e x.log) x.log (Logged e) refl x.journal false done i j (λ a is. logged_next name x.number x.log e x.journal a (current a is)) saved))
 
 -- ---- a sync
 
-pub acked_more : (count acked : ℕ) → acknowledgements (suc count) acked ≡ acknowledgements count acked ++ Acked (acked + count + 1) ∷ []
-acked_more zero acked =
-    let same : acked + 1 ≡ acked + 0 + 1 = omega arith in
-    ap (λ (n : ℕ). Acked n ∷ []) same
-acked_more (suc count) acked =
-    let same : acked + 1 + count + 1 ≡ acked + suc count + 1 = omega arith in
-    ap (λ (notes : List ClientRecord). Acked (acked + 1) ∷ notes) (acked_more count (acked + 1) ∙ ap (λ (n : ℕ). acknowledgements count (acked + 1) ++ Acked n ∷ []) same)
+module _ (name : List ℕ) (number : ℕ) where
+  abbrev pub client_at : Log → Option Journal → Client
+  client_at log journal = record { number = number; log = log; journal = journal }
 
-module _ (name : List ℕ) (number : ℕ) (before : Log) (journal : Option Journal) where
-  abbrev client_at : Log → Option Journal → Client
-  client_at log now = record { number = number; log = log; journal = now }
-
-  -- so far each acknowledgement was kept
-  abbrev pub KeepsAcks : Log → Option Journal → Option Images → Option Images → Type 0
-  KeepsAcks mid now i j = (count : ℕ) × (mid.acked ≡ before.acked + count) × Told i j (KeepsRecords name (client_at before journal) (client_at mid now) (acknowledgements count before.acked))
-
-  pub acks_none : (i : Option Images) → KeepsAcks before journal i i
-  acks_none i = (0, omega arith, keeps_none name (client_at before journal) i)
-
-  pub acks_more : (mid : Log) (now : Option Journal) (done : Unit {0}) (i j l : Option Images) → KeepsAcks mid now i j → mid.pending ≢ [] → JournalIsCurrent j name number mid now
-      → Told j l (KeepsNext {E = KeepError} name number (acknowledged_first mid) (next_notes now true (acknowledged_first mid)) (Ok done))
-      → KeepsAcks (acknowledged_first mid) (journal_after {E = KeepError} now (next_notes now true (acknowledged_first mid)) (acknowledged_first mid) (Ok done)) i l
-  acks_more mid now done i j l so_far some current told =
-      let next = acknowledged_first mid in
-      let later = journal_after {E = KeepError} now (next_notes now true next) next (Ok done) in
-      let one = one_keeps_records name number next mid (Acked (mid.acked + 1)) refl now true done j l
-      (λ a is. acked_next name number mid some now a (subst (λ (k : Option Images). JournalIsCurrent k name number mid now) is current)) told in
-      let all = keeps_then name (client_at before journal) (client_at mid now) (client_at next later) (acknowledgements so_far.0 before.acked) (Acked (mid.acked + 1) ∷ []) i j l so_far.2 one in
-      let same : acknowledgements so_far.0 before.acked ++ Acked (mid.acked + 1) ∷ [] ≡ acknowledgements (suc so_far.0) before.acked =
-      ap (λ (n : ℕ). acknowledgements so_far.0 before.acked ++ Acked (n + 1) ∷ []) so_far.1 ∙ sym (acked_more so_far.0 before.acked) in
-      (suc so_far.0, omega (arith, so_far.1), subst (λ (notes : List ClientRecord). Told i l (KeepsRecords name (client_at before journal) (client_at next later) notes)) same all)
-
-  pub acks_all : (mid : Log) (now : Option Journal) (i j : Option Images) → AcknowledgesSome before mid → KeepsAcks mid now i j → KeepsChanges name (client_at before journal) (client_at mid now) i j
-  acks_all mid now i j some so_far =
-      subst (λ (notes : List ClientRecord). Told i j (KeepsRecords name (client_at before journal) (client_at mid now) notes)) (sym (between_acked before mid so_far.0 so_far.1 some)) so_far.2
+  -- an acknowledgement that was kept
+  pub changes_acked : (mid : Log) (journal : Option Journal) (upto : ℕ) (done : Unit {0}) (i j : Option Images) → mid.acked < upto → upto ≤ mid.acked + length mid.pending → JournalIsCurrent i name number mid journal
+      → Told i j (KeepsNext {E = KeepError} name number (acknowledged upto mid) (next_notes journal true (acknowledged upto mid)) (Ok done))
+      → KeepsChanges name (client_at mid journal)
+      (client_at (acknowledged upto mid) (journal_after {E = KeepError} journal (next_notes journal true (acknowledged upto mid)) (acknowledged upto mid) (Ok done))) (acknowledged upto mid ∷ []) i j
+  changes_acked mid journal upto done i j rose high current told =
+      let next = acknowledged upto mid in
+      let later = journal_after {E = KeepError} journal (next_notes journal true next) next (Ok done) in
+      noted_changes name (client_at mid journal) (client_at next later) (Acked upto) i j
+      (one_keeps_records name number next mid (Acked upto) refl journal true done i j
+      (λ a is. acked_next name number mid upto rose high journal a (subst (λ (k : Option Images). JournalIsCurrent k name number mid journal) is current)) told)
 
 -- ---- from the first keeping of a value on
 

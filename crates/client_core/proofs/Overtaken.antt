@@ -1,5 +1,5 @@
 -- The first pending entry, where others wrote at a path that it rests on, is never taken.
-use Rattle.std.proofs.Common.{Bool, true, false, cond, ◌≡◌, ⊎_elim, ℕ, ◌+◌, List, [], ◌∷◌, ◌++◌, Option, Some, None, Result, Ok, Err, refl, sym, ◌∙◌, subst, arith, eqb-true}
+use Rattle.std.proofs.Common.{Bool, true, false, cond, ◌≡◌, ◌⊎◌, inl, inr, ⊎_elim, ℕ, ◌+◌, ◌-◌, List, [], ◌∷◌, ◌++◌, drop, Option, Some, None, Result, Ok, Err, refl, sym, ◌∙◌, ap, subst, arith, eqb-true}
 use Rattle.std.specs.Prelude.{◌==◌, if◌then◌else◌, nat_le, nat_lt}
 use Rattle.tree_values.specs.Tree.{Volume, version_at}
 use Rattle.tree_values.specs.Effects.{Conflict, apply_all, first_conflict}
@@ -8,17 +8,19 @@ use Rattle.tree_values.specs.declared.node.Effect.{Effect}
 use Rattle.tree_values.specs.declared.node.Base.{Base}
 use Rattle.tree_values.specs.declared.node.TreeError.{TreeError}
 use Rattle.vol_tree.specs.Behind.{IsBehind}
-use Rattle.vol_tree.proofs.Behind.{IsBehind-refl, IsBehind-after, applied-changes}
+use Rattle.vol_tree.proofs.Behind.{IsBehind-refl, IsBehind-trans, IsBehind-after, applied-changes}
 use Rattle.mod_log.specs.declared.log.Entry.{Entry}
 use Rattle.wire_frames.specs.declared.message.Message.{Message}
 use Rattle.wire_frames.specs.declared.message.Message.TheVariants.{Store}
-use Rattle.world_rules.specs.Served.{Served, TakenEntry, entry_stored, judged, served_after, state_after, taken_if, taken_of}
+use Rattle.wire_frames.specs.declared.parts.Part.{Part}
+use Rattle.world_rules.specs.Served.{Served, Verdict, Repeated, Early, Outdated, Refused, Taken, judged, verdict, passes, served_after, served_through, state_after, TakenEntry, entry_stored, taken_if, taken_through, taken_of}
 use Rattle.world_rules.specs.World.{World, Step, Send, Deliver, Other, Relay, happens}
 use Rattle.world_rules.specs.InStep.{InStep, HasNoCollision}
 use Rattle.world_rules.specs.Run.{State, Move, Network, Notes, Logs, Acknowledges, Pulls, Saves, moved, IsPossible, AllPossible, moved_by, taken_by, own}
 use Rattle.world_rules.proofs.Colliding.{IsApart, apart_here, apart_next, run_apart}
+use Rattle.world_rules.proofs.Next.{TakesInOrder}
 use Rattle.world_rules.proofs.Events.{steps_on}
-use Rattle.world_rules.proofs.Runs.{accepted_at_most, allowed_log, move_keeps, runs_in_step}
+use Rattle.world_rules.proofs.Runs.{told_at_most, allowed_log, move_keeps, runs_in_step}
 use Rattle.client_core.specs.Syncing.{IsFirst}
 use Rattle.client_core.specs.Laws.{RestsBelow, OvertakenEntriesAreNeverTaken}
 use Rattle.client_core.proofs.Firsts.{first_number, first_some}
@@ -37,46 +39,96 @@ no_conflict (first ∷ bases) rows base none among =
     ⊎_elim (λ (is : base ≡ first). subst (λ (b : Base). version_at rows b.path ≡ b.version) (sym is) (eqb-true _ _ parts.0))
     (λ (later : IsIn base bases). no_conflict bases rows base parts.1 later) among
 
-own_one : (client : ℕ) (stored entry : TakenEntry) → own client (stored ∷ []) ≡ entry ∷ [] → stored ≡ entry
-own_one client stored entry = by (stored.client == client)
+-- what is taken of one client begins with the first entry, or with one behind it
+own_first : (client : ℕ) (stored entry : TakenEntry) (later more : List TakenEntry) → own client (stored ∷ later) ≡ entry ∷ more → (stored ≡ entry) ⊎ (((stored.client == client) ≡ false) × (own client later ≡ entry ∷ more))
+own_first client stored entry later more = by (stored.client == client) refl
   where
-    by : (own : Bool) → (if own then stored ∷ [] else []) ≡ entry ∷ [] → stored ≡ entry
-    by true is = cc
-    by false is = absurd (cc)
+    by : (mine : Bool) → (stored.client == client) ≡ mine → (if mine then stored ∷ own client later else own client later) ≡ entry ∷ more → (stored ≡ entry) ⊎ (((stored.client == client) ≡ false) × (own client later ≡ entry ∷ more))
+    by true test is = inl (cc)
+    by false test is = inr (test, is)
 
-module _ (client : ℕ) (served : Served) (entry : TakenEntry) where
-  -- what is taken of a store has no conflict
-  store_based : (stored : TakenEntry) (repeated beyond : Bool) (conflict : Option Conflict) (applied : Result Volume (ℕ × TreeError)) → first_conflict stored.base served.volume ≡ conflict
-      → own client (taken_if (judged repeated beyond conflict applied) stored) ≡ entry ∷ [] → first_conflict entry.base served.volume ≡ None
-  store_based stored true beyond conflict applied at is = absurd (cc)
-  store_based stored false true conflict applied at is = absurd (cc)
-  store_based stored false false (Some conflict) applied at is = absurd (cc)
-  store_based stored false false None (Err cause) at is = absurd (cc)
-  store_based stored false false None (Ok volume) at is = subst (λ (e : TakenEntry). first_conflict e.base served.volume ≡ None) (own_one client stored entry is) at
+-- of another client's store nothing is taken of this one
+others_none : (client of : ℕ) → (of == client) ≡ false → (number : ℕ) (parts : List Part) (served : Served) → own client (taken_through of number parts served) ≡ []
+others_none client of differ number [] served = refl
+others_none client of differ number (part ∷ parts) served =
+    let judgement = verdict of number part.effects part.base served in
+    by judgement (others_none client of differ (number + 1) parts (served_after of number judgement served))
+  where
+    by : (judgement : Verdict) → own client (taken_through of (number + 1) parts (served_after of number judgement served)) ≡ []
+        → own client (taken_if judgement (entry_stored of number part.effects part.base) ++ (if passes judgement then taken_through of (number + 1) parts (served_after of number judgement served) else [])) ≡ []
+    by Repeated rest = rest
+    by Early rest = refl
+    by (Outdated conflict) rest = refl
+    by (Refused cause) rest = refl
+    by (Taken volume) rest =
+        let stored = entry_stored of number part.effects part.base in
+        let later = taken_through of (number + 1) parts (served_after of number (Taken volume) served) in
+        ap (λ (mine : Bool). if mine then stored ∷ own client later else own client later) differ ∙ rest
 
-  message_based : (message : Message) → own client (taken_of message served) ≡ entry ∷ [] → first_conflict entry.base served.volume ≡ None
-  message_based (Store of number effects base) is =
-      store_based (entry_stored of number effects base) (nat_le number (served.last of)) (nat_lt (served.last of + 1) number) (first_conflict base served.volume) (apply_all 0 effects served.volume) refl is
-  message_based _ is = absurd (cc)
+module _ (client : ℕ) (entry : TakenEntry) (more : List TakenEntry) where
+  -- the first entry of the client that is taken of a store has no conflict
+  store_based : (of number : ℕ) (parts : List Part) (served : Served) → own client (taken_through of number parts served) ≡ entry ∷ more → first_conflict entry.base served.volume ≡ None
+  store_based of number [] served is = absurd (cc)
+  store_based of number (part ∷ parts) served is =
+      by (nat_le number (served.last of)) (nat_lt (served.last of + 1) number) (first_conflict part.base served.volume) (apply_all 0 part.effects served.volume) refl (store_based of (number + 1) parts served) is
+    where
+      none_left : entry ∷ more ≡ [] → first_conflict entry.base served.volume ≡ None
+      none_left none = absurd (cc none)
 
-  step_based : (step : Step) → own client (taken_by step served) ≡ entry ∷ [] → first_conflict entry.base served.volume ≡ None
-  step_based (Deliver message joins) is = message_based message is
-  step_based _ is = absurd (cc)
+      by : (repeated beyond : Bool) (conflict : Option Conflict) (applied : Result Volume (ℕ × TreeError)) → first_conflict part.base served.volume ≡ conflict
+          → (own client (taken_through of (number + 1) parts served) ≡ entry ∷ more → first_conflict entry.base served.volume ≡ None)
+          → let judgement = judged repeated beyond conflict applied in
+          own client (taken_if judgement (entry_stored of number part.effects part.base) ++ (if passes judgement then taken_through of (number + 1) parts (served_after of number judgement served) else [])) ≡ entry ∷ more
+          → first_conflict entry.base served.volume ≡ None
+      by true beyond conflict applied at rest is = rest is
+      by false true conflict applied at rest is = absurd (cc)
+      by false false (Some conflict) applied at rest is = absurd (cc)
+      by false false None (Err cause) at rest is = absurd (cc)
+      by false false None (Ok volume) at rest is =
+          let stored = entry_stored of number part.effects part.base in
+          let next = served_after of number (Taken volume) served in
+          let later = taken_through of (number + 1) parts next in
+          ⊎_elim (λ (here : stored ≡ entry). subst (λ (e : TakenEntry). first_conflict e.base served.volume ≡ None) here at)
+          (λ behind. none_left (sym behind.1 ∙ others_none client of behind.0 (number + 1) parts next)) (own_first client stored entry later more is)
+
+  message_based : (message : Message) (served : Served) → own client (taken_of message served) ≡ entry ∷ more → first_conflict entry.base served.volume ≡ None
+  message_based (Store of number parts) served is = store_based of number parts served is
+  message_based _ served is = absurd (cc)
+
+  step_based : (step : Step) (served : Served) → own client (taken_by step served) ≡ entry ∷ more → first_conflict entry.base served.volume ≡ None
+  step_based (Deliver message joins) served is = message_based message served is
+  step_based _ served is = absurd (cc)
 
 -- ---- versions only rise
 
-store_grows : (of number : ℕ) (effects : List Effect) (served : Served) (repeated beyond : Bool) (conflict : Option Conflict) (applied : Result Volume (ℕ × TreeError)) → apply_all 0 effects served.volume ≡ applied
+entry_grows : (of number : ℕ) (effects : List Effect) (served : Served) (repeated beyond : Bool) (conflict : Option Conflict) (applied : Result Volume (ℕ × TreeError)) → apply_all 0 effects served.volume ≡ applied
     → IsBehind served.volume (served_after of number (judged repeated beyond conflict applied) served).volume
-store_grows of number effects served true beyond conflict applied at = IsBehind-refl served.volume
-store_grows of number effects served false true conflict applied at = IsBehind-refl served.volume
-store_grows of number effects served false false (Some conflict) applied at = IsBehind-refl served.volume
-store_grows of number effects served false false None (Err cause) at = IsBehind-refl served.volume
-store_grows of number effects served false false None (Ok volume) at =
+entry_grows of number effects served true beyond conflict applied at = IsBehind-refl served.volume
+entry_grows of number effects served false true conflict applied at = IsBehind-refl served.volume
+entry_grows of number effects served false false (Some conflict) applied at = IsBehind-refl served.volume
+entry_grows of number effects served false false None (Err cause) at = IsBehind-refl served.volume
+entry_grows of number effects served false false None (Ok volume) at =
     subst (IsBehind served.volume) (sym (applied-changes effects 0 served.volume volume at)) (IsBehind-after effects served.volume)
 
+store_grows : (of number : ℕ) (parts : List Part) (served : Served) → IsBehind served.volume (served_through of number parts served).volume
+store_grows of number [] served = IsBehind-refl served.volume
+store_grows of number (part ∷ parts) served =
+    let judgement = verdict of number part.effects part.base served in
+    by judgement
+    (entry_grows of number part.effects served (nat_le number (served.last of)) (nat_lt (served.last of + 1) number) (first_conflict part.base served.volume) (apply_all 0 part.effects served.volume) refl)
+    (store_grows of (number + 1) parts (served_after of number judgement served))
+  where
+    by : (judgement : Verdict) → IsBehind served.volume (served_after of number judgement served).volume
+        → IsBehind (served_after of number judgement served).volume (served_through of (number + 1) parts (served_after of number judgement served)).volume
+        → IsBehind served.volume (if passes judgement then served_through of (number + 1) parts (served_after of number judgement served) else served_after of number judgement served).volume
+    by Repeated one rest = rest
+    by (Taken volume) one rest = IsBehind-trans served.volume _ _ one rest
+    by Early one rest = one
+    by (Outdated conflict) one rest = one
+    by (Refused cause) one rest = one
+
 message_grows : (message : Message) (served : Served) → IsBehind served.volume (state_after message served).volume
-message_grows (Store of number effects base) served =
-    store_grows of number effects served (nat_le number (served.last of)) (nat_lt (served.last of + 1) number) (first_conflict base served.volume) (apply_all 0 effects served.volume) refl
+message_grows (Store of number parts) served = store_grows of number parts served
 message_grows _ served = IsBehind-refl served.volume
 
 step_grows : (step : Step) (world : World) → IsBehind world.served.volume (happens step world).served.volume
@@ -106,15 +158,18 @@ module _ (client : ℕ) (ships : Bool) (first : Entry) where
   step_untaken : (state : State) (step : Step) → IsOvertakenAt state → InStep client state.log state.world → IsPossible client ships state (Network step) → HasNoCollision client state.log.pending (happens step state.world).packets
       → (happens step state.world).served.last client ≡ state.log.acked
   step_untaken state step at now may none =
-      ⊎_elim (λ still. still.1 ∙ at.untaken) taken (steps_on client ships state.log state.world step now (allowed_log client ships state step may) none).takes
+      by (own client (taken_by step state.world.served)) refl (steps_on client ships state.log state.world step now (allowed_log client ships state step may) none).takes
     where
-      taken : (entry : Entry) × (entries : List Entry) × (state.log.pending ≡ entry ∷ entries) × (state.world.served.last client ≡ state.log.acked) × ((happens step state.world).served.last client ≡ state.log.acked + 1)
-          × (own client (taken_by step state.world.served) ≡ entry_stored client (state.log.acked + 1) entry.effects entry.base ∷ [])
+      by : (taken : List TakenEntry) → own client (taken_by step state.world.served) ≡ taken → TakesInOrder client state.log (state.world.served.last client) ((happens step state.world).served.last client) taken
           → (happens step state.world).served.last client ≡ state.log.acked
-      taken takes =
-          let same = first_same state.log.pending first takes.0 takes.1 at.first_is takes.2 in
-          let free = step_based client state.world.served (entry_stored client (state.log.acked + 1) takes.0.effects takes.0.base) step takes.5 in
-          let agrees = no_conflict first.base state.world.served.volume at.below.0 (subst (λ (e : Entry). first_conflict e.base state.world.served.volume ≡ None) same free) at.below.1 in
+      by [] is takes = takes ∙ at.untaken
+      by (one ∷ more) is takes =
+          let none_before : state.world.served.last client - state.log.acked ≡ 0 = omega (arith, at.untaken) in
+          let begins : state.log.pending ≡ takes.0 ∷ takes.1.rest = sym (ap (λ (n : ℕ). drop n state.log.pending) none_before) ∙ takes.1.is in
+          let same = first_same state.log.pending first takes.0 takes.1.rest at.first_is begins in
+          let based : one.base ≡ first.base = ap (λ (e : TakenEntry). e.base) takes.2 ∙ ap (λ (e : Entry). e.base) same in
+          let free = step_based client one more step state.world.served is in
+          let agrees = no_conflict first.base state.world.served.volume at.below.0 (subst (λ (bases : List Base). first_conflict bases state.world.served.volume ≡ None) based free) at.below.1 in
           absurd (omega (arith, agrees, at.below.2))
 
   move_overtaken : (state : State) (move : Move) → IsOvertakenAt state → InStep client state.log state.world → IsPossible client ships state move → HasNoCollision client state.log.pending (moved move state).world.packets
@@ -126,8 +181,13 @@ module _ (client : ℕ) (ships : Bool) (first : Entry) where
   }
   move_overtaken state (Notes ask) at now may none = record { first_is = at.first_is; untaken = at.untaken; below = at.below }
   move_overtaken state (Logs entry) at now may none = record { first_is = first_stays state.log.pending first entry at.first_is; untaken = at.untaken; below = at.below }
-  move_overtaken state (Acknowledges reply) at now may none =
-      absurd (omega (arith, accepted_at_most client state.log state.world (state.log.acked + 1) reply now may.1 may.2, at.untaken))
+  move_overtaken state (Acknowledges upto reply) at now may none =
+      let high = told_at_most client state.log state.world upto reply now may.1 may.2 in
+      let none_more : 0 ≡ upto - state.log.acked = omega (arith, high, at.untaken) in record {
+        first_is = subst (λ (n : ℕ). IsFirst first (drop n state.log.pending)) none_more at.first_is;
+        untaken = omega (arith, high, at.untaken, may.0);
+        below = at.below;
+      }
   move_overtaken state (Pulls last seen) at now may none = absurd (first_some state.log.pending first at.first_is may.0)
   move_overtaken state Saves at now may none = record { first_is = at.first_is; untaken = at.untaken; below = at.below }
 
@@ -145,5 +205,5 @@ overtaken_never_taken client ships entries made old new first now runs none firs
       end.first_is,
       end.untaken,
       end.below,
-      λ reply accepts among. omega (arith, accepted_at_most client new.log new.world first.seq reply last accepts among, end.untaken, first_number new.log first last.log_is end.first_is),
+      λ reply upto tells covers among. absurd (omega (arith, told_at_most client new.log new.world upto reply last tells among, covers, end.untaken, first_number new.log first last.log_is end.first_is)),
     )

@@ -55,7 +55,7 @@ pub pull_sends : (client : ℕ) (ships : Bool) (log : Log) → log.pending ≡ [
 pull_sends client ships log none = (refl, refl, none)
 
 pub pull_valid : (client : ℕ) (log : Log) → 1 ≤ client → client ≤ 64 → IsLog log → log.pending ≡ [] → IsValid (pull_of client log)
-pull_valid client log low high is none = sent_valid client false log.acked log.base log.pending (pull_of client log) low high is (pull_sends client false log none)
+pull_valid client log low high is none = sent_valid client false log (pull_of client log) low high is (pull_sends client false log none)
 
 -- ---- what a log makes of a snapshot
 

@@ -1,5 +1,6 @@
 -- What the ends of syncs and pulls tell a client that is in step.
 use Rattle.std.proofs.Common.{Bool, true, false, ◌≡◌, ◌⊎◌, inl, inr, ⊎_elim, ℕ, zero, suc, ◌+◌, ◌≤◌, List, [], ◌++◌, Option, Some, None, refl, sym, ◌∙◌, ap, subst, arith}
+use Rattle.std.specs.Prelude.{if◌then◌else◌, nat_lt}
 use Rattle.std.proofs.lemmas.List.{append-nil}
 use Rattle.outside.specs.Outside.{RoseBy, Rose}
 use Rattle.outside.specs.Keeper.{Images}
@@ -8,7 +9,7 @@ use Rattle.mod_log.specs.declared.log.Entry.{Entry}
 use Rattle.mod_log.specs.Log.{Log, tree_at}
 use Rattle.wire_frames.specs.declared.message.Message.{Message}
 use Rattle.wire_frames.specs.declared.message.Message.TheVariants.{Accepted, Stale, Unfit, Gap, Snapshot, Full}
-use Rattle.wire_frames.specs.Frame.{client_of, Echoes}
+use Rattle.wire_frames.specs.Frame.{client_of, AnswersStore}
 use Rattle.world_rules.specs.declared.asking.Peer.TheVariants.{Server}
 use Rattle.world_rules.specs.declared.asking.Ask.{Ask}
 use Rattle.world_rules.specs.World.{World}
@@ -27,14 +28,13 @@ use Rattle.client_core.specs.declared.syncing.SyncEnd.TheVariants as ends
 use Rattle.client_core.specs.declared.route.Route.{Route}
 use Rattle.client_core.specs.declared.pulling.PullEnd.{PullEnd}
 use Rattle.client_core.specs.declared.pulling.PullEnd.TheVariants as pulls
-use Rattle.client_core.specs.Trace.{Trace, followed, asking}
-use Rattle.client_core.specs.Syncing.{store_of, end_by, Ships, EntryTurn, Acknowledges, EndsSync, SyncTurn, SyncEnds, is_broken_sync}
+use Rattle.client_core.specs.Trace.{Trace, nothing, followed, asking, changing}
+use Rattle.client_core.specs.Syncing.{taken_upto, log_behind, end_by, Ships, EntryTurn, Acknowledges, acknowledging, EndsSync, SyncTurn, BreaksTurn, SyncEnds, is_broken_sync}
 use Rattle.client_core.specs.Pulling.{pull_of, PullTurn, PullEnds, is_broken_pull}
 use Rattle.client_core.specs.Causes.{HasSyncCause}
 use Rattle.client_core.specs.Goes.{WorldGoes, Went, stand}
 use Rattle.client_core.specs.Laws.{CalmSyncsAreComplete}
 use Rattle.client_core.specs.Honest.{FromInStepApart, IsOvertaken, IsTrueSync, IsComplete, IsNotOtherLast}
-use Rattle.client_core.proofs.Firsts.{first_number}
 use Rattle.client_core.proofs.Ships.{ending_stands, ships_failed}
 use Rattle.client_core.proofs.Standing.{settled_stands}
 
@@ -52,13 +52,31 @@ both_no xs ys none is = ap (λ (es : List Entry). es ++ ys) none ∙ is
 pub acknowledges_none : (client : ℕ) (route : Route) (count : ℕ) (before after : Log) (trace : Trace) → Acknowledges client route count before after trace → trace.entries ≡ []
 acknowledges_none client route zero before after trace so = ap (λ (n : Trace). n.entries) so.1
 acknowledges_none client route (suc count) before after trace so =
-    ap (λ (n : Trace). n.entries) so.6 ∙ both_no so.1.entries [] (acknowledges_none client route count before so.0 so.1 so.3) refl
+    ap (λ (n : Trace). n.entries) so.5 ∙ both_no so.1.entries [] (acknowledges_none client route count before so.0 so.1 so.3) refl
+
+acknowledging_logs_none : (before after : Log) → (acknowledging before after).entries ≡ []
+acknowledging_logs_none before after = by (nat_lt before.acked after.acked)
+  where
+    by : (more : Bool) → (if more then changing after else nothing).entries ≡ []
+    by true = refl
+    by false = refl
+
+ends_none : (client : ℕ) (route : Route) (before after : Log) (end : SyncEnd) (trace : Trace) → EndsSync client route before end after trace → trace.entries ≡ []
+ends_none client route before after end trace (inl synced) = ap (λ (n : Trace). n.entries) synced.3
+ends_none client route before after end trace (inr last) = ap (λ (n : Trace). n.entries) last.2 ∙ acknowledging_logs_none before after
+
+breaks_none : (client : ℕ) (route : Route) (before after : Log) (trace : Trace) → BreaksTurn client route before after trace → trace.entries ≡ []
+breaks_none client route before after trace (inl stays) = ap (λ (n : Trace). n.entries) stays.1
+breaks_none client route before after trace (inr (inl shipping)) = ap (λ (n : Trace). n.entries) shipping.1.4
+breaks_none client route before after trace (inr (inr keeping)) = ap (λ (n : Trace). n.entries) keeping.4
 
 pub sync_logs_none : (client : ℕ) (route : Route) (before after kept : Log) (end : SyncEnd) (trace : Trace) → SyncEnds client route before end after kept trace → trace.entries ≡ []
 sync_logs_none client route before after kept end trace (inl turn) =
-    ap (λ (n : Trace). n.entries) turn.0.5 ∙ both_no turn.0.1.entries [] (acknowledges_none client route turn.0.0 before after turn.0.1 turn.0.3) refl
+    ap (λ (n : Trace). n.entries) turn.0.6
+    ∙ both_no turn.0.2.entries turn.0.3.entries (acknowledges_none client route turn.0.0 before turn.0.1 turn.0.2 turn.0.4) (ends_none client route turn.0.1 after end turn.0.3 turn.0.5)
 sync_logs_none client route before after kept end trace (inr broken) =
-    ap (λ (n : Trace). n.entries) broken.1.5 ∙ both_no broken.1.1.entries [] (acknowledges_none client route broken.1.0 before after broken.1.1 broken.1.3) refl
+    ap (λ (n : Trace). n.entries) broken.1.6
+    ∙ both_no broken.1.2.entries broken.1.3.entries (acknowledges_none client route broken.1.0 before broken.1.1 broken.1.2 broken.1.4) (breaks_none client route broken.1.1 after broken.1.3 broken.1.5)
 
 -- ---- in step
 
@@ -67,65 +85,62 @@ pub goes_in_step : (client : ℕ) (ships : Bool) (before after kept : Log) (trac
     → InStep client before x → HasNoCollision client (before.pending ++ trace.entries) y.packets → InStep client after y
 goes_in_step client ships before after kept trace t u x y goes now apart = runs_in_step client ships trace.entries trace.asks (kept_at before x) (stand after kept y) now goes.runs apart
 
-module _ (client : ℕ) (entry : Entry) (log : Log) (world : World) (next : entry.seq ≡ log.acked + 1) (now : InStep client log world) where
-  abbrev store : Message
-  store = store_of client entry
-
-  echoed_number : (number : ℕ) → entry.seq ≡ number → number ≡ log.acked + 1
-  echoed_number number is = omega (arith, next, is)
-
-  true_end : (reply : Message) (end : SyncEnd) → Some end ≡ end_by entry.seq (Some reply) → IsIn reply world.packets → Echoes store reply → IsTrueSync end client log world
-  true_end (Accepted of number) end is among told = absurd (cc)
-  true_end (Stale of number path theirs ours) end is among told =
-      let same : ends.Stale entry.seq path theirs ours ≡ end = cc in
-      let reply : Stale of number path theirs ours ≡ Stale client (log.acked + 1) path theirs ours = λ i. Stale (sym told.1 i) (echoed_number number told.2 i) path theirs ours in
-      subst (λ (e : SyncEnd). IsTrueSync e client log world) same (stale_ahead client log world path theirs ours now (subst (λ (m : Message). IsIn m world.packets) reply among))
-  true_end (Unfit of number index fault) end is among told =
-      let same : ends.Unfit entry.seq index fault ≡ end = cc in
-      subst (λ (e : SyncEnd). IsTrueSync e client log world) same (refused_ahead client log world (Unfit of number index fault) now (sym told.1, echoed_number number told.2) among)
-  true_end (Full of number index fault) end is among told =
-      let same : ends.Full entry.seq index fault ≡ end = cc in
-      subst (λ (e : SyncEnd). IsTrueSync e client log world) same (refused_ahead client log world (Full of number index fault) now (sym told.1, echoed_number number told.2) among)
-  true_end (Gap of number last) end is among told =
-      absurd (no_gap client log world number last now (subst (λ (c : ℕ). IsIn (Gap c number last) world.packets) (sym told.1) among))
-  true_end _ end is among told = absurd told.0
+-- Of a log that acknowledges what a reply tells to be taken.
+module _ (client : ℕ) (log : Log) (world : World) (now : InStep client log world) (acked : ℕ) where
+  true_end : (reply : Message) (end : SyncEnd) → log.acked ≡ taken_upto acked (Some reply) → Some end ≡ end_by (log.acked + 1) (Some reply) → IsIn reply world.packets → AnswersStore reply → client ≡ client_of reply
+      → IsTrueSync end client log world
+  true_end (Accepted of number upto) end left is among answers mine = absurd (cc)
+  true_end (Stale of number upto path theirs ours) end left is among answers mine =
+      let same : ends.Stale (log.acked + 1) path theirs ours ≡ end = cc in
+      subst (λ (e : SyncEnd). IsTrueSync e client log world) same
+      (stale_ahead client log world number upto path theirs ours now (omega (arith, left)) (subst (λ (c : ℕ). IsIn (Stale c number upto path theirs ours) world.packets) (sym mine) among))
+  true_end (Unfit of number upto index fault) end left is among answers mine =
+      let same : ends.Unfit (log.acked + 1) index fault ≡ end = cc in
+      subst (λ (e : SyncEnd). IsTrueSync e client log world) same (refused_ahead client log world (upto + 1) (Unfit of number upto index fault) now (omega (arith, left)) (sym mine, refl) among)
+  true_end (Full of number upto index fault) end left is among answers mine =
+      let same : ends.Full (log.acked + 1) index fault ≡ end = cc in
+      subst (λ (e : SyncEnd). IsTrueSync e client log world) same (refused_ahead client log world (upto + 1) (Full of number upto index fault) now (omega (arith, left)) (sym mine, refl) among)
+  true_end (Gap of number last) end left is among answers mine =
+      absurd (no_gap client log world number last now (subst (λ (c : ℕ). IsIn (Gap c number last) world.packets) (sym mine) among))
+  true_end _ end left is among answers mine = absurd answers
 
   -- a reply that ends a sync shows what others wrote
-  overtaken : (reply : Message) (end : SyncEnd) → Some end ≡ end_by entry.seq (Some reply) → IsIn reply world.packets → Echoes store reply → IsOvertaken client log world
-  overtaken (Accepted of number) end is among told = absurd (cc)
-  overtaken (Stale of number path theirs ours) end is among told = refused_ahead client log world (Stale of number path theirs ours) now (sym told.1, echoed_number number told.2) among
-  overtaken (Unfit of number index fault) end is among told = refused_ahead client log world (Unfit of number index fault) now (sym told.1, echoed_number number told.2) among
-  overtaken (Full of number index fault) end is among told = refused_ahead client log world (Full of number index fault) now (sym told.1, echoed_number number told.2) among
-  overtaken (Gap of number last) end is among told =
-      absurd (no_gap client log world number last now (subst (λ (c : ℕ). IsIn (Gap c number last) world.packets) (sym told.1) among))
-  overtaken _ end is among told = absurd told.0
+  overtaken : (reply : Message) (end : SyncEnd) → log.acked ≡ taken_upto acked (Some reply) → Some end ≡ end_by (log.acked + 1) (Some reply) → IsIn reply world.packets → AnswersStore reply → client ≡ client_of reply
+      → IsOvertaken client log world
+  overtaken (Accepted of number upto) end left is among answers mine = absurd (cc)
+  overtaken (Stale of number upto path theirs ours) end left is among answers mine =
+      refused_ahead client log world (upto + 1) (Stale of number upto path theirs ours) now (omega (arith, left)) (sym mine, refl) among
+  overtaken (Unfit of number upto index fault) end left is among answers mine =
+      refused_ahead client log world (upto + 1) (Unfit of number upto index fault) now (omega (arith, left)) (sym mine, refl) among
+  overtaken (Full of number upto index fault) end left is among answers mine =
+      refused_ahead client log world (upto + 1) (Full of number upto index fault) now (omega (arith, left)) (sym mine, refl) among
+  overtaken (Gap of number last) end left is among answers mine =
+      absurd (no_gap client log world number last now (subst (λ (c : ℕ). IsIn (Gap c number last) world.packets) (sym mine) among))
+  overtaken _ end left is among answers mine = absurd answers
 
 -- ---- the turns of a sync, where their answers stand
 
-module _ (client : ℕ) (route : Route) (log : Log) (end : SyncEnd) (asks : List Ask) (world : World) (turn : EntryTurn client route log (Some end) asks) (stand : AnswersStand world asks) (now : InStep client log world) where
-  next : turn.entry.seq ≡ log.acked + 1
-  next = first_number log turn.entry now.log_is turn.first
-
-  pub turn_true : IsTrueSync end client log world
-  turn_true = by turn.came turn.ships turn.end_is
+module _ (client : ℕ) (route : Route) (before after : Log) (end : SyncEnd) (asks : List Ask) (world : World) (turn : EntryTurn client route before after (Some end) asks) (stand : AnswersStand world asks) (now : InStep client after world) where
+  pub turn_true : IsTrueSync end client after world
+  turn_true = by turn.came turn.ships turn.after_is turn.end_is
     where
-      by : (came : Option Message) → Ships client route turn.entry came asks → end_by turn.entry.seq came ≡ Some end → IsTrueSync end client log world
-      by None shipped is =
-          let same : ends.Unanswered turn.entry.seq ≡ end = cc in
-          subst (λ (e : SyncEnd). IsTrueSync e client log world) same tt
-      by (Some reply) shipped is =
-          let known = ending_stands client route turn.entry world reply asks stand end (sym is) shipped in
-          true_end client turn.entry log world next now reply end (sym is) known.0 known.2
+      by : (came : Option Message) → Ships client route before.pending turn.entry came asks → after ≡ log_behind came before → end_by (after.acked + 1) came ≡ Some end → IsTrueSync end client after world
+      by None shipped left is =
+          let same : ends.Unanswered (after.acked + 1) ≡ end = cc in
+          subst (λ (e : SyncEnd). IsTrueSync e client after world) same tt
+      by (Some reply) shipped left is =
+          let known = ending_stands client route before.pending turn.entry world reply asks stand (after.acked + 1) end (sym is) shipped in
+          true_end client after world now before.acked reply end (ap (λ (l : Log). l.acked) left) (sym is) known.0 known.2.2.0 known.2.2.1
 
   -- eight asks failed, or a path is ahead
-  pub turn_overtaken : (8 ≤ failed_asks asks → ⊥) → IsOvertaken client log world
-  turn_overtaken few = by turn.came turn.ships turn.end_is
+  pub turn_overtaken : (8 ≤ failed_asks asks → ⊥) → IsOvertaken client after world
+  turn_overtaken few = by turn.came turn.ships turn.after_is turn.end_is
     where
-      by : (came : Option Message) → Ships client route turn.entry came asks → end_by turn.entry.seq came ≡ Some end → IsOvertaken client log world
-      by None shipped is = absurd (few (ships_failed client route turn.entry asks shipped))
-      by (Some reply) shipped is =
-          let known = ending_stands client route turn.entry world reply asks stand end (sym is) shipped in
-          overtaken client turn.entry log world next now reply end (sym is) known.0 known.2
+      by : (came : Option Message) → Ships client route before.pending turn.entry came asks → after ≡ log_behind came before → end_by (after.acked + 1) came ≡ Some end → IsOvertaken client after world
+      by None shipped left is = absurd (few (ships_failed client route before.pending turn.entry asks shipped))
+      by (Some reply) shipped left is =
+          let known = ending_stands client route before.pending turn.entry world reply asks stand (after.acked + 1) end (sym is) shipped in
+          overtaken client after world now before.acked reply end (ap (λ (l : Log). l.acked) left) (sym is) known.0 known.2.2.0 known.2.2.1
 
 -- no reply was a Gap
 module _ (client : ℕ) (number : ℕ) (log : Log) (world : World) (now : InStep client log world) (seq last : ℕ) where
@@ -136,49 +151,49 @@ module _ (client : ℕ) (number : ℕ) (log : Log) (world : World) (now : InStep
 -- ---- a whole sync
 
 module _ (client : ℕ) (route : Route) (before after : Log) where
-  last_stand : (earlier trace : Trace) (last : List Ask) (world : World) → trace ≡ followed earlier (asking last) → AnswersStand world trace.asks → AnswersStand world last
-  last_stand earlier trace last world is stand = answers_end earlier.asks last world (subst (AnswersStand world) (ap (λ (t : Trace). t.asks) is) stand)
+  -- the asks of the last turn, where the asks of all stand
+  last_stand : (earlier trace last more : Trace) (asks : List Ask) (world : World) → trace ≡ followed earlier last → last ≡ followed (asking asks) more → AnswersStand world trace.asks → AnswersStand world asks
+  last_stand earlier trace last more asks world is ends_so stand =
+      answers_front asks more.asks world (subst (AnswersStand world) (ap (λ (t : Trace). t.asks) ends_so) (answers_end earlier.asks last.asks world (subst (AnswersStand world) (ap (λ (t : Trace). t.asks) is) stand)))
 
   pub sync_behind : (log : Log) (seq last : ℕ) (trace : Trace) (world : World) → SyncTurn client route before (ends.Behind seq last) after trace → AnswersStand world trace.asks → InStep client log world → ⊥
-  sync_behind log seq last trace world turn stand now = by turn.4
+  sync_behind log seq last trace world turn stand now = by turn.5
     where
-      asks : List Ask
-      asks = turn.2
+      of_turn : (asks : List Ask) → AnswersStand world asks → (pending : List Entry) (entry : Entry) (came : Option Message) → Ships client route pending entry came asks → end_by (after.acked + 1) came ≡ Some (ends.Behind seq last) → ⊥
+      of_turn asks stands pending entry None shipped is = absurd (cc)
+      of_turn asks stands pending entry (Some reply) shipped is =
+          let known = ending_stands client route pending entry world reply asks stands (after.acked + 1) (ends.Behind seq last) (sym is) shipped in
+          no_behind client (after.acked + 1) log world now seq last reply known.0 known.2.2.1 is
 
-      stands : AnswersStand world asks
-      stands = last_stand turn.1 trace asks world turn.5 stand
-
-      of_turn : (entry : Entry) (came : Option Message) → Ships client route entry came asks → end_by entry.seq came ≡ Some (ends.Behind seq last) → ⊥
-      of_turn entry None shipped is = absurd (cc)
-      of_turn entry (Some reply) shipped is =
-          let known = ending_stands client route entry world reply asks stands (ends.Behind seq last) (sym is) shipped in
-          no_behind client entry.seq log world now seq last reply known.0 known.2.1 is
-
-      by : EndsSync client route after (ends.Behind seq last) asks → ⊥
+      by : EndsSync client route turn.1 (ends.Behind seq last) after turn.3 → ⊥
       by (inl synced) = absurd (cc (synced.1))
-      by (inr turn) = of_turn turn.entry turn.came turn.ships turn.end_is
+      by (inr ends_so) =
+          of_turn ends_so.0 (last_stand turn.2 trace turn.3 (acknowledging turn.1 after) ends_so.0 world turn.6 ends_so.2 stand) turn.1.pending ends_so.1.entry ends_so.1.came ends_so.1.ships ends_so.1.end_is
 
   pub sync_true : (end : SyncEnd) (trace : Trace) (world : World) → SyncTurn client route before end after trace → AnswersStand world trace.asks → InStep client after world → IsTrueSync end client after world
-  sync_true end trace world turn stand now = by turn.4
+  sync_true end trace world turn stand now = by turn.5
     where
-      by : EndsSync client route after end turn.2 → IsTrueSync end client after world
+      by : EndsSync client route turn.1 end after turn.3 → IsTrueSync end client after world
       by (inl synced) = subst (λ (e : SyncEnd). IsTrueSync e client after world) (sym synced.1) tt
-      by (inr last) = turn_true client route after end turn.2 world last (last_stand turn.1 trace turn.2 world turn.5 stand) now
+      by (inr ends_so) =
+          turn_true client route turn.1 after end ends_so.0 world ends_so.1 (last_stand turn.2 trace turn.3 (acknowledging turn.1 after) ends_so.0 world turn.6 ends_so.2 stand) now
 
   -- where fewer than eight asks failed, and no path is ahead
   pub sync_complete : (end : SyncEnd) (trace : Trace) (world : World) → SyncTurn client route before end after trace → AnswersStand world trace.asks → InStep client after world
       → (8 ≤ failed_asks trace.asks → ⊥) → (IsOvertaken client after world → ⊥) → (end ≡ ends.Synced after.acked) × (after.pending ≡ [])
-  sync_complete end trace world turn stand now few none_ahead = by turn.4
+  sync_complete end trace world turn stand now few none_ahead = by turn.5
     where
-      failed : failed_asks turn.2 ≤ failed_asks trace.asks
-      failed =
-          let is : failed_asks trace.asks ≡ failed_asks (turn.1.asks ++ turn.2) = ap (λ (t : Trace). failed_asks t.asks) turn.5 in
-          omega (arith, failed-append turn.1.asks turn.2, is)
+      failed : (asks more : List Ask) → turn.3.asks ≡ asks ++ more → failed_asks asks ≤ failed_asks trace.asks
+      failed asks more is =
+          let all : failed_asks trace.asks ≡ failed_asks (turn.2.asks ++ turn.3.asks) = ap (λ (t : Trace). failed_asks t.asks) turn.6 in
+          omega (arith, failed-append turn.2.asks turn.3.asks, all, ap failed_asks is, failed-append asks more)
 
-      by : EndsSync client route after end turn.2 → (end ≡ ends.Synced after.acked) × (after.pending ≡ [])
-      by (inl synced) = (synced.1, synced.0)
-      by (inr last) =
-          absurd (none_ahead (turn_overtaken client route after end turn.2 world last (last_stand turn.1 trace turn.2 world turn.5 stand) now (λ eight. few (omega (arith, eight, failed)))))
+      by : EndsSync client route turn.1 end after turn.3 → (end ≡ ends.Synced after.acked) × (after.pending ≡ [])
+      by (inl synced) = (synced.1 ∙ ap (λ (l : Log). ends.Synced l.acked) (sym synced.2), ap (λ (l : Log). l.pending) synced.2 ∙ synced.0)
+      by (inr ends_so) =
+          let less : failed_asks ends_so.0 ≤ failed_asks trace.asks = failed ends_so.0 (acknowledging turn.1 after).asks (ap (λ (t : Trace). t.asks) ends_so.2) in
+          absurd (none_ahead
+          (turn_overtaken client route turn.1 after end ends_so.0 world ends_so.1 (last_stand turn.2 trace turn.3 (acknowledging turn.1 after) ends_so.0 world turn.6 ends_so.2 stand) now (λ eight. few (omega (arith, eight, less)))))
 
 -- a sync that was broken off tells nothing of the world
 broken_true : (client : ℕ) (log : Log) (world : World) (end : SyncEnd) → is_broken_sync end ≡ true → IsTrueSync end client log world

@@ -1,5 +1,5 @@
 -- What a sync and a pull promise over any link, also over one that tells no world.
-use Rattle.std.specs.Prelude.{◌≡◌, ◌≢◌, ◌⊎◌, ℕ, ◌+◌, ◌≤◌, false, List, [], ◌∷◌, Option, Some, length}
+use Rattle.std.specs.Prelude.{◌≡◌, ◌≢◌, ◌⊎◌, ℕ, ◌+◌, ◌<◌, ◌≤◌, false, List, [], ◌∷◌, Option, Some, length}
 use Rattle.outside.specs.Outside.{RoseBy, Rose}
 use Rattle.outside.specs.Keeper.{Images}
 use Rattle.tree_values.specs.Tree.{Volume, IsTree}
@@ -10,7 +10,7 @@ use Rattle.client_core.specs.declared.syncing.SyncEnd.{SyncEnd}
 use Rattle.client_core.specs.declared.syncing.SyncEnd.TheVariants.{Synced, Unanswered, KeepFault, Memory}
 use Rattle.client_core.specs.declared.pulling.PullEnd.{PullEnd}
 use Rattle.client_core.specs.declared.pulling.PullEnd.TheVariants as pulls
-use Rattle.client_core.specs.Syncing.{end_by, acknowledged_first, is_broken_sync}
+use Rattle.client_core.specs.Syncing.{end_by, is_broken_sync}
 use Rattle.client_core.specs.Pulling.{Meets, is_broken_pull}
 use Rattle.client_core.specs.Keeping.{Keeping}
 
@@ -21,10 +21,10 @@ abbrev pub AcknowledgesSome : Log → Log → Type 0
 AcknowledgesSome before after =
     (number : ℕ) × (before.acked ≤ number) × (number ≤ before.acked + length before.pending) × (after ≡ acknowledged number before)
 
--- an entry is still pending, and a valid reply to the first one says why
+-- an entry is still pending, and a valid reply to it, or to a store in which it stood behind others, says why
 abbrev pub RestsOnReply : Log → SyncEnd → Type 0
 RestsOnReply after end = (after.pending ≢ [])
-    × ((reply : Message) × IsValid reply × (number_of reply ≡ after.acked + 1) × (end_by (after.acked + 1) (Some reply) ≡ Some end))
+    × ((reply : Message) × IsValid reply × (number_of reply ≤ after.acked + 1) × (end_by (after.acked + 1) (Some reply) ≡ Some end))
 
 -- Synced only where nothing is pending at the end, Unanswered only where the troubles rose by eight, one for each ask of the store
 -- (`UnansweredStoresFailed`), and KeepFault only where the keeper's faults rose. Every end but Synced, KeepFault and Memory names the first
@@ -37,18 +37,18 @@ HasSyncCause KeepFault after troubles now faults faults_now = Rose faults faults
 HasSyncCause Memory after troubles now faults faults_now = Unit {0}
 HasSyncCause end after troubles now faults faults_now = RestsOnReply after end
 
--- each change acknowledges the first pending entry
-abbrev pub AcknowledgeFirsts : Log → List Log → Type 0
-AcknowledgeFirsts before [] = Unit {0}
-AcknowledgeFirsts before (change ∷ changes) =
-    (before.pending ≢ []) × (change ≡ acknowledged_first before) × AcknowledgeFirsts change changes
+-- each change acknowledges one or more of the first pending entries
+abbrev pub AcknowledgesMore : Log → List Log → Type 0
+AcknowledgesMore before [] = Unit {0}
+AcknowledgesMore before (change ∷ changes) =
+    AcknowledgesSome before change × (before.acked < change.acked) × AcknowledgesMore change changes
 
 -- What is kept after a sync: its log, but after one that was broken off perhaps the log before the last acknowledgement. Where
 -- nothing was acknowledged, the kept bytes are as before.
 pub record SyncKeeps (name : List ℕ) (client : ℕ) (before : Log) (end : SyncEnd) (after : Log) (images now : Option Images) : Type 0 where
   pub kept : Log
   pub changes : List Log
-  pub acknowledged_so : AcknowledgeFirsts before changes
+  pub acknowledged_so : AcknowledgesMore before changes
   pub keeping : Keeping name client before after kept changes images now
   pub whole : is_broken_sync end ≡ false → kept ≡ after
 

@@ -1,11 +1,14 @@
 -- Words that only the contracts of private functions cite.
-use Rattle.std.specs.Prelude.{◌≡◌, ◌≢◌, ◌⊎◌, ℕ, ◌+◌, ◌<◌, ◌≤◌, nat_lt, Bool, true, false, List, [], length, Option, None, Some, is_some, IfSome, find}
+use Rattle.std.specs.Prelude.{◌≡◌, ◌≢◌, ◌⊎◌, ℕ, ◌+◌, ◌<◌, ◌≤◌, nat_lt, Bool, true, false, List, [], length, Option, None, Some, is_some, IfSome, find, IsOk}
 use Rattle.std.specs.Prelude.{Result, Ok, Err}
 use Rattle.std.specs.declared.alloc.AllocError.{AllocError}
 use Rattle.tree_values.specs.Tree.{Volume, version_at}
 use Rattle.tree_values.specs.declared.node.Row.{Row}
 use Rattle.tree_values.specs.declared.node.Effect.{Effect}
+use Rattle.tree_values.specs.Effects.{contents_size}
+use Rattle.outside.specs.Outside.{Told}
 use Rattle.outside.specs.Keeper.{Images}
+use Rattle.outside.specs.declared.errors.KeepError.{KeepError}
 use Rattle.cmd_capture.specs.declared.command.Command.{Command}
 use Rattle.cmd_capture.specs.declared.job.Job.{Job}
 use Rattle.cmd_capture.specs.declared.job.Outcome.{Outcome}
@@ -18,44 +21,43 @@ use Rattle.work_area.specs.declared.jobs.JobError.TheVariants as job_errors
 use Rattle.work_area.specs.declared.rows.RowsFault.{RowsFault}
 use Rattle.work_area.specs.declared.rows.RowsFault.TheVariants as rows_faults
 use Rattle.wire_frames.specs.declared.message.Message.{Message}
-use Rattle.wire_frames.specs.declared.message.Message.TheVariants.{Operate, Snapshot, Done}
-use Rattle.wire_frames.specs.Frame.{frame}
+use Rattle.wire_frames.specs.declared.message.Message.TheVariants.{Snapshot, Done}
 use Rattle.mod_log.specs.declared.log.Entry.{Entry}
 use Rattle.mod_log.specs.declared.sketching.SketchEntry.{SketchEntry}
-use Rattle.mod_log.specs.Log.{Log, IsLog}
-use Rattle.mod_log.specs.Sketched.{IsSketchOf}
+use Rattle.mod_log.specs.Log.{Log, IsLog, acknowledged}
 use Rattle.store_image.specs.declared.image.TheConstants.{MAX_CLIENT_IMAGE}
 use Rattle.store_image.specs.declared.record.ClientRecord.{ClientRecord}
 use Rattle.store_image.specs.Image.{IsKeptWholeFor}
 use Rattle.store_image.specs.Records.{client_records, with_records, AreNotes}
-use Rattle.world_rules.specs.declared.asking.Peer.TheVariants.{Surrogate}
+use Rattle.world_rules.specs.declared.asking.Peer.TheVariants.{Server, Surrogate}
 use Rattle.world_rules.specs.declared.asking.Ask.{Ask}
 use Rattle.world_rules.specs.Telling.{LinkTelling, ToldWorlds, HadTroubles}
-use Rattle.world_rules.specs.Settling.{failed_asks, Settled}
+use Rattle.world_rules.specs.Settling.{failed_asks, Settled, IsSettling, BreaksSettling}
 use Rattle.world_rules.specs.Run.{Runs, kept_at}
 use Rattle.client_core.specs.declared.keeping.Journal.{Journal}
 use Rattle.client_core.specs.declared.keeping.Piece.{Piece}
 use Rattle.client_core.specs.declared.route.Route.{Route}
+use Rattle.client_core.specs.declared.window.Room.{Room}
 use Rattle.client_core.specs.declared.pulling.PullEnd.{PullEnd}
 use Rattle.client_core.specs.declared.pulling.PullEnd.TheVariants.{Pulled, KeepFault, Memory}
 use Rattle.client_core.specs.declared.running.RunEnd.{RunEnd}
 use Rattle.client_core.specs.declared.running.RunEnd.TheVariants as runs
-use Rattle.client_core.specs.Syncing.{store_of, IsFirst, SettlesOperation, StoreIsDue, Ships, BreaksShipping}
+use Rattle.client_core.specs.Syncing.{store_of, IsLight, SettlesOperation, StoreIsDue, IsWindow, Ships, BreaksShipping}
 use Rattle.client_core.specs.Pulling.{Meets}
 use Rattle.client_core.specs.Running.{changes_of, first_clash, IsLoggable, RanEnd}
-use Rattle.client_core.specs.Journal.{bytes_after}
+use Rattle.client_core.specs.Journal.{next_notes, bytes_after, journal_after}
+use Rattle.client_core.specs.Keeping.{KeepsNext}
 use Rattle.client_core.specs.Causes.{TakesRows}
 
 -- ---- shipping
 
--- Between two moments of a link just such asks were made for an entry. Where the link tells its world, that went on by possible moves, in
--- which these asks are noted, beside each log whose first pending entry this is.
-pub record AskedFor (client : ℕ) (route : Route) (entry : Entry) (Made : List Ask → Type 0) (old new : LinkTelling) : Type 0 where
+-- Between two moments of a link just such asks were made for the first entries of a log. Where the link tells its world, that went on by
+-- possible moves, in which these asks are noted, beside this log.
+pub record AskedFor (client : ℕ) (route : Route) (log : Log) (Made : List Ask → Type 0) (old new : LinkTelling) : Type 0 where
   pub asks : List Ask
   pub made : Made asks
   pub rose : HadTroubles (failed_asks asks) old new
-  pub told : ToldWorlds old new (λ v w. (log : Log) → IsLog log → IsFirst entry log.pending
-      → Runs client (is_some route.surrogate) [] asks (kept_at log v) (kept_at log w))
+  pub told : ToldWorlds old new (λ v w. Runs client (is_some route.surrogate) [] asks (kept_at log v) (kept_at log w))
 
 -- whether a reply says that an operation is done
 abbrev pub is_done : Option Message → Bool
@@ -72,25 +74,43 @@ abbrev pub TellsDone : List ℕ → Message → LinkTelling → LinkTelling → 
 TellsDone address operation old new result =
     (came : Result (Option Message) AllocError) × Settled Surrogate address operation old new came × (result ≡ done_of came)
 
--- the operation of an entry, where that is shorter than its store
-abbrev pub IsOperationOf : ℕ → Entry → Option Message → Type 0
-IsOperationOf client entry None =
-    (sketched : SketchEntry) → IsSketchOf entry sketched
-    → length (frame (Operate client sketched)) < length (frame (store_of client entry)) → ⊥
-IsOperationOf client entry (Some operation) =
-    (sketched : SketchEntry) × (operation ≡ Operate client sketched) × IsSketchOf entry sketched
-    × (length (frame (Operate client sketched)) < length (frame (store_of client entry)))
+-- the entry is light
+abbrev pub IsLightEntry : ℕ → Route → Entry → Type 0
+IsLightEntry client route entry = (address : List ℕ) × (sketched : SketchEntry) × IsLight client route entry address sketched
+
+-- whatever the client's number is
+abbrev pub ForEachClient : (ℕ → Type 0) → Type 0
+ForEachClient Holds = (client : ℕ) → 1 ≤ client → client ≤ 64 → Holds client
+
+-- so many of the first pending entries are the window
+abbrev pub IsWindowOf : Route → List Entry → ℕ → Type 0
+IsWindowOf route pending count =
+    ForEachClient (λ client. (chosen : List Entry) × IsWindow client route pending chosen × (count ≡ length chosen))
+
+-- the room that one more entry leaves, or there is none for it
+abbrev pub HasRoom : Room → Entry → Option Room → Type 0
+HasRoom room entry None = (room.effects < length entry.effects) ⊎ (room.content < contents_size entry.effects)
+HasRoom room entry (Some left) =
+    (length entry.effects + left.effects ≡ room.effects) × (contents_size entry.effects + left.content ≡ room.content)
 
 -- what was asked for an operation: it is done, or its store is due, or it was broken off
-abbrev pub OperatesTo : ℕ → Route → Entry → Result Bool AllocError → List Ask → Type 0
-OperatesTo client route entry (Ok true) asks = SettlesOperation client route entry (Some (Done client entry.seq)) asks
-OperatesTo client route entry (Ok false) asks = StoreIsDue client route entry asks
-OperatesTo client route entry (Err error) asks = (asks ≡ []) ⊎ BreaksShipping client route entry asks
+abbrev pub OperatesTo : ℕ → Route → List Entry → Entry → Result Bool AllocError → List Ask → Type 0
+OperatesTo client route pending entry (Ok true) asks = SettlesOperation client route entry (Some (Done client entry.seq)) asks
+OperatesTo client route pending entry (Ok false) asks = StoreIsDue client route entry asks
+OperatesTo client route pending entry (Err error) asks = (asks ≡ []) ⊎ BreaksShipping client route pending entry asks
 
--- what was asked where shipping an entry came to this, or was broken off
-abbrev pub ShipsTo : ℕ → Route → Entry → Result (Option Message) AllocError → List Ask → Type 0
-ShipsTo client route entry (Ok came) asks = Ships client route entry came asks
-ShipsTo client route entry (Err error) asks = (asks ≡ []) ⊎ BreaksShipping client route entry asks
+-- the store of the window of what is pending was settled with the server, or that was broken off
+abbrev pub SettlesWindow : ℕ → Route → List Entry → Entry → Result (Option Message) AllocError → List Ask → Type 0
+SettlesWindow client route pending entry (Err error) asks =
+    (asks ≡ []) ⊎ ((chosen : List Entry) × IsWindow client route pending chosen
+    × BreaksSettling Server route.server (store_of client entry.seq chosen) asks)
+SettlesWindow client route pending entry (Ok came) asks =
+    (chosen : List Entry) × IsWindow client route pending chosen × IsSettling Server route.server (store_of client entry.seq chosen) came asks
+
+-- what was asked where shipping came to this, or was broken off
+abbrev pub ShipsTo : ℕ → Route → List Entry → Entry → Result (Option Message) AllocError → List Ask → Type 0
+ShipsTo client route pending entry (Ok came) asks = Ships client route pending entry came asks
+ShipsTo client route pending entry (Err error) asks = (asks ≡ []) ⊎ BreaksShipping client route pending entry asks
 
 -- ---- pulling
 
@@ -184,3 +204,10 @@ abbrev pub IsPiece : Option Journal → Option (List ClientRecord) → Option Pi
 IsPiece journal None None = Unit {0}
 IsPiece journal (Some notes) (Some piece) = (piece.records.items ≡ client_records notes) × (piece.bytes ≡ bytes_after (Some notes) journal)
 IsPiece journal notes piece = ⊥
+
+-- Entries up to this number are acknowledged, and the log then is kept. Where they were acknowledged before, nothing is done.
+abbrev pub KeepsUpto : List ℕ → ℕ → Log → ℕ → Option Journal → Option Journal → Result (Unit {0}) KeepError → Option Images → Option Images → Type 0
+KeepsUpto name client log upto journal journal_now result images now =
+    ((upto ≡ log.acked) × IsOk result × (journal_now ≡ journal) × (now ≡ images))
+    ⊎ ((log.acked < upto) × Told images now (KeepsNext name client (acknowledged upto log) (next_notes journal true (acknowledged upto log)) result)
+    × (journal_now ≡ journal_after journal (next_notes journal true (acknowledged upto log)) (acknowledged upto log) result))

@@ -1,5 +1,5 @@
 -- What the ends of syncs and pulls tell of the world, read off what was asked and answered.
-use Rattle.std.specs.Prelude.{◌≡◌, ◌⊎◌, ℕ, ◌<◌, ◌++◌, Bool, List, true, []}
+use Rattle.std.specs.Prelude.{◌≡◌, ◌⊎◌, ℕ, ◌<◌, ◌≤◌, ◌++◌, Bool, List, true, []}
 use Rattle.outside.specs.Outside.{RoseBy, Rose}
 use Rattle.tree_values.specs.Lists.{IsIn}
 use Rattle.tree_values.specs.Tree.{Volume, version_at}
@@ -11,7 +11,7 @@ use Rattle.world_rules.specs.declared.asking.Ask.{Ask}
 use Rattle.world_rules.specs.World.{World}
 use Rattle.world_rules.specs.Asking.{AnswersStand}
 use Rattle.world_rules.specs.Settling.{failed_asks}
-use Rattle.world_rules.specs.InStep.{InStep, HasNoCollision, IsAcceptance}
+use Rattle.world_rules.specs.InStep.{InStep, HasNoCollision, TellsTaken}
 use Rattle.world_rules.specs.Run.{State, Runs, taken_in, AreAllOf, kept_at}
 use Rattle.client_core.specs.declared.route.Route.{Route}
 use Rattle.client_core.specs.declared.syncing.SyncEnd.{SyncEnd}
@@ -58,11 +58,11 @@ abbrev pub RestsBelow : Entry → Volume → Type 0
 RestsBelow entry volume = (base : Base) × IsIn base entry.base × (base.version < version_at volume base.path)
 
 -- A first pending entry that the server did not take, and that rests on a version below the served one, stays the first pending one,
--- untaken, and below, whatever comes; and no reply that was ever sent accepts it.
+-- untaken, and below, whatever comes; and no reply that was ever sent tells it to be taken.
 abbrev pub OvertakenEntriesAreNeverTaken : Type 0
 OvertakenEntriesAreNeverTaken = (client : ℕ) (ships : Bool) (entries : List Entry) (made : List Ask) (old new : State) (first : Entry)
     → InStep client old.log old.world → Runs client ships entries made old new
     → HasNoCollision client (old.log.pending ++ entries) new.world.packets
     → IsFirst first old.log.pending → old.world.served.last client ≡ old.log.acked → RestsBelow first old.world.served.volume
     → IsFirst first new.log.pending × (new.world.served.last client ≡ new.log.acked) × RestsBelow first new.world.served.volume
-    × ((reply : Message) → IsAcceptance client first.seq reply → IsIn reply new.world.packets → ⊥)
+    × ((reply : Message) (upto : ℕ) → TellsTaken client upto reply → first.seq ≤ upto → IsIn reply new.world.packets → ⊥)

@@ -1,17 +1,20 @@
 -- How changes of a client are kept: the first one that a value keeps by an image, and each later one by a record behind that.
-use Rattle.std.specs.Prelude.{◌≡◌, ℕ, zero, suc, ◌+◌, ◌-◌, ◌≤◌, List, [], ◌∷◌, ◌++◌, length, drop, map, Option, None, Some, option_map}
+use Rattle.std.specs.Prelude.{◌≡◌, ℕ, ◌-◌, ◌≤◌, false, List, [], ◌∷◌, ◌++◌, length, drop, map, Option, None, Some, option_map}
 use Rattle.outside.specs.Outside.{Told}
 use Rattle.outside.specs.Keeper.{Images}
 use Rattle.tree_values.specs.Lists.{IsIn}
 use Rattle.mod_log.specs.Log.{Log}
 use Rattle.store_image.specs.declared.record.ClientRecord.{ClientRecord}
-use Rattle.store_image.specs.declared.record.ClientRecord.TheVariants.{Logged, Acked}
+use Rattle.store_image.specs.declared.record.ClientRecord.TheVariants.{Logged}
 use Rattle.store_image.specs.declared.image.TheConstants.{MAX_RECORDS}
 use Rattle.store_image.specs.Records.{client_records, with_record, with_records}
 use Rattle.store_image.specs.Spelling.{client as image}
 use Rattle.client_core.specs.declared.keeping.Journal.{Journal}
 use Rattle.client_core.specs.declared.pulling.PullEnd.TheVariants.{Pulled}
+use Rattle.client_core.specs.declared.route.Route.{Route}
+use Rattle.client_core.specs.declared.syncing.SyncEnd.{SyncEnd}
 use Rattle.client_core.specs.Client.{Client}
+use Rattle.client_core.specs.Syncing.{SyncEnds, is_broken_sync}
 use Rattle.client_core.specs.Trace.{Trace}
 use Rattle.client_core.specs.Journal.{last_logged, bytes_with}
 
@@ -34,16 +37,6 @@ ReplacesNone trace = (count : ℕ) → IsIn (Pulled count) trace.pulls → ⊥
 
 -- ---- from one keeping to the next
 
--- the records of so many entries that were acknowledged one by one, behind this number
-abbrev pub acknowledgements : ℕ → ℕ → List ClientRecord
-acknowledgements zero acked = []
-acknowledgements (suc count) acked = Acked (acked + 1) ∷ acknowledgements count (acked + 1)
-
--- the records of what led from one log to a later one, where entries were acknowledged one by one, or else logged
-abbrev pub records_between : Log → Log → List ClientRecord
-records_between before after =
-    acknowledgements (after.acked - before.acked) before.acked ++ map Logged (drop (last_logged before - after.acked) after.pending)
-
 -- What is kept, and what the next keeping may add to, once each of these records was kept. Where there was no journal, the first one is
 -- kept by the image of the log after it. Nothing is said where all records together have more bytes than they may.
 abbrev pub AreAdded : ℕ → Log → Option Journal → List ClientRecord → Log → Option Journal → Option (List ℕ) → Option (List ℕ) → Type 0
@@ -63,6 +56,22 @@ pub record KeepsRecords (name : List ℕ) (before after : Client) (notes : List 
   pub leads : after.log ≡ with_records before.log notes
   pub added : AreAdded before.number before.log before.journal notes after.log after.journal (old name) (new name)
 
--- the same of the records between its logs, where the keeper tells its images
-abbrev pub KeepsChanges : List ℕ → Client → Client → Option Images → Option Images → Type 0
-KeepsChanges name before after images now = Told images now (KeepsRecords name before after (records_between before.log after.log))
+-- Between two moments each of these changes of the log was kept by a record of its own, where the keeper tells its images.
+abbrev pub KeepsChanges : List ℕ → Client → Client → List Log → Option Images → Option Images → Type 0
+KeepsChanges name before after changes images now =
+    Told images now (λ old new. (notes : List ClientRecord) × (changes ≡ logs_behind before.log notes)
+    × KeepsRecords name before after notes old new)
+
+-- the records of the entries that were logged between two logs
+abbrev pub records_logged : Log → Log → List ClientRecord
+records_logged before after = map Logged (drop (last_logged before - after.acked) after.pending)
+
+-- the entries that were logged between two moments were kept so
+abbrev pub KeepsLogged : List ℕ → Client → Client → Option Images → Option Images → Type 0
+KeepsLogged name before after images now = Told images now (KeepsRecords name before after (records_logged before.log after.log))
+
+-- A sync of a client that ends so, each change of which was kept by a record of its own where it was not broken off.
+abbrev pub SyncsNoting : ℕ → Route → Client → SyncEnd → Client → Option Images → Option Images → Log → Trace → Type 0
+SyncsNoting client route before end after images now kept trace =
+    SyncEnds client route before.log end after.log kept trace
+    × (is_broken_sync end ≡ false → KeepsChanges route.image before after trace.changes images now)

@@ -12,9 +12,9 @@ pub fn ends_are_true()
     ensures complete { CalmSyncsAreComplete }
 {}
 
-/// In each sync the store of a light entry is asked only once its operation was declined, or eight asks of it failed, in this
-/// sync. An entry that was answered by Done has cost asks of its operation alone, which is shorter than its store. And a sync
-/// that ends unanswered has asked the store eight times at its end.
+/// In each sync a store that carries a light entry is asked only once its operation was declined, or eight asks of it failed, in
+/// this sync, and the entry is its first one. An entry that was answered by Done has cost asks of its operation alone, which is
+/// shorter than a store of it alone. And a sync that ends unanswered has asked the store of its window eight times at its end.
 pub fn syncs_are_licensed()
     ensures licensed { SyncsAreLicensed }
     ensures done { DoneEntriesCostOperations }
@@ -22,7 +22,7 @@ pub fn syncs_are_licensed()
 {}
 
 /// Law: an entry that others overtook is never taken. Where the first pending entry was not taken, and rests at some path on a
-/// version below the one that is served, it stays so whatever comes: it is never acknowledged, and no ask of it is accepted.
+/// version below the one that is served, it stays so whatever comes: it is never acknowledged, and no reply tells it to be taken.
 pub fn overtaken_entries_are_never_taken()
     ensures { OvertakenEntriesAreNeverTaken }
 {}

@@ -9,6 +9,7 @@ mod route;
 mod running;
 mod shipping;
 mod syncing;
+mod window;
 
 pub use client::Client;
 pub use laws::{ends_are_true, overtaken_entries_are_never_taken, syncs_are_licensed};
@@ -16,3 +17,4 @@ pub use pulling::PullEnd;
 pub use route::Route;
 pub use running::RunEnd;
 pub use syncing::SyncEnd;
+pub use window::{MAX_BESIDE, WINDOW};

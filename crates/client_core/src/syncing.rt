@@ -1,17 +1,21 @@
 // Shipping the pending entries, one after the other.
-ghost use Rattle.std.specs.Prelude.{◌≡◌, ◌⊎◌, ◌≤◌, false, [], is_some};
-ghost use Rattle.outside.specs.Outside.{Rose, RisesWhere};
+ghost use Rattle.std.specs.Prelude.{◌≡◌, ◌⊎◌, ◌≤◌, ◌<◌, ◌+◌, true, [], length, is_some};
+ghost use Rattle.outside.specs.Outside.{Rose, RisesWhere, CountsFault};
+ghost use Rattle.mod_log.specs.Log.{acknowledged};
 ghost use Rattle.world_rules.specs.Telling.{IsCalm};
-ghost use Rattle.client_core.specs.Syncing.{end_by, SyncEnds, unkept_end, is_broken_sync};
+ghost use Rattle.client_core.specs.Syncing.{taken_upto, end_by, unkept_end};
 ghost use Rattle.client_core.specs.Goes.{Went};
 ghost use Rattle.client_core.specs.Causes.{HasSyncCause, AcknowledgesSome, SyncKeeps};
 ghost use Rattle.client_core.specs.Keeping.{IsReady, IsKeptReady};
-ghost use Rattle.client_core.specs.Noting.{KeepsChanges};
+ghost use Rattle.client_core.specs.Noting.{SyncsNoting};
+ghost use Rattle.client_core.specs.Journal.{next_notes};
+ghost use Rattle.client_core.specs.Inside.{MayKeep, IsCounted, KeepsUpto};
 ghost use Rattle.client_core.specs.Honest.{FromInStepApart, IsTrueSync, IsComplete};
 
-use crate::keeping::keep_log;
+use crate::keeping::{Journal, keep_log};
 use crate::shipping::ship;
 use crate::{Client, Route};
+use mod_log::Log;
 use outside::{KeepError, Keeper};
 use vol_tree::{Path, TreeError};
 use wire_frames::Message;
@@ -59,10 +63,11 @@ pub enum SyncEnd {
 }
 
 impl Client {
-    /// Ships the pending entries, the first one first, until none is left or one is not accepted. An entry that a command
+    /// Ships the pending entries, the first ones first, until none is left or one is not accepted. An entry that a command
     /// made is settled with the surrogate as an operation first, where there is one and the operation's frame is shorter than
-    /// that of the store; its store is settled with the server only where the operation was declined or eight asks of it
-    /// failed. The client is kept after each acknowledgement, before the next request is sent.
+    /// that of the store of it alone; its store is settled with the server only where the operation was declined or eight asks
+    /// of it failed. A store carries a window: up to eight entries, none but the first of which is such a one. The client is
+    /// kept after each reply that tells entries to be taken, before the next request is sent.
     ///
     /// Over a keeper that tells its images this very client is kept under the route's image, or nothing is and the client
     /// is new; and it may go on there (`keep`).
@@ -73,9 +78,10 @@ impl Client {
         keeper: &mut K,
     ) -> SyncEnd
         requires { IsKeptReady (K.images keeper.old) route.now.image self.old }
+        // where it was not broken off, each acknowledgement was kept by itself
         ensures did { Went self.old.number (is_some route.now.surrogate) route.now.image
-            (SyncEnds self.old.number route.now self.old.log result self.new.log) self.old.log self.new.log
-            (K.images keeper.old) (K.images keeper.new) (L.tells link.old) (L.tells link.new) }
+            (SyncsNoting self.old.number route.now self.old result self.new (K.images keeper.old) (K.images keeper.new))
+            self.old.log self.new.log (K.images keeper.old) (K.images keeper.new) (L.tells link.old) (L.tells link.new) }
         ensures cause { HasSyncCause result self.new.log (L.tells link.old).troubles (L.tells link.new).troubles
             (K.faults keeper.old) (K.faults keeper.new) }
         ensures log { AcknowledgesSome self.old.log self.new.log }
@@ -93,9 +99,6 @@ impl Client {
         // and where nothing is pending at the end and no keeping failed, that is how it ends, but for want of memory
         ensures settled { self.new.log.pending ≡ [] → (Rose (K.faults keeper.old) (K.faults keeper.new) → ⊥)
             → (result ≡ SyncEnd.Synced self.new.log.acked) ⊎ (result ≡ SyncEnd.Memory) }
-        // where it was not broken off, each acknowledgement was kept by itself
-        ensures records { is_broken_sync result ≡ false
-            → KeepsChanges route.now.image self.old self.new (K.images keeper.old) (K.images keeper.new) }
         ensures ready { IsReady (K.images keeper.new) route.now.image self.new }
         ensures number { self.new.number ≡ self.old.number }
         ensures later { (L.tells link.old).troubles ≤ (L.tells link.new).troubles }
@@ -105,28 +108,73 @@ impl Client {
         let client = self.number;
         let alloc = self.log.tree().allocator();
         while let Some(entry) = self.log.entry(0) {
-            let number = entry.seq;
-            let reply = match ship(alloc, client, route, entry, link) {
+            let reply = match ship(alloc, client, route, &self.log, entry, link) {
                 Ok(reply) => reply,
                 Err(_refused) => return SyncEnd::Memory,
             };
-            match end_by(number, reply) {
-                Some(end) => return end,
-                None => self.log.acknowledge(number),
-            }
+            let upto = taken_upto(self.log.acked(), &reply);
             let image = route.image.bytes();
-            if let Err(refused) = keep_log(
+            if let Err(refused) = keep_upto(
                 client,
-                &self.log,
+                &mut self.log,
+                upto,
                 &mut self.journal,
-                true,
                 image,
                 keeper,
             ) {
+                drop(reply);
                 return unkept_end(refused);
+            }
+            if let Some(end) = end_by(upto.saturating_add(1), reply) {
+                return end;
             }
         }
         SyncEnd::Synced(self.log.acked())
+    }
+}
+
+/// Acknowledges the entries up to this number, and keeps the client then. Where they are acknowledged already, it does nothing.
+fn keep_upto<K: Keeper>(
+    client: u8,
+    log: &mut Log,
+    upto: u64,
+    journal: &mut Option<Journal>,
+    name: &[u8],
+    keeper: &mut K,
+) -> Result<(), KeepError>
+    requires low { 1 ≤ client }
+    requires high { client ≤ 64 }
+    requires from { log.old.acked ≤ upto }
+    requires pending { upto ≤ log.old.acked + length log.old.pending }
+    requires ready { log.old.acked < upto → MayKeep (next_notes journal.old true (acknowledged upto log.old))
+        (K.images keeper.old) name.now client (acknowledged upto log.old) }
+    requires counted { IsCounted (K.images keeper.old) name.now journal.old }
+    ensures log { log.new ≡ acknowledged upto log.old }
+    ensures kept { KeepsUpto name.now client log.old upto journal.old journal.new result
+        (K.images keeper.old) (K.images keeper.new) }
+    ensures counted { IsCounted (K.images keeper.new) name.now journal.new }
+    ensures cause { CountsFault KeepError.Failed (K.faults keeper.old) (K.faults keeper.new) result }
+{
+    if upto <= log.acked() {
+        return Ok(());
+    }
+    log.acknowledge(upto);
+    keep_log(client, log, journal, true, name, keeper)
+}
+
+/// Up to which number a reply tells the client's entries to be taken; where it tells none, the given number.
+fn taken_upto(acked: u64, reply: &Option<Message>) -> u64
+    ensures { result ≡ taken_upto acked reply.now }
+{
+    match reply {
+        Some(
+            Message::Accepted { upto, .. }
+            | Message::Stale { upto, .. }
+            | Message::Unfit { upto, .. }
+            | Message::Full { upto, .. },
+        ) => *upto,
+        Some(Message::Done { number, .. }) => *number,
+        _ => acked,
     }
 }
 
@@ -140,7 +188,7 @@ fn unkept_end(refused: KeepError) -> SyncEnd
     }
 }
 
-/// How a sync ends by what shipping the entry of this number came to; `None`: it goes on.
+/// How a sync ends whose next entry has this number, by what shipping came to; `None`: it goes on.
 fn end_by(number: u64, reply: Option<Message>) -> Option<SyncEnd>
     ensures { result ≡ end_by number reply }
 {

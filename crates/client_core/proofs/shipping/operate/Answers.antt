@@ -1,45 +1,55 @@
-use Rattle.std.proofs.Common.{Bool, false, inl, List, ℕ, Result, Ok, Some, None, refl, sym, subst}
+use Rattle.std.proofs.Common.{List, ℕ, Result, Ok, Bool, false, sym, subst}
 use Rattle.std.specs.declared.alloc.AllocError.{AllocError}
-use Rattle.wire_frames.specs.declared.message.Message.{Message}
+use Rattle.mod_log.proofs.Sketches.{short_contents}
 use Rattle.wire_frames.specs.declared.message.Message.TheVariants.{Operate}
-use Rattle.wire_frames.specs.Frame.{IsValid}
-use Rattle.wire_frames.proofs.Standing.{sketched_stores}
 use Rattle.world_rules.specs.declared.asking.Peer.TheVariants.{Surrogate}
 use Rattle.world_rules.specs.Telling.{LinkTelling}
 use Rattle.world_rules.specs.Settling.{Settled}
+use Rattle.world_rules.proofs.Sending.{operation_valid}
 use Rattle.client_core.specs.Syncing.{IsLight}
-use Rattle.client_core.specs.Inside.{AskedFor, OperatesTo, IsOperationOf}
+use Rattle.client_core.specs.Inside.{AskedFor, OperatesTo, IsLightEntry}
+use Rattle.client_core.proofs.Firsts.{first_in, store_valid}
 use Rattle.client_core.proofs.Ships.{asked_none, operated}
+use Rattle.client_core.proofs.Sketching.{light_so, heavy_due}
 use Rattle.client_core.proofs.shipping.operate.Goals as goal
+
+pub is_light-requires : goal.is_light-requires
+is_light-requires g c = λ client low high. store_valid client c.args.log.now c.args.entry.now low high c.requires.log c.requires.first
+
+pub returns-then-not-light-clause-operated : goal.returns-then-not-light-clause-operated
+returns-then-not-light-clause-operated g c =
+    let client = c.args.client in
+    let route = c.args.route.now in
+    let log = c.args.log.now in
+    let entry = c.args.entry.now in
+    asked_none client route log (OperatesTo client route log.pending entry (Ok false)) (g.L.Link.tells c.args.link.now)
+    (heavy_due client route entry (λ (light : IsLightEntry client route entry). absurd (cc (c.if-not-light.true, (c.in_ok-light.ensures client c.requires.own_number.0 c.requires.own_number.1).1 light))))
+
+pub sketch_entry-requires-clause-sizes : goal.sketch_entry-requires-clause-sizes
+sketch_entry-requires-clause-sizes g c =
+    let valid = store_valid c.args.client c.args.log.now c.args.entry.now c.requires.own_number.0 c.requires.own_number.1 c.requires.log c.requires.first in
+    short_contents c.args.entry.now.effects valid.body_fits.each.0.0.each
 
 pub settle_operation-requires-clause-valid : goal.settle_operation-requires-clause-valid
 settle_operation-requires-clause-valid g c =
-    let client = c.args.client in
+    let log = c.args.log.now in
     let entry = c.args.entry.now in
-    let found : IsOperationOf client entry (Some c.in-Some-2.operation) = subst (IsOperationOf client entry) c.in-Some-2.is c.in_ok-operation.ensures in
-    subst IsValid (sym found.1) (sketched_stores client entry found.0 c.requires.valid c.requires.made found.2)
+    operation_valid c.args.client c.requires.own_number.0 c.requires.own_number.1 log entry c.in_ok-sketched.sketched c.requires.log (first_in log.pending entry c.requires.first) c.in_ok-sketched.ensures
 
-pub returns-in-Some-2-clause-operated : goal.returns-in-Some-2-clause-operated
-returns-in-Some-2-clause-operated g c =
+pub returns-clause-operated : goal.returns-clause-operated
+returns-clause-operated g c =
     let client = c.args.client in
     let route = c.args.route.now in
+    let log = c.args.log.now in
     let entry = c.args.entry.now in
     let address = c.in-Some.address in
+    let sketched = c.in_ok-sketched.sketched in
     let t : LinkTelling = g.L.Link.tells c.args.link.now in
     let u : LinkTelling = g.L.Link.tells c.settle_operation.new.link in
-    let found : IsOperationOf client entry (Some c.in-Some-2.operation) = subst (IsOperationOf client entry) c.in-Some-2.is c.in_ok-operation.ensures in
-    let light : IsLight client route entry address found.0 = record { surrogate = c.in-Some.is; sketch = found.2; shorter = found.3 } in
+    let found : IsLightEntry client route entry = (c.in_ok-light.ensures client c.requires.own_number.0 c.requires.own_number.1).0 c.if-not-light.false in
+    let light : IsLight client route entry address sketched = light_so client route entry address sketched c.in-Some.is c.in_ok-sketched.ensures found in
     let told = c.settle_operation.ensures.settled in
-    let done : Settled Surrogate address (Operate client found.0) t u told.0 =
-    subst (λ (a : List ℕ). Settled Surrogate a (Operate client found.0) t u told.0) c.bytes.ensures.value
-    (subst (λ (m : Message). Settled Surrogate c.bytes.result.now m t u told.0) found.1 told.1) in
-    subst (λ (r : Result Bool AllocError). AskedFor client route entry (OperatesTo client route entry r) t u) (sym told.2)
-    (operated client route entry address found.0 light told.0 t u done)
-
-pub returns-in-None-clause-operated : goal.returns-in-None-clause-operated
-returns-in-None-clause-operated g c =
-    let client = c.args.client in
-    let route = c.args.route.now in
-    let entry = c.args.entry.now in
-    let heavy : IsOperationOf client entry None = subst (IsOperationOf client entry) c.in-None.is c.in_ok-operation.ensures in
-    asked_none client route entry (OperatesTo client route entry (Ok false)) (g.L.Link.tells c.args.link.now) (inl (λ address sketched light. heavy sketched light.sketch light.shorter, refl))
+    let done : Settled Surrogate address (Operate client sketched) t u told.0 =
+    subst (λ (a : List ℕ). Settled Surrogate a (Operate client sketched) t u told.0) c.bytes.ensures.value told.1 in
+    subst (λ (r : Result Bool AllocError). AskedFor client route log (OperatesTo client route log.pending entry r) t u) (sym told.2)
+    (operated client route log entry address sketched light told.0 t u c.requires.log c.requires.first done)

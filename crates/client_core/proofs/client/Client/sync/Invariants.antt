@@ -1,8 +1,6 @@
 use Rattle.std.proofs.Common.{◌≡◌, ◌≤◌, length}
-use Rattle.client_core.specs.Causes.{AcknowledgesSome}
 use Rattle.client_core.specs.Inside.{IsCounted}
-use Rattle.client_core.proofs.Noting.{KeepsAcks}
-use Rattle.client_core.proofs.Syncs.{WentSoFar, KeepsAcked}
+use Rattle.client_core.proofs.Syncs.{WentSoFar}
 use Rattle.client_core.proofs.client.Client.sync.Given as goal
 use Rattle.client_core.proofs.Journal.{JournalIsCurrent}
 
@@ -11,12 +9,9 @@ invariant-loop-entry g l = record {
   later : (g.L.Link.tells l.fn.link).troubles ≤ (g.L.Link.tells l.link).troubles;
   faults : g.K.Keeper.faults l.keeper ≡ g.K.Keeper.faults l.fn.keeper;
   number : l.self-inside.number ≡ l.client;
-  some : AcknowledgesSome l.initial.self-inside.log l.self-inside.log;
-  keeps : KeepsAcked l.initial.self-inside.log l.route.image l.client l.self-inside.log (g.K.Keeper.images l.fn.keeper) (g.K.Keeper.images l.keeper);
   current : JournalIsCurrent (g.K.Keeper.images l.keeper) l.route.image l.client l.self-inside.log l.self-inside.journal;
   counted : IsCounted (g.K.Keeper.images l.keeper) l.route.image l.self-inside.journal;
-  acks : KeepsAcks l.route.image l.client l.initial.self-inside.log l.initial.self-inside.journal l.self-inside.log l.self-inside.journal (g.K.Keeper.images l.fn.keeper) (g.K.Keeper.images l.keeper);
-  did : WentSoFar l.client l.route l.initial.self-inside.log l.self-inside.log (g.K.Keeper.images l.fn.keeper) (g.K.Keeper.images l.keeper) (g.L.Link.tells l.fn.link) (g.L.Link.tells l.link);
+  did : WentSoFar l.client l.route l.initial.self-inside.log l.initial.self-inside.journal l.self-inside.log l.self-inside.journal (g.K.Keeper.images l.fn.keeper) (g.K.Keeper.images l.keeper) (g.L.Link.tells l.fn.link) (g.L.Link.tells l.link);
 }
 
 abbrev pub decreases-loop-entry : goal.decreases-loop-entry
