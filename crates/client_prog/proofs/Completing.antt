@@ -1,5 +1,5 @@
 -- The last line of a session is a sync, and comes through.
-use Rattle.std.proofs.Common.{◌≡◌, inl, inr, ℕ, ◌<◌, Bool, true, false, List, [], ◌∷◌, ◌++◌, Option, None, Some, is_some, Result, Ok, refl, sym, ◌∙◌, ap, subst, arith, append_assoc}
+use Rattle.std.proofs.Common.{◌≡◌, inl, inr, ℕ, ◌+◌, ◌<◌, Bool, true, false, List, [], ◌∷◌, ◌++◌, Option, None, Some, is_some, Result, Ok, refl, sym, ◌∙◌, ap, subst, arith, append_assoc}
 use Rattle.std.proofs.lemmas.List.{append-nil}
 use Rattle.tree_values.specs.Tree.{Volume, version_at}
 use Rattle.tree_values.specs.Lists.{IsIn}
@@ -92,13 +92,13 @@ goes_or_ends (Some end) = ends_turn end
 
 turn_ends : (number : ℕ) (came : Option Message) → goes_or_ends (end_by number came) ≡ true
 turn_ends number None = refl
-turn_ends number (Some (messages.Store of n effects base)) = refl
+turn_ends number (Some (messages.Store of n parts)) = refl
 turn_ends number (Some (messages.Operate of sketched)) = refl
 turn_ends number (Some (messages.Pull of n)) = refl
-turn_ends number (Some (messages.Accepted of n)) = refl
-turn_ends number (Some (messages.Stale of n path theirs ours)) = refl
-turn_ends number (Some (messages.Unfit of n index fault)) = refl
-turn_ends number (Some (messages.Full of n index fault)) = refl
+turn_ends number (Some (messages.Accepted of n upto)) = refl
+turn_ends number (Some (messages.Stale of n upto path theirs ours)) = refl
+turn_ends number (Some (messages.Unfit of n upto index fault)) = refl
+turn_ends number (Some (messages.Full of n upto index fault)) = refl
 turn_ends number (Some (messages.Gap of n last)) = refl
 turn_ends number (Some (messages.Done of n)) = refl
 turn_ends number (Some (messages.Declined of n cause)) = refl
@@ -106,25 +106,25 @@ turn_ends number (Some (messages.Snapshot of n last rows)) = refl
 turn_ends number (Some (messages.Malformed code offset)) = refl
 
 -- a sync that no turn of an entry ends so ends with nothing pending
-nothing_left : (client : ℕ) (route : Route) (after : Log) (end : SyncEnd) (asks : List Ask) → ends_turn end ≡ false → EndsSync client route after end asks → after.pending ≡ []
-nothing_left client route after end asks is (inl none) = none.0
-nothing_left client route after end asks is (inr turn) =
-    absurd (cc (sym is ∙ sym (ap goes_or_ends turn.end_is) ∙ turn_ends turn.entry.seq turn.came))
+nothing_left : (client : ℕ) (route : Route) (before : Log) (end : SyncEnd) (after : Log) (trace : Trace) → ends_turn end ≡ false → EndsSync client route before end after trace → after.pending ≡ []
+nothing_left client route before end after trace is (inl none) = ap (λ (log : Log). log.pending) none.2 ∙ none.0
+nothing_left client route before end after trace is (inr turn) =
+    absurd (cc (sym is ∙ sym (ap goes_or_ends turn.1.end_is) ∙ turn_ends (after.acked + 1) turn.1.came))
 
 module _ (client : ℕ) (route : Route) (before after : Log) (trace : Trace) (world : World) (same : world.served.volume ≡ tree_at (last_taken client world) after) (unfailed : EndInFailures route trace.asks → ⊥) where
   not_newer : (path : _) → version_at (tree_at (last_taken client world) after) path < version_at world.served.volume path → ⊥
   not_newer path newer = omega (arith, newer, ap (λ (v : Volume). version_at v path) same)
 
   complete : (end : SyncEnd) → SyncTurn client route before end after trace → IsTrueSync end client after world → after.pending ≡ []
-  complete (ends.Synced n) turn is = nothing_left client route after (ends.Synced n) turn.2 refl turn.4
-  complete ends.KeepFault turn is = nothing_left client route after ends.KeepFault turn.2 refl turn.4
-  complete ends.Memory turn is = nothing_left client route after ends.Memory turn.2 refl turn.4
+  complete (ends.Synced n) turn is = nothing_left client route turn.1 (ends.Synced n) after turn.3 refl turn.5
+  complete ends.KeepFault turn is = nothing_left client route turn.1 ends.KeepFault after turn.3 refl turn.5
+  complete ends.Memory turn is = nothing_left client route turn.1 ends.Memory after turn.3 refl turn.5
   complete (ends.Stale seq path theirs ours) turn is = absurd (not_newer path is)
   complete (ends.Unfit seq index fault) turn is = absurd (not_newer is.0 is.1)
   complete (ends.Full seq index fault) turn is = absurd (not_newer is.0 is.1)
   complete (ends.Behind seq last) turn is = absurd is
   complete (ends.Unanswered seq) turn is =
-      let failed = unanswered_failed client route before after seq trace turn in absurd (unfailed (failed.1, store_of client failed.0, failed.4))
+      let failed = unanswered_failed client route before after seq trace turn in absurd (unfailed (failed.2, store_of client seq failed.1, failed.6))
 
 -- ---- the law
 

@@ -1,6 +1,5 @@
 -- Two runs, the second begun on what the first left kept, leave together what one run leaves.
-use Rattle.std.proofs.Common.{◌≡◌, ◌⊎◌, inl, inr, ⊎_elim, ℕ, zero, suc, ◌+◌, ◌-◌, ◌≤◌, Bool, true, false, List, [], ◌∷◌, ◌++◌, length, drop, Option, Some, None, is_some, Result, Ok, Err, refl, sym, ◌∙◌, ap, subst, arith, length-append}
-use Rattle.std.proofs.lemmas.List.{append-nil}
+use Rattle.std.proofs.Common.{◌≡◌, ◌⊎◌, inl, inr, ⊎_elim, ℕ, zero, suc, ◌+◌, ◌-◌, ◌≤◌, Bool, true, false, List, [], ◌∷◌, ◌++◌, length, drop, Option, Some, None, is_some, Result, Ok, Err, refl, sym, ◌∙◌, ap, subst, arith, length-append, length-drop}
 use Rattle.file_paths.specs.declared.path.PathError.{PathError}
 use Rattle.tree_values.specs.Lists.{IsIn}
 use Rattle.tree_values.specs.declared.node.Effect.{Effect}
@@ -23,17 +22,20 @@ use Rattle.world_rules.proofs.Runs.{runs_then, runs_without, run_packets, counte
 use Rattle.world_rules.proofs.Operations.{never_collides}
 use Rattle.world_rules.proofs.Restarts.{restart_runs, alone_runs}
 use Rattle.client_core.specs.declared.route.Route.{Route}
+use Rattle.client_core.specs.declared.syncing.SyncEnd.{SyncEnd}
 use Rattle.client_core.specs.declared.pulling.PullEnd.{PullEnd}
 use Rattle.client_core.specs.declared.pulling.PullEnd.TheVariants.{Pulled, Pending, OtherLast, Older, Unanswered, KeepFault, Memory}
 use Rattle.client_core.specs.declared.running.RunEnd.{RunEnd}
 use Rattle.client_core.specs.declared.running.RunEnd.TheVariants as runs
 use Rattle.client_core.specs.Running as commands
 use Rattle.client_core.specs.Running.{origin_of, changes_of, run_entry}
-use Rattle.client_core.specs.Trace.{Trace, nothing, followed, asking, last_log, log_before_last, IsLastOrBefore}
+use Rattle.client_core.specs.Trace.{Trace, nothing, last_log, log_before_last, IsLastOrBefore}
 use Rattle.client_core.specs.Logging.{local_entry, LocalTurn}
-use Rattle.client_core.specs.Syncing.{IsFirst, Acknowledges}
+use Rattle.client_core.specs.Causes.{AcknowledgesSome}
+use Rattle.client_core.specs.Syncing.{Acknowledges, EndsSync, SyncTurn, BreaksTurn, BreaksSync}
 use Rattle.client_core.specs.Pulling.{PullsSnapshot, PullTurn}
 use Rattle.client_core.specs.Goes.{WorldGoes, stand}
+use Rattle.client_core.proofs.Acknowledging.{turn_some}
 use Rattle.client_core.proofs.Locals.{appended-is}
 use Rattle.client_core.proofs.Pulls.{none_pending}
 use Rattle.shell_lang.specs.declared.line.Line.{Line}
@@ -44,6 +46,7 @@ use Rattle.client_prog.specs.declared.input.InputEnd.{InputEnd}
 use Rattle.client_prog.specs.declared.run.Stop.{Stop}
 use Rattle.client_prog.specs.declared.run.Stop.TheVariants as stops
 use Rattle.client_session.specs.Session.{SessionState, opened, put_effect, make_effect, remove_effect, move_effect, LogTurn, CommandTurn, LineTurn, BreaksCommand, BreaksOff, Broken, BreaksChain}
+use Rattle.client_session.proofs.Acknowledged.{acknowledging_so}
 use Rattle.client_prog.specs.Run.{asked_for, Handles, WholeRun}
 use Rattle.client_prog.specs.Composing.{StaysOf, LeaveTogether, RunsCompose, StoresNeverCollide}
 use Rattle.client_prog.specs.Headline.{Around, Ran}
@@ -73,10 +76,14 @@ before_knows n log [] is all = is
 before_knows n log (x ∷ []) is all = is
 before_knows n log (x ∷ y ∷ xs) is all = before_knows n x (y ∷ xs) all.0 all.1
 
+-- no change logs an entry
+abbrev KnowsAll : Log → List Log → Log → Type 0
+KnowsAll before changes after = KnowAll (last_number before) changes × (last_number after ≡ last_number before)
+
 -- the changes log no entry, or they are one entry that is logged
 abbrev AtMostOne : Log → Log → List Log → Type 0
 AtMostOne before after changes =
-    (KnowAll (last_number before) changes × (last_number after ≡ last_number before)) ⊎ ((changes ≡ after ∷ []) × (last_number after ≡ last_number before + 1))
+    KnowsAll before changes after ⊎ ((changes ≡ after ∷ []) × (last_number after ≡ last_number before + 1))
 
 -- so what is kept lacks at most one entry
 kept_but_one : (before after kept : Log) (changes : List Log) → AtMostOne before after changes → IsLastOrBefore before changes kept → last_number after ≤ last_number kept + 1
@@ -91,27 +98,53 @@ still before after changes same none = inl (subst (KnowAll (last_number before))
 
 -- ---- a sync
 
-counts_first : (acked : ℕ) (pending : List Entry) (entry : Entry) → IsFirst entry pending → acked + 1 + length (drop (acked + 1 - acked) pending) ≡ acked + length pending
-counts_first acked [] entry first = absurd first
-counts_first acked (e ∷ entries) entry first =
-    let one : acked + 1 - acked ≡ 1 = omega arith in
-    omega (arith, ap (λ (n : ℕ). length (drop n (e ∷ entries))) one)
+knows_none : (before after : Log) (trace : Trace) → after ≡ before → trace ≡ nothing → KnowsAll before trace.changes after
+knows_none before after trace same none = (subst (λ (t : Trace). KnowAll (last_number before) t.changes) (sym none) tt, ap last_number same)
 
-acknowledged_know : (client : ℕ) (route : Route) (count : ℕ) (before after : Log) (trace : Trace) → Acknowledges client route count before after trace
-    → KnowAll (last_number before) trace.changes × (last_number after ≡ last_number before)
-acknowledged_know client route zero before after trace turn = (subst (λ (t : Trace). KnowAll (last_number before) t.changes) (sym turn.1) tt, ap last_number turn.0)
-acknowledged_know client route (suc count) before after trace turn =
-    let middle : Log = turn.0 in
-    let earlier : Trace = turn.1 in
-    let all = acknowledged_know client route count before middle earlier turn.3 in
-    let is : last_number after ≡ last_number before = ap last_number turn.5 ∙ counts_first middle.acked middle.pending turn.4.entry turn.4.first ∙ all.1 in
-    (subst (λ (t : Trace). KnowAll (last_number before) t.changes) (sym turn.6) (know-append (last_number before) earlier.changes (after ∷ []) all.0 (is, tt)), is)
+knows_then : (a b c : Log) (xs ys : List Log) → KnowsAll a xs b → KnowsAll b ys c → KnowsAll a (xs ++ ys) c
+knows_then a b c xs ys first second =
+    (know-append (last_number a) xs ys first.0 (subst (λ (n : ℕ). KnowAll n ys) first.1 second.0), second.1 ∙ first.1)
 
-acknowledged_then : (client : ℕ) (route : Route) (count : ℕ) (before after : Log) (earlier trace : Trace) (last : List Ask) → Acknowledges client route count before after earlier
-    → trace ≡ followed earlier (asking last) → AtMostOne before after trace.changes
-acknowledged_then client route count before after earlier trace last turn is =
-    let all = acknowledged_know client route count before after earlier turn in
-    inl (subst (KnowAll (last_number before)) (sym (ap (λ (t : Trace). t.changes) is ∙ append-nil earlier.changes)) all.0, all.1)
+-- one that acknowledges some does not
+some_knows : (before after : Log) → AcknowledgesSome before after → last_number after ≡ last_number before
+some_knows before after some =
+    let count : ℕ = some.0 - before.acked in
+    let left : last_number after ≡ some.0 + length (drop count before.pending) = ap last_number some.3 in
+    omega (arith, left, length-drop count before.pending, some.1, some.2)
+
+one_knows : (before after : Log) → AcknowledgesSome before after → KnowsAll before (after ∷ []) after
+one_knows before after some = let is = some_knows before after some in ((is, tt), is)
+
+module _ (client : ℕ) (route : Route) where
+  acks_know : (count : ℕ) (before after : Log) (trace : Trace) → Acknowledges client route count before after trace → KnowsAll before trace.changes after
+  acks_know zero before after trace turn = knows_none before after trace turn.0 turn.1
+  acks_know (suc count) before after trace turn =
+      subst (λ (t : Trace). KnowsAll before t.changes after) (sym turn.5)
+      (knows_then before turn.0 after turn.1.changes (after ∷ []) (acks_know count before turn.0 turn.1 turn.3) (one_knows turn.0 after (turn_some client route turn.0 after None turn.2 turn.4)))
+
+  ends_know : (before : Log) (end : SyncEnd) (after : Log) (trace : Trace) → EndsSync client route before end after trace → KnowsAll before trace.changes after
+  ends_know before end after trace (inl synced) = knows_none before after trace synced.2 synced.3
+  ends_know before end after trace (inr ended) =
+      let some = turn_some client route before after (Some end) ended.0 ended.1 in
+      subst (λ (t : Trace). KnowsAll before t.changes after) (sym ended.2)
+      (acknowledging_so (λ (t : Trace). KnowsAll before t.changes after) before after (λ less. one_knows before after some) (λ none. (tt, some_knows before after some)))
+
+  turn_knows : (before after : Log) (trace : Trace) → BreaksTurn client route before after trace → KnowsAll before trace.changes after
+  turn_knows before after trace (inl idle) = knows_none before after trace idle.0 idle.1
+  turn_knows before after trace (inr (inl broken)) =
+      subst (λ (t : Trace). KnowsAll before t.changes after) (sym broken.1.4) (tt, ap last_number broken.0)
+  turn_knows before after trace (inr (inr unkept)) =
+      subst (λ (t : Trace). KnowsAll before t.changes after) (sym unkept.4) (one_knows before after (turn_some client route before after (Some unkept.0) unkept.1 unkept.2))
+
+  sync_knows : (before : Log) (end : SyncEnd) (after : Log) (trace : Trace) → SyncTurn client route before end after trace → AtMostOne before after trace.changes
+  sync_knows before end after trace turn =
+      inl (subst (λ (t : Trace). KnowsAll before t.changes after) (sym turn.6)
+      (knows_then before turn.1 after turn.2.changes turn.3.changes (acks_know turn.0 before turn.1 turn.2 turn.4) (ends_know turn.1 end after turn.3 turn.5)))
+
+  sync_breaks : (before after : Log) (trace : Trace) → BreaksSync client route before after trace → AtMostOne before after trace.changes
+  sync_breaks before after trace turn =
+      inl (subst (λ (t : Trace). KnowsAll before t.changes after) (sym turn.6)
+      (knows_then before turn.1 after turn.2.changes turn.3.changes (acks_know turn.0 before turn.1 turn.2 turn.4) (turn_knows turn.1 after turn.3 turn.5)))
 
 -- ---- a pull
 
@@ -192,8 +225,7 @@ module _ (before after : SessionState) (trace : Trace) where
       still before.client.log after.client.log trace.changes (ap (λ (s : SessionState). s.client.log) turn.1) (ap (λ (t : Trace). t.changes) turn.2)
   line_knows route (Ok (lines.Run words)) answer turn = command_knows route (capture words before.folder) answer turn
   line_knows route (Ok lines.Status) answer turn = untouched turn.1 turn.2
-  line_knows route (Ok lines.Sync) answer turn =
-      acknowledged_then before.client.number route turn.1.0 before.client.log after.client.log turn.1.1 trace turn.1.2 turn.1.3 turn.1.5
+  line_knows route (Ok lines.Sync) answer turn = sync_knows before.client.number route before.client.log turn.0 after.client.log trace turn.1
   line_knows route (Ok lines.Pull) answer turn = pull_knows before.client.number route before.client.log turn.0 after.client.log trace turn.1
   line_knows route (Ok lines.Quit) answer turn = untouched turn.1 turn.2
 
@@ -209,7 +241,7 @@ module _ (before after : SessionState) (trace : Trace) where
   breaks_knows route (Ok (lines.Enter word)) breaks = absurd breaks
   breaks_knows route (Ok (lines.Run words)) breaks = command_breaks route (capture words before.folder) breaks
   breaks_knows route (Ok lines.Status) breaks = absurd breaks
-  breaks_knows route (Ok lines.Sync) breaks = acknowledged_then before.client.number route breaks.0 before.client.log after.client.log breaks.1 trace breaks.2 breaks.3 breaks.5
+  breaks_knows route (Ok lines.Sync) breaks = sync_breaks before.client.number route before.client.log after.client.log trace breaks
   breaks_knows route (Ok lines.Pull) breaks =
       ⊎_elim (λ asks. still before.client.log after.client.log trace.changes asks.2 (ap (λ (t : Trace). t.changes) asks.4))
       (λ pulls. snapshot_knows before.client.number route before.client.log (Pulled pulls.0) after.client.log trace pulls.1) breaks

@@ -1,25 +1,25 @@
 -- How what a session keeps record by record goes on from line to line.
-use Rattle.std.proofs.Common.{◌≡◌, ◌∙◌, ℕ, false, List, [], ◌++◌, Option, None, Result, Ok, Err, IfOk, refl, sym, ap}
+use Rattle.std.proofs.Common.{◌≡◌, ℕ, false, List, Option, None, Result, Ok, Err, IfOk}
 use Rattle.outside.specs.Outside.{Told}
 use Rattle.outside.specs.Keeper.{Images}
 use Rattle.mod_log.specs.Log.{Log}
 use Rattle.vol_tree.proofs.Behind.{IsIn-left, IsIn-right}
-use Rattle.world_rules.proofs.Asks.{told_start, told_as, told_then}
+use Rattle.world_rules.proofs.Asks.{told_as}
 use Rattle.store_image.specs.declared.record.ClientRecord.{ClientRecord}
 use Rattle.client_core.specs.declared.route.Route.{Route}
 use Rattle.client_core.specs.declared.pulling.PullEnd.TheVariants.{Pulled}
 use Rattle.client_core.specs.Client.{Client}
 use Rattle.client_core.specs.Trace.{Trace, nothing, followed, IsLastOrBefore}
 use Rattle.client_core.specs.Keeping.{IsKept}
-use Rattle.client_core.specs.Noting.{logs_behind, AreRecorded, ReplacesNone, records_between, KeepsRecords, KeepsChanges}
-use Rattle.client_core.proofs.Noting.{logs_passed, records_then, recorded_from_none}
+use Rattle.client_core.specs.Noting.{logs_behind, AreRecorded, ReplacesNone, KeepsRecords, KeepsChanges}
+use Rattle.client_core.proofs.Noting.{changes_same, changes_then, recorded_from_none}
 use Rattle.shell_lang.specs.declared.line.Line.{Line}
 use Rattle.shell_lang.specs.declared.line.LineError.{LineError}
 use Rattle.shell_lang.specs.declared.answer.LineAnswer.{LineAnswer}
 use Rattle.client_session.specs.Session.{Sitting, state_of, LineTurn, has_pulled}
 use Rattle.client_session.specs.Doing.{Telling, WentDoing}
 use Rattle.client_session.proofs.Doing.{WentKept, went_none, kept_none, went_as, kept_as, kept_then, kept_next}
-use Rattle.client_session.proofs.Recorded.{line_noted, line_unpulled}
+use Rattle.client_session.proofs.Recorded.{line_unpulled}
 use Rattle.client_prog.specs.declared.run.Stop.{Stop}
 use Rattle.client_prog.specs.InsideRun.{NotesChanges, WentNoting}
 
@@ -32,33 +32,18 @@ unstopped (Err e) K is = tt
 
 module _ (name : List ℕ) where
   notes_none : (x : Client) (i : Option Images) → NotesChanges name x x i i nothing
-  notes_none x i = λ none.
-      told_start i (λ old new. (notes : List ClientRecord) × (nothing.changes ≡ logs_behind x.log notes) × KeepsRecords name x x notes old new) (λ images. ([], refl, record { number = refl; leads = refl; added = (refl, refl) }))
+  notes_none x i = λ none. changes_same name x i
 
   notes_then : (x y z : Client) (i j l : Option Images) (m n : Trace) → NotesChanges name x y i j m → NotesChanges name y z j l n → NotesChanges name x z i l (followed m n)
   notes_then x y z i j l m n first second = λ none.
-      told_then i j l
-      (λ old new. (notes : List ClientRecord) × (m.changes ≡ logs_behind x.log notes) × KeepsRecords name x y notes old new)
-      (λ old new. (notes : List ClientRecord) × (n.changes ≡ logs_behind y.log notes) × KeepsRecords name y z notes old new)
-      (λ old new. (notes : List ClientRecord) × (m.changes ++ n.changes ≡ logs_behind x.log notes) × KeepsRecords name x z notes old new)
+      changes_then name x y z m.changes n.changes i j l
       (first (λ count among. none count (IsIn-left (Pulled count) m.pulls n.pulls among)))
       (second (λ count among. none count (IsIn-right (Pulled count) m.pulls n.pulls among)))
-      (λ a b c p q. (
-        p.0 ++ q.0,
-        ap (λ (logs : List Log). logs ++ n.changes) p.1
-            ∙ ap (λ (logs : List Log). logs_behind x.log p.0 ++ logs) (q.1 ∙ ap (λ (log : Log). logs_behind log q.0) p.2.leads)
-            ∙ sym (logs_passed x.log p.0 q.0),
-        records_then name x y z p.0 q.0 a b c p.2 q.2,
-      ))
 
   -- a line keeps its changes so
   pub notes_line : (route : Route) (x y : Sitting) (line : Result Line LineError) (answer : Option LineAnswer) (i j : Option Images) (trace : Trace) → LineTurn route (state_of x) line answer (state_of y) trace
-      → (has_pulled line answer ≡ false → KeepsChanges name x.client y.client i j) → NotesChanges name x.client y.client i j trace
-  notes_line route x y line answer i j trace turn kept = λ none.
-      told_as i j (KeepsRecords name x.client y.client (records_between x.client.log y.client.log))
-      (λ old new. (notes : List ClientRecord) × (trace.changes ≡ logs_behind x.client.log notes) × KeepsRecords name x.client y.client notes old new)
-      (kept (line_unpulled (state_of x) (state_of y) trace route line answer turn none))
-      (λ old new keeps. (records_between x.client.log y.client.log, line_noted (state_of x) (state_of y) trace route line answer turn none, keeps))
+      → (has_pulled line answer ≡ false → KeepsChanges name x.client y.client trace.changes i j) → NotesChanges name x.client y.client i j trace
+  notes_line route x y line answer i j trace turn kept = λ none. kept (line_unpulled (state_of x) (state_of y) trace route line answer turn none)
 
   -- from a client without a journal on
   pub notes_recorded : (x y : Client) (i j : Option Images) (trace : Trace) → x.journal ≡ None → NotesChanges name x y i j trace

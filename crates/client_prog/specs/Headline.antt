@@ -43,7 +43,7 @@ pub record Leaves (client : ℕ) (start log kept : Log) (entries : List Entry) (
   -- what is kept and the world fit together, so that the next run may begin here; and so does the log in memory
   pub in_step : InStep client kept new
   pub in_memory : InStep client log new
-  -- the server's last entry is not before the acknowledged one, at most one more than it, and none that is not kept
+  -- the server's last entry is not before the acknowledged one, at most eight behind it, and none that is not kept
   pub not_lower : kept.acked ≤ last_taken client new
   pub not_higher : last_taken client new ≤ kept.acked + ahead
   pub within : last_taken client new ≤ kept.acked + length kept.pending

@@ -1,13 +1,12 @@
 -- Words that only contracts below the whole run cite, of its input and of its lines.
 use Rattle.std.specs.Prelude.{◌≡◌, ℕ, false, List, [], ◌∷◌, Option, Result, Ok, Err, IfOk}
-use Rattle.outside.specs.Outside.{Told, Adds}
+use Rattle.outside.specs.Outside.{Adds}
 use Rattle.outside.specs.Keeper.{Images}
 use Rattle.mod_log.specs.Log.{Log}
-use Rattle.store_image.specs.declared.record.ClientRecord.{ClientRecord}
 use Rattle.client_core.specs.declared.route.Route.{Route}
 use Rattle.client_core.specs.Client.{Client}
 use Rattle.client_core.specs.Trace.{Trace}
-use Rattle.client_core.specs.Noting.{logs_behind, ReplacesNone, KeepsRecords}
+use Rattle.client_core.specs.Noting.{ReplacesNone, KeepsChanges}
 use Rattle.shell_lang.specs.Lines.{parts, unfinished, IsCutUpTo}
 use Rattle.client_prog.specs.declared.input.InputEnd.{InputEnd}
 use Rattle.client_prog.specs.declared.run.Stop.{Stop}
@@ -20,8 +19,7 @@ use Rattle.client_prog.specs.Run.{HasLines, StopsIn, WholeRun, asked_for, has_qu
 -- where no pull replaced the base, the changes were kept record by record
 abbrev pub NotesChanges : List ℕ → Client → Client → Option Images → Option Images → Trace → Type 0
 NotesChanges name before after images now trace =
-    ReplacesNone trace → Told images now (λ old new. (notes : List ClientRecord) × (trace.changes ≡ logs_behind before.log notes)
-    × KeepsRecords name before after notes old new)
+    ReplacesNone trace → KeepsChanges name before after trace.changes images now
 
 -- a session did what these turns say, and where it was not stopped, its changes were so kept
 abbrev pub WentNoting : {T E : Type 0} → Route → Result T E → (Log → Trace → Type 0) → Sitting → Sitting → Option Images

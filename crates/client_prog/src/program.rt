@@ -121,7 +121,7 @@ Options:
 
 const VERSION: &str = "\
 client 0.1.0
-frames: version 2; images: written: version 2; read: versions 1 and 2
+frames: version 3; images: written: version 2; read: versions 1 and 2
 kit: rattle-kit-13f logic dac8208d650f15bf
 ";
 

@@ -1,5 +1,5 @@
 -- The lines, the asks and the runs of a session make all of it.
-use Rattle.std.proofs.Common.{◌≡◌, ◌≢◌, ◌⊎◌, inl, inr, ℕ, zero, suc, Bool, true, false, nat_lt, List, [], ◌∷◌, ◌++◌, length, map, find, Option, None, Some, Result, Ok, Err, refl, sym, ◌∙◌, ap, subst, arith, append_assoc}
+use Rattle.std.proofs.Common.{◌≡◌, ◌≢◌, ◌⊎◌, inl, inr, ℕ, zero, suc, ◌+◌, Bool, true, false, nat_lt, List, [], ◌∷◌, ◌++◌, length, map, find, Option, None, Some, Result, Ok, Err, refl, sym, ◌∙◌, ap, subst, arith, append_assoc}
 use Rattle.std.proofs.lemmas.List.{append-nil}
 use Rattle.std.proofs.lemmas.Bool.Decides.{nat_tests}
 use Rattle.std.specs.declared.cmp.Ordering.{Ordering}
@@ -42,7 +42,7 @@ use Rattle.client_core.specs.declared.running.RunEnd.TheVariants as runs
 use Rattle.client_core.specs.Trace.{Trace, nothing, followed, asking, changing, logging, running}
 use Rattle.client_core.specs.Running.{IsRunOf, changes_of, first_clash, RanEnd, ran_trace, RunTurn}
 use Rattle.client_core.specs.Logging.{local_entry, LocalTurn}
-use Rattle.client_core.specs.Syncing.{store_of, IsFirst, IsNotDone, SettlesOperation, StoreIsDue, Ships, acknowledged_first, end_by, EntryTurn, Acknowledges, EndsSync, SyncTurn}
+use Rattle.client_core.specs.Syncing.{store_of, IsFirst, log_behind, end_by, IsNotDone, SettlesOperation, StoreIsDue, Ships, EntryTurn, Acknowledges, acknowledging, EndsSync, SyncTurn}
 use Rattle.client_core.specs.Pulling.{pull_of, IsFirstOlder, Meets, pull_change, PullsSnapshot, PullTurn}
 use Rattle.client_core.proofs.Going.{followed-nothing, followed-assoc}
 use Rattle.client_core.proofs.Runs.{ran_alone}
@@ -54,6 +54,8 @@ use Rattle.client_session.specs.Session.{SessionState, with_log, put_effect, mak
 use Rattle.client_session.specs.Laws.{AsksAndRunsMakeSessions}
 use Rattle.client_session.proofs.Counted.{local_other}
 use Rattle.client_session.proofs.Settlings.{same_settling}
+use Rattle.client_session.proofs.Acknowledged.{acknowledging_asks}
+use Rattle.client_session.proofs.Windows.{one_window}
 
 -- ---- the turn of an entry
 
@@ -87,58 +89,61 @@ module _ (client : ℕ) (route : Route) (entry : Entry) where
   done_or_due came ks bs xs ys done p (inl q) is = q.0 p.0 p.1 p.2
   done_or_due came ks bs xs ys done p (inr q) is = let same = same_operation came q.0 ks bs xs ys p q.2 is in subst IsNotDone (sym same.0 ∙ done) q.1
 
-  same_shipping : (came other : Option Message) (ks bs xs ys : List Ask) → Ships client route entry came ks → Ships client route entry other bs → ks ++ xs ≡ bs ++ ys → (came ≡ other) × (ks ≡ bs) × (xs ≡ ys)
-  same_shipping came other ks bs xs ys (inl p) (inl q) is = same_operation came other ks bs xs ys p.1 q.1 is
-  same_shipping came other ks bs xs ys (inl p) (inr q) is = absurd (done_or_due came ks q.0 xs (q.1 ++ ys) p.0 p.1 q.2 (is ∙ ap (λ (l : List Ask). l ++ ys) q.4 ∙ append_assoc q.0 q.1 ys))
-  same_shipping came other ks bs xs ys (inr p) (inl q) is = absurd (done_or_due other bs p.0 ys (p.1 ++ xs) q.0 q.1 p.2 (sym is ∙ ap (λ (l : List Ask). l ++ xs) p.4 ∙ append_assoc p.0 p.1 xs))
-  same_shipping came other ks bs xs ys (inr p) (inr q) is =
-      let whole : p.0 ++ (p.1 ++ xs) ≡ q.0 ++ (q.1 ++ ys) =
-      sym (append_assoc p.0 p.1 xs) ∙ sym (ap (λ (l : List Ask). l ++ xs) p.4) ∙ is ∙ ap (λ (l : List Ask). l ++ ys) q.4 ∙ append_assoc q.0 q.1 ys in
-      let before = same_due p.0 q.0 (p.1 ++ xs) (q.1 ++ ys) p.2 q.2 whole in
-      let store = same_settling Server route.server (store_of client entry) came other p.1 q.1 xs ys p.3 q.3 before.1 in
-      (store.0, p.4 ∙ ap (λ (l : List Ask). l ++ p.1) before.0 ∙ ap (λ (l : List Ask). q.0 ++ l) store.1 ∙ sym q.4, store.2)
+  module _ (pending : List Entry) where
+    same_shipping : (came other : Option Message) (ks bs xs ys : List Ask) → Ships client route pending entry came ks → Ships client route pending entry other bs → ks ++ xs ≡ bs ++ ys → (came ≡ other) × (ks ≡ bs) × (xs ≡ ys)
+    same_shipping came other ks bs xs ys (inl p) (inl q) is = same_operation came other ks bs xs ys p.1 q.1 is
+    same_shipping came other ks bs xs ys (inl p) (inr q) is = absurd (done_or_due came ks q.0 xs (q.1 ++ ys) p.0 p.1 q.3 (is ∙ ap (λ (l : List Ask). l ++ ys) q.6 ∙ append_assoc q.0 q.1 ys))
+    same_shipping came other ks bs xs ys (inr p) (inl q) is = absurd (done_or_due other bs p.0 ys (p.1 ++ xs) q.0 q.1 p.3 (sym is ∙ ap (λ (l : List Ask). l ++ xs) p.6 ∙ append_assoc p.0 p.1 xs))
+    same_shipping came other ks bs xs ys (inr p) (inr q) is =
+        let whole : p.0 ++ (p.1 ++ xs) ≡ q.0 ++ (q.1 ++ ys) =
+        sym (append_assoc p.0 p.1 xs) ∙ sym (ap (λ (l : List Ask). l ++ xs) p.6) ∙ is ∙ ap (λ (l : List Ask). l ++ ys) q.6 ∙ append_assoc q.0 q.1 ys in
+        let before = same_due p.0 q.0 (p.1 ++ xs) (q.1 ++ ys) p.3 q.3 whole in
+        let window : q.2 ≡ p.2 = one_window client route pending q.2 p.2 q.4 p.4 in
+        let settling : IsSettling Server route.server (store_of client entry.seq p.2) other q.1 = subst (λ (es : List Entry). IsSettling Server route.server (store_of client entry.seq es) other q.1) window q.5 in
+        let store = same_settling Server route.server (store_of client entry.seq p.2) came other p.1 q.1 xs ys p.5 settling before.1 in
+        (store.0, p.6 ∙ ap (λ (l : List Ask). l ++ p.1) before.0 ∙ ap (λ (l : List Ask). q.0 ++ l) store.1 ∙ sym q.6, store.2)
 
 module _ (client : ℕ) (route : Route) where
-  same_entry : (log : Log) (d e : Option SyncEnd) (ks bs xs ys : List Ask) → EntryTurn client route log d ks → EntryTurn client route log e bs → ks ++ xs ≡ bs ++ ys → (d ≡ e) × (ks ≡ bs) × (xs ≡ ys)
-  same_entry log d e ks bs xs ys p q is =
+  same_entry : (log a b : Log) (d e : Option SyncEnd) (ks bs xs ys : List Ask) → EntryTurn client route log a d ks → EntryTurn client route log b e bs → ks ++ xs ≡ bs ++ ys → (a ≡ b) × (d ≡ e) × (ks ≡ bs) × (xs ≡ ys)
+  same_entry log a b d e ks bs xs ys p q is =
       let one : p.entry ≡ q.entry = first_one log.pending p.entry q.entry p.first q.first in
-      let ships : Ships client route p.entry q.came bs = subst (λ (n : Entry). Ships client route n q.came bs) (sym one) q.ships in
-      let same = same_shipping client route p.entry p.came q.came ks bs xs ys p.ships ships is in
-      (sym p.end_is ∙ ap (λ (n : Entry). end_by n.seq p.came) one ∙ ap (end_by q.entry.seq) same.0 ∙ q.end_is, same.1, same.2)
+      let ships : Ships client route log.pending p.entry q.came bs = subst (λ (n : Entry). Ships client route log.pending n q.came bs) (sym one) q.ships in
+      let same = same_shipping client route p.entry log.pending p.came q.came ks bs xs ys p.ships ships is in
+      let after : a ≡ b = p.after_is ∙ ap (λ (came : Option Message). log_behind came log) same.0 ∙ sym q.after_is in
+      (after, sym p.end_is ∙ ap (λ (l : Log). end_by (l.acked + 1) p.came) after ∙ ap (end_by (b.acked + 1)) same.0 ∙ q.end_is, same.1, same.2)
 
 -- ---- acknowledgements, the first one first
 
 abbrev AcksOn : ℕ → Route → ℕ → Log → Log → Trace → Type 0
 AcksOn client route zero before after trace = (after ≡ before) × (trace ≡ nothing)
 AcksOn client route (suc count) before after trace =
-    (asks : List Ask) × (rest : Trace) × EntryTurn client route before None asks × AcksOn client route count (acknowledged_first before) after rest
-    × (trace ≡ followed (followed (asking asks) (changing (acknowledged_first before))) rest)
+    (middle : Log) × (asks : List Ask) × (rest : Trace) × EntryTurn client route before middle None asks × AcksOn client route count middle after rest
+    × (trace ≡ followed (followed (asking asks) (changing middle)) rest)
 
-acks_more : (client : ℕ) (route : Route) (count : ℕ) (before middle after : Log) (earlier : Trace) (asks : List Ask) → AcksOn client route count before middle earlier → EntryTurn client route middle None asks
-    → after ≡ acknowledged_first middle → AcksOn client route (suc count) before after (followed earlier (followed (asking asks) (changing after)))
-acks_more client route zero before middle after earlier asks first turn is =
-    let same : after ≡ acknowledged_first before = is ∙ ap acknowledged_first first.0 in (
-      asks,
-      nothing,
-      subst (λ (log : Log). EntryTurn client route log None asks) first.0 turn,
-      (same, refl),
-      ap (λ (t : Trace). followed t (followed (asking asks) (changing after))) first.1 ∙ ap (λ (log : Log). followed (asking asks) (changing log)) same
-          ∙ followed-nothing (followed (asking asks) (changing (acknowledged_first before))),
-    )
-acks_more client route (suc count) before middle after earlier asks first turn is = (
+acks_more : (client : ℕ) (route : Route) (count : ℕ) (before middle after : Log) (earlier : Trace) (asks : List Ask) → AcksOn client route count before middle earlier → EntryTurn client route middle after None asks
+    → AcksOn client route (suc count) before after (followed earlier (followed (asking asks) (changing after)))
+acks_more client route zero before middle after earlier asks first turn = (
+  after,
+  asks,
+  nothing,
+  subst (λ (log : Log). EntryTurn client route log after None asks) first.0 turn,
+  (refl, refl),
+  ap (λ (t : Trace). followed t (followed (asking asks) (changing after))) first.1 ∙ followed-nothing (followed (asking asks) (changing after)),
+)
+acks_more client route (suc count) before middle after earlier asks first turn = (
   first.0,
-  followed first.1 (followed (asking asks) (changing after)),
-  first.2,
-  acks_more client route count (acknowledged_first before) middle after first.1 asks first.3 turn is,
-  ap (λ (t : Trace). followed t (followed (asking asks) (changing after))) first.4
-      ∙ followed-assoc (followed (asking first.0) (changing (acknowledged_first before))) first.1 (followed (asking asks) (changing after)),
+  first.1,
+  followed first.2 (followed (asking asks) (changing after)),
+  first.3,
+  acks_more client route count first.0 middle after first.2 asks first.4 turn,
+  ap (λ (t : Trace). followed t (followed (asking asks) (changing after))) first.5 ∙ followed-assoc (followed (asking first.1) (changing first.0)) first.2 (followed (asking asks) (changing after)),
 )
 
 acks_on : (client : ℕ) (route : Route) (count : ℕ) (before after : Log) (trace : Trace) → Acknowledges client route count before after trace → AcksOn client route count before after trace
 acks_on client route zero before after trace turn = turn
 acks_on client route (suc count) before after trace turn =
-    subst (λ (t : Trace). AcksOn client route (suc count) before after t) (sym turn.6)
-    (acks_more client route count before turn.0 after turn.1 turn.2 (acks_on client route count before turn.0 turn.1 turn.3) turn.4 turn.5)
+    subst (λ (t : Trace). AcksOn client route (suc count) before after t) (sym turn.5)
+    (acks_more client route count before turn.0 after turn.1 turn.2 (acks_on client route count before turn.0 turn.1 turn.3) turn.4)
 
 cons_asks : (asks : List Ask) (log : Log) (rest trace : Trace) (ls xs : List Ask) → trace ≡ followed (followed (asking asks) (changing log)) rest → (trace.asks ++ ls) ++ xs ≡ asks ++ ((rest.asks ++ ls) ++ xs)
 cons_asks asks log rest trace ls xs is =
@@ -147,36 +152,48 @@ cons_asks asks log rest trace ls xs is =
 
 -- ---- a sync
 
+-- what a last turn asks
+last_asks : (before after : Log) (asks : List Ask) (trace : Trace) → trace ≡ followed (asking asks) (acknowledging before after) → trace.asks ≡ asks
+last_asks before after asks trace is = ap (λ (t : Trace). t.asks) is ∙ ap (λ (l : List Ask). asks ++ l) (acknowledging_asks before after) ∙ append-nil asks
+
 module _ (client : ℕ) (route : Route) where
-  same_end : (log : Log) (d e : SyncEnd) (ls ms xs ys : List Ask) → EndsSync client route log d ls → EndsSync client route log e ms → ls ++ xs ≡ ms ++ ys → (ls ≡ ms) × (d ≡ e) × (xs ≡ ys)
-  same_end log d e ls ms xs ys (inl p) (inl q) is = (p.2 ∙ sym q.2, p.1 ∙ sym q.1, sym (ap (λ (l : List Ask). l ++ xs) p.2) ∙ is ∙ ap (λ (l : List Ask). l ++ ys) q.2)
-  same_end log d e ls ms xs ys (inl p) (inr q) is = absurd (none_first log q.entry p.0 q.first)
-  same_end log d e ls ms xs ys (inr p) (inl q) is = absurd (none_first log p.entry q.0 p.first)
-  same_end log d e ls ms xs ys (inr p) (inr q) is = let same = same_entry client route log (Some d) (Some e) ls ms xs ys p q is in (same.1, cc (same.0), same.2)
+  same_end : (log a b : Log) (d e : SyncEnd) (u v : Trace) (xs ys : List Ask) → EndsSync client route log d a u → EndsSync client route log e b v → u.asks ++ xs ≡ v.asks ++ ys → (a ≡ b) × (u ≡ v) × (d ≡ e) × (xs ≡ ys)
+  same_end log a b d e u v xs ys (inl p) (inl q) is =
+      (p.2 ∙ sym q.2, p.3 ∙ sym q.3, p.1 ∙ sym q.1, sym (ap (λ (r : Trace). r.asks ++ xs) p.3) ∙ is ∙ ap (λ (r : Trace). r.asks ++ ys) q.3)
+  same_end log a b d e u v xs ys (inl p) (inr q) is = absurd (none_first log q.1.entry p.0 q.1.first)
+  same_end log a b d e u v xs ys (inr p) (inl q) is = absurd (none_first log p.1.entry q.0 p.1.first)
+  same_end log a b d e u v xs ys (inr p) (inr q) is =
+      let whole : p.0 ++ xs ≡ q.0 ++ ys = sym (ap (λ (l : List Ask). l ++ xs) (last_asks log a p.0 u p.2)) ∙ is ∙ ap (λ (l : List Ask). l ++ ys) (last_asks log b q.0 v q.2) in
+      let same = same_entry client route log a b (Some d) (Some e) p.0 q.0 xs ys p.1 q.1 whole in
+      let traces : u ≡ v = p.2 ∙ ap (λ (l : List Ask). followed (asking l) (acknowledging log a)) same.2 ∙ ap (λ (l : Log). followed (asking q.0) (acknowledging log l)) same.0 ∙ sym q.2 in
+      (same.0, traces, cc (same.1), same.3)
 
-  ends_or_goes : (log : Log) (d : SyncEnd) (ls ks xs ys : List Ask) → EndsSync client route log d ls → EntryTurn client route log None ks → ls ++ xs ≡ ks ++ ys → ⊥
-  ends_or_goes log d ls ks xs ys (inl p) turn is = none_first log turn.entry p.0 turn.first
-  ends_or_goes log d ls ks xs ys (inr p) turn is = absurd (cc ((same_entry client route log (Some d) None ls ks xs ys p turn is).0))
+  ends_or_goes : (log a b : Log) (d : SyncEnd) (u : Trace) (ks xs ys : List Ask) → EndsSync client route log d a u → EntryTurn client route log b None ks → u.asks ++ xs ≡ ks ++ ys → ⊥
+  ends_or_goes log a b d u ks xs ys (inl p) turn is = none_first log turn.entry p.0 turn.first
+  ends_or_goes log a b d u ks xs ys (inr p) turn is =
+      let whole : p.0 ++ xs ≡ ks ++ ys = sym (ap (λ (l : List Ask). l ++ xs) (last_asks log a p.0 u p.2)) ∙ is in
+      absurd (cc ((same_entry client route log a b (Some d) None p.0 ks xs ys p.1 turn whole).1))
 
-  same_sync : (n m : ℕ) (before a b : Log) (s t : Trace) (ls ms xs ys : List Ask) (d e : SyncEnd) → AcksOn client route n before a s → EndsSync client route a d ls → AcksOn client route m before b t
-      → EndsSync client route b e ms → (s.asks ++ ls) ++ xs ≡ (t.asks ++ ms) ++ ys → (a ≡ b) × (s ≡ t) × (ls ≡ ms) × (d ≡ e) × (xs ≡ ys)
-  same_sync zero zero before a b s t ls ms xs ys d e p end_p q end_q is =
-      let whole : ls ++ xs ≡ ms ++ ys = sym (ap (λ (r : Trace). (r.asks ++ ls) ++ xs) p.1) ∙ is ∙ ap (λ (r : Trace). (r.asks ++ ms) ++ ys) q.1 in
-      let same = same_end before d e ls ms xs ys (subst (λ (log : Log). EndsSync client route log d ls) p.0 end_p) (subst (λ (log : Log). EndsSync client route log e ms) q.0 end_q) whole in
-      (p.0 ∙ sym q.0, p.1 ∙ sym q.1, same.0, same.1, same.2)
-  same_sync zero (suc m) before a b s t ls ms xs ys d e p end_p q end_q is =
-      absurd (ends_or_goes before d ls q.0 xs ((q.1.asks ++ ms) ++ ys) (subst (λ (log : Log). EndsSync client route log d ls) p.0 end_p) q.2
-      (sym (ap (λ (r : Trace). (r.asks ++ ls) ++ xs) p.1) ∙ is ∙ cons_asks q.0 (acknowledged_first before) q.1 t ms ys q.4))
-  same_sync (suc n) zero before a b s t ls ms xs ys d e p end_p q end_q is =
-      absurd (ends_or_goes before e ms p.0 ys ((p.1.asks ++ ls) ++ xs) (subst (λ (log : Log). EndsSync client route log e ms) q.0 end_q) p.2
-      (sym (ap (λ (r : Trace). (r.asks ++ ms) ++ ys) q.1) ∙ sym is ∙ cons_asks p.0 (acknowledged_first before) p.1 s ls xs p.4))
-  same_sync (suc n) (suc m) before a b s t ls ms xs ys d e p end_p q end_q is =
-      let next : Log = acknowledged_first before in
-      let whole : p.0 ++ ((p.1.asks ++ ls) ++ xs) ≡ q.0 ++ ((q.1.asks ++ ms) ++ ys) = sym (cons_asks p.0 next p.1 s ls xs p.4) ∙ is ∙ cons_asks q.0 next q.1 t ms ys q.4 in
-      let same = same_entry client route before None None p.0 q.0 ((p.1.asks ++ ls) ++ xs) ((q.1.asks ++ ms) ++ ys) p.2 q.2 whole in
-      let rest = same_sync n m next a b p.1 q.1 ls ms xs ys d e p.3 end_p q.3 end_q same.2 in (
+  same_sync : (n m : ℕ) (before a b c f : Log) (s t u v : Trace) (xs ys : List Ask) (d e : SyncEnd) → AcksOn client route n before a s → EndsSync client route a d c u → AcksOn client route m before b t
+      → EndsSync client route b e f v → (s.asks ++ u.asks) ++ xs ≡ (t.asks ++ v.asks) ++ ys → (c ≡ f) × (s ≡ t) × (u ≡ v) × (d ≡ e) × (xs ≡ ys)
+  same_sync zero zero before a b c f s t u v xs ys d e p end_p q end_q is =
+      let whole : u.asks ++ xs ≡ v.asks ++ ys = sym (ap (λ (r : Trace). (r.asks ++ u.asks) ++ xs) p.1) ∙ is ∙ ap (λ (r : Trace). (r.asks ++ v.asks) ++ ys) q.1 in
+      let same = same_end before c f d e u v xs ys (subst (λ (log : Log). EndsSync client route log d c u) p.0 end_p) (subst (λ (log : Log). EndsSync client route log e f v) q.0 end_q) whole in
+      (same.0, p.1 ∙ sym q.1, same.1, same.2, same.3)
+  same_sync zero (suc m) before a b c f s t u v xs ys d e p end_p q end_q is =
+      absurd (ends_or_goes before c q.0 d u q.1 xs ((q.2.asks ++ v.asks) ++ ys) (subst (λ (log : Log). EndsSync client route log d c u) p.0 end_p) q.3
+      (sym (ap (λ (r : Trace). (r.asks ++ u.asks) ++ xs) p.1) ∙ is ∙ cons_asks q.1 q.0 q.2 t v.asks ys q.5))
+  same_sync (suc n) zero before a b c f s t u v xs ys d e p end_p q end_q is =
+      absurd (ends_or_goes before f p.0 e v p.1 ys ((p.2.asks ++ u.asks) ++ xs) (subst (λ (log : Log). EndsSync client route log e f v) q.0 end_q) p.3
+      (sym (ap (λ (r : Trace). (r.asks ++ v.asks) ++ ys) q.1) ∙ sym is ∙ cons_asks p.1 p.0 p.2 s u.asks xs p.5))
+  same_sync (suc n) (suc m) before a b c f s t u v xs ys d e p end_p q end_q is =
+      let whole : p.1 ++ ((p.2.asks ++ u.asks) ++ xs) ≡ q.1 ++ ((q.2.asks ++ v.asks) ++ ys) = sym (cons_asks p.1 p.0 p.2 s u.asks xs p.5) ∙ is ∙ cons_asks q.1 q.0 q.2 t v.asks ys q.5 in
+      let same = same_entry client route before p.0 q.0 None None p.1 q.1 ((p.2.asks ++ u.asks) ++ xs) ((q.2.asks ++ v.asks) ++ ys) p.3 q.3 whole in
+      let later : AcksOn client route m p.0 b q.2 = subst (λ (log : Log). AcksOn client route m log b q.2) (sym same.0) q.4 in
+      let rest = same_sync n m p.0 a b c f p.2 q.2 u v xs ys d e p.4 end_p later end_q same.3 in (
         rest.0,
-        p.4 ∙ ap (λ (ks : List Ask). followed (followed (asking ks) (changing next)) p.1) same.1 ∙ ap (λ (r : Trace). followed (followed (asking q.0) (changing next)) r) rest.1 ∙ sym q.4,
+        p.5 ∙ ap (λ (ks : List Ask). followed (followed (asking ks) (changing p.0)) p.2) same.2 ∙ ap (λ (log : Log). followed (followed (asking q.1) (changing log)) p.2) same.0
+            ∙ ap (λ (r : Trace). followed (followed (asking q.1) (changing q.0)) r) rest.1 ∙ sym q.5,
         rest.2,
         rest.3,
         rest.4,
@@ -185,9 +202,9 @@ module _ (client : ℕ) (route : Route) where
   same_sync_turn : (before a b : Log) (d e : SyncEnd) (p q : Trace) (xs ys : List Ask) → SyncTurn client route before d a p → SyncTurn client route before e b q → p.asks ++ xs ≡ q.asks ++ ys
       → (d ≡ e) × (a ≡ b) × (p ≡ q) × (xs ≡ ys)
   same_sync_turn before a b d e p q xs ys s t is =
-      let whole : (s.1.asks ++ s.2) ++ xs ≡ (t.1.asks ++ t.2) ++ ys = sym (ap (λ (r : Trace). r.asks ++ xs) s.5) ∙ is ∙ ap (λ (r : Trace). r.asks ++ ys) t.5 in
-      let same = same_sync s.0 t.0 before a b s.1 t.1 s.2 t.2 xs ys d e (acks_on client route s.0 before a s.1 s.3) s.4 (acks_on client route t.0 before b t.1 t.3) t.4 whole in
-      (same.3, same.0, s.5 ∙ ap (λ (r : Trace). followed r (asking s.2)) same.1 ∙ ap (λ (l : List Ask). followed t.1 (asking l)) same.2 ∙ sym t.5, same.4)
+      let whole : (s.2.asks ++ s.3.asks) ++ xs ≡ (t.2.asks ++ t.3.asks) ++ ys = sym (ap (λ (r : Trace). r.asks ++ xs) s.6) ∙ is ∙ ap (λ (r : Trace). r.asks ++ ys) t.6 in
+      let same = same_sync s.0 t.0 before s.1 t.1 a b s.2 t.2 s.3 t.3 xs ys d e (acks_on client route s.0 before s.1 s.2 s.4) s.5 (acks_on client route t.0 before t.1 t.2 t.4) t.5 whole in
+      (same.3, same.0, s.6 ∙ ap (λ (r : Trace). followed r s.3) same.1 ∙ ap (followed t.2) same.2 ∙ sym t.6, same.4)
 
 -- ---- a pull
 

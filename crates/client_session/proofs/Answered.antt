@@ -1,8 +1,9 @@
 -- How the syncs of a session are answered, told from the replies to its asks.
-use Rattle.std.proofs.Common.{◌≡◌, inl, inr, ⊎_elim, ℕ, ◌+◌, ◌*◌, ◌-◌, ◌<◌, ◌≤◌, List, [], ◌∷◌, ◌++◌, length, drop, Option, None, Some, Result, Ok, Err, refl, sym, ◌∙◌, ap, subst, arith}
+use Rattle.std.proofs.Common.{◌≡◌, inl, inr, ⊎_elim, ℕ, zero, suc, true, ◌+◌, ◌*◌, ◌-◌, ◌<◌, ◌≤◌, List, [], ◌∷◌, ◌++◌, length, drop, Option, None, Some, Result, Ok, Err, refl, sym, ◌∙◌, ap, subst, arith}
 use Rattle.std.specs.Prelude.{cond}
 use Rattle.std.specs.List.{count_by}
 use Rattle.std.proofs.lemmas.List.Sums.{sum_by-cons}
+use Rattle.std.proofs.lemmas.Bool.Decides.{nat_tests}
 use Rattle.file_paths.specs.Path.{FilePath, resolved}
 use Rattle.file_paths.specs.declared.path.PathError.{PathError}
 use Rattle.file_paths.specs.declared.path.PathError.TheVariants as paths
@@ -25,6 +26,7 @@ use Rattle.mod_log.specs.declared.log.LogError.TheVariants as logs
 use Rattle.mod_log.specs.Log.{Log, IsLog, AreEntriesOf, tree_of}
 use Rattle.wire_frames.specs.declared.message.Message.{Message}
 use Rattle.wire_frames.specs.declared.message.Message.TheVariants as messages
+use Rattle.wire_frames.specs.Frame.{number_of, refused_rule}
 use Rattle.world_rules.specs.declared.asking.Peer.{Peer}
 use Rattle.world_rules.specs.declared.asking.Peer.TheVariants.{Server}
 use Rattle.world_rules.specs.declared.asking.Ask.{Ask}
@@ -41,7 +43,7 @@ use Rattle.client_core.specs.declared.running.RunEnd.{RunEnd}
 use Rattle.client_core.specs.declared.running.RunEnd.TheVariants as runs
 use Rattle.client_core.specs.Trace.{Trace}
 use Rattle.world_rules.proofs.Settled.{failed-append, failed-failures}
-use Rattle.client_core.specs.Syncing.{store_of, IsFirst, Ships, end_by, EndsSync, SyncTurn}
+use Rattle.client_core.specs.Syncing.{store_of, IsFirst, Ships, end_by, acknowledging, EndsSync, SyncTurn}
 use Rattle.client_core.specs.Pulling.{pull_of, PullTurn}
 use Rattle.client_core.proofs.Licensing.{unanswered_failed}
 use Rattle.shell_lang.specs.declared.line.Line.{Line}
@@ -52,7 +54,7 @@ use Rattle.shell_lang.specs.declared.answer.LineAnswer.TheVariants as answers
 use Rattle.client_session.specs.Session.{SessionState, is_unanswered, put_effect, make_effect, remove_effect, move_effect, sync_answer, pull_answer, local_answer, word_answer, capture_answer, job_answer, run_answer, status_answer, LogTurn, CommandTurn, LineTurn, Chain, LeavesPending}
 use Rattle.client_session.specs.Looking.{found_at, shown, listed, entered, about, cat_answer, list_answer, enter_answer}
 use Rattle.client_session.specs.Laws.{IsChange, ChangesLeadTo, UnansweredLinesCostAsks}
-use Rattle.client_session.proofs.Changing.{line_leads, line_number}
+use Rattle.client_session.proofs.Changing.{acknowledged_leads, line_leads, line_number}
 use Rattle.client_session.proofs.Pulls.{only_pulls}
 
 -- ---- only a sync is answered so
@@ -205,89 +207,100 @@ stand_parts packets xs ys all = (
   λ to address request reply among. all to address request reply (IsIn-right _ xs ys among),
 )
 
-module _ (packets : List Message) (client : ℕ) (route : Route) (after : Log) (entry : Entry) (asks : List Ask) (stand : Stand packets asks) where
+-- the store of these entries is settled
+module _ (packets : List Message) (client : ℕ) (route : Route) (seq : ℕ) (chosen : List Entry) (asks : List Ask) (stand : Stand packets asks) where
+  abbrev Settles : Option Message → Type 0
+  Settles reply = IsSettling Server route.server (store_of client seq chosen) reply asks
+
   -- the reply of a settling stands among the messages
-  reply_stands : (reply : Message) → IsSettling Server route.server (store_of client entry) (Some reply) asks → IsIn reply packets
+  reply_stands : (reply : Message) → Settles (Some reply) → IsIn reply packets
   reply_stands reply settling =
-      stand Server route.server (store_of client entry) reply
-      (subst (IsIn (ask_of Server route.server (store_of client entry) (Reply reply))) (sym settling.4)
-      (IsIn-right _ (failures Server route.server (store_of client entry) settling.0) (ask_of Server route.server (store_of client entry) (Reply reply) ∷ []) (inl refl)))
+      let store : Message = store_of client seq chosen in
+      stand Server route.server store reply
+      (subst (IsIn (ask_of Server route.server store (Reply reply))) (sym settling.4)
+      (IsIn-right _ (failures Server route.server store settling.0) (ask_of Server route.server store (Reply reply) ∷ []) (inl refl)))
 
   -- it tells no gap
-  not_a_gap : (reply : Option Message) (seq last : ℕ) → Gapless client packets → IsSettling Server route.server (store_of client entry) reply asks → end_by entry.seq reply ≡ Some (syncs.Behind seq last) → ⊥
-  not_a_gap None seq last gapless settling is = absurd (cc (is))
-  not_a_gap (Some (messages.Accepted of n)) seq last gapless settling is = absurd (cc (is))
-  not_a_gap (Some (messages.Stale of n path theirs ours)) seq last gapless settling is = absurd (cc (is))
-  not_a_gap (Some (messages.Unfit of n index fault)) seq last gapless settling is = absurd (cc (is))
-  not_a_gap (Some (messages.Full of n index fault)) seq last gapless settling is = absurd (cc (is))
-  not_a_gap (Some (messages.Gap of n beyond)) seq last gapless settling is =
-      gapless n beyond (subst (λ (c : ℕ). IsIn (messages.Gap c n beyond) packets) (sym settling.3.1) (reply_stands (messages.Gap of n beyond) settling))
-  not_a_gap (Some (messages.Store of n effects base)) seq last gapless settling is = settling.3.0
-  not_a_gap (Some (messages.Pull of n)) seq last gapless settling is = settling.3.0
-  not_a_gap (Some (messages.Operate of sketched)) seq last gapless settling is = settling.3.0
-  not_a_gap (Some (messages.Done of n)) seq last gapless settling is = settling.3.0
-  not_a_gap (Some (messages.Declined of n why)) seq last gapless settling is = settling.3.0
-  not_a_gap (Some (messages.Snapshot of n then seen)) seq last gapless settling is = settling.3.0
-  not_a_gap (Some (messages.Malformed code offset)) seq last gapless settling is = settling.3.0
+  not_a_gap : (number : ℕ) (reply : Option Message) (n last : ℕ) → Gapless client packets → Settles reply → end_by number reply ≡ Some (syncs.Behind n last) → ⊥
+  not_a_gap number None n last gapless settling is = absurd (cc (is))
+  not_a_gap number (Some (messages.Accepted of m upto)) n last gapless settling is = absurd (cc (is))
+  not_a_gap number (Some (messages.Stale of m upto path theirs ours)) n last gapless settling is = absurd (cc (is))
+  not_a_gap number (Some (messages.Unfit of m upto index fault)) n last gapless settling is = absurd (cc (is))
+  not_a_gap number (Some (messages.Full of m upto index fault)) n last gapless settling is = absurd (cc (is))
+  not_a_gap number (Some (messages.Gap of m beyond)) n last gapless settling is =
+      gapless m beyond (subst (λ (c : ℕ). IsIn (messages.Gap c m beyond) packets) (sym settling.3.1) (reply_stands (messages.Gap of m beyond) settling))
+  not_a_gap number (Some (messages.Store of m parts)) n last gapless settling is = settling.3.0
+  not_a_gap number (Some (messages.Pull of m)) n last gapless settling is = settling.3.0
+  not_a_gap number (Some (messages.Operate of sketched)) n last gapless settling is = settling.3.0
+  not_a_gap number (Some (messages.Done of m)) n last gapless settling is = settling.3.0
+  not_a_gap number (Some (messages.Declined of m why)) n last gapless settling is = settling.3.0
+  not_a_gap number (Some (messages.Snapshot of m then seen)) n last gapless settling is = settling.3.0
+  not_a_gap number (Some (messages.Malformed code offset)) n last gapless settling is = settling.3.0
 
-  -- a refusal would stand among them
-  refused_so : (from : ℕ) (reply : Message) → Unrefused client from packets → from < entry.seq → IsSettling Server route.server (store_of client entry) (Some reply) asks → IsRefusal client entry.seq reply → ⊥
-  refused_so from reply none above settling refuses = omega (arith, above, none entry.seq reply refuses (reply_stands reply settling))
+  -- a refusal, which is of no entry before those of the store, would stand among them
+  refused_so : (from upto : ℕ) (reply : Message) → Unrefused client from packets → from < seq → Settles (Some reply) → refused_rule (number_of reply) upto ≡ true → IsRefusal client (upto + 1) reply → ⊥
+  refused_so from upto reply none above settling rule refuses =
+      let most = none (upto + 1) reply refuses (reply_stands reply settling) in
+      let least : number_of reply ≤ upto + 1 = grind (arith, nat_tests) in
+      omega (arith, above, most, least, settling.3.2)
 
-  -- where none failed, and nothing refuses the entry, the settling ends no sync
-  accepted : (from : ℕ) (reply : Option Message) (end : SyncEnd) → Gapless client packets → Unrefused client from packets → from < entry.seq → failed_asks asks ≡ 0
-      → IsSettling Server route.server (store_of client entry) reply asks → end_by entry.seq reply ≡ Some end → ⊥
-  accepted from None end gapless none above calm settling is =
-      omega (arith, calm, ap failed_asks settling, failed-failures Server route.server (store_of client entry) 8)
-  accepted from (Some (messages.Accepted of n)) end gapless none above calm settling is = absurd (cc (is))
-  accepted from (Some (messages.Stale of n path theirs ours)) end gapless none above calm settling is =
-      refused_so from (messages.Stale of n path theirs ours) none above settling (sym settling.3.1, sym settling.3.2)
-  accepted from (Some (messages.Unfit of n index fault)) end gapless none above calm settling is = refused_so from (messages.Unfit of n index fault) none above settling (sym settling.3.1, sym settling.3.2)
-  accepted from (Some (messages.Full of n index fault)) end gapless none above calm settling is = refused_so from (messages.Full of n index fault) none above settling (sym settling.3.1, sym settling.3.2)
-  accepted from (Some (messages.Gap of n beyond)) end gapless none above calm settling is =
-      gapless n beyond (subst (λ (c : ℕ). IsIn (messages.Gap c n beyond) packets) (sym settling.3.1) (reply_stands (messages.Gap of n beyond) settling))
-  accepted from (Some (messages.Store of n effects base)) end gapless none above calm settling is = settling.3.0
-  accepted from (Some (messages.Pull of n)) end gapless none above calm settling is = settling.3.0
-  accepted from (Some (messages.Operate of sketched)) end gapless none above calm settling is = settling.3.0
-  accepted from (Some (messages.Done of n)) end gapless none above calm settling is = settling.3.0
-  accepted from (Some (messages.Declined of n why)) end gapless none above calm settling is = settling.3.0
-  accepted from (Some (messages.Snapshot of n then seen)) end gapless none above calm settling is = settling.3.0
-  accepted from (Some (messages.Malformed code offset)) end gapless none above calm settling is = settling.3.0
+  -- where none failed, and nothing refuses an entry of the store, the settling ends no sync
+  accepted : (from number : ℕ) (reply : Option Message) (end : SyncEnd) → Gapless client packets → Unrefused client from packets → from < seq → failed_asks asks ≡ 0 → Settles reply → end_by number reply ≡ Some end → ⊥
+  accepted from number None end gapless none above calm settling is =
+      let store : Message = store_of client seq chosen in omega (arith, calm, ap failed_asks settling, failed-failures Server route.server store 8)
+  accepted from number (Some (messages.Accepted of m upto)) end gapless none above calm settling is = absurd (cc (is))
+  accepted from number (Some (messages.Stale of m upto path theirs ours)) end gapless none above calm settling is =
+      refused_so from upto (messages.Stale of m upto path theirs ours) none above settling settling.2.body_fits.0.1 (sym settling.3.1, refl)
+  accepted from number (Some (messages.Unfit of m upto index fault)) end gapless none above calm settling is =
+      refused_so from upto (messages.Unfit of m upto index fault) none above settling settling.2.body_fits.0.1 (sym settling.3.1, refl)
+  accepted from number (Some (messages.Full of m upto index fault)) end gapless none above calm settling is =
+      refused_so from upto (messages.Full of m upto index fault) none above settling settling.2.body_fits.0.1 (sym settling.3.1, refl)
+  accepted from number (Some (messages.Gap of m beyond)) end gapless none above calm settling is =
+      gapless m beyond (subst (λ (c : ℕ). IsIn (messages.Gap c m beyond) packets) (sym settling.3.1) (reply_stands (messages.Gap of m beyond) settling))
+  accepted from number (Some (messages.Store of m parts)) end gapless none above calm settling is = settling.3.0
+  accepted from number (Some (messages.Pull of m)) end gapless none above calm settling is = settling.3.0
+  accepted from number (Some (messages.Operate of sketched)) end gapless none above calm settling is = settling.3.0
+  accepted from number (Some (messages.Done of m)) end gapless none above calm settling is = settling.3.0
+  accepted from number (Some (messages.Declined of m why)) end gapless none above calm settling is = settling.3.0
+  accepted from number (Some (messages.Snapshot of m then seen)) end gapless none above calm settling is = settling.3.0
+  accepted from number (Some (messages.Malformed code offset)) end gapless none above calm settling is = settling.3.0
 
--- ---- how an entry is shipped
+-- ---- how what is pending is shipped
 
 -- the store that is settled last, or an operation that is done
-module _ (packets : List Message) (client : ℕ) (route : Route) (after : Log) (entry : Entry) (asks : List Ask) (stand : Stand packets asks) where
-  ships_no_gap : (came : Option Message) (seq last : ℕ) → Gapless client packets → Ships client route entry came asks → end_by entry.seq came ≡ Some (syncs.Behind seq last) → ⊥
-  ships_no_gap came seq last gapless (inl done) is = absurd (cc (sym (ap (end_by entry.seq) done.0) ∙ is))
-  ships_no_gap came seq last gapless (inr stored) is =
-      not_a_gap packets client route after entry stored.1 (stand_parts packets stored.0 stored.1 (subst (Stand packets) stored.4 stand)).1 came seq last gapless stored.3 is
+module _ (packets : List Message) (client : ℕ) (route : Route) (pending : List Entry) (entry : Entry) (asks : List Ask) (stand : Stand packets asks) where
+  ships_no_gap : (number : ℕ) (came : Option Message) (seq last : ℕ) → Gapless client packets → Ships client route pending entry came asks → end_by number came ≡ Some (syncs.Behind seq last) → ⊥
+  ships_no_gap number came seq last gapless (inl done) is = absurd (cc (sym (ap (end_by number) done.0) ∙ is))
+  ships_no_gap number came seq last gapless (inr stored) is =
+      not_a_gap packets client route entry.seq stored.2 stored.1 (stand_parts packets stored.0 stored.1 (subst (Stand packets) stored.6 stand)).1 number came seq last gapless stored.5 is
 
-  shipped : (from : ℕ) (came : Option Message) (end : SyncEnd) → Gapless client packets → Unrefused client from packets → from < entry.seq → failed_asks asks ≡ 0 → Ships client route entry came asks
-      → end_by entry.seq came ≡ Some end → ⊥
-  shipped from came end gapless none above calm (inl done) is = absurd (cc (sym (ap (end_by entry.seq) done.0) ∙ is))
-  shipped from came end gapless none above calm (inr stored) is =
-      let sum : failed_asks (stored.0 ++ stored.1) ≡ 0 = subst (λ (asks : List Ask). failed_asks asks ≡ 0) stored.4 calm in
-      accepted packets client route after entry stored.1 (stand_parts packets stored.0 stored.1 (subst (Stand packets) stored.4 stand)).1 from came end gapless none above
-      (omega (arith, sum, failed-append stored.0 stored.1)) stored.3 is
+  shipped : (from number : ℕ) (came : Option Message) (end : SyncEnd) → Gapless client packets → Unrefused client from packets → from < entry.seq → failed_asks asks ≡ 0 → Ships client route pending entry came asks
+      → end_by number came ≡ Some end → ⊥
+  shipped from number came end gapless none above calm (inl done) is = absurd (cc (sym (ap (end_by number) done.0) ∙ is))
+  shipped from number came end gapless none above calm (inr stored) is =
+      let sum : failed_asks (stored.0 ++ stored.1) ≡ 0 = subst (λ (asks : List Ask). failed_asks asks ≡ 0) stored.6 calm in
+      accepted packets client route entry.seq stored.2 stored.1 (stand_parts packets stored.0 stored.1 (subst (Stand packets) stored.6 stand)).1 from number came end gapless none above
+      (omega (arith, sum, failed-append stored.0 stored.1)) stored.5 is
 
 -- ---- an honest server
 
 module _ (packets : List Message) (client : ℕ) (gapless : Gapless client packets) (route : Route) where
-  ends_unbehind : (after : Log) (end : SyncEnd) (asks : List Ask) → Stand packets asks → EndsSync client route after end asks → (seq last : ℕ) → end ≡ syncs.Behind seq last → ⊥
-  ends_unbehind after end asks stand (inl synced) seq last is = absurd (cc (sym synced.1 ∙ is))
-  ends_unbehind after end asks stand (inr ended) seq last is =
-      ships_no_gap packets client route after ended.entry asks stand ended.came seq last gapless ended.ships (ended.end_is ∙ ap (λ (e : SyncEnd). Some e) is)
+  ends_unbehind : (before : Log) (end : SyncEnd) (after : Log) (trace : Trace) → Stand packets trace.asks → EndsSync client route before end after trace → (seq last : ℕ) → end ≡ syncs.Behind seq last → ⊥
+  ends_unbehind before end after trace stand (inl synced) seq last is = absurd (cc (sym synced.1 ∙ is))
+  ends_unbehind before end after trace stand (inr ended) seq last is =
+      let asked : Stand packets (ended.0 ++ (acknowledging before after).asks) = subst (λ (t : Trace). Stand packets t.asks) ended.2 stand in
+      ships_no_gap packets client route before.pending ended.1.entry ended.0 (stand_parts packets ended.0 (acknowledging before after).asks asked).0 (after.acked + 1) ended.1.came seq last gapless ended.1.ships
+      (ended.1.end_is ∙ ap (λ (e : SyncEnd). Some e) is)
 
-  unbehind : (after : Log) (end : SyncEnd) (asks : List Ask) → Stand packets asks → EndsSync client route after end asks → (seq last : ℕ) → sync_answer end ≡ Some (answers.Behind seq last) → ⊥
-  unbehind after (syncs.Behind n l) asks stand ended seq last is = ends_unbehind after (syncs.Behind n l) asks stand ended n l refl
-  unbehind after (syncs.Synced n) asks stand ended seq last is = absurd (cc (is))
-  unbehind after (syncs.Stale n path theirs ours) asks stand ended seq last is = absurd (cc (is))
-  unbehind after (syncs.Unfit n index fault) asks stand ended seq last is = absurd (cc (is))
-  unbehind after (syncs.Full n index fault) asks stand ended seq last is = absurd (cc (is))
-  unbehind after (syncs.Unanswered n) asks stand ended seq last is = absurd (cc (is))
-  unbehind after syncs.KeepFault asks stand ended seq last is = absurd (cc (is))
-  unbehind after syncs.Memory asks stand ended seq last is = absurd (cc (is))
+  unbehind : (before : Log) (end : SyncEnd) (after : Log) (trace : Trace) → Stand packets trace.asks → EndsSync client route before end after trace → (seq last : ℕ) → sync_answer end ≡ Some (answers.Behind seq last) → ⊥
+  unbehind before (syncs.Behind n l) after trace stand ended seq last is = ends_unbehind before (syncs.Behind n l) after trace stand ended n l refl
+  unbehind before (syncs.Synced n) after trace stand ended seq last is = absurd (cc (is))
+  unbehind before (syncs.Stale n path theirs ours) after trace stand ended seq last is = absurd (cc (is))
+  unbehind before (syncs.Unfit n index fault) after trace stand ended seq last is = absurd (cc (is))
+  unbehind before (syncs.Full n index fault) after trace stand ended seq last is = absurd (cc (is))
+  unbehind before (syncs.Unanswered n) after trace stand ended seq last is = absurd (cc (is))
+  unbehind before syncs.KeepFault after trace stand ended seq last is = absurd (cc (is))
+  unbehind before syncs.Memory after trace stand ended seq last is = absurd (cc (is))
 
   abbrev IsBehind : Option LineAnswer → Type 0
   IsBehind x = (seq : ℕ) × (last : ℕ) × (x ≡ Some (answers.Behind seq last))
@@ -299,8 +312,8 @@ module _ (packets : List Message) (client : ℕ) (gapless : Gapless client packe
     λ so.
         let was = only_syncs route a b trace x (subst LeavesPending (sym so.2) tt) line turn in
         let synced : SyncTurn client route a.client.log was.0 b.client.log trace = subst (λ (n : ℕ). SyncTurn n route a.client.log was.0 b.client.log trace) number was.1 in
-        let asks : Stand packets (synced.1.asks ++ synced.2) = subst (Stand packets) (ap (λ (t : Trace). t.asks) synced.5) stand in
-        unbehind b.client.log was.0 synced.2 (stand_parts packets synced.1.asks synced.2 asks).1 synced.4 so.0 so.1 (sym was.2 ∙ so.2),
+        let asks : Stand packets (synced.2.asks ++ synced.3.asks) = subst (Stand packets) (ap (λ (t : Trace). t.asks) synced.6) stand in
+        unbehind synced.1 was.0 b.client.log synced.3 (stand_parts packets synced.2.asks synced.3.asks asks).1 synced.5 so.0 so.1 (sym was.2 ∙ so.2),
   )
 
   -- no sync of a session is answered `behind`
@@ -323,9 +336,11 @@ numbered_more : (number : ℕ) (entries : List Entry) (entry : Entry) → AreNum
 numbered_more number [] entry all is = (omega (arith, is), tt)
 numbered_more number (first ∷ entries) entry all is = (all.0, numbered_more (number + 1) entries entry all.1 (omega (arith, is)))
 
-numbered_behind : (number count : ℕ) (entries : List Entry) → count ≡ 1 → AreNumbered number entries → AreNumbered (number + 1) (drop count entries)
-numbered_behind number count [] one all = subst (λ (n : ℕ). AreNumbered (number + 1) (drop n [])) (sym one) tt
-numbered_behind number count (entry ∷ entries) one all = subst (λ (n : ℕ). AreNumbered (number + 1) (drop n (entry ∷ entries))) (sym one) all.1
+numbered_behind : (number count : ℕ) (entries : List Entry) → AreNumbered number entries → AreNumbered (number + count) (drop count entries)
+numbered_behind number zero entries all = let same : number ≡ number + 0 = omega arith in subst (λ (n : ℕ). AreNumbered n entries) same all
+numbered_behind number (suc count) [] all = tt
+numbered_behind number (suc count) (entry ∷ entries) all =
+    let same : number + 1 + count ≡ number + suc count = omega arith in subst (λ (n : ℕ). AreNumbered n (drop count entries)) same (numbered_behind (number + 1) count entries all.1)
 
 -- a log whose entries are numbered on from the acknowledged one, which is not before this one
 abbrev pub IsPast : ℕ → Log → Type 0
@@ -335,7 +350,11 @@ change_past : (from : ℕ) (before after : Log) → IsChange before after → Is
 change_past from before after (inl logs_one) past =
     subst (IsPast from) (sym logs_one.2) (past.0, numbered_more (before.acked + 1) before.pending logs_one.0 past.1 (omega (arith, logs_one.1)))
 change_past from before after (inr (inl acknowledges)) past =
-    subst (IsPast from) (sym acknowledges) (omega (arith, past.0), numbered_behind (before.acked + 1) (before.acked + 1 - before.acked) before.pending (omega arith) past.1)
+    let some = acknowledges.0 in
+    let count : ℕ = some.0 - before.acked in
+    let next : before.acked + 1 + count ≡ some.0 + 1 = omega (arith, some.1) in
+    subst (IsPast from) (sym some.3)
+    (omega (arith, past.0, some.1), subst (λ (n : ℕ). AreNumbered n (drop count before.pending)) next (numbered_behind (before.acked + 1) count before.pending past.1))
 change_past from before after (inr (inr replaces)) past = subst (IsPast from) (sym replaces.1) past
 
 changes_past : (from : ℕ) (before : Log) (changes : List Log) (after : Log) → ChangesLeadTo before changes after → IsPast from before → IsPast from after
@@ -365,10 +384,13 @@ module _ (packets : List Message) (client from : ℕ) (gapless : Gapless client 
       let sum = failed-append xs ys in
       ((parts.0, omega (arith, sum, all.1)), (parts.1, omega (arith, sum, all.1)))
 
-  ends_synced : (after : Log) (end : SyncEnd) (asks : List Ask) → IsPast from after → AreCalm asks → EndsSync client route after end asks → end ≡ syncs.Synced after.acked
-  ends_synced after end asks past calm (inl synced) = synced.1
-  ends_synced after end asks past calm (inr ended) =
-      absurd (shipped packets client route after ended.entry asks calm.0 from ended.came end gapless none (first_past from after ended.entry past ended.first) calm.1 ended.ships ended.end_is)
+  ends_synced : (before : Log) (end : SyncEnd) (after : Log) (trace : Trace) → IsPast from before → AreCalm trace.asks → EndsSync client route before end after trace → end ≡ syncs.Synced before.acked
+  ends_synced before end after trace past calm (inl synced) = synced.1
+  ends_synced before end after trace past calm (inr ended) =
+      let asked : AreCalm (ended.0 ++ (acknowledging before after).asks) = subst (λ (t : Trace). AreCalm t.asks) ended.2 calm in
+      let first = (calm_parts ended.0 (acknowledging before after).asks asked).0 in
+      absurd (shipped packets client route before.pending ended.1.entry ended.0 first.0 from (after.acked + 1) ended.1.came end gapless none (first_past from before ended.1.entry past ended.1.first) first.1 ended.1.ships
+      ended.1.end_is)
 
   calm_turn : (a b : SessionState) (trace : Trace) (line : Result Line LineError) (x : Option LineAnswer) → LineTurn route a line x b trace → (a.client.number ≡ client) × IsPast from a.client.log → AreCalm trace.asks
       → ((b.client.number ≡ client) × IsPast from b.client.log) × (LeavesPending x → ⊥)
@@ -378,8 +400,10 @@ module _ (packets : List Message) (client from : ℕ) (gapless : Gapless client 
         λ leaves.
             let was = only_syncs route a b trace x leaves line turn in
             let synced : SyncTurn client route a.client.log was.0 b.client.log trace = subst (λ (n : ℕ). SyncTurn n route a.client.log was.0 b.client.log trace) begun.0 was.1 in
-            let asks : AreCalm (synced.1.asks ++ synced.2) = subst AreCalm (ap (λ (t : Trace). t.asks) synced.5) calm in
-            let is : was.0 ≡ syncs.Synced b.client.log.acked = ends_synced b.client.log was.0 synced.2 past (calm_parts synced.1.asks synced.2 asks).1 synced.4 in
+            let asks : AreCalm (synced.2.asks ++ synced.3.asks) = subst AreCalm (ap (λ (t : Trace). t.asks) synced.6) calm in
+            let middle : IsPast from synced.1 =
+            changes_past from a.client.log synced.2.changes synced.1 (acknowledged_leads client route synced.0 a.client.log synced.1 synced.2 synced.4) begun.1 in
+            let is : was.0 ≡ syncs.Synced synced.1.acked = ends_synced synced.1 was.0 b.client.log synced.3 middle (calm_parts synced.2.asks synced.3.asks asks).1 synced.5 in
             subst LeavesPending (was.2 ∙ ap sync_answer is) leaves,
       )
 
@@ -396,8 +420,8 @@ sync_costs : (client : ℕ) (route : Route) (before after : Log) (end : SyncEnd)
     → 8 ≤ failed_asks trace.asks
 sync_costs client route before after (syncs.Unanswered n) trace seq turn is =
     let asked = unanswered_failed client route before after n trace turn in
-    let store : Message = store_of client asked.0 in
-    omega (arith, ap failed_asks asked.4, failed-append asked.1 (failures Server route.server store 8), failed-failures Server route.server store 8)
+    let store : Message = store_of client n asked.1 in
+    omega (arith, ap failed_asks asked.6, failed-append asked.2 (failures Server route.server store 8), failed-failures Server route.server store 8)
 sync_costs client route before after (syncs.Synced n) trace seq turn is = absurd (cc (is))
 sync_costs client route before after (syncs.Stale n path theirs ours) trace seq turn is = absurd (cc (is))
 sync_costs client route before after (syncs.Unfit n index fault) trace seq turn is = absurd (cc (is))

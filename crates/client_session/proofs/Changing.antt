@@ -1,6 +1,5 @@
 -- What the lines of a session change of the log.
-use Rattle.std.proofs.Common.{◌≡◌, inl, inr, ℕ, zero, suc, List, [], ◌∷◌, ◌++◌, Option, Some, None, Result, Ok, Err, refl, sym, ◌∙◌, ap, subst}
-use Rattle.std.proofs.lemmas.List.{append-nil}
+use Rattle.std.proofs.Common.{◌≡◌, inl, inr, ℕ, zero, suc, List, [], ◌∷◌, ◌++◌, Option, Some, None, Result, Ok, Err, refl, sym, ap, subst}
 use Rattle.file_paths.specs.declared.path.PathError.{PathError}
 use Rattle.tree_values.specs.declared.node.Effect.{Effect}
 use Rattle.cmd_capture.specs.declared.command.Command.{Command}
@@ -11,22 +10,25 @@ use Rattle.mod_log.specs.declared.log.LogError.{LogError}
 use Rattle.mod_log.specs.Log.{Log}
 use Rattle.world_rules.specs.declared.asking.Ask.{Ask}
 use Rattle.client_core.specs.declared.route.Route.{Route}
+use Rattle.client_core.specs.declared.syncing.SyncEnd.{SyncEnd}
 use Rattle.client_core.specs.declared.pulling.PullEnd.{PullEnd}
 use Rattle.client_core.specs.declared.pulling.PullEnd.TheVariants.{Pulled, Pending, OtherLast, Older, Unanswered, KeepFault, Memory}
 use Rattle.client_core.specs.declared.running.RunEnd.{RunEnd}
 use Rattle.client_core.specs.declared.running.RunEnd.TheVariants as runs
 use Rattle.client_core.specs.Running.{origin_of, changes_of, run_entry, RunTurn}
-use Rattle.client_core.specs.Trace.{Trace, nothing, followed, asking}
+use Rattle.client_core.specs.Trace.{Trace, nothing}
 use Rattle.client_core.specs.Logging.{local_entry, LocalTurn}
-use Rattle.client_core.specs.Syncing.{Acknowledges}
+use Rattle.client_core.specs.Syncing.{EntryTurn, Acknowledges, EndsSync, SyncTurn}
 use Rattle.client_core.specs.Pulling.{PullsSnapshot, PullTurn}
+use Rattle.client_core.proofs.Acknowledging.{turn_some, turn_rises}
 use Rattle.client_core.proofs.Locals.{appended-is}
 use Rattle.shell_lang.specs.declared.line.Line.{Line}
 use Rattle.shell_lang.specs.declared.line.Line.TheVariants as lines
 use Rattle.shell_lang.specs.declared.line.LineError.{LineError}
 use Rattle.shell_lang.specs.declared.answer.LineAnswer.{LineAnswer}
 use Rattle.client_session.specs.Session.{SessionState, with_log, put_effect, make_effect, remove_effect, move_effect, LogTurn, CommandTurn, LineTurn}
-use Rattle.client_session.specs.Laws.{ChangesLeadTo, SessionsChangeSo}
+use Rattle.client_session.specs.Laws.{IsChange, ChangesLeadTo, SessionsChangeSo}
+use Rattle.client_session.proofs.Acknowledged.{turn_unrisen, acknowledging_so}
 
 leads_then : (a b c : Log) (xs ys : List Log) → ChangesLeadTo a xs b → ChangesLeadTo b ys c → ChangesLeadTo a (xs ++ ys) c
 leads_then a b c [] ys first second = subst (λ (log : Log). ChangesLeadTo log ys c) first second
@@ -38,14 +40,27 @@ still before after trace same none = subst (λ (t : Trace). ChangesLeadTo before
 
 -- ---- a sync and a pull
 
-acknowledged_leads : (client : ℕ) (route : Route) (count : ℕ) (before after : Log) (trace : Trace) → Acknowledges client route count before after trace → ChangesLeadTo before trace.changes after
+turn_leads : (client : ℕ) (route : Route) (before after : Log) (asks : List Ask) → EntryTurn client route before after None asks → IsChange before after
+turn_leads client route before after asks turn = inr (inl (turn_some client route before after None asks turn, turn_rises client route before after asks turn))
+
+pub acknowledged_leads : (client : ℕ) (route : Route) (count : ℕ) (before after : Log) (trace : Trace) → Acknowledges client route count before after trace → ChangesLeadTo before trace.changes after
 acknowledged_leads client route zero before after trace turn = still before after trace turn.0 turn.1
 acknowledged_leads client route (suc count) before after trace turn =
-    subst (λ (t : Trace). ChangesLeadTo before t.changes after) (sym turn.6)
-    (leads_then before turn.0 after turn.1.changes (after ∷ []) (acknowledged_leads client route count before turn.0 turn.1 turn.3) (inr (inl turn.5), refl))
+    subst (λ (t : Trace). ChangesLeadTo before t.changes after) (sym turn.5)
+    (leads_then before turn.0 after turn.1.changes (after ∷ []) (acknowledged_leads client route count before turn.0 turn.1 turn.3) (turn_leads client route turn.0 after turn.2 turn.4, refl))
 
-asked_leads : (before after : Log) (earlier trace : Trace) (last : List Ask) → ChangesLeadTo before earlier.changes after → trace ≡ followed earlier (asking last) → ChangesLeadTo before trace.changes after
-asked_leads before after earlier trace last leads is = subst (λ (cs : List Log). ChangesLeadTo before cs after) (sym (ap (λ (t : Trace). t.changes) is ∙ append-nil earlier.changes)) leads
+ended_leads : (client : ℕ) (route : Route) (before : Log) (end : SyncEnd) (after : Log) (trace : Trace) → EndsSync client route before end after trace → ChangesLeadTo before trace.changes after
+ended_leads client route before end after trace (inl synced) = still before after trace synced.2 synced.3
+ended_leads client route before end after trace (inr ended) =
+    subst (λ (t : Trace). ChangesLeadTo before t.changes after) (sym ended.2)
+    (acknowledging_so (λ (t : Trace). ChangesLeadTo before t.changes after) before after
+    (λ less. (inr (inl (turn_some client route before after (Some end) ended.0 ended.1, less)), refl))
+    (λ none. turn_unrisen client route before after (Some end) ended.0 ended.1 none))
+
+synced_leads : (client : ℕ) (route : Route) (before : Log) (end : SyncEnd) (after : Log) (trace : Trace) → SyncTurn client route before end after trace → ChangesLeadTo before trace.changes after
+synced_leads client route before end after trace turn =
+    subst (λ (t : Trace). ChangesLeadTo before t.changes after) (sym turn.6)
+    (leads_then before turn.1 after turn.2.changes turn.3.changes (acknowledged_leads client route turn.0 before turn.1 turn.2 turn.4) (ended_leads client route turn.1 end after turn.3 turn.5))
 
 snapshot_leads : (client : ℕ) (route : Route) (before : Log) (end : PullEnd) (after : Log) (trace : Trace) → PullsSnapshot client route before end after trace → ChangesLeadTo before trace.changes after
 snapshot_leads client route before (Pulled count) after trace turn = subst (λ (t : Trace). ChangesLeadTo before t.changes after) (sym turn.trace_is) (inr (inr (turn.seen, turn.met.3)), refl)
@@ -116,9 +131,7 @@ module _ (before after : SessionState) (trace : Trace) where
   line_leads route (Ok (lines.Enter word)) answer turn = still before.client.log after.client.log trace (ap (λ (s : SessionState). s.client.log) turn.1) turn.2
   line_leads route (Ok (lines.Run words)) answer turn = command_leads route (capture words before.folder) answer turn
   line_leads route (Ok lines.Status) answer turn = untouched turn.1 turn.2
-  line_leads route (Ok lines.Sync) answer turn =
-      let synced = turn.1 in
-      asked_leads before.client.log after.client.log synced.1 trace synced.2 (acknowledged_leads before.client.number route synced.0 before.client.log after.client.log synced.1 synced.3) synced.5
+  line_leads route (Ok lines.Sync) answer turn = synced_leads before.client.number route before.client.log turn.0 after.client.log trace turn.1
   line_leads route (Ok lines.Pull) answer turn = pull_leads before.client.number route before.client.log turn.0 after.client.log trace turn.1
   line_leads route (Ok lines.Quit) answer turn = untouched turn.1 turn.2
 

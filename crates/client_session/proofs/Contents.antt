@@ -1,6 +1,5 @@
 -- What the entries of a session write.
 use Rattle.std.proofs.Common.{◌≡◌, inl, inr, ⊎_elim, ℕ, Bool, true, false, true≢false, List, [], ◌∷◌, ◌++◌, Option, Some, None, IsSome, Result, Ok, Err, refl, sym, ◌∙◌, ap, subst}
-use Rattle.std.proofs.lemmas.List.{append-nil}
 use Rattle.std.proofs.lemmas.List.Concat.{flat_map-cons}
 use Rattle.std.specs.Prelude.{option_map, reverse, if◌then◌else◌}
 use Rattle.std.specs.List.{filter_map, flat_map, cons_option}
@@ -28,7 +27,6 @@ use Rattle.mod_log.specs.Log.{Log}
 use Rattle.mod_log.specs.Sketched.{WritesContent}
 use Rattle.wire_frames.specs.declared.message.Message.{Message}
 use Rattle.wire_frames.specs.declared.message.Message.TheVariants.{Store}
-use Rattle.world_rules.specs.declared.asking.Ask.{Ask}
 use Rattle.world_rules.specs.InStep.{CarriesContent, HasNoCollision}
 use Rattle.world_rules.proofs.Asks.{in_either}
 use Rattle.client_core.specs.declared.route.Route.{Route}
@@ -37,7 +35,7 @@ use Rattle.client_core.specs.declared.pulling.PullEnd.TheVariants as pulls
 use Rattle.client_core.specs.declared.running.RunEnd.{RunEnd}
 use Rattle.client_core.specs.declared.running.RunEnd.TheVariants as runs
 use Rattle.client_core.specs.Running.{changes_of, run_entry, RunTurn}
-use Rattle.client_core.specs.Trace.{Trace, nothing, followed, asking, logging, running}
+use Rattle.client_core.specs.Trace.{Trace, nothing, followed, logging, running}
 use Rattle.client_core.specs.Logging.{local_entry, LocalTurn}
 use Rattle.client_core.specs.Pulling.{pull_change, PullsSnapshot, PullTurn}
 use Rattle.shell_lang.specs.declared.line.Line.{Line}
@@ -46,7 +44,7 @@ use Rattle.shell_lang.specs.declared.line.LineError.{LineError}
 use Rattle.shell_lang.specs.declared.answer.LineAnswer.{LineAnswer}
 use Rattle.client_session.specs.Session.{SessionState, put_effect, make_effect, remove_effect, move_effect, LogTurn, CommandTurn, LineTurn, Chain, BreaksCommand, BreaksOff, Broken, BreaksChain}
 use Rattle.client_session.specs.Contents.{IsFileOf, IsOfRuns, IsOfTheRun, HasContent, IsOfPackets, DistinctContentsDoNotCollide, BrokenSessionsDoNotCollide}
-use Rattle.client_core.proofs.Truths.{acknowledges_none}
+use Rattle.client_session.proofs.Acknowledged.{sync_holds, broken_holds}
 
 -- ---- lists that are made of others
 
@@ -150,8 +148,12 @@ written_then earlier later first second entry content among made writes =
 
 -- ---- a sync and a pull log nothing
 
-asked_none : (earlier trace : Trace) (last : List Ask) → earlier.entries ≡ [] → trace ≡ followed earlier (asking last) → trace.entries ≡ []
-asked_none earlier trace last none is = ap (λ (t : Trace). t.entries) is ∙ append-nil earlier.entries ∙ none
+-- no entry
+abbrev LogsNone : Trace → Type 0
+LogsNone trace = trace.entries ≡ []
+
+followed_none : (m n : Trace) → LogsNone m → LogsNone n → LogsNone (followed m n)
+followed_none m n first second = ap (λ (es : List Entry). es ++ n.entries) first ∙ second
 
 change_none : (end : PullEnd) (after : Log) → (pull_change end after).entries ≡ []
 change_none (pulls.Pulled count) after = refl
@@ -228,8 +230,7 @@ module _ (before after : SessionState) (trace : Trace) where
   line_written route (Ok (lines.Run words)) answer turn = command_written route (capture words before.folder) answer turn
   line_written route (Ok lines.Status) answer turn = untold trace turn.2
   line_written route (Ok lines.Sync) answer turn =
-      let synced = turn.1 in
-      none_written trace (asked_none synced.1 trace synced.2 (acknowledges_none before.client.number route synced.0 before.client.log after.client.log synced.1 synced.3) synced.5)
+      none_written trace (sync_holds LogsNone refl followed_none (λ log. refl) before.client.number route (λ pending entry came asks ships. refl) before.client.log turn.0 after.client.log trace turn.1)
   line_written route (Ok lines.Pull) answer turn = none_written trace (pull_none before.client.number route before.client.log turn.0 after.client.log trace turn.1)
   line_written route (Ok lines.Quit) answer turn = untold trace turn.2
 
@@ -242,7 +243,8 @@ module _ (before after : SessionState) (trace : Trace) where
   broken_off : (route : Route) (line : Result Line LineError) → BreaksOff route before line after.client.log trace → WriteWhatIsLeft trace
   broken_off route (Ok (lines.Run words)) turn = broken_command route (capture words before.folder) turn
   broken_off route (Ok lines.Sync) turn =
-      none_written trace (asked_none turn.1 trace turn.2 (acknowledges_none before.client.number route turn.0 before.client.log after.client.log turn.1 turn.3) turn.5)
+      none_written trace
+      (broken_holds LogsNone refl followed_none (λ log. refl) before.client.number route (λ pending entry came asks ships. refl) (λ pending entry asks breaks. refl) before.client.log after.client.log trace turn)
   broken_off route (Ok lines.Pull) turn =
       none_written trace (⊎_elim (λ asks. ap (λ (t : Trace). t.entries) asks.4)
       (λ snapshot. snapshot_none before.client.number route before.client.log (pulls.Pulled snapshot.0) after.client.log trace snapshot.1) turn)
@@ -270,7 +272,7 @@ broken_chain_written route before asked answers after kept trace chain =
 -- ---- what is shipped
 
 has_content : (client : ℕ) (message : Message) (content : List ℕ) → CarriesContent client message content → HasContent message content
-has_content client (Store of number effects base) content is = is.1
+has_content client (Store of number parts) content is = (is.1, is.2, is.3)
 has_content client _ content is = absurd is
 
 -- what is not shipped need not be distinct

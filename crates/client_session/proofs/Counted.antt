@@ -1,5 +1,5 @@
 -- Which lines ask a runner for something, and how often.
-use Rattle.std.proofs.Common.{◌≡◌, ℕ, zero, suc, ◌+◌, ◌≤◌, Bool, false, List, [], ◌∷◌, ◌++◌, length, Option, None, Some, Result, Ok, Err, refl, sym, ◌∙◌, ap, arith, length-append}
+use Rattle.std.proofs.Common.{◌≡◌, ℕ, ◌+◌, ◌≤◌, Bool, false, List, [], ◌∷◌, ◌++◌, length, Option, None, Some, Result, Ok, Err, refl, sym, ◌∙◌, ap, arith, length-append}
 use Rattle.std.specs.Prelude.{cond}
 use Rattle.std.specs.List.{count_by}
 use Rattle.std.proofs.lemmas.List.Sums.{sum_by-cons}
@@ -27,10 +27,9 @@ use Rattle.client_core.specs.declared.pulling.PullEnd.{PullEnd}
 use Rattle.client_core.specs.declared.pulling.PullEnd.TheVariants as pulls
 use Rattle.client_core.specs.declared.running.RunEnd.{RunEnd}
 use Rattle.client_core.specs.declared.running.RunEnd.TheVariants as ends
-use Rattle.client_core.specs.Trace.{Trace, nothing, followed, asking, changing}
+use Rattle.client_core.specs.Trace.{Trace, nothing, followed, asking}
 use Rattle.client_core.specs.Logging.{LocalTurn}
 use Rattle.client_core.specs.Running.{RunTurn}
-use Rattle.client_core.specs.Syncing.{Acknowledges}
 use Rattle.client_core.specs.Pulling.{pull_change, PullsSnapshot, PullTurn}
 use Rattle.shell_lang.specs.declared.line.Line.{Line}
 use Rattle.shell_lang.specs.declared.line.Line.TheVariants as lines
@@ -40,6 +39,7 @@ use Rattle.client_session.specs.Session.{SessionState, is_unrun, put_effect, mak
 use Rattle.client_session.specs.Causes.{asks_to_run}
 use Rattle.client_session.specs.Looking.{found_at, shown, listed, entered, about, list_answer}
 use Rattle.client_session.specs.Laws.{UnrunLinesAreCounted, LinesRunOnce}
+use Rattle.client_session.proofs.Acknowledged.{sync_holds}
 
 -- ---- traces without a run
 
@@ -58,11 +58,6 @@ followed_quiet trace earlier later is first then = (
 local_quiet : (effect : Effect) (result : Result ℕ LogError) (before after : Log) (trace : Trace) → LocalTurn effect before result after trace → RunsNothing trace
 local_quiet effect (Ok number) before after trace turn = (ap (λ (t : Trace). t.runs) turn.2, ap (λ (t : Trace). t.missed) turn.2)
 local_quiet effect (Err refusal) before after trace turn = as_nothing trace turn.2
-
-acknowledged_quiet : (client : ℕ) (route : Route) (count : ℕ) (before after : Log) (trace : Trace) → Acknowledges client route count before after trace → RunsNothing trace
-acknowledged_quiet client route zero before after trace turn = as_nothing trace turn.1
-acknowledged_quiet client route (suc count) before after trace turn =
-    followed_quiet trace turn.1 (followed (asking turn.2) (changing after)) turn.6 (acknowledged_quiet client route count before turn.0 turn.1 turn.3) (refl, refl)
 
 change_quiet : (end : PullEnd) (after : Log) → RunsNothing (pull_change end after)
 change_quiet (pulls.Pulled n) after = (refl, refl)
@@ -231,9 +226,9 @@ module _ (route : Route) (before after : SessionState) (trace : Trace) (answer :
   line_counts (Ok (lines.Run words)) turn = command_counts (capture words before.folder) turn
   line_counts (Ok lines.Status) turn = quiet_counts answer _ trace turn.0 refl (as_nothing trace turn.2)
   line_counts (Ok lines.Sync) turn =
-      let synced = turn.1 in
       quiet_counts answer (sync_answer turn.0) trace turn.3 (sync_other turn.0)
-      (followed_quiet trace synced.1 (asking synced.2) synced.5 (acknowledged_quiet before.client.number route synced.0 before.client.log after.client.log synced.1 synced.3) (refl, refl))
+      (sync_holds RunsNothing (refl, refl) (λ m n p q. followed_quiet (followed m n) m n refl p q) (λ log. (refl, refl)) before.client.number route (λ pending entry came asks ships. (refl, refl)) before.client.log turn.0 after.client.log trace
+      turn.1)
   line_counts (Ok lines.Pull) turn =
       quiet_counts answer (pull_answer turn.0) trace turn.3 (pull_other turn.0) (pull_quiet before.client.number route before.client.log after.client.log trace turn.0 turn.1)
   line_counts (Ok lines.Quit) turn = quiet_counts answer None trace turn.0 refl (as_nothing trace turn.2)

@@ -1,3 +1,4 @@
+pub mod Acknowledged
 pub mod Alike
 pub mod Answered
 pub mod Changing
@@ -12,3 +13,4 @@ pub mod Recorded
 pub mod Settlings
 pub mod Turning
 pub mod Turns
+pub mod Windows

@@ -24,10 +24,10 @@ use Rattle.client_core.specs.declared.pulling.PullEnd.{PullEnd}
 use Rattle.client_core.specs.declared.pulling.PullEnd.TheVariants as pulls
 use Rattle.client_core.specs.declared.running.RunEnd.{RunEnd}
 use Rattle.client_core.specs.declared.running.RunEnd.TheVariants as runs
-use Rattle.client_core.specs.Trace.{Trace, nothing, followed, asking}
+use Rattle.client_core.specs.Trace.{Trace, nothing}
 use Rattle.client_core.specs.Running.{RunTurn}
 use Rattle.client_core.specs.Logging.{LocalTurn}
-use Rattle.client_core.specs.Syncing.{store_of, SettlesOperation, StoreIsDue, Ships, BreaksShipping, Acknowledges, EndsSync, SyncTurn, BreaksSync}
+use Rattle.client_core.specs.Syncing.{store_of, SettlesOperation, StoreIsDue, Ships, BreaksShipping, SyncTurn, BreaksSync}
 use Rattle.client_core.specs.Pulling.{pull_of, pull_change, PullsSnapshot, PullTurn, BreaksPull}
 use Rattle.shell_lang.specs.declared.line.Line.{Line}
 use Rattle.shell_lang.specs.declared.line.Line.TheVariants as lines
@@ -35,6 +35,7 @@ use Rattle.shell_lang.specs.declared.line.LineError.{LineError}
 use Rattle.shell_lang.specs.declared.answer.LineAnswer.{LineAnswer}
 use Rattle.client_session.specs.Session.{SessionState, put_effect, make_effect, remove_effect, move_effect, LogTurn, CommandTurn, LineTurn, BreaksCommand, BreaksOff, Broken}
 use Rattle.client_session.specs.Laws.{IsOfRoute, AsksAreOfTheRoute, BrokenSessionsAskTheRoute}
+use Rattle.client_session.proofs.Acknowledged.{sync_holds, broken_holds}
 
 module _ (route : Route) where
   -- each of these asks is of a peer of the route
@@ -88,40 +89,32 @@ module _ (route : Route) where
     due_asked entry asks (inl heavy) = none_asked asks heavy.1
     due_asked entry asks (inr light) = operation_asked entry light.0 asks light.2
 
-    ships_asked : (entry : Entry) (came : Option Message) (asks : List Ask) → Ships client route entry came asks → AreOfRoute asks
-    ships_asked entry came asks (inl done) = operation_asked entry came asks done.1
-    ships_asked entry came asks (inr stored) =
-        subst AreOfRoute (sym stored.4)
-        (both_asked stored.0 stored.1 (due_asked entry stored.0 stored.2) (settling_asked Server route.server (store_of client entry) (of_server (store_of client entry)) came stored.1 stored.3))
+    ships_asked : (pending : List Entry) (entry : Entry) (came : Option Message) (asks : List Ask) → Ships client route pending entry came asks → AreOfRoute asks
+    ships_asked pending entry came asks (inl done) = operation_asked entry came asks done.1
+    ships_asked pending entry came asks (inr stored) =
+        let store : Message = store_of client entry.seq stored.2 in
+        subst AreOfRoute (sym stored.6)
+        (both_asked stored.0 stored.1 (due_asked entry stored.0 stored.3) (settling_asked Server route.server store (of_server store) came stored.1 stored.5))
 
-    breaks_asked : (entry : Entry) (asks : List Ask) → BreaksShipping client route entry asks → AreOfRoute asks
-    breaks_asked entry asks (inl light) =
+    breaks_asked : (pending : List Entry) (entry : Entry) (asks : List Ask) → BreaksShipping client route pending entry asks → AreOfRoute asks
+    breaks_asked pending entry asks (inl light) =
         breaking_asked Surrogate light.0 (messages.Operate client light.1) (of_surrogate light.0 light.2.surrogate (messages.Operate client light.1)) asks light.3
-    breaks_asked entry asks (inr stored) =
-        subst AreOfRoute (sym stored.4)
-        (both_asked stored.0 stored.1 (due_asked entry stored.0 stored.2) (breaking_asked Server route.server (store_of client entry) (of_server (store_of client entry)) stored.1 stored.3))
+    breaks_asked pending entry asks (inr (inl due)) = due_asked entry asks due
+    breaks_asked pending entry asks (inr (inr stored)) =
+        let store : Message = store_of client entry.seq stored.2 in
+        subst AreOfRoute (sym stored.6)
+        (both_asked stored.0 stored.1 (due_asked entry stored.0 stored.3) (breaking_asked Server route.server store (of_server store) stored.1 stored.5))
 
-    acknowledges_asked : (count : ℕ) (before after : Log) (trace : Trace) → Acknowledges client route count before after trace → AreOfRoute trace.asks
-    acknowledges_asked zero before after trace turn = none_asked trace.asks (ap (λ (t : Trace). t.asks) turn.1)
-    acknowledges_asked (suc count) before after trace turn =
-        subst (λ (t : Trace). AreOfRoute t.asks) (sym turn.6)
-        (both_asked turn.1.asks (turn.2 ++ []) (acknowledges_asked count before turn.0 turn.1 turn.3)
-        (both_asked turn.2 [] (ships_asked turn.4.entry turn.4.came turn.2 turn.4.ships) (λ ask among. absurd among)))
+    abbrev AsksOfRoute : Trace → Type 0
+    AsksOfRoute trace = AreOfRoute trace.asks
 
-    ends_asked : (after : Log) (end : SyncEnd) (asks : List Ask) → EndsSync client route after end asks → AreOfRoute asks
-    ends_asked after end asks (inl synced) = none_asked asks synced.2
-    ends_asked after end asks (inr ended) = ships_asked ended.entry ended.came asks ended.ships
+    sync_asked : (before : Log) (end : SyncEnd) (after : Log) (trace : Trace) → SyncTurn client route before end after trace → AsksOfRoute trace
+    sync_asked before end after trace turn =
+        sync_holds AsksOfRoute (λ ask among. absurd among) (λ m n p q. both_asked m.asks n.asks p q) (λ log ask among. absurd among) client route ships_asked before end after trace turn
 
-    then_asked : (earlier : Trace) (last : List Ask) (trace : Trace) → AreOfRoute earlier.asks → AreOfRoute last → trace ≡ followed earlier (asking last) → AreOfRoute trace.asks
-    then_asked earlier last trace first second is = subst (λ (t : Trace). AreOfRoute t.asks) (sym is) (both_asked earlier.asks last first second)
-
-    sync_asked : (before : Log) (end : SyncEnd) (after : Log) (trace : Trace) → SyncTurn client route before end after trace → AreOfRoute trace.asks
-    sync_asked before end after trace turn = then_asked turn.1 turn.2 trace (acknowledges_asked turn.0 before after turn.1 turn.3) (ends_asked after end turn.2 turn.4) turn.5
-
-    sync_broken : (before after : Log) (trace : Trace) → BreaksSync client route before after trace → AreOfRoute trace.asks
+    sync_broken : (before after : Log) (trace : Trace) → BreaksSync client route before after trace → AsksOfRoute trace
     sync_broken before after trace breaks =
-        then_asked breaks.1 breaks.2 trace (acknowledges_asked breaks.0 before after breaks.1 breaks.3)
-        (⊎_elim (λ none. none_asked breaks.2 none) (λ some. breaks_asked some.0 breaks.2 some.2) breaks.4) breaks.5
+        broken_holds AsksOfRoute (λ ask among. absurd among) (λ m n p q. both_asked m.asks n.asks p q) (λ log ask among. absurd among) client route ships_asked breaks_asked before after trace breaks
 
     -- ---- a pull
 

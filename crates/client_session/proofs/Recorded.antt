@@ -12,7 +12,6 @@ use Rattle.mod_log.specs.declared.log.Entry.{Entry}
 use Rattle.mod_log.specs.declared.log.LogError.{LogError}
 use Rattle.mod_log.specs.Log.{Log, logged}
 use Rattle.client_core.specs.declared.route.Route.{Route}
-use Rattle.client_core.specs.declared.syncing.SyncEnd.{SyncEnd}
 use Rattle.client_core.specs.declared.pulling.PullEnd.{PullEnd}
 use Rattle.client_core.specs.declared.pulling.PullEnd.TheVariants as pulls
 use Rattle.client_core.specs.declared.running.RunEnd.{RunEnd}
@@ -21,19 +20,19 @@ use Rattle.client_core.specs.Client.{Client}
 use Rattle.client_core.specs.Trace.{Trace, nothing}
 use Rattle.client_core.specs.Logging.{local_entry, LocalTurn}
 use Rattle.client_core.specs.Running.{origin_of, changes_of, run_entry, RunTurn}
-use Rattle.client_core.specs.Syncing.{is_broken_sync}
 use Rattle.client_core.specs.Pulling.{PullsSnapshot, PullTurn, is_broken_pull}
-use Rattle.client_core.specs.Noting.{logs_behind, ReplacesNone, records_between, KeepsChanges}
+use Rattle.client_core.specs.Noting.{logs_behind, ReplacesNone, records_logged, KeepsLogged}
 use Rattle.client_core.proofs.Locals.{appended-is}
-use Rattle.client_core.proofs.Noted.{AreNoted, sync_noted}
-use Rattle.client_core.proofs.Noting.{between_same, between_logged, keeps_same}
+use Rattle.client_core.proofs.Noting.{records_none, records_one, keeps_same, logged_changes}
 use Rattle.shell_lang.specs.declared.line.Line.{Line}
 use Rattle.shell_lang.specs.declared.line.Line.TheVariants as lines
 use Rattle.shell_lang.specs.declared.line.LineError.{LineError}
 use Rattle.shell_lang.specs.declared.answer.LineAnswer.{LineAnswer}
-use Rattle.client_session.specs.Session.{SessionState, put_effect, make_effect, remove_effect, move_effect, LogTurn, CommandTurn, LineTurn, sync_answer, pull_answer, has_pulled}
+use Rattle.client_session.specs.Session.{SessionState, Sitting, state_of, put_effect, make_effect, remove_effect, move_effect, LogTurn, CommandTurn, LineTurn, pull_answer, has_pulled}
+use Rattle.client_session.specs.Doing.{Telling, WentDoing, LineEnds, LineNoting}
 use Rattle.client_session.specs.Causes.{answer_or_fault}
-use Rattle.client_session.proofs.Turning.{unbroken, unbroken_pull}
+use Rattle.client_session.proofs.Doing.{went_as}
+use Rattle.client_session.proofs.Turning.{unbroken_pull}
 
 -- ---- what the calls of a session keep
 
@@ -42,62 +41,56 @@ pub unless_pulled : (line : Result Line LineError) (r : Result (Option LineAnswe
 unless_pulled line (Ok answer) K is = λ none. is
 unless_pulled line (Err e) K is = tt
 
-module _ (fault : Bool) (told : Option LineAnswer) (r : Result (Option LineAnswer) KeepError) (is : r ≡ answer_or_fault fault told) where
-  -- a sync that is answered was not broken off
-  pub sync_records : (end : SyncEnd) (K : Type 0) → told ≡ sync_answer end → (is_broken_sync end ≡ false → K) → IfOk r (λ answer. K)
-  sync_records end K shown whole = subst (λ (a : Result (Option LineAnswer) KeepError). IfOk a (λ answer. K)) (sym is) (by fault told shown)
-    where
-      by : (fault : Bool) (told : Option LineAnswer) → told ≡ sync_answer end → IfOk (answer_or_fault fault told) (λ answer. K)
-      by true told shown = tt
-      by false None shown = tt
-      by false (Some answer) shown = whole (unbroken end answer (sym shown))
-
-  -- a pull that is answered was not, and where it took no rows all is as before
-  pub pull_records : (name : List ℕ) (x y : Client) (i j : Option Images) (end : PullEnd) → told ≡ pull_answer end → (is_broken_pull end ≡ false → ((count : ℕ) → end ≢ pulls.Pulled count) → (y ≡ x) × (j ≡ i))
-      → IfOk r (λ answer. has_pulled (Ok lines.Pull) answer ≡ false → KeepsChanges name x y i j)
-  pull_records name x y i j end shown same =
-      subst (λ (a : Result (Option LineAnswer) KeepError). IfOk a (λ answer. has_pulled (Ok lines.Pull) answer ≡ false → KeepsChanges name x y i j)) (sym is) (by fault told shown)
-    where
-      by : (fault : Bool) (told : Option LineAnswer) → told ≡ pull_answer end → IfOk (answer_or_fault fault told) (λ answer. has_pulled (Ok lines.Pull) answer ≡ false → KeepsChanges name x y i j)
-      by true told shown = tt
-      by false None shown = tt
-      by false (Some answer) shown = λ none.
-          let stays = same (unbroken_pull end answer (sym shown)) (λ count pulled. absurd (cc (sym none ∙ ap (has_pulled (Ok lines.Pull)) (shown ∙ ap pull_answer pulled)))) in
-          subst (λ (c : Client). KeepsChanges name x c i j) (sym stays.0) (subst (λ (k : Option Images). KeepsChanges name x x i k) (sym stays.1) (keeps_same name x i))
+-- a pull that is answered was not broken off, and where it took no rows all is as before
+pub pull_records : (fault : Bool) (told : Option LineAnswer) (r : Result (Option LineAnswer) KeepError) → r ≡ answer_or_fault fault told → (name : List ℕ) (x y : Client) (i j : Option Images) (end : PullEnd) → told ≡ pull_answer end
+    → (is_broken_pull end ≡ false → ((count : ℕ) → end ≢ pulls.Pulled count) → (y ≡ x) × (j ≡ i)) → IfOk r (λ answer. has_pulled (Ok lines.Pull) answer ≡ false → KeepsLogged name x y i j)
+pull_records fault told r is name x y i j end shown same =
+    subst (λ (a : Result (Option LineAnswer) KeepError). IfOk a (λ answer. has_pulled (Ok lines.Pull) answer ≡ false → KeepsLogged name x y i j)) (sym is) (by fault told shown)
+  where
+    by : (fault : Bool) (told : Option LineAnswer) → told ≡ pull_answer end → IfOk (answer_or_fault fault told) (λ answer. has_pulled (Ok lines.Pull) answer ≡ false → KeepsLogged name x y i j)
+    by true told shown = tt
+    by false None shown = tt
+    by false (Some answer) shown = λ none.
+        let stays = same (unbroken_pull end answer (sym shown)) (λ count pulled. absurd (cc (sym none ∙ ap (has_pulled (Ok lines.Pull)) (shown ∙ ap pull_answer pulled)))) in
+        subst (λ (c : Client). KeepsLogged name x c i j) (sym stays.0) (subst (λ (k : Option Images). KeepsLogged name x x i k) (sym stays.1) (keeps_same name x i))
 
 -- ---- the changes of a line are those that its records make
 
+-- the changes are the logs behind the records of what was logged
+abbrev AreNoted : Log → Log → Trace → Type 0
+AreNoted before after trace = trace.changes ≡ logs_behind before (records_logged before after)
+
 same_noted : (before after : Log) (trace : Trace) → after ≡ before → trace.changes ≡ [] → AreNoted before after trace
 same_noted before after trace same none =
-    none ∙ sym (ap (λ (log : Log). logs_behind before (records_between before log)) same ∙ ap (logs_behind before) (between_same before))
+    none ∙ sym (ap (λ (log : Log). logs_behind before (records_logged before log)) same ∙ ap (logs_behind before) (records_none before))
 
 logged_noted : (before after : Log) (trace : Trace) (entry : Entry) → logged entry before ≡ after → trace.changes ≡ after ∷ [] → AreNoted before after trace
 logged_noted before after trace entry is one =
-    one ∙ ap (λ (log : Log). log ∷ []) (sym is) ∙ sym (ap (logs_behind before) (ap (records_between before) (sym is) ∙ between_logged before entry))
+    one ∙ ap (λ (log : Log). log ∷ []) (sym is) ∙ sym (ap (logs_behind before) (ap (records_logged before) (sym is) ∙ records_one before entry))
 
 -- ---- a pull
 
-module _ (client : ℕ) (route : Route) (before after : Log) (trace : Trace) (none : ReplacesNone trace) where
-  pulled_not : (count : ℕ) → PullsSnapshot client route before (pulls.Pulled count) after trace → ⊥
-  pulled_not count turn = none count (subst (λ (t : Trace). IsIn (pulls.Pulled count) t.pulls) (sym turn.trace_is) (inl refl))
+module _ (client : ℕ) (route : Route) (before after : Log) (trace : Trace) where
+  pull_noted : (end : PullEnd) → has_pulled (Ok lines.Pull) (pull_answer end) ≡ false → PullTurn client route before end after trace → AreNoted before after trace
+  pull_noted (pulls.Pending count) none turn = same_noted before after trace turn.2 (ap (λ (t : Trace). t.changes) turn.3)
+  pull_noted pulls.Unanswered none turn = same_noted before after trace turn.1.2 (ap (λ (t : Trace). t.changes) turn.1.3)
+  pull_noted (pulls.Pulled count) none turn = absurd (cc (none))
+  pull_noted (pulls.OtherLast last acked) none turn = same_noted before after trace turn.met.3 (ap (λ (t : Trace). t.changes) turn.trace_is)
+  pull_noted (pulls.Older path theirs ours) none turn = same_noted before after trace turn.met.4 (ap (λ (t : Trace). t.changes) turn.trace_is)
+  pull_noted pulls.KeepFault none turn = absurd turn.met
+  pull_noted pulls.Memory none turn = absurd turn.met
 
-  pull_noted : (end : PullEnd) → PullTurn client route before end after trace → AreNoted before after trace
-  pull_noted (pulls.Pending count) turn = same_noted before after trace turn.2 (ap (λ (t : Trace). t.changes) turn.3)
-  pull_noted pulls.Unanswered turn = same_noted before after trace turn.1.2 (ap (λ (t : Trace). t.changes) turn.1.3)
-  pull_noted (pulls.Pulled count) turn = absurd (pulled_not count turn)
-  pull_noted (pulls.OtherLast last acked) turn = same_noted before after trace turn.met.3 (ap (λ (t : Trace). t.changes) turn.trace_is)
-  pull_noted (pulls.Older path theirs ours) turn = same_noted before after trace turn.met.4 (ap (λ (t : Trace). t.changes) turn.trace_is)
-  pull_noted pulls.KeepFault turn = absurd turn.met
-  pull_noted pulls.Memory turn = absurd turn.met
+  pulled_not : ReplacesNone trace → (count : ℕ) → PullsSnapshot client route before (pulls.Pulled count) after trace → ⊥
+  pulled_not none count turn = none count (subst (λ (t : Trace). IsIn (pulls.Pulled count) t.pulls) (sym turn.trace_is) (inl refl))
 
-  not_pulled : (end : PullEnd) → PullTurn client route before end after trace → has_pulled (Ok lines.Pull) (pull_answer end) ≡ false
-  not_pulled (pulls.Pending count) turn = refl
-  not_pulled pulls.Unanswered turn = refl
-  not_pulled (pulls.Pulled count) turn = absurd (pulled_not count turn)
-  not_pulled (pulls.OtherLast last acked) turn = refl
-  not_pulled (pulls.Older path theirs ours) turn = refl
-  not_pulled pulls.KeepFault turn = refl
-  not_pulled pulls.Memory turn = refl
+  not_pulled : ReplacesNone trace → (end : PullEnd) → PullTurn client route before end after trace → has_pulled (Ok lines.Pull) (pull_answer end) ≡ false
+  not_pulled none (pulls.Pending count) turn = refl
+  not_pulled none pulls.Unanswered turn = refl
+  not_pulled none (pulls.Pulled count) turn = absurd (pulled_not none count turn)
+  not_pulled none (pulls.OtherLast last acked) turn = refl
+  not_pulled none (pulls.Older path theirs ours) turn = refl
+  not_pulled none pulls.KeepFault turn = refl
+  not_pulled none pulls.Memory turn = refl
 
 -- ---- a run
 
@@ -113,6 +106,11 @@ run_noted work command before runs.NotRun after trace turn = same_noted before a
 run_noted work command before runs.Memory after trace turn = absurd turn.2
 
 -- ---- a line
+
+-- every line but a sync
+abbrev pub IsNoSync : Result Line LineError → Type 0
+IsNoSync (Ok lines.Sync) = ⊥
+IsNoSync line = Unit {0}
 
 module _ (before after : SessionState) (trace : Trace) where
   abbrev LineNoted : Type 0
@@ -134,21 +132,22 @@ module _ (before after : SessionState) (trace : Trace) where
   command_noted route (Ok command) answer turn = run_noted route.work command before.client.log turn.0 after.client.log trace turn.1
   command_noted route (Err refusal) answer turn = stays turn.1 turn.2
 
-  pub line_noted : (route : Route) (line : Result Line LineError) (answer : Option LineAnswer) → LineTurn route before line answer after trace → ReplacesNone trace → LineNoted
-  line_noted route (Err refusal) answer turn none = stays turn.1 turn.2
-  line_noted route (Ok lines.Empty) answer turn none = stays turn.1 turn.2
-  line_noted route (Ok (lines.Put word text)) answer turn none = log_noted (put_effect before.folder word text) answer turn
-  line_noted route (Ok (lines.Make word)) answer turn none = log_noted (make_effect before.folder word) answer turn
-  line_noted route (Ok (lines.Remove word)) answer turn none = log_noted (remove_effect before.folder word) answer turn
-  line_noted route (Ok (lines.Move from to)) answer turn none = log_noted (move_effect before.folder from to) answer turn
-  line_noted route (Ok (lines.Cat word)) answer turn none = stays turn.1 turn.2
-  line_noted route (Ok (lines.List word)) answer turn none = stays turn.1 turn.2
-  line_noted route (Ok (lines.Enter word)) answer turn none = same_noted before.client.log after.client.log trace (ap (λ (s : SessionState). s.client.log) turn.1) (ap (λ (t : Trace). t.changes) turn.2)
-  line_noted route (Ok (lines.Run words)) answer turn none = command_noted route (capture words before.folder) answer turn
-  line_noted route (Ok lines.Status) answer turn none = stays turn.1 turn.2
-  line_noted route (Ok lines.Sync) answer turn none = sync_noted before.client.number route before.client.log after.client.log turn.0 trace turn.1
-  line_noted route (Ok lines.Pull) answer turn none = pull_noted before.client.number route before.client.log after.client.log trace none turn.0 turn.1
-  line_noted route (Ok lines.Quit) answer turn none = stays turn.1 turn.2
+  line_noted : (route : Route) (line : Result Line LineError) (answer : Option LineAnswer) → IsNoSync line → LineTurn route before line answer after trace → has_pulled line answer ≡ false → LineNoted
+  line_noted route (Err refusal) answer other turn none = stays turn.1 turn.2
+  line_noted route (Ok lines.Empty) answer other turn none = stays turn.1 turn.2
+  line_noted route (Ok (lines.Put word text)) answer other turn none = log_noted (put_effect before.folder word text) answer turn
+  line_noted route (Ok (lines.Make word)) answer other turn none = log_noted (make_effect before.folder word) answer turn
+  line_noted route (Ok (lines.Remove word)) answer other turn none = log_noted (remove_effect before.folder word) answer turn
+  line_noted route (Ok (lines.Move from to)) answer other turn none = log_noted (move_effect before.folder from to) answer turn
+  line_noted route (Ok (lines.Cat word)) answer other turn none = stays turn.1 turn.2
+  line_noted route (Ok (lines.List word)) answer other turn none = stays turn.1 turn.2
+  line_noted route (Ok (lines.Enter word)) answer other turn none = same_noted before.client.log after.client.log trace (ap (λ (s : SessionState). s.client.log) turn.1) (ap (λ (t : Trace). t.changes) turn.2)
+  line_noted route (Ok (lines.Run words)) answer other turn none = command_noted route (capture words before.folder) answer turn
+  line_noted route (Ok lines.Status) answer other turn none = stays turn.1 turn.2
+  line_noted route (Ok lines.Sync) answer other turn none = absurd other
+  line_noted route (Ok lines.Pull) answer other turn none =
+      pull_noted before.client.number route before.client.log after.client.log trace turn.0 (sym (ap (has_pulled (Ok lines.Pull)) turn.3) ∙ none) turn.1
+  line_noted route (Ok lines.Quit) answer other turn none = stays turn.1 turn.2
 
   pub line_unpulled : (route : Route) (line : Result Line LineError) (answer : Option LineAnswer) → LineTurn route before line answer after trace → ReplacesNone trace → has_pulled line answer ≡ false
   line_unpulled route (Err refusal) answer turn none = refl
@@ -166,3 +165,19 @@ module _ (before after : SessionState) (trace : Trace) where
   line_unpulled route (Ok lines.Pull) answer turn none =
       ap (has_pulled (Ok lines.Pull)) turn.3 ∙ not_pulled before.client.number route before.client.log after.client.log trace none turn.0 turn.1
   line_unpulled route (Ok lines.Quit) answer turn none = refl
+
+-- ---- what was kept of a line that logs is of its trace
+
+module _ (route : Route) (x y : Sitting) (line : Result Line LineError) (other : IsNoSync line) (i j : Option Images) where
+  line_notes : (r : Result (Option LineAnswer) KeepError) (k : Log) (trace : Trace) → IfOk r (λ answer. has_pulled line answer ≡ false → KeepsLogged route.image x.client y.client i j)
+      → LineEnds route (state_of x) line r (state_of y) k trace → LineNoting route x line r y i j k trace
+  line_notes (Ok answer) k trace kept ends = (
+    ends,
+    λ none. logged_changes route.image x.client y.client trace.changes i j (line_noted (state_of x) (state_of y) trace route line answer other ends.0 none) (kept none),
+  )
+  line_notes (Err e) k trace kept ends = (ends, tt)
+
+  pub noting_line : (r : Result (Option LineAnswer) KeepError) (t u : Telling) → WentDoing route (LineEnds route (state_of x) line r (state_of y)) (state_of x) (state_of y) i j t u
+      → IfOk r (λ answer. has_pulled line answer ≡ false → KeepsLogged route.image x.client y.client i j) → WentDoing route (LineNoting route x line r y i j) (state_of x) (state_of y) i j t u
+  noting_line r t u went kept =
+      went_as route (LineEnds route (state_of x) line r (state_of y)) (LineNoting route x line r y i j) (state_of x) (state_of y) i j t u went (λ k trace ends behind. line_notes r k trace kept ends)

@@ -23,6 +23,7 @@ use Rattle.client_core.specs.Causes.{HasSyncCause, HasPullCause, AcknowledgesSom
 use Rattle.client_core.specs.Trace.{Trace, nothing}
 use Rattle.client_core.specs.Logging.{local_entry}
 use Rattle.client_core.specs.Syncing.{SyncEnds, is_broken_sync}
+use Rattle.client_core.specs.Noting.{SyncsNoting}
 use Rattle.client_core.specs.Pulling.{PullEnds, is_broken_pull}
 use Rattle.client_core.specs.Keeping.{IsKept, IsReady, IsKeptReady}
 use Rattle.cmd_capture.specs.Runs.{RunnerTelling, HasRun}
@@ -38,7 +39,7 @@ use Rattle.shell_lang.specs.declared.answer.LineAnswer.{LineAnswer}
 use Rattle.shell_lang.specs.declared.answer.LineAnswer.TheVariants as answers
 use Rattle.client_session.specs.Session.{SessionState, ClientState, Sitting, state_of, with_log, with_folder, LogTurn, LineTurn, local_answer, word_answer, status_answer, sync_answer, pull_answer}
 use Rattle.client_session.specs.Looking.{enter_answer, folder_by}
-use Rattle.client_session.specs.Doing.{Telling, beside, Does, WentDoing, LineEnds}
+use Rattle.client_session.specs.Doing.{Telling, beside, Does, WentDoing, LineEnds, LineNoting}
 use Rattle.client_session.specs.Inside.{IsAnswerOrMemory, GivesEffect, LogEnds, LogsOrRefuses, LogsMade}
 use Rattle.client_session.specs.Causes.{HasLineCause, is_sync_fault, is_pull_fault, answer_or_fault}
 use Rattle.client_session.proofs.Doing.{does_none, does_as}
@@ -272,21 +273,17 @@ broken_silent (syncs.Behind seq last) is = absurd (cc)
 broken_silent syncs.KeepFault is = refl
 broken_silent syncs.Memory is = refl
 
-module _ (route : Route) (before after : SessionState) (k : Log) (i j : Option Images) (t u : LinkTelling) (number : after.client.number ≡ before.client.number) (folder : after.folder ≡ before.folder) (end : SyncEnd)
-    (goes : Goes before.client.number (is_some route.surrogate) route.image (SyncEnds before.client.number route before.client.log end after.client.log k) before.client.log after.client.log k i j no_runner no_runner t u) (runner : RunnerTelling) where
-  abbrev Did : Result (Option LineAnswer) KeepError → Type 0
-  Did r = (kept : Log) × Does (is_some route.surrogate) route.image (LineEnds route before (Ok Sync) r after kept) before after kept i j (beside t runner) (beside u runner)
+pub unbroken : (end : SyncEnd) (answer : LineAnswer) → sync_answer end ≡ Some answer → is_broken_sync end ≡ false
+unbroken (syncs.Synced seq) answer is = refl
+unbroken (syncs.Stale seq path theirs ours) answer is = refl
+unbroken (syncs.Unfit seq index fault) answer is = refl
+unbroken (syncs.Full seq index fault) answer is = refl
+unbroken (syncs.Unanswered seq) answer is = refl
+unbroken (syncs.Behind seq last) answer is = refl
+unbroken syncs.KeepFault answer is = absurd (cc)
+unbroken syncs.Memory answer is = absurd (cc)
 
-  sync_as : (r : Result (Option LineAnswer) KeepError) → ((trace : Trace) → SyncEnds before.client.number route before.client.log end after.client.log k trace → LineEnds route before (Ok Sync) r after k trace) → Did r
-  sync_as r to = (
-    k,
-    record {
-      number = number;
-      goes = goes_as route.image before.client.number (is_some route.surrogate) (SyncEnds before.client.number route before.client.log end after.client.log k) (LineEnds route before (Ok Sync) r after k) before.client.log after.client.log k i j runner runner t u
-          (goes_beside route.image before.client.number (is_some route.surrogate) (SyncEnds before.client.number route before.client.log end after.client.log k) before.client.log after.client.log k i j t u goes runner) to;
-    },
-  )
-
+module _ (route : Route) (before after : SessionState) (k : Log) (number : after.client.number ≡ before.client.number) (folder : after.folder ≡ before.folder) (end : SyncEnd) where
   told_turn : (answer : LineAnswer) → sync_answer end ≡ Some answer → (trace : Trace) → SyncEnds before.client.number route before.client.log end after.client.log k trace → LineEnds route before (Ok Sync) (Ok (Some answer)) after k trace
   told_turn answer is trace (inl turn) = ((end, turn.0, same_but_log before after number folder, sym is), turn.1)
   told_turn answer is trace (inr broken) = absurd (cc (broken_silent end broken.0, is))
@@ -295,20 +292,36 @@ module _ (route : Route) (before after : SessionState) (k : Log) (i j : Option I
   broken_turn e trace (inl turn) = inr (inl (sync_answer end, (end, turn.0, same_but_log before after number folder, refl)))
   broken_turn e trace (inr broken) = inr (inr (broken.1, same_but_log before after number folder))
 
+module _ (route : Route) (x y : Sitting) (k : Log) (i j : Option Images) (t u : LinkTelling) (number : y.client.number ≡ x.client.number) (folder : y.folder ≡ x.folder) (end : SyncEnd)
+    (goes : Goes x.client.number (is_some route.surrogate) route.image (SyncsNoting x.client.number route x.client end y.client i j k) x.client.log y.client.log k i j no_runner no_runner t u) (runner : RunnerTelling) where
+  abbrev Did : Result (Option LineAnswer) KeepError → Type 0
+  Did r = (kept : Log) × Does (is_some route.surrogate) route.image (LineNoting route x (Ok Sync) r y i j kept) (state_of x) (state_of y) kept i j (beside t runner) (beside u runner)
+
+  sync_as : (r : Result (Option LineAnswer) KeepError) → ((trace : Trace) → SyncsNoting x.client.number route x.client end y.client i j k trace → LineNoting route x (Ok Sync) r y i j k trace) → Did r
+  sync_as r to = (
+    k,
+    record {
+      number = number;
+      goes = goes_as route.image x.client.number (is_some route.surrogate) (SyncsNoting x.client.number route x.client end y.client i j k) (LineNoting route x (Ok Sync) r y i j k) x.client.log y.client.log k i j runner runner t u
+          (goes_beside route.image x.client.number (is_some route.surrogate) (SyncsNoting x.client.number route x.client end y.client i j k) x.client.log y.client.log k i j t u goes runner) to;
+    },
+  )
+
   sync_answered : (fault : Bool) (told : Option LineAnswer) → told ≡ sync_answer end → Did (answer_or_fault fault told)
-  sync_answered true told shown = sync_as (Err keepers.Failed) (broken_turn keepers.Failed)
-  sync_answered false None shown = sync_as (Err keepers.Memory) (broken_turn keepers.Memory)
-  sync_answered false (Some answer) shown = sync_as (Ok (Some answer)) (told_turn answer (sym shown))
+  sync_answered true told shown = sync_as (Err keepers.Failed) (λ trace ended. (broken_turn route (state_of x) (state_of y) k number folder end keepers.Failed trace ended.0, tt))
+  sync_answered false None shown = sync_as (Err keepers.Memory) (λ trace ended. (broken_turn route (state_of x) (state_of y) k number folder end keepers.Memory trace ended.0, tt))
+  sync_answered false (Some answer) shown =
+      sync_as (Ok (Some answer)) (λ trace ended. (told_turn route (state_of x) (state_of y) k number folder end answer (sym shown) trace ended.0, λ none. ended.1 (unbroken end answer (sym shown))))
 
   sync_given : (fault : Bool) (told : Option LineAnswer) (r : Result (Option LineAnswer) KeepError) → told ≡ sync_answer end → r ≡ answer_or_fault fault told → Did r
   sync_given fault told r shown is = subst Did (sym is) (sync_answered fault told shown)
 
 -- over a link
-pub sync_went : (route : Route) (before after : SessionState) (i j : Option Images) (t u : LinkTelling) (number : after.client.number ≡ before.client.number) (folder : after.folder ≡ before.folder) (end : SyncEnd)
+pub sync_went : (route : Route) (x y : Sitting) (i j : Option Images) (t u : LinkTelling) (number : y.client.number ≡ x.client.number) (folder : y.folder ≡ x.folder) (end : SyncEnd)
     (fault : Bool) (told : Option LineAnswer) (r : Result (Option LineAnswer) KeepError) → told ≡ sync_answer end → r ≡ answer_or_fault fault told
-    → Went before.client.number (is_some route.surrogate) route.image (SyncEnds before.client.number route before.client.log end after.client.log) before.client.log after.client.log i j t u
-    → (runner : RunnerTelling) → WentDoing route (LineEnds route before (Ok Sync) r after) before after i j (beside t runner) (beside u runner)
-sync_went route before after i j t u number folder end fault told r shown is went runner = sync_given route before after went.0 i j t u number folder end went.1 runner fault told r shown is
+    → Went x.client.number (is_some route.surrogate) route.image (SyncsNoting x.client.number route x.client end y.client i j) x.client.log y.client.log i j t u
+    → (runner : RunnerTelling) → WentDoing route (LineNoting route x (Ok Sync) r y i j) (state_of x) (state_of y) i j (beside t runner) (beside u runner)
+sync_went route x y i j t u number folder end fault told r shown is went runner = sync_given route x y went.0 i j t u number folder end went.1 runner fault told r shown is
 
 pub sync_cause : (route : Route) (before after : SessionState) (t u : LinkTelling) (p q : ℕ) (number : after.client.number ≡ before.client.number) (folder : after.folder ≡ before.folder)
     → AcknowledgesSome before.client.log after.client.log → (end : SyncEnd) (fault : Bool) (told : Option LineAnswer) (r : Result (Option LineAnswer) KeepError) → told ≡ sync_answer end → fault ≡ is_sync_fault end
@@ -331,16 +344,6 @@ sync_counts p q end fault told r shown faulty is rises =
     by (syncs.Full n index cause) rises = record { later = rises.later; once = λ is. absurd (cc (is)); never = λ no. rises.never (λ is. absurd (cc (is))) }
     by (syncs.Unanswered n) rises = record { later = rises.later; once = λ is. absurd (cc (is)); never = λ no. rises.never (λ is. absurd (cc (is))) }
     by (syncs.Behind n last) rises = record { later = rises.later; once = λ is. absurd (cc (is)); never = λ no. rises.never (λ is. absurd (cc (is))) }
-
-pub unbroken : (end : SyncEnd) (answer : LineAnswer) → sync_answer end ≡ Some answer → is_broken_sync end ≡ false
-unbroken (syncs.Synced seq) answer is = refl
-unbroken (syncs.Stale seq path theirs ours) answer is = refl
-unbroken (syncs.Unfit seq index fault) answer is = refl
-unbroken (syncs.Full seq index fault) answer is = refl
-unbroken (syncs.Unanswered seq) answer is = refl
-unbroken (syncs.Behind seq last) answer is = refl
-unbroken syncs.KeepFault answer is = absurd (cc)
-unbroken syncs.Memory answer is = absurd (cc)
 
 -- a sync that is answered leaves its log kept
 pub sync_kept : (name : List ℕ) (client : ℕ) (before after : Log) (end : SyncEnd) (i j : Option Images) (fault : Bool) (told : Option LineAnswer) (r : Result (Option LineAnswer) KeepError) → told ≡ sync_answer end

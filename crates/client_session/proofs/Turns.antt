@@ -6,7 +6,7 @@ use Rattle.world_rules.proofs.Asks.{in_either}
 use Rattle.client_core.specs.declared.route.Route.{Route}
 use Rattle.client_core.specs.Trace.{Trace, nothing, followed}
 use Rattle.client_core.proofs.Going.{followed-assoc}
-use Rattle.client_session.specs.Laws.{IsOfTurn, IsOfBrokenTurn, AsksAreOfTurns, BrokenSessionsAskInTurns}
+use Rattle.client_session.specs.Laws.{IsOfTurn, AsksAreOfTurns, BrokenSessionsAskInTurns}
 
 nothing-followed : (trace : Trace) → trace ≡ followed nothing trace
 nothing-followed trace =

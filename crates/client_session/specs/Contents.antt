@@ -10,6 +10,7 @@ use Rattle.cmd_capture.specs.declared.runner.Run.{Run}
 use Rattle.mod_log.specs.declared.log.Entry.{Entry}
 use Rattle.mod_log.specs.Log.{Log}
 use Rattle.mod_log.specs.Sketched.{WritesContent}
+use Rattle.wire_frames.specs.declared.parts.Part.{Part}
 use Rattle.wire_frames.specs.declared.message.Message.{Message}
 use Rattle.wire_frames.specs.declared.message.Message.TheVariants.{Store, Snapshot}
 use Rattle.world_rules.specs.InStep.{HasNoCollision}
@@ -42,9 +43,9 @@ IsOfRuns runs content = (run : Run) × (row : RawRow) × IsIn run runs × IsIn r
 abbrev pub IsOfTheRun : List Entry → List (Result Line LineError) → List Run → List ℕ → Type 0
 IsOfTheRun pending lines runs content = IsOfEntries pending content ⊎ IsOfLines lines content ⊎ IsOfRuns runs content
 
--- the message has this content: a store what its effects write, a snapshot what its files have
+-- the message has this content: a store what the effects of its parts write, a snapshot what its files have
 abbrev pub HasContent : Message → List ℕ → Type 0
-HasContent (Store client number effects base) content = WritesContent effects content
+HasContent (Store client number parts) content = (part : Part) × IsIn part parts × WritesContent part.effects content
 HasContent (Snapshot client number last rows) content = (row : Row) × IsIn row rows × IsFileOf content row.node
 HasContent message content = ⊥
 

@@ -1,5 +1,5 @@
 -- What a line does: its turn, and with it the client and what is kept of it, and the world where that is told.
-use Rattle.std.specs.Prelude.{◌≡◌, ℕ, Bool, List, Option, is_some, Result, Ok, Err}
+use Rattle.std.specs.Prelude.{◌≡◌, ℕ, Bool, false, List, Option, is_some, Result, Ok, Err, IfOk}
 use Rattle.outside.specs.Keeper.{Images}
 use Rattle.outside.specs.declared.errors.KeepError.{KeepError}
 use Rattle.mod_log.specs.Log.{Log}
@@ -8,10 +8,11 @@ use Rattle.client_core.specs.declared.route.Route.{Route}
 use Rattle.client_core.specs.Trace.{Trace}
 use Rattle.cmd_capture.specs.Runs.{RunnerTelling}
 use Rattle.client_core.specs.Goes.{Goes}
+use Rattle.client_core.specs.Noting.{KeepsChanges}
 use Rattle.shell_lang.specs.declared.line.Line.{Line}
 use Rattle.shell_lang.specs.declared.line.LineError.{LineError}
 use Rattle.shell_lang.specs.declared.answer.LineAnswer.{LineAnswer}
-use Rattle.client_session.specs.Session.{SessionState, LineTurn, Broken}
+use Rattle.client_session.specs.Session.{SessionState, Sitting, state_of, has_pulled, LineTurn, Broken}
 
 -- what the link and the runner of a session tell at one moment
 pub record Telling : Type 0 where
@@ -42,3 +43,11 @@ abbrev pub LineEnds : Route → SessionState → Result Line LineError → Resul
     → Trace → Type 0
 LineEnds route before line (Ok answer) after kept trace = LineTurn route before line answer after trace × (kept ≡ after.client.log)
 LineEnds route before line (Err error) after kept trace = Broken route before line after trace
+
+-- the same, and where it was answered and no pull replaced the base, each change of the line was kept by a record of its own
+abbrev pub LineNoting : Route → Sitting → Result Line LineError → Result (Option LineAnswer) KeepError → Sitting → Option Images
+    → Option Images → Log → Trace → Type 0
+LineNoting route before line result after images now kept trace =
+    LineEnds route (state_of before) line result (state_of after) kept trace
+    × IfOk result (λ answer. has_pulled line answer ≡ false
+    → KeepsChanges route.image before.client after.client trace.changes images now)

@@ -1,5 +1,5 @@
 -- What holds of every session.
-use Rattle.std.specs.Prelude.{◌≡◌, ◌⊎◌, ◌+◌, ◌*◌, ◌≤◌, length, List, [], ◌∷◌, map, Option, Some, Result}
+use Rattle.std.specs.Prelude.{◌≡◌, ◌⊎◌, ◌+◌, ◌*◌, ◌<◌, ◌≤◌, length, List, [], ◌∷◌, map, Option, Some, Result}
 use Rattle.std.specs.List.{count_by}
 use Rattle.tree_values.specs.Lists.{IsIn}
 use Rattle.tree_values.specs.Tree.{Volume}
@@ -10,18 +10,18 @@ use Rattle.world_rules.specs.declared.asking.Peer.TheVariants.{Server, Surrogate
 use Rattle.world_rules.specs.Settling.{failed_asks}
 use Rattle.client_core.specs.declared.route.Route.{Route}
 use Rattle.client_core.specs.Trace.{Trace, followed}
-use Rattle.client_core.specs.Syncing.{acknowledged_first}
+use Rattle.client_core.specs.Causes.{AcknowledgesSome}
 use Rattle.shell_lang.specs.declared.line.Line.{Line}
 use Rattle.shell_lang.specs.declared.line.LineError.{LineError}
 use Rattle.shell_lang.specs.declared.answer.LineAnswer.{LineAnswer}
 use Rattle.client_session.specs.Causes.{asks_to_run}
 use Rattle.client_session.specs.Session.{SessionState, LineTurn, Broken, Chain, BreaksChain, is_unrun, is_unanswered}
 
--- one entry with the next number is logged, the first pending one is acknowledged, or the base is replaced by a pull
+-- one entry with the next number is logged, one or more of the first pending ones are acknowledged, or the base is replaced by a pull
 abbrev pub IsChange : Log → Log → Type 0
 IsChange before after =
     ((entry : Entry) × (entry.seq ≡ before.acked + length before.pending + 1) × (after ≡ logged entry before))
-    ⊎ (after ≡ acknowledged_first before) ⊎ ((seen : Volume) × (after ≡ pulled seen before))
+    ⊎ (AcknowledgesSome before after × (before.acked < after.acked)) ⊎ ((seen : Volume) × (after ≡ pulled seen before))
 
 -- each of these logs is a change of the one before it, and the last of them is this log
 abbrev pub ChangesLeadTo : Log → List Log → Log → Type 0

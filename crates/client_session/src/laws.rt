@@ -4,8 +4,8 @@ ghost use Rattle.client_session.specs.Laws.{LinesRunOnce, AsksAreOfTheRoute, Bro
 ghost use Rattle.client_session.specs.Laws.{AsksAreOfTurns, BrokenSessionsAskInTurns};
 ghost use Rattle.client_session.specs.Contents.{DistinctContentsDoNotCollide, BrokenSessionsDoNotCollide};
 
-/// Law: what a session changes of the log are entries that it logs, acknowledgements of the first pending one and pulls, one
-/// after the other, and its log is what they lead to.
+/// Law: what a session changes of the log are entries that it logs, acknowledgements of one or more of the first pending ones and
+/// pulls, one after the other, and its log is what they lead to.
 pub fn sessions_change_so()
     ensures { SessionsChangeSo }
 {}

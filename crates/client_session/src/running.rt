@@ -3,7 +3,7 @@ ghost use Rattle.std.specs.Prelude.{◌≡◌, ◌≤◌, Err, IfOk};
 ghost use Rattle.outside.specs.Outside.{CountsFault};
 ghost use Rattle.cmd_capture.specs.Spelling.{IsCommand};
 ghost use Rattle.client_core.specs.Keeping.{IsKeptReady};
-ghost use Rattle.client_core.specs.Noting.{KeepsChanges};
+ghost use Rattle.client_core.specs.Noting.{KeepsLogged};
 ghost use Rattle.cmd_capture.specs.Runs.{telling, IsAskedAtMostOnce};
 ghost use Rattle.client_core.specs.Running.{has_logged};
 ghost use Rattle.client_session.specs.Session.{state_of, capture_answer, job_answer, run_answer};
@@ -32,7 +32,7 @@ impl Session {
             (K.images keeper.new)
             (telling (R.runs runner.old) (R.faults runner.old)) (telling (R.runs runner.new) (R.faults runner.new)) }
         ensures kept { IfOk result (λ answer. IsKeptReady (K.images keeper.new) route.now.image self.new.client) }
-        ensures records { IfOk result (λ answer. KeepsChanges route.now.image self.old.client self.new.client
+        ensures records { IfOk result (λ answer. KeepsLogged route.now.image self.old.client self.new.client
             (K.images keeper.old) (K.images keeper.new)) }
         ensures later { R.faults runner.old ≤ R.faults runner.new }
         ensures keeper { CountsFault KeepError.Failed (K.faults keeper.old) (K.faults keeper.new) result }
@@ -57,7 +57,7 @@ impl Session {
         ensures runs { RunsMade route.now command (state_of self.old) result (state_of self.new) (K.images keeper.old) (K.images keeper.new)
             (telling (R.runs runner.old) (R.faults runner.old)) (telling (R.runs runner.new) (R.faults runner.new)) }
         ensures kept { IfOk result (λ answer. IsKeptReady (K.images keeper.new) route.now.image self.new.client) }
-        ensures records { IfOk result (λ answer. KeepsChanges route.now.image self.old.client self.new.client
+        ensures records { IfOk result (λ answer. KeepsLogged route.now.image self.old.client self.new.client
             (K.images keeper.old) (K.images keeper.new)) }
         ensures later { R.faults runner.old ≤ R.faults runner.new }
         ensures keeper { CountsFault KeepError.Failed (K.faults keeper.old) (K.faults keeper.new) result }

@@ -4,13 +4,13 @@ ghost use Rattle.std.specs.Option.{option_copied};
 ghost use Rattle.outside.specs.Outside.{CountsFault};
 ghost use Rattle.mod_log.specs.Log.{tree_of};
 ghost use Rattle.client_core.specs.Keeping.{IsKeptReady};
-ghost use Rattle.client_core.specs.Noting.{KeepsChanges};
+ghost use Rattle.client_core.specs.Noting.{KeepsLogged};
 ghost use Rattle.client_session.specs.Session.{state_of, put_effect, make_effect, remove_effect, move_effect};
 ghost use Rattle.client_session.specs.Session.{with_folder, local_answer, word_answer, sync_answer, pull_answer};
 ghost use Rattle.client_session.specs.Session.{status_answer, has_pulled};
 ghost use Rattle.client_session.specs.Looking.{cat_answer, list_answer, enter_answer, folder_by};
 ghost use Rattle.cmd_capture.specs.Runs.{RunnerTelling, telling, IsAskedAtMostOnce};
-ghost use Rattle.client_session.specs.Doing.{beside, WentDoing, LineEnds};
+ghost use Rattle.client_session.specs.Doing.{beside, WentDoing, LineEnds, LineNoting};
 ghost use Rattle.client_session.specs.Causes.{HasLineCause, asks_to_run, is_sync_fault, is_pull_fault, answer_or_fault};
 ghost use Rattle.client_session.specs.Inside.{IsAnswerOrMemory, LogsOrRefuses, LogsMade};
 
@@ -69,17 +69,15 @@ impl Session {
         runner: &mut R,
     ) -> Result<Option<LineAnswer>, KeepError>
         requires { IsKeptReady (K.images keeper.old) route.now.image self.old.client }
-        ensures did { WentDoing route.now (LineEnds route.now (state_of self.old) line result (state_of self.new)) (state_of self.old)
-            (state_of self.new) (K.images keeper.old)
-            (K.images keeper.new) (beside (L.tells link.old) (telling (R.runs runner.old) (R.faults runner.old)))
+        // each change was kept by itself, but for a pull that replaced the base
+        ensures did { WentDoing route.now (LineNoting route.now self.old line result self.new (K.images keeper.old) (K.images keeper.new))
+            (state_of self.old) (state_of self.new) (K.images keeper.old) (K.images keeper.new)
+            (beside (L.tells link.old) (telling (R.runs runner.old) (R.faults runner.old)))
             (beside (L.tells link.new) (telling (R.runs runner.new) (R.faults runner.new))) }
         ensures cause { HasLineCause route.now (state_of self.old) line result (state_of self.new)
             (beside (L.tells link.old) (telling (R.runs runner.old) (R.faults runner.old)))
             (beside (L.tells link.new) (telling (R.runs runner.new) (R.faults runner.new))) (K.faults keeper.old) (K.faults keeper.new) }
         ensures kept { IfOk result (λ answer. IsKeptReady (K.images keeper.new) route.now.image self.new.client) }
-        // each change was kept by itself, but for a pull that replaced the base
-        ensures records { IfOk result (λ answer. has_pulled line answer ≡ false
-            → KeepsChanges route.now.image self.old.client self.new.client (K.images keeper.old) (K.images keeper.new)) }
         ensures later { (L.tells link.old).troubles ≤ (L.tells link.new).troubles }
         ensures runner_later { R.faults runner.old ≤ R.faults runner.new }
         ensures runner { asks_to_run line ≡ false → telling (R.runs runner.new) (R.faults runner.new) ≡ telling (R.runs runner.old)
@@ -131,7 +129,7 @@ impl Session {
             (K.images keeper.old)
             (K.images keeper.new) }
         ensures kept { IfOk result (λ answer. IsKeptReady (K.images keeper.new) image.now self.new.client) }
-        ensures records { IfOk result (λ answer. KeepsChanges image.now self.old.client self.new.client
+        ensures records { IfOk result (λ answer. KeepsLogged image.now self.old.client self.new.client
             (K.images keeper.old) (K.images keeper.new)) }
         ensures keeper { CountsFault KeepError.Failed (K.faults keeper.old) (K.faults keeper.new) result }
     {
@@ -152,7 +150,7 @@ impl Session {
             (K.images keeper.old)
             (K.images keeper.new) }
         ensures kept { IfOk result (λ answer. IsKeptReady (K.images keeper.new) image.now self.new.client) }
-        ensures records { IfOk result (λ answer. KeepsChanges image.now self.old.client self.new.client
+        ensures records { IfOk result (λ answer. KeepsLogged image.now self.old.client self.new.client
             (K.images keeper.old) (K.images keeper.new)) }
         ensures keeper { CountsFault KeepError.Failed (K.faults keeper.old) (K.faults keeper.new) result }
     {
@@ -172,7 +170,7 @@ impl Session {
             (K.images keeper.old)
             (K.images keeper.new) }
         ensures kept { IfOk result (λ answer. IsKeptReady (K.images keeper.new) image.now self.new.client) }
-        ensures records { IfOk result (λ answer. KeepsChanges image.now self.old.client self.new.client
+        ensures records { IfOk result (λ answer. KeepsLogged image.now self.old.client self.new.client
             (K.images keeper.old) (K.images keeper.new)) }
         ensures keeper { CountsFault KeepError.Failed (K.faults keeper.old) (K.faults keeper.new) result }
     {
@@ -193,7 +191,7 @@ impl Session {
             (state_of self.new) (K.images keeper.old)
             (K.images keeper.new) }
         ensures kept { IfOk result (λ answer. IsKeptReady (K.images keeper.new) image.now self.new.client) }
-        ensures records { IfOk result (λ answer. KeepsChanges image.now self.old.client self.new.client
+        ensures records { IfOk result (λ answer. KeepsLogged image.now self.old.client self.new.client
             (K.images keeper.old) (K.images keeper.new)) }
         ensures keeper { CountsFault KeepError.Failed (K.faults keeper.old) (K.faults keeper.new) result }
     {
@@ -211,7 +209,7 @@ impl Session {
         requires { IsKeptReady (K.images keeper.old) image.now self.old.client }
         ensures logs { LogsMade image.now made (state_of self.old) result (state_of self.new) (K.images keeper.old) (K.images keeper.new) }
         ensures kept { IfOk result (λ answer. IsKeptReady (K.images keeper.new) image.now self.new.client) }
-        ensures records { IfOk result (λ answer. KeepsChanges image.now self.old.client self.new.client
+        ensures records { IfOk result (λ answer. KeepsLogged image.now self.old.client self.new.client
             (K.images keeper.old) (K.images keeper.new)) }
         ensures keeper { CountsFault KeepError.Failed (K.faults keeper.old) (K.faults keeper.new) result }
     {
@@ -278,14 +276,12 @@ impl Session {
     ) -> Result<Option<LineAnswer>, KeepError>
         requires { IsKeptReady (K.images keeper.old) route.now.image self.old.client }
         ensures did { (runner : RunnerTelling) → WentDoing route.now
-            (LineEnds route.now (state_of self.old) (Ok Line.Sync) result (state_of self.new)) (state_of self.old) (state_of self.new)
-            (K.images keeper.old) (K.images keeper.new)
+            (LineNoting route.now self.old (Ok Line.Sync) result self.new (K.images keeper.old) (K.images keeper.new))
+            (state_of self.old) (state_of self.new) (K.images keeper.old) (K.images keeper.new)
             (beside (L.tells link.old) runner) (beside (L.tells link.new) runner) }
         ensures cause { (runner : RunnerTelling) → HasLineCause route.now (state_of self.old) (Ok Line.Sync) result (state_of self.new)
             (beside (L.tells link.old) runner) (beside (L.tells link.new) runner) (K.faults keeper.old) (K.faults keeper.new) }
         ensures kept { IfOk result (λ answer. IsKeptReady (K.images keeper.new) route.now.image self.new.client) }
-        ensures records { IfOk result (λ answer. KeepsChanges route.now.image self.old.client self.new.client
-            (K.images keeper.old) (K.images keeper.new)) }
         ensures later { (L.tells link.old).troubles ≤ (L.tells link.new).troubles }
         ensures keeper { CountsFault KeepError.Failed (K.faults keeper.old) (K.faults keeper.new) result }
     {
@@ -310,7 +306,7 @@ impl Session {
             (beside (L.tells link.old) runner) (beside (L.tells link.new) runner) (K.faults keeper.old) (K.faults keeper.new) }
         ensures kept { IfOk result (λ answer. IsKeptReady (K.images keeper.new) route.now.image self.new.client) }
         ensures records { IfOk result (λ answer. has_pulled (Ok Line.Pull) answer ≡ false
-            → KeepsChanges route.now.image self.old.client self.new.client (K.images keeper.old) (K.images keeper.new)) }
+            → KeepsLogged route.now.image self.old.client self.new.client (K.images keeper.old) (K.images keeper.new)) }
         ensures later { (L.tells link.old).troubles ≤ (L.tells link.new).troubles }
         ensures keeper { CountsFault KeepError.Failed (K.faults keeper.old) (K.faults keeper.new) result }
     {

@@ -1,13 +1,12 @@
-use Rattle.std.proofs.Common.{◌≡◌, ◌≤◌, ℕ, Bool, false, List, ◌∷◌, [], length, take, Result, Ok, Err, subst}
+use Rattle.std.proofs.Common.{◌≡◌, ◌≤◌, ℕ, Bool, List, ◌∷◌, [], length, take, Result, Ok, Err, subst}
 use Rattle.std.proofs.lemmas.Result.{err_from_is_err_and}
 use Rattle.outside.specs.Outside.{Adds}
 use Rattle.shell_lang.specs.Commands.{read_line}
 use Rattle.shell_lang.specs.declared.line.Line.{Line}
 use Rattle.shell_lang.specs.declared.line.LineError.{LineError}
 use Rattle.cmd_capture.specs.Runs.{telling}
-use Rattle.client_session.specs.Session.{state_of, has_pulled}
-use Rattle.client_session.specs.Doing.{WentDoing, LineEnds, beside}
-use Rattle.client_core.specs.Noting.{KeepsChanges}
+use Rattle.client_session.specs.Session.{state_of}
+use Rattle.client_session.specs.Doing.{WentDoing, LineNoting, beside}
 use Rattle.client_prog.specs.declared.run.Stop.TheVariants.{Memory}
 use Rattle.client_prog.specs.declared.run.Stop.TheVariants as stops
 use Rattle.client_prog.specs.Run.{stop_by, stop_of, WritesFront}
@@ -39,10 +38,12 @@ returns-in_err-answer-clause-did g c =
     let o = g.O.Sink.written c.args.output.now in
     let line = c.args.line.now in
     let e = c.in_err-answer.field-0.0 in
-    let turn : WentDoing r (LineEnds r a (read_line line) (Err e) b) a b i j t u =
-    subst (λ (l : Result Line LineError). WentDoing r (LineEnds r a l (Err e) b) a b i j t u) c.in_ok-asked.ensures c.in_err-answer.ensures.did in
-    rw (p.1, p.2) (stopped_as r Bool (stop_by e) (LineEnds r a (read_line line) (Err e) b) (AnswersLines {T = Bool} r a (line ∷ []) o o (Err (stop_by e)) b) c.args.session.now c.answer.new.self i j t u turn
-    (λ k trace broken behind. line_broken r a b k line o e trace broken behind))
+    let x = c.args.session.now in
+    let y = c.answer.new.self in
+    let turn : WentDoing r (LineNoting r x (read_line line) (Err e) y i j) a b i j t u =
+    subst (λ (l : Result Line LineError). WentDoing r (LineNoting r x l (Err e) y i j) a b i j t u) c.in_ok-asked.ensures c.in_err-answer.ensures.did in
+    rw (p.1, p.2) (stopped_as r Bool (stop_by e) (LineNoting r x (read_line line) (Err e) y i j) (AnswersLines {T = Bool} r a (line ∷ []) o o (Err (stop_by e)) b) c.args.session.now c.answer.new.self i j t u turn
+    (λ k trace broken behind. line_broken r a b k line o e trace broken.0 behind))
 
 pub returns-in_err-text-clause-did : goal.returns-in_err-text-clause-did
 returns-in_err-text-clause-did g c =
@@ -57,10 +58,12 @@ returns-in_err-text-clause-did g c =
     let o = g.O.Sink.written c.args.output.now in
     let line = c.args.line.now in
     let answer = c.in_ok-answer.answer in
-    let turn : WentDoing r (LineEnds r a (read_line line) (Ok answer) b) a b i j t u =
-    subst (λ (l : Result Line LineError). WentDoing r (LineEnds r a l (Ok answer) b) a b i j t u) c.in_ok-asked.ensures c.in_ok-answer.ensures.did in
-    rw (p.1, p.2) (stopped_as r Bool Memory (LineEnds r a (read_line line) (Ok answer) b) (AnswersLines {T = Bool} r a (line ∷ []) o o (Err Memory) b) c.args.session.now c.answer.new.self i j t u turn
-    (λ k trace turned behind. line_untold r a b k line o answer trace turned behind))
+    let x = c.args.session.now in
+    let y = c.answer.new.self in
+    let turn : WentDoing r (LineNoting r x (read_line line) (Ok answer) y i j) a b i j t u =
+    subst (λ (l : Result Line LineError). WentDoing r (LineNoting r x l (Ok answer) y i j) a b i j t u) c.in_ok-asked.ensures c.in_ok-answer.ensures.did in
+    rw (p.1, p.2) (stopped_as r Bool Memory (LineNoting r x (read_line line) (Ok answer) y i j) (AnswersLines {T = Bool} r a (line ∷ []) o o (Err Memory) b) c.args.session.now c.answer.new.self i j t u turn
+    (λ k trace turned behind. line_untold r a b k line o answer trace turned.0 behind))
 
 pub returns-clause-did : goal.returns-clause-did
 returns-clause-did g c =
@@ -77,12 +80,12 @@ returns-clause-did g c =
     let answer = c.in_ok-answer.answer in
     let text = c.in_ok-text.text in
     let adds : Adds o n text.items = subst (λ (l : List ℕ). Adds o n l) c.deref.ensures.value c.in_ok-write_all.ensures.all in
-    let kept : has_pulled (read_line line) answer ≡ false → KeepsChanges r.image c.args.session.now.client c.answer.new.self.client i j =
-    subst (λ (l : Result Line LineError). has_pulled l answer ≡ false → KeepsChanges r.image c.args.session.now.client c.answer.new.self.client i j) c.in_ok-asked.ensures c.in_ok-answer.ensures.records in
-    let turn : WentDoing r (LineEnds r a (read_line line) (Ok answer) b) a b i j t u =
-    subst (λ (l : Result Line LineError). WentDoing r (LineEnds r a l (Ok answer) b) a b i j t u) c.in_ok-asked.ensures c.in_ok-answer.ensures.did in
-    ended_as r c.is_quit-quit.result (LineEnds r a (read_line line) (Ok answer) b) (AnswersLines r a (line ∷ []) o n (Ok c.is_quit-quit.result) b) c.args.session.now c.answer.new.self i j t u turn
-    (λ k trace turned. ((line_answered r a b k line o n answer text.items trace turned c.in_ok-text.ensures adds, turned.1), notes_line r.image r c.args.session.now c.answer.new.self (read_line line) answer i j trace turned.0 kept))
+    let x = c.args.session.now in
+    let y = c.answer.new.self in
+    let turn : WentDoing r (LineNoting r x (read_line line) (Ok answer) y i j) a b i j t u =
+    subst (λ (l : Result Line LineError). WentDoing r (LineNoting r x l (Ok answer) y i j) a b i j t u) c.in_ok-asked.ensures c.in_ok-answer.ensures.did in
+    ended_as r c.is_quit-quit.result (LineNoting r x (read_line line) (Ok answer) y i j) (AnswersLines r a (line ∷ []) o n (Ok c.is_quit-quit.result) b) c.args.session.now c.answer.new.self i j t u turn
+    (λ k trace turned. ((line_answered r a b k line o n answer text.items trace turned.0 c.in_ok-text.ensures adds, turned.0.1), notes_line r.image r x y (read_line line) answer i j trace turned.0.0 turned.1))
 
 pub returns-in_err-write_all-clause-did : goal.returns-in_err-write_all-clause-did
 returns-in_err-write_all-clause-did g c =
@@ -103,10 +106,12 @@ returns-in_err-write_all-clause-did g c =
     let cut : (count : ℕ) × (count ≤ length text.items) × Adds o n (take count text.items) =
     subst (λ (l : List ℕ). (count : ℕ) × (count ≤ length l) × Adds o n (take count l)) c.deref.ensures.value c.in_err-write_all.ensures.front in
     let writes : WritesFront (stop_of refused) text.items o n = cut_front refused text.items o n (cut.0, cut.2) in
-    let turn : WentDoing r (LineEnds r a (read_line line) (Ok answer) b) a b i j t u =
-    subst (λ (l : Result Line LineError). WentDoing r (LineEnds r a l (Ok answer) b) a b i j t u) c.in_ok-asked.ensures c.in_ok-answer.ensures.did in
-    rw (p.1, p.2) (stopped_as r Bool (stop_of refused) (LineEnds r a (read_line line) (Ok answer) b) (AnswersLines {T = Bool} r a (line ∷ []) o n (Err (stop_of refused)) b) c.args.session.now c.answer.new.self i j t u turn
-    (λ k trace turned behind. line_cut r (stop_of refused) a b k line o n answer text.items trace turned c.in_ok-text.ensures writes))
+    let x = c.args.session.now in
+    let y = c.answer.new.self in
+    let turn : WentDoing r (LineNoting r x (read_line line) (Ok answer) y i j) a b i j t u =
+    subst (λ (l : Result Line LineError). WentDoing r (LineNoting r x l (Ok answer) y i j) a b i j t u) c.in_ok-asked.ensures c.in_ok-answer.ensures.did in
+    rw (p.1, p.2) (stopped_as r Bool (stop_of refused) (LineNoting r x (read_line line) (Ok answer) y i j) (AnswersLines {T = Bool} r a (line ∷ []) o n (Err (stop_of refused)) b) c.args.session.now c.answer.new.self i j t u turn
+    (λ k trace turned behind. line_cut r (stop_of refused) a b k line o n answer text.items trace turned.0 c.in_ok-text.ensures writes))
 
 -- ---- the faults of the sink and of the keeper
 

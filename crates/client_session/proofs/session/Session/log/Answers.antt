@@ -5,7 +5,7 @@ use Rattle.client_core.specs.Keeping.{IsKept, IsKeptReady}
 use Rattle.client_core.specs.Journal.{next_notes}
 use Rattle.client_core.proofs.Journal.{KeepsLog, next_keeps}
 use Rattle.client_core.specs.Client.{Client}
-use Rattle.client_core.specs.Noting.{KeepsChanges}
+use Rattle.client_core.specs.Noting.{KeepsLogged}
 use Rattle.client_core.proofs.Locals.{appended-is, local_one}
 use Rattle.client_core.proofs.Noting.{keeps_same, keeps_logged}
 use Rattle.shell_lang.specs.declared.answer.LineAnswer.TheVariants.{Logged}
@@ -92,16 +92,16 @@ returns-in-Err-clause-records g c =
     let name = c.args.image.now in
     let i = g.K.Keeper.images c.args.keeper.now in
     let client = c.args.self.now.client in
-    whatever c.given.result (KeepsChanges name client client i i) (keeps_same name client i)
+    whatever c.given.result (KeepsLogged name client client i i) (keeps_same name client i)
 
 pub returns-in-Err-local-clause-records : goal.returns-in-Err-local-clause-records
 returns-in-Err-local-clause-records g c =
     let name = c.args.image.now in
     let i = g.K.Keeper.images c.args.keeper.now in
     let before = c.self.inside.client in
-    whatever c.given-in-Err-local.result (KeepsChanges name c.args.self.now.client c.local.new.self i i)
-    (subst (λ (s : Sitting). KeepsChanges name s.client c.local.new.self i i) c.self.view_is
-    (subst (λ (client : Client). KeepsChanges name before client i i) (sym c.in-Err-local.ensures.unchanged) (keeps_same name before i)))
+    whatever c.given-in-Err-local.result (KeepsLogged name c.args.self.now.client c.local.new.self i i)
+    (subst (λ (s : Sitting). KeepsLogged name s.client c.local.new.self i i) c.self.view_is
+    (subst (λ (client : Client). KeepsLogged name before client i i) (sym c.in-Err-local.ensures.unchanged) (keeps_same name before i)))
 
 pub returns-clause-records : goal.returns-clause-records
 returns-clause-records g c =
@@ -111,6 +111,6 @@ returns-clause-records g c =
     let before = c.self.inside.client in
     let effects = c.in-Ok.effect ∷ [] in
     let kept : IsKeptReady i name before = subst (λ (s : Sitting). IsKeptReady i name s.client) (sym c.self.view_is) c.requires in
-    subst (λ (s : Sitting). KeepsChanges name s.client c.keep.new.self i j) c.self.view_is
+    subst (λ (s : Sitting). KeepsLogged name s.client c.keep.new.self i j) c.self.view_is
     (keeps_logged name before c.local.new.self c.keep.new.self c.in_default.field-0 i j (next_entry None effects before.log) c.local.ensures.number
     (sym (appended-is None effects before.log c.local.new.self.log c.in-Ok-local.ensures.ok)) c.local.ensures.journal c.keep.ensures.number c.keep.ensures.log c.in_default.ensures.journal kept c.in_default.ensures.kept)

@@ -1,6 +1,6 @@
 use Rattle.std.proofs.Common.{◌≡◌, false, ℕ, Ok, IfOk, refl, sym, subst}
 use Rattle.client_core.specs.Keeping.{IsKept, IsReady}
-use Rattle.client_core.specs.Noting.{KeepsChanges}
+use Rattle.client_core.specs.Noting.{KeepsLogged}
 use Rattle.shell_lang.specs.declared.line.Line.TheVariants.{Pull}
 use Rattle.client_session.specs.Session.{SessionState, Sitting, state_of, has_pulled}
 use Rattle.client_session.specs.Doing.{beside, WentDoing, LineEnds}
@@ -63,5 +63,5 @@ returns-clause-records g c =
     let i = g.K.Keeper.images c.args.keeper.now in
     let j = g.K.Keeper.images c.pull-end.new.keeper in
     let r = c.answered.result in
-    subst (λ (s : Sitting). IfOk r (λ answer. has_pulled (Ok Pull) answer ≡ false → KeepsChanges image s.client after i j)) c.self.view_is
+    subst (λ (s : Sitting). IfOk r (λ answer. has_pulled (Ok Pull) answer ≡ false → KeepsLogged image s.client after i j)) c.self.view_is
     (pull_records c.is_pull_fault-fault.result c.pull_answer.result r c.answered.ensures image c.self.inside.client after i j c.pull-end.result c.pull_answer.ensures c.pull-end.ensures.unchanged)

@@ -4,7 +4,7 @@ use Rattle.cmd_capture.specs.declared.capturing.CaptureError.TheVariants.{Memory
 use Rattle.cmd_capture.specs.Capture.{capture}
 use Rattle.cmd_capture.specs.Runs.{telling}
 use Rattle.client_session.specs.Session.{Sitting, state_of}
-use Rattle.client_core.specs.Noting.{KeepsChanges}
+use Rattle.client_core.specs.Noting.{KeepsLogged}
 use Rattle.client_core.proofs.Noting.{keeps_same}
 use Rattle.client_session.proofs.Commanding.{capture_given, whatever}
 use Rattle.client_session.proofs.session.Session.run.Goals as goal
@@ -26,4 +26,4 @@ returns-in-Err-clause-records g c =
     let name = c.args.route.now.image in
     let i = g.K.Keeper.images c.args.keeper.now in
     let client = c.args.self.now.client in
-    whatever c.given.result (KeepsChanges name client client i i) (keeps_same name client i)
+    whatever c.given.result (KeepsLogged name client client i i) (keeps_same name client i)

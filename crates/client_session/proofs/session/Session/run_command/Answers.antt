@@ -7,7 +7,7 @@ use Rattle.client_core.specs.Running.{RunsCommand, has_logged}
 use Rattle.client_core.specs.Keeping.{IsKept, IsReady, IsKeptReady, KeepsNext}
 use Rattle.client_core.specs.Journal.{next_notes}
 use Rattle.client_core.proofs.Journal.{KeepsLog, next_keeps}
-use Rattle.client_core.specs.Noting.{KeepsChanges}
+use Rattle.client_core.specs.Noting.{KeepsLogged}
 use Rattle.client_core.proofs.Noting.{keeps_same, keeps_logged}
 use Rattle.client_core.proofs.Runs.{ran_one, ran_logged}
 use Rattle.client_session.specs.Session.{SessionState, Sitting, state_of}
@@ -128,9 +128,9 @@ returns-then-not-has_logged-clause-records g c =
     let i = g.K.Keeper.images c.args.keeper.now in
     let before = c.self.inside.client in
     let none : has_logged c.run_command-end.result ≡ false = sym c.has_logged.ensures ∙ c.if-not-has_logged.true in
-    whatever c.given.result (KeepsChanges name c.args.self.now.client c.run_command-end.new.self i i)
-    (subst (λ (s : Sitting). KeepsChanges name s.client c.run_command-end.new.self i i) c.self.view_is
-    (subst (λ (client : Client). KeepsChanges name before client i i) (sym (c.run_command-end.ensures.unchanged none)) (keeps_same name before i)))
+    whatever c.given.result (KeepsLogged name c.args.self.now.client c.run_command-end.new.self i i)
+    (subst (λ (s : Sitting). KeepsLogged name s.client c.run_command-end.new.self i i) c.self.view_is
+    (subst (λ (client : Client). KeepsLogged name before client i i) (sym (c.run_command-end.ensures.unchanged none)) (keeps_same name before i)))
 
 pub returns-clause-records : goal.returns-clause-records
 returns-clause-records g c =
@@ -150,6 +150,6 @@ returns-clause-records g c =
     let kept : IsKeptReady i name before = subst (λ (s : Sitting). IsKeptReady i name s.client) (sym c.self.view_is) c.requires.kept in
     let told : Told i j (KeepsNext {E = KeepError} name after.number after.log (next_notes after.journal false after.log) (Ok done)) =
     subst (λ (n : List ℕ). Told i j (KeepsNext {E = KeepError} n after.number after.log (next_notes after.journal false after.log) (Ok done))) c.bytes-2.ensures.value c.in_default.ensures.kept in
-    whatever c.given-2.result (KeepsChanges name c.args.self.now.client c.keep.new.self i j)
-    (subst (λ (s : Sitting). KeepsChanges name s.client c.keep.new.self i j) c.self.view_is
+    whatever c.given-2.result (KeepsLogged name c.args.self.now.client c.keep.new.self i j)
+    (subst (λ (s : Sitting). KeepsLogged name s.client c.keep.new.self i j) c.self.view_is
     (keeps_logged name before after c.keep.new.self done i j logged.0 c.run_command-end.ensures.number logged.1 c.run_command-end.ensures.journal c.keep.ensures.number c.keep.ensures.log c.in_default.ensures.journal kept told))

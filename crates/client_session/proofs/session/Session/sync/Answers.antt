@@ -1,26 +1,24 @@
 use Rattle.std.proofs.Common.{ℕ, Ok, IfOk, refl, sym, subst}
 use Rattle.client_core.specs.Keeping.{IsKept, IsReady}
-use Rattle.client_core.specs.Noting.{KeepsChanges}
 use Rattle.shell_lang.specs.declared.line.Line.TheVariants.{Sync}
 use Rattle.client_session.specs.Session.{SessionState, Sitting, state_of}
-use Rattle.client_session.specs.Doing.{beside, WentDoing, LineEnds}
+use Rattle.client_session.specs.Doing.{beside, WentDoing, LineNoting}
 use Rattle.client_session.specs.Causes.{HasLineCause}
 use Rattle.client_session.proofs.Turning.{sync_went, sync_cause, sync_kept, both_ok, sync_counts}
-use Rattle.client_session.proofs.Recorded.{sync_records}
 use Rattle.client_session.proofs.session.Session.sync.Goals as goal
 
 pub returns-clause-did : goal.returns-clause-did
 returns-clause-did g c =
     let route = c.args.route.now in
-    let before : SessionState = state_of (record { client = c.self.inside.client; folder = c.self.inside.folder }) in
-    let after : SessionState = state_of (record { client = c.sync-end.new.self; folder = c.self.inside.folder }) in
+    let before : Sitting = record { client = c.self.inside.client; folder = c.self.inside.folder } in
+    let after : Sitting = record { client = c.sync-end.new.self; folder = c.self.inside.folder } in
     let i = g.K.Keeper.images c.args.keeper.now in
     let j = g.K.Keeper.images c.sync-end.new.keeper in
     let t = g.L.Link.tells c.args.link.now in
     let u = g.L.Link.tells c.sync-end.new.link in
     let r = c.answered.result in
     λ runner.
-    subst (λ (s : Sitting). WentDoing route (LineEnds route (state_of s) (Ok Sync) r after) (state_of s) after i j (beside t runner) (beside u runner)) c.self.view_is
+    subst (λ (s : Sitting). WentDoing route (LineNoting route s (Ok Sync) r after i j) (state_of s) (state_of after) i j (beside t runner) (beside u runner)) c.self.view_is
     (sync_went route before after i j t u c.sync-end.ensures.number refl c.sync-end.result c.is_sync_fault-fault.result c.sync_answer.result r c.sync_answer.ensures c.answered.ensures c.sync-end.ensures.did runner)
 
 pub returns-clause-cause : goal.returns-clause-cause
@@ -55,13 +53,3 @@ pub returns-clause-keeper : goal.returns-clause-keeper
 returns-clause-keeper g c =
     sync_counts (g.K.Keeper.faults c.args.keeper.now) (g.K.Keeper.faults c.sync-end.new.keeper) c.sync-end.result c.is_sync_fault-fault.result c.sync_answer.result c.answered.result c.sync_answer.ensures c.is_sync_fault-fault.ensures
     c.answered.ensures c.sync-end.ensures.faults
-
-pub returns-clause-records : goal.returns-clause-records
-returns-clause-records g c =
-    let image = c.args.route.now.image in
-    let after = c.sync-end.new.self in
-    let i = g.K.Keeper.images c.args.keeper.now in
-    let j = g.K.Keeper.images c.sync-end.new.keeper in
-    let r = c.answered.result in
-    subst (λ (s : Sitting). IfOk r (λ answer. KeepsChanges image s.client after i j)) c.self.view_is
-    (sync_records c.is_sync_fault-fault.result c.sync_answer.result r c.answered.ensures c.sync-end.result (KeepsChanges image c.self.inside.client after i j) c.sync_answer.ensures c.sync-end.ensures.records)
