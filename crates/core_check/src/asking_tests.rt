@@ -33,7 +33,7 @@ impl Link for Dead {
 }
 
 /// Client 1 asks for all rows, and knows of no accepted entry.
-const PULL: [u8; 15] = [0, 0, 0, 11, 2, 3, 1, 0, 0, 0, 0, 0, 0, 0, 0];
+const PULL: [u8; 15] = [0, 0, 0, 11, 3, 3, 1, 0, 0, 0, 0, 0, 0, 0, 0];
 
 /// Why no reply comes over a link one ask of which finds no memory, and how many asks and troubles there are.
 fn asked(without_memory: u64) -> (Option<AskError>, u64, u64) {

@@ -18,8 +18,8 @@ use wire_frames::{Message, read};
 /// hello
 /// ```
 ///
-/// A packet is told by its client, its kind, its number and the paths and versions of its base, and a row by its path,
-/// its version, and what stands there.
+/// A packet is told by its client, its kind, its number and the paths and versions of its entries' bases, in order, and a row by
+/// its path, its version, and what stands there.
 pub fn account_of_network(alloc: Global, net: &Network) -> Result<Vec<u8>, AllocError> {
     let mut text = Vec::new(alloc);
     let troubles = net.troubles();
@@ -79,12 +79,14 @@ fn write_packet(alloc: Global, text: &mut Vec<u8>, frame: &[u8]) -> Result<(), A
 fn write_message(alloc: Global, text: &mut Vec<u8>, message: &Message) -> Result<(), AllocError> {
     let (client, kind, number) = (message.client(), message.kind(), message.number());
     write_text(text, &format!(in alloc; "sent {client} {kind:?} {number}")?)?;
-    if let Message::Store { base, .. } = message {
-        for base in base.as_slice() {
-            let path = base.path.text()?;
-            let named = write_named(alloc, text, " ", &path, base.version);
-            drop(path);
-            named?;
+    if let Message::Store { entries, .. } = message {
+        for entry in entries.as_slice() {
+            for base in entry.base.as_slice() {
+                let path = base.path.text()?;
+                let named = write_named(alloc, text, " ", &path, base.version);
+                drop(path);
+                named?;
+            }
         }
     }
     write_text(text, "\n")

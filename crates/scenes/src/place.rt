@@ -56,9 +56,12 @@ pub(crate) struct Place {
 }
 
 impl Place {
-    /// Whether each line that says so made the keeper fail, and the surrogate's runs came to each answer.
+    /// Whether each line that says so made the keeper fail, the surrogate's runs came to each answer, and asks to each fate.
     pub(crate) fn is_met(&self) -> bool {
-        self.keeper.failed >= self.lines && self.net.link().runner().answers_left() == 0
+        let net = self.net.link();
+        self.keeper.failed >= self.lines
+            && net.runner().answers_left() == 0
+            && net.fates_left() == 0
     }
 
     /// Nothing is kept any more, and no call of the keeper fails.

@@ -6,14 +6,14 @@ use std::alloc::{AllocError, Global};
 use std::time::Instant;
 use wire_frames::{FrameError, Message, read, write};
 
-/// Version, kind and client of a store of client 1, its number 1 and how many effects it has.
-const STORE_HEAD: [u8; 14] = [2, 1, 1, 0, 0, 0, 0, 0, 0, 0, 1, 0, 0, 0];
+/// Version, kind and client of a store of client 1, its number 1, how many entries it has, and how many effects the first has.
+const STORE_HEAD: [u8; 15] = [3, 1, 1, 0, 0, 0, 0, 0, 0, 0, 1, 1, 0, 0, 0];
 
 /// One base: the path `a`, which was not touched before.
 const STORE_BASE: [u8; 15] = [0, 0, 0, 1, 0, 1, b'a', 0, 0, 0, 0, 0, 0, 0, 0];
 
 /// Version, kind and client of a snapshot for client 1, its number 0 and the last number 0.
-const SNAPSHOT_HEAD: [u8; 19] = [2, 21, 1, 0, 0, 0, 0, 0, 0, 0, 0, 0, 0, 0, 0, 0, 0, 0, 0];
+const SNAPSHOT_HEAD: [u8; 19] = [3, 21, 1, 0, 0, 0, 0, 0, 0, 0, 0, 0, 0, 0, 0, 0, 0, 0, 0];
 
 /// The folder `d` in version 1, which holds all other rows.
 const FOLDER_ROW: [u8; 12] = [0, 1, b'd', 0, 0, 0, 0, 0, 0, 0, 1, 1];

@@ -24,7 +24,7 @@ const STORES: u32 = 2_000;
 const PULLS: u32 = 2;
 
 /// Client 1 asks for all rows.
-const PULL: [u8; 15] = [0, 0, 0, 11, 2, 3, 1, 0, 0, 0, 0, 0, 0, 0, 0];
+const PULL: [u8; 15] = [0, 0, 0, 11, 3, 3, 1, 0, 0, 0, 0, 0, 0, 0, 0];
 
 /// Stores of client 1: the number of the first, its row, how many there are, after how many the rows come again, the
 /// version that the rows have, and how many folders they are in.
@@ -69,9 +69,9 @@ fn push_path(frame: &mut Vec<u8>, row: u32, folders: u32) -> Result<(), AllocErr
 
 /// Adds the head of a frame of so many bytes: client 1's entry of this number, with one effect of this kind.
 fn push_head(frame: &mut Vec<u8>, size: u8, number: u64, kind: u8) -> Result<(), AllocError> {
-    frame.extend_from_slice(&[0, 0, 0, size, 1, 1, 1])?;
+    frame.extend_from_slice(&[0, 0, 0, size, 3, 1, 1])?;
     frame.extend_from_slice(&number.to_be_bytes())?;
-    frame.extend_from_slice(&[0, 0, 0, 1, kind])
+    frame.extend_from_slice(&[1, 0, 0, 0, 1, kind])
 }
 
 /// Makes the frame one of client 1's entry of this number: it writes two bytes at a row's path, which has this version.
@@ -85,7 +85,7 @@ fn put_store(
     requires { 0 < folders }
 {
     frame.clear();
-    push_head(frame, if folders == 1 { 46 } else { 52 }, number, 2)?;
+    push_head(frame, if folders == 1 { 47 } else { 53 }, number, 2)?;
     push_path(frame, row, folders)?;
     frame.extend_from_slice(&[0, 0, 0, 2, b'o', b'k', 0, 0, 0, 1])?;
     push_path(frame, row, folders)?;
@@ -95,7 +95,7 @@ fn put_store(
 /// Makes the frame one of client 1's entry of this number: it makes a folder.
 fn put_make(frame: &mut Vec<u8>, number: u64, folder: u32) -> Result<(), AllocError> {
     frame.clear();
-    push_head(frame, 36, number, 1)?;
+    push_head(frame, 37, number, 1)?;
     frame.extend_from_slice(&[0, 2])?;
     push_folder(frame, folder)?;
     frame.extend_from_slice(&[0, 0, 0, 1, 0, 2])?;

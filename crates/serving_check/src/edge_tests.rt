@@ -20,7 +20,7 @@ use world_rules::{Link, Peer};
 
 /// What a peer sends: the rows of a server without any, as it answers entry 1 of client 1's pull.
 const SENT: &[u8] = &[
-    0, 0, 0, 23, 2, 21, 1, 0, 0, 0, 0, 0, 0, 0, 1, 0, 0, 0, 0, 0, 0, 0, 0, 0, 0, 0, 0,
+    0, 0, 0, 23, 3, 21, 1, 0, 0, 0, 0, 0, 0, 0, 1, 0, 0, 0, 0, 0, 0, 0, 0, 0, 0, 0, 0,
 ];
 
 /// Linux's number of a connection that was broken off before it was taken.

@@ -14,28 +14,30 @@ use world_rules::Peer;
 
 /// Entry 1 of client 1 ran `/bin/x` in the root, which made the folder `a` and gave status 0.
 const OPERATION: &[u8] = &[
-    0, 0, 0, 87, 2, 2, 1, 0, 0, 0, 0, 0, 0, 0, 1, 75, 10, 227, 216, 211, 4, 147, 250, 206, 43, 76,
+    0, 0, 0, 87, 3, 2, 1, 0, 0, 0, 0, 0, 0, 0, 1, 75, 10, 227, 216, 211, 4, 147, 250, 206, 43, 76,
     146, 122, 42, 212, 244, 77, 204, 121, 143, 98, 20, 227, 181, 55, 244, 79, 113, 70, 178, 30,
     122, 0, 0, 0, 0, 6, 47, 98, 105, 110, 47, 120, 0, 0, 0, 0, 0, 0, 0, 0, 0, 0, 0, 0, 0, 1, 1, 0,
     1, 97, 0, 0, 0, 1, 0, 1, 97, 0, 0, 0, 0, 0, 0, 0, 0,
 ];
 
 /// Entry 1 of client 1 is done.
-const DONE: &[u8] = &[0, 0, 0, 11, 2, 22, 1, 0, 0, 0, 0, 0, 0, 0, 1];
+const DONE: &[u8] = &[0, 0, 0, 11, 3, 22, 1, 0, 0, 0, 0, 0, 0, 0, 1];
 
 /// It is declined: what the command left at `a` is another content.
-const MISMATCH: &[u8] = &[0, 0, 0, 15, 2, 23, 1, 0, 0, 0, 0, 0, 0, 0, 1, 7, 0, 1, 97];
+const MISMATCH: &[u8] = &[0, 0, 0, 15, 3, 23, 1, 0, 0, 0, 0, 0, 0, 0, 1, 7, 0, 1, 97];
 
 /// It is accepted.
-const ACCEPTED: &[u8] = &[0, 0, 0, 11, 2, 17, 1, 0, 0, 0, 0, 0, 0, 0, 1];
+const ACCEPTED: &[u8] = &[
+    0, 0, 0, 19, 3, 17, 1, 0, 0, 0, 0, 0, 0, 0, 1, 0, 0, 0, 0, 0, 0, 0, 1,
+];
 
 /// It is refused, since the last accepted one is that of number 5.
 const GAP: &[u8] = &[
-    0, 0, 0, 19, 2, 20, 1, 0, 0, 0, 0, 0, 0, 0, 1, 0, 0, 0, 0, 0, 0, 0, 5,
+    0, 0, 0, 19, 3, 20, 1, 0, 0, 0, 0, 0, 0, 0, 1, 0, 0, 0, 0, 0, 0, 0, 5,
 ];
 
 /// Client 3 asks for all rows, and knows 17 entries to be accepted.
-const PULL: &[u8] = &[0, 0, 0, 11, 2, 3, 3, 0, 0, 0, 0, 0, 0, 0, 17];
+const PULL: &[u8] = &[0, 0, 0, 11, 3, 3, 3, 0, 0, 0, 0, 0, 0, 0, 17];
 
 /// Standard error as a text, and a clock that is asked each millisecond.
 #[derive(Drop)]
@@ -117,6 +119,7 @@ fn head(kind: Kind) -> Head {
         kind,
         client: 1,
         number: 1,
+        entries: 1,
     }
 }
 
@@ -230,7 +233,7 @@ fn a_server_tells_each_request(rt: HostRuntime) -> Result<(), Fail> {
     let shown: Terminal = (Shown::new(rt.alloc()), rt.alloc());
     let port = port_of_three(rt.alloc())?;
     let mut port = LoggedPort::new(&shown, "server", port, true);
-    let pulled = "server: client 3 pull 17: Accepted, 15 bytes in, 15 out, 1 ms\n";
+    let pulled = "server: client 3 pull 17: Accepted, 15 bytes in, 23 out, 1 ms\n";
     let pulled = answer(&mut port, &shown.0, ACCEPTED, pulled);
     let malformed = "server: malformed, 3 bytes in, 20 out, 1 ms\n";
     let malformed = answer(&mut port, &shown.0, &[0; 20], malformed);

@@ -21,7 +21,7 @@ const CALLS: usize = 200;
 const BETWEEN_MILLIS: u64 = 50;
 
 /// A request, which the slow stranger sends in two parts.
-const REQUEST: &[u8] = b"\0\0\0\x0b\x02\x03\x01\0\0\0\0\0\0\0\x01";
+const REQUEST: &[u8] = b"\0\0\0\x0b\x03\x03\x01\0\0\0\0\0\0\0\x01";
 
 /// Starts a server with a closed input and a closed output.
 const WITHOUT_STREAMS: &str = "exec \"$@\" <&- >&-";

@@ -24,7 +24,7 @@ pub(crate) const VISITS: [Visit; 5] = [
     },
     Visit {
         name: "half a frame",
-        bytes: b"\0\0\0\x2c\x02\x01\x01",
+        bytes: b"\0\0\0\x2d\x03\x01\x01",
     },
     Visit {
         name: "a length over the limit",
@@ -41,12 +41,12 @@ pub(crate) const VISITS: [Visit; 5] = [
 pub(crate) const FALSE_REPLIES: [&[u8]; 8] = [
     b"",
     b"\0\0",
-    b"\0\0\0\x10\x02\x1f\0\0\0\0\0\0\0\0\0\x01\0\0\0\0",
-    b"\0\0\0\x0b\x02\x11\x01\0\0\0\0\0\0\0\x02",
-    b"\0\0\0\x0b\x02\x11\x02\0\0\0\0\0\0\0\x01",
-    b"\0\0\0\x0b\x02\x11\x01\0\0\0\0\0\0\0",
+    b"\0\0\0\x10\x03\x1f\0\0\0\0\0\0\0\0\0\x01\0\0\0\0",
+    b"\0\0\0\x13\x03\x11\x01\0\0\0\0\0\0\0\x02\0\0\0\0\0\0\0\x02",
+    b"\0\0\0\x13\x03\x11\x02\0\0\0\0\0\0\0\x01\0\0\0\0\0\0\0\x01",
+    b"\0\0\0\x13\x03\x11\x01\0\0\0\0\0\0\0\x01\0\0\0\0\0\0\0",
     b"\x03\xff\xff\xfd and more",
-    b"\0\0\0\x0b\x02\x03\x01\0\0\0\0\0\0\0\x01",
+    b"\0\0\0\x0b\x03\x03\x01\0\0\0\0\0\0\0\x01",
 ];
 
 /// Calls on the port as each of the strangers.
