@@ -37,7 +37,7 @@ def listens(port):
 
 
 # The frame of the first pull of client 3.
-PULL = bytes((0, 0, 0, 11, 1, 3, 3)) + (1).to_bytes(8, "big")
+PULL = bytes((0, 0, 0, 11, 3, 3, 3)) + (1).to_bytes(8, "big")
 
 
 class Scene:

@@ -17,6 +17,7 @@ PACE = 1_200  # bytes a second of a link of 9,600 bits a second
 SMALL, LARGE = 200_000, 8_384_508
 MOST_BYTES = {SMALL: 335, LARGE: 4_500}  # of a command on its way up
 MOST_SECONDS = 30  # of its sync on a link that is held
+FILES, MOST_TALKS = 100, 14  # new files, and the connections that their sync may cost
 LINES = {SMALL: (20_000, 9), LARGE: (698_709, 11)}  # how many lines of how many digits
 PATIENCE = 900
 started, missed, failed = [], [], []
@@ -125,15 +126,20 @@ def sort_output(folder, size):
     expect(os.path.getsize(f"{folder}/both/sorted") == size, f"the output has {size} bytes")
 
 
+def rsync_daemon(folder, port):
+    """The words of a daemon at the port, over the folder's `there`."""
+    with open(f"{folder}/rsync.conf", "w") as conf:
+        owner = "uid = 0\ngid = 0\n" if os.getuid() == 0 else ""
+        conf.write(f"use chroot = no\n{owner}[all]\npath = {folder}/there\nread only = no\n")
+    return ["rsync", "--daemon", "--no-detach", f"--config={folder}/rsync.conf", f"--port={port}", "--address=127.0.0.1",
+            f"--log-file={folder}/rsync.log"]
+
+
 def rsync_bytes(folder, *options):
     """What rsync moves of the folder with both to a daemon whose folder has the input."""
     shutil.copytree(f"{folder}/input", f"{folder}/there", copy_function=shutil.copy2)
     port = free_port()
-    with open(f"{folder}/rsync.conf", "w") as conf:
-        owner = "uid = 0\ngid = 0\n" if os.getuid() == 0 else ""
-        conf.write(f"use chroot = no\n{owner}[all]\npath = {folder}/there\nread only = no\n")
-    daemon = start(["rsync", "--daemon", "--no-detach", f"--config={folder}/rsync.conf", f"--port={port}", "--address=127.0.0.1",
-                    f"--log-file={folder}/rsync.log"])
+    daemon = start(rsync_daemon(folder, port))
     await_port(port)
     link = Link()
     address = link.front(port, "rsync")
@@ -205,6 +211,54 @@ def hold_values(folder):
     say(f"values of {SMALL:,} bytes at 9,600 bits a second: {seconds:.1f} s, {scene.link.talks['server']} ask")
 
 
+def make_files(folder, count):
+    """So many files of six bytes."""
+    os.makedirs(folder)
+    for at in range(count):
+        with open(f"{folder}/f{at:03}", "w") as file:
+            file.write("hello\n")
+
+
+def files_of_ours(folder, pace, count):
+    """What a sync of so many new files moves, its connections, and its seconds."""
+    scene = Scene(folder, pace)
+    server = scene.link.front(scene.server, "server")
+    client = Client(scene, server, "-")
+    for at in range(count):
+        client.say(f"put f{at:03} hello", f"logged {at + 1}")
+    _, seconds = client.say("sync", f"synced {count}")
+    client.quit()
+    return scene.link, scene.link.talks["server"], seconds
+
+
+def files_of_rsync(folder, pace, *options):
+    """The same of rsync, to a daemon with an empty folder."""
+    os.makedirs(f"{folder}/there")
+    port, link = free_port(), Link(pace)
+    start(rsync_daemon(folder, port))
+    await_port(port)
+    address = link.front(port, "rsync")
+    begun = time.monotonic()
+    subprocess.run(["rsync", "-a", *options, f"{folder}/../files/", f"rsync://{address}/all/"], check=True)
+    return link, link.talks["rsync"], time.monotonic() - begun
+
+
+def show_files(folder):
+    """100 new files of six bytes, at full speed and at 9,600 bits a second."""
+    make_files(f"{folder}/files/files", FILES)
+    ways = [("ours", files_of_ours, (FILES,))]
+    if shutil.which("rsync"):
+        ways += [("rsync", files_of_rsync, ()), ("rsync -z", files_of_rsync, ("-z",))]
+    for pace, at in ((None, "at full speed"), (PACE, "at 9,600 bits a second")):
+        rows = []
+        for name, way, words in ways:
+            link, talks, seconds = way(f"{folder}/files/{name}{pace}", pace, *words)
+            rows.append(f"  {name:10} {link.up:,} + {link.down:,} bytes, {talks} connections, {seconds:.1f} s")
+            if name == "ours":
+                expect(talks <= MOST_TALKS, f"{FILES} files cost {talks} connections, and not {MOST_TALKS} at most")
+        say(f"{FILES} files of six bytes {at}, bytes up + down:", *rows)
+
+
 def show_long(folder):
     """A command of 45 seconds, which runs once near and once far. Each run says so outside of its folder."""
     scene = Scene(f"{folder}/long")
@@ -236,7 +290,7 @@ def together(parts):
         thread.join()
 
 
-SCENES = {"bytes": show_bytes, "held": show_held, "long": show_long}
+SCENES = {"bytes": show_bytes, "files": show_files, "held": show_held, "long": show_long}
 
 
 def main():

@@ -22,9 +22,9 @@ def path(text):
 
 def store(number, effects, base):
     """The frame of client 1's entry: effects as bytes, and paths with their versions before."""
-    body = struct.pack(">I", len(effects)) + b"".join(effects)
+    body = b"\x01" + struct.pack(">I", len(effects)) + b"".join(effects)
     body += struct.pack(">I", len(base)) + b"".join(path(text) + struct.pack(">Q", version) for text, version in base)
-    payload = bytes([2, 1, 1]) + struct.pack(">Q", number) + body
+    payload = bytes([3, 1, 1]) + struct.pack(">Q", number) + body
     return struct.pack(">I", len(payload)) + payload
 
 
