@@ -1,0 +1,4 @@
+mod Shelving
+mod Files
+mod Putting
+mod Shelves
