@@ -1,9 +1,11 @@
 pub mod Forms
+pub mod Fronts
 pub mod Kept
 pub mod Others
 pub mod Appending
 pub mod Recording
 pub mod Connections
 pub mod Running
+pub mod Texts
 pub mod Totals
 pub mod KeptAtEnd

@@ -1,5 +1,5 @@
 -- What is kept under the names that are not the server's.
-use Rattle.std.proofs.Common.{◌≡◌, ◌≢◌, ⊎_elim, ℕ, List, Option, Result, Ok, Err, refl, ap, ◌∙◌}
+use Rattle.std.proofs.Common.{◌≡◌, ◌≢◌, ⊎_elim, ℕ, List, Option, None, Some, Result, Ok, Err, refl, ap, ◌∙◌}
 use Rattle.std.specs.Prelude.{Vec}
 use Rattle.std.specs.declared.alloc.Global.{Global}
 use Rattle.outside.specs.Outside.{Told}
@@ -28,6 +28,14 @@ module _ (name : List ℕ) where
       by : {E : Type 0} (result : Result (Option (Vec ℕ Global)) E) (x y : Images) → Loads name result x y → Stay x y
       by (Ok image) x y loads = stay_same x y loads.1
       by (Err error) x y loads = stay_same x y loads
+
+  -- a load changes what is kept under no name
+  pub images_loaded : {E : Type 0} (result : Result (Option (Vec ℕ Global)) E) (a b : Option Images) → Told a b (λ old new. Loads name result old new) → b ≡ a
+  images_loaded result None None told = refl
+  images_loaded result None (Some y) told = told
+  images_loaded result (Some x) None told = absurd told
+  images_loaded (Ok image) (Some x) (Some y) told = ap Some told.1
+  images_loaded (Err error) (Some x) (Some y) told = ap Some told
 
   pub others_saved : {T E : Type 0} (image : List ℕ) (result : Result T E) (a b : Option Images) → Told a b (λ old new. Saves name image result old new) → OthersKept name a b
   others_saved image result a b told = told_as a b (λ old new. Saves name image result old new) Stay told (λ x y saves. by result x y saves)

@@ -1,6 +1,11 @@
 -- What a run of the server does by the status that it gives.
-use Rattle.std.specs.Prelude.{◌≡◌, ◌≢◌, ◌==◌, ◌⊎◌, ◌↔◌, ◌||◌, ℕ, Bool, IsTrue, List, [], ◌∷◌, take, Option, None, IfSome, Result, Ok, Err}
+use Rattle.std.specs.Prelude.{◌≡◌, ◌≢◌, ◌==◌, ◌⊎◌, ◌↔◌, ◌||◌, ℕ, Bool, IsTrue, List, [], ◌∷◌, ◌++◌, take, Option, None, IfSome}
+use Rattle.std.specs.Prelude.{Result, Ok, Err}
 use Rattle.std.specs.List.{list_any}
+use Rattle.hex.specs.Hex.{encode_lower}
+use Rattle.file_paths.specs.Path.{FilePath}
+use Rattle.tree_values.specs.Tree.{Volume}
+use Rattle.tree_proof.specs.Trees.{root_of, proof_of}
 use Rattle.outside.specs.Outside.{Told, Adds, Rose, RisesWhere}
 use Rattle.outside.specs.Keeper.{Images, kept_under}
 use Rattle.outside.specs.Port.{PortTelling}
@@ -11,7 +16,7 @@ use Rattle.world_rules.specs.Served.{Served}
 use Rattle.server_core.specs.Keeping.{KeepsServed}
 use Rattle.server_prog.specs.declared.run.Stopped.{Stopped}
 use Rattle.server_prog.specs.declared.run.Stopped.TheVariants.{Sink, Keeper, Image, Memory}
-use Rattle.server_prog.specs.Words.{server_run_of, form_of}
+use Rattle.server_prog.specs.Words.{ServerForm, Run, Root, Prove, server_run_of, form_of}
 use Rattle.server_prog.specs.Serving.{PerhapsKept, IsRecordedAfter, ServedBy, ServesConnections, ServerTelling, server_telling}
 
 -- the status of a run that ended so: with its last line, or stopped before
@@ -91,6 +96,34 @@ abbrev pub ServerRan : ℕ → ℕ → ServerTelling → ServerTelling → Optio
 ServerRan count status old new written now =
     (ended : Result (Unit {0}) Stopped) × (status ≡ server_status_of ended) × ServerRun count old new written now ended
 
+-- ---- what is written of the volume that is kept
+
+-- its root in 64 lower-case hexadecimal digits, and a line end
+abbrev pub root_line : Volume → List ℕ
+root_line rows = encode_lower (root_of rows) ++ 10 ∷ []
+
+-- the certificate of a path in it
+abbrev pub path_proof : FilePath → Volume → List ℕ
+path_proof path rows = proof_of rows path
+
+-- the text of a volume that is kept, or of a new server's where nothing is, was written
+abbrev pub WritesText : (Volume → List ℕ) → Option (Option (List ℕ)) → Option (List ℕ) → Option (List ℕ) → Type 0
+WritesText text kept written now = (first : Served) × Opens kept first × Adds written now (text first.volume)
+
+-- a front of it was written
+abbrev pub WritesFront : (Volume → List ℕ) → Option (Option (List ℕ)) → Option (List ℕ) → Option (List ℕ) → Type 0
+WritesFront text kept written now =
+    (first : Served) × (bytes : ℕ) × Opens kept first × Adds written now (take bytes (text first.volume))
+
+-- what was written by how it ended
+abbrev pub Writes :
+    (Volume → List ℕ) → Option (Option (List ℕ)) → Option (List ℕ) → Option (List ℕ) → Result (Unit {0}) Stopped → Type 0
+Writes text kept written now (Ok done) = WritesText text kept written now
+Writes text kept written now (Err Sink) = WritesFront text kept written now
+Writes text kept written now (Err Keeper) = now ≡ written
+Writes text kept written now (Err Image) = (now ≡ written) × OpensNone kept
+Writes text kept written now (Err Memory) = (now ≡ written) ⊎ WritesFront text kept written now
+
 -- what a port, a keeper and a sink tell
 pub record Objects : Type 0 where
   pub port : PortTelling
@@ -107,8 +140,23 @@ told_of name all = server_telling all.port (kept_under name all.images)
 abbrev pub OthersKept : List ℕ → Option Images → Option Images → Type 0
 OthersKept name old new = Told old new (λ before after. (other : List ℕ) → other ≢ name → after other ≡ before other)
 
+-- the text of the volume that is kept under the name was written, by this status, and nothing but the output was touched
+pub record HasWritten (text : Volume → List ℕ) (name : List ℕ) (status : ℕ) (old new : Objects) : Type 0 where
+  pub ended : Result (Unit {0}) Stopped
+  pub gives : status ≡ server_status_of ended
+  pub writes : Writes text (kept_under name old.images) old.written new.written ended
+  pub port : new.port ≡ old.port
+  pub images : new.images ≡ old.images
+
+-- what is written where the words ask for no run
+abbrev pub Tells : ServerForm → ℕ → Objects → Objects → Type 0
+Tells (Run run) status old new = Unit {0}
+Tells (Root image) status old new = HasWritten root_line image status old new
+Tells (Prove image path) status old new = HasWritten (path_proof path) image status old new
+
 -- What a run on these words does, by the status that it gives:
--- 0: as many connections were used up as the words say, or none is left, and the output is the last line;
+-- 0: as many connections were used up as the words say, or none is left, and the output is the last line; or what the words ask
+-- of the volume that is kept was written;
 -- 2: the words are of no form, and nothing was touched;
 -- 4 and 5: a call of the sink or of the keeper failed, and in a run with another status none did;
 -- 6: what is kept is no server's image; 7: memory ran out.
@@ -120,8 +168,9 @@ pub record Ends (words : List (List ℕ)) (status : ℕ) (old new : Objects) : T
   pub sink : RisesWhere (status ≡ 4) old.sink_faults new.sink_faults
   pub keeper : RisesWhere (status ≡ 5) old.keeper_faults new.keeper_faults
   pub complete :
-      IfSome (server_run_of words) (λ run. (Rose old.sink_faults new.sink_faults → ⊥)
+      IfSome (form_of words) (λ form. (Rose old.sink_faults new.sink_faults → ⊥)
       → (Rose old.keeper_faults new.keeper_faults → ⊥) → (status ≡ 0) ⊎ ((status ≡ 6) ⊎ (status ≡ 7)))
   pub served : IfSome (server_run_of words)
       (λ run. ServerRan run.count status (told_of run.image old) (told_of run.image new) old.written new.written)
   pub others : IfSome (server_run_of words) (λ run. OthersKept run.image old.images new.images)
+  pub told : IfSome (form_of words) (λ form. Tells form status old new)

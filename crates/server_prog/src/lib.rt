@@ -1,12 +1,15 @@
-//! The server program: connections of a port, each with one frame in and one frame out.
+//! The server program: connections of a port, each with one frame in and one frame out; and what is written of a kept volume.
 #![tactic(auto)]
 
 mod journal;
 mod laws;
+mod paths;
 mod program;
+mod reading;
 mod reasons;
 mod run;
 mod serving;
+mod telling;
 mod words;
 
 pub use laws::{connections_are_counted, kept_images_are_served};

@@ -3,13 +3,14 @@ ghost use Rattle.std.specs.Prelude.{◌≡◌, ◌≢◌, ◌↔◌, None, Some,
 ghost use Rattle.std.specs.String.{string_bytes};
 ghost use Rattle.std.specs.Process.{exit_status};
 ghost use Rattle.program_words.specs.Pages.{page_asked};
-ghost use Rattle.server_prog.specs.Run.{is_exit, Ends};
+ghost use Rattle.server_prog.specs.Run.{is_exit, is_server_status, Ends};
 ghost use Rattle.server_prog.specs.Words.{Run, form_of, run_said};
 
+use crate::reading::ReadKeeper;
 use crate::reasons::end_told;
 use crate::run::server_run;
 use crate::words::{Form, RunWords, form_of};
-use outside::{Keeper, Port, Sink};
+use outside::{Keeper, MemPort, Port, Sink};
 use program_words::{
     Pages, Status, checked_words, end_plainly, given_words, hold_places, is_logged, page_shown,
     tell_listening,
@@ -25,12 +26,14 @@ use std::time::Clock;
 
 const HELP: &str = "\
 Usage: server run LISTEN IMAGE COUNT
+       server root IMAGE
+       server prove IMAGE PATH
 
-Listens at LISTEN, takes one frame of each connection, and answers it before it
-takes the next one. Frames come in and answers go out side by side: a peer that
-is slow or silent holds up no other. At its end it writes 'served K faults F': K
-frames were taken, and F calls of the network failed. A fault ends one
-connection alone.
+'run' listens at LISTEN, takes one frame of each connection, and answers it
+before it takes the next one. Frames come in and answers go out side by side: a
+peer that is slow or silent holds up no other. At its end it writes 'served K
+faults F': K frames were taken, and F calls of the network failed. A fault ends
+one connection alone.
 
 LISTEN is an address with a port. IMAGE names the file in which the server is
 kept, before it answers; where there is none the server is new. IMAGE.new and
@@ -40,15 +43,23 @@ is how many connections are taken, from 1 to 65536: one for up to eight changes
 that a client syncs, one for each pull, and one for each stranger. A server that
 has ended goes on from its image.
 
+'root' writes the root of the files that IMAGE keeps: 64 hexadecimal digits that
+stand for all of them. 'prove' writes a certificate of what stands at PATH, to
+be checked against the root without the files. Where there is no IMAGE, the
+server is new. Both only read: they listen nowhere, take no lock, and may be
+used while a server runs on IMAGE.
+
 Standard error says where the server listens, and why it ends with a status
 that is not 0. With HAURPIKO_LOG=1 in the environment it has a line for each
 request, too.
 
-Example:
+Examples:
   server run 127.0.0.1:7001 server.image 100
+  server root server.image
+  server prove server.image d/a > a.certificate
 
 The server ends with one of these statuses:
-  0  COUNT connections were taken, or none is left
+  0  COUNT connections were taken, or none is left; or what was asked is written
   1  it cannot listen at LISTEN
   2  the words have another form
   4  standard output failed
@@ -126,8 +137,27 @@ fn answer_words<
             let bound = TcpPort::bind(rt.alloc(), rt, run.address);
             serve_bound(rt, words, &run, bound, output)
         }
+        Some(Form::Root(_) | Form::Prove(_, _)) => read_kept(rt, words, output),
         None => end_plainly(rt, NAME, Status::NoForm),
     }
+}
+
+/// Writes what the words ask of the volume that is kept: over a port without connections, and a keeper that only reads.
+fn read_kept<R: Eprint + AllocGlobal + Files<File = File>, O: Sink + Troubled>(
+    rt: &R,
+    words: &[String],
+    output: &mut O,
+) -> ExitCode
+    ensures form { exit_status result ≡ 2 ↔ form_of (map string_bytes words.now) ≡ None }
+    ensures known { IsTrue (is_server_status (exit_status result)) }
+{
+    let alloc = rt.alloc();
+    let mut port = MemPort::new(alloc, Vec::new(alloc), Vec::new(alloc));
+    let mut keeper = ReadKeeper::new(alloc, rt);
+    let ended = served(rt, alloc, words, &mut port, &mut keeper, output);
+    drop(keeper);
+    drop(port);
+    ended
 }
 
 /// Runs the server over the port that was bound at the address of its words. Where none was, it says so, and ends with status 1.

@@ -3,7 +3,7 @@ ghost use Rattle.std.specs.Prelude.{◌≡◌};
 ghost use Rattle.std.specs.Process.{exit_status};
 
 use crate::program::NAME;
-use crate::words::run_words;
+use crate::words::form_of;
 use program_words::{Status, end, tell_plainly};
 use real_edge::{Trouble, tell_trouble};
 use std::process::ExitCode;
@@ -48,8 +48,8 @@ fn tell_why<R: Eprint>(
 
 /// Tells that the image of the words is none of a server's.
 fn tell_image<R: Eprint>(rt: &R, words: &[String]) {
-    if let Some(run) = run_words(words) {
-        let image = run.image;
+    if let Some(form) = form_of(words) {
+        let image = form.image();
         let _ = eprintln!(rt; "{NAME}: {image} is no server's image");
     }
 }

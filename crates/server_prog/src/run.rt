@@ -6,17 +6,19 @@ ghost use Rattle.outside.specs.Keeper.{kept_under};
 ghost use Rattle.world_rules.specs.Served.{Served};
 ghost use Rattle.server_core.specs.Holding.{served};
 ghost use Rattle.server_core.specs.Keeping.{IsKeptForServed};
+ghost use Rattle.server_prog.specs.declared.run.Stopped.TheVariants.{Memory};
 ghost use Rattle.server_prog.specs.Serving.{server_telling};
 ghost use Rattle.server_prog.specs.Run.{server_status_of, is_server_status, Opens, OpensNone, ServerRun, OthersKept, Ends};
 ghost use Rattle.server_prog.specs.Inside.{stopped_by_keeper, stopped_by_sink};
 
 use crate::serving::serve;
+use crate::telling::{tell_proof, tell_root};
 use crate::words::{Form, form_of};
 use outside::{KeepError, Keeper, Port, Sink, SinkError};
 use port_serving::write_last;
 use program_words::Status;
 use server_core::Server;
-use std::alloc::Global;
+use std::alloc::{AllocError, Global};
 use store_image::{ImageError, read_server};
 
 /// Why a run ended without its last line.
@@ -30,6 +32,14 @@ pub(crate) enum Stopped {
     Image,
     /// Memory ran out.
     Memory,
+}
+
+impl From<AllocError> for Stopped {
+    ghost from_gives = { λ _ stopped. stopped ≡ Memory };
+
+    fn from(_: AllocError) -> Stopped {
+        Stopped::Memory
+    }
 }
 
 impl From<SinkError> for Stopped {
@@ -70,13 +80,18 @@ fn status_of(ended: Result<(), Stopped>) -> u8
 }
 
 /// The server that is kept under the name, or a new one where nothing is.
-#[tactic(auto, using(crate::proofs::Others::others_none, crate::proofs::Others::others_loaded))]
-fn opened<K: Keeper>(alloc: Global, name: &[u8], keeper: &mut K) -> Result<Server, Stopped>
+#[tactic(auto, using(crate::proofs::Others::others_none, crate::proofs::Others::others_loaded, crate::proofs::Others::images_loaded))]
+pub(crate) fn opened<K: Keeper>(
+    alloc: Global,
+    name: &[u8],
+    keeper: &mut K,
+) -> Result<Server, Stopped>
     ensures opens { IfOk result (λ server. Opens (kept_under name.now (K.images keeper.old)) (served server)) }
     ensures none { IsErrOf result Stopped.Image → OpensNone (kept_under name.now (K.images keeper.old)) }
     ensures same { (kept_under name.now (K.images keeper.new)) ≡ (kept_under name.now (K.images keeper.old)) }
     ensures no_sink { IsErrOf result Stopped.Sink → ⊥ }
     ensures others { OthersKept name.now (K.images keeper.old) (K.images keeper.new) }
+    ensures images { K.images keeper.new ≡ K.images keeper.old }
     ensures cause { CountsFault Stopped.Keeper (K.faults keeper.old) (K.faults keeper.new) result }
 {
     match keeper.load(name)? {
@@ -128,7 +143,8 @@ fn run<P: Port, K: Keeper, O: Sink>(
 /// Runs the server on its words: takes frames from a port, and answers each by the server that is kept under the image's name,
 /// or a new one, before it takes the next one. Where a frame changes what the server holds, that change is kept before the frame
 /// is answered: the first one by an image, each later one by its record behind it, as long as the records are few. A fault of
-/// the port ends one connection alone. It gives a status.
+/// the port ends one connection alone. Or, where the words ask for that, it writes the root of the volume that is kept, or the
+/// certificate of a path in it, and touches nothing else. It gives a status.
 pub fn server_run<P: Port, O: Sink, K: Keeper>(
     alloc: Global,
     words: &[String],
@@ -156,6 +172,14 @@ pub fn server_run<P: Port, O: Sink, K: Keeper>(
         Some(Form::Run(words)) => {
             let name = words.image.as_bytes();
             status_of(run(alloc, name, words.count, port, keeper, output))
+        }
+        Some(Form::Root(image)) => {
+            let name = image.as_bytes();
+            status_of(tell_root(alloc, name, keeper, output))
+        }
+        Some(Form::Prove(image, path)) => {
+            let name = image.as_bytes();
+            status_of(tell_proof(alloc, name, path.as_bytes(), keeper, output))
         }
         None => Status::NoForm.code(),
     }

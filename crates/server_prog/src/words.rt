@@ -1,9 +1,10 @@
 // A server's words.
-ghost use Rattle.std.specs.Prelude.{◌≡◌, ◌≤◌, IfSome, MatchOption, None, Some, map};
+ghost use Rattle.std.specs.Prelude.{◌≡◌, ◌≤◌, [], ◌∷◌, IfSome, MatchOption, None, Some, map};
 ghost use Rattle.std.specs.String.{string_bytes};
 ghost use Rattle.port_serving.specs.Words.{most_connections};
-ghost use Rattle.server_prog.specs.Words.{server_run_of, is_server_run, run_said, form_of, HasForm};
+ghost use Rattle.server_prog.specs.Words.{server_run_of, is_server_run, is_root, is_prove, run_said, form_of, HasForm};
 
+use crate::paths::is_path_text;
 use port_serving::connection_count;
 
 /// What the words ask for.
@@ -11,6 +12,20 @@ use port_serving::connection_count;
 pub enum Form<'a> {
     /// To serve connections.
     Run(RunWords<'a>),
+    /// To write the root of the volume that is kept under this name, which is not empty.
+    Root(&'a str),
+    /// To write the certificate of a path, told by its text, in the volume that is kept under the first name, which is not empty.
+    Prove(&'a str, &'a str),
+}
+
+impl<'a> Form<'a> {
+    /// The name under which the server is kept.
+    pub(crate) fn image(&self) -> &'a str {
+        match self {
+            Form::Run(run) => run.image,
+            Form::Root(image) | Form::Prove(image, _) => image,
+        }
+    }
 }
 
 /// What the words of a run say.
@@ -28,11 +43,36 @@ pub struct RunWords<'a> {
 pub fn form_of(words: &[String]) -> Option<Form<'_>>
     ensures { MatchOption result (form_of (map string_bytes words.now) ≡ None) (HasForm (map string_bytes words.now)) }
 {
-    Some(Form::Run(run_words(words)?))
+    match words {
+        [root, image] => root_form(root.as_str(), image.as_str()),
+        [prove, image, path] => prove_form(prove.as_str(), image.as_str(), path.as_str()),
+        _ => Some(Form::Run(run_words(words)?)),
+    }
+}
+
+/// What the words `root IMAGE` ask for; `None` for any others.
+fn root_form<'a>(root: &str, image: &'a str) -> Option<Form<'a>>
+    ensures { MatchOption result (form_of (root.now ∷ image.now ∷ []) ≡ None) (HasForm (root.now ∷ image.now ∷ [])) }
+{
+    if is_root(root.as_bytes(), image.as_bytes()) {
+        return Some(Form::Root(image));
+    }
+    None
+}
+
+/// What the words `prove IMAGE PATH` ask for; `None` for any others.
+fn prove_form<'a>(prove: &str, image: &'a str, path: &'a str) -> Option<Form<'a>>
+    ensures { MatchOption result (form_of (prove.now ∷ image.now ∷ path.now ∷ []) ≡ None)
+        (HasForm (prove.now ∷ image.now ∷ path.now ∷ [])) }
+{
+    if is_prove(prove.as_bytes(), image.as_bytes()) && is_path_text(path.as_bytes()) {
+        return Some(Form::Prove(image, path));
+    }
+    None
 }
 
 /// Takes apart the words `run LISTEN IMAGE COUNT`; `None` for any others.
-pub(crate) fn run_words(words: &[String]) -> Option<RunWords<'_>>
+fn run_words(words: &[String]) -> Option<RunWords<'_>>
     ensures form { MatchOption result (server_run_of (map string_bytes words.now) ≡ None)
         (λ run. server_run_of (map string_bytes words.now) ≡ Some (run_said run)) }
     ensures range { IfSome result (λ run. (1 ≤ run.count) × (run.count ≤ most_connections)) }
@@ -57,4 +97,16 @@ fn is_run(run: &[u8], address: &[u8], image: &[u8]) -> bool
     ensures { result ≡ is_server_run run.now address.now image.now }
 {
     run == b"run".as_slice() && !address.is_empty() && !image.is_empty()
+}
+
+fn is_root(root: &[u8], image: &[u8]) -> bool
+    ensures { result ≡ is_root root.now image.now }
+{
+    root == b"root".as_slice() && !image.is_empty()
+}
+
+fn is_prove(prove: &[u8], image: &[u8]) -> bool
+    ensures { result ≡ is_prove prove.now image.now }
+{
+    prove == b"prove".as_slice() && !image.is_empty()
 }
