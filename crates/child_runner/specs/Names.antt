@@ -1,5 +1,6 @@
 -- The names of runs: of their folders, and of the locks beside those.
-use Rattle.std.specs.Prelude.{ℕ, ◌+◌, ◌*◌, ◌/◌, ◌%◌, Bool, true, false, not, ◌&&◌, ◌||◌, ◌==◌, nat_le, List, [], ◌∷◌, ◌++◌, length, take, drop, if◌then◌else◌}
+use Rattle.std.specs.Prelude.{ℕ, ◌+◌, ◌*◌, ◌/◌, ◌%◌, Bool, true, false, not, ◌&&◌, ◌||◌}
+use Rattle.std.specs.Prelude.{◌==◌, nat_le, List, [], ◌∷◌, ◌++◌, length, take, drop, if◌then◌else◌}
 use Rattle.std.specs.Prelude.{decimal}
 use Rattle.std.specs.Fmt.{digit_glyph}
 use Rattle.std.specs.List.{list_all, flat_map}
@@ -47,7 +48,8 @@ is_numbered (first ∷ rest) = first == 45 && is_number rest
 
 -- the digits of a print, and the number behind them
 abbrev pub is_print_and_number : List ℕ → Bool
-is_print_and_number rest = nat_le (2 * named_bytes) (length rest) && (list_all is_hex (take (2 * named_bytes) rest) && is_numbered (drop (2 * named_bytes) rest))
+is_print_and_number rest = nat_le (2 * named_bytes) (length rest)
+    && (list_all is_hex (take (2 * named_bytes) rest) && is_numbered (drop (2 * named_bytes) rest))
 
 -- whether the folder of a run may have this name
 abbrev pub is_folder_name : List ℕ → Bool

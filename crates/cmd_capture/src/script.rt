@@ -1,6 +1,7 @@
 //! A runner of given outcomes.
 
-ghost use Rattle.std.specs.Prelude.{◌≡◌, ◌≤◌, ◌↔◌, ℕ, List, [], ◌∷◌, ◌++◌, Some, None, map, reverse, length, IfOk, IfErr, OnOk, OnErr, IsErrOf};
+ghost use Rattle.std.specs.Prelude.{◌≡◌, ◌≤◌, ◌↔◌, ℕ, List, [], ◌∷◌, ◌++◌, Some};
+ghost use Rattle.std.specs.Prelude.{None, map, reverse, length, IfOk, IfErr, OnOk, OnErr, IsErrOf};
 ghost use Rattle.outside.specs.Outside.{Told, CountsFault, raised};
 ghost use Rattle.outside.specs.Memory.{one_more};
 ghost use Rattle.cmd_capture.specs.Runs.{AddsRun, IsAskedOnce, InScript, raw_row, unchanged, outcome_of, after_run};

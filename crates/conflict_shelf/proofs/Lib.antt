@@ -1,4 +1,4 @@
 mod Shelving
 mod Files
 mod Putting
-mod Shelves
+pub mod Shelves

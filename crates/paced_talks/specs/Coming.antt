@@ -1,5 +1,6 @@
 -- Connections whose frames come in, side by side.
-use Rattle.std.specs.Prelude.{◌≡◌, ◌⊎◌, ℕ, ◌+◌, ◌<◌, Bool, true, false, ◌==◌, ◌&&◌, ◌||◌, if◌then◌else◌, List, [], ◌∷◌, ◌++◌, length, sum_by, remove}
+use Rattle.std.specs.Prelude.{◌≡◌, ◌⊎◌, ℕ, ◌+◌, ◌<◌, Bool, true, false, ◌==◌, ◌&&◌}
+use Rattle.std.specs.Prelude.{◌||◌, if◌then◌else◌, List, [], ◌∷◌, ◌++◌, length, sum_by, remove}
 use Rattle.std.specs.Prelude.{nat_lt, nat_le, slice_index_or}
 use Rattle.std.specs.List.{IsFirstBest}
 use Rattle.std.specs.Time.{instant_nanos}
@@ -35,7 +36,8 @@ IsIdlest {S} {R} talks place = IsFirstBest goes_before talks (length talks) plac
 abbrev pub LetsIdlestGo : {S : Type 0} {R : _} → List (Asking S R) → List (Asking S R) → Type 0
 LetsIdlestGo old new = (place : ℕ) × IsIdlest old place × (new ≡ remove old place)
 
--- the new connection, with the time for its head before it, stands behind those that were there, or all of them but the idlest where all places were taken
+-- the new connection, with the time for its head before it, stands behind those that were there, or all of them but the idlest
+-- where all places were taken
 abbrev pub HasLetIn : {S : Type 0} {R : _} → List (Asking S R) → S → Instant → List (Asking S R) → Type 0
 HasLetIn {S} {R} old stream now new = (kept : List (Asking S R)) × (talk : Asking S R)
     × (((length old < most_asking) × (kept ≡ old)) ⊎ ((length old ≡ most_asking) × LetsIdlestGo old kept))

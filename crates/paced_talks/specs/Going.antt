@@ -31,4 +31,5 @@ IsAtStart talk stream rest now = (talk.stream ≡ stream) × (talk.rest.items �
 -- so many bytes of the answer stand behind what the stream held, and the last of the connections has the rest of it to send
 abbrev pub IsQueued : {S : Type 0} {W : _} → (S → Option (List ℕ)) → S → List ℕ → Instant → List (Answering S W) → Type 0
 IsQueued {S} {W} contents stream answer now talks = (kept : List (Answering S W)) × (talk : Answering S W) × (begun : S) × (sent : ℕ)
-    × (talks ≡ kept ++ talk ∷ []) × IsAtStart talk begun (drop sent answer) now × Appends (contents stream) (contents begun) (take sent answer)
+    × (talks ≡ kept ++ talk ∷ []) × IsAtStart talk begun (drop sent answer) now
+    × Appends (contents stream) (contents begun) (take sent answer)

@@ -1,5 +1,6 @@
 // The connections whose answers go out, side by side.
-ghost use Rattle.std.specs.Prelude.{◌≡◌, ◌≤◌, ◌<◌, ◌+◌, [], ◌∷◌, ◌++◌, length, remove, false, true, slice_index_or, None, IfOk, OnOk, IfSome};
+ghost use Rattle.std.specs.Prelude.{◌≡◌, ◌≤◌, ◌<◌, ◌+◌, [], ◌∷◌, ◌++◌, length};
+ghost use Rattle.std.specs.Prelude.{remove, false, true, slice_index_or, None, IfOk, OnOk, IfSome};
 ghost use Rattle.std.specs.Io.KnownBytes.{Appends};
 ghost use Rattle.paced_talks.specs.Talks.{most_answering, most_held};
 ghost use Rattle.paced_talks.specs.Going.{bytes_of, is_idler, IsIdlest, HasRoom, IsAtStart, IsQueued};

@@ -1,5 +1,6 @@
 // The connections whose frames come in, side by side.
-ghost use Rattle.std.specs.Prelude.{◌≡◌, ◌⊎◌, ◌≤◌, ◌<◌, ◌+◌, [], ◌∷◌, ◌++◌, length, remove, true, false, All, slice_index_or, OnOk, IfSome, IfNone, MatchOption};
+ghost use Rattle.std.specs.Prelude.{◌≡◌, ◌⊎◌, ◌≤◌, ◌<◌, ◌+◌, [], ◌∷◌, ◌++◌, length};
+ghost use Rattle.std.specs.Prelude.{remove, true, false, All, slice_index_or, OnOk, IfSome, IfNone, MatchOption};
 ghost use Rattle.paced_talks.specs.Frames.{frame_limit, block_bytes};
 ghost use Rattle.paced_talks.specs.Talks.{IsFirstFrame, most_asking, most_gathered, most_counted, raised, Loses};
 ghost use Rattle.paced_talks.specs.Coming.{bytes_of, goes_before, IsIdlest, LetsIdlestGo, HasLetIn, IsFirstWhole};

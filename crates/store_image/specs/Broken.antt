@@ -23,7 +23,8 @@ use Rattle.mod_log.specs.Limits.{max_entries, max_log}
 use Rattle.mod_log.specs.Log.{Log, entry, tree_of, AreEntriesOf, IsLog, new_log_of}
 use Rattle.tree_values.specs.declared.format.Format.TheVariants.{Second}
 use Rattle.store_image.specs.declared.image.ImageError.TheVariants.{BadImage}
-use Rattle.store_image.specs.Reading.{Growing, growing_effect_at, known_base_at, next_entry_at, entries_at, client_mark, client_at, format_of}
+use Rattle.store_image.specs.Reading.{Growing, growing_effect_at, known_base_at, next_entry_at}
+use Rattle.store_image.specs.Reading.{entries_at, client_mark, client_at, format_of}
 use Rattle.store_image.specs.Reading.{server_mark, server_at}
 use Rattle.store_image.specs.Spelling.{numbers}
 use Rattle.mod_log.specs.declared.origin.Origin.{Origin}
@@ -66,7 +67,8 @@ pub record BrokenKeptEntries : Type 0 where
       → IsRefused (next_entry_at Second log) (1 ∷ text) (1 + offset)
   -- no effect, or more than 4,096: behind what made the entry
   pub effects_are_none : (log : Log) (origin : Option Origin) (count : ℕ) → MadeByFits origin → count < 2 ^ 32
-      → (count ≡ 0) ⊎ (max_effects < count) → IsRefused (next_entry_at Second log) (made_by origin ++ digits w32 count) (length (made_by origin))
+      → (count ≡ 0) ⊎ (max_effects < count)
+      → IsRefused (next_entry_at Second log) (made_by origin ++ digits w32 count) (length (made_by origin))
   -- an effect that is refused: behind those before it
   pub effect_is_refused : (log : Log) (origin : Option Origin) (before : List Effect) (count : ℕ) (text : List ℕ) (offset : ℕ)
       → MadeByFits origin → AreTaken (tree_of log) before → length before < count → count ≤ max_effects
@@ -76,7 +78,8 @@ pub record BrokenKeptEntries : Type 0 where
   -- another number of bases than of touched paths: behind the effects
   pub bases_are_others : (log : Log) (origin : Option Origin) (es : List Effect) (count : ℕ) → MadeByFits origin
       → AreTaken (tree_of log) es → 1 ≤ length es → length es ≤ max_effects → count < 2 ^ 32 → count ≢ length (base_of es (tree_of log))
-      → IsRefused (next_entry_at Second log) (made_by origin ++ (effects es ++ digits w32 count)) (length (made_by origin) + length (effects es))
+      → IsRefused (next_entry_at Second log) (made_by origin ++ (effects es ++ digits w32 count))
+      (length (made_by origin) + length (effects es))
   -- a base that is refused: behind those before it
   pub base_is_refused : (log : Log) (origin : Option Origin) (es : List Effect) (before others : List Base) (known : Base)
       (text : List ℕ) (offset : ℕ) → IsLog log → MadeByFits origin → AreTaken (tree_of log) es → 1 ≤ length es → length es ≤ max_effects
@@ -111,10 +114,13 @@ pub record BrokenImages : Type 0 where
   pub client_mark_is_another : (mark : List ℕ) → length mark ≡ 4 → mark ≢ client_mark → IsRefused (client_at Second) mark 0
   pub server_mark_is_another : (mark : List ℕ) → length mark ≡ 4 → mark ≢ server_mark → IsRefused (server_at Second) mark 0
   -- another version than 2: behind the mark
-  pub client_version_is_another : (version : ℕ) → version < 2 ^ 8 → version ≢ 2 → IsRefused (client_at Second) (client_mark ++ version ∷ []) 4
-  pub server_version_is_another : (version : ℕ) → version < 2 ^ 8 → version ≢ 2 → IsRefused (server_at Second) (server_mark ++ version ∷ []) 4
+  pub client_version_is_another : (version : ℕ) → version < 2 ^ 8 → version ≢ 2
+      → IsRefused (client_at Second) (client_mark ++ version ∷ []) 4
+  pub server_version_is_another : (version : ℕ) → version < 2 ^ 8 → version ≢ 2
+      → IsRefused (server_at Second) (server_mark ++ version ∷ []) 4
   -- a number that no client has: behind the version
-  pub client_is_none : (client : ℕ) → client < 2 ^ 8 → (client ≡ 0) ⊎ (64 < client) → IsRefused (client_at Second) (client_mark ++ 2 ∷ client ∷ []) 5
+  pub client_is_none : (client : ℕ) → client < 2 ^ 8 → (client ≡ 0) ⊎ (64 < client)
+      → IsRefused (client_at Second) (client_mark ++ 2 ∷ client ∷ []) 5
   -- rows that are refused: behind the acknowledged number, and behind the last numbers
   pub client_rows_are_refused : (client acked : ℕ) (text : List ℕ) (offset : ℕ) → 1 ≤ client → client ≤ 64 → acked < 2 ^ 64
       → IsRefused rows_at text offset
@@ -125,9 +131,12 @@ pub record BrokenImages : Type 0 where
   -- entries that are refused: behind the rows
   pub entries_are_refused : (client acked : ℕ) (base : Volume) (text : List ℕ) (offset : ℕ) → 1 ≤ client → client ≤ 64
       → acked < 2 ^ 64 → IsTree base → IsRefused (entries_at Second (new_log_of acked base)) text offset
-      → IsRefused (client_at Second) (client_mark ++ (2 ∷ client ∷ (digits w64 acked ++ (rows base ++ text)))) (14 + (length (rows base) + offset))
+      → IsRefused (client_at Second) (client_mark ++ (2 ∷ client ∷ (digits w64 acked ++ (rows base ++ text))))
+      (14 + (length (rows base) + offset))
   -- bytes that do not tell the first format, begin with what is refused, and not as an image of the other kind, are refused there
   pub client_is_refused : (text more : List ℕ) (offset : ℕ) → IsRefused (client_at Second) text offset
-      → format_of (text ++ more) ≡ Second → bytes_eq server_mark (take 4 (text ++ more)) ≡ false → kept_client_of (text ++ more) ≡ Err (BadImage (as_u32 offset))
+      → format_of (text ++ more) ≡ Second → bytes_eq server_mark (take 4 (text ++ more)) ≡ false
+      → kept_client_of (text ++ more) ≡ Err (BadImage (as_u32 offset))
   pub server_is_refused : (text more : List ℕ) (offset : ℕ) → IsRefused (server_at Second) text offset
-      → format_of (text ++ more) ≡ Second → bytes_eq client_mark (take 4 (text ++ more)) ≡ false → server_of (text ++ more) ≡ Err (BadImage (as_u32 offset))
+      → format_of (text ++ more) ≡ Second → bytes_eq client_mark (take 4 (text ++ more)) ≡ false
+      → server_of (text ++ more) ≡ Err (BadImage (as_u32 offset))

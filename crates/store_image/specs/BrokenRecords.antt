@@ -43,7 +43,8 @@ pub record BrokenClientRecords : Type 0 where
   -- no kind: where it would stand
   pub kind_is_missing : (log : Log) → IsRefusedClientRecord log [] 4
   -- another kind than 1 and 2: there
-  pub kind_is_another : (log : Log) (kind : ℕ) (rest : List ℕ) → kind < 2 ^ 8 → AllByRecursion (λ known. kind ≢ known.0) (client_kinds Second log)
+  pub kind_is_another : (log : Log) (kind : ℕ) (rest : List ℕ) → kind < 2 ^ 8
+      → AllByRecursion (λ known. kind ≢ known.0) (client_kinds Second log)
       → IsRefusedClientRecord log (kind ∷ rest) 4
   -- an entry that is refused behind those of the log: in it
   pub entry_is_none : (log : Log) (text rest : List ℕ) (offset : ℕ) → IsRefused (next_entry_at Second log) text offset

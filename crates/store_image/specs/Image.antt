@@ -14,7 +14,8 @@ use Rattle.store_image.specs.Reading.{client_mark, server_mark, format_of, clien
 use Rattle.tree_values.specs.declared.format.Format.{Format}
 use Rattle.tree_values.specs.declared.format.Format.TheVariants.{Second}
 use Rattle.store_image.specs.Spelling.{client_in, ClientFitsIn, server_in, ServerFitsIn}
-use Rattle.store_image.specs.Records.{IsTorn, behind_records, client_records_at, client_records, with_record, with_records, AreNotes, AreRecordsOf}
+use Rattle.store_image.specs.Records.{IsTorn, behind_records, client_records_at, client_records}
+use Rattle.store_image.specs.Records.{with_record, with_records, AreNotes, AreRecordsOf}
 use Rattle.store_image.specs.Records.{server_records_at, server_records, with_taken, with_all_taken, AreTakenOf, AreTakenIn}
 
 -- what was read, or the first faulty field

@@ -39,6 +39,7 @@ adds_both a b c x y z first second = record {
       (rounds_append first.rounds second.rounds (filter is_answered first.made) (filter is_answered second.made) first.are second.are);
 }
 
-pub adds_then : (a b c : List Round) (x y z : Option World) → Told x y (AddsRounds a b) → Told y z (AddsRounds b c) → Told x z (AddsRounds a c)
+pub adds_then : (a b c : List Round) (x y z : Option World) → Told x y (AddsRounds a b) → Told y z (AddsRounds b c)
+    → Told x z (AddsRounds a c)
 adds_then a b c x y z first second =
     told_then x y z (AddsRounds a b) (AddsRounds b c) (AddsRounds a c) first second (λ u v w one two. adds_both a b c u v w one two)

@@ -19,7 +19,8 @@ use Rattle.file_paths.specs.Spelling.{path}
 use Rattle.tree_values.specs.Spelling.{effect, base, row, EffectFits, AreBasesOf, AreRowsOf}
 use Rattle.file_paths.specs.Reading.{path_at}
 use Rattle.tree_values.specs.Fault.{is_one_of, fault_of}
-use Rattle.tree_values.specs.Reading.{effect_kinds, effect_in, effect_at, effects_within, base_at, bases_at, may_stand, node_kinds, room_beside}
+use Rattle.tree_values.specs.Reading.{effect_kinds, effect_in, effect_at, effects_within, base_at}
+use Rattle.tree_values.specs.Reading.{bases_at, may_stand, node_kinds, room_beside}
 use Rattle.tree_values.specs.Reading.{next_row_at, rows_in}
 
 -- ---- effects
@@ -32,7 +33,8 @@ pub record BrokenEffects : Type 0 where
   pub path_is_none : (format : Format) (room : ℕ) (text : List ℕ) (offset : ℕ) → IsRefused path_at text offset
       → AllByRecursion (λ kind. IsRefused (effect_in format room) (kind ∷ text) (1 + offset)) (1 ∷ 2 ∷ 3 ∷ 4 ∷ [])
   -- the second path of a move: behind the first
-  pub target_is_none : (format : Format) (room : ℕ) (from : FilePath) (text : List ℕ) (offset : ℕ) → IsPath from → IsRefused path_at text offset
+  pub target_is_none : (format : Format) (room : ℕ) (from : FilePath) (text : List ℕ) (offset : ℕ) → IsPath from
+      → IsRefused path_at text offset
       → IsRefused (effect_in format room) (4 ∷ (path from ++ text)) (1 + (length (path from) + offset))
   -- a content of more than 8 MiB, or than there is room for: at its length
   pub content_is_large : (format : Format) (room size : ℕ) (p : FilePath) → IsPath p → size < 2 ^ 32 → (max_file < size) ⊎ (room < size)
@@ -115,7 +117,8 @@ pub record BrokenRowLists : Type 0 where
   -- too many rows: at the count
   pub count_is_large : (format : Format) (count : ℕ) → max_rows < count → count < 2 ^ 32 → IsRefused (rows_in format) (digits w32 count) 0
   -- a row that is refused: behind those before it, which are a tree
-  pub row_is_refused : (format : Format) (before : Volume) (count : ℕ) (text : List ℕ) (offset : ℕ) → IsTree before → AreRowsOf format before → length before < count
+  pub row_is_refused : (format : Format) (before : Volume) (count : ℕ) (text : List ℕ) (offset : ℕ)
+      → IsTree before → AreRowsOf format before → length before < count
       → count ≤ max_rows → IsRefused (next_row_at format before) text offset
       → IsRefused (rows_in format) (digits w32 count ++ (flat_map row before ++ text)) (4 + (length (flat_map row before) + offset))
 

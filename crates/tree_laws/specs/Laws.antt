@@ -5,7 +5,8 @@ use Rattle.tree_values.specs.declared.node.Node.TheVariants.{Folder}
 use Rattle.tree_values.specs.declared.node.Effect.{Effect}
 use Rattle.tree_values.specs.declared.node.Effect.TheVariants.{Make, Put, Remove, Move, Mode}
 use Rattle.tree_values.specs.declared.node.TreeError.{TreeError}
-use Rattle.tree_values.specs.Tree.{Volume, IsTree, IsLegalEffect, version_at, node_at, is_folder, children, is_exec, with_content, with_mode, apply}
+use Rattle.tree_values.specs.Tree.{Volume, IsTree, IsLegalEffect, version_at, node_at, is_folder}
+use Rattle.tree_values.specs.Tree.{children, is_exec, with_content, with_mode, apply}
 use Rattle.tree_values.specs.Tree.{touched_paths, kept_rows, undone}
 use Rattle.tree_values.specs.Effects.{apply_all, changed_all, touched_all, distinct}
 use Rattle.tree_values.specs.Lists.{NoneTwice, IsIn}

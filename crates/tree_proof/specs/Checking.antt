@@ -44,7 +44,8 @@ roots_of count (leaf ∷ leaves) = map (computed count) (leaf ∷ leaves)
 -- the first that is not the one at hand
 abbrev pub wrong_root : Certificate → Digest → Option CheckError
 wrong_root certificate root =
-    option_map (λ computed. WrongRoot root computed) (find (λ computed. not (bytes_eq computed root)) (roots_of certificate.head.count certificate.leaves))
+    option_map (λ computed. WrongRoot root computed)
+    (find (λ computed. not (bytes_eq computed root)) (roots_of certificate.head.count certificate.leaves))
 
 -- what is found: the row that is shown, or that there is none
 abbrev pub finding_of : Kind → List Leaf → Finding

@@ -22,7 +22,8 @@ FindingsAreTrue =
 
 -- what is proved of a path is taken for the tree's root, and says what stands there
 abbrev pub ProofsAreTaken : Type 0
-ProofsAreTaken = (rows : Volume) (asked : FilePath) → IsTree rows → checked (root_of rows) asked (proof_of rows asked) ≡ Ok (found_at rows asked)
+ProofsAreTaken = (rows : Volume) (asked : FilePath) → IsTree rows
+    → checked (root_of rows) asked (proof_of rows asked) ≡ Ok (found_at rows asked)
 
 -- The top of one digest is itself; that of more is the pair of the top of the first so many and of the top of the others, so many
 -- being the greatest power of two below their number.

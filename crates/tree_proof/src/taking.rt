@@ -5,7 +5,8 @@ ghost use Rattle.byte_fields.specs.Field.{Gives, Lends, Answers, place_of, span_
 ghost use Rattle.tree_values.specs.Limits.{max_rows};
 ghost use Rattle.tree_proof.specs.Limits.{most_levels};
 ghost use Rattle.tree_proof.specs.Slim.{slim_file_at, slim_node_at, slim_at};
-ghost use Rattle.tree_proof.specs.Certificate.{kind_at, place_limit, head_at, digests_at, leaf_at, next_place, leaves_at, certificate_at, certificate_in};
+ghost use Rattle.tree_proof.specs.Certificate.{kind_at, place_limit, head_at, digests_at, leaf_at};
+ghost use Rattle.tree_proof.specs.Certificate.{next_place, leaves_at, certificate_at, certificate_in};
 
 use crate::certificate::{Head, Kind, Leaf, Places};
 use crate::slim::{SlimNode, SlimRow};

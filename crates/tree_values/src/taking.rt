@@ -4,7 +4,8 @@ ghost use Rattle.std.specs.Prelude.{◌≡◌, length, ◌≤◌, ◌<◌, ◌^�
 ghost use Rattle.byte_fields.specs.Field.{Gives, each_at};
 ghost use Rattle.tree_values.specs.Tree.{IsTree, total_size};
 ghost use Rattle.file_paths.specs.Reading.{path_at, content_at};
-ghost use Rattle.tree_values.specs.Reading.{effect_at, effect_in, make_at, put_at, remove_at, move_at, mode_at, bit_at, room_after, effects_at, effects_within};
+ghost use Rattle.tree_values.specs.Reading.{effect_at, effect_in, make_at, put_at, remove_at, move_at};
+ghost use Rattle.tree_values.specs.Reading.{mode_at, bit_at, room_after, effects_at, effects_within};
 ghost use Rattle.tree_values.specs.Reading.{base_at, first_base_at, others_after, bases_at, may_stand, standing_at, file_at};
 ghost use Rattle.tree_values.specs.Reading.{room_beside, next_row_at, with_next, rows_at};
 
