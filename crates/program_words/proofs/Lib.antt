@@ -1,1 +1,2 @@
 mod Printing
+pub mod Naming

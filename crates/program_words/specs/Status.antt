@@ -2,7 +2,7 @@
 use Rattle.std.specs.Prelude.{ℕ}
 use Rattle.program_words.specs.declared.status.Status.{Status}
 use Rattle.program_words.specs.declared.status.Status.TheVariants.{Done, CannotListen, NoForm, SourceFailed, SinkFailed, KeeperFailed}
-use Rattle.program_words.specs.declared.status.Status.TheVariants.{OtherImage, NoMemory, TooLong}
+use Rattle.program_words.specs.declared.status.Status.TheVariants.{OtherImage, NoMemory, TooLong, Refused}
 
 abbrev pub code : Status → ℕ
 code Done = 0
@@ -14,3 +14,4 @@ code KeeperFailed = 5
 code OtherImage = 6
 code NoMemory = 7
 code TooLong = 8
+code Refused = 9

@@ -23,12 +23,14 @@ pub enum Status {
     NoMemory,
     /// Its input is too long.
     TooLong,
+    /// What it was to check was refused.
+    Refused,
 }
 
 impl Status {
     /// The status for which a number stands.
     pub fn of(number: u8) -> Option<Status>
-        ensures { MatchOption result (code Status.TooLong < number) (λ status. code status ≡ number) }
+        ensures { MatchOption result (code Status.Refused < number) (λ status. code status ≡ number) }
     {
         match number {
             0 => Some(Status::Done),
@@ -40,6 +42,7 @@ impl Status {
             6 => Some(Status::OtherImage),
             7 => Some(Status::NoMemory),
             8 => Some(Status::TooLong),
+            9 => Some(Status::Refused),
             _ => None,
         }
     }
@@ -58,6 +61,7 @@ impl Status {
             Status::OtherImage => 6,
             Status::NoMemory => 7,
             Status::TooLong => 8,
+            Status::Refused => 9,
         }
     }
 
@@ -72,7 +76,8 @@ impl Status {
             | Status::SinkFailed
             | Status::KeeperFailed
             | Status::OtherImage
-            | Status::TooLong => None,
+            | Status::TooLong
+            | Status::Refused => None,
         }
     }
 }
