@@ -1,14 +1,16 @@
 -- Cutting bytes into lines, piece by piece.
 use Rattle.std.proofs.Common.{◌≡◌, ℕ, ◌+◌, ◌<◌, List, [], ◌∷◌, ◌++◌, length, take, drop, Bool, true, false, Some, None, arith, refl}
-use Rattle.std.proofs.Common.{sym, ap, ◌∙◌, append_assoc, position, IsTrue}
-use Rattle.std.specs.List.{onto_first, position_or_len, join_with_byte, list_all}
+use Rattle.std.proofs.Common.{sym, ap, ◌∙◌, append_assoc, append-nil, position, IsTrue}
+use Rattle.std.specs.List.{onto_first, position_or_len, join_with_byte, list_all, slice_split}
 use Rattle.std.proofs.lemmas.List.{length-take-le}
 use Rattle.std.proofs.lemmas.List.Splits.{slice_split-cons_yes, slice_split-cons_no, length-slice_split, slice_split_first}
 use Rattle.std.proofs.lemmas.List.Splits.{slice_split_none, join_with_byte-slice_split}
 use Rattle.std.proofs.lemmas.List.Sums.{fails_before_first}
 use Rattle.std.proofs.lemmas.Bool.Decides.{nat_tests}
-use Rattle.shell_lang.proofs.Splitting.{cut_lacks, joined_are_cut}
+use Rattle.byte_fields.proofs.Facts.{and_of}
+use Rattle.shell_lang.proofs.Splitting.{cut_lacks, joined_are_cut, first_found}
 use Rattle.shell_lang.specs.Lines.{is_line_end, parts, but_last, last_part, whole_lines, unfinished, BeginsWithLine, IsCutUpTo, is_one_line}
+use Rattle.shell_lang.specs.Lines.{last_line, lines_of, with_ends}
 
 -- ---- the first line
 
@@ -140,3 +142,19 @@ joined_lines_are_found first more h = joined_are_cut 10 first more h
 
 pub joined_parts_are_the_input : (input : List ℕ) → join_with_byte 10 (parts input) ≡ input
 joined_parts_are_the_input input = join_with_byte-slice_split 10 input
+
+-- lines that have their ends are the parts, and nothing is behind them
+pub ended_parts : (lines : List (List ℕ)) → IsTrue (list_all is_one_line lines) → parts (with_ends lines) ≡ lines ++ [] ∷ []
+ended_parts [] all = refl
+ended_parts (line ∷ more) all =
+    let both = and_of (is_one_line line) (list_all is_one_line more) all in
+    ap parts (append_assoc line (10 ∷ []) (with_ends more)) ∙ first_found 10 line (with_ends more) both.0
+    ∙ ap (λ rest. line ∷ rest) (ended_parts more both.1)
+
+pub ended_lines_are_found : (lines : List (List ℕ)) → IsTrue (list_all is_one_line lines) → lines_of (with_ends lines) ≡ lines
+ended_lines_are_found lines all =
+    let cut = ended_parts lines all in
+    ap (λ rest. but_last rest ++ last_line (last_part rest)) cut
+    ∙ ap (λ front. front ++ last_line (last_part (lines ++ [] ∷ []))) (but_last-append lines [])
+    ∙ ap (λ last. lines ++ last_line last) (last_part-append lines [])
+    ∙ append-nil lines

@@ -1,5 +1,6 @@
 pub mod Cutting
 pub mod Pieces
+pub mod Quitting
 pub mod Read
 pub mod Refused
 pub mod Searching

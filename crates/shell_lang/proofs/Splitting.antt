@@ -31,7 +31,8 @@ pub cut_lacks : (c : ℕ) (bytes : List ℕ) → list_all (lacks c) (cut_at c by
 cut_lacks c [] = refl
 cut_lacks c (b ∷ bs) = cut_lacks_step c b bs (b == c) refl (cut_lacks c bs)
 
-first_found : (c : ℕ) (part rest : List ℕ) → lacks c part ≡ true → cut_at c (part ++ c ∷ rest) ≡ part ∷ cut_at c rest
+-- the first part is what stands before the first such byte
+pub first_found : (c : ℕ) (part rest : List ℕ) → lacks c part ≡ true → cut_at c (part ++ c ∷ rest) ≡ part ∷ cut_at c rest
 first_found c [] rest h = slice_split-cons_yes (λ x. x == c) c rest (eq_itself c)
 first_found c (b ∷ bs) rest h =
     let tests : ((b == c) ≡ false) × (lacks c bs ≡ true) = neither (b == c) (list_any (λ x. x == c) bs) h in

@@ -1,5 +1,5 @@
 -- What a line of words asks for.
-use Rattle.std.specs.Prelude.{ℕ, List, [], ◌∷◌, ◌++◌, length, codes, Option, Some, None, find, Result, Ok, Err, ok_or}
+use Rattle.std.specs.Prelude.{◌≡◌, ◌⊎◌, ◌↔◌, ℕ, List, [], ◌∷◌, ◌++◌, length, codes, Option, Some, None, find, Result, Ok, Err, ok_or}
 use Rattle.std.specs.Str.{bytes_eq}
 use Rattle.byte_fields.specs.Numbers.{as_u32}
 use Rattle.shell_lang.specs.Words.{words_of, ◌>>=◌}
@@ -84,3 +84,9 @@ read_line (b ∷ bs) = do
 -- the content of a file that is put: the text and a line end
 abbrev pub put_content : List ℕ → List ℕ
 put_content text = text ++ 10 ∷ []
+
+-- ---- law
+
+-- a line asks for the end of the session exactly where it is the word `quit`, as it is or between quotes
+abbrev pub OnlyQuitQuits : Type 0
+OnlyQuitQuits = (line : List ℕ) → read_line line ≡ Ok lines.Quit ↔ ((line ≡ codes "quit") ⊎ (line ≡ codes "'quit'"))

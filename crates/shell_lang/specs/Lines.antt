@@ -1,6 +1,6 @@
 -- The lines of an input.
 use Rattle.std.specs.Prelude.{◌≡◌, ℕ, ◌+◌, ◌<◌, Bool, ◌==◌, List, [], ◌∷◌, ◌++◌, length, drop, not, Option, Some, None, IsTrue}
-use Rattle.std.specs.List.{slice_split, join_with_byte, list_any, list_all}
+use Rattle.std.specs.List.{slice_split, join_with_byte, list_any, list_all, flat_map}
 
 abbrev pub is_line_end : ℕ → Bool
 is_line_end b = b == 10
@@ -41,6 +41,10 @@ pub record BeginsWithLine (bytes line : List ℕ) : Type 0 where
   pub inside : length line < length bytes
   pub cut : parts bytes ≡ line ∷ parts (drop (length line + 1) bytes)
 
+-- each line with its end
+abbrev pub with_ends : List (List ℕ) → List ℕ
+with_ends lines = flat_map (λ line. line ++ 10 ∷ []) lines
+
 -- the first line of the bytes that has its end, and none exactly where no byte ends a line
 abbrev pub FirstLine : List ℕ → Option (List ℕ) → Type 0
 FirstLine bytes None = parts bytes ≡ bytes ∷ []
@@ -76,6 +80,10 @@ abbrev pub JoinedLinesAreFound : Type 0
 JoinedLinesAreFound =
     (first : List ℕ) (more : List (List ℕ)) → IsTrue (list_all is_one_line (first ∷ more))
     → parts (join_with_byte 10 (first ∷ more)) ≡ first ∷ more
+
+-- lines without a line end inside that are each given one are the lines
+abbrev pub EndedLinesAreFound : Type 0
+EndedLinesAreFound = (lines : List (List ℕ)) → IsTrue (list_all is_one_line lines) → lines_of (with_ends lines) ≡ lines
 
 -- an input that comes in two pieces: the whole lines of the first, and then the parts of what it left and the second
 abbrev pub PiecesAreCutAlike : Type 0

@@ -1,6 +1,8 @@
 //! Laws of the definitions.
 
-ghost use Rattle.shell_lang.specs.Lines.{JoinedPartsAreTheInput, PartsAreOneLineEach, JoinedLinesAreFound, PiecesAreCutAlike};
+ghost use Rattle.shell_lang.specs.Commands.{OnlyQuitQuits};
+ghost use Rattle.shell_lang.specs.Lines.{JoinedPartsAreTheInput, PartsAreOneLineEach, JoinedLinesAreFound, EndedLinesAreFound};
+ghost use Rattle.shell_lang.specs.Lines.{PiecesAreCutAlike};
 ghost use Rattle.shell_lang.specs.Reading.{ReadIsSpelled};
 ghost use Rattle.shell_lang.specs.Refusing.{FrontIsRead, OpenIsRefused, FollowedIsRefused, BareIsRefused};
 ghost use Rattle.shell_lang.specs.Spelling.{SpelledIsRead, HasOneReading};
@@ -29,11 +31,18 @@ pub fn bad_words_are_refused()
     ensures bare { BareIsRefused }
 {}
 
-/// Law: an input is its parts, joined by line ends. No part has one inside, and there is no other such cut.
+/// Law: a line asks for the end of the session exactly where it is the word `quit`, as it is or between quotes.
+pub fn only_quit_quits()
+    ensures { OnlyQuitQuits }
+{}
+
+/// Law: an input is its parts, joined by line ends. No part has one inside, and there is no other such cut. And lines that are each given
+/// a line end are its lines.
 pub fn inputs_are_cut_at_line_ends()
     ensures joined { JoinedPartsAreTheInput }
     ensures alone { PartsAreOneLineEach }
     ensures only { JoinedLinesAreFound }
+    ensures ended { EndedLinesAreFound }
 {}
 
 /// Law: the lines do not depend on the pieces in which an input comes.

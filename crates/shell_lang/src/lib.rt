@@ -16,7 +16,7 @@ pub use command::{put_content, read_line};
 pub use fault_text::put_fault_text;
 pub use laws::{
     bad_words_are_refused, inputs_are_cut_alike_in_pieces, inputs_are_cut_at_line_ends,
-    lines_have_one_reading, read_words_are_spelled, spelled_words_are_read,
+    lines_have_one_reading, only_quit_quits, read_words_are_spelled, spelled_words_are_read,
 };
 pub use line::{Line, LineError};
 pub use lines::LineBuffer;
