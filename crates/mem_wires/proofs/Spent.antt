@@ -1,9 +1,9 @@
 -- What one ask takes of the wires, and what it leaves.
-use Rattle.std.proofs.Common.{◌≡◌, inl, inr, ⊎_elim, ℕ, ◌≤◌, Bool, true, false, List, [], ◌∷◌, ◌++◌, take, Result, Ok, Err, Vec, refl, sym, ◌∙◌, ap, subst, arith, append_assoc}
+use Rattle.std.proofs.Common.{◌≡◌, inl, inr, ⊎_elim, ℕ, ◌≤◌, Bool, true, false, List, [], ◌∷◌, ◌++◌, Result, Ok, Err, Vec, refl, sym, ◌∙◌, ap, subst, arith}
 use Rattle.std.specs.Prelude.{if◌then◌else◌}
 use Rattle.std.specs.declared.alloc.Global.{Global}
 use Rattle.std.proofs.Math.Nat.{le_refl, le_trans}
-use Rattle.std.proofs.lemmas.List.{take-append-drop, append_cancel_left}
+use Rattle.std.proofs.lemmas.List.{append_cancel_left}
 use Rattle.tree_values.specs.Lists.{IsIn}
 use Rattle.wire_frames.specs.declared.message.Message.{Message}
 use Rattle.world_rules.specs.declared.asking.Peer.{Peer}
@@ -18,9 +18,10 @@ use Rattle.world_rules.proofs.Asks.{moved_by_then}
 use Rattle.world_rules.proofs.Runs.{asked_by_step}
 use Rattle.mem_wires.specs.declared.fate.Fate.{Fate}
 use Rattle.mem_wires.specs.Wire.{Wire, world_of}
-use Rattle.mem_wires.specs.Fates.{decides, is_trouble, deciding, left_after, one_more, troubles_after, IsEndOf}
-use Rattle.mem_wires.specs.Spending.{IsAny, AreGiven, AreQuiet, TakesFront, Spends, quiet_front, quiet_behind}
+use Rattle.mem_wires.specs.Fates.{decides, is_trouble, deciding, left_by, left_after, one_more, troubles_after, AreTakenFrom, AreLeft}
+use Rattle.mem_wires.specs.Spending.{IsAny, AreGiven, AreQuiet, TakesFront, Spends, quiet_front, quiet_behind, taken_then}
 use Rattle.world_rules.proofs.Allowing.{moved_as}
+use Rattle.mem_wires.proofs.Deciding.{left_by_waiting}
 
 -- ---- the asks that moves note
 
@@ -41,16 +42,20 @@ abbrev pub taken_of : List Fate → List Fate
 taken_of [] = []
 taken_of (fate ∷ fates) = fate ∷ (if decides fate then [] else taken_of fates)
 
-pub taken_left : (fates : List Fate) → fates ≡ taken_of fates ++ left_after fates
+pub taken_left : (fates : List Fate) → AreTakenFrom (taken_of fates) fates (left_after fates)
 taken_left [] = refl
-taken_left (fate ∷ fates) = by (decides fate) (taken_left fates)
+taken_left (fate ∷ fates) = (fates, refl, by (decides fate) (left_by_waiting fate fates) (taken_left fates))
   where
-    by : (b : Bool) → fates ≡ taken_of fates ++ left_after fates → (fate ∷ fates) ≡ fate ∷ ((if b then [] else taken_of fates) ++ (if b then fates else left_after fates))
-    by true rest = refl
-    by false rest = ap (λ (l : List Fate). fate ∷ l) rest
+    by : (b : Bool) → (b ≡ false → left_by fate fates ≡ fates) → AreTakenFrom (taken_of fates) fates (left_after fates)
+        → AreTakenFrom (if b then [] else taken_of fates) (left_by fate fates) (if b then left_by fate fates else left_after fates)
+    by true waits rest = refl
+    by false waits rest = subst (λ (l : List Fate). AreTakenFrom (taken_of fates) l (left_after fates)) (sym (waits refl)) rest
 
-pub takes_left : (old new : Wire) → new.fates ≡ left_after old.fates → old.fates ≡ taken_of old.fates ++ new.fates
-takes_left old new left = taken_left old.fates ∙ ap (λ (l : List Fate). taken_of old.fates ++ l) (sym left)
+pub taken_as : (taken fates left now : List Fate) → AreTakenFrom taken fates left → now ≡ left → AreTakenFrom taken fates now
+taken_as taken fates left now are same = subst (λ (l : List Fate). AreTakenFrom taken fates l) (sym same) are
+
+pub takes_left : (old new : Wire) → new.fates ≡ left_after old.fates → AreTakenFrom (taken_of old.fates) old.fates new.fates
+takes_left old new left = taken_as (taken_of old.fates) old.fates (left_after old.fates) new.fates (taken_left old.fates) left
 
 -- without a trouble among them the one that decides is none
 pub quiet_deciding : (fates : List Fate) → AreQuiet (taken_of fates) → is_trouble (deciding fates) ≡ false
@@ -79,7 +84,7 @@ takes_none fates troubles = record { taken = []; split = refl; later = le_refl t
 pub takes_then : (a b d : List Fate) (x y z : ℕ) → TakesFront a b x y → TakesFront b d y z → TakesFront a d x z
 takes_then a b d x y z first second = record {
   taken = first.taken ++ second.taken;
-  split = first.split ∙ ap (λ (l : List Fate). first.taken ++ l) second.split ∙ sym (append_assoc first.taken second.taken d);
+  split = taken_then first.taken second.taken a b d first.split second.split;
   later = le_trans first.later second.later;
   calm = λ quiet. second.calm (quiet_behind first.taken second.taken quiet) ∙ first.calm (quiet_front first.taken second.taken quiet);
 }
@@ -98,10 +103,10 @@ spent_in_want m old new moves takes = record {
 }
 
 -- the fates that are no longer there were taken
-pub takes_end : (old new : Wire) → IsEndOf new.fates old.fates → new.troubles ≡ old.troubles → TakesFront old.fates new.fates old.troubles new.troubles
-takes_end old new end same = record {
-  taken = take end.0 old.fates;
-  split = sym (take-append-drop end.0 old.fates) ∙ ap (λ (l : List Fate). take end.0 old.fates ++ l) (sym end.1);
+pub takes_end : (old new : Wire) → AreLeft new.fates old.fates → new.troubles ≡ old.troubles → TakesFront old.fates new.fates old.troubles new.troubles
+takes_end old new left same = record {
+  taken = left.0;
+  split = left.1;
   later = omega (arith, same);
   calm = λ quiet. same;
 }
@@ -126,7 +131,7 @@ given_once to address m reply bytes a b moves direct =
       tt,
     )
 
-module _ (to : Peer) (address : List ℕ) (m : Message) (old new : Wire) (taken : List Fate) (split : old.fates ≡ taken ++ new.fates) (later : old.troubles ≤ new.troubles) where
+module _ (to : Peer) (address : List ℕ) (m : Message) (old new : Wire) (taken : List Fate) (split : AreTakenFrom taken old.fates new.fates) (later : old.troubles ≤ new.troubles) where
   spent_by : (made : List Ask) → Moved m made (world_of old) (world_of new)
       → (AreQuiet taken → ((ask : Ask) → IsIn ask made → ask.to ≡ Server) → (new.troubles ≡ old.troubles) × AreGiven made (world_of old) (world_of new)) → Spends old new
   spent_by made moved calm = record {

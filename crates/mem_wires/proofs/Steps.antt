@@ -19,7 +19,7 @@ use Rattle.world_rules.specs.World.{World, Send, Deliver, Other, IsForServer, se
 use Rattle.world_rules.specs.Asking.{ask_of, AsksOnce, IsDirect, IsReplyTo}
 use Rattle.world_rules.proofs.Asks.{IsIn-last, moved_by_then, moved_by_none, moved_by_step, moved_by_noted, sendings-then, sendings-step}
 use Rattle.mem_wires.specs.declared.fate.Fate.{Fate}
-use Rattle.mem_wires.specs.declared.fate.Fate.TheVariants.{Pass, LoseRequest, LoseReply, Twice, Old, Late, Inject}
+use Rattle.mem_wires.specs.declared.fate.Fate.TheVariants.{Pass, LoseRequest, LoseReply, Twice, Old, Late, Inject, Stop}
 use Rattle.mem_wires.specs.Fates.{answered, IsAnswered, IsAnsweredByOld, is_trouble, troubles_after}
 use Rattle.mem_wires.specs.Underway.{MovedFree, IsSent, AsksSent, IsDirectlySent, MeetsUnlessMemory}
 use Rattle.mem_wires.proofs.Taking.{answer-echoes, rose_if}
@@ -179,6 +179,8 @@ module _ (to : Peer) (address : List ℕ) (m : Message) (for : IsForServer m) (v
   asks_once (Late k) a d (Err LinkFailed) among met = absurd met
   asks_once (Inject frame) a d (Ok bytes) among met = absurd met
   asks_once (Inject frame) a d (Err LinkFailed) among met = absurd met
+  asks_once Stop a d (Ok bytes) among met = absurd met
+  asks_once Stop a d (Err LinkFailed) among met = lost_once to address m a d (Err LinkFailed) among met
 
   -- where the fate is no trouble, the answer is the server's
   pub asks_directly : (fate : Fate) (a d : World) (result : Result (Vec ℕ Global) LinkError) → IsIn m a.packets → MeetsUnlessMemory fate to address m a d result
@@ -192,6 +194,7 @@ module _ (to : Peer) (address : List ℕ) (m : Message) (for : IsForServer m) (v
   asks_directly (Old k) a d (Ok bytes) among met quiet = absurd (cc)
   asks_directly (Late k) a d (Ok bytes) among met quiet = absurd met
   asks_directly (Inject frame) a d (Ok bytes) among met quiet = absurd met
+  asks_directly Stop a d (Ok bytes) among met quiet = absurd met
 
   -- and where the troubles did not rise
   pub calm_directly : (fate : Fate) (a d : World) (before : ℕ) (result : Result (Vec ℕ Global) LinkError) → IsIn m a.packets → MeetsUnlessMemory fate to address m a d result

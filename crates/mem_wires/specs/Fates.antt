@@ -17,7 +17,7 @@ use Rattle.world_rules.specs.Served.{answer}
 use Rattle.world_rules.specs.World.{World, sent, delivered, noted}
 use Rattle.world_rules.specs.Asking.{ask_of}
 use Rattle.mem_wires.specs.declared.fate.Fate.{Fate}
-use Rattle.mem_wires.specs.declared.fate.Fate.TheVariants.{Pass, LoseRequest, LoseReply, Twice, Old, Late, Inject}
+use Rattle.mem_wires.specs.declared.fate.Fate.TheVariants.{Pass, LoseRequest, LoseReply, Twice, Old, Late, Inject, Stop}
 pub use Rattle.outside.specs.Memory.{one_more}
 
 -- whether a fate decides the ask that meets it
@@ -29,23 +29,44 @@ decides Twice = true
 decides (Old k) = true
 decides (Late k) = false
 decides (Inject frame) = false
+decides Stop = true
 
 -- whether a fate that decides is a trouble
 abbrev pub is_trouble : Fate → Bool
 is_trouble LoseRequest = true
 is_trouble LoseReply = true
 is_trouble (Old k) = true
+is_trouble Stop = true
 is_trouble _ = false
+
+-- whether the first of the fates is a stop: no ask is handled any more
+abbrev pub is_stopped : List Fate → Bool
+is_stopped (Stop ∷ fates) = true
+is_stopped fates = false
+
+-- what stands in front once this fate was taken from there: a stop stays
+abbrev pub left_by : Fate → List Fate → List Fate
+left_by Stop rest = Stop ∷ rest
+left_by fate rest = rest
+
+-- these fates were taken from the front, one after the other
+abbrev pub AreTakenFrom : List Fate → List Fate → List Fate → Type 0
+AreTakenFrom [] fates left = left ≡ fates
+AreTakenFrom (fate ∷ taken) fates left = (rest : List Fate) × (fates ≡ fate ∷ rest) × AreTakenFrom taken (left_by fate rest) left
+
+-- some fates were taken from the front, and these are left
+abbrev pub AreLeft : List Fate → List Fate → Type 0
+AreLeft left fates = (taken : List Fate) × AreTakenFrom taken fates left
 
 -- the first fate that decides; with none left an ask passes
 abbrev pub deciding : List Fate → Fate
 deciding [] = Pass
 deciding (fate ∷ fates) = if decides fate then fate else deciding fates
 
--- the fates behind it
+-- the fates left once it was taken: those behind it, or itself and all behind it, where it is a stop
 abbrev pub left_after : List Fate → List Fate
 left_after [] = []
-left_after (fate ∷ fates) = if decides fate then fates else left_after fates
+left_after (fate ∷ fates) = if decides fate then left_by fate fates else left_after fates
 
 -- whether a packet comes late before an ask is decided
 abbrev pub comes_late : List Fate → Bool
@@ -121,6 +142,7 @@ MeetsFate LoseReply to address request old new (Err LinkFailed) = new ≡ answer
 MeetsFate (Old k) to address request old new (Ok frame) = IsAnsweredByOld k to address request old new frame.items
 MeetsFate (Old k) to address request old new (Err LinkFailed) =
     IsNoReply (slice_get old.packets k) request × (new ≡ answered to address request Failed old)
+MeetsFate Stop to address request old new (Err LinkFailed) = new ≡ answered to address request Failed old
 MeetsFate fate to address request old new result = ⊥
 
 -- the troubles after an ask: one more where the fate is one, and none where memory ran out
@@ -128,7 +150,7 @@ abbrev pub troubles_after : Fate → Result (Vec ℕ Global) LinkError → ℕ �
 troubles_after fate (Err LinkMemory) troubles = troubles
 troubles_after fate _ troubles = if is_trouble fate then one_more troubles else troubles
 
--- the fates left after an ask are those behind the one that decided it; where memory ran out they are an end of those before,
+-- the fates left after an ask are those left by the one that decided it; where memory ran out they are an end of those before,
 -- and none behind the deciding one is gone
 abbrev pub LeavesFates : Result (Vec ℕ Global) LinkError → List Fate → List Fate → Type 0
 LeavesFates (Err LinkMemory) fates left = IsEndOf left fates × IsEndOf (left_after fates) left

@@ -1,6 +1,6 @@
 -- What asks in a row take of wires in memory, and what they leave.
 use Rattle.std.specs.Prelude.{◌≡◌, ℕ, ◌≤◌, false, List, [], ◌∷◌, ◌++◌, refl}
-use Rattle.std.proofs.Common.{◌∙◌, ap, sym, inl, inr, append_assoc}
+use Rattle.std.proofs.Common.{◌∙◌, inl, inr, subst}
 use Rattle.std.proofs.Math.Nat.{le_refl, le_trans}
 use Rattle.tree_values.specs.Lists.{IsIn}
 use Rattle.wire_frames.specs.declared.message.Message.{Message}
@@ -13,7 +13,7 @@ use Rattle.world_rules.specs.World.{World, MovedBy}
 use Rattle.world_rules.proofs.Asks.{moved_by_none, moved_by_then}
 use Rattle.mem_wires.specs.declared.fate.Fate.{Fate}
 use Rattle.mem_wires.specs.Wire.{Wire, world_of}
-use Rattle.mem_wires.specs.Fates.{is_trouble}
+use Rattle.mem_wires.specs.Fates.{is_trouble, left_by, AreTakenFrom}
 
 -- ---- replies of the server's own
 
@@ -46,10 +46,11 @@ AreGiven (ask ∷ asks) old new = IsGivenAnswer ask.request ask.answer old new �
 abbrev pub AreQuiet : List Fate → Type 0
 AreQuiet fates = (fate : Fate) → IsIn fate fates → is_trouble fate ≡ false
 
--- These fates were taken from the front, and the troubles are not fewer. Where none of the taken fates is a trouble none was counted.
+-- These fates were taken from the front, where a stop stays, and the troubles are not fewer. Where none of the taken fates is a trouble
+-- none was counted.
 pub record TakesFront (fates left : List Fate) (troubles now : ℕ) : Type 0 where
   pub taken : List Fate
-  pub split : fates ≡ taken ++ left
+  pub split : AreTakenFrom taken fates left
   pub later : troubles ≤ now
   pub calm : AreQuiet taken → now ≡ troubles
 
@@ -59,7 +60,7 @@ pub record Spends (old new : Wire) : Type 0 where
   pub made : List Ask
   pub moved : MovedBy IsAny made (world_of old) (world_of new)
   pub taken : List Fate
-  pub split : old.fates ≡ taken ++ new.fates
+  pub split : AreTakenFrom taken old.fates new.fates
   pub later : old.troubles ≤ new.troubles
   pub calm : AreQuiet taken → ((ask : Ask) → IsIn ask made → ask.to ≡ Server)
       → (new.troubles ≡ old.troubles) × AreGiven made (world_of old) (world_of new)
@@ -80,6 +81,10 @@ quiet_front xs ys quiet = λ fate among. quiet fate (in_front fate xs ys among)
 
 pub quiet_behind : (xs ys : List Fate) → AreQuiet (xs ++ ys) → AreQuiet ys
 quiet_behind xs ys quiet = λ fate among. quiet fate (in_behind fate xs ys among)
+
+pub taken_then : (first second a b c : List Fate) → AreTakenFrom first a b → AreTakenFrom second b c → AreTakenFrom (first ++ second) a c
+taken_then [] second a b c one two = subst (λ (fates : List Fate). AreTakenFrom second fates c) one two
+taken_then (fate ∷ first) second a b c one two = (one.0, one.1, taken_then first second (left_by fate one.0) b c one.2 two)
 
 -- what was given stays given in longer moves
 module _ (start old new end : World) (earlier later : List Ask) (before : MovedBy IsAny earlier start old)
@@ -126,7 +131,7 @@ spends_then old middle new first second =
       made = m ++ n;
       moved = moved_by_then IsAny m n a b d first.moved second.moved;
       taken = first.taken ++ second.taken;
-      split = first.split ∙ ap (λ fates. first.taken ++ fates) second.split ∙ sym (append_assoc first.taken second.taken new.fates);
+      split = taken_then first.taken second.taken old.fates middle.fates new.fates first.split second.split;
       later = le_trans first.later second.later;
       calm = λ quiet served.
           let one = first.calm (quiet_front first.taken second.taken quiet) (λ ask among. served ask (in_front ask m n among)) in

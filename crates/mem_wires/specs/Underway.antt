@@ -17,7 +17,7 @@ use Rattle.world_rules.specs.World.{World, Is, MovedBy, sendings}
 use Rattle.world_rules.specs.Asking.{ask_of}
 use Rattle.mem_wires.specs.declared.fate.Fate.{Fate}
 use Rattle.mem_wires.specs.Wire.{Wire, world_of}
-use Rattle.mem_wires.specs.Fates.{decides, deciding, left_after, at_decision, IsEndOf, MeetsFate}
+use Rattle.mem_wires.specs.Fates.{decides, deciding, left_after, at_decision, AreLeft, MeetsFate}
 
 -- the world moved by steps that may come while any request is asked
 abbrev pub MovedFree : World → World → Type 0
@@ -68,7 +68,7 @@ pub record IsUndecided (old new : Wire) : Type 0 where
   pub left : left_after new.fates ≡ left_after old.fates
   pub reached : at_decision new.fates (world_of new) ≡ at_decision old.fates (world_of old)
   pub moved : MovedFree (world_of old) (world_of new)
-  pub rest : IsEndOf new.fates old.fates
+  pub rest : AreLeft new.fates old.fates
   pub troubles : new.troubles ≡ old.troubles
 
 abbrev pub is_store : Message → Bool

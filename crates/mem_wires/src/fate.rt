@@ -2,7 +2,8 @@
 
 use vol_tree::Content;
 
-/// What becomes of one ask, or what happens before the next fate. `Late` and `Inject` decide no ask.
+/// What becomes of one ask, or what happens before the next fate. `Late` and `Inject` decide no ask. Each fate is met once, but for
+/// `Stop`, which stays.
 #[derive(Debug, Drop)]
 pub enum Fate {
     /// The request is handled, and its reply is the answer.
@@ -20,4 +21,6 @@ pub enum Fate {
     Late(u32),
     /// These bytes are sent and handled where they are the frame of another client's store.
     Inject(Content),
+    /// The request is not handled, and the ask fails; so are all later ones: this fate stays at the front.
+    Stop,
 }

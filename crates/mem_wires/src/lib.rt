@@ -1,5 +1,5 @@
-//! The wires between one client and one server in memory: every message that was sent is kept, and lost, repeated, delayed
-//! and injected as a list of fates says.
+//! The wires between one client and one server in memory: every message that was sent is kept, and lost, repeated, delayed,
+//! injected or cut off for good as a list of fates says.
 #![tactic(auto)]
 
 mod fate;

@@ -49,7 +49,8 @@ impl Packet {
 
     /// The frame of the message.
     pub(crate) fn frame(&self) -> &[u8]
-        ensures { result.now ≡ frame self.now }
+        ensures frame { result.now ≡ frame self.now }
+        ensures valid { IsValid self.now }
     {
         &self.frame
     }

@@ -63,7 +63,7 @@ impl Wires {
     ghost use Rattle.world_rules.specs.Asking.{ask_of};
     ghost use Rattle.mem_wires.specs.Wire.{Wire, world_of, new_world};
     ghost use Rattle.mem_wires.specs.Fates.{decides, deciding, left_after, at_decision, befallen, delivered_late, injected};
-    ghost use Rattle.mem_wires.specs.Fates.{answered, one_more, troubles_after, IsEndOf, IsNoReply};
+    ghost use Rattle.mem_wires.specs.Fates.{answered, one_more, troubles_after, is_stopped, AreTakenFrom, AreLeft, IsEndOf, IsNoReply};
     ghost use Rattle.mem_wires.specs.Underway.{MovedFree, IsSent, KeepsFates, decision, MeetsUnlessMemory, IsUndecided, stored_above};
     ghost use Rattle.mem_wires.specs.declared.fate.Fate.TheVariants.{Pass, LoseRequest, Old};
 
@@ -105,7 +105,8 @@ impl Wires {
 
     /// The frame of the packet of this number, counted from 0 in the order of sending; `None` where fewer were sent.
     pub fn packet(&self, k: u32) -> Option<&[u8]>
-        ensures { option_copied result ≡ option_map frame (slice_get self.now.packets k) }
+        ensures frame { option_copied result ≡ option_map frame (slice_get self.now.packets k) }
+        ensures valid { IfSome (slice_get self.now.packets k) IsValid }
     {
         match self.packet_at(k) {
             Some(packet) => Some(packet.frame()),
@@ -120,7 +121,7 @@ impl Wires {
         self.fates.len()
     }
 
-    /// How many asks were lost or answered by an old packet. The count stands still at the end of its type.
+    /// How many asks were lost, stopped or answered by an old packet. The count stands still at the end of its type.
     pub fn troubles(&self) -> u64
         ensures { result ≡ self.now.troubles }
     {
@@ -152,12 +153,22 @@ impl Wires {
         self.packets.get(k as usize)
     }
 
-    /// Takes the first of the fates; `None` where none is left.
+    /// Whether a stop is the first of the fates, so that no ask is handled any more.
+    pub fn is_stopped(&self) -> bool
+        ensures { result ≡ is_stopped self.now.fates }
+    {
+        matches!(self.fates.front(), Some(Fate::Stop))
+    }
+
+    /// Takes the first of the fates, where a stop stays; `None` where none is left.
     pub fn take_fate(&mut self) -> Option<Fate>
-        ensures some { IfSome result (λ fate. self.old.fates ≡ fate ∷ self.new.fates) }
+        ensures some { IfSome result (λ fate. AreTakenFrom (fate ∷ []) self.old.fates self.new.fates) }
         ensures none { IfNone result ((self.old.fates ≡ []) × (self.new.fates ≡ [])) }
         ensures rest { self.new ≡ record self.old { fates = self.new.fates } }
     {
+        if self.is_stopped() {
+            return Some(Fate::Stop);
+        }
         self.fates.pop_front()
     }
 
@@ -407,14 +418,14 @@ impl Wires {
         Ok(None)
     }
 
-    /// Takes the fates up to the first that decides, which is the result. Those before it happen.
+    /// Takes the fates up to the first that decides, which is the result. Those before it happen, and a stop stays.
     fn decide(&mut self) -> Result<Fate, AllocError>
         ensures fate { IfOk result (λ fate. fate ≡ deciding self.old.fates) }
         ensures decides { IfOk result (λ fate. decides fate ≡ true) }
         ensures left { OnOk result (self.new.fates ≡ left_after self.old.fates) }
         ensures reached { OnOk result (world_of self.new ≡ at_decision self.old.fates (world_of self.old)) }
         ensures moved { MovedFree (world_of self.old) (world_of self.new) }
-        ensures rest { IsEndOf self.new.fates self.old.fates }
+        ensures rest { AreLeft self.new.fates self.old.fates }
         ensures behind { IsEndOf (left_after self.old.fates) self.new.fates }
         ensures troubles { self.new.troubles ≡ self.old.troubles }
     {
@@ -535,6 +546,7 @@ impl Wires {
         match fate {
             Fate::Pass => self.pass(to, address, request),
             Fate::LoseRequest => self.lose(to, address, request),
+            Fate::Stop => self.lose(to, address, request),
             Fate::LoseReply => match self.deliver(&request) {
                 Ok(lost) => {
                     drop(lost);
@@ -570,7 +582,7 @@ impl Wires {
         ensures moved { MovedBy (Is request.now) [] (world_of self.old) (world_of self.new) }
         ensures asking { OnOk result (IsSent request.now (world_of self.old) (world_of self.new)) }
         ensures sent { OnOk result (IsIn request.now self.new.packets) }
-        ensures rest { IsEndOf self.new.fates self.old.fates }
+        ensures rest { AreLeft self.new.fates self.old.fates }
         ensures behind { IsEndOf (left_after self.old.fates) self.new.fates }
         ensures troubles { self.new.troubles ≡ self.old.troubles }
     {
@@ -616,8 +628,8 @@ impl Link for Wires {
 
     ghost keeps_then = { spends_then };
 
-    /// Sends the request and takes fates up to the first that decides: that one says what becomes of the ask. An ask of
-    /// the surrogate is lost.
+    /// Sends the request and takes fates up to the first that decides, where a stop stays: that one says what becomes of the ask. An
+    /// ask of the surrogate is lost.
     fn ask(&mut self, to: Peer, address: &[u8], frame: &[u8]) -> Result<Vec<u8>, LinkError>
         requires { (request : Message) × Spells request frame.now × IsRequest to request }
         ensures reply { (request : Message) → Spells request frame.now

@@ -8,7 +8,7 @@ use Rattle.mem_wires.specs.declared.fate.Fate.TheVariants.{LoseRequest}
 use Rattle.mem_wires.specs.Wire.{Wire, world_of}
 use Rattle.mem_wires.specs.Fates.{is_trouble, troubles_after}
 use Rattle.mem_wires.specs.Spending.{AreQuiet, spends_none}
-use Rattle.mem_wires.proofs.Deciding.{left_is_end}
+use Rattle.mem_wires.proofs.Deciding.{left_is_end, taken_is_end, leaves_after}
 use Rattle.mem_wires.proofs.Spent.{taken_of, takes_left, quiet_deciding, quiet_after, want_after, takes_end, spent_in_want, spent}
 use Rattle.mem_wires.proofs.Taking.{for_server, not_the_server}
 use Rattle.mem_wires.proofs.Steps.{asks_on, asks_once, lost_once, directly_on, asks_directly, calm_directly, replied, same_request}
@@ -66,6 +66,21 @@ returns-in-Server-clause-direct c = λ request spells to_server quiet.
 
 pub returns-in_default-clause-fates : goal.returns-in_default-clause-fates
 returns-in_default-clause-fates c = ((0, refl), left_is_end c.args.self.now.fates)
+
+-- ---- the fates that are left
+
+pub returns-in_default-reach-clause-fates : goal.returns-in_default-reach-clause-fates
+returns-in_default-reach-clause-fates c =
+    let left = c.in_default-reach.ensures.rest in
+    (taken_is_end left.0 c.args.self.now.fates c.reach.new.self.fates left.1, c.in_default-reach.ensures.behind)
+
+pub returns-in-Server-clause-fates : goal.returns-in-Server-clause-fates
+returns-in-Server-clause-fates c =
+    leaves_after c.meet.result c.args.self.now.fates c.meet.new.self.fates (c.meet.ensures.fates ∙ c.in-Ok-reach.ensures.left)
+
+pub returns-in-Surrogate-clause-fates : goal.returns-in-Surrogate-clause-fates
+returns-in-Surrogate-clause-fates c =
+    leaves_after c.lose.result c.args.self.now.fates c.lose.new.self.fates (c.lose.ensures.fates ∙ c.in-Ok-reach.ensures.left)
 
 -- ---- an ask of the surrogate, which is lost
 
