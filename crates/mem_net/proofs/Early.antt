@@ -1,17 +1,17 @@
 -- Where no packet comes late before an ask is decided, the fates are taken and the troubles counted as without a surrogate.
-use Rattle.std.proofs.Common.{◌≡◌, ◌⊎◌, inl, inr, ℕ, zero, suc, ◌+◌, Bool, true, false, List, [], ◌∷◌, drop, Result, Ok, Err, Vec, refl, sym, ◌∙◌, ap, subst}
+use Rattle.std.proofs.Common.{◌≡◌, ◌⊎◌, inl, inr, ℕ, zero, suc, ◌+◌, Bool, true, false, List, [], ◌∷◌, drop, Result, Err, Vec, refl, sym, ◌∙◌, ap, subst}
 use Rattle.std.specs.Prelude.{if◌then◌else◌}
 use Rattle.std.specs.declared.alloc.Global.{Global}
 use Rattle.std.proofs.lemmas.List.{drop-drop}
 use Rattle.wire_frames.specs.declared.message.Message.{Message}
 use Rattle.world_rules.specs.declared.link.LinkError.{LinkError}
-use Rattle.world_rules.specs.declared.link.LinkError.TheVariants.{Failed as LinkFailed, Memory as LinkMemory}
+use Rattle.world_rules.specs.declared.link.LinkError.TheVariants.{Memory as LinkMemory}
 use Rattle.world_rules.specs.World.{sent}
 use Rattle.mem_wires.specs.declared.fate.Fate.{Fate}
-use Rattle.mem_wires.specs.declared.fate.Fate.TheVariants.{Pass, LoseRequest, LoseReply, Twice, Old, Late, Inject}
-use Rattle.mem_wires.specs.Fates.{decides, deciding, left_after, comes_late, troubles_after, IsEndOf, LeavesFates}
+use Rattle.mem_wires.specs.declared.fate.Fate.TheVariants.{Pass, LoseRequest, LoseReply, Twice, Old, Late, Inject, Stop}
+use Rattle.mem_wires.specs.Fates.{decides, deciding, left_by, left_after, comes_late, troubles_after, IsEndOf, LeavesFates}
 use Rattle.mem_net.specs.Scenes.{Scene, with_world, with_fates, IsLateOperation, Befalls, FrontDecides, Reaches, BefallsInPart, IsFrontTaken, AllBefall, IsCutBefore}
-use Rattle.mem_wires.proofs.Deciding.{left_is_end}
+use Rattle.mem_wires.proofs.Deciding.{left_is_end, leaves_after}
 
 -- ---- one fate
 
@@ -24,6 +24,7 @@ front_not_late LoseReply rest scene request early late = absurd late
 front_not_late Twice rest scene request early late = absurd late
 front_not_late (Old k) rest scene request early late = absurd late
 front_not_late (Inject frame) rest scene request early late = absurd late
+front_not_late Stop rest scene request early late = absurd late
 
 -- and none behind it
 rest_not_late : (fate : Fate) (rest : List Fate) → decides fate ≡ false → comes_late (fate ∷ rest) ≡ false → comes_late rest ≡ false
@@ -34,6 +35,7 @@ rest_not_late LoseReply rest waits early = absurd (cc)
 rest_not_late Twice rest waits early = absurd (cc)
 rest_not_late (Old k) rest waits early = absurd (cc)
 rest_not_late (Inject frame) rest waits early = early
+rest_not_late Stop rest waits early = absurd (cc)
 
 skips : (fate : Fate) {X : Type 0} (here later : X) → decides fate ≡ false → (if decides fate then here else later) ≡ later
 skips fate here later waits = ap (λ (b : Bool). if b then here else later) waits
@@ -70,17 +72,17 @@ early_none fate old new none pass same = record {
   troubles = ap (λ (s : Scene). s.troubles) same;
 }
 
-early_one : (fate first : Fate) (rest : List Fate) (old new : Scene) → old.fates ≡ first ∷ rest → decides first ≡ true → fate ≡ first → new ≡ with_fates rest old → IsEarly fate old new
+early_one : (fate first : Fate) (rest : List Fate) (old new : Scene) → old.fates ≡ first ∷ rest → decides first ≡ true → fate ≡ first → new ≡ with_fates (left_by first rest) old → IsEarly fate old new
 early_one fate first rest old new front decided is same = record {
   decided = is ∙ sym (ap deciding front ∙ stops first first (deciding rest) decided);
-  left = ap (λ (s : Scene). s.fates) same ∙ sym (ap left_after front ∙ stops first rest (left_after rest) decided);
+  left = ap (λ (s : Scene). s.fates) same ∙ sym (ap left_after front ∙ stops first (left_by first rest) (left_after rest) decided);
   troubles = ap (λ (s : Scene). s.troubles) same;
 }
 
 early_more : (fate first : Fate) (rest : List Fate) (old middle new : Scene) → old.fates ≡ first ∷ rest → decides first ≡ false → Spares (with_fates rest old) middle → IsEarly fate middle new → IsEarly fate old new
 early_more fate first rest old middle new front waits spares later = record {
   decided = later.decided ∙ ap deciding spares.0 ∙ sym (ap deciding front ∙ skips first first (deciding rest) waits);
-  left = later.left ∙ ap left_after spares.0 ∙ sym (ap left_after front ∙ skips first rest (left_after rest) waits);
+  left = later.left ∙ ap left_after spares.0 ∙ sym (ap left_after front ∙ skips first (left_by first rest) (left_after rest) waits);
   troubles = later.troubles ∙ spares.1;
 }
 
@@ -120,7 +122,7 @@ module _ (old middle taken : Scene) (fate : Fate) (so_far : GoesEarly old middle
       let behind : front.0 ≡ drop 1 middle.fates = sym (ap (λ (l : List Fate). drop 1 l) front.1) in
       record {
         early = ap comes_late now ∙ rest_not_late fate front.0 front.2 so;
-        left = ap left_after now ∙ sym (ap left_after front.1 ∙ skips fate front.0 (left_after front.0) front.2) ∙ so_far.left;
+        left = ap left_after now ∙ sym (ap left_after front.1 ∙ skips fate (left_by fate front.0) (left_after front.0) front.2) ∙ so_far.left;
         rest = (so_far.rest.0 + 1, now ∙ behind ∙ ap (λ (l : List Fate). drop 1 l) so_far.rest.1 ∙ drop-drop 1 so_far.rest.0 old.fates);
         troubles = spares.1 ∙ ap (λ (s : Scene). s.troubles) front.3 ∙ so_far.troubles;
       }
@@ -162,12 +164,4 @@ lone_in_want m old new early (inr cut) = goes_lone (with_world (sent m old.world
 
 pub lone_met : (result : Result (Vec ℕ Global) LinkError) (fate : Fate) (old reached new : Scene) → IsEarly fate old reached
     → new.fates ≡ reached.fates → new.troubles ≡ troubles_after fate result reached.troubles → IsLone result old new
-lone_met result fate old reached new early same counted = (leaves result, counted ∙ ap (λ (f : Fate). troubles_after f result reached.troubles) early.decided ∙ ap (troubles_after (deciding old.fates) result) early.troubles)
-  where
-    left : new.fates ≡ left_after old.fates
-    left = same ∙ early.left
-
-    leaves : (r : Result (Vec ℕ Global) LinkError) → LeavesFates r old.fates new.fates
-    leaves (Ok bytes) = left
-    leaves (Err LinkFailed) = left
-    leaves (Err LinkMemory) = (subst (λ (l : List Fate). IsEndOf l old.fates) (sym left) (left_is_end old.fates), (0, sym left))
+lone_met result fate old reached new early same counted = (leaves_after result old.fates new.fates (same ∙ early.left), counted ∙ ap (λ (f : Fate). troubles_after f result reached.troubles) early.decided ∙ ap (troubles_after (deciding old.fates) result) early.troubles)

@@ -27,7 +27,6 @@ use Rattle.surrogate_core.specs.Serving.{MayAsk, Serves, ServesTo, WorldWent}
 use Rattle.surrogate_core.specs.Laws.{EndsOperation}
 use Rattle.surrogate_core.proofs.Copies.{keeps_the_copy, asks_the_server}
 use Rattle.surrogate_core.proofs.Free.{handlings_move_alone, replies_are_free}
-use Rattle.mem_wires.specs.declared.fate.Fate.{Fate}
 use Rattle.mem_wires.specs.Wire.{Wire, world_of}
 use Rattle.mem_wires.specs.Spending.{IsAny, IsGivenAnswer, AreGiven, AreQuiet, TakesFront, Spends}
 use Rattle.mem_net.specs.Scenes.{Scene, server_address, work_folder, HasServed, IsHandled, IsUnhandled, StaysButWorld}
@@ -35,7 +34,7 @@ use Rattle.mem_wires.specs.Underway.{MovedFree}
 use Rattle.mem_net.specs.Inside.{GoesFree}
 use Rattle.mem_wires.proofs.Taking.{take_front}
 use Rattle.mem_wires.proofs.Steps.{free_then}
-use Rattle.mem_wires.proofs.Spent.{asks_kept, moved_asks, one_made}
+use Rattle.mem_wires.proofs.Spent.{asks_kept, moved_asks, one_made, taken_as}
 use Rattle.world_rules.proofs.Allowing.{moved_as}
 
 -- ---- asks that are forgotten
@@ -159,7 +158,7 @@ module _ (old served new : Wire) (client : ℕ) (sketched : SketchEntry) (asks :
   pub takes_of : TakesFront old.fates new.fates old.troubles new.troubles
   takes_of = record {
     taken = spends.taken;
-    split = spends.split ∙ ap (λ (l : List Fate). spends.taken ++ l) (sym same_fates);
+    split = taken_as spends.taken old.fates served.fates new.fates spends.split same_fates;
     later = subst (λ (n : ℕ). old.troubles ≤ n) (sym same_troubles) spends.later;
     calm = λ quiet. same_troubles ∙ (spends.calm quiet all_served).0;
   }
@@ -268,7 +267,7 @@ same_goes old a b moved goes fates troubles = record {
   moved = moved;
   takes = record {
     taken = goes.takes.taken;
-    split = goes.takes.split ∙ ap (λ (l : List Fate). goes.takes.taken ++ l) (sym fates);
+    split = taken_as goes.takes.taken old.fates a.fates b.fates goes.takes.split fates;
     later = subst (λ (n : ℕ). old.troubles ≤ n) (sym troubles) goes.takes.later;
     calm = λ quiet. troubles ∙ goes.takes.calm quiet;
   };

@@ -1,5 +1,5 @@
 -- What becomes of an ask by the fate that decides it, beside a surrogate.
-use Rattle.std.proofs.Common.{◌≡◌, ◌⊎◌, inl, inr, ℕ, suc, ◌≤◌, false, List, [], ◌++◌, Result, Ok, Err, Vec, IfOk, sym, ◌∙◌, ap, subst, arith, append_assoc}
+use Rattle.std.proofs.Common.{◌≡◌, ◌⊎◌, inl, inr, ℕ, suc, ◌≤◌, false, List, [], ◌++◌, Result, Ok, Err, Vec, IfOk, sym, ◌∙◌, subst, arith}
 use Rattle.std.specs.Prelude.{IfErr, OnOk, OnErr}
 use Rattle.std.specs.declared.alloc.Global.{Global}
 use Rattle.std.proofs.Math.Nat.{le_trans}
@@ -17,10 +17,10 @@ use Rattle.world_rules.specs.declared.link.LinkError.TheVariants.{Failed as Link
 use Rattle.world_rules.specs.World.{World, Is, MovedBy, sent}
 use Rattle.world_rules.proofs.Asks.{IsIn-last, moved_by_none}
 use Rattle.mem_wires.specs.declared.fate.Fate.{Fate}
-use Rattle.mem_wires.specs.declared.fate.Fate.TheVariants.{Pass, LoseRequest, LoseReply, Twice, Old, Late, Inject}
+use Rattle.mem_wires.specs.declared.fate.Fate.TheVariants.{Pass, LoseRequest, LoseReply, Twice, Old, Late, Inject, Stop}
 use Rattle.mem_wires.specs.Wire.{Wire, world_of}
 use Rattle.mem_wires.specs.Fates.{answered, is_trouble, troubles_after}
-use Rattle.mem_wires.specs.Spending.{TakesFront, quiet_behind, quiet_front}
+use Rattle.mem_wires.specs.Spending.{TakesFront, quiet_behind, quiet_front, taken_then}
 use Rattle.mem_net.specs.Scenes.{Scene, with_world, with_troubles, IsHandled, MeetsAlone, MeetsOperation, UnlessMemory, IsDecided, IsReached, IsMet}
 use Rattle.mem_net.specs.Scenes.{OnMemory, StaysButWorld, IsHandledInPart, handlings, IsCutBefore, IsCutShort}
 use Rattle.mem_wires.specs.Underway.{MovedFree, AsksSent, MeetsUnlessMemory, KeepsFates}
@@ -53,6 +53,7 @@ quiet_meets LoseReply to address m a d (Err LinkFailed) met quiet failed = absur
 quiet_meets (Old k) to address m a d (Err LinkFailed) met quiet failed = absurd (cc)
 quiet_meets (Late k) to address m a d (Err LinkFailed) met quiet failed = met
 quiet_meets (Inject frame) to address m a d (Err LinkFailed) met quiet failed = met
+quiet_meets Stop to address m a d (Err LinkFailed) met quiet failed = absurd (cc)
 
 module _ (to : Peer) (address : List ℕ) (m : Message) (copy : Volume) (runner : RunnerTelling) (a d : Wire) where
   scene_after : (fate : Fate) (result : Result (Vec ℕ Global) LinkError) → d.fates ≡ a.fates → d.troubles ≡ troubles_after fate result a.troubles
@@ -130,13 +131,13 @@ beside_quiet fate a b x y takes = record { taken = takes.taken; split = takes.sp
 
 pub beside_same : (fate : Fate) (result : Result (Vec ℕ Global) LinkError) (a b : List Fate) (x y : ℕ) → b ≡ a → y ≡ troubles_after fate result x → x ≤ y → TakesBeside fate a b x y
 beside_same fate result a b x y same counted rises =
-    record { taken = []; split = sym same; later = rises; calm = λ quiet others. counted ∙ quiet_after fate result x quiet }
+    record { taken = []; split = same; later = rises; calm = λ quiet others. counted ∙ quiet_after fate result x quiet }
 
 pub beside_then : (fate : Fate) (a b d : List Fate) (x y z : ℕ) → TakesFront a b x y → TakesBeside fate b d y z → TakesBeside fate a d x z
 beside_then fate a b d x y z first second =
     record {
       taken = first.taken ++ second.taken;
-      split = first.split ∙ ap (λ (l : List Fate). first.taken ++ l) second.split ∙ sym (append_assoc first.taken second.taken d);
+      split = taken_then first.taken second.taken a b d first.split second.split;
       later = le_trans first.later second.later;
       calm = λ quiet others. second.calm quiet (quiet_behind first.taken second.taken others) ∙ first.calm (quiet_front first.taken second.taken others);
     }
@@ -173,6 +174,7 @@ quiet_operates LoseReply address m b d (Err LinkFailed) met quiet failed = absur
 quiet_operates (Old k) address m b d (Err LinkFailed) met quiet failed = absurd (cc)
 quiet_operates (Late k) address m b d (Err LinkFailed) met quiet failed = met
 quiet_operates (Inject frame) address m b d (Err LinkFailed) met quiet failed = met
+quiet_operates Stop address m b d (Err LinkFailed) met quiet failed = absurd (cc)
 
 -- ---- where memory runs out
 

@@ -1,9 +1,10 @@
 -- What happens by the fates before an ask is decided, beside a surrogate.
-use Rattle.std.proofs.Common.{◌≡◌, inl, inr, ◌⊎◌, ℕ, zero, suc, ◌+◌, ◌≤◌, Bool, true, false, List, [], ◌∷◌, ◌++◌, Result, Ok, Err, Vec, refl, sym, ◌∙◌, ap, subst, arith, append_assoc}
+use Rattle.std.proofs.Common.{◌≡◌, inl, inr, ◌⊎◌, ℕ, zero, suc, ◌+◌, ◌<◌, ◌≤◌, length, Bool, true, false, List, [], ◌∷◌, ◌++◌, Result, Ok, Err, Vec, refl, sym, ◌∙◌, ap, subst, arith}
 use Rattle.std.specs.Prelude.{OnErr, Some, slice_get}
 use Rattle.std.specs.declared.alloc.Global.{Global}
 use Rattle.std.specs.declared.alloc.AllocError.{AllocError}
 use Rattle.std.proofs.Math.Nat.{le_refl, le_trans}
+use Rattle.std.proofs.lemmas.List.{length-drop}
 use Rattle.tree_values.specs.Tree.{Volume}
 use Rattle.cmd_capture.specs.Runs.{RunnerTelling}
 use Rattle.wire_frames.specs.declared.message.Message.{Message}
@@ -14,16 +15,17 @@ use Rattle.world_rules.specs.declared.link.LinkError.TheVariants.{Failed as Link
 use Rattle.world_rules.specs.World.{World, sent}
 use Rattle.world_rules.specs.Asking.{IsRequest}
 use Rattle.mem_wires.specs.declared.fate.Fate.{Fate}
-use Rattle.mem_wires.specs.declared.fate.Fate.TheVariants.{Pass, LoseRequest, LoseReply, Twice, Old, Late, Inject}
+use Rattle.mem_wires.specs.declared.fate.Fate.TheVariants.{Pass, LoseRequest, LoseReply, Twice, Old, Late, Inject, Stop}
 use Rattle.mem_wires.specs.Wire.{Wire, world_of}
-use Rattle.mem_wires.specs.Fates.{decides, is_trouble, befallen, troubles_after}
-use Rattle.mem_wires.specs.Spending.{AreQuiet, TakesFront, quiet_front, quiet_behind}
+use Rattle.mem_wires.specs.Fates.{decides, is_trouble, left_by, befallen, troubles_after, AreTakenFrom}
+use Rattle.mem_wires.specs.Spending.{AreQuiet, TakesFront, quiet_front, quiet_behind, taken_then}
 use Rattle.mem_net.specs.Scenes.{Scene, with_world, with_fates, IsHandled, IsLateOperation, Befalls, FrontDecides, Reaches, IsReached, TakesFates}
 use Rattle.mem_net.specs.Scenes.{IsUnhandled, BefallsInPart, AllBefall, IsCutBefore}
 use Rattle.mem_wires.specs.Underway.{MovedFree}
 use Rattle.mem_net.specs.Inside.{GoesFree, FrontWaits, Nears, TakesBeside}
 use Rattle.mem_wires.proofs.Steps.{free_none, free_then, free_as}
-use Rattle.mem_wires.proofs.Spent.{takes_none, takes_then, quiet_after}
+use Rattle.mem_wires.proofs.Deciding.{left_by_waiting, gone_waiting, taken_is_end}
+use Rattle.mem_wires.proofs.Spent.{takes_none, takes_then, quiet_after, taken_as}
 use Rattle.mem_net.proofs.Handling.{scene_by, stays_by}
 
 -- ---- moves of no client's own, in a row
@@ -41,7 +43,7 @@ goes_then a b d first second = record {
 pub goes_kept : (a b : Wire) → MovedFree (world_of a) (world_of b) → (b.fates ≡ a.fates) × (b.troubles ≡ a.troubles) → GoesFree a b
 goes_kept a b moved kept = record {
   moved = moved;
-  takes = record { taken = []; split = sym kept.0; later = omega (arith, kept.1); calm = λ quiet. kept.1 };
+  takes = record { taken = []; split = kept.0; later = omega (arith, kept.1); calm = λ quiet. kept.1 };
 }
 
 pub goes_same : (a b : Wire) → b ≡ a → GoesFree a b
@@ -61,7 +63,7 @@ kept_in_part fate a b copy runner (Ok x) kept = tt
 kept_in_part fate a b copy runner (Err refused) kept = inl (stays_by a b copy runner kept.0 kept.1)
 
 -- one fate is taken
-pub goes_taking : (a b : Wire) (fate : Fate) → a.fates ≡ fate ∷ b.fates → b ≡ record a { fates = b.fates } → GoesFree a b
+pub goes_taking : (a b : Wire) (fate : Fate) → AreTakenFrom (fate ∷ []) a.fates b.fates → b ≡ record a { fates = b.fates } → GoesFree a b
 goes_taking a b fate front taking = record {
   moved = free_as (world_of a) (world_of a) (world_of b) (free_none (world_of a)) (ap world_of taking);
   takes = record {
@@ -82,6 +84,7 @@ no_operation LoseReply scene request decided late = absurd late
 no_operation Twice scene request decided late = absurd late
 no_operation (Old k) scene request decided late = absurd late
 no_operation (Inject frame) scene request decided late = absurd late
+no_operation Stop scene request decided late = absurd late
 
 befallen_decided : (fate : Fate) (world : World) → decides fate ≡ true → befallen fate world ≡ world
 befallen_decided (Late k) world decided = absurd (cc)
@@ -91,6 +94,7 @@ befallen_decided LoseRequest world decided = refl
 befallen_decided LoseReply world decided = refl
 befallen_decided Twice world decided = refl
 befallen_decided (Old k) world decided = refl
+befallen_decided Stop world decided = refl
 
 -- one that decides does nothing by itself
 decided_same : (fate : Fate) (a b : Scene) → decides fate ≡ true → Befalls fate a b → b ≡ a
@@ -121,12 +125,12 @@ nears_start start wires = record { steps = 0; reaches = λ count fate reached re
 
 -- a fate was taken, and may have happened
 module _ (start now : Scene) (old mid taken new : Wire) (fate : Fate) (so_far : Nears start now old mid)
-    (mid_front : mid.fates ≡ fate ∷ taken.fates) (taking : taken ≡ record mid { fates = taken.fates }) (goes : GoesFree taken new) where
+    (mid_front : AreTakenFrom (fate ∷ []) mid.fates taken.fates) (taking : taken ≡ record mid { fates = taken.fates }) (goes : GoesFree taken new) where
   pub goes_on : GoesFree old new
   goes_on = goes_then old mid new so_far.goes (goes_then mid taken new (goes_taking mid taken fate mid_front taking) goes)
 
   pub waits_on : decides fate ≡ false → FrontWaits old.fates
-  waits_on waiting = waits_by old.fates mid.fates fate taken.fates mid_front waiting so_far.front
+  waits_on waiting = waits_by old.fates mid.fates fate mid_front.0 mid_front.1 waiting so_far.front
 
 -- the scene once it was taken
 pub taken_scene : (mid taken : Wire) (copy : Volume) (runner : RunnerTelling) → taken ≡ record mid { fates = taken.fates }
@@ -140,17 +144,17 @@ untaken_scene mid taken copy runner taking before after =
     ap (λ (w : Wire). scene_by w copy runner) (taking ∙ ap (λ (l : List Fate). record mid { fates = l }) (after ∙ sym before))
 
 -- a fate was taken, and happened
-module _ (start now next : Scene) (old mid taken new : Wire) (fate : Fate) (rest : List Fate) (so_far : Nears start now old mid)
-    (front : now.fates ≡ fate ∷ rest) (mid_front : mid.fates ≡ fate ∷ taken.fates) (taking : taken ≡ record mid { fates = taken.fates })
-    (befell : Befalls fate (with_fates rest now) next) (goes : GoesFree taken new) where
+module _ (start now next : Scene) (old mid taken new : Wire) (fate : Fate) (so_far : Nears start now old mid)
+    (front : AreTakenFrom (fate ∷ []) now.fates taken.fates) (mid_front : AreTakenFrom (fate ∷ []) mid.fates taken.fates) (taking : taken ≡ record mid { fates = taken.fates })
+    (befell : Befalls fate (with_fates taken.fates now) next) (goes : GoesFree taken new) where
   all_befell : decides fate ≡ false → AllBefall (so_far.steps + 1) start next
   all_befell waiting =
       let more : suc so_far.steps ≡ so_far.steps + 1 = omega arith in
-      subst (λ (n : ℕ). AllBefall n start next) more (now, with_fates rest now, fate, so_far.befell, (rest, front, waiting, refl), befell)
+      subst (λ (n : ℕ). AllBefall n start next) more (now, with_fates taken.fates now, fate, so_far.befell, (taken.fates, gone_waiting fate now.fates taken.fates front waiting, waiting, refl), befell)
 
   reaches_next : decides fate ≡ false → (count : ℕ) (last : Fate) (reached : Scene) → Reaches count next last reached → Reaches (suc count) now last reached
   reaches_next waiting count last reached reaches =
-      subst (λ (l : List Fate). FrontDecides (Reaches count) l now last reached) (sym front) (inr (waiting, (next, befell, reaches)))
+      subst (λ (l : List Fate). FrontDecides (Reaches count) l now last reached) (sym (gone_waiting fate now.fates taken.fates front waiting)) (inr (waiting, (next, befell, reaches)))
 
   pub nears_on : decides fate ≡ false → Nears start next old new
   nears_on waiting = record {
@@ -168,9 +172,15 @@ module _ (start now next : Scene) (old mid taken new : Wire) (fate : Fate) (rest
   reached_by decided = (
     so_far.steps + 1,
     so_far.reaches 1 fate next
-        (subst (λ (l : List Fate). FrontDecides (Reaches 0) l now fate next) (sym front)
-        (inl (decided, refl, decided_same fate (with_fates rest now) next decided befell))),
+        (subst (λ (l : List Fate). FrontDecides (Reaches 0) l now fate next) (sym front.1)
+        (inl (decided, refl, decided_same fate (with_fates taken.fates now) next decided befell ∙ ap (λ (l : List Fate). with_fates l now) front.2))),
   )
+
+-- one was taken that decides nothing, and perhaps others: fewer are left
+pub fewer_left : (fate : Fate) (taken fates left later : List Fate) → fates ≡ fate ∷ left → AreTakenFrom taken left later → length later < length fates
+fewer_left fate taken fates left later front are =
+    let end = taken_is_end taken left later are in
+    omega (arith, ap length front, ap length end.1, length-drop end.0 left)
 
 -- memory ran out while it happened
 pub cut_on : (start now next : Scene) (old mid : Wire) (fate : Fate) (rest : List Fate) → Nears start now old mid → now.fates ≡ fate ∷ rest → decides fate ≡ false
@@ -200,7 +210,7 @@ cut_sent m a b copy runner last (Err refused) sending cut = inr (subst (λ (s : 
 
 pub record WasTaken (fate : Fate) (old new : Scene) : Type 0 where
   pub taken : List Fate
-  pub split : old.fates ≡ taken ++ new.fates
+  pub split : AreTakenFrom taken old.fates new.fates
   pub later : old.troubles ≤ new.troubles
   pub calm : AreQuiet taken → (new.troubles ≡ old.troubles) × (is_trouble fate ≡ false)
   pub alone : (first : Fate) (rest : List Fate) → old.fates ≡ first ∷ rest → decides first ≡ true
@@ -218,16 +228,16 @@ same_front x y xs ys is = ap (first_of x) is
 taken_none : (fate : Fate) (old new : Scene) → old.fates ≡ [] → fate ≡ Pass → new ≡ old → WasTaken fate old new
 taken_none fate old new none pass same = record {
   taken = [];
-  split = sym (ap (λ (s : Scene). s.fates) same);
+  split = ap (λ (s : Scene). s.fates) same;
   later = subst (λ (s : Scene). old.troubles ≤ s.troubles) (sym same) (le_refl old.troubles);
   calm = λ quiet. (ap (λ (s : Scene). s.troubles) same, ap is_trouble pass);
   alone = λ first rest is decided. absurd (no_front old.fates first rest none is);
 }
 
-taken_one : (fate first : Fate) (rest : List Fate) (old new : Scene) → old.fates ≡ first ∷ rest → fate ≡ first → new ≡ with_fates rest old → WasTaken fate old new
+taken_one : (fate first : Fate) (rest : List Fate) (old new : Scene) → old.fates ≡ first ∷ rest → fate ≡ first → new ≡ with_fates (left_by first rest) old → WasTaken fate old new
 taken_one fate first rest old new front is same = record {
   taken = first ∷ [];
-  split = front ∙ ap (λ (l : List Fate). first ∷ l) (sym (ap (λ (s : Scene). s.fates) same));
+  split = (rest, front, ap (λ (s : Scene). s.fates) same);
   later = subst (λ (s : Scene). old.troubles ≤ s.troubles) (sym same) (le_refl old.troubles);
   calm = λ quiet. (ap (λ (s : Scene). s.troubles) same, ap is_trouble is ∙ quiet first (inl refl));
   alone = λ other more other_is decided.
@@ -241,8 +251,12 @@ taken_more fate first rest old middle new front waits befell later =
     let one = befalls_takes first (with_fates rest old) middle befell in
     record {
       taken = first ∷ (one.taken ++ later.taken);
-      split = front ∙ ap (λ (l : List Fate). first ∷ l)
-          (one.split ∙ ap (λ (l : List Fate). one.taken ++ l) later.split ∙ sym (append_assoc one.taken later.taken new.fates));
+      split = (
+        rest,
+        front,
+        subst (λ (l : List Fate). AreTakenFrom (one.taken ++ later.taken) l new.fates) (sym (left_by_waiting first rest waits))
+            (taken_then one.taken later.taken rest middle.fates new.fates one.split later.split),
+      );
       later = le_trans one.later later.later;
       calm = λ quiet.
           let others : AreQuiet (one.taken ++ later.taken) = λ f among. quiet f (inr among) in
@@ -272,7 +286,7 @@ module _ (to : Peer) (fate : Fate) (result : Result (Vec ℕ Global) LinkError) 
   pub takes_beside : (left : List Fate) (now : ℕ) → TakesBeside fate reached.fates left reached.troubles now → TakesFront old.fates left old.troubles now
   takes_beside left now beside = record {
     taken = was.taken ++ beside.taken;
-    split = was.split ∙ ap (λ (l : List Fate). was.taken ++ l) beside.split ∙ sym (append_assoc was.taken beside.taken left);
+    split = taken_then was.taken beside.taken old.fates reached.fates left was.split beside.split;
     later = le_trans was.later beside.later;
     calm = λ quiet.
         let front = was.calm (quiet_front was.taken beside.taken quiet) in
@@ -284,6 +298,7 @@ module _ (to : Peer) (fate : Fate) (result : Result (Vec ℕ Global) LinkError) 
   unfolding takes_beside
   takes_by_surrogate left now is beside = record {
     takes = takes_beside left now beside;
+    rest = taken_is_end (was.taken ++ beside.taken) old.fates left (taken_then was.taken beside.taken old.fates reached.fates left was.split beside.split);
     calm = λ quiet. fails (was.calm (quiet_front was.taken beside.taken quiet)).1;
     alone = λ first rest front decided served. absurd (two_peers (is ∙ served));
   }
@@ -296,10 +311,11 @@ module _ (to : Peer) (fate : Fate) (result : Result (Vec ℕ Global) LinkError) 
   takes_by_server left now same counted rises = record {
     takes = record {
       taken = was.taken;
-      split = was.split ∙ ap (λ (l : List Fate). was.taken ++ l) (sym same);
+      split = taken_as was.taken old.fates reached.fates left was.split same;
       later = le_trans was.later rises;
       calm = λ quiet. counted ∙ quiet_after fate result reached.troubles (was.calm quiet).1 ∙ (was.calm quiet).0;
     };
+    rest = taken_is_end was.taken old.fates left (taken_as was.taken old.fates reached.fates left was.split same);
     calm = λ quiet. fails (was.calm quiet).1;
     alone = λ first rest front decided served.
         let one = was.alone first rest front decided in
@@ -314,11 +330,13 @@ pub takes_in_want : (to : Peer) (old new : Wire) → TakesFront old.fates new.fa
     → TakesFates old.fates new.fates old.troubles new.troubles to (Err LinkMemory)
 takes_in_want to old new takes (inl same) = subst (λ (w : Wire). TakesFates old.fates w.fates old.troubles w.troubles to (Err LinkMemory)) (sym same) (record {
   takes = record { taken = []; split = refl; later = le_refl old.troubles; calm = λ quiet. refl };
+  rest = (0, refl);
   calm = λ quiet. memory_fails_not;
   alone = λ first rest front decided served. (inr (refl, refl), refl);
 })
 takes_in_want to old new takes (inr waits) = record {
   takes = takes;
+  rest = taken_is_end takes.taken old.fates new.fates takes.split;
   calm = λ quiet. memory_fails_not;
   alone = λ first rest front decided served. absurd (both_ways (decides first) decided (waits first rest front));
 }

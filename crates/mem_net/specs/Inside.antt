@@ -1,8 +1,8 @@
 -- Words that only contracts inside the network in memory cite.
-use Rattle.std.specs.Prelude.{◌≡◌, ◌⊎◌, ℕ, ◌+◌, ◌≤◌, false, List, ◌∷◌, ◌++◌}
+use Rattle.std.specs.Prelude.{◌≡◌, ◌⊎◌, ℕ, ◌+◌, ◌≤◌, false, List, ◌∷◌}
 use Rattle.mem_wires.specs.declared.fate.Fate.{Fate}
 use Rattle.mem_wires.specs.Wire.{Wire, world_of}
-use Rattle.mem_wires.specs.Fates.{decides, is_trouble}
+use Rattle.mem_wires.specs.Fates.{decides, is_trouble, AreTakenFrom}
 use Rattle.mem_wires.specs.Spending.{AreQuiet, TakesFront}
 use Rattle.mem_wires.specs.Underway.{MovedFree}
 use Rattle.mem_net.specs.Scenes.{Scene, Reaches, AllBefall}
@@ -27,6 +27,6 @@ pub record Nears (start now : Scene) (old new : Wire) : Type 0 where
 -- Fates were taken from the front while this fate was met. Where it is no trouble, and none of them is, none was counted.
 pub record TakesBeside (fate : Fate) (fates left : List Fate) (troubles now : ℕ) : Type 0 where
   pub taken : List Fate
-  pub split : fates ≡ taken ++ left
+  pub split : AreTakenFrom taken fates left
   pub later : troubles ≤ now
   pub calm : is_trouble fate ≡ false → AreQuiet taken → now ≡ troubles

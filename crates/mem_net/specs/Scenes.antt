@@ -21,10 +21,10 @@ use Rattle.world_rules.specs.Asking.{IsRequest}
 use Rattle.world_rules.specs.Settling.{failed_asks}
 use Rattle.surrogate_core.specs.Serving.{ServesTo, failures_told}
 use Rattle.mem_wires.specs.declared.fate.Fate.{Fate}
-use Rattle.mem_wires.specs.declared.fate.Fate.TheVariants.{Pass, LoseRequest, LoseReply, Twice, Old, Late}
+use Rattle.mem_wires.specs.declared.fate.Fate.TheVariants.{Pass, LoseRequest, LoseReply, Twice, Old, Late, Stop}
 use Rattle.mem_net.specs.declared.parts.Parts.{Parts}
 use Rattle.mem_wires.specs.Wire.{world_of}
-use Rattle.mem_wires.specs.Fates.{decides, befallen, answered, MeetsFate, troubles_after}
+use Rattle.mem_wires.specs.Fates.{decides, left_by, befallen, answered, MeetsFate, troubles_after, IsEndOf}
 use Rattle.mem_wires.specs.Spending.{AreQuiet, TakesFront, AreGiven}
 
 -- ---- one moment of a network
@@ -98,11 +98,11 @@ Befalls fate old new =
     ((request reply : Message) × IsLateOperation fate old request × IsHandled request reply old new)
     ⊎ (((request : Message) → IsLateOperation fate old request → ⊥) × (new ≡ with_world (befallen fate old.world) old))
 
--- the front of the fates decides the ask, or happens, and what is next decides; with none left the ask passes
+-- the front of the fates decides the ask, where a stop stays, or happens, and what is next decides; with none left the ask passes
 abbrev pub FrontDecides : (Scene → Fate → Scene → Type 0) → List Fate → Scene → Fate → Scene → Type 0
 FrontDecides Next [] old fate new = (fate ≡ Pass) × (new ≡ old)
 FrontDecides Next (first ∷ rest) old fate new =
-    ((decides first ≡ true) × (fate ≡ first) × (new ≡ with_fates rest old))
+    ((decides first ≡ true) × (fate ≡ first) × (new ≡ with_fates (left_by first rest) old))
     ⊎ ((decides first ≡ false) × ((middle : Scene) × Befalls first (with_fates rest old) middle × Next middle fate new))
 
 -- The fates up to the first that decides were taken, this count of them at most; those before it happened.
@@ -142,6 +142,7 @@ MeetsOperation LoseReply to address request old new (Err LinkFailed) =
     × MeetsAlone LoseRequest to address request handled new (Err LinkFailed)
 MeetsOperation LoseRequest to address request old new result = MeetsAlone LoseRequest to address request old new result
 MeetsOperation (Old k) to address request old new result = MeetsAlone (Old k) to address request old new result
+MeetsOperation Stop to address request old new result = MeetsAlone Stop to address request old new result
 MeetsOperation fate to address request old new result = ⊥
 
 -- the fact holds, unless memory ran out
@@ -226,10 +227,12 @@ IsCutShort to request old new =
 
 -- ---- what an ask takes
 
--- The fates left are an end of those before. Where none of the taken ones is a trouble none is counted, and the ask does not fail; so it
--- passes where none is left. One that decides and comes first is taken alone by an ask of the server, or none is, where memory ran out.
+-- The fates left are an end of those before: of the taken ones a stop stays, with all behind it. Where none of the taken ones is a trouble
+-- none is counted, and the ask does not fail; so it passes where none is left. One that decides and comes first is taken alone by an ask of
+-- the server, or none is, where memory ran out.
 pub record TakesFates (fates left : List Fate) (troubles now : ℕ) (to : Peer) (result : Result (Vec ℕ Global) LinkError) : Type 0 where
   pub takes : TakesFront fates left troubles now
+  pub rest : IsEndOf left fates
   pub calm : AreQuiet takes.taken → result ≢ Err LinkFailed
   pub alone : (first : Fate) (rest : List Fate) → fates ≡ first ∷ rest → decides first ≡ true → to ≡ Server
       → ((takes.taken ≡ first ∷ []) ⊎ ((takes.taken ≡ []) × (result ≡ Err LinkMemory))) × (now ≡ troubles_after first result troubles)

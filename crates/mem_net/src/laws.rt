@@ -1,7 +1,13 @@
-// How a network in memory begins, as the contract of a call that does nothing.
+// How a network in memory begins, and what one that is handed on keeps, as contracts of calls that do nothing.
+ghost use Rattle.mem_net.specs.Handed.{FewAsksFailInARow};
 ghost use Rattle.mem_net.specs.Laws.{NewNetworksAreInStep};
 
 /// A client's new log is in step with a network that was just made, where its server has taken nothing of the client.
 pub fn new_networks_are_in_step()
     ensures { NewNetworksAreInStep }
+{}
+
+/// Law: of any four asks in a row over a network that is handed on by its rule one did not fail, or was not of the server.
+pub fn few_asks_fail_in_a_row()
+    ensures { FewAsksFailInARow }
 {}

@@ -78,9 +78,10 @@ impl<R: Drop> MemNet<R> {
 }
 
 impl<R> MemNet<R> {
-    ghost use Rattle.std.specs.Prelude.{length, option_map, slice_get};
+    ghost use Rattle.std.specs.Prelude.{length, option_map, slice_get, IfSome};
     ghost use Rattle.std.specs.Option.{option_copied};
-    ghost use Rattle.wire_frames.specs.Frame.{frame};
+    ghost use Rattle.wire_frames.specs.Frame.{IsValid, frame};
+    ghost use Rattle.mem_wires.specs.Fates.{is_stopped};
 
     /// The server.
     pub fn server(&self) -> &Server
@@ -105,7 +106,8 @@ impl<R> MemNet<R> {
 
     /// The frame of the packet of this number, counted from 0 in the order of sending; `None` where fewer were sent.
     pub fn packet(&self, k: u32) -> Option<&[u8]>
-        ensures { option_copied result ≡ option_map frame (slice_get self.now.wires.packets k) }
+        ensures frame { option_copied result ≡ option_map frame (slice_get self.now.wires.packets k) }
+        ensures valid { IfSome (slice_get self.now.wires.packets k) IsValid }
     {
         self.parts.wires.packet(k)
     }
@@ -117,7 +119,14 @@ impl<R> MemNet<R> {
         self.parts.wires.fates_left()
     }
 
-    /// How many asks were lost or answered by an old packet. The count stands still at the end of its type.
+    /// Whether a stop is the first of the fates, so that no ask is handled any more.
+    pub fn is_stopped(&self) -> bool
+        ensures { result ≡ is_stopped self.now.wires.fates }
+    {
+        self.parts.wires.is_stopped()
+    }
+
+    /// How many asks were lost, stopped or answered by an old packet. The count stands still at the end of its type.
     pub fn troubles(&self) -> u64
         ensures { result ≡ self.now.wires.troubles }
     {
@@ -144,8 +153,8 @@ impl<R: Runner> Link for MemNet<R> {
 
     ghost keeps_then = { λ a b c. spends_then a.wires b.wires c.wires };
 
-    /// Sends the request and takes fates up to the first that decides: that one says what becomes of the ask. An operation
-    /// is handled by the surrogate, as is one that a fate delivers late.
+    /// Sends the request and takes fates up to the first that decides, where a stop stays: that one says what becomes of the ask. An
+    /// operation is handled by the surrogate, as is one that a fate delivers late.
     fn ask(&mut self, to: Peer, address: &[u8], frame: &[u8]) -> Result<Vec<u8>, LinkError>
         requires { (request : Message) × Spells request frame.now × IsRequest to request }
         ensures reply { (request : Message) → Spells request frame.now

@@ -117,7 +117,7 @@ impl<R: Runner> Parts<R> {
         }
     }
 
-    /// Takes the fates up to the first that decides, which is the result. Those before it happen.
+    /// Takes the fates up to the first that decides, which is the result. Those before it happen, and a stop stays.
     fn decide(&mut self) -> Result<Fate, AllocError>
         requires idle { self.old.surrogate.phase ≡ Idle }
         ensures idle { self.new.surrogate.phase ≡ Idle }
@@ -198,6 +198,7 @@ impl<R: Runner> Parts<R> {
         match fate {
             Fate::Pass => self.pass(address, request),
             Fate::LoseRequest => self.wires.lose(Peer::Surrogate, address, request),
+            Fate::Stop => self.wires.lose(Peer::Surrogate, address, request),
             Fate::LoseReply => match self.operate(&request) {
                 Ok(lost) => {
                     drop(lost);
@@ -225,7 +226,7 @@ impl<R: Runner> Parts<R> {
         }
     }
 
-    /// Sends the request and takes fates up to the first that decides: that one says what becomes of the ask.
+    /// Sends the request and takes fates up to the first that decides, where a stop stays: that one says what becomes of the ask.
     pub(crate) fn ask(
         &mut self,
         to: Peer,

@@ -1,4 +1,4 @@
-use Rattle.std.proofs.Common.{ℕ, ◌++◌, List, Vec, inl, refl, sym, ◌∙◌, ap, subst, IfOk}
+use Rattle.std.proofs.Common.{ℕ, Vec, inl, refl, sym, ◌∙◌, subst, IfOk}
 use Rattle.std.specs.declared.alloc.Global.{Global}
 use Rattle.std.proofs.Math.Nat.{le_trans}
 use Rattle.outside.specs.Outside.{Rose}
@@ -8,13 +8,12 @@ use Rattle.world_rules.specs.declared.asking.Peer.TheVariants.{Server}
 use Rattle.world_rules.specs.World.{IsForServer, sent}
 use Rattle.world_rules.specs.Asking.{AsksOnce, IsDirect, IsReplyTo}
 use Rattle.cmd_capture.specs.Runs.{telling}
-use Rattle.mem_wires.specs.declared.fate.Fate.{Fate}
 use Rattle.mem_wires.specs.Wire.{Wire, world_of}
 use Rattle.mem_net.specs.Scenes.{scene_of, with_world, UnlessMemory, IsMet, OnMemory, IsHandledInPart, handlings, IsCutShort}
 use Rattle.mem_wires.specs.Underway.{AsksSent, MeetsUnlessMemory}
 use Rattle.mem_wires.proofs.Taking.{for_server, not_the_server}
 use Rattle.mem_wires.proofs.Steps.{asks_on, asks_once, directly_on, asks_directly, calm_directly, replied, same_request}
-use Rattle.mem_wires.proofs.Spent.{takes_none, quiet_after, want_after, spent_in_want, spent}
+use Rattle.mem_wires.proofs.Spent.{takes_none, quiet_after, want_after, spent_in_want, spent, taken_as}
 use Rattle.mem_net.proofs.Reaching.{was_taken, takes_beside, takes_by_server, takes_by_surrogate, takes_in_want}
 use Rattle.mem_net.proofs.Meeting.{quiet_meets, quiet_operates, alone_met, rose_later, met_by_server, met_by_surrogate, is_met}
 use Rattle.mem_net.proofs.Meeting.{stays_met, is_cut, is_cut_before}
@@ -124,7 +123,7 @@ returns-in-Server-clause-kept g c =
     let for : IsForServer m = for_server to c.requires.request.0 m c.in-Server.is asked c.requires.request.2 in
     let reaches = c.in-Ok-reach.ensures.reaches in
     let was = was_taken reaches.0 (with_world (sent m (world_of a)) (scene c.args.self.now)) fate (scene c.reach.new.self) reaches.1 in
-    spent to address m a d was.taken (was.split ∙ ap (λ (l : List Fate). was.taken ++ l) (sym c.meet.ensures.fates)) (le_trans was.later c.meet.ensures.later) result
+    spent to address m a d was.taken (taken_as was.taken a.fates b.fates d.fates was.split c.meet.ensures.fates) (le_trans was.later c.meet.ensures.later) result
     (asks_on to address m (world_of a) (world_of b) (world_of d) result asking (asks_once to address m for c.in-Ok.ensures.found.0 fate (world_of b) (world_of d) result among met))
     (λ quiet want. c.meet.ensures.troubles ∙ want_after fate result b.troubles want ∙ (was.calm quiet).0)
     (λ quiet served. (

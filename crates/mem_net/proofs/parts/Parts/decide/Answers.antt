@@ -4,8 +4,8 @@ use Rattle.cmd_capture.specs.Runs.{telling}
 use Rattle.mem_wires.specs.declared.fate.Fate.{Fate}
 use Rattle.mem_wires.specs.declared.fate.Fate.TheVariants.{Pass}
 use Rattle.mem_net.specs.Scenes.{Scene, scene_of, Befalls, IsReached, BefallsInPart}
-use Rattle.mem_wires.proofs.Deciding.{undecided, decided_by}
-use Rattle.mem_net.proofs.Reaching.{goes_on, taken_scene, untaken_scene, nears_on, reached_by, cut_on, reached_end}
+use Rattle.mem_wires.proofs.Deciding.{undecided, decided_by, gone_waiting}
+use Rattle.mem_net.proofs.Reaching.{goes_on, taken_scene, untaken_scene, nears_on, reached_by, fewer_left, cut_on, reached_end}
 use Rattle.mem_net.proofs.parts.Parts.decide.Goals as goal
 
 pub returns-in_err-decided-clause-goes : goal.returns-in_err-decided-clause-goes
@@ -24,7 +24,7 @@ returns-in_err-decided-clause-cut g c =
     let next = scene_of runs faults c.befall.new.self in
     on_error c.from_residual.result
     (cut_on (scene_of runs faults c.args.self.now) (scene_of runs faults mid) next c.args.self.now.wires mid.wires fate taken.fates c.loop-fate.invariant.nears
-    c.in-Some.ensures.some c.in_err-decided.ensures.err
+    (gone_waiting fate mid.wires.fates taken.fates c.in-Some.ensures.some c.in_err-decided.ensures.err) c.in_err-decided.ensures.err
     (subst (λ (s : Scene). BefallsInPart fate s next) (taken_scene mid.wires taken mid.surrogate.copy (telling (runs mid.runner) (faults mid.runner)) c.in-Some.ensures.rest)
     c.in_err-decided.ensures.cut))
 
@@ -47,7 +47,7 @@ returns-in-Some-2-clause-reaches g c =
     c.in_ok-decided.ensures.befalls in
     let by = decided_by fate c.in-Some-2.decided (sym c.in-Some-2.is ∙ c.in_ok-decided.ensures.ok) in
     subst (λ (f : Fate). IsReached start f next) (sym by.1)
-    (reached_by start (scene_of runs faults mid) next c.args.self.now.wires mid.wires taken c.befall.new.self.wires fate taken.fates c.loop-fate.invariant.nears
+    (reached_by start (scene_of runs faults mid) next c.args.self.now.wires mid.wires taken c.befall.new.self.wires fate c.loop-fate.invariant.nears
     c.in-Some.ensures.some c.in-Some.ensures.some c.in-Some.ensures.rest befell c.in_ok-decided.ensures.goes by.0)
 
 pub loop-fate-preserved : goal.loop-fate-preserved
@@ -62,11 +62,20 @@ loop-fate-preserved g c =
     let befell = subst (λ (s : Scene). Befalls fate s next) (taken_scene mid.wires taken mid.surrogate.copy (telling (runs mid.runner) (faults mid.runner)) c.in-Some.ensures.rest)
     c.in_ok-decided.ensures.befalls in
     record {
-      nears = nears_on start (scene_of runs faults mid) next c.args.self.now.wires mid.wires taken c.befall.new.self.wires fate taken.fates c.loop-fate.invariant.nears
+      nears = nears_on start (scene_of runs faults mid) next c.args.self.now.wires mid.wires taken c.befall.new.self.wires fate c.loop-fate.invariant.nears
           c.in-Some.ensures.some c.in-Some.ensures.some c.in-Some.ensures.rest befell c.in_ok-decided.ensures.goes
           (undecided fate (sym c.in_default-2.is ∙ c.in_ok-decided.ensures.ok));
       idle = c.in_ok-decided.ensures.idle;
     }
+
+pub loop-fate-smaller : goal.loop-fate-smaller
+loop-fate-smaller g c =
+    let mid = c.loop-fate.self.wires in
+    let taken = c.take_fate.new.self in
+    let fate = c.in-Some.fate in
+    let later = c.in_ok-decided.ensures.goes.takes in
+    fewer_left fate later.taken mid.fates taken.fates c.befall.new.self.wires.fates
+    (gone_waiting fate mid.fates taken.fates c.in-Some.ensures.some (undecided fate (sym c.in_default-2.is ∙ c.in_ok-decided.ensures.ok))) later.split
 
 pub returns-clause-reaches : goal.returns-clause-reaches
 returns-clause-reaches g c =

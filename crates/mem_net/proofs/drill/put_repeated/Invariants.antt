@@ -1,0 +1,5 @@
+use Rattle.std.specs.Prelude.{◌≡◌, ◌++◌, replicate}
+use Rattle.mem_net.proofs.drill.put_repeated.Given as goal
+
+abbrev pub invariant-loop : goal.invariant-loop
+invariant-loop l = l.out.items ≡ l.fn.out.items ++ replicate l.counter l.byte
