@@ -1,4 +1,4 @@
--- What logging a local effect makes of the client and the world.
+-- What logging local effects makes of the client and the world.
 use Rattle.std.proofs.Common.{Bool, false, ◌≡◌, ◌≢◌, ◌⊎◌, inl, inr, ℕ, List, [], ◌∷◌, Option, Some, None, Result, Ok, Err, IfOk, IfErr, OnOk, OnErr, refl, sym, subst}
 use Rattle.outside.specs.Keeper.{Images}
 use Rattle.cmd_capture.specs.Runs.{RunnerTelling}
@@ -10,20 +10,23 @@ use Rattle.mod_log.specs.declared.log.LogError.{LogError}
 use Rattle.mod_log.specs.declared.log.LogError.TheVariants.{EntryTooLarge, LogFull, LastNumber, Tree, Memory}
 use Rattle.mod_log.specs.Log.{Log, IsLog, logged}
 use Rattle.mod_log.specs.Append.{next_entry, appended, append_refusals}
+use Rattle.world_rules.specs.World.{World}
 use Rattle.world_rules.specs.Telling.{LinkTelling}
+use Rattle.world_rules.specs.Run.{Runs, Logs}
+use Rattle.world_rules.proofs.Runs.{runs_once}
 use Rattle.client_core.specs.Trace.{Trace, nothing}
 use Rattle.client_core.specs.Logging.{local_entry, LocalTurn}
 use Rattle.client_core.specs.declared.keeping.Journal.{Journal}
 use Rattle.client_core.specs.Journal.{next_notes}
 use Rattle.client_core.specs.Keeping.{IsKept, IsReady, IsKeptReady}
-use Rattle.client_core.specs.Goes.{Goes}
+use Rattle.client_core.specs.Goes.{Goes, stand}
 use Rattle.client_core.proofs.Going.{goes_none, goes_logged}
 use Rattle.client_core.proofs.Journal.{IsOneAtMost, ready_current, logged_ready, logged_one}
 
--- an effect that has its turn, or for which memory was wanted before it did anything
-abbrev pub LocalEnds : Effect → Log → Result ℕ LogError → Log → Trace → Type 0
-LocalEnds effect before result after trace =
-    LocalTurn effect before result after trace ⊎ ((result ≡ Err Memory) × (after ≡ before) × (trace ≡ nothing))
+-- effects that have their turn, or for which memory was wanted before they did anything
+abbrev pub LocalEnds : List Effect → Log → Result ℕ LogError → Log → Trace → Type 0
+LocalEnds effects before result after trace =
+    LocalTurn effects before result after trace ⊎ ((result ≡ Err Memory) × (after ≡ before) × (trace ≡ nothing))
 
 unrefused : {T E : Type 0} (refusals : List (Option E)) (value new : T) → unless_refused refusals value ≡ Ok new → value ≡ new
 unrefused [] value new is = cc
@@ -34,34 +37,43 @@ unrefused (Some refusal ∷ rest) value new is = absurd (cc)
 pub appended-is : (origin : Option Origin) (effects : List Effect) (before after : Log) → appended origin effects before ≡ Ok after → logged (next_entry origin effects before) before ≡ after
 appended-is origin effects before after is = unrefused (append_refusals origin effects before) (logged (next_entry origin effects before) before) after is
 
-module _ (name : List ℕ) (client : ℕ) (ships : Bool) (effect : Effect) (before after : Log) (i : Option Images) (keeps : IsKept i name client before) where
-  logs_goes : (number : ℕ) → appended None (effect ∷ []) before ≡ Ok after → number ≡ (local_entry effect before).seq → IsLog after
-      → (r : RunnerTelling) (t : LinkTelling) → Goes client ships name (LocalEnds effect before (Ok number) after) before after before i i r r t t
+module _ (name : List ℕ) (client : ℕ) (ships : Bool) (effects : List Effect) (before after : Log) (i : Option Images) (keeps : IsKept i name client before) where
+  logs_goes : (number : ℕ) → appended None effects before ≡ Ok after → number ≡ (local_entry effects before).seq → IsLog after
+      → (r : RunnerTelling) (t : LinkTelling) → Goes client ships name (LocalEnds effects before (Ok number) after) before after before i i r r t t
   logs_goes number is shown is_log r t =
-      let entry : Entry = local_entry effect before in
-      let same : logged entry before ≡ after = appended-is None (effect ∷ []) before after is in
-      subst (λ (next : Log). Goes client ships name (LocalEnds effect before (Ok number) next) before next before i i r r t t) same
-      (goes_logged name client ships (LocalEnds effect before (Ok number) (logged entry before)) entry before i r t keeps (subst IsLog (sym same) is_log)
-      (inl (subst (λ (next : Log). appended None (effect ∷ []) before ≡ Ok next) (sym same) is, shown, refl)))
+      let entry : Entry = local_entry effects before in
+      let same : logged entry before ≡ after = appended-is None effects before after is in
+      subst (λ (next : Log). Goes client ships name (LocalEnds effects before (Ok number) next) before next before i i r r t t) same
+      (goes_logged name client ships (LocalEnds effects before (Ok number) (logged entry before)) entry before i r t keeps (subst IsLog (sym same) is_log)
+      (inl (subst (λ (next : Log). appended None effects before ≡ Ok next) (sym same) is, shown, refl)))
 
-  refused_goes : (refusal : LogError) → appended None (effect ∷ []) before ≡ Err refusal → after ≡ before
-      → (r : RunnerTelling) (t : LinkTelling) → Goes client ships name (LocalEnds effect before (Err refusal) after) before after before i i r r t t
+  refused_goes : (refusal : LogError) → appended None effects before ≡ Err refusal → after ≡ before
+      → (r : RunnerTelling) (t : LinkTelling) → Goes client ships name (LocalEnds effects before (Err refusal) after) before after before i i r r t t
   refused_goes refusal is same r t =
-      subst (λ (next : Log). Goes client ships name (LocalEnds effect before (Err refusal) next) before next before i i r r t t) (sym same)
-      (goes_none name client ships (LocalEnds effect before (Err refusal) before) before i r t keeps (inl (is, refl, refl)))
+      subst (λ (next : Log). Goes client ships name (LocalEnds effects before (Err refusal) next) before next before i i r r t t) (sym same)
+      (goes_none name client ships (LocalEnds effects before (Err refusal) before) before i r t keeps (inl (is, refl, refl)))
 
-  -- what `local` makes of the client, over any link
-  pub local_goes : (result : Result ℕ LogError) → OnOk result (appended None (effect ∷ []) before ≡ Ok after) → IfOk result (λ seq. seq ≡ (local_entry effect before).seq)
-      → IfErr result (λ e. e ≢ Memory → appended None (effect ∷ []) before ≡ Err e) → OnErr result (after ≡ before) → IsLog after
-      → (r : RunnerTelling) (t : LinkTelling) → Goes client ships name (LocalEnds effect before result after) before after before i i r r t t
+  -- what `local_all` makes of the client, over any link: the entry is logged, and nothing is asked, run or kept
+  pub local_goes : (result : Result ℕ LogError) → OnOk result (appended None effects before ≡ Ok after) → IfOk result (λ seq. seq ≡ (local_entry effects before).seq)
+      → IfErr result (λ e. e ≢ Memory → appended None effects before ≡ Err e) → OnErr result (after ≡ before) → IsLog after
+      → (r : RunnerTelling) (t : LinkTelling) → Goes client ships name (LocalEnds effects before result after) before after before i i r r t t
   local_goes (Ok number) ok seq err same is_log r t = logs_goes number ok seq is_log r t
   local_goes (Err (EntryTooLarge count bytes)) ok seq err same is_log r t = refused_goes (EntryTooLarge count bytes) (err (λ e. absurd (cc))) same r t
   local_goes (Err (LogFull count bytes)) ok seq err same is_log r t = refused_goes (LogFull count bytes) (err (λ e. absurd (cc))) same r t
   local_goes (Err LastNumber) ok seq err same is_log r t = refused_goes LastNumber (err (λ e. absurd (cc))) same r t
   local_goes (Err (Tree i refusal)) ok seq err same is_log r t = refused_goes (Tree i refusal) (err (λ e. absurd (cc))) same r t
   local_goes (Err Memory) ok seq err same is_log r t =
-      subst (λ (next : Log). Goes client ships name (LocalEnds effect before (Err Memory) next) before next before i i r r t t) (sym same)
-      (goes_none name client ships (LocalEnds effect before (Err Memory) before) before i r t keeps (inr (refl, refl, refl)))
+      subst (λ (next : Log). Goes client ships name (LocalEnds effects before (Err Memory) next) before next before i i r r t t) (sym same)
+      (goes_none name client ships (LocalEnds effects before (Err Memory) before) before i r t keeps (inr (refl, refl, refl)))
+
+-- and as moves in any world, whatever is kept of it: the entry is logged
+pub local_runs : (client : ℕ) (ships : Bool) (effects : List Effect) (before after kept : Log) (world : World) → appended None effects before ≡ Ok after → IsLog after
+    → Runs client ships (local_entry effects before ∷ []) [] (stand before kept world) (stand after kept world)
+local_runs client ships effects before after kept world is is_log =
+    let entry : Entry = local_entry effects before in
+    let same : logged entry before ≡ after = appended-is None effects before after is in
+    subst (λ (next : Log). Runs client ships (entry ∷ []) [] (stand before kept world) (stand next kept world)) same
+    (runs_once client ships (stand before kept world) (Logs entry) (subst IsLog (sym same) is_log))
 
 -- a client that might go on under a name still may
 pub local_ready : (effects : List Effect) (before after : Log) (result : Result ℕ LogError) → OnOk result (appended None effects before ≡ Ok after) → OnErr result (after ≡ before)

@@ -1,5 +1,6 @@
 -- Words that only the contracts of private functions cite.
-use Rattle.std.specs.Prelude.{◌≡◌, ◌≢◌, ◌⊎◌, ℕ, ◌+◌, ◌<◌, ◌≤◌, nat_lt, Bool, true, false, List, [], length, Option, None, Some, is_some, IfSome, find, IsOk}
+use Rattle.std.specs.Prelude.{◌≡◌, ◌≢◌, ◌⊎◌, ℕ, ◌+◌, ◌<◌, ◌≤◌, nat_lt, Bool, true, false}
+use Rattle.std.specs.Prelude.{List, [], length, Option, None, Some, is_some, IfSome, find, IsOk}
 use Rattle.std.specs.Prelude.{Result, Ok, Err}
 use Rattle.std.specs.declared.alloc.AllocError.{AllocError}
 use Rattle.tree_values.specs.Tree.{Volume, version_at}
@@ -24,7 +25,7 @@ use Rattle.wire_frames.specs.declared.message.Message.{Message}
 use Rattle.wire_frames.specs.declared.message.Message.TheVariants.{Snapshot, Done}
 use Rattle.mod_log.specs.declared.log.Entry.{Entry}
 use Rattle.mod_log.specs.declared.sketching.SketchEntry.{SketchEntry}
-use Rattle.mod_log.specs.Log.{Log, IsLog, acknowledged}
+use Rattle.mod_log.specs.Log.{Log, acknowledged}
 use Rattle.store_image.specs.declared.image.TheConstants.{MAX_CLIENT_IMAGE}
 use Rattle.store_image.specs.declared.record.ClientRecord.{ClientRecord}
 use Rattle.store_image.specs.Image.{IsKeptWholeFor}
@@ -105,7 +106,8 @@ SettlesWindow client route pending entry (Err error) asks =
     (asks ≡ []) ⊎ ((chosen : List Entry) × IsWindow client route pending chosen
     × BreaksSettling Server route.server (store_of client entry.seq chosen) asks)
 SettlesWindow client route pending entry (Ok came) asks =
-    (chosen : List Entry) × IsWindow client route pending chosen × IsSettling Server route.server (store_of client entry.seq chosen) came asks
+    (chosen : List Entry) × IsWindow client route pending chosen
+    × IsSettling Server route.server (store_of client entry.seq chosen) came asks
 
 -- what was asked where shipping came to this, or was broken off
 abbrev pub ShipsTo : ℕ → Route → List Entry → Entry → Result (Option Message) AllocError → List Ask → Type 0
@@ -206,8 +208,10 @@ IsPiece journal (Some notes) (Some piece) = (piece.records.items ≡ client_reco
 IsPiece journal notes piece = ⊥
 
 -- Entries up to this number are acknowledged, and the log then is kept. Where they were acknowledged before, nothing is done.
-abbrev pub KeepsUpto : List ℕ → ℕ → Log → ℕ → Option Journal → Option Journal → Result (Unit {0}) KeepError → Option Images → Option Images → Type 0
+abbrev pub KeepsUpto : List ℕ → ℕ → Log → ℕ → Option Journal → Option Journal
+    → Result (Unit {0}) KeepError → Option Images → Option Images → Type 0
 KeepsUpto name client log upto journal journal_now result images now =
     ((upto ≡ log.acked) × IsOk result × (journal_now ≡ journal) × (now ≡ images))
-    ⊎ ((log.acked < upto) × Told images now (KeepsNext name client (acknowledged upto log) (next_notes journal true (acknowledged upto log)) result)
+    ⊎ ((log.acked < upto) × Told images now
+    (KeepsNext name client (acknowledged upto log) (next_notes journal true (acknowledged upto log)) result)
     × (journal_now ≡ journal_after journal (next_notes journal true (acknowledged upto log)) (acknowledged upto log) result))

@@ -1,5 +1,6 @@
 -- What is kept of a client under a name, from one run to the next.
-use Rattle.std.specs.Prelude.{◌≡◌, ◌≢◌, ◌⊎◌, ℕ, suc, ◌+◌, ◌-◌, ◌≤◌, List, [], ◌++◌, length, take, Option, None, Some, IfSome, Result, Ok, Err}
+use Rattle.std.specs.Prelude.{◌≡◌, ◌≢◌, ◌⊎◌, ℕ, suc, ◌+◌, ◌-◌, ◌≤◌, List, []}
+use Rattle.std.specs.Prelude.{◌++◌, length, take, Option, None, Some, IfSome, Result, Ok, Err}
 use Rattle.outside.specs.Outside.{Told}
 use Rattle.outside.specs.Keeper.{Images}
 use Rattle.mod_log.specs.Log.{Log}

@@ -1,7 +1,8 @@
 -- A sync: the pending entries are shipped, the first ones first, until none is left or one is not accepted. A light one is settled as an
 -- operation with the surrogate first; where that was not done, and where the first one is heavy, the store of a window is settled with the
 -- server: of the first entry and of the heavy ones behind it, as many as one store carries.
-use Rattle.std.specs.Prelude.{◌≡◌, ◌⊎◌, ℕ, zero, suc, ◌+◌, ◌<◌, ◌≤◌, nat_lt, Bool, true, false, if◌then◌else◌, List, [], ◌∷◌, ◌++◌, length, drop}
+use Rattle.std.specs.Prelude.{◌≡◌, ◌⊎◌, ℕ, zero, suc, ◌+◌, ◌<◌, ◌≤◌, nat_lt, Bool}
+use Rattle.std.specs.Prelude.{true, false, if◌then◌else◌, List, [], ◌∷◌, ◌++◌, length, drop}
 use Rattle.std.specs.Prelude.{Option, None, Some}
 use Rattle.std.specs.List.{AllByRecursion}
 use Rattle.outside.specs.declared.errors.KeepError.{KeepError}
@@ -166,7 +167,7 @@ Acknowledges client route (suc count) before after trace =
 abbrev pub acknowledging : Log → Log → Trace
 acknowledging before after = if nat_lt before.acked after.acked then changing after else nothing
 
--- The last turn of a sync: none where nothing is pending, and else one that ends it. A refusal may tell entries before it to be taken, which
+-- The last turn of a sync: none where nothing is pending, and else one that ends it. A refusal may tell entries before it to be taken,
 -- are acknowledged then.
 abbrev pub EndsSync : ℕ → Route → Log → SyncEnd → Log → Trace → Type 0
 EndsSync client route before end after trace =

@@ -88,7 +88,7 @@ impl Client {
     /// The refusal of the log. The client is then as before.
     pub fn local(&mut self, effect: Effect) -> Result<u64, LogError>
         ensures ok { OnOk result (appended None (effect ∷ []) self.old.log ≡ Ok self.new.log) }
-        ensures seq { IfOk result (λ seq. seq ≡ (local_entry effect self.old.log).seq) }
+        ensures seq { IfOk result (λ seq. seq ≡ (local_entry (effect ∷ []) self.old.log).seq) }
         ensures err { IfErr result (λ e. e ≢ LogError.Memory → appended None (effect ∷ []) self.old.log ≡ Err e) }
         ensures unchanged { OnErr result (self.new ≡ self.old) }
         ensures number { self.new.number ≡ self.old.number }
@@ -100,6 +100,26 @@ impl Client {
         let tree = self.log.tree();
         let mut effects = Effects::new(tree.allocator());
         effects.push(effect)?;
+        self.local_all(effects)
+    }
+
+    /// Logs effects as one entry, which no command made, and gives its number.
+    ///
+    /// # Errors
+    ///
+    /// The refusal of the log. The client is then as before.
+    pub fn local_all(&mut self, effects: Effects) -> Result<u64, LogError>
+        requires some { effects ≢ [] }
+        ensures ok { OnOk result (appended None effects self.old.log ≡ Ok self.new.log) }
+        ensures seq { IfOk result (λ seq. seq ≡ (local_entry effects self.old.log).seq) }
+        ensures err { IfErr result (λ e. e ≢ LogError.Memory → appended None effects self.old.log ≡ Err e) }
+        ensures unchanged { OnErr result (self.new ≡ self.old) }
+        ensures number { self.new.number ≡ self.old.number }
+        ensures log { IsLog self.new.log }
+        ensures journal { self.new.journal ≡ self.old.journal }
+        // where the client may go on under a name, it still may
+        ensures ready { (images : Option Images) (name : List ℕ) → IsReady images name self.old → IsReady images name self.new }
+    {
         self.log.append(None, effects)
     }
 

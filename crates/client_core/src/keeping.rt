@@ -3,7 +3,6 @@ ghost use Rattle.std.specs.Prelude.{◌≡◌, ◌≤◌, ◌++◌, ◌-◌, Non
 ghost use Rattle.std.specs.Option.{option_to_list};
 ghost use Rattle.outside.specs.Outside.{Told, CountsFault};
 ghost use Rattle.outside.specs.Keeper.{Appends};
-ghost use Rattle.mod_log.specs.Log.{IsLog};
 ghost use Rattle.store_image.specs.declared.record.ClientRecord.TheVariants.{Logged};
 ghost use Rattle.store_image.specs.Records.{client_records};
 ghost use Rattle.client_core.specs.Journal.{acked_notes, next_notes, journal_with, journal_after};
