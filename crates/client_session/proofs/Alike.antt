@@ -445,12 +445,12 @@ module _ (before a b : SessionState) (x y : Option LineAnswer) (p q : Trace) (m 
     behind_runs [] (ap (λ (r : Trace). r.runs) ps ∙ still) (ap (λ (r : Trace). r.runs) qs ∙ still),
   )
 
-  same_local : (effect : Effect) (r s : Result ℕ LogError) → LocalTurn effect before.client.log r a.client.log p → LocalTurn effect before.client.log s b.client.log q → a ≡ with_log before a.client.log → b ≡ with_log before b.client.log
+  same_local : (effect : Effect) (r s : Result ℕ LogError) → LocalTurn (effect ∷ []) before.client.log r a.client.log p → LocalTurn (effect ∷ []) before.client.log s b.client.log q → a ≡ with_log before a.client.log → b ≡ with_log before b.client.log
       → x ≡ local_answer r → y ≡ local_answer s → Same x y a b p q m n g h
   same_local effect (Ok i) (Ok j) t u ks bs xs ys =
       let log : b.client.log ≡ a.client.log = cc (sym u.0 ∙ t.0) in
-      quiet (local_answer (Ok i)) (with_log before a.client.log) (logging (local_entry effect before.client.log) a.client.log) refl refl xs ks t.2
-      (ys ∙ ap (λ (k : ℕ). local_answer (Ok k)) (u.1 ∙ sym t.1)) (bs ∙ ap (with_log before) log) (u.2 ∙ ap (logging (local_entry effect before.client.log)) log)
+      quiet (local_answer (Ok i)) (with_log before a.client.log) (logging (local_entry (effect ∷ []) before.client.log) a.client.log) refl refl xs ks t.2
+      (ys ∙ ap (λ (k : ℕ). local_answer (Ok k)) (u.1 ∙ sym t.1)) (bs ∙ ap (with_log before) log) (u.2 ∙ ap (logging (local_entry (effect ∷ []) before.client.log)) log)
   same_local effect (Ok i) (Err f) t u ks bs xs ys = absurd (cc (sym t.0 ∙ u.0))
   same_local effect (Err e) (Ok j) t u ks bs xs ys = absurd (cc (sym t.0 ∙ u.0))
   same_local effect (Err e) (Err f) t u ks bs xs ys =

@@ -104,9 +104,9 @@ module _ (before after : SessionState) (trace : Trace) where
   untouched : after ≡ before → trace ≡ nothing → LineLeads
   untouched same none = still before.client.log after.client.log trace (ap (λ (s : SessionState). s.client.log) same) none
 
-  local_leads : (effect : Effect) (result : Result ℕ LogError) → LocalTurn effect before.client.log result after.client.log trace → LineLeads
+  local_leads : (effect : Effect) (result : Result ℕ LogError) → LocalTurn (effect ∷ []) before.client.log result after.client.log trace → LineLeads
   local_leads effect (Ok number) turn =
-      let entry : Entry = local_entry effect before.client.log in
+      let entry : Entry = local_entry (effect ∷ []) before.client.log in
       subst (λ (t : Trace). ChangesLeadTo before.client.log t.changes after.client.log) (sym turn.2)
       (inl (entry, refl, sym (appended-is None (effect ∷ []) before.client.log after.client.log turn.0)), refl)
   local_leads effect (Err refusal) turn = still before.client.log after.client.log trace turn.1 turn.2

@@ -3,7 +3,6 @@ use Rattle.std.proofs.Common.{◌≡◌, ◌≢◌, inl, inr, ℕ, true, List, [
 use Rattle.outside.specs.Outside.{Told}
 use Rattle.outside.specs.Keeper.{Images}
 use Rattle.outside.specs.declared.errors.KeepError.{KeepError}
-use Rattle.outside.specs.declared.errors.KeepError.TheVariants as keepers
 use Rattle.cmd_capture.specs.declared.command.Command.{Command}
 use Rattle.cmd_capture.specs.declared.capturing.CaptureError.{CaptureError}
 use Rattle.cmd_capture.specs.declared.capturing.CaptureError.TheVariants as captures
@@ -24,18 +23,21 @@ use Rattle.client_core.proofs.Journal.{KeepsLog}
 use Rattle.shell_lang.specs.declared.line.Line.TheVariants.{Run as RunLine}
 use Rattle.shell_lang.specs.declared.answer.LineAnswer.{LineAnswer}
 use Rattle.client_session.specs.Session.{SessionState, CommandTurn, LineTurn, BreaksCommand, Broken, capture_answer, run_answer}
-use Rattle.client_session.specs.Doing.{beside, Does, WentDoing, LineEnds}
-use Rattle.client_session.specs.Inside.{IsAnswerOrMemory, RunsLine, RunsMade}
+use Rattle.client_session.specs.Doing.{beside, WentDoing, LineEnds}
+use Rattle.client_session.specs.declared.stop.LineStop.{LineStop}
+use Rattle.client_session.specs.declared.stop.LineStop.TheVariants as stops
+use Rattle.client_session.specs.Inside.{RunsLine, RunsMade}
+use Rattle.client_session.specs.Stops.{or_memory, told}
 use Rattle.client_session.proofs.Doing.{does_none}
 use Rattle.client_session.proofs.Turning.{same_but_log}
 
 -- ---- over a link
 
-module _ (route : Route) (words : List (List ℕ)) (before after : SessionState) (r : Result (Option LineAnswer) KeepError) (i j : Option Images) (p q : RunnerTelling) (runs : RunsLine route words before r after i j p q) (t : LinkTelling) where
-  pub run_went : WentDoing route (LineEnds route before (Ok (RunLine words)) r after) before after i j (beside t p) (beside t q)
+module _ (route : Route) (words : List (List ℕ)) (before after : SessionState) (r : Result LineAnswer LineStop) (i j : Option Images) (p q : RunnerTelling) (runs : RunsLine route words before r after i j p q) (t : LinkTelling) where
+  pub run_went : WentDoing route (LineEnds route before (Ok (RunLine words)) (told r) after) before after i j (beside t p) (beside t q)
   run_went = runs t
 
-  pub run_caused : (kept : Log) × (trace : Trace) × LineEnds route before (Ok (RunLine words)) r after kept trace × HasRun trace.runs trace.missed p q
+  pub run_caused : (kept : Log) × (trace : Trace) × LineEnds route before (Ok (RunLine words)) (told r) after kept trace × HasRun trace.runs trace.missed p q
   run_caused = let here = runs t in (here.0, here.1.goes.trace, here.1.goes.turn, here.1.goes.has_run)
 
 -- ---- words that make no command
@@ -44,24 +46,25 @@ module _ (route : Route) (words : List (List ℕ)) (before : SessionState) (i : 
   named_refusal : (refusal : CaptureError) (answer : LineAnswer) → capture_answer refusal ≡ Some answer → refusal ≢ captures.Memory
   named_refusal refusal answer is memory = absurd (cc (ap capture_answer memory, is))
 
-  pub capture_given : (refusal : CaptureError) (told : Option LineAnswer) (r : Result (Option LineAnswer) KeepError) → (refusal ≢ captures.Memory → capture words before.folder ≡ Err refusal) → told ≡ capture_answer refusal
-      → IsAnswerOrMemory told r → RunsLine route words before r before i i p p
-  capture_given refusal (Some answer) (Ok given) refused shown gave = λ link.
-      let is : capture words before.folder ≡ Err refusal = refused (named_refusal refusal answer (sym shown)) in
+  capture_told : (refusal : CaptureError) (answer : Option LineAnswer) → (refusal ≢ captures.Memory → capture words before.folder ≡ Err refusal) → capture_answer refusal ≡ answer
+      → RunsLine route words before (or_memory answer) before i i p p
+  capture_told refusal (Some answer) refused shown = λ link.
+      let is : capture words before.folder ≡ Err refusal = refused (named_refusal refusal answer shown) in
       let turn : LineTurn route before (Ok (RunLine words)) (Some answer) before nothing =
-      subst (λ (c : Result Command CaptureError). CommandTurn route c before (Some answer) before nothing) (sym is) (shown, refl, refl) in
-      subst (λ (a : Option LineAnswer). (kept : Log) × Does (is_some route.surrogate) route.image (LineEnds route before (Ok (RunLine words)) (Ok a) before kept) before before kept i i (beside link p) (beside link p)) (sym gave)
+      subst (λ (c : Result Command CaptureError). CommandTurn route c before (Some answer) before nothing) (sym is) (sym shown, refl, refl) in
       (before.client.log, does_none (is_some route.surrogate) route.image (LineEnds route before (Ok (RunLine words)) (Ok (Some answer)) before before.client.log) before i (beside link p) keeps (turn, refl))
-  capture_given refusal None (Err keepers.Memory) refused shown gave = λ link.
-      (before.client.log, does_none (is_some route.surrogate) route.image (LineEnds route before (Ok (RunLine words)) (Err keepers.Memory) before before.client.log) before i (beside link p) keeps (inl (refl, refl)))
-  capture_given refusal None (Err keepers.Failed) refused shown gave = absurd gave
-  capture_given refusal (Some answer) (Err e) refused shown gave = absurd gave
-  capture_given refusal None (Ok given) refused shown gave = absurd gave
+  capture_told refusal None refused shown = λ link.
+      (before.client.log, does_none (is_some route.surrogate) route.image (LineEnds route before (Ok (RunLine words)) (Err stops.Memory) before before.client.log) before i (beside link p) keeps (inl (refl, refl)))
+
+  pub capture_given : (refusal : CaptureError) (r : Result LineAnswer LineStop) → (refusal ≢ captures.Memory → capture words before.folder ≡ Err refusal) → r ≡ or_memory (capture_answer refusal)
+      → RunsLine route words before r before i i p p
+  capture_given refusal r refused shown =
+      subst (λ (a : Result LineAnswer LineStop). RunsLine route words before a before i i p p) (sym shown) (capture_told refusal (capture_answer refusal) refused refl)
 
 -- ---- a command
 
 -- what holds whatever is answered
-pub whatever : (r : Result (Option LineAnswer) KeepError) (K : Type 0) → K → IfOk r (λ answer. K)
+pub whatever : {T E : Type 0} (r : Result T E) (K : Type 0) → K → IfOk r (λ answer. K)
 whatever (Ok answer) K is = is
 whatever (Err e) K is = tt
 
@@ -108,27 +111,26 @@ module _ (route : Route) (command : Command) (before after : SessionState) (numb
     went t = run_goes route.image before.client.number (is_some route.surrogate) route.work command before.client.log i keeps p q t end after.client.log did is_log
 
     -- the log is as before
-    pub run_given : (told : Option LineAnswer) (r : Result (Option LineAnswer) KeepError) → told ≡ run_answer end → IsAnswerOrMemory told r → after.client.log ≡ before.client.log → RunsMade route command before r after i i p q
-    run_given (Some answer) (Ok given) shown gave same = λ words made link.
-        subst (λ (a : Option LineAnswer). (kept : Log) × Does (is_some route.surrogate) route.image (LineEnds route before (Ok (RunLine words)) (Ok a) after kept) before after kept i i (beside link p) (beside link q)) (sym gave) (
-          before.client.log,
-          record {
-            number = number;
-            goes = goes_as route.image before.client.number (is_some route.surrogate) Ends (LineEnds route before (Ok (RunLine words)) (Ok (Some answer)) after before.client.log) before.client.log after.client.log before.client.log i i p q link link
-                (went link) (λ trace turn. (answered_turn words made answer (sym shown) trace turn, sym same));
-          },
-        )
-    run_given None (Err keepers.Memory) shown gave same = λ words made link. (
+    run_told : (answer : Option LineAnswer) → run_answer end ≡ answer → after.client.log ≡ before.client.log → RunsMade route command before (or_memory answer) after i i p q
+    run_told (Some answer) shown same = λ words made link. (
       before.client.log,
       record {
         number = number;
-        goes = goes_as route.image before.client.number (is_some route.surrogate) Ends (LineEnds route before (Ok (RunLine words)) (Err keepers.Memory) after before.client.log) before.client.log after.client.log before.client.log i i p q link link
+        goes = goes_as route.image before.client.number (is_some route.surrogate) Ends (LineEnds route before (Ok (RunLine words)) (Ok (Some answer)) after before.client.log) before.client.log after.client.log before.client.log i i p q link link
+            (went link) (λ trace turn. (answered_turn words made answer shown trace turn, sym same));
+      },
+    )
+    run_told None shown same = λ words made link. (
+      before.client.log,
+      record {
+        number = number;
+        goes = goes_as route.image before.client.number (is_some route.surrogate) Ends (LineEnds route before (Ok (RunLine words)) (Err stops.Memory) after before.client.log) before.client.log after.client.log before.client.log i i p q link link
             (went link) (λ trace turn. broken_turn words made trace turn);
       },
     )
-    run_given None (Err keepers.Failed) shown gave same = absurd gave
-    run_given (Some answer) (Err e) shown gave same = absurd gave
-    run_given None (Ok given) shown gave same = absurd gave
+
+    pub run_given : (r : Result LineAnswer LineStop) → r ≡ or_memory (run_answer end) → after.client.log ≡ before.client.log → RunsMade route command before r after i i p q
+    run_given r shown same = subst (λ (a : Result LineAnswer LineStop). RunsMade route command before a after i i p q) (sym shown) (run_told (run_answer end) refl same)
 
     -- the log was changed, and was to be kept
     module _ (logged : has_logged end ≡ true) (j : Option Images) where
@@ -139,28 +141,30 @@ module _ (route : Route) (command : Command) (before after : SessionState) (numb
           goes_saved route.image before.client.number (is_some route.surrogate) Ends before.client.log after.client.log before.client.log i i j p q t t r goes
           (logged_changes route.work command before.client.log end after.client.log goes.trace logged goes.turn) save
 
-      pub run_kept : (done : Unit {0}) (told : Option LineAnswer) (r : Result (Option LineAnswer) KeepError) → told ≡ run_answer end → IsAnswerOrMemory told r
-          → Told i j (KeepsLog {E = KeepError} route.image before.client.number after.client.log (Ok done)) → RunsMade route command before r after i j p q
-      run_kept done (Some answer) (Ok given) shown gave save = λ words made link.
-          let all = saved (Ok done) save link in
-          subst (λ (a : Option LineAnswer). (kept : Log) × Does (is_some route.surrogate) route.image (LineEnds route before (Ok (RunLine words)) (Ok a) after kept) before after kept i j (beside link p) (beside link q)) (sym gave) (
+      run_kept_told : (done : Unit {0}) (answer : Option LineAnswer) → run_answer end ≡ answer → Told i j (KeepsLog {E = KeepError} route.image before.client.number after.client.log (Ok done))
+          → RunsMade route command before (or_memory answer) after i j p q
+      run_kept_told done (Some answer) shown save = λ words made link.
+          let all = saved (Ok done) save link in (
             all.0,
             record {
               number = number;
               goes = goes_as route.image before.client.number (is_some route.surrogate) Ends (LineEnds route before (Ok (RunLine words)) (Ok (Some answer)) after all.0) before.client.log after.client.log all.0 i j p q link link
-                  all.1 (λ trace turn. (answered_turn words made answer (sym shown) trace turn, all.2));
+                  all.1 (λ trace turn. (answered_turn words made answer shown trace turn, all.2));
             },
           )
-      run_kept done None r shown gave save = absurd (logged_answer end logged (sym shown))
-      run_kept done (Some answer) (Err e) shown gave save = absurd gave
+      run_kept_told done None shown save = absurd (logged_answer end logged shown)
 
-      pub run_unkept : (e : KeepError) → Told i j (KeepsLog {E = KeepError} route.image before.client.number after.client.log (Err e)) → RunsMade route command before (Err e) after i j p q
-      run_unkept e save = λ words made link.
+      pub run_kept : (done : Unit {0}) (r : Result LineAnswer LineStop) → r ≡ or_memory (run_answer end)
+          → Told i j (KeepsLog {E = KeepError} route.image before.client.number after.client.log (Ok done)) → RunsMade route command before r after i j p q
+      run_kept done r shown save = subst (λ (a : Result LineAnswer LineStop). RunsMade route command before a after i j p q) (sym shown) (run_kept_told done (run_answer end) refl save)
+
+      pub run_unkept : (e : KeepError) (stop : LineStop) → Told i j (KeepsLog {E = KeepError} route.image before.client.number after.client.log (Err e)) → RunsMade route command before (Err stop) after i j p q
+      run_unkept e stop save = λ words made link.
           let all = saved (Err e) save link in (
             all.0,
             record {
               number = number;
-              goes = goes_as route.image before.client.number (is_some route.surrogate) Ends (LineEnds route before (Ok (RunLine words)) (Err e) after all.0) before.client.log after.client.log all.0 i j p q link link
+              goes = goes_as route.image before.client.number (is_some route.surrogate) Ends (LineEnds route before (Ok (RunLine words)) (Err stop) after all.0) before.client.log after.client.log all.0 i j p q link link
                   all.1 (λ trace turn. broken_turn words made trace turn);
             },
           )

@@ -197,10 +197,10 @@ run_written work command before runs.Memory after trace turn = absurd turn.2
 -- ---- a line
 
 -- an effect of a line is no command's
-local_written : (effect : Effect) (before : Log) (result : Result ℕ LogError) (after : Log) (trace : Trace) → LocalTurn effect before result after trace → WriteWhatIsLeft trace
-local_written effect before (Ok number) after trace turn = written_as (logging (local_entry effect before) after) trace turn.2 by
+local_written : (effect : Effect) (before : Log) (result : Result ℕ LogError) (after : Log) (trace : Trace) → LocalTurn (effect ∷ []) before result after trace → WriteWhatIsLeft trace
+local_written effect before (Ok number) after trace turn = written_as (logging (local_entry (effect ∷ []) before) after) trace turn.2 by
   where
-    by : WriteWhatIsLeft (logging (local_entry effect before) after)
+    by : WriteWhatIsLeft (logging (local_entry (effect ∷ []) before) after)
     by entry content (inl is) made writes = absurd (true≢false (sym (subst (λ (e : Entry). IsSome e.origin) is made)))
     by entry content (inr never) made writes = absurd never
 local_written effect before (Err refusal) after trace turn = none_written trace (ap (λ (t : Trace). t.entries) turn.2)

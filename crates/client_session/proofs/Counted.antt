@@ -55,7 +55,7 @@ followed_quiet trace earlier later is first then = (
   omega (arith, ap (λ (t : Trace). t.missed) is, first.1, then.1),
 )
 
-local_quiet : (effect : Effect) (result : Result ℕ LogError) (before after : Log) (trace : Trace) → LocalTurn effect before result after trace → RunsNothing trace
+local_quiet : (effect : Effect) (result : Result ℕ LogError) (before after : Log) (trace : Trace) → LocalTurn (effect ∷ []) before result after trace → RunsNothing trace
 local_quiet effect (Ok number) before after trace turn = (ap (λ (t : Trace). t.runs) turn.2, ap (λ (t : Trace). t.missed) turn.2)
 local_quiet effect (Err refusal) before after trace turn = as_nothing trace turn.2
 

@@ -168,7 +168,7 @@ module _ (route : Route) where
     run_asked command (runs.Refused refusal) turn = none_asked trace.asks (ap (λ (t : Trace). t.asks) turn.3)
     run_asked command runs.Memory turn = none_asked trace.asks (ap (λ (t : Trace). t.asks) turn.3)
 
-    local_asked : (effect : Effect) (result : Result ℕ LogError) → LocalTurn effect before.client.log result after.client.log trace → AsksTheRoute
+    local_asked : (effect : Effect) (result : Result ℕ LogError) → LocalTurn (effect ∷ []) before.client.log result after.client.log trace → AsksTheRoute
     local_asked effect (Ok number) turn = none_asked trace.asks (ap (λ (t : Trace). t.asks) turn.2)
     local_asked effect (Err refusal) turn = none_asked trace.asks (ap (λ (t : Trace). t.asks) turn.2)
 

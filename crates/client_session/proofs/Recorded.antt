@@ -1,11 +1,11 @@
 -- What a line keeps record by record.
-use Rattle.std.proofs.Common.{◌≡◌, ◌≢◌, ◌∙◌, inl, ℕ, Bool, true, false, List, [], ◌∷◌, Option, Some, None, Result, Ok, Err, IfOk, refl, sym, ap, subst}
+use Rattle.std.proofs.Common.{◌≡◌, ◌≢◌, ◌∙◌, inl, ⊎_elim, ℕ, false, List, [], ◌∷◌, Option, Some, None, Result, Ok, Err, IfOk, refl, sym, ap, subst}
 use Rattle.outside.specs.Keeper.{Images}
-use Rattle.outside.specs.declared.errors.KeepError.{KeepError}
 use Rattle.file_paths.specs.declared.path.PathError.{PathError}
 use Rattle.tree_values.specs.Lists.{IsIn}
 use Rattle.tree_values.specs.declared.node.Effect.{Effect}
 use Rattle.cmd_capture.specs.declared.command.Command.{Command}
+use Rattle.cmd_capture.specs.Runs.{HasRun}
 use Rattle.cmd_capture.specs.declared.capturing.CaptureError.{CaptureError}
 use Rattle.cmd_capture.specs.Capture.{capture}
 use Rattle.mod_log.specs.declared.log.Entry.{Entry}
@@ -30,29 +30,41 @@ use Rattle.shell_lang.specs.declared.line.LineError.{LineError}
 use Rattle.shell_lang.specs.declared.answer.LineAnswer.{LineAnswer}
 use Rattle.client_session.specs.Session.{SessionState, Sitting, state_of, put_effect, make_effect, remove_effect, move_effect, LogTurn, CommandTurn, LineTurn, pull_answer, has_pulled}
 use Rattle.client_session.specs.Doing.{Telling, WentDoing, LineEnds, LineNoting}
-use Rattle.client_session.specs.Causes.{answer_or_fault}
+use Rattle.client_session.specs.declared.stop.LineStop.{LineStop}
+use Rattle.client_session.specs.Inside.{LogsOrRefuses}
+use Rattle.client_session.specs.Stops.{pull_result, told}
 use Rattle.client_session.proofs.Doing.{went_as}
-use Rattle.client_session.proofs.Turning.{unbroken_pull}
+use Rattle.client_session.proofs.Turning.{Quietly, line_world, logs_quietly, quietly_caused, told_holds, unbroken_pull, pull_either}
 
 -- ---- what the calls of a session keep
 
 -- what holds of each answered line holds where no base was replaced
-pub unless_pulled : (line : Result Line LineError) (r : Result (Option LineAnswer) KeepError) (K : Type 0) → IfOk r (λ answer. K) → IfOk r (λ answer. has_pulled line answer ≡ false → K)
+pub unless_pulled : (line : Result Line LineError) (r : Result (Option LineAnswer) LineStop) (K : Type 0) → IfOk r (λ answer. K) → IfOk r (λ answer. has_pulled line answer ≡ false → K)
 unless_pulled line (Ok answer) K is = λ none. is
 unless_pulled line (Err e) K is = tt
 
 -- a pull that is answered was not broken off, and where it took no rows all is as before
-pub pull_records : (fault : Bool) (told : Option LineAnswer) (r : Result (Option LineAnswer) KeepError) → r ≡ answer_or_fault fault told → (name : List ℕ) (x y : Client) (i j : Option Images) (end : PullEnd) → told ≡ pull_answer end
-    → (is_broken_pull end ≡ false → ((count : ℕ) → end ≢ pulls.Pulled count) → (y ≡ x) × (j ≡ i)) → IfOk r (λ answer. has_pulled (Ok lines.Pull) answer ≡ false → KeepsLogged name x y i j)
-pull_records fault told r is name x y i j end shown same =
-    subst (λ (a : Result (Option LineAnswer) KeepError). IfOk a (λ answer. has_pulled (Ok lines.Pull) answer ≡ false → KeepsLogged name x y i j)) (sym is) (by fault told shown)
+pub pull_records : (r : Result LineAnswer LineStop) (name : List ℕ) (x y : Client) (i j : Option Images) (end : PullEnd) → r ≡ pull_result end
+    → (is_broken_pull end ≡ false → ((count : ℕ) → end ≢ pulls.Pulled count) → (y ≡ x) × (j ≡ i)) → IfOk r (λ answer. has_pulled (Ok lines.Pull) (Some answer) ≡ false → KeepsLogged name x y i j)
+pull_records r name x y i j end is same = ⊎_elim
+    (λ ok. subst Records (sym (is ∙ ok.2))
+    (λ none.
+    let stays = same (unbroken_pull end ok.0 ok.1) (λ count pulled. absurd (cc (sym none ∙ ap (has_pulled (Ok lines.Pull)) (sym ok.1 ∙ ap pull_answer pulled)))) in
+    subst (λ (c : Client). KeepsLogged name x c i j) (sym stays.0) (subst (λ (k : Option Images). KeepsLogged name x x i k) (sym stays.1) (keeps_same name x i))))
+    (λ stopped. subst Records (sym (is ∙ stopped.1)) tt)
+    (pull_either end)
   where
-    by : (fault : Bool) (told : Option LineAnswer) → told ≡ pull_answer end → IfOk (answer_or_fault fault told) (λ answer. has_pulled (Ok lines.Pull) answer ≡ false → KeepsLogged name x y i j)
-    by true told shown = tt
-    by false None shown = tt
-    by false (Some answer) shown = λ none.
-        let stays = same (unbroken_pull end answer (sym shown)) (λ count pulled. absurd (cc (sym none ∙ ap (has_pulled (Ok lines.Pull)) (shown ∙ ap pull_answer pulled)))) in
-        subst (λ (c : Client). KeepsLogged name x c i j) (sym stays.0) (subst (λ (k : Option Images). KeepsLogged name x x i k) (sym stays.1) (keeps_same name x i))
+    Records : Result LineAnswer LineStop → Type 0
+    Records a = IfOk a (λ answer. has_pulled (Ok lines.Pull) (Some answer) ≡ false → KeepsLogged name x y i j)
+
+-- and so it is told
+pub pull_told_records : (r : Result LineAnswer LineStop) (s : Result (Option LineAnswer) LineStop) (K : Type 0) → s ≡ told r → IfOk r (λ answer. has_pulled (Ok lines.Pull) (Some answer) ≡ false → K)
+    → IfOk s (λ answer. has_pulled (Ok lines.Pull) answer ≡ false → K)
+pull_told_records r s K is kept = subst (λ (a : Result (Option LineAnswer) LineStop). IfOk a (λ answer. has_pulled (Ok lines.Pull) answer ≡ false → K)) (sym is) (by r kept)
+  where
+    by : (r : Result LineAnswer LineStop) → IfOk r (λ answer. has_pulled (Ok lines.Pull) (Some answer) ≡ false → K) → IfOk (told r) (λ answer. has_pulled (Ok lines.Pull) answer ≡ false → K)
+    by (Ok answer) kept = kept
+    by (Err stop) kept = tt
 
 -- ---- the changes of a line are those that its records make
 
@@ -119,9 +131,9 @@ module _ (before after : SessionState) (trace : Trace) where
   stays : after ≡ before → trace ≡ nothing → LineNoted
   stays same all = same_noted before.client.log after.client.log trace (ap (λ (s : SessionState). s.client.log) same) (ap (λ (t : Trace). t.changes) all)
 
-  local_noted : (effect : Effect) (result : Result ℕ LogError) → LocalTurn effect before.client.log result after.client.log trace → LineNoted
+  local_noted : (effect : Effect) (result : Result ℕ LogError) → LocalTurn (effect ∷ []) before.client.log result after.client.log trace → LineNoted
   local_noted effect (Ok number) turn =
-      logged_noted before.client.log after.client.log trace (local_entry effect before.client.log) (appended-is None (effect ∷ []) before.client.log after.client.log turn.0) (ap (λ (t : Trace). t.changes) turn.2)
+      logged_noted before.client.log after.client.log trace (local_entry (effect ∷ []) before.client.log) (appended-is None (effect ∷ []) before.client.log after.client.log turn.0) (ap (λ (t : Trace). t.changes) turn.2)
   local_noted effect (Err refusal) turn = same_noted before.client.log after.client.log trace turn.1 (ap (λ (t : Trace). t.changes) turn.2)
 
   log_noted : (named : Result Effect PathError) (answer : Option LineAnswer) → LogTurn named before answer after trace → LineNoted
@@ -169,7 +181,7 @@ module _ (before after : SessionState) (trace : Trace) where
 -- ---- what was kept of a line that logs is of its trace
 
 module _ (route : Route) (x y : Sitting) (line : Result Line LineError) (other : IsNoSync line) (i j : Option Images) where
-  line_notes : (r : Result (Option LineAnswer) KeepError) (k : Log) (trace : Trace) → IfOk r (λ answer. has_pulled line answer ≡ false → KeepsLogged route.image x.client y.client i j)
+  line_notes : (r : Result (Option LineAnswer) LineStop) (k : Log) (trace : Trace) → IfOk r (λ answer. has_pulled line answer ≡ false → KeepsLogged route.image x.client y.client i j)
       → LineEnds route (state_of x) line r (state_of y) k trace → LineNoting route x line r y i j k trace
   line_notes (Ok answer) k trace kept ends = (
     ends,
@@ -177,7 +189,23 @@ module _ (route : Route) (x y : Sitting) (line : Result Line LineError) (other :
   )
   line_notes (Err e) k trace kept ends = (ends, tt)
 
-  pub noting_line : (r : Result (Option LineAnswer) KeepError) (t u : Telling) → WentDoing route (LineEnds route (state_of x) line r (state_of y)) (state_of x) (state_of y) i j t u
+  pub noting_line : (r : Result (Option LineAnswer) LineStop) (t u : Telling) → WentDoing route (LineEnds route (state_of x) line r (state_of y)) (state_of x) (state_of y) i j t u
       → IfOk r (λ answer. has_pulled line answer ≡ false → KeepsLogged route.image x.client y.client i j) → WentDoing route (LineNoting route x line r y i j) (state_of x) (state_of y) i j t u
   noting_line r t u went kept =
       went_as route (LineEnds route (state_of x) line r (state_of y)) (LineNoting route x line r y i j) (state_of x) (state_of y) i j t u went (λ k trace ends behind. line_notes r k trace kept ends)
+
+-- ---- a line that logs an effect, as what it reads as
+
+module _ (route : Route) (x y : Sitting) (read line : Result Line LineError) (is : read ≡ line) (named : Result Effect PathError) (r : Result LineAnswer LineStop) (s : Result (Option LineAnswer) LineStop) (i j : Option Images)
+    (to : (route : Route) (answer : Option LineAnswer) (trace : Trace) → LogTurn named (state_of x) answer (state_of y) trace → LineTurn route (state_of x) line answer (state_of y) trace)
+    (logs : LogsOrRefuses route.image named (state_of x) r (state_of y) i j) (same : s ≡ told r) where
+  quiet : Quietly route.image (state_of x) line s (state_of y) i j
+  quiet = subst (λ (a : Result (Option LineAnswer) LineStop). Quietly route.image (state_of x) line a (state_of y) i j) (sym same) (logs_quietly route.image i named (state_of x) line r (state_of y) j to logs)
+
+  pub logs_went : IsNoSync line → IfOk r (λ answer. KeepsLogged route.image x.client y.client i j) → (t : Telling) → WentDoing route (LineNoting route x read s y i j) (state_of x) (state_of y) i j t t
+  logs_went other kept t =
+      noting_line route x y read (subst IsNoSync (sym is) other) i j s t t (line_world route i (state_of x) read line s (state_of y) j t is quiet)
+      (unless_pulled read s (KeepsLogged route.image x.client y.client i j) (told_holds r s (KeepsLogged route.image x.client y.client i j) same kept))
+
+  pub logs_caused : (t : Telling) → (kept : Log) × (trace : Trace) × LineEnds route (state_of x) line s (state_of y) kept trace × HasRun trace.runs trace.missed t.runner t.runner
+  logs_caused t = quietly_caused route i (state_of x) line s (state_of y) j quiet t

@@ -1,7 +1,6 @@
 -- What a line does: its turn, and with it the client and what is kept of it, and the world where that is told.
 use Rattle.std.specs.Prelude.{◌≡◌, ℕ, Bool, false, List, Option, is_some, Result, Ok, Err, IfOk}
 use Rattle.outside.specs.Keeper.{Images}
-use Rattle.outside.specs.declared.errors.KeepError.{KeepError}
 use Rattle.mod_log.specs.Log.{Log}
 use Rattle.world_rules.specs.Telling.{LinkTelling}
 use Rattle.client_core.specs.declared.route.Route.{Route}
@@ -12,6 +11,7 @@ use Rattle.client_core.specs.Noting.{KeepsChanges}
 use Rattle.shell_lang.specs.declared.line.Line.{Line}
 use Rattle.shell_lang.specs.declared.line.LineError.{LineError}
 use Rattle.shell_lang.specs.declared.answer.LineAnswer.{LineAnswer}
+use Rattle.client_session.specs.declared.stop.LineStop.{LineStop}
 use Rattle.client_session.specs.Session.{SessionState, Sitting, state_of, has_pulled, LineTurn, Broken}
 
 -- what the link and the runner of a session tell at one moment
@@ -39,13 +39,13 @@ WentDoing route turns before after images images_now old new =
     (kept : Log) × Does (is_some route.surrogate) route.image (turns kept) before after kept images images_now old new
 
 -- a line that was answered and after which the log is kept, or one that was broken off
-abbrev pub LineEnds : Route → SessionState → Result Line LineError → Result (Option LineAnswer) KeepError → SessionState → Log
+abbrev pub LineEnds : Route → SessionState → Result Line LineError → Result (Option LineAnswer) LineStop → SessionState → Log
     → Trace → Type 0
 LineEnds route before line (Ok answer) after kept trace = LineTurn route before line answer after trace × (kept ≡ after.client.log)
 LineEnds route before line (Err error) after kept trace = Broken route before line after trace
 
 -- the same, and where it was answered and no pull replaced the base, each change of the line was kept by a record of its own
-abbrev pub LineNoting : Route → Sitting → Result Line LineError → Result (Option LineAnswer) KeepError → Sitting → Option Images
+abbrev pub LineNoting : Route → Sitting → Result Line LineError → Result (Option LineAnswer) LineStop → Sitting → Option Images
     → Option Images → Log → Trace → Type 0
 LineNoting route before line result after images now kept trace =
     LineEnds route (state_of before) line result (state_of after) kept trace

@@ -5,3 +5,4 @@ pub mod Inside
 pub mod Laws
 pub mod Looking
 pub mod Session
+pub mod Stops

@@ -165,7 +165,7 @@ IsSilent before answer after trace = (answer ≡ None) × (after ≡ before) × 
 -- an effect is logged or refused, or a path word was
 abbrev pub LogTurn : Result Effect PathError → SessionState → Option LineAnswer → SessionState → Trace → Type 0
 LogTurn (Ok effect) before answer after trace =
-    (result : Result ℕ LogError) × LocalTurn effect before.client.log result after.client.log trace
+    (result : Result ℕ LogError) × LocalTurn (effect ∷ []) before.client.log result after.client.log trace
     × (after ≡ with_log before after.client.log) × (answer ≡ local_answer result)
 LogTurn (Err refusal) before answer after trace = (answer ≡ word_answer refusal) × (after ≡ before) × (trace ≡ nothing)
 

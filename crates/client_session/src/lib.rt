@@ -7,6 +7,7 @@ mod laws;
 mod looking;
 mod running;
 mod session;
+mod stop;
 
 pub use laws::{
     asks_and_runs_make_sessions, asks_are_of_the_route, asks_are_of_turns,
@@ -14,3 +15,4 @@ pub use laws::{
     unrun_lines_are_counted,
 };
 pub use session::Session;
+pub use stop::LineStop;

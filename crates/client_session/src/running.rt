@@ -8,11 +8,13 @@ ghost use Rattle.cmd_capture.specs.Runs.{telling, IsAskedAtMostOnce};
 ghost use Rattle.client_core.specs.Running.{has_logged};
 ghost use Rattle.client_session.specs.Session.{state_of, capture_answer, job_answer, run_answer};
 ghost use Rattle.client_session.specs.Inside.{RunsLine, RunsMade};
+ghost use Rattle.client_session.specs.Stops.{or_memory};
 
-use crate::session::{Session, given, local_refusal};
+use crate::session::{Session, local_refusal};
+use crate::stop::LineStop;
 use client_core::{Route, RunEnd};
 use cmd_capture::{CaptureError, Command, Runner, Words, capture};
-use outside::{KeepError, Keeper};
+use outside::Keeper;
 use shell_lang::{Fault, LineAnswer};
 use std::alloc::Global;
 use work_area::JobError;
@@ -26,7 +28,7 @@ impl Session {
         route: &Route,
         keeper: &mut K,
         runner: &mut R,
-    ) -> Result<Option<LineAnswer>, KeepError>
+    ) -> Result<LineAnswer, LineStop>
         requires { IsKeptReady (K.images keeper.old) route.now.image self.old.client }
         ensures runs { RunsLine route.now words.now (state_of self.old) result (state_of self.new) (K.images keeper.old)
             (K.images keeper.new)
@@ -35,12 +37,12 @@ impl Session {
         ensures records { IfOk result (λ answer. KeepsLogged route.now.image self.old.client self.new.client
             (K.images keeper.old) (K.images keeper.new)) }
         ensures later { R.faults runner.old ≤ R.faults runner.new }
-        ensures keeper { CountsFault KeepError.Failed (K.faults keeper.old) (K.faults keeper.new) result }
+        ensures keeper { CountsFault LineStop.Keeper (K.faults keeper.old) (K.faults keeper.new) result }
         ensures asked { IsAskedAtMostOnce (R.calls runner.old) (R.calls runner.new) }
     {
         match capture(alloc, words, &self.folder) {
             Ok(command) => self.run_command(command, route, keeper, runner),
-            Err(refusal) => given(capture_answer(refusal)),
+            Err(refusal) => capture_answer(refusal),
         }
     }
 
@@ -51,7 +53,7 @@ impl Session {
         route: &Route,
         keeper: &mut K,
         runner: &mut R,
-    ) -> Result<Option<LineAnswer>, KeepError>
+    ) -> Result<LineAnswer, LineStop>
         requires command { IsCommand command }
         requires kept { IsKeptReady (K.images keeper.old) route.now.image self.old.client }
         ensures runs { RunsMade route.now command (state_of self.old) result (state_of self.new) (K.images keeper.old) (K.images keeper.new)
@@ -60,18 +62,18 @@ impl Session {
         ensures records { IfOk result (λ answer. KeepsLogged route.now.image self.old.client self.new.client
             (K.images keeper.old) (K.images keeper.new)) }
         ensures later { R.faults runner.old ≤ R.faults runner.new }
-        ensures keeper { CountsFault KeepError.Failed (K.faults keeper.old) (K.faults keeper.new) result }
+        ensures keeper { CountsFault LineStop.Keeper (K.faults keeper.old) (K.faults keeper.new) result }
         ensures asked { IsAskedAtMostOnce (R.calls runner.old) (R.calls runner.new) }
     {
         let end = self.client.run_command(command, route.work.bytes(), runner);
         if !has_logged(&end) {
-            return given(run_answer(end));
+            return run_answer(end);
         }
         if let Err(refused) = self.client.keep(route.image.bytes(), keeper) {
             drop(end);
-            return Err(refused);
+            return Err(LineStop::from(refused));
         }
-        given(run_answer(end))
+        run_answer(end)
     }
 }
 
@@ -82,38 +84,38 @@ fn has_logged(end: &RunEnd) -> bool
     matches!(end, RunEnd::Logged { .. })
 }
 
-/// How words that make no command are answered; want of memory has no answer.
-fn capture_answer(refusal: CaptureError) -> Option<LineAnswer>
-    ensures { result ≡ capture_answer refusal }
+/// How words that make no command are answered.
+fn capture_answer(refusal: CaptureError) -> Result<LineAnswer, LineStop>
+    ensures { result ≡ or_memory (capture_answer refusal) }
 {
     match refusal {
-        CaptureError::Memory => None,
-        refusal => Some(LineAnswer::Refused(Fault::Capture(refusal))),
+        CaptureError::Memory => Err(LineStop::Memory),
+        refusal => Ok(LineAnswer::Refused(Fault::Capture(refusal))),
     }
 }
 
-/// How a command without a job is answered; want of memory has no answer.
-fn job_answer(refusal: JobError) -> Option<LineAnswer>
-    ensures { result ≡ job_answer refusal }
+/// How a command without a job is answered.
+fn job_answer(refusal: JobError) -> Result<LineAnswer, LineStop>
+    ensures { result ≡ or_memory (job_answer refusal) }
 {
     match refusal {
-        JobError::Memory => None,
-        refusal => Some(LineAnswer::Refused(Fault::Job(refusal))),
+        JobError::Memory => Err(LineStop::Memory),
+        refusal => Ok(LineAnswer::Refused(Fault::Job(refusal))),
     }
 }
 
-/// How a run is answered; want of memory has no answer.
-fn run_answer(end: RunEnd) -> Option<LineAnswer>
-    ensures { result ≡ run_answer end }
+/// How a run is answered.
+fn run_answer(end: RunEnd) -> Result<LineAnswer, LineStop>
+    ensures { result ≡ or_memory (run_answer end) }
 {
     match end {
-        RunEnd::Logged { seq, status } => Some(LineAnswer::Ran { seq, status }),
-        RunEnd::Nothing { status } => Some(LineAnswer::Nothing { status }),
+        RunEnd::Logged { seq, status } => Ok(LineAnswer::Ran { seq, status }),
+        RunEnd::Nothing { status } => Ok(LineAnswer::Nothing { status }),
         RunEnd::NoJob(refusal) => job_answer(refusal),
-        RunEnd::NotRun => Some(LineAnswer::NotRun),
-        RunEnd::OddTree(i) => Some(LineAnswer::OddTree(i)),
-        RunEnd::Clash(path) => Some(LineAnswer::Clash(path)),
+        RunEnd::NotRun => Ok(LineAnswer::NotRun),
+        RunEnd::OddTree(i) => Ok(LineAnswer::OddTree(i)),
+        RunEnd::Clash(path) => Ok(LineAnswer::Clash(path)),
         RunEnd::Refused(refusal) => local_refusal(refusal),
-        RunEnd::Memory => None,
+        RunEnd::Memory => Err(LineStop::Memory),
     }
 }
