@@ -1,19 +1,20 @@
 // Images as files.
-ghost use Rattle.std.specs.Prelude.{◌≡◌, ◌↔◌, None, Ok, IfOk, OnErr, IsErr};
+ghost use Rattle.std.specs.Prelude.{◌≡◌, ◌↔◌, None, Ok, IfOk, IsOk, OnErr, IsErr};
 ghost use Rattle.outside.specs.Outside.{Told, CountsFault};
 ghost use Rattle.outside.specs.Keeper.{Images, Loads, Saves, Appends};
-ghost use Rattle.real_edge.specs.Held.{Holds};
+ghost use Rattle.real_edge.specs.Held.{Holds, HoldsAt, StayHeld};
 
 use crate::lock::Held;
 use crate::trouble::{Refusal, Step, Trouble, Troubled, Troubles, at};
 use outside::{KeepError, Keeper};
 use std::alloc::Global;
 use std::fs::File;
-use std::io::ErrorKind;
+use std::io::{self, ErrorKind};
 use std::rt::Files;
 
 /// Images as files. A save writes beside the old file, under its name with `.new` added, and renames over it. An append writes
-/// behind what the file has. Under the name with `.lock` added stands the lock: of all keepers that are alive one alone has it.
+/// behind what the file has. Under the name with `.lock` added stands the lock: of all keepers that are alive one alone has it. A
+/// keeper has the lock of each image that it was asked for, until it is dropped.
 ///
 /// What it makes is for its owner alone; the rights that a user gave an image stay. What stood under the name with `.new` is removed
 /// before, and never written through. Where an image is a link, a save puts a file in the link's place.
@@ -21,7 +22,7 @@ use std::rt::Files;
 pub struct FileKeeper<'a, R: Files<File = File>> {
     alloc: Global,
     files: &'a R,
-    held: Option<Held>,
+    held: Vec<Held>,
     troubles: Troubles,
 }
 
@@ -33,7 +34,7 @@ impl<'a, R: Files<File = File>> FileKeeper<'a, R> {
         FileKeeper {
             alloc,
             files,
-            held: None,
+            held: Vec::new(alloc),
             troubles: Troubles::none(),
         }
     }
@@ -45,51 +46,61 @@ impl<'a, R: Files<File = File>> FileKeeper<'a, R> {
         self.troubles.last()
     }
 
-    /// The image's lock, out of its place. It is taken where it is not held already. A keeper holds one lock.
-    fn lock_of(&mut self, name: &[u8]) -> Result<Held, Refusal>
-        ensures lock { IfOk result (λ held. held.name.items ≡ name.now) }
+    /// Takes the image's lock, where it is not held already, and gives its place among those that are held. A call that cannot
+    /// take it lets go of none.
+    fn hold(&mut self, name: &[u8]) -> Result<usize, Refusal>
+        ensures place { IfOk result (λ place. HoldsAt place self.new.held.items name.now) }
+        ensures held { IfOk result (λ _. Holds self.new.held.items name.now) }
+        ensures still { StayHeld self.old.held.items self.new.held.items }
+        ensures once { Holds self.old.held.items name.now → IsOk result × (self.new.held ≡ self.old.held) }
         ensures same { self.new.troubles ≡ self.old.troubles }
     {
-        if let Some(held) = self.held.take() {
-            if held.is_of(name) {
-                return Ok(held);
-            }
-            drop(held);
+        match self.held.iter().position(|held| held.is_of(name)) {
+            Some(place) => Ok(place),
+            None => self.take_lock(name),
         }
-        at(Step::Lock, Held::take(self.alloc, self.files, name))
+    }
+
+    /// Takes the image's lock, and gives its place, behind those that are held.
+    fn take_lock(&mut self, name: &[u8]) -> Result<usize, Refusal>
+        ensures place { IfOk result (λ place. HoldsAt place self.new.held.items name.now) }
+        ensures still { StayHeld self.old.held.items self.new.held.items }
+        ensures same { self.new.troubles ≡ self.old.troubles }
+    {
+        let place = self.held.len();
+        let held = at(Step::Lock, Held::take(self.alloc, self.files, name))?;
+        at(Step::Lock, self.held.push(held).map_err(io::Error::from))?;
+        Ok(place)
     }
 
     /// Takes the image's lock, and reads the image.
     fn read_image(&mut self, name: &[u8]) -> Result<Option<Vec<u8>>, Refusal>
-        ensures held { IfOk result (λ _. Holds self.new.held name.now) }
+        ensures held { IfOk result (λ _. Holds self.new.held.items name.now) }
+        ensures still { StayHeld self.old.held.items self.new.held.items }
         ensures same { self.new.troubles ≡ self.old.troubles }
     {
-        let held = self.lock_of(name)?;
-        let image = at(Step::Read, held.read(self.alloc, self.files));
-        self.held = Some(held);
-        image
+        let place = self.hold(name)?;
+        at(Step::Read, self.held[place].read(self.alloc, self.files))
     }
 
     /// Takes the image's lock, and writes the image.
     fn write_image(&mut self, name: &[u8], bytes: &[u8]) -> Result<(), Refusal>
-        ensures held { IfOk result (λ _. Holds self.new.held name.now) }
+        ensures held { IfOk result (λ _. Holds self.new.held.items name.now) }
+        ensures still { StayHeld self.old.held.items self.new.held.items }
         ensures same { self.new.troubles ≡ self.old.troubles }
     {
-        let held = self.lock_of(name)?;
-        let written = held.write(self.alloc, self.files, bytes);
-        self.held = Some(held);
-        written
+        let place = self.hold(name)?;
+        self.held[place].write(self.alloc, self.files, bytes)
     }
 
     /// Takes the image's lock, and writes the piece behind the image.
     fn write_piece(&mut self, name: &[u8], piece: &[u8]) -> Result<(), Refusal>
-        ensures held { IfOk result (λ _. Holds self.new.held name.now) }
+        ensures held { IfOk result (λ _. Holds self.new.held.items name.now) }
+        ensures still { StayHeld self.old.held.items self.new.held.items }
         ensures same { self.new.troubles ≡ self.old.troubles }
     {
-        let held = self.lock_of(name)?;
-        let written = at(Step::Append, held.append(self.files, piece));
-        self.held = Some(held);
-        written
+        let place = self.hold(name)?;
+        at(Step::Append, self.held[place].append(self.files, piece))
     }
 }
 
@@ -142,7 +153,8 @@ impl<'a, R: Files<File = File>> Keeper for FileKeeper<'a, R> {
         ensures images { Told {A = Images} None None (λ old new. Loads name.now result old new) }
         ensures cause { CountsFault KeepError.Failed self.old.troubles.count self.new.troubles.count result }
 
-        ensures held { IfOk result (λ _. Holds self.new.held name.now) }
+        ensures held { IfOk result (λ _. Holds self.new.held.items name.now) }
+        ensures still { StayHeld self.old.held.items self.new.held.items }
     {
         let read = self.read_image(name);
         counted(self.alloc, read, name, &mut self.troubles)
@@ -152,7 +164,8 @@ impl<'a, R: Files<File = File>> Keeper for FileKeeper<'a, R> {
         ensures images { Told {A = Images} None None (λ old new. Saves name.now bytes.now result old new) }
         ensures cause { CountsFault KeepError.Failed self.old.troubles.count self.new.troubles.count result }
 
-        ensures held { IfOk result (λ _. Holds self.new.held name.now) }
+        ensures held { IfOk result (λ _. Holds self.new.held.items name.now) }
+        ensures still { StayHeld self.old.held.items self.new.held.items }
     {
         let written = self.write_image(name, bytes);
         counted(self.alloc, written, name, &mut self.troubles)
@@ -162,7 +175,8 @@ impl<'a, R: Files<File = File>> Keeper for FileKeeper<'a, R> {
         ensures images { Told {A = Images} None None (λ old new. Appends name.now piece.now result old new) }
         ensures cause { CountsFault KeepError.Failed self.old.troubles.count self.new.troubles.count result }
 
-        ensures held { IfOk result (λ _. Holds self.new.held name.now) }
+        ensures held { IfOk result (λ _. Holds self.new.held.items name.now) }
+        ensures still { StayHeld self.old.held.items self.new.held.items }
     {
         let written = self.write_piece(name, piece);
         counted(self.alloc, written, name, &mut self.troubles)

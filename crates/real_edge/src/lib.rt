@@ -1,5 +1,6 @@
-//! The real streams and sockets behind the traits of the outside. An adapter carries what its reader gives and its writer
-//! takes, tells the traits none of it, and counts each call that failed. Every wait for a peer has an end.
+//! The real streams, files and sockets behind the traits of the outside. A source and a sink tell the traits what their stream tells
+//! contracts, and real streams tell none; the others carry what they are given, and tell none of it. Each call that failed is counted.
+//! Every wait for a peer has an end.
 #![tactic(auto)]
 
 mod addresses;
@@ -14,6 +15,7 @@ mod names;
 mod pace;
 mod port;
 mod prompting;
+mod steady;
 mod streams;
 mod talks;
 mod telling;
@@ -30,6 +32,7 @@ pub use lock::write_down;
 pub use logged_port::LoggedPort;
 pub use port::TcpPort;
 pub use prompting::{Prompting, Terminals};
+pub use steady::{SteadyRead, SteadyWrite};
 pub use streams::{StdSink, StdSource};
 pub use telling::{Teller, Untold};
 pub use trouble::{Step, Trouble, Troubled, tell_trouble};

@@ -1,8 +1,8 @@
 // The standard streams as a source and a sink.
-ghost use Rattle.std.specs.Prelude.{◌≡◌, ◌<◌, ◌≤◌, ◌↔◌, ℕ, List, None, length, IfOk};
-ghost use Rattle.std.specs.Io.KnownBytes.{ReadConsumes, WriteAppends};
+ghost use Rattle.std.specs.Prelude.{◌≡◌, ◌<◌, ◌≤◌, ◌↔◌, None, length, IfOk};
 ghost use Rattle.outside.specs.Outside.{Told, Reads, Writes, CountsFault};
 
+use crate::steady::{SteadyRead, SteadyWrite};
 use crate::trouble::{Trouble, Troubled, Troubles};
 use outside::{Failed, Sink, SinkError, Source};
 use std::io::{self, ErrorKind, Read, Write};
@@ -12,7 +12,8 @@ const INPUT: &str = "standard input";
 
 const OUTPUT: &str = "standard output";
 
-/// A reader, as standard input. It gives the bytes that the reader gives, and ends where the reader ends.
+/// A reader, as standard input. It gives the bytes that the reader gives, and ends where the reader ends. It tells the bytes that the
+/// reader tells.
 #[derive(Drop)]
 pub struct StdSource<R: Read + Drop> {
     reader: R,
@@ -22,7 +23,8 @@ pub struct StdSource<R: Read + Drop> {
 impl<R: Read + Drop> StdSource<R> {
     /// The bytes that the reader gives.
     pub fn new(reader: R) -> StdSource<R>
-        ensures { result.troubles.count ≡ 0 }
+        ensures over { result.reader ≡ reader }
+        ensures none { result.troubles.count ≡ 0 }
     {
         StdSource {
             reader,
@@ -44,18 +46,16 @@ impl<R: Read + Drop> Troubled for StdSource<R> {
     }
 }
 
-impl<R: Read + Drop> Source for StdSource<R> {
-    ghost left = { λ _. None };
+impl<R: SteadyRead + Drop> Source for StdSource<R> {
+    ghost left = { λ s. R.remaining s.reader };
 
     ghost faults = { λ s. s.troubles.count };
 
     fn read(&mut self, buf: &mut [u8]) -> Result<usize, Failed>
         requires { 0 < length buf.old }
         ensures within { IfOk result (λ count. count ≤ length buf.old) }
-        ensures bytes { Told {A = List ℕ} None None (λ old new. Reads old new buf.new result) }
+        ensures bytes { Told (R.remaining self.old.reader) (R.remaining self.new.reader) (λ old new. Reads old new buf.new result) }
         ensures cause { CountsFault (record {}) self.old.troubles.count self.new.troubles.count result }
-
-        ensures reader { ReadConsumes (R.remaining self.old.reader) (R.remaining self.new.reader) result buf.new }
     {
         match self.reader.read(buf) {
             Ok(count) => Ok(count),
@@ -70,7 +70,7 @@ impl<R: Read + Drop> Source for StdSource<R> {
     }
 }
 
-/// A writer, as standard output. What it takes is written to the writer.
+/// A writer, as standard output. What it takes is written to the writer. It tells what the writer tells.
 #[derive(Drop)]
 pub struct StdSink<W: Write + Drop> {
     writer: W,
@@ -80,7 +80,8 @@ pub struct StdSink<W: Write + Drop> {
 impl<W: Write + Drop> StdSink<W> {
     /// What is written goes to the writer.
     pub fn new(writer: W) -> StdSink<W>
-        ensures { result.troubles.count ≡ 0 }
+        ensures over { result.writer ≡ writer }
+        ensures none { result.troubles.count ≡ 0 }
     {
         StdSink {
             writer,
@@ -102,8 +103,8 @@ impl<W: Write + Drop> Troubled for StdSink<W> {
     }
 }
 
-impl<W: Write + Drop> Sink for StdSink<W> {
-    ghost written = { λ _. None };
+impl<W: SteadyWrite + Drop> Sink for StdSink<W> {
+    ghost written = { λ s. W.contents s.writer };
 
     ghost faults = { λ s. s.troubles.count };
 
@@ -111,10 +112,8 @@ impl<W: Write + Drop> Sink for StdSink<W> {
     fn write(&mut self, piece: &[u8]) -> Result<usize, SinkError>
         requires { 0 < length piece.now }
         ensures within { IfOk result (λ count. (0 < count) × (count ≤ length piece.now)) }
-        ensures bytes { Told {A = List ℕ} None None (λ old new. Writes old new piece.now result) }
+        ensures bytes { Told (W.contents self.old.writer) (W.contents self.new.writer) (λ old new. Writes old new piece.now result) }
         ensures cause { CountsFault SinkError.Failed self.old.troubles.count self.new.troubles.count result }
-
-        ensures writer { WriteAppends (W.contents self.old.writer) (W.contents self.new.writer) result piece.now }
     {
         let error = match self.writer.write(piece) {
             Ok(count) if count > 0 => return Ok(count),

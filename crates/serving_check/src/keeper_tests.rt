@@ -1,7 +1,8 @@
-//! Images as files: rights, links, and what is told of a failure, of the standard streams, too.
+//! Images as files: rights, links, locks, and what is told of a failure, of the standard streams, too.
+ghost use Rattle.std.specs.Prelude.{◌≡◌, Some, refl};
 
 use outside::{KeepError, Keeper, Sink, Source};
-use real_edge::{FileKeeper, StdSink, StdSource, Trouble, write_down};
+use real_edge::{FileKeeper, StdSink, StdSource, SteadyRead, SteadyWrite, Trouble, write_down};
 use std::alloc::{AllocError, Global};
 use std::cell::Cell;
 use std::fs::{self, Metadata, OpenFile, Permissions};
@@ -168,6 +169,64 @@ fn what_failed_is_told(rt: HostRuntime) -> Result<(), Fail> {
     Ok(())
 }
 
+/// Loads the images of these names by one keeper, and gives whether each is then one that another program has.
+fn are_held(rt: &HostRuntime, names: &[&str], wanted: &[&str]) -> Result<bool, AllocError> {
+    let mut keeper = FileKeeper::new(rt.alloc(), rt);
+    for name in names {
+        drop(keeper.load(name.as_bytes()));
+    }
+    let held = names
+        .iter()
+        .zip(wanted)
+        .try_fold(true, |held, (name, wanted)| {
+            tells(rt, name, wanted).map(|is_told| held && is_told)
+        });
+    drop(keeper);
+    held
+}
+
+#[test]
+fn a_keeper_has_each_lock_that_it_took(rt: HostRuntime) -> Result<(), Fail> {
+    let names = ["edge_first", "edge_second", "edge_nowhere/i", "edge_first"];
+    let held = [
+        "edge_first.lock is held by another program",
+        "edge_second.lock is held by another program",
+        "cannot lock edge_nowhere/i.lock: No such file or directory (os error 2)",
+        "edge_first.lock is held by another program",
+    ];
+    assert!(rt; are_held(&rt, &names, &held)?);
+    assert!(rt; tells(&rt, "edge_first", "")? && tells(&rt, "edge_second", "")?);
+    Ok(())
+}
+
+/// A source over bytes, which it tells.
+fn source_over(bytes: &[u8]) -> StdSource<&[u8]>
+    ensures { ⟦<StdSource<&[u8]> as Source>⟧.left result ≡ Some bytes.now }
+{
+    StdSource::new(bytes)
+}
+
+/// A sink over what was written, which it tells.
+fn sink_over(written: Vec<u8>) -> StdSink<Vec<u8>>
+    ensures { ⟦<StdSink<Vec<u8>> as Sink>⟧.written result ≡ Some written.items }
+{
+    StdSink::new(written)
+}
+
+#[test]
+fn streams_of_bytes_are_given_and_taken(rt: HostRuntime) -> Result<(), Fail> {
+    let mut input = source_over(b"text");
+    let mut piece = [0; 3];
+    let read = input.read(&mut piece);
+    drop(input);
+    assert!(rt; read.is_ok_and(|count| count == 3) && piece == *b"tex");
+    let mut output = sink_over(Vec::new(rt.alloc()));
+    let written = output.write(b"text");
+    drop(output);
+    assert!(rt; written.is_ok_and(|count| count == 4));
+    Ok(())
+}
+
 /// A stream that is a folder to read, and full to write.
 #[derive(Drop)]
 struct Broken;
@@ -186,6 +245,14 @@ impl Write for Broken {
     fn flush(&mut self) -> io::Result<()> {
         Ok(())
     }
+}
+
+impl SteadyRead for Broken {
+    ghost steady = { λ _ _ _. refl };
+}
+
+impl SteadyWrite for Broken {
+    ghost steady = { λ _ _ _. refl };
 }
 
 /// Whether this is what is told.
