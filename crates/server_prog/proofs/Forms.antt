@@ -1,8 +1,7 @@
 -- The forms of the words.
-use Rattle.std.proofs.Common.{◌≡◌, ◌≢◌, ◌⊎◌, ◌∙◌, ℕ, Bool, true, List, [], ◌∷◌, length, Option, None, Some, Result, Ok, Err, option_map, refl, sym, ap, subst, IsTrue}
-use Rattle.std.specs.Prelude.{IfSome, is_ok, if◌then◌else◌}
+use Rattle.std.proofs.Common.{◌≡◌, ◌≢◌, ◌⊎◌, ◌∙◌, ℕ, Bool, true, List, [], ◌∷◌, length, Option, None, Some, Ok, option_map, refl, sym, ap, subst, IsTrue}
+use Rattle.std.specs.Prelude.{IfSome, if◌then◌else◌}
 use Rattle.file_paths.specs.Path.{FilePath, path_of}
-use Rattle.file_paths.specs.declared.path.PathError.{PathError}
 use Rattle.outside.specs.Outside.{Rose, RisesWhere}
 use Rattle.server_prog.specs.declared.words.RunWords.{RunWords}
 use Rattle.server_prog.specs.declared.words.Form.{Form}
@@ -13,14 +12,6 @@ use Rattle.server_prog.specs.Run.{is_server_status, Objects, told_of, ServerRan,
 -- what the reader says of the words, by its form
 pub has_run : (words : List (List ℕ)) (form : Form) (run : RunWords) → form ≡ forms.Run run → HasForm words form → server_run_of words ≡ Some (run_said run)
 has_run words form run is has = (subst (HasForm words) is has).0
-
--- a text that is one of a path has it
-pub path_named : (text : List ℕ) → is_ok (path_of text) ≡ true → (path : FilePath) × (path_of text ≡ Ok path)
-path_named text ok = by (path_of text) refl ok
-  where
-    by : (read : Result FilePath PathError) → path_of text ≡ read → is_ok read ≡ true → (path : FilePath) × (path_of text ≡ Ok path)
-    by (Ok path) is ok = (path, is)
-    by (Err refused) is ok = absurd (cc ok)
 
 -- the words `prove IMAGE PATH`
 pub prove_is : (prove image text : List ℕ) (path : FilePath) → is_prove prove image ≡ true → path_of text ≡ Ok path → form_of (prove ∷ image ∷ text ∷ []) ≡ Some (Prove image path)

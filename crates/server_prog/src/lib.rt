@@ -3,7 +3,6 @@
 
 mod journal;
 mod laws;
-mod paths;
 mod program;
 mod reading;
 mod reasons;

@@ -42,7 +42,8 @@ fn tell_why<R: Eprint>(
         | Status::NoForm
         | Status::SourceFailed
         | Status::NoMemory
-        | Status::TooLong => tell_plainly(rt, NAME, status),
+        | Status::TooLong
+        | Status::Refused => tell_plainly(rt, NAME, status),
     }
 }
 

@@ -4,8 +4,8 @@ ghost use Rattle.std.specs.String.{string_bytes};
 ghost use Rattle.port_serving.specs.Words.{most_connections};
 ghost use Rattle.server_prog.specs.Words.{server_run_of, is_server_run, is_root, is_prove, run_said, form_of, HasForm};
 
-use crate::paths::is_path_text;
 use port_serving::connection_count;
+use program_words::is_path_text;
 
 /// What the words ask for.
 #[derive(Debug, Drop)]

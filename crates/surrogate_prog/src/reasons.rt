@@ -29,6 +29,7 @@ fn tell_why<R: Eprint>(rt: &R, status: Status, output: Option<&Trouble>) {
         | Status::KeeperFailed
         | Status::OtherImage
         | Status::NoMemory
-        | Status::TooLong => tell_plainly(rt, NAME, status),
+        | Status::TooLong
+        | Status::Refused => tell_plainly(rt, NAME, status),
     }
 }

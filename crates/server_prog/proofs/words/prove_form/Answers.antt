@@ -2,7 +2,8 @@ use Rattle.std.proofs.Common.{◌≡◌, ◌∙◌, true, List, ℕ, sym, ap}
 use Rattle.std.specs.Prelude.{is_ok}
 use Rattle.file_paths.specs.Path.{path_of}
 use Rattle.server_prog.specs.Words.{is_prove}
-use Rattle.server_prog.proofs.Forms.{path_named, prove_is}
+use Rattle.program_words.proofs.Naming.{path_named}
+use Rattle.server_prog.proofs.Forms.{prove_is}
 use Rattle.server_prog.proofs.words.prove_form.Goals as goal
 
 pub returns-then-is_path_text : goal.returns-then-is_path_text
