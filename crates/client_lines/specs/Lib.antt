@@ -1,0 +1,13 @@
+pub mod Beginning
+pub mod Completing
+pub mod Composing
+pub mod Contents
+pub mod Ending
+pub mod FirstRuns
+pub mod Headline
+pub mod Input
+pub mod InsideRun
+pub mod Laws
+pub mod Limits
+pub mod Opening
+pub mod Run
