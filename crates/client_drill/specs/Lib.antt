@@ -1,0 +1,5 @@
+pub mod Drill
+pub mod Drilled
+pub mod Ending
+pub mod Laws
+pub mod Limits
