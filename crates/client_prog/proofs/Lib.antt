@@ -1,16 +1,2 @@
-pub mod Composing
-pub mod Counting
-pub mod FirstRuns
-pub mod InputReading
-pub mod Quitting
-pub mod RunningAnswers
-pub mod RunningContents
-pub mod RunningEnds
-pub mod RunningInput
-pub mod RunningLeaves
-pub mod RunningLines
-pub mod RunningOpened
-pub mod RunningPeers
-pub mod RunningPieces
-pub mod RunningRecords
-pub mod Completing
+mod Checks
+mod Forms

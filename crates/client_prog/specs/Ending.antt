@@ -1,46 +1,43 @@
 -- What a run of the client is to the objects that it is given, by its status.
-use Rattle.std.specs.Prelude.{◌≡◌, ◌≢◌, ◌⊎◌, ◌↔◌, ℕ, ◌≤◌, List, length, None, IfSome, IsTrue}
-use Rattle.outside.specs.Outside.{Told, RisesWhere, Rose}
-use Rattle.mod_log.specs.Log.{Log}
-use Rattle.client_core.specs.declared.route.Route.{Route}
-use Rattle.client_core.specs.Keeping.{TellsKept, IsKeptOfNone}
-use Rattle.client_prog.specs.Limits.{max_input}
-use Rattle.client_prog.specs.Words.{run_of, form_of}
-use Rattle.client_prog.specs.Run.{is_status, route_of, IsInputRead}
-use Rattle.client_prog.specs.Headline.{Around, Ran, RanFromSome}
+use Rattle.std.specs.Prelude.{◌≡◌, ◌↔◌, ◌==◌, ℕ, Bool, List, [], ◌∷◌, None, IfSome, IsTrue}
+use Rattle.std.specs.List.{list_any}
+use Rattle.client_lines.specs.Headline.{Around}
+use Rattle.client_lines.specs.Ending.{Faults, SessionEnds}
+use Rattle.client_drill.specs.Ending.{DrillEnds}
+use Rattle.client_shelf.specs.Ending.{Moment, ShelveEnds}
+use Rattle.client_proof.specs.Ending.{CheckEnds}
+use Rattle.client_prog.specs.Words.{ClientForm, Run, Drill, Shelve, Check, form_of, route_of}
 
--- how often the source, the sink and the keeper failed
-pub record Faults : Type 0 where
-  pub source : ℕ
-  pub sink : ℕ
-  pub keeper : ℕ
+-- the statuses that a run may give
+abbrev pub is_status : ℕ → Bool
+is_status status = list_any (λ known. known == status) (0 ∷ 2 ∷ 3 ∷ 4 ∷ 5 ∷ 6 ∷ 7 ∷ 8 ∷ 9 ∷ [])
 
--- What the session of the client of this number leaves that ends with this status.
-pub record SessionEnds (number : ℕ) (route : Route) (status : ℕ) (old new : Around) (faults faults_now : Faults) : Type 0 where
-  pub known : IsTrue (is_status status)
-  pub formed : status ≢ 2
-  -- what is kept of no such client is left as it is, and nothing else is touched
-  pub unopened : status ≡ 6 → (new ≡ old) × (faults_now ≡ faults)
-  pub image : status ≡ 6 → (start : Log) → TellsKept old.images route.image number start → ⊥
-  pub no_image : IsKeptOfNone old.images route.image number → (status ≡ 5) ⊎ (status ≡ 6) ⊎ (status ≡ 7)
-  -- no count of faults or troubles falls
-  pub later : old.link.troubles ≤ new.link.troubles
-  pub runner_later : old.runner.faults ≤ new.runner.faults
-  -- the source failed once where that ended the session, and else never; and so did the sink and the keeper
-  pub source : RisesWhere (status ≡ 3) faults.source faults_now.source
-  pub sink : RisesWhere (status ≡ 4) faults.sink faults_now.sink
-  pub keeper : RisesWhere (status ≡ 5) faults.keeper faults_now.keeper
-  pub input : Told old.left new.left (IsInputRead status)
-  pub complete : IfSome old.left (λ bytes. (start : Log) → TellsKept old.images route.image number start → length bytes ≤ max_input
-      → (Rose faults.source faults_now.source → ⊥) → (Rose faults.sink faults_now.sink → ⊥)
-      → (Rose faults.keeper faults_now.keeper → ⊥) → (status ≡ 0) ⊎ (status ≡ 7))
-  -- over any keeper: from some log that it opened, if it opened one
-  pub begun : RanFromSome number route old new status
-  pub session : (start : Log) → TellsKept old.images route.image number start → Ran number route start old new status
+-- what a shelving looks at of what is around a run
+abbrev pub moment : Around → Faults → Moment
+moment around faults = record {
+  written = around.written;
+  stands = record { images = around.images; link = around.link };
+  sink_faults = faults.sink;
+  keeper_faults = faults.keeper;
+}
+
+-- What the words of a form leave. A drill touches the sink alone; a shelving neither source nor runner; a check source and sink alone.
+abbrev pub EndsAs : ClientForm → ℕ → Around → Around → Faults → Faults → Type 0
+EndsAs (Run run) status old new faults faults_now = SessionEnds run.client (route_of run) status old new faults faults_now
+EndsAs (Drill drill) status old new faults faults_now =
+    DrillEnds drill.seed drill.count status old.written new.written faults.sink faults_now.sink
+    × (new ≡ record old { written = new.written }) × (faults_now ≡ record faults { sink = faults_now.sink })
+EndsAs (Shelve asked) status old new faults faults_now =
+    ShelveEnds asked status (moment old faults) (moment new faults_now)
+    × (new.left ≡ old.left) × (new.runner ≡ old.runner) × (faults_now.source ≡ faults.source)
+EndsAs (Check check) status old new faults faults_now =
+    CheckEnds check.root check.path status old.left new.left old.written new.written
+    (record { source = faults.source; sink = faults.sink }) (record { source = faults_now.source; sink = faults_now.sink })
+    × (new ≡ record old { left = new.left; written = new.written }) × (faults_now.keeper ≡ faults.keeper)
 
 -- What a run of the client on these words leaves that ends with this status.
 pub record ClientEnds (words : List (List ℕ)) (status : ℕ) (old new : Around) (faults faults_now : Faults) : Type 0 where
   pub form : status ≡ 2 ↔ form_of words ≡ None
   pub known : IsTrue (is_status status)
   pub untouched : form_of words ≡ None → (new ≡ old) × (faults_now ≡ faults)
-  pub session : IfSome (run_of words) (λ run. SessionEnds run.client (route_of run) status old new faults faults_now)
+  pub ends : IfSome (form_of words) (λ form. EndsAs form status old new faults faults_now)

@@ -1,15 +1,3 @@
-pub mod Beginning
-pub mod Composing
-pub mod Contents
-pub mod FirstRuns
-pub mod Headline
-pub mod Input
-pub mod Inside
-pub mod InsideRun
-pub mod Laws
-pub mod Limits
-pub mod Opening
-pub mod Run
-pub mod Words
 pub mod Ending
-pub mod Completing
+pub mod Inside
+pub mod Words

@@ -4,7 +4,7 @@ ghost use Rattle.std.specs.String.{string_bytes};
 ghost use Rattle.std.specs.Process.{exit_status};
 ghost use Rattle.program_words.specs.Pages.{page_asked};
 ghost use Rattle.client_prog.specs.Words.{form_of};
-ghost use Rattle.client_prog.specs.Run.{is_status};
+ghost use Rattle.client_prog.specs.Ending.{is_status};
 
 use crate::reasons::{Failures, end_shown, end_told};
 use crate::run::client_run;
@@ -14,10 +14,11 @@ use cmd_capture::Runner;
 use outside::{Sink, Source};
 use program_words::{Pages, checked_words, end_plainly, given_words, hold_places, page_shown};
 use real_edge::{
-    ClientTeller, FileKeeper, Prompting, StdSink, StdSource, TcpLink, Terminals, Troubled,
+    ClientTeller, FileKeeper, Prompting, StdSink, StdSource, SteadyRead, TcpLink, Terminals,
+    Troubled,
 };
 use std::fs::File;
-use std::io::{self, Read};
+use std::io;
 use std::net::Net;
 use std::process::{ExitCode, Processes};
 use std::rt::{Env, Files};
@@ -27,8 +28,11 @@ use world_rules::Link;
 
 const HELP: &str = "\
 Usage: client run NUMBER IMAGE SERVER SURROGATE WORK
+       client shelve NUMBER IMAGE NEW NEWIMAGE SERVER FOLDER
+       client check ROOT PATH
+       client drill SEED COUNT
 
-Reads lines from standard input and answers each on standard output:
+'run' reads lines from standard input and answers each on standard output:
   put PATH TEXT   writes TEXT and a line end to the file PATH
   mkdir PATH      makes a folder
   rm PATH         removes a file or an empty folder
@@ -91,6 +95,34 @@ removed behind it. Name the same WORK to the client and to its surrogate, on one
 machine too: a program is run in the same place then, so that what it makes is
 the same where it names that place.
 
+'shelve' sets aside what client NUMBER cannot sync, where an answer like 'stale'
+comes again and again: client NEW, which is new, pulls the server's files into
+NEWIMAGE, and logs each content that the waiting entries of IMAGE put as a file
+FOLDER/S.I, S being the entry's number and I that of the change in it, from 0.
+IMAGE stays as it is. Each of them is told, and at last the numbers of both:
+  f S.I PATH        the file has what entry S put at PATH
+  shelved E entries F files
+                    E entries wait in IMAGE; go on with NEW and NEWIMAGE, whose
+                    'sync' sends the files
+  refused FAULT     nothing was set aside: there is no IMAGE (NoImage), NEWIMAGE
+                    is in use (NewImage), nothing waits (NothingPending), or
+                    FOLDER cannot be made
+
+'check' reads a certificate from standard input, as 'server prove' writes it,
+and checks it against ROOT, the 64 digits that 'server root' writes:
+  row VERSION file LEN HEX
+                    PATH is a file of LEN bytes, with the SHA-256 HEX; 'program'
+                    stands for 'file' where it may be run
+  row VERSION folder, row VERSION none
+                    PATH is a folder, or was removed
+  no row            nothing ever stood at PATH
+  refused BadCert N, refused OtherPath P, refused WrongRoot HEX
+                    it is no certificate, one of another path, or of other files
+
+'drill' makes a large run from the number SEED, 0 to 65535, of COUNT steps, 1 to
+1000, works it off over a bad network in memory, and tells what came of it. No
+server is needed, and no file is touched.
+
 Standard error has what belongs to no answer: what a program prints as it runs,
 why a program was not run, which way each entry with a command went at 'sync',
 and why the client ends with a status that is not 0. Where standard error is a
@@ -102,9 +134,13 @@ Examples:
   client run 1 client.image 127.0.0.1:7001 - work
   client run 1 client.image 127.0.0.1:7001 127.0.0.1:7002 /var/tmp/haurpiko
   client run 1 client.image server:7001 near:7002,far:7002 /var/tmp/haurpiko
+  client shelve 1 client.image 3 third.image server:7001 rescued
+  server prove server.image d/a | client check $(server root server.image) d/a
+  client drill 1 100
 
 The client ends with one of these statuses:
-  0  the input was read to its end or to 'quit', and every line was answered
+  0  the input was read to its end or to 'quit', and every line was answered;
+     or all was written that the other words write
   2  the words have another form
   3  standard input failed
   4  standard output failed
@@ -113,6 +149,7 @@ The client ends with one of these statuses:
   6  IMAGE is no client's, or another number's; nothing was touched
   7  memory ran out
   8  the input has more than 16777216 bytes
+  9  'check' refused the certificate
 
 Options:
   --help      shows this text
@@ -139,6 +176,8 @@ pub(crate) const NAME: &str = "client";
 pub fn client_program<
     R: Input + Print + Eprint + AllocGlobal + Env + Files<File = File> + Processes + Net + Clock,
 >(rt: &R, terminals: Terminals) -> ExitCode
+where
+    R::Reader: SteadyRead,
     ensures { IsTrue (is_status (exit_status result)) }
 {
     match checked_words(given_words(rt)) {
@@ -156,6 +195,8 @@ pub fn client_program<
 pub fn client_main<
     R: Input + Print + Eprint + AllocGlobal + Files<File = File> + Processes + Net + Clock,
 >(rt: &R, terminals: Terminals, words: &[String]) -> ExitCode
+where
+    R::Reader: SteadyRead,
     ensures form { exit_status result ≡ 2 ↔ (page_asked (map string_bytes words.now) ≡ None)
         × (form_of (map string_bytes words.now) ≡ None) }
     ensures known { IsTrue (is_status (exit_status result)) }
@@ -176,6 +217,8 @@ fn run_client<
     R: Input + Eprint + AllocGlobal + Files<File = File> + Processes + Net + Clock,
     O: Sink + Troubled,
 >(rt: &R, terminals: Terminals, words: &[String], output: &mut O) -> ExitCode
+where
+    R::Reader: SteadyRead,
     ensures form { exit_status result ≡ 2 ↔ form_of (map string_bytes words.now) ≡ None }
     ensures known { IsTrue (is_status (exit_status result)) }
 {
@@ -186,7 +229,7 @@ fn run_client<
 /// The same over what this reader gives.
 fn run_over<
     R: Eprint + AllocGlobal + Files<File = File> + Processes + Net + Clock,
-    I: Read + Drop,
+    I: SteadyRead + Drop,
     O: Sink + Troubled,
 >(rt: &R, terminals: Terminals, words: &[String], reader: I, output: &mut O) -> ExitCode
     ensures form { exit_status result ≡ 2 ↔ form_of (map string_bytes words.now) ≡ None }
@@ -244,6 +287,6 @@ fn clear_work<R: AllocGlobal + Files<File = File> + Processes + Clock + Eprint>(
         Some(Form::Run(run)) => {
             let _cleared = runner.clear(run.work);
         }
-        None => {}
+        Some(Form::Drill(_) | Form::Shelve(_) | Form::Check(_)) | None => {}
     }
 }

@@ -3,9 +3,9 @@ ghost use Rattle.std.specs.Prelude.{◌≡◌};
 ghost use Rattle.std.specs.Process.{exit_status};
 ghost use Rattle.program_words.specs.Status.{code};
 
-use crate::input::MAX_INPUT;
 use crate::program::NAME;
-use crate::words::run_words;
+use crate::words::{Form, form_of};
+use client_lines::MAX_INPUT;
 use program_words::{Status, end, tell_plainly};
 use real_edge::{StdSink, Trouble, tell_trouble};
 use std::io::Write;
@@ -58,6 +58,7 @@ fn tell_why<R: Eprint>(rt: &R, words: &[String], status: Status, failures: &Fail
         Status::KeeperFailed => tell_trouble(rt, NAME, failures.keeper),
         Status::OtherImage => tell_image(rt, words),
         Status::TooLong => tell_length(rt),
+        Status::Refused => tell_refused(rt),
         Status::Done | Status::CannotListen | Status::NoForm | Status::NoMemory => {
             tell_plainly(rt, NAME, status);
         }
@@ -66,10 +67,12 @@ fn tell_why<R: Eprint>(rt: &R, words: &[String], status: Status, failures: &Fail
 
 /// Tells that the image of the words is none of this client's.
 fn tell_image<R: Eprint>(rt: &R, words: &[String]) {
-    let Some(run) = run_words(words) else {
-        return;
+    let image = match form_of(words) {
+        Some(Form::Run(run)) => run.image,
+        Some(Form::Shelve(asked)) => asked.image,
+        Some(Form::Drill(_) | Form::Check(_)) | None => return,
     };
-    if let Ok(image) = str::from_utf8(run.image) {
+    if let Ok(image) = str::from_utf8(image) {
         let _ = eprintln!(rt; "{NAME}: {image} is no client's image, or another number's");
     }
 }
@@ -77,4 +80,9 @@ fn tell_image<R: Eprint>(rt: &R, words: &[String]) {
 /// Tells that the input is too long.
 fn tell_length<R: Eprint>(rt: &R) {
     let _ = eprintln!(rt; "{NAME}: the input has more than {MAX_INPUT} bytes");
+}
+
+/// Tells that the certificate was refused; standard output says why.
+fn tell_refused<R: Eprint>(rt: &R) {
+    let _ = eprintln!(rt; "{NAME}: the certificate was refused");
 }

@@ -1,401 +1,28 @@
-// A run of the client over its input.
-ghost use Rattle.std.specs.Prelude.{◌≡◌, ◌≢◌, ◌≤◌, ◌∷◌, ℕ, [], false, Ok, Err, IfOk, OnOk, OnErr, IsTrue, take, map};
+// A run of the client: what its words ask for.
+ghost use Rattle.std.specs.Prelude.{◌≡◌, ◌≤◌, Ok, IfOk, map};
 ghost use Rattle.std.specs.Option.{option_copied};
 ghost use Rattle.std.specs.String.{string_bytes};
-ghost use Rattle.outside.specs.Outside.{Adds, CountsFault, RisesWhere};
 ghost use Rattle.wire_frames.specs.Limits.{max_client};
-ghost use Rattle.client_core.specs.Keeping.{IsKeptReady};
-ghost use Rattle.shell_lang.specs.Lines.{whole_lines, last_line};
-ghost use Rattle.shell_lang.specs.Commands.{read_line};
-ghost use Rattle.client_prog.specs.Input.{last_at};
-ghost use Rattle.client_session.specs.Session.{IsText, state_of};
-ghost use Rattle.client_prog.specs.Opening.{status_unopened};
-ghost use Rattle.client_prog.specs.Run.{status_of, is_status, route_of, is_quit, quits, has_quit, up_to_quit, end_of};
-ghost use Rattle.client_prog.specs.Run.{closing_line, closing_at};
-ghost use Rattle.client_prog.specs.Inside.{run_said};
-ghost use Rattle.client_prog.specs.Ending.{SessionEnds, ClientEnds};
-ghost use Rattle.client_session.specs.Doing.{beside};
 ghost use Rattle.cmd_capture.specs.Runs.{telling};
-ghost use Rattle.client_prog.specs.InsideRun.{WentNoting, AnswersLines, HasUnfinished, TakesInput, AnswersInput, RunAnswers};
+ghost use Rattle.file_paths.specs.Path.{FilePath, path_of};
+ghost use Rattle.client_lines.specs.Ending.{SessionEnds};
+ghost use Rattle.client_proof.specs.Ending.{CheckEnds};
+ghost use Rattle.client_prog.specs.Words.{route_of};
+ghost use Rattle.client_prog.specs.Ending.{ClientEnds};
+ghost use Rattle.client_prog.specs.Inside.{run_said};
 
-use crate::input::{InputEnd, LineReader};
-use crate::opening::{Unopened, open};
-use crate::words::{Form, RunWords, form_of};
+use crate::words::{CheckWords, Form, RunWords, form_of};
 use client_core::Route;
-use client_session::Session;
+use client_drill::drill;
+use client_lines::session_run;
+use client_proof::check_run;
+use client_shelf::shelve;
 use cmd_capture::Runner;
-use outside::{KeepError, Keeper, Sink, SinkError, Source, write_all};
+use outside::{Keeper, Sink, Source};
 use program_words::Status;
-use shell_lang::{Line, LineAnswer, LineError, has_no_memory, read_line, text_of};
 use std::alloc::{AllocError, Global};
-use vol_tree::Content;
+use vol_tree::{Content, Path};
 use world_rules::Link;
-
-/// What stops a run before its last answer.
-#[derive(Clone, Copy, Debug, PartialEq, Eq)]
-pub enum Stop {
-    /// The sink failed.
-    Sink,
-    /// The keeper failed.
-    Keeper,
-    /// Memory ran out.
-    Memory,
-}
-
-impl From<AllocError> for Stop {
-    ghost use Rattle.std.specs.Prelude.{◌≡◌};
-    ghost use Rattle.client_prog.specs.declared.run.Stop.TheVariants.{Memory};
-
-    ghost from_gives = { λ _ stop. stop ≡ Memory };
-
-    fn from(_: AllocError) -> Stop {
-        Stop::Memory
-    }
-}
-
-impl From<SinkError> for Stop {
-    ghost use Rattle.std.specs.Prelude.{◌≡◌};
-    ghost use Rattle.client_prog.specs.Run.{stop_of};
-
-    ghost from_gives = { λ refused stop. stop ≡ stop_of refused };
-
-    fn from(refused: SinkError) -> Stop {
-        match refused {
-            SinkError::Failed => Stop::Sink,
-            SinkError::Memory => Stop::Memory,
-        }
-    }
-}
-
-impl From<KeepError> for Stop {
-    ghost use Rattle.std.specs.Prelude.{◌≡◌};
-    ghost use Rattle.client_prog.specs.Run.{stop_by};
-
-    ghost from_gives = { λ refused stop. stop ≡ stop_by refused };
-
-    fn from(refused: KeepError) -> Stop {
-        match refused {
-            KeepError::Failed => Stop::Keeper,
-            KeepError::Memory => Stop::Memory,
-        }
-    }
-}
-
-/// The status of a run whose input ended so, or that was stopped before.
-fn status_of(ended: Result<InputEnd, Stop>) -> u8
-    ensures status { result ≡ status_of ended }
-    ensures known { IsTrue (is_status result) }
-{
-    let status = match ended {
-        Ok(InputEnd::Read) => Status::Done,
-        Ok(InputEnd::Failed) => Status::SourceFailed,
-        Ok(InputEnd::TooLong) => Status::TooLong,
-        Err(Stop::Sink) => Status::SinkFailed,
-        Err(Stop::Keeper) => Status::KeeperFailed,
-        Err(Stop::Memory) => Status::NoMemory,
-    };
-    status.code()
-}
-
-/// What a line asks for, or why it is refused. Want of memory is the only error.
-fn asked(alloc: Global, line: &[u8]) -> Result<Result<Line, LineError>, AllocError>
-    ensures { IfOk result (λ asked. asked ≡ read_line line.now) }
-{
-    match read_line(alloc, line) {
-        Err(LineError::Memory) => Err(AllocError),
-        asked => Ok(asked),
-    }
-}
-
-/// Whether a line asks for the end of the session.
-fn is_quit(asked: &Result<Line, LineError>) -> bool
-    ensures { result ≡ is_quit asked.now }
-{
-    matches!(asked, Ok(Line::Quit))
-}
-
-/// The text of an answer, and none where there is no answer. An answer that is want of memory has no text.
-fn text(alloc: Global, answer: Option<LineAnswer>) -> Result<Vec<u8>, AllocError>
-    ensures { IfOk result (λ text. IsText answer text.items) }
-{
-    let Some(answer) = answer else {
-        return Ok(Vec::new(alloc));
-    };
-    if !has_no_memory(&answer) {
-        drop(answer);
-        return Err(AllocError);
-    }
-    let text = text_of(alloc, &answer);
-    drop(answer);
-    text
-}
-
-/// Does what a line asks for, writes its answer, and says whether it quits.
-fn answer<O: Sink, K: Keeper, R: Runner, L: Link>(
-    alloc: Global,
-    route: &Route,
-    session: &mut Session,
-    line: &[u8],
-    output: &mut O,
-    keeper: &mut K,
-    runner: &mut R,
-    link: &mut L,
-) -> Result<bool, Stop>
-    requires { IsKeptReady (K.images keeper.old) route.now.image session.old.client }
-    ensures did { WentNoting route.now result (AnswersLines route.now (state_of session.old) (line.now ∷ []) (O.written output.old)
-        (O.written output.new) result (state_of session.new)) session.old session.new (K.images keeper.old)
-        (K.images keeper.new)
-        (beside (L.tells link.old) (telling (R.runs runner.old) (R.faults runner.old)))
-        (beside (L.tells link.new) (telling (R.runs runner.new) (R.faults runner.new))) }
-    ensures quit { IfOk result (λ quit. quit ≡ quits line.now) }
-    ensures kept { IfOk result (λ done. IsKeptReady (K.images keeper.new) route.now.image session.new.client) }
-    ensures later { (L.tells link.old).troubles ≤ (L.tells link.new).troubles }
-    ensures runner_later { R.faults runner.old ≤ R.faults runner.new }
-    ensures cause { CountsFault Stop.Sink (O.faults output.old) (O.faults output.new) result }
-    ensures keeper { CountsFault Stop.Keeper (K.faults keeper.old) (K.faults keeper.new) result }
-{
-    let asked = asked(alloc, line)?;
-    let quit = is_quit(&asked);
-    let answer = session.answer(alloc, route, asked, link, keeper, runner)?;
-    let text = text(alloc, answer)?;
-    write_all(output, &text)?;
-    Ok(quit)
-}
-
-/// Answers the lines that are there, up to the last line end or the first that quits, and says whether one quits.
-fn answer_lines<O: Sink, K: Keeper, R: Runner, L: Link>(
-    alloc: Global,
-    route: &Route,
-    session: &mut Session,
-    reader: &mut LineReader,
-    output: &mut O,
-    keeper: &mut K,
-    runner: &mut R,
-    link: &mut L,
-) -> Result<bool, Stop>
-    requires { IsKeptReady (K.images keeper.old) route.now.image session.old.client }
-    ensures did { WentNoting route.now result (AnswersLines route.now (state_of session.old) (up_to_quit (whole_lines reader.old.bytes))
-        (O.written output.old) (O.written output.new) result (state_of session.new)) session.old session.new (K.images keeper.old)
-        (K.images keeper.new) (beside (L.tells link.old) (telling (R.runs runner.old) (R.faults runner.old)))
-        (beside (L.tells link.new) (telling (R.runs runner.new) (R.faults runner.new))) }
-    ensures quit { IfOk result (λ quit. quit ≡ has_quit (whole_lines reader.old.bytes)) }
-    ensures left { IfOk result (λ quit. quit ≡ false → HasUnfinished reader.old reader.new) }
-    ensures kept { IfOk result (λ done. IsKeptReady (K.images keeper.new) route.now.image session.new.client) }
-    ensures later { (L.tells link.old).troubles ≤ (L.tells link.new).troubles }
-    ensures runner_later { R.faults runner.old ≤ R.faults runner.new }
-    ensures cause { CountsFault Stop.Sink (O.faults output.old) (O.faults output.new) result }
-    ensures keeper { CountsFault Stop.Keeper (K.faults keeper.old) (K.faults keeper.new) result }
-{
-    while let Some(line) = reader.first_line() {
-        let end = line.len() + 1;
-        let quit = answer(alloc, route, session, line, output, keeper, runner, link)?;
-        if quit {
-            return Ok(true);
-        }
-        reader.pass(end);
-    }
-    Ok(false)
-}
-
-/// Reads the input piece by piece up to a line that quits, and answers the lines of each piece before it reads on.
-fn answer_input<I: Source, O: Sink, K: Keeper, R: Runner, L: Link>(
-    alloc: Global,
-    route: &Route,
-    session: &mut Session,
-    input: &mut I,
-    output: &mut O,
-    keeper: &mut K,
-    runner: &mut R,
-    link: &mut L,
-) -> Result<InputEnd, Stop>
-    requires { IsKeptReady (K.images keeper.old) route.now.image session.old.client }
-    ensures did { WentNoting route.now result
-        (AnswersInput route.now (state_of session.old) (I.left input.old) (I.left input.new) (O.written output.old)
-        (O.written output.new) result (state_of session.new)) session.old session.new (K.images keeper.old)
-        (K.images keeper.new)
-        (beside (L.tells link.old) (telling (R.runs runner.old) (R.faults runner.old)))
-        (beside (L.tells link.new) (telling (R.runs runner.new) (R.faults runner.new))) }
-    ensures input { TakesInput (I.left input.old) (I.left input.new) result }
-    ensures kept { IfOk result (λ done. IsKeptReady (K.images keeper.new) route.now.image session.new.client) }
-    ensures later { (L.tells link.old).troubles ≤ (L.tells link.new).troubles }
-    ensures runner_later { R.faults runner.old ≤ R.faults runner.new }
-    ensures source { RisesWhere (result ≡ Ok InputEnd.Failed) (I.faults input.old) (I.faults input.new) }
-    ensures cause { CountsFault Stop.Sink (O.faults output.old) (O.faults output.new) result }
-    ensures keeper { CountsFault Stop.Keeper (K.faults keeper.old) (K.faults keeper.new) result }
-{
-    let mut reader = LineReader::new(alloc);
-    loop {
-        let end = reader.read_piece(input)?;
-        if let Some(InputEnd::Failed) = end {
-            return Ok(InputEnd::Failed);
-        }
-        let quit = answer_lines(
-            alloc,
-            route,
-            session,
-            &mut reader,
-            output,
-            keeper,
-            runner,
-            link,
-        )?;
-        if quit {
-            return Ok(InputEnd::Read);
-        }
-        if let Some(end) = end {
-            answer_last(
-                alloc, route, session, &reader, end, output, keeper, runner, link,
-            )?;
-            return Ok(end);
-        }
-    }
-}
-
-/// At the end of the input answers the bytes behind its last line end, where there are any.
-fn answer_last<O: Sink, K: Keeper, R: Runner, L: Link>(
-    alloc: Global,
-    route: &Route,
-    session: &mut Session,
-    reader: &LineReader,
-    end: InputEnd,
-    output: &mut O,
-    keeper: &mut K,
-    runner: &mut R,
-    link: &mut L,
-) -> Result<(), Stop>
-    requires { IsKeptReady (K.images keeper.old) route.now.image session.old.client }
-    ensures did { WentNoting route.now result
-        (AnswersLines route.now (state_of session.old) (last_at end reader.now.bytes) (O.written output.old)
-        (O.written output.new) result (state_of session.new)) session.old session.new (K.images keeper.old)
-        (K.images keeper.new)
-        (beside (L.tells link.old) (telling (R.runs runner.old) (R.faults runner.old)))
-        (beside (L.tells link.new) (telling (R.runs runner.new) (R.faults runner.new))) }
-    ensures kept { IfOk result (λ done. IsKeptReady (K.images keeper.new) route.now.image session.new.client) }
-    ensures later { (L.tells link.old).troubles ≤ (L.tells link.new).troubles }
-    ensures runner_later { R.faults runner.old ≤ R.faults runner.new }
-    ensures cause { CountsFault Stop.Sink (O.faults output.old) (O.faults output.new) result }
-    ensures keeper { CountsFault Stop.Keeper (K.faults keeper.old) (K.faults keeper.new) result }
-{
-    match end {
-        InputEnd::Read => answer_unfinished(
-            alloc,
-            route,
-            session,
-            reader.bytes(),
-            output,
-            keeper,
-            runner,
-            link,
-        ),
-        InputEnd::Failed | InputEnd::TooLong => Ok(()),
-    }
-}
-
-/// Answers a line without an end, which is none where it has no bytes.
-fn answer_unfinished<O: Sink, K: Keeper, R: Runner, L: Link>(
-    alloc: Global,
-    route: &Route,
-    session: &mut Session,
-    line: &[u8],
-    output: &mut O,
-    keeper: &mut K,
-    runner: &mut R,
-    link: &mut L,
-) -> Result<(), Stop>
-    requires { IsKeptReady (K.images keeper.old) route.now.image session.old.client }
-    ensures did { WentNoting route.now result (AnswersLines route.now (state_of session.old) (last_line line.now) (O.written output.old)
-        (O.written output.new) result (state_of session.new)) session.old session.new (K.images keeper.old)
-        (K.images keeper.new)
-        (beside (L.tells link.old) (telling (R.runs runner.old) (R.faults runner.old)))
-        (beside (L.tells link.new) (telling (R.runs runner.new) (R.faults runner.new))) }
-    ensures kept { IfOk result (λ done. IsKeptReady (K.images keeper.new) route.now.image session.new.client) }
-    ensures later { (L.tells link.old).troubles ≤ (L.tells link.new).troubles }
-    ensures runner_later { R.faults runner.old ≤ R.faults runner.new }
-    ensures cause { CountsFault Stop.Sink (O.faults output.old) (O.faults output.new) result }
-    ensures keeper { CountsFault Stop.Keeper (K.faults keeper.old) (K.faults keeper.new) result }
-{
-    if line.is_empty() {
-        return Ok(());
-    }
-    answer(alloc, route, session, line, output, keeper, runner, link)?;
-    Ok(())
-}
-
-/// Writes the line that ends the output, where the input was read to its end.
-fn close<O: Sink>(
-    alloc: Global,
-    session: &Session,
-    end: InputEnd,
-    output: &mut O,
-) -> Result<(), Stop>
-    ensures all { OnOk result (Adds (O.written output.old) (O.written output.new) (closing_at end (state_of session.now))) }
-    ensures front { OnErr result ((end ≡ InputEnd.Read) × ((count : ℕ)
-        × Adds (O.written output.old) (O.written output.new) (take count (closing_line (state_of session.now))))) }
-    ensures cause { CountsFault Stop.Sink (O.faults output.old) (O.faults output.new) result }
-    ensures keeper { result ≢ Err Stop.Keeper }
-{
-    match end {
-        InputEnd::Read => {
-            let text = closing(alloc, session)?;
-            write_all(output, &text)?;
-            Ok(())
-        }
-        InputEnd::Failed | InputEnd::TooLong => Ok(()),
-    }
-}
-
-/// The line that ends the output.
-fn closing(alloc: Global, session: &Session) -> Result<Vec<u8>, AllocError>
-    ensures { IfOk result (λ text. text.items ≡ closing_line (state_of session.now)) }
-{
-    let status = session.status();
-    let text = text_of(alloc, &status);
-    drop(status);
-    text
-}
-
-/// Answers the input of a client, and closes the output.
-fn run<I: Source, O: Sink, K: Keeper, R: Runner, L: Link>(
-    alloc: Global,
-    session: &mut Session,
-    route: &Route,
-    input: &mut I,
-    output: &mut O,
-    keeper: &mut K,
-    runner: &mut R,
-    link: &mut L,
-) -> Result<InputEnd, Stop>
-    requires { IsKeptReady (K.images keeper.old) route.now.image session.old.client }
-    ensures did { WentNoting route.now result
-        (RunAnswers route.now (state_of session.old) (I.left input.old) (I.left input.new) (O.written output.old)
-        (O.written output.new) result (state_of session.new)) session.old session.new (K.images keeper.old)
-        (K.images keeper.new)
-        (beside (L.tells link.old) (telling (R.runs runner.old) (R.faults runner.old)))
-        (beside (L.tells link.new) (telling (R.runs runner.new) (R.faults runner.new))) }
-    ensures input { TakesInput (I.left input.old) (I.left input.new) result }
-    ensures later { (L.tells link.old).troubles ≤ (L.tells link.new).troubles }
-    ensures runner_later { R.faults runner.old ≤ R.faults runner.new }
-    ensures source { RisesWhere (result ≡ Ok InputEnd.Failed) (I.faults input.old) (I.faults input.new) }
-    ensures sink { CountsFault Stop.Sink (O.faults output.old) (O.faults output.new) result }
-    ensures keeper { CountsFault Stop.Keeper (K.faults keeper.old) (K.faults keeper.new) result }
-{
-    let end = answer_input(alloc, route, session, input, output, keeper, runner, link)?;
-    close(alloc, session, end, output)?;
-    Ok(end)
-}
-
-/// The status of a run that has no client to begin with.
-fn status_unopened(unopened: Unopened) -> u8
-    ensures status { result ≡ status_unopened unopened }
-    ensures known { IsTrue (is_status result) }
-{
-    let status = match unopened {
-        Unopened::Keeper => Status::KeeperFailed,
-        Unopened::Image => Status::OtherImage,
-        Unopened::Memory => Status::NoMemory,
-    };
-    status.code()
-}
 
 /// Where the client's image, peers and commands are, by the words of a run.
 fn route_of(alloc: Global, words: &RunWords<'_>) -> Result<Route, AllocError>
@@ -416,73 +43,6 @@ fn address(alloc: Global, word: Option<&[u8]>) -> Result<Option<Content>, AllocE
     match word {
         Some(address) => Ok(Some(Content::of(alloc, address)?)),
         None => Ok(None),
-    }
-}
-
-/// Runs the session of the client of this number: opens what is kept of it, reads lines, answers each before it reads on, and ships
-/// what they log to the server, or, where the route has a surrogate, as an operation to that. The client is kept after each change,
-/// before the line is answered and before more is asked. Its commands are run by the runner, in the work folder of the route.
-/// The status that it gives:
-///
-/// - 0: every line was answered, up to the first that quits where one does, and the output ends with
-///   `acknowledged A pending P`;
-/// - 3: the source failed; the whole lines before were answered, and none of them quits;
-/// - 4: the sink failed;
-/// - 5: the keeper failed; the last line that was handled is not answered;
-/// - 6: what is kept is no client's image, or another client's, and nothing was touched;
-/// - 7: memory ran out;
-/// - 8: the input has more than 16,777,216 bytes; the whole lines within them were answered, and none of them quits.
-pub fn session_run<I: Source, O: Sink, K: Keeper, R: Runner, L: Link>(
-    alloc: Global,
-    number: u8,
-    route: &Route,
-    input: &mut I,
-    output: &mut O,
-    keeper: &mut K,
-    runner: &mut R,
-    link: &mut L,
-) -> u8
-    requires low { 1 ≤ number }
-    requires high { number ≤ max_client }
-    ensures { SessionEnds number route.now result (record {
-      left = I.left input.old;
-      written = O.written output.old;
-      images = K.images keeper.old;
-      runner = telling (R.runs runner.old) (R.faults runner.old);
-      link = L.tells link.old;
-    }) (record {
-      left = I.left input.new;
-      written = O.written output.new;
-      images = K.images keeper.new;
-      runner = telling (R.runs runner.new) (R.faults runner.new);
-      link = L.tells link.new;
-    }) (record {
-      source = I.faults input.old;
-      sink = O.faults output.old;
-      keeper = K.faults keeper.old;
-    }) (record {
-      source = I.faults input.new;
-      sink = O.faults output.new;
-      keeper = K.faults keeper.new;
-    }) }
-{
-    match open(alloc, number, route.image.bytes(), keeper) {
-        Ok(client) => {
-            let mut session = Session::new(alloc, client);
-            let ended = run(
-                alloc,
-                &mut session,
-                route,
-                input,
-                output,
-                keeper,
-                runner,
-                link,
-            );
-            drop(session);
-            status_of(ended)
-        }
-        Err(unopened) => status_unopened(unopened),
     }
 }
 
@@ -531,6 +91,34 @@ fn run_words_session<I: Source, O: Sink, K: Keeper, R: Runner, L: Link>(
     }
 }
 
+/// Checks the certificate that the input holds against the root of the words, for their path.
+fn check_by_words<I: Source, O: Sink>(
+    alloc: Global,
+    words: &CheckWords<'_>,
+    input: &mut I,
+    output: &mut O,
+) -> u8
+    ensures { (path : FilePath) → path_of words.now.path.now ≡ Ok path
+        → CheckEnds words.now.root path result (I.left input.old) (I.left input.new) (O.written output.old) (O.written output.new)
+        (record {
+          source = I.faults input.old;
+          sink = O.faults output.old;
+        })
+        (record {
+          source = I.faults input.new;
+          sink = O.faults output.new;
+        }) }
+{
+    match Path::read(alloc, words.path) {
+        Ok(path) => {
+            let status = check_run(alloc, &words.root, &path, input, output);
+            drop(path);
+            status
+        }
+        Err(_refused) => Status::NoMemory.code(),
+    }
+}
+
 /// Runs the client on its words: what their form asks for, which is read before anything is opened. Status 2: the words are of no form,
 /// and nothing was touched. The others are those of the session.
 pub fn client_run<I: Source, O: Sink, K: Keeper, R: Runner, L: Link>(
@@ -568,6 +156,9 @@ pub fn client_run<I: Source, O: Sink, K: Keeper, R: Runner, L: Link>(
         Some(Form::Run(run)) => {
             run_words_session(alloc, &run, input, output, keeper, runner, link)
         }
+        Some(Form::Drill(words)) => drill(alloc, words.seed, words.count, output),
+        Some(Form::Shelve(asked)) => shelve(alloc, &asked, output, keeper, link),
+        Some(Form::Check(words)) => check_by_words(alloc, &words, input, output),
         None => Status::NoForm.code(),
     }
 }

@@ -1,5 +1,0 @@
-use Rattle.client_prog.proofs.RunningContents.{contents_never_collide, contents_leave}
-use Rattle.client_prog.proofs.laws.distinct_contents_leave.Goals as goal
-
-pub returns : goal.returns
-returns c = record { apart = contents_never_collide; leaves = contents_leave }

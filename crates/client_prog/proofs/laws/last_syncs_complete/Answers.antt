@@ -1,5 +1,0 @@
-use Rattle.client_prog.proofs.Completing.{last_syncs_complete}
-use Rattle.client_prog.proofs.laws.last_syncs_complete.Goals as goal
-
-pub returns : goal.returns
-returns c = last_syncs_complete

@@ -1,5 +1,0 @@
-use Rattle.client_prog.proofs.Quitting.{quit_at, all_lines}
-use Rattle.client_prog.proofs.laws.sessions_end_with_the_first_quit.Goals as goal
-
-pub returns : goal.returns
-returns c = record { last = quit_at; all = all_lines }
