@@ -21,6 +21,7 @@ pub(crate) enum Next {
     Sink,
     Port,
     Connection,
+    Liar,
     Runner,
     File,
     Program,
@@ -88,7 +89,7 @@ pub(crate) enum Verb {
 }
 
 /// The first word of each line.
-const VERBS: [(&str, Verb); 40] = [
+const VERBS: [(&str, Verb); 41] = [
     ("fate", Verb::Before(Before::Fate)),
     ("keep", Verb::Before(Before::Keep)),
     ("keeper", Verb::Before(Before::Keeper)),
@@ -97,6 +98,7 @@ const VERBS: [(&str, Verb); 40] = [
     ("sink", Verb::Next(Next::Sink)),
     ("port", Verb::Next(Next::Port)),
     ("connection", Verb::Next(Next::Connection)),
+    ("liar", Verb::Next(Next::Liar)),
     ("runner", Verb::Next(Next::Runner)),
     ("file", Verb::Next(Next::File)),
     ("program", Verb::Next(Next::Program)),
@@ -172,7 +174,7 @@ impl Verb {
 impl Next {
     fn takes_block(self) -> bool {
         match self {
-            Next::Connection | Next::File | Next::Program => true,
+            Next::Connection | Next::Liar | Next::File | Next::Program => true,
             Next::Source | Next::Sink | Next::Port => false,
             Next::Runner | Next::Folder | Next::Folders => false,
         }

@@ -59,9 +59,7 @@ impl Place {
     /// Whether each line that says so made the keeper fail, the surrogate's runs came to each answer, and asks to each fate.
     pub(crate) fn is_met(&self) -> bool {
         let net = self.net.link();
-        self.keeper.failed >= self.lines
-            && net.runner().answers_left() == 0
-            && net.fates_left() == 0
+        self.keeper.failed >= self.lines && net.runner().answers_left() == 0 && are_met(net)
     }
 
     /// Nothing is kept any more, and no call of the keeper fails.
@@ -69,6 +67,15 @@ impl Place {
         let keeper = Counted::new(MemKeeper::new(alloc, Vec::new(alloc)));
         drop(mem::replace(&mut self.keeper, keeper));
         self.lines = 0;
+    }
+}
+
+/// Whether asks came to each fate. A stop stays, where one came to it.
+fn are_met(net: &Network) -> bool {
+    match net.fates_left() {
+        0 => true,
+        1 => net.is_stopped() && net.troubles() > 0,
+        _ => false,
     }
 }
 

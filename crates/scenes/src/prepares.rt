@@ -4,7 +4,6 @@ use crate::keeping::{Image, add_fails, remember};
 use crate::lines::{Before, Next, OTHER_WORDS, none, one};
 use crate::outside_clients::OutsideClients;
 use crate::place::Prepared;
-use crate::runs::NextProgram;
 use crate::scripts::{Left, Whose};
 use mem_net::Fate;
 use scene_files::{Fault, Line, calls, number};
@@ -49,7 +48,8 @@ impl OutsideClients {
             Next::Source => self.next.source.add(words),
             Next::Sink => self.next.sink.add(words),
             Next::Port => self.next.port.add(words),
-            Next::Connection => connect(alloc, &mut self.next, words, line.block),
+            Next::Connection => add_bytes(alloc, &mut self.next.connections, words, line.block),
+            Next::Liar => add_bytes(alloc, &mut self.next.lies, words, line.block),
             Next::Runner => self.scripts.answer(alloc, Whose::Client, words),
             Next::File => self.leave(line.rest, Left::File(line.block)),
             Next::Program => self.leave(line.rest, Left::Program(line.block)),
@@ -64,16 +64,16 @@ impl OutsideClients {
     }
 }
 
-/// The next program that serves has one more connection, with these bytes.
-fn connect(
+/// The next program has one more connection that brings these bytes, or one more reply of a liar.
+fn add_bytes(
     alloc: Global,
-    next: &mut NextProgram,
+    pieces: &mut Vec<Vec<u8>>,
     words: &[&str],
     bytes: &[u8],
 ) -> Result<(), Fault> {
     none(words)?;
     let bytes = bytes.to_vec(alloc)?;
-    Ok(next.connections.push(bytes)?)
+    Ok(pieces.push(bytes)?)
 }
 
 /// The next ask, or so many, meet the fate that the words tell.
@@ -109,6 +109,7 @@ fn fate_of(alloc: Global, name: &str, block: &[u8]) -> Result<Fate, Fault> {
         "lose-request" => Ok(Fate::LoseRequest),
         "lose-reply" => Ok(Fate::LoseReply),
         "twice" => Ok(Fate::Twice),
+        "stop" => Ok(Fate::Stop),
         "inject" => Ok(Fate::Inject(Content::of(alloc, block)?)),
         _ => Err(NO_FATE),
     }

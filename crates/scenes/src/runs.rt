@@ -8,6 +8,7 @@ use crate::outside_clients::OutsideClients;
 use crate::place::{Place, started};
 use client_prog::client_run;
 use cmd_capture::ScriptRunner;
+use mem_net::LiarLink;
 use outside::{MemSink, MemSource};
 use scene_files::{Fault, calls};
 use std::alloc::{AllocError, Global};
@@ -71,6 +72,10 @@ pub(crate) struct NextProgram {
     pub(crate) port: Fails,
     /// What its connections bring.
     pub(crate) connections: Vec<Vec<u8>>,
+    /// What a liar answers that it asks in place of the network, where there are such replies.
+    pub(crate) lies: Vec<Vec<u8>>,
+    /// Whether a liar of an earlier program was not asked for each of its replies.
+    is_unasked: bool,
 }
 
 impl NextProgram {
@@ -81,6 +86,8 @@ impl NextProgram {
             sink: Fails::new(alloc),
             port: Fails::new(alloc),
             connections: Vec::new(alloc),
+            lies: Vec::new(alloc),
+            is_unasked: false,
         }
     }
 
@@ -90,6 +97,8 @@ impl NextProgram {
             && self.sink.is_met()
             && self.port.is_met()
             && self.connections.is_empty()
+            && self.lies.is_empty()
+            && !self.is_unasked
     }
 }
 
@@ -135,21 +144,34 @@ fn tell_run(
     let bytes = input.to_vec(alloc)?;
     let mut source = Counted::new(MemSource::new(alloc, bytes, next.source.take(alloc)));
     let mut output = Counted::new(MemSink::new(alloc, next.sink.take(alloc)));
-    let status = client_run(
-        alloc,
-        words,
-        &mut source,
-        &mut output,
-        &mut place.keeper,
-        runner,
-        &mut place.net,
-    );
+    let status = status_of(alloc, words, &mut source, &mut output, next, runner, place);
     next.source.meet(source.failed);
     next.sink.meet(output.failed);
     drop(source);
     let told = answers.tell(alloc, status, output.inner.bytes());
     drop(output);
     told
+}
+
+/// The status by which a client ends that asks the network, or a liar in its place.
+fn status_of(
+    alloc: Global,
+    words: &[String],
+    source: &mut Counted<MemSource>,
+    output: &mut Counted<MemSink>,
+    next: &mut NextProgram,
+    runner: &mut ScriptRunner,
+    place: &mut Place,
+) -> u8 {
+    let keeper = &mut place.keeper;
+    if next.lies.is_empty() {
+        return client_run(alloc, words, source, output, keeper, runner, &mut place.net);
+    }
+    let lies = mem::replace(&mut next.lies, Vec::new(alloc));
+    let mut liar = LiarLink::new(alloc, lies);
+    let status = client_run(alloc, words, source, output, keeper, runner, &mut liar);
+    next.is_unasked = next.is_unasked || liar.replies_left() > 0;
+    status
 }
 
 /// The words, of which `''` is the empty one.
