@@ -4,7 +4,7 @@ import os
 import time
 
 from frames import random_store
-from lines import Session, expect_answers, expect_kept, played, random_line
+from lines import Fault, Session, expect_answers, expect_kept, path_of, played, random_line
 from play import Peer, expect, expect_said, finish, is_over, run, seen, shown, spoilt, start
 from values import PULL, SNAPSHOT, Served, frame, read_client, read_server, rows_bytes, u64
 
@@ -163,25 +163,70 @@ def is_count(word, most):
     return word.isdigit() and word[:1] != b"0" and 1 <= int(word) <= most if len(word) < 20 else False
 
 
+def is_path(word):
+    try:
+        return path_of(word) is not None
+    except Fault:
+        return False
+
+
+def are_apart(image, other):
+    belongs = [image, image + b".new", image + b".lock"]
+    return other not in belongs and image not in (other + b".new", other + b".lock")
+
+
+def has_client_form(words):
+    """Whether the words behind the client's name ask for something, by README's forms."""
+    if words[0] == b"run" and len(words) == 6 and all(words):
+        asked = words[4].split(b",")
+        return is_count(words[1], 64) and (words[4] == b"-" or len(asked) <= 8 and all(asked))
+    if words[0] == b"shelve" and len(words) == 7 and all(words):
+        numbers = is_count(words[1], 64) and is_count(words[3], 64) and words[1] != words[3]
+        return numbers and are_apart(words[2], words[4])
+    if words[0] == b"drill" and len(words) == 3:
+        return (words[1] == b"0" or is_count(words[1], 65535)) and is_count(words[2], 1000)
+    if words[0] == b"check" and len(words) == 3:
+        return len(words[1]) == 64 and all(it in b"0123456789abcdef" for it in words[1]) and is_path(words[2])
+    return False
+
+
 def has_form(name, words):
-    """Whether the words ask for a run, by README's forms. Words that are no UTF-8 have none."""
-    if not words or words[0] != b"run" or not all(words) or not is_text(b" ".join(words)):
+    """Whether the words ask for something, by README's forms. Words that are no UTF-8 have none."""
+    if not words or not is_text(b" ".join(words)):
         return False
     if name == "client":
-        if len(words) != 6 or not is_count(words[1], 64):
-            return False
-        asked = words[4].split(b",")
-        return words[4] == b"-" or len(asked) <= 8 and all(asked)
+        return has_client_form(words)
+    if words[0] != b"run" or not all(words):
+        return False
     return len(words) == (4 if name == "server" else 5) and is_count(words[-1], 65536)
 
 
-def right_words(name):
-    return {"client": [b"run", b"1", b"image", b"127.0.0.1:1", b"-", b"work"], "server": [b"run", b"127.0.0.1:0", b"image", b"1"],
-            "surrogate": [b"run", b"127.0.0.1:0", b"127.0.0.1:1", b"work", b"1"]}[name]
+RIGHT = {
+    "client": [
+        [b"run", b"1", b"image", b"127.0.0.1:1", b"-", b"work"],
+        [b"shelve", b"1", b"image", b"2", b"other", b"127.0.0.1:1", b"s"],
+        [b"check", b"5" * 64, b"a/b"],
+        [b"drill", b"7", b"3"],
+    ],
+    "server": [[b"run", b"127.0.0.1:0", b"image", b"1"]],
+    "surrogate": [[b"run", b"127.0.0.1:0", b"127.0.0.1:1", b"work", b"1"]],
+}
+
+
+def expect_client(words, status, out, told):
+    """What a client with no input and no image says."""
+    if words[0] == b"check":
+        expect(status == 9 and out == b"refused BadCert 0\n", told)
+    elif words[0] == b"drill":
+        expect(status == 0 and out.startswith(b"drill " + b" ".join(words[1:]) + b"\n"), told)
+    elif words[0] == b"shelve":
+        expect(status in (5, 6) or status == 0 and out == b"refused NoImage\n", told)
+    else:
+        expect(status in (5, 6) or status == 0 and out.startswith(b"acknowledged 0 pending 0\n"), told)
 
 
 def random_words(random, name):
-    words = right_words(name)
+    words = list(random.choice(RIGHT[name]))
     for _ in range(random.choice((1, 1, 2, 3))):
         at, kind = random.randrange(len(words) + 1), random.randrange(6)
         words[at : at + (kind > 0)] = [] if kind == 1 else [odd_word(random)]
@@ -209,9 +254,11 @@ def one_invocation(random, name, program, folder):
     elif not has_form(name, words):
         expect(status == 2 and not out and said.endswith(f"{name}: see --help\n{name}: status 2\n".encode()), told)
     elif not listens:
-        expect(status in ((0, 5, 6) if name == "client" else (1, 5, 6)), told)
+        if name == "client":
+            expect_client(words, status, out, told)
+        else:
+            expect(status in (1, 5, 6), told)
         expect_said(name, status, said)
-        expect(name != "client" or status or out.startswith(b"acknowledged 0 pending 0\n"), told)
     seen[f"words: {name} " + ("listens" if listens else f"status {status}")] += 1
 
 

@@ -1,8 +1,7 @@
 /* Loaded before the C library, it lets one allocation of a program fail: that whose number, counted from 1, is in the
-   variable FAIL_NTH. Where that is 0, none fails, and their count is written to the file named by COUNT_TO. */
+   variable FAIL_NTH. Where that is 0, none fails. The file that MET_TO names is made when it fails. */
 #include <errno.h>
 #include <fcntl.h>
-#include <stdio.h>
 #include <stdlib.h>
 #include <unistd.h>
 
@@ -14,13 +13,26 @@ void *__libc_memalign(size_t, size_t);
 static long failing = -1;
 static long made = 0;
 
+/* Makes the file, without an allocation. */
+static void tell(void) {
+    const char *file = getenv("MET_TO");
+    int to = file ? open(file, O_WRONLY | O_CREAT, 0600) : -1;
+    if (to >= 0) {
+        close(to);
+    }
+}
+
 static int fails(void) {
     if (failing < 0) {
         const char *text = getenv("FAIL_NTH");
         failing = text ? strtol(text, NULL, 10) : 0;
     }
     made++;
-    return made == failing;
+    if (made != failing) {
+        return 0;
+    }
+    tell();
+    return 1;
 }
 
 void *malloc(size_t size) { return fails() ? (errno = ENOMEM, NULL) : __libc_malloc(size); }
@@ -37,16 +49,4 @@ int posix_memalign(void **to, size_t align, size_t size) {
     }
     *to = __libc_memalign(align, size);
     return *to ? 0 : ENOMEM;
-}
-
-__attribute__((destructor)) static void tell(void) {
-    const char *file = getenv("COUNT_TO");
-    if (failing == 0 && file) {
-        char text[32];
-        int length = snprintf(text, sizeof text, "%ld\n", made);
-        int to = open(file, O_WRONLY | O_CREAT | O_TRUNC, 0600);
-        if (to >= 0 && write(to, text, length) != length) {
-            _exit(99);
-        }
-    }
 }

@@ -1,76 +1,22 @@
 #!/bin/sh
-# Lets each allocation of a client's session fail in turn, over loopback: each run has to end with status 7 and a front of the
-# answers, or, where the program can do without that memory, with status 0 and all of them.
+# Refuses each allocation of a program in turn, over loopback: the first one of a run, the second one of the next, and so on, until a run has
+# none of that number. The runs are sessions with each kind of line, with a server and a surrogate beside them. Compared are:
+#   - of the client: status 7 and a front of the answers, or, where it can do without that memory, status 0 and all of them
+#   - of the server and of the surrogate: status 7, or 1 where they cannot listen and say that memory was wanted, or they go on; one that
+#     ended is started again, as a service is. Either way the client has to end with status 0 and with all the answers of a run where
+#     nothing was refused
+#   - behind each run: a client and a server open what was kept; each entry that was answered is there, and one more at most; what waits is
+#     synced, and another client then has the same files
+# It prints how many runs ended in which way, and ends with 1 where one differs.
 #
-# Wants the Debian packages gcc, libc6-dev, coreutils, diffutils and mawk (or gawk).
+#   bench/memory/run.sh [PROGRAM ..]    of these programs: client, server, surrogate; of all three where none is named
+#
+# Wants the Debian packages gcc, libc6-dev and python3.
 set -eu
 # shellcheck source-path=SCRIPTDIR/.. source=common.sh
 . "$(dirname "$0")/../common.sh"
-wants cc gcc cmp diffutils awk mawk
-programs client server
+wants cc gcc python3 python3
+programs client server surrogate
 make_work
 cc -O2 -shared -fPIC -o "$work/fail_nth.so" "$here/fail_nth.c"
-
-cat > "$work/lines" <<'LINES'
-mkdir d
-cd d
-put a 'two words'
-put b other
-cat a
-ls
-ls /
-rm /d
-nothing
-cat 'open
-mv a c
-status
-sync
-rm b
-put /e x
-sync
-pull
-status
-quit
-LINES
-
-# Starts a server at the next port that is free.
-start_server() {
-    next_port
-    "$SERVER" run "127.0.0.1:$port" "$work/server.image" 32 > "$work/served" 2>&1 &
-    server=$!
-    begun
-    await "$server" "$port" || fail "the server does not listen: $(cat "$work/served")"
-}
-
-# A session with a new server, in which allocation $1 of the client fails; what it ended with goes to `came`.
-session() {
-    rm -f "$work/server.image" "$work/client.image"
-    start_server
-    came=0
-    FAIL_NTH=$1 COUNT_TO="$work/count" LD_PRELOAD="$work/fail_nth.so" \
-        "$CLIENT" run 1 "$work/client.image" "127.0.0.1:$port" - work < "$work/lines" > "$work/answers" 2> "$work/said" || came=$?
-    kill "$server" 2> /dev/null || true
-    ended "$server" 2> /dev/null || true
-}
-
-session 0
-cp "$work/answers" "$work/all"
-total=$(cat "$work/count")
-echo "$total allocations, $(wc -l < "$work/all") lines of answers, status $came"
-zero=0 seven=0 wrong=0 number=1
-while [ "$number" -le "$total" ]; do
-    session "$number"
-    size=$(wc -c < "$work/answers")
-    if [ "$came" = 0 ] && cmp -s "$work/answers" "$work/all"; then
-        zero=$((zero + 1))
-        echo "allocation $number: the program did without it"
-    elif [ "$came" = 7 ] && head -c "$size" "$work/all" | cmp -s - "$work/answers"; then
-        seven=$((seven + 1))
-    else
-        wrong=$((wrong + 1))
-        echo "allocation $number: status $came, $size bytes of answers"
-    fi
-    number=$((number + 1))
-done
-echo "status 7 behind a front of the answers: $seven; status 0 and all answers: $zero; else: $wrong"
-[ "$wrong" = 0 ]
+TMPDIR=$work FAIL_NTH_SO=$work/fail_nth.so python3 "$here/refused.py" "$@"
