@@ -4,6 +4,7 @@
 mod program;
 mod reasons;
 mod run;
+mod untold;
 mod words;
 
 pub use program::{client_main, client_program};

@@ -8,6 +8,7 @@ ghost use Rattle.client_prog.specs.Ending.{is_status};
 
 use crate::reasons::{Failures, end_shown, end_told};
 use crate::run::client_run;
+use crate::untold::Untold;
 use crate::words::{Form, form_of};
 use child_runner::ChildRunner;
 use cmd_capture::Runner;
@@ -176,8 +177,6 @@ pub(crate) const NAME: &str = "client";
 pub fn client_program<
     R: Input + Print + Eprint + AllocGlobal + Env + Files<File = File> + Processes + Net + Clock,
 >(rt: &R, terminals: Terminals) -> ExitCode
-where
-    R::Reader: SteadyRead,
     ensures { IsTrue (is_status (exit_status result)) }
 {
     match checked_words(given_words(rt)) {
@@ -195,8 +194,6 @@ where
 pub fn client_main<
     R: Input + Print + Eprint + AllocGlobal + Files<File = File> + Processes + Net + Clock,
 >(rt: &R, terminals: Terminals, words: &[String]) -> ExitCode
-where
-    R::Reader: SteadyRead,
     ensures form { exit_status result ≡ 2 ↔ (page_asked (map string_bytes words.now) ≡ None)
         × (form_of (map string_bytes words.now) ≡ None) }
     ensures known { IsTrue (is_status (exit_status result)) }
@@ -217,13 +214,11 @@ fn run_client<
     R: Input + Eprint + AllocGlobal + Files<File = File> + Processes + Net + Clock,
     O: Sink + Troubled,
 >(rt: &R, terminals: Terminals, words: &[String], output: &mut O) -> ExitCode
-where
-    R::Reader: SteadyRead,
     ensures form { exit_status result ≡ 2 ↔ form_of (map string_bytes words.now) ≡ None }
     ensures known { IsTrue (is_status (exit_status result)) }
 {
     let typed = Prompting::new(rt, rt.reader(), terminals.is_typed);
-    run_over(rt, terminals, words, typed, output)
+    run_over(rt, terminals, words, Untold::new(typed), output)
 }
 
 /// The same over what this reader gives.

@@ -1,7 +1,6 @@
 // This very program as another.
 use crate::starting::{CLIENT, SERVER};
 use client_prog::{Terminals, client_main};
-use real_edge::SteadyRead;
 use server_prog::server_main;
 use std::fs::File;
 use std::net::Net;
@@ -18,10 +17,7 @@ const NO_TERMINALS: Terminals = Terminals {
 /// Runs the program that the first word names on the words behind it.
 pub fn run_as<
     R: Input + Print + Eprint + AllocGlobal + Env + Files<File = File> + Net + Clock + Processes,
->(rt: &R, words: &[String]) -> ExitCode
-where
-    R::Reader: SteadyRead,
-{
+>(rt: &R, words: &[String]) -> ExitCode {
     match words.split_first() {
         None => ExitCode::FAILURE,
         Some((program, words)) => match program.as_str() {
