@@ -1,5 +1,5 @@
 //! Images as files: rights, links, locks, and what is told of a failure, of the standard streams, too.
-ghost use Rattle.std.specs.Prelude.{◌≡◌, Some, refl};
+ghost use Rattle.std.specs.Prelude.{refl};
 
 use outside::{KeepError, Keeper, Sink, Source};
 use real_edge::{FileKeeper, StdSink, StdSource, SteadyRead, SteadyWrite, Trouble, write_down};
@@ -199,28 +199,14 @@ fn a_keeper_has_each_lock_that_it_took(rt: HostRuntime) -> Result<(), Fail> {
     Ok(())
 }
 
-/// A source over bytes, which it tells.
-fn source_over(bytes: &[u8]) -> StdSource<&[u8]>
-    ensures { ⟦<StdSource<&[u8]> as Source>⟧.left result ≡ Some bytes.now }
-{
-    StdSource::new(bytes)
-}
-
-/// A sink over what was written, which it tells.
-fn sink_over(written: Vec<u8>) -> StdSink<Vec<u8>>
-    ensures { ⟦<StdSink<Vec<u8>> as Sink>⟧.written result ≡ Some written.items }
-{
-    StdSink::new(written)
-}
-
 #[test]
 fn streams_of_bytes_are_given_and_taken(rt: HostRuntime) -> Result<(), Fail> {
-    let mut input = source_over(b"text");
+    let mut input = StdSource::new(b"text".as_slice());
     let mut piece = [0; 3];
     let read = input.read(&mut piece);
     drop(input);
     assert!(rt; read.is_ok_and(|count| count == 3) && piece == *b"tex");
-    let mut output = sink_over(Vec::new(rt.alloc()));
+    let mut output = StdSink::new(Vec::new(rt.alloc()));
     let written = output.write(b"text");
     drop(output);
     assert!(rt; written.is_ok_and(|count| count == 4));
