@@ -227,7 +227,11 @@ def refuse_all(name):
 
 
 def main():
-    results = [refuse_all(name) for name in sys.argv[1:] or PROGRAMS]
+    try:
+        results = [refuse_all(name) for name in sys.argv[1:] or PROGRAMS]
+    except Wrong as wrong:
+        print(f"bench/memory/run.sh: {wrong}", file=sys.stderr)
+        return 1
     return 0 if all(results) else 1
 
 
