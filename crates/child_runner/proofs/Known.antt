@@ -8,7 +8,7 @@ use Rattle.std.specs.Str.Parse.{AllDigits}
 use Rattle.std.proofs.lemmas.List.{take_at, drop_at, length-take-le}
 use Rattle.std.proofs.lemmas.Str.Parse.{digit_from_value}
 use Rattle.std.proofs.lemmas.Fmt.{first_decimal, decimal_is_IsNumeral}
-use Rattle.child_runner.specs.Names.{hex, numbered, folder_name, is_digit, is_hex, is_number, is_numbered, is_print_and_number, is_folder_name, named_bytes, front}
+use Rattle.child_runner.specs.Names.{hex, numbered_suffix, folder_name, is_digit, is_hex, is_number, is_numbered, is_print_and_number, is_folder_name, named_bytes, front}
 
 hex_digit : (n : ℕ) → n < 16 → is_hex (digit_glyph false n) ≡ true
 hex_digit n small = grind arith
@@ -51,7 +51,7 @@ positive : (n : ℕ) → (n == 0) ≡ false → 0 < n
 positive zero e = absurd (true≢false e)
 positive (suc n) e = omega arith
 
-numbered_passes : (n : ℕ) → n < 2 ^ 32 → is_numbered (numbered n) ≡ true
+numbered_passes : (n : ℕ) → n < 2 ^ 32 → is_numbered (numbered_suffix n) ≡ true
 numbered_passes n small = by (n == 0) refl
   where
     by : (b : Bool) → (n == 0) ≡ b → is_numbered (if b then [] else 45 ∷ decimal n) ≡ true
@@ -75,10 +75,10 @@ sixteen print long =
     omega (arith, twice, eight, long)
 
 behind : (print : List ℕ) (number : ℕ) → AllByRecursion (λ b. b < 256) print → named_bytes ≤ length print → number < 2 ^ 32
-    → is_print_and_number (print_digits print ++ numbered number) ≡ true
+    → is_print_and_number (print_digits print ++ numbered_suffix number) ≡ true
 behind print number fits long small =
     let digits = print_digits print in
-    let rest = numbered number in
+    let rest = numbered_suffix number in
     let count : length digits ≡ 16 = sixteen print long in
     let both = length-append digits rest in
     let enough : nat_le 16 (length (digits ++ rest)) ≡ true = le_true 16 (length (digits ++ rest)) (omega (arith, both, count)) in
@@ -91,7 +91,7 @@ behind print number fits long small =
 pub name_known : (print : List ℕ) (number : ℕ) → AllByRecursion (λ b. b < 256) print → named_bytes ≤ length print → number < 2 ^ 32
     → is_folder_name (folder_name print number) ≡ true
 name_known print number fits long small =
-    let rest = print_digits print ++ numbered number in
+    let rest = print_digits print ++ numbered_suffix number in
     let enough : nat_le 4 (length (front ++ rest)) ≡ true = le_true 4 (length (front ++ rest)) (omega arith) in
     ap (λ x. x && (bytes_eq (take 4 (front ++ rest)) front && is_print_and_number (drop 4 (front ++ rest)))) enough
     ∙ ap (λ x. bytes_eq x front && is_print_and_number (drop 4 (front ++ rest))) (take_at front rest 4 refl)

@@ -23,12 +23,12 @@ abbrev pub hex : ℕ → List ℕ
 hex byte = digit_glyph false (byte / 16) ∷ digit_glyph false (byte % 16) ∷ []
 
 -- the number of a name; the first name has none
-abbrev pub numbered : ℕ → List ℕ
-numbered number = if number == 0 then [] else 45 ∷ decimal number
+abbrev pub numbered_suffix : ℕ → List ℕ
+numbered_suffix number = if number == 0 then [] else 45 ∷ decimal number
 
 -- the name of the folder of a run whose job has this print
 abbrev pub folder_name : List ℕ → ℕ → List ℕ
-folder_name print number = front ++ (flat_map hex (take named_bytes print) ++ numbered number)
+folder_name print number = front ++ (flat_map hex (take named_bytes print) ++ numbered_suffix number)
 
 abbrev pub is_digit : ℕ → Bool
 is_digit b = nat_le 48 b && nat_le b 57

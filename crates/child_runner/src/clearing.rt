@@ -3,7 +3,7 @@ use crate::locks::Lock;
 use crate::names::run_of;
 use crate::removing::remove_once;
 use crate::texts::place_in;
-use crate::trouble::{Trouble, answered, refused};
+use crate::trouble::{RunTrouble, answered, refused};
 use std::alloc::AllocGlobal;
 use std::fs::{self, DirEntry, File, Files};
 use std::io::{self, ErrorKind};
@@ -13,7 +13,7 @@ use std::io::{self, ErrorKind};
 pub(crate) fn remove_left<R: Files<File = File> + AllocGlobal>(
     host: &R,
     work: &str,
-) -> Result<(), Trouble> {
+) -> Result<(), RunTrouble> {
     let entries = match fs::read_dir(&host, work) {
         Ok(entries) => entries,
         Err(error) if error.kind() == ErrorKind::NotFound => return Ok(()),
@@ -35,7 +35,7 @@ fn remove_entry<R: Files<File = File> + AllocGlobal>(
     host: &R,
     work: &str,
     entry: io::Result<DirEntry<&R>>,
-) -> Result<(), Trouble> {
+) -> Result<(), RunTrouble> {
     match entry {
         Ok(entry) => match run_of(entry.file_name()) {
             Some(folder) => remove_run(host, place_in(host.alloc(), work, folder)?.as_str()),
@@ -48,7 +48,10 @@ fn remove_entry<R: Files<File = File> + AllocGlobal>(
 }
 
 /// Removes the folder and its lock, where nobody holds that.
-fn remove_run<R: Files<File = File> + AllocGlobal>(host: &R, folder: &str) -> Result<(), Trouble> {
+fn remove_run<R: Files<File = File> + AllocGlobal>(
+    host: &R,
+    folder: &str,
+) -> Result<(), RunTrouble> {
     let Some(lock) = Lock::take(host, folder)? else {
         return Ok(());
     };

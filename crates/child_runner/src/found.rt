@@ -4,7 +4,7 @@ ghost use Rattle.tree_values.specs.Tree.{node_size};
 ghost use Rattle.tree_values.specs.Limits.{max_rows, max_files};
 ghost use Rattle.child_runner.specs.Found.{raw_size, IsSmall};
 
-use crate::trouble::Trouble;
+use crate::trouble::RunTrouble;
 use cmd_capture::{RawRow, RawRows};
 use file_paths::Content;
 use std::alloc::Global;
@@ -66,7 +66,7 @@ impl Found {
     }
 
     /// Adds a folder.
-    pub(crate) fn add_folder(&mut self, path: Content) -> Result<(), Trouble>
+    pub(crate) fn add_folder(&mut self, path: Content) -> Result<(), RunTrouble>
         ensures one { OnOk result (length self.new ≡ length self.old + 1) }
         ensures few { OnOk result (length self.new ≤ max_rows) }
     {
@@ -79,7 +79,7 @@ impl Found {
         path: Content,
         content: Content,
         exec: bool,
-    ) -> Result<(), Trouble>
+    ) -> Result<(), RunTrouble>
         ensures one { OnOk result (length self.new ≡ length self.old + 1) }
         ensures few { OnOk result (length self.new ≤ max_rows) }
     {
@@ -89,16 +89,16 @@ impl Found {
 
     /// Adds what stands at the path, where there is room.
     #[tactic(auto, using(crate::proofs::Sizes::raw_size_more))]
-    fn add(&mut self, path: Content, node: Node, size: usize) -> Result<(), Trouble>
+    fn add(&mut self, path: Content, node: Node, size: usize) -> Result<(), RunTrouble>
         requires { size ≡ node_size (Some node) }
         ensures added { OnOk result (self.new ≡ self.old ++ record { path = path; node = node } ∷ []) }
         ensures few { OnOk result (length self.new ≤ max_rows) }
     {
         if self.rows_left() == 0 {
-            return Err(Trouble::Told(TOO_MANY_ROWS));
+            return Err(RunTrouble::Told(TOO_MANY_ROWS));
         }
         if size > self.bytes_left() {
-            return Err(Trouble::Told(TOO_MANY_BYTES));
+            return Err(RunTrouble::Told(TOO_MANY_BYTES));
         }
         self.rows.push(RawRow { path, node })?;
         self.bytes += size;

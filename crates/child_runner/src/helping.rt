@@ -1,7 +1,7 @@
 // Programs of the system that help a runner: what they print is short, and so is their time.
-use crate::limits::Watch;
+use crate::limits::Stopwatch;
 use crate::pipes::pipe;
-use crate::trouble::{Trouble, answered};
+use crate::trouble::{RunTrouble, answered};
 use crate::waiting::{end, wait_within};
 use std::alloc::{AllocGlobal, Global};
 use std::fs::Files;
@@ -34,8 +34,8 @@ fn printed<R: Files + Processes + AllocGlobal + Clock + Eprint>(
     host: &R,
     program: &str,
     words: &[&str],
-) -> Result<Option<Vec<u8>>, Trouble> {
-    let watch = Watch::begin(
+) -> Result<Option<Vec<u8>>, RunTrouble> {
+    let watch = Stopwatch::begin(
         host,
         "a helper took",
         Some(Duration::from_secs(HELP_SECONDS)),
@@ -58,7 +58,7 @@ fn printed<R: Files + Processes + AllocGlobal + Clock + Eprint>(
 }
 
 /// The helper with its words, no variables and nothing to read.
-fn start_of(alloc: Global, program: &str, words: &[&str]) -> Result<Command, Trouble> {
+fn start_of(alloc: Global, program: &str, words: &[&str]) -> Result<Command, RunTrouble> {
     let mut start = Command::new(alloc, program)?;
     for word in words {
         start.arg(*word)?;

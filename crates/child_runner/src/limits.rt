@@ -1,9 +1,9 @@
 // How long a run may take.
 ghost use Rattle.std.specs.Prelude.{◌≡◌, ◌↔◌, ◌-◌, Some, option_map, IsTrue};
 ghost use Rattle.std.specs.Duration.{as_nanos};
-ghost use Rattle.child_runner.specs.Waiting.{next_pause, pause as pause_nanos, reading_nanos};
+ghost use Rattle.child_runner.specs.Waiting.{next_pause, pause_behind as pause_nanos, reading_nanos};
 
-use crate::trouble::Trouble;
+use crate::trouble::RunTrouble;
 use std::time::{Clock, Duration, Instant};
 
 /// How long a client reads what a program left behind its end, in seconds.
@@ -51,20 +51,20 @@ impl Limits {
 
 /// A time that runs.
 #[derive(Clone, Copy)]
-pub(crate) struct Watch {
+pub(crate) struct Stopwatch {
     what: &'static str,
     start: Instant,
     longest: Option<Duration>,
 }
 
-impl Watch {
+impl Stopwatch {
     /// Begins now. `what` takes so long, where it is too long.
     pub(crate) fn begin<C: Clock>(
         clock: &C,
         what: &'static str,
         longest: Option<Duration>,
-    ) -> Result<Watch, Trouble> {
-        Ok(Watch {
+    ) -> Result<Stopwatch, RunTrouble> {
+        Ok(Stopwatch {
             what,
             start: now(clock)?,
             longest,
@@ -72,12 +72,12 @@ impl Watch {
     }
 
     /// The time since its begin.
-    pub(crate) fn spent<C: Clock>(&self, clock: &C) -> Result<Duration, Trouble> {
+    pub(crate) fn spent<C: Clock>(&self, clock: &C) -> Result<Duration, RunTrouble> {
         Ok(now(clock)?.duration_since(self.start))
     }
 
     /// The time that is left, where there is a limit.
-    pub(crate) fn left<C: Clock>(&self, clock: &C) -> Result<Option<Duration>, Trouble> {
+    pub(crate) fn left<C: Clock>(&self, clock: &C) -> Result<Option<Duration>, RunTrouble> {
         Ok(time_left(self.spent(clock)?, self.longest))
     }
 
@@ -94,7 +94,7 @@ impl Watch {
     }
 
     /// Refuses to go on where no time is left.
-    pub(crate) fn check<C: Clock>(&self, clock: &C) -> Result<(), Trouble> {
+    pub(crate) fn check<C: Clock>(&self, clock: &C) -> Result<(), RunTrouble> {
         match self.left(clock)? {
             Some(left) if left.is_zero() => Err(self.over()),
             Some(_) | None => Ok(()),
@@ -102,20 +102,20 @@ impl Watch {
     }
 
     /// No time is left.
-    pub(crate) fn over(&self) -> Trouble {
-        Trouble::Long {
+    pub(crate) fn over(&self) -> RunTrouble {
+        RunTrouble::Long {
             what: self.what,
             longest: self.longest.unwrap_or(Duration::ZERO),
         }
     }
 }
 
-fn now<C: Clock>(clock: &C) -> Result<Instant, Trouble> {
+fn now<C: Clock>(clock: &C) -> Result<Instant, RunTrouble> {
     match Instant::now(clock) {
         Ok(now) => Ok(now),
         Err(error) => {
             drop(error);
-            Err(Trouble::Told("cannot read the clock"))
+            Err(RunTrouble::Told("cannot read the clock"))
         }
     }
 }

@@ -1,6 +1,6 @@
 // The lock that a run holds while it lasts.
 use crate::names::lock_place;
-use crate::trouble::{Trouble, answered, refused};
+use crate::trouble::{RunTrouble, answered, refused};
 use std::alloc::AllocGlobal;
 use std::fs::{self, File, Files, Metadata, TryLockError};
 use std::io::ErrorKind;
@@ -24,7 +24,7 @@ impl Lock {
     pub(crate) fn take<R: Files<File = File> + AllocGlobal>(
         host: &R,
         folder: &str,
-    ) -> Result<Option<Lock>, Trouble> {
+    ) -> Result<Option<Lock>, RunTrouble> {
         let place = lock_place(host.alloc(), folder)?;
         match take_at(host, place.as_str()) {
             Ok(Some(file)) => Ok(Some(Lock { place, file })),
@@ -37,7 +37,7 @@ impl Lock {
     }
 
     /// Removes the file, while the lock is still held: who opened it meanwhile sees that it is gone, and opens another.
-    pub(crate) fn remove<R: Files + AllocGlobal>(self, host: &R) -> Result<(), Trouble> {
+    pub(crate) fn remove<R: Files + AllocGlobal>(self, host: &R) -> Result<(), RunTrouble> {
         let removed = match is_there(host, self.place.as_str(), &self.file) {
             true => fs::remove_file(host, self.place.as_str()),
             false => Ok(()),
@@ -48,7 +48,7 @@ impl Lock {
     }
 
     /// The number of the device that it stands on.
-    pub(crate) fn device<R: AllocGlobal>(&self, host: &R) -> Result<u64, Trouble> {
+    pub(crate) fn device<R: AllocGlobal>(&self, host: &R) -> Result<u64, RunTrouble> {
         let seen = self.file.metadata();
         Ok(answered(host.alloc(), "look at", self.place.as_str(), seen)?.dev())
     }
@@ -59,7 +59,7 @@ impl Lock {
 fn take_at<R: Files<File = File> + AllocGlobal>(
     host: &R,
     place: &str,
-) -> Result<Option<File>, Trouble> {
+) -> Result<Option<File>, RunTrouble> {
     for _ in 0..MAX_OPENED {
         let Some(file) = open_at(host, place)? else {
             return Ok(None);
@@ -75,7 +75,7 @@ fn take_at<R: Files<File = File> + AllocGlobal>(
 }
 
 /// Whether the file was not locked by another, and is now.
-fn is_locked<R: AllocGlobal>(host: &R, place: &str, file: &File) -> Result<bool, Trouble> {
+fn is_locked<R: AllocGlobal>(host: &R, place: &str, file: &File) -> Result<bool, RunTrouble> {
     match file.try_lock() {
         Ok(()) => Ok(true),
         Err(TryLockError::WouldBlock) => Ok(false),
@@ -87,7 +87,7 @@ fn is_locked<R: AllocGlobal>(host: &R, place: &str, file: &File) -> Result<bool,
 fn open_at<R: Files<File = File> + AllocGlobal>(
     host: &R,
     place: &str,
-) -> Result<Option<File>, Trouble> {
+) -> Result<Option<File>, RunTrouble> {
     for _ in 0..MAX_OPENED {
         let made = File::options()
             .read(true)

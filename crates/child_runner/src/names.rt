@@ -68,7 +68,7 @@ fn hex_digit(n: u8) -> u8
 
 /// Adds the number of a name; the first name has none.
 fn push_number(name: &mut Vec<u8>, number: u32) -> Result<(), AllocError>
-    ensures { OnOk result (name.new.items ≡ name.old.items ++ names.numbered number) }
+    ensures { OnOk result (name.new.items ≡ name.old.items ++ names.numbered_suffix number) }
 {
     if number == 0 {
         return Ok(());

@@ -1,6 +1,6 @@
 // A file that is opened to be read back. What the command left running may put something else in its place at any time.
 use crate::locks::are_same;
-use crate::trouble::{Trouble, answered, odd, refused};
+use crate::trouble::{RunTrouble, answered, odd, refused};
 use std::alloc::AllocGlobal;
 use std::fs::{self, File, Files, Metadata, Permissions};
 use std::io::{self, ErrorKind};
@@ -21,7 +21,7 @@ pub(crate) fn open_seen<R: Files<File = File> + AllocGlobal>(
     place: &str,
     path: &str,
     seen: &Metadata,
-) -> Result<File, Trouble> {
+) -> Result<File, RunTrouble> {
     let file = match open_both(host, place) {
         Err(error) if error.kind() == ErrorKind::PermissionDenied => {
             give_rights(host, place, path, seen)?;
@@ -49,7 +49,7 @@ fn give_rights<R: Files<File = File> + AllocGlobal>(
     place: &str,
     path: &str,
     seen: &Metadata,
-) -> Result<(), Trouble> {
+) -> Result<(), RunTrouble> {
     let now = answered(
         host.alloc(),
         "look at",
@@ -65,6 +65,6 @@ fn give_rights<R: Files<File = File> + AllocGlobal>(
 }
 
 /// Something else stands at the path.
-fn changed<R: AllocGlobal>(host: &R, path: &str) -> Trouble {
+fn changed<R: AllocGlobal>(host: &R, path: &str) -> RunTrouble {
     odd(host.alloc(), path, "changed while it was read")
 }

@@ -1,7 +1,7 @@
 // Pipes that are read without waiting.
 ghost use Rattle.std.specs.Prelude.{◌≤◌, length};
 
-use crate::trouble::{Trouble, answered, refused};
+use crate::trouble::{RunTrouble, answered, refused};
 use std::alloc::AllocGlobal;
 use std::fs::Files;
 use std::io::{self, PipeWriter, Read};
@@ -16,7 +16,7 @@ pub(crate) struct Reader {
 }
 
 /// A pipe, both of its ends.
-pub(crate) fn pipe<R: Files + AllocGlobal>(host: &R) -> Result<(PipeWriter, Reader), Trouble> {
+pub(crate) fn pipe<R: Files + AllocGlobal>(host: &R) -> Result<(PipeWriter, Reader), RunTrouble> {
     let alloc = host.alloc();
     let (reader, writer) = answered(alloc, "make", "a pipe", io::pipe(host))?;
     // whether a read waits is a mode of the open file, whatever it is, and the handles of sockets can set it

@@ -1,10 +1,10 @@
 // The places of runs below WORK: each a folder of its own with a lock beside it.
-use crate::limits::Watch;
+use crate::limits::Stopwatch;
 use crate::locks::Lock;
 use crate::names::{MAX_TRIED, folder_name};
 use crate::removing::{remove_folder, remove_once};
 use crate::texts::{place_in, text_of};
-use crate::trouble::{Trouble, answered, refused};
+use crate::trouble::{RunTrouble, answered, refused};
 use std::alloc::AllocGlobal;
 use std::fs::{self, DirBuilder, File, Files};
 use std::io::ErrorKind;
@@ -28,8 +28,8 @@ impl Place {
         host: &R,
         work: &str,
         print: &[u8; 32],
-        watch: &Watch,
-    ) -> Result<Place, Trouble> {
+        watch: &Stopwatch,
+    ) -> Result<Place, RunTrouble> {
         make_work(host, work)?;
         for number in 0..MAX_TRIED {
             let name = folder_name(host.alloc(), print, number)?;
@@ -39,14 +39,14 @@ impl Place {
             }
             watch.check(host)?;
         }
-        Err(Trouble::Told("each name for its folder is taken"))
+        Err(RunTrouble::Told("each name for its folder is taken"))
     }
 
     /// Removes the folder, and then the lock; where the folder stays, its name is taken.
     pub(crate) fn remove<R: Files<File = File> + AllocGlobal + Clock>(
         self,
         host: &R,
-    ) -> Result<(), Trouble> {
+    ) -> Result<(), RunTrouble> {
         let removed = remove_folder(host, self.folder.as_str());
         let removed = answered(host.alloc(), "remove", self.folder.as_str(), removed);
         let Place { folder, lock } = self;
@@ -63,7 +63,7 @@ impl Place {
 }
 
 /// Makes the folder in which runs have their places, where it is missing.
-fn make_work<R: Files + AllocGlobal>(host: &R, work: &str) -> Result<(), Trouble> {
+fn make_work<R: Files + AllocGlobal>(host: &R, work: &str) -> Result<(), RunTrouble> {
     match fs::create_dir(host, work) {
         Err(error) if error.kind() == ErrorKind::AlreadyExists => Ok(()),
         made => answered(host.alloc(), "make", work, made),
@@ -74,7 +74,7 @@ fn make_work<R: Files + AllocGlobal>(host: &R, work: &str) -> Result<(), Trouble
 fn taken<R: Files<File = File> + AllocGlobal>(
     host: &R,
     folder: &str,
-) -> Result<Option<Lock>, Trouble> {
+) -> Result<Option<Lock>, RunTrouble> {
     let Some(lock) = Lock::take(host, folder)? else {
         return Ok(None);
     };
@@ -92,13 +92,13 @@ fn taken<R: Files<File = File> + AllocGlobal>(
 }
 
 /// Makes the folder, and tells whether it did. What a run left there that was cut off is removed first.
-fn is_made_anew<R: Files + AllocGlobal>(host: &R, folder: &str) -> Result<bool, Trouble> {
+fn is_made_anew<R: Files + AllocGlobal>(host: &R, folder: &str) -> Result<bool, RunTrouble> {
     if is_made(host, folder)? {
         return Ok(true);
     }
     match remove_once(host, folder) {
         Ok(()) => is_made(host, folder),
-        Err(error) if error.kind() == ErrorKind::OutOfMemory => Err(Trouble::Memory),
+        Err(error) if error.kind() == ErrorKind::OutOfMemory => Err(RunTrouble::Memory),
         Err(error) => {
             drop(error);
             Ok(false)
@@ -107,7 +107,7 @@ fn is_made_anew<R: Files + AllocGlobal>(host: &R, folder: &str) -> Result<bool, 
 }
 
 /// Makes the folder, and tells whether it did: something may stand there.
-fn is_made<R: Files + AllocGlobal>(host: &R, folder: &str) -> Result<bool, Trouble> {
+fn is_made<R: Files + AllocGlobal>(host: &R, folder: &str) -> Result<bool, RunTrouble> {
     match DirBuilder::new().mode(FOLDER_RIGHTS).create(host, folder) {
         Ok(()) => Ok(true),
         Err(error) if error.kind() == ErrorKind::AlreadyExists => Ok(false),

@@ -4,10 +4,10 @@ ghost use Rattle.tree_values.specs.Limits.{max_rows};
 ghost use Rattle.child_runner.specs.Found.{IsSmall};
 
 use crate::found::{Found, OWNER_RUNS, TOO_MANY_BYTES, TOO_MANY_ROWS};
-use crate::limits::Watch;
+use crate::limits::Stopwatch;
 use crate::opening::open_seen;
 use crate::texts::{path_in, place_in};
-use crate::trouble::{Trouble, answered, odd, refused};
+use crate::trouble::{RunTrouble, answered, odd, refused};
 use cmd_capture::RawRows;
 use file_paths::{Content, MAX_DEPTH};
 use std::alloc::{AllocGlobal, Global};
@@ -26,12 +26,12 @@ pub(crate) struct Reading<'a, R> {
     pub(crate) host: &'a R,
     pub(crate) folder: &'a str,
     pub(crate) device: u64,
-    pub(crate) watch: Watch,
+    pub(crate) watch: Stopwatch,
 }
 
 impl<'a, R: Files<File = File> + AllocGlobal + Clock> Reading<'a, R> {
     /// Reads what stands in the folder, in the order of its paths.
-    pub(crate) fn rows(&self) -> Result<RawRows, Trouble>
+    pub(crate) fn rows(&self) -> Result<RawRows, RunTrouble>
         ensures { IfOk result (λ rows. IsSmall rows) }
     {
         let mut found = Found::new(self.host.alloc());
@@ -45,7 +45,7 @@ impl<'a, R: Files<File = File> + AllocGlobal + Clock> Reading<'a, R> {
     }
 
     /// Adds what stands in the folder. The paths that are still to be read are `pending`, the next one last.
-    fn read_all(&self, found: &mut Found) -> Result<(), Trouble> {
+    fn read_all(&self, found: &mut Found) -> Result<(), RunTrouble> {
         let alloc = self.host.alloc();
         let seen = fs::symlink_metadata(self.host, self.folder);
         if !answered(alloc, "look at", self.folder, seen)?.is_dir() {
@@ -66,7 +66,7 @@ impl<'a, R: Files<File = File> + AllocGlobal + Clock> Reading<'a, R> {
         path: &str,
         pending: &mut Vec<String>,
         found: &mut Found,
-    ) -> Result<(), Trouble>
+    ) -> Result<(), RunTrouble>
         ensures one { OnOk result (length found.new ≡ length found.old + 1) }
         ensures few { OnOk result (length found.new ≤ max_rows) }
     {
@@ -82,7 +82,7 @@ impl<'a, R: Files<File = File> + AllocGlobal + Clock> Reading<'a, R> {
             return Err(odd(alloc, path, "is no file or folder"));
         }
         if seen.len() > found.bytes_left() as u64 {
-            return Err(Trouble::Told(TOO_MANY_BYTES));
+            return Err(RunTrouble::Told(TOO_MANY_BYTES));
         }
         let content = self.read_content(place.as_str(), path, &seen, found.bytes_left())?;
         let exec = seen.mode() & OWNER_RUNS != 0;
@@ -96,7 +96,7 @@ impl<'a, R: Files<File = File> + AllocGlobal + Clock> Reading<'a, R> {
         path: &str,
         seen: &Metadata,
         room: usize,
-    ) -> Result<Content, Trouble> {
+    ) -> Result<Content, RunTrouble> {
         let file = open_seen(self.host, place, path, seen)?;
         let mut bytes = Vec::new(self.host.alloc());
         match file
@@ -118,7 +118,7 @@ impl<'a, R: Files<File = File> + AllocGlobal + Clock> Reading<'a, R> {
         path: &str,
         pending: &mut Vec<String>,
         rows_left: usize,
-    ) -> Result<(), Trouble> {
+    ) -> Result<(), RunTrouble> {
         let alloc = self.host.alloc();
         let mut paths = Vec::new(alloc);
         let entries = match fs::read_dir(&self.host, place) {
@@ -127,10 +127,10 @@ impl<'a, R: Files<File = File> + AllocGlobal + Clock> Reading<'a, R> {
         };
         for entry in entries {
             if depth_of(path) >= MAX_DEPTH {
-                return Err(Trouble::Told(TOO_DEEP));
+                return Err(RunTrouble::Told(TOO_DEEP));
             }
             if pending.len().saturating_add(paths.len()) >= rows_left {
-                return Err(Trouble::Told(TOO_MANY_ROWS));
+                return Err(RunTrouble::Told(TOO_MANY_ROWS));
             }
             paths.push(path_of(alloc, path, entry)?)?;
         }
@@ -146,7 +146,7 @@ fn path_of<R: Files>(
     alloc: Global,
     path: &str,
     entry: io::Result<DirEntry<&R>>,
-) -> Result<String, Trouble> {
+) -> Result<String, RunTrouble> {
     match entry {
         Ok(entry) => Ok(path_in(alloc, path, entry.file_name())?),
         Err(error) if error.kind() == ErrorKind::InvalidFilename => {

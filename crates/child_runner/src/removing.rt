@@ -1,5 +1,5 @@
 // A folder that is removed.
-use crate::limits::Watch;
+use crate::limits::Stopwatch;
 use crate::places::FOLDER_RIGHTS;
 use std::alloc::{AllocGlobal, Global};
 use std::fs::{self, DirEntry, Files, Permissions};
@@ -23,7 +23,7 @@ pub(crate) fn remove_folder<R: Files + AllocGlobal + Clock>(
     folder: &str,
 ) -> io::Result<()> {
     let longest = Some(Duration::from_millis(REMOVAL_TIME));
-    let watch = Watch::begin(host, "removing took", longest);
+    let watch = Stopwatch::begin(host, "removing took", longest);
     for _ in 0..REMOVAL_TIME / REMOVAL_PAUSE {
         match (remove_once(host, folder), &watch) {
             (Err(error), Ok(watch)) if watch.goes_on(host) => drop(error),

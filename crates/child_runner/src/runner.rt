@@ -9,12 +9,12 @@ ghost use Rattle.child_runner.specs.Waiting.{reading_nanos};
 
 use crate::clearing::remove_left;
 use crate::groups::Groups;
-use crate::limits::{Limits, Watch};
+use crate::limits::{Limits, Stopwatch};
 use crate::places::Place;
 use crate::reading::Reading;
 use crate::starting::{Care, run_there};
 use crate::texts::text_of;
-use crate::trouble::{Trouble, count};
+use crate::trouble::{RunTrouble, count};
 use crate::writing::write_rows;
 use cmd_capture::{Job, Outcome, RunError, Runner, job_print};
 use std::alloc::AllocGlobal;
@@ -92,21 +92,21 @@ impl<'a, R: Files<File = File> + Processes + AllocGlobal + Clock + Eprint> Child
         }
     }
 
-    fn clear_work(&self, work: &[u8]) -> Result<(), Trouble> {
+    fn clear_work(&self, work: &[u8]) -> Result<(), RunTrouble> {
         remove_left(self.host, text_of(work)?)
     }
 
     /// Tells of the trouble, and counts it unless memory ran out.
-    fn failed(&mut self, what: &str, trouble: Trouble) -> RunError
+    fn failed(&mut self, what: &str, trouble: RunTrouble) -> RunError
         ensures cause { RisesWhere (result ≡ RunError.Failed) self.old.faults self.new.faults }
         ensures calls { self.new.calls ≡ self.old.calls }
     {
         let error = match &trouble {
-            Trouble::Memory => RunError::Memory,
-            Trouble::Refused { .. }
-            | Trouble::Odd { .. }
-            | Trouble::Told(_)
-            | Trouble::Long { .. } => {
+            RunTrouble::Memory => RunError::Memory,
+            RunTrouble::Refused { .. }
+            | RunTrouble::Odd { .. }
+            | RunTrouble::Told(_)
+            | RunTrouble::Long { .. } => {
                 let _ = eprintln!(self.host; "{}: {what}: {trouble}", self.program);
                 count(&mut self.faults);
                 RunError::Failed
@@ -118,10 +118,10 @@ impl<'a, R: Files<File = File> + Processes + AllocGlobal + Clock + Eprint> Child
 
     /// Runs the job in a folder of its own, which is removed whether or not the job ran. Where it cannot be removed the outcome stands
     /// all the same: its rows were read, and as long as the folder is there its name is taken.
-    fn run_placed(&self, work: &[u8], job: &Job) -> Result<Outcome, Trouble>
+    fn run_placed(&self, work: &[u8], job: &Job) -> Result<Outcome, RunTrouble>
         ensures { IfOk result (λ outcome. IsSmall outcome.rows) }
     {
-        let watch = Watch::begin(self.host, "it took", self.limits.whole)?;
+        let watch = Stopwatch::begin(self.host, "it took", self.limits.whole)?;
         let print = job_print(self.host.alloc(), job)?;
         let place = Place::take(self.host, text_of(work)?, &print, &watch)?;
         let ended = self.run_in(place.folder.as_str(), job, &watch);
@@ -135,15 +135,15 @@ impl<'a, R: Files<File = File> + Processes + AllocGlobal + Clock + Eprint> Child
     }
 
     /// Writes the job's rows and runs its command.
-    fn run_in(&self, folder: &str, job: &Job, watch: &Watch) -> Result<u8, Trouble> {
+    fn run_in(&self, folder: &str, job: &Job, watch: &Stopwatch) -> Result<u8, RunTrouble> {
         write_rows(self.host, folder, job.rows.as_slice())?;
         run_there(self.host, folder, &job.command, watch, &self.care)
     }
 
     /// The watch of what comes behind the end of the program.
-    fn watch_behind(&self, whole: Watch) -> Watch {
+    fn watch_behind(&self, whole: Stopwatch) -> Stopwatch {
         match self.limits.reading {
-            Some(longest) => match Watch::begin(self.host, "reading took", Some(longest)) {
+            Some(longest) => match Stopwatch::begin(self.host, "reading took", Some(longest)) {
                 Ok(watch) => watch,
                 Err(trouble) => {
                     drop(trouble);
@@ -155,7 +155,7 @@ impl<'a, R: Files<File = File> + Processes + AllocGlobal + Clock + Eprint> Child
     }
 
     /// What the program left.
-    fn read_in(&self, place: &Place, status: u8, watch: &Watch) -> Result<Outcome, Trouble>
+    fn read_in(&self, place: &Place, status: u8, watch: &Stopwatch) -> Result<Outcome, RunTrouble>
         ensures { IfOk result (λ outcome. IsSmall outcome.rows) }
     {
         let reading = Reading {

@@ -8,11 +8,11 @@ ghost use Rattle.child_runner.specs.Variables.{TellsVariables};
 ghost use Rattle.child_runner.specs.Starting.{started_program, first_words};
 
 use crate::groups::{Groups, LEADER, end_group};
-use crate::limits::Watch;
+use crate::limits::Stopwatch;
 use crate::passing::Passing;
 use crate::pipes::pipe;
 use crate::texts::{place_in, text_of};
-use crate::trouble::{Trouble, answered};
+use crate::trouble::{RunTrouble, answered};
 use crate::waiting::{end, wait_within};
 use cmd_capture::{Command, Env};
 use file_paths::{Content, Path};
@@ -38,9 +38,9 @@ pub(crate) fn run_there<R: Files + Processes + AllocGlobal + Clock + Eprint>(
     host: &R,
     folder: &str,
     command: &Command,
-    watch: &Watch,
+    watch: &Stopwatch,
     care: &Care,
-) -> Result<u8, Trouble> {
+) -> Result<u8, RunTrouble> {
     let program = text_of(command.program.bytes())?;
     let leads = match care {
         Care::Alone(Some(groups)) => groups.can_lead(host, program),
@@ -68,7 +68,7 @@ fn set_output<R: Files + AllocGlobal>(
     host: &R,
     start: &mut process::Command,
     care: &Care,
-) -> Result<Option<Passing>, Trouble> {
+) -> Result<Option<Passing>, RunTrouble> {
     match care {
         Care::Alone(_) => {
             start.stdout(Stdio::null());
@@ -86,15 +86,15 @@ fn set_output<R: Files + AllocGlobal>(
 }
 
 /// The status that the program gave. One that was ended by a signal gave none.
-fn status_of(ended: ExitStatus) -> Result<u8, Trouble>
+fn status_of(ended: ExitStatus) -> Result<u8, RunTrouble>
     ensures { IfOk result (λ status. exit_code ended ≡ Some (pos status)) }
 {
     match ended.code() {
         Some(code) => match u8::try_from(code) {
             Ok(status) => Ok(status),
-            Err(_) => Err(Trouble::Told("its status is above 255")),
+            Err(_) => Err(RunTrouble::Told("its status is above 255")),
         },
-        None => Err(Trouble::Told("it was ended by a signal")),
+        None => Err(RunTrouble::Told("it was ended by a signal")),
     }
 }
 
@@ -105,7 +105,7 @@ fn start_of(
     folder: &str,
     command: &Command,
     leads: bool,
-) -> Result<process::Command, Trouble>
+) -> Result<process::Command, RunTrouble>
     ensures program { IfOk result (λ start. command_program start ≡ started_program leads command.now.program) }
     ensures words { IfOk result (λ start. command_args start ≡ first_words leads command.now.program ++ command.now.args) }
     ensures alone { IfOk result (λ start. clears_env start ≡ true) }
@@ -123,7 +123,7 @@ fn start_of(
 }
 
 /// The program under its own word, or what makes it the head of a group.
-fn called(alloc: Global, program: &str, leads: bool) -> Result<process::Command, Trouble>
+fn called(alloc: Global, program: &str, leads: bool) -> Result<process::Command, RunTrouble>
     ensures program { IfOk result (λ start. command_program start ≡ started_program leads program.now) }
     ensures words { IfOk result (λ start. command_args start ≡ first_words leads program.now) }
 {
@@ -136,14 +136,14 @@ fn called(alloc: Global, program: &str, leads: bool) -> Result<process::Command,
 }
 
 /// The folder that the program is started in.
-fn place_of(alloc: Global, folder: &str, cwd: &Path) -> Result<String, Trouble>
+fn place_of(alloc: Global, folder: &str, cwd: &Path) -> Result<String, RunTrouble>
     ensures { IfOk result (λ place. string_bytes place ≡ folder.now ++ 47 ∷ path_text cwd.now) }
 {
     let text = cwd.text()?;
     Ok(place_in(alloc, folder, text_of(text.bytes())?)?)
 }
 
-fn add_words(start: &mut process::Command, words: &[Content]) -> Result<(), Trouble>
+fn add_words(start: &mut process::Command, words: &[Content]) -> Result<(), RunTrouble>
     ensures program { OnOk result (command_program start.new ≡ command_program start.old) }
     ensures words { OnOk result (command_args start.new ≡ command_args start.old ++ words.now) }
 {
@@ -153,7 +153,7 @@ fn add_words(start: &mut process::Command, words: &[Content]) -> Result<(), Trou
     Ok(())
 }
 
-fn add_variables(start: &mut process::Command, variables: &Env) -> Result<(), Trouble>
+fn add_variables(start: &mut process::Command, variables: &Env) -> Result<(), RunTrouble>
     requires { (name : List ℕ) → command_var start.old name ≡ None }
     ensures variables { OnOk result (TellsVariables start.new variables.now) }
     ensures call { OnOk result (SameProgramAndArgs start.old start.new) }
@@ -166,7 +166,7 @@ fn add_variables(start: &mut process::Command, variables: &Env) -> Result<(), Tr
 }
 
 /// Adds variable `i`, counted from 0.
-fn add_variable(start: &mut process::Command, variables: &Env, i: usize) -> Result<(), Trouble>
+fn add_variable(start: &mut process::Command, variables: &Env, i: usize) -> Result<(), RunTrouble>
     requires { i < length variables.now }
     ensures variables { TellsVariables start.old (take i variables.now)
         → OnOk result (TellsVariables start.new (take (i + 1) variables.now)) }
@@ -180,7 +180,7 @@ fn add_variable(start: &mut process::Command, variables: &Env, i: usize) -> Resu
 }
 
 /// Sets one variable.
-fn set_variable(start: &mut process::Command, key: &str, value: &str) -> Result<(), Trouble>
+fn set_variable(start: &mut process::Command, key: &str, value: &str) -> Result<(), RunTrouble>
     ensures set { OnOk result (command_var start.new key.now ≡ Some (Some value.now)) }
     ensures others { OnOk result (SameOtherVars start.old start.new key.now) }
     ensures call { OnOk result (SameProgramAndArgs start.old start.new) }

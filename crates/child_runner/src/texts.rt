@@ -1,16 +1,16 @@
 // Names and words as the platform takes them.
 ghost use Rattle.std.specs.Prelude.{◌≡◌, ◌∷◌, ◌++◌, IfOk, string_bytes};
 
-use crate::trouble::Trouble;
+use crate::trouble::RunTrouble;
 use std::alloc::{AllocError, Global};
 
 /// The platform takes names and words of text alone.
-pub(crate) fn text_of(bytes: &[u8]) -> Result<&str, Trouble>
+pub(crate) fn text_of(bytes: &[u8]) -> Result<&str, RunTrouble>
     ensures { IfOk result (λ text. text.now ≡ bytes.now) }
 {
     match str::from_utf8(bytes) {
         Ok(text) => Ok(text),
-        Err(_) => Err(Trouble::Told("a name or a word is no text of UTF-8")),
+        Err(_) => Err(RunTrouble::Told("a name or a word is no text of UTF-8")),
     }
 }
 

@@ -9,7 +9,7 @@ use std::time::Duration;
 
 /// What a run came to that is no outcome.
 #[derive(Debug, Drop)]
-pub(crate) enum Trouble {
+pub(crate) enum RunTrouble {
     /// Memory ran out.
     Memory,
     /// The system refused what was to be done with what has this name.
@@ -32,26 +32,29 @@ pub(crate) enum Trouble {
     },
 }
 
-impl From<AllocError> for Trouble {
-    fn from(_: AllocError) -> Trouble {
-        Trouble::Memory
+impl From<AllocError> for RunTrouble {
+    fn from(_: AllocError) -> RunTrouble {
+        RunTrouble::Memory
     }
 }
 
-impl<T: Drop> From<AllocFailed<T>> for Trouble {
-    fn from(_: AllocFailed<T>) -> Trouble {
-        Trouble::Memory
+impl<T: Drop> From<AllocFailed<T>> for RunTrouble {
+    fn from(_: AllocFailed<T>) -> RunTrouble {
+        RunTrouble::Memory
     }
 }
 
-impl Display for Trouble {
+impl Display for RunTrouble {
     fn fmt<W: fmt::Write>(&self, f: &mut Formatter<W>) -> fmt::Result {
         match self {
-            Trouble::Memory => write!(f, "out of memory"),
-            Trouble::Refused { doing, name, error } => write!(f, "cannot {doing} {name}: {error}"),
-            Trouble::Odd { name, is } => write!(f, "{name:?} {is}"),
-            Trouble::Told(what) => write!(f, "{what}"),
-            Trouble::Long { what, longest } => {
+            RunTrouble::Memory => write!(f, "out of memory"),
+            RunTrouble::Refused { doing, name, error } => write!(
+                f,
+                "cannot {doing} {name}: {error}"
+            ),
+            RunTrouble::Odd { name, is } => write!(f, "{name:?} {is}"),
+            RunTrouble::Told(what) => write!(f, "{what}"),
+            RunTrouble::Long { what, longest } => {
                 write!(f, "{what} longer than {} s", longest.as_secs())
             }
         }
@@ -59,25 +62,30 @@ impl Display for Trouble {
 }
 
 /// The system refused what was to be done with what has this name.
-pub(crate) fn refused(alloc: Global, doing: &'static str, name: &str, error: io::Error) -> Trouble {
+pub(crate) fn refused(
+    alloc: Global,
+    doing: &'static str,
+    name: &str,
+    error: io::Error,
+) -> RunTrouble {
     if error.kind() == ErrorKind::OutOfMemory {
         drop(error);
-        return Trouble::Memory;
+        return RunTrouble::Memory;
     }
     match String::from_str(alloc, name) {
-        Ok(name) => Trouble::Refused { doing, name, error },
+        Ok(name) => RunTrouble::Refused { doing, name, error },
         Err(_) => {
             drop(error);
-            Trouble::Memory
+            RunTrouble::Memory
         }
     }
 }
 
 /// What has this name is not as it has to be.
-pub(crate) fn odd(alloc: Global, name: &str, is: &'static str) -> Trouble {
+pub(crate) fn odd(alloc: Global, name: &str, is: &'static str) -> RunTrouble {
     match String::from_str(alloc, name) {
-        Ok(name) => Trouble::Odd { name, is },
-        Err(_) => Trouble::Memory,
+        Ok(name) => RunTrouble::Odd { name, is },
+        Err(_) => RunTrouble::Memory,
     }
 }
 
@@ -87,7 +95,7 @@ pub(crate) fn answered<T>(
     doing: &'static str,
     name: &str,
     answer: io::Result<T>,
-) -> Result<T, Trouble> {
+) -> Result<T, RunTrouble> {
     match answer {
         Ok(value) => Ok(value),
         Err(error) => Err(refused(alloc, doing, name, error)),

@@ -2,9 +2,9 @@
 ghost use Rattle.std.specs.Prelude.{◌≡◌, Some, IfOk};
 ghost use Rattle.std.specs.Process.{child_status};
 
-use crate::limits::{Watch, pause_after};
+use crate::limits::{Stopwatch, pause_after};
 use crate::passing::Passing;
-use crate::trouble::{Trouble, refused};
+use crate::trouble::{RunTrouble, refused};
 use std::alloc::AllocGlobal;
 use std::io::Eprint;
 use std::process::{Child, ExitStatus, OpenProcess};
@@ -16,12 +16,12 @@ use std::time::Clock;
 pub(crate) fn wait_within<R: Clock + AllocGlobal + Eprint, P: OpenProcess>(
     host: &R,
     child: &mut Child<P>,
-    watch: &Watch,
+    watch: &Stopwatch,
     passing: &mut Option<Passing>,
-) -> Result<ExitStatus, Trouble>
+) -> Result<ExitStatus, RunTrouble>
     ensures { IfOk result (λ status. child_status child.new ≡ Some status) }
 {
-    let own = Watch::begin(host, "", None)?;
+    let own = Stopwatch::begin(host, "", None)?;
     for _ in 0..u64::MAX {
         let is_busy = match passing {
             Some(passing) => passing.pass(host),
@@ -43,7 +43,7 @@ pub(crate) fn wait_within<R: Clock + AllocGlobal + Eprint, P: OpenProcess>(
 fn looked_at<R: AllocGlobal, P: OpenProcess>(
     host: &R,
     child: &mut Child<P>,
-) -> Result<Option<ExitStatus>, Trouble>
+) -> Result<Option<ExitStatus>, RunTrouble>
     ensures { IfOk result (λ status. child_status child.new ≡ status) }
 {
     match child.try_wait() {

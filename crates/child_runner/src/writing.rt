@@ -6,7 +6,7 @@ ghost use Rattle.child_runner.specs.Waiting.{input_nanos};
 use crate::found::OWNER_RUNS;
 use crate::opening::ALL_RIGHTS;
 use crate::texts::{place_in, text_of};
-use crate::trouble::{Trouble, answered, refused};
+use crate::trouble::{RunTrouble, answered, refused};
 use cmd_capture::JobRow;
 use std::alloc::AllocGlobal;
 use std::fs::{self, File, Files, Permissions};
@@ -23,7 +23,7 @@ pub(crate) fn write_rows<R: Files<File = File> + AllocGlobal>(
     host: &R,
     folder: &str,
     rows: &[JobRow],
-) -> Result<(), Trouble> {
+) -> Result<(), RunTrouble> {
     for row in rows {
         write_row(host, folder, row)?;
     }
@@ -38,7 +38,7 @@ fn write_row<R: Files<File = File> + AllocGlobal>(
     host: &R,
     folder: &str,
     row: &JobRow,
-) -> Result<(), Trouble> {
+) -> Result<(), RunTrouble> {
     let text = row.path.text()?;
     let path = text_of(text.bytes())?;
     let place = place_in(host.alloc(), folder, path)?;
@@ -75,7 +75,7 @@ fn date_folder<R: Files<File = File> + AllocGlobal>(
     host: &R,
     folder: &str,
     row: &JobRow,
-) -> Result<(), Trouble> {
+) -> Result<(), RunTrouble> {
     match &row.node {
         Node::Folder => {
             let text = row.path.text()?;

@@ -13,7 +13,7 @@ use Rattle.mod_log.specs.declared.log.Entry.{Entry}
 use Rattle.wire_frames.specs.declared.message.Message.{Message}
 use Rattle.wire_frames.specs.declared.message.Message.TheVariants.{Store}
 use Rattle.wire_frames.specs.declared.parts.Part.{Part}
-use Rattle.world_rules.specs.Served.{Served, Verdict, Repeated, Early, Outdated, Refused, Taken, judged, verdict, passes, served_after, served_through, state_after, TakenEntry, entry_stored, taken_if, taken_through, taken_of}
+use Rattle.world_rules.specs.Served.{Served, StoreVerdict, Repeated, Early, Outdated, Refused, Taken, judged, verdict, passes, served_after, served_through, state_after, TakenEntry, entry_stored, taken_if, taken_through, taken_of}
 use Rattle.world_rules.specs.World.{World, Step, Send, Deliver, Other, Relay, happens}
 use Rattle.world_rules.specs.InStep.{InStep, HasNoCollision}
 use Rattle.world_rules.specs.Run.{State, Move, Network, Notes, Logs, Acknowledges, Pulls, Saves, moved, IsPossible, AllPossible, moved_by, taken_by, own}
@@ -54,7 +54,7 @@ others_none client of differ number (part ∷ parts) served =
     let judgement = verdict of number part.effects part.base served in
     by judgement (others_none client of differ (number + 1) parts (served_after of number judgement served))
   where
-    by : (judgement : Verdict) → own client (taken_through of (number + 1) parts (served_after of number judgement served)) ≡ []
+    by : (judgement : StoreVerdict) → own client (taken_through of (number + 1) parts (served_after of number judgement served)) ≡ []
         → own client (taken_if judgement (entry_stored of number part.effects part.base) ++ (if passes judgement then taken_through of (number + 1) parts (served_after of number judgement served) else [])) ≡ []
     by Repeated rest = rest
     by Early rest = refl
@@ -118,7 +118,7 @@ store_grows of number (part ∷ parts) served =
     (entry_grows of number part.effects served (nat_le number (served.last of)) (nat_lt (served.last of + 1) number) (first_conflict part.base served.volume) (apply_all 0 part.effects served.volume) refl)
     (store_grows of (number + 1) parts (served_after of number judgement served))
   where
-    by : (judgement : Verdict) → IsBehind served.volume (served_after of number judgement served).volume
+    by : (judgement : StoreVerdict) → IsBehind served.volume (served_after of number judgement served).volume
         → IsBehind (served_after of number judgement served).volume (served_through of (number + 1) parts (served_after of number judgement served)).volume
         → IsBehind served.volume (if passes judgement then served_through of (number + 1) parts (served_after of number judgement served) else served_after of number judgement served).volume
     by Repeated one rest = rest

@@ -15,10 +15,10 @@ use Rattle.wire_frames.specs.declared.parts.Part.{Part}
 use Rattle.wire_frames.specs.Parts.{part_of, effects_count, contents_count}
 use Rattle.world_rules.specs.InStep.{parts_of}
 use Rattle.client_core.specs.declared.route.Route.{Route}
-use Rattle.client_core.specs.declared.window.Room.{Room}
+use Rattle.client_core.specs.declared.window.WindowRoom.{WindowRoom}
 use Rattle.client_core.specs.declared.window.TheConstants.{WINDOW, MAX_BESIDE}
 use Rattle.client_core.specs.Syncing.{IsFirst, IsHeavy, FitsWindow, IsLongest, IsWindow}
-use Rattle.client_core.specs.Inside.{HasRoom, IsLightEntry}
+use Rattle.client_core.specs.Inside.{LeavesRoom, IsLightEntry}
 use Rattle.client_core.proofs.Firsts.{none_is}
 
 -- ---- the parts of entries
@@ -63,7 +63,7 @@ get_behind (x ∷ xs) ys = get_behind xs ys
 
 module _ (client : ℕ) (route : Route) (pending : List Entry) where
   -- The first pending entry and those behind it, so many, fit a window, and so much room is left behind them.
-  pub record SoFar (count : ℕ) (room : Room) : Type 0 where
+  pub record SoFar (count : ℕ) (room : WindowRoom) : Type 0 where
     pub first : Entry
     pub behind : List Entry
     pub left : List Entry
@@ -79,7 +79,7 @@ module _ (client : ℕ) (route : Route) (pending : List Entry) where
   Found count = (chosen : List Entry) × IsWindow client route pending chosen × (count ≡ length chosen)
 
   -- the first entry alone
-  pub begun : (first : Entry) (room : Room) → IsFirst first pending → EffectsFit first.effects → length first.effects + room.effects ≡ max_effects → room.content ≡ min (max_files - contents_size first.effects) MAX_BESIDE
+  pub begun : (first : Entry) (room : WindowRoom) → IsFirst first pending → EffectsFit first.effects → length first.effects + room.effects ≡ max_effects → room.content ≡ min (max_files - contents_size first.effects) MAX_BESIDE
       → SoFar 1 room
   begun first room is fits effects content = by pending refl is
     where
@@ -97,7 +97,7 @@ module _ (client : ℕ) (route : Route) (pending : List Entry) where
         content = omega (arith, content);
       }
 
-  module _ (count : ℕ) (room : Room) (so_far : SoFar count room) where
+  module _ (count : ℕ) (room : WindowRoom) (so_far : SoFar count room) where
     abbrev chosen : List Entry
     chosen = so_far.first ∷ so_far.behind
 
@@ -144,7 +144,7 @@ module _ (client : ℕ) (route : Route) (pending : List Entry) where
               subst (λ (e : Entry). FitsWindow client route (chosen ++ e ∷ []) → ⊥) same joins
 
       -- since there is no room for it
-      pub found_room : HasRoom room entry None → Found count
+      pub found_room : LeavesRoom room entry None → Found count
       found_room none = ended (λ more. ⊎_elim
           (λ (low : room.effects < length entry.effects). absurd (omega (arith, low, so_far.effects, effects_last chosen entry, more.storable.few_effects)))
           (λ (low : room.content < contents_size entry.effects).
@@ -156,7 +156,7 @@ module _ (client : ℕ) (route : Route) (pending : List Entry) where
       found_light light = ended (λ more. of_last (IsHeavy client route) so_far.behind entry more.heavy light.0 light.1 light.2)
 
     -- one more joins
-    pub joined : (entry : Entry) (left : Room) → Some entry ≡ slice_get pending count → HasRoom room entry (Some left) → (IsLightEntry client route entry → ⊥) → SoFar (count + 1) left
+    pub joined : (entry : Entry) (left : WindowRoom) → Some entry ≡ slice_get pending count → LeavesRoom room entry (Some left) → (IsLightEntry client route entry → ⊥) → SoFar (count + 1) left
     joined entry room_left is leaves heavy = by so_far.left refl (is ∙ next_is)
       where
         by : (left : List Entry) → so_far.left ≡ left → Some entry ≡ slice_get left 0 → SoFar (count + 1) room_left

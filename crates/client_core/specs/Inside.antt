@@ -38,7 +38,7 @@ use Rattle.world_rules.specs.Run.{Runs, kept_at}
 use Rattle.client_core.specs.declared.keeping.Journal.{Journal}
 use Rattle.client_core.specs.declared.keeping.Piece.{Piece}
 use Rattle.client_core.specs.declared.route.Route.{Route}
-use Rattle.client_core.specs.declared.window.Room.{Room}
+use Rattle.client_core.specs.declared.window.WindowRoom.{WindowRoom}
 use Rattle.client_core.specs.declared.pulling.PullEnd.{PullEnd}
 use Rattle.client_core.specs.declared.pulling.PullEnd.TheVariants.{Pulled, KeepFault, Memory}
 use Rattle.client_core.specs.declared.running.RunEnd.{RunEnd}
@@ -61,13 +61,13 @@ pub record AskedFor (client : ℕ) (route : Route) (log : Log) (Made : List Ask 
   pub told : ToldWorlds old new (λ v w. Runs client (is_some route.surrogate) [] asks (kept_at log v) (kept_at log w))
 
 -- whether a reply says that an operation is done
-abbrev pub is_done : Option Message → Bool
-is_done (Some (Done client number)) = true
-is_done reply = false
+abbrev pub says_done : Option Message → Bool
+says_done (Some (Done client number)) = true
+says_done reply = false
 
 -- whether the operation is done, or want of memory
 abbrev pub done_of : Result (Option Message) AllocError → Result Bool AllocError
-done_of (Ok reply) = Ok (is_done reply)
+done_of (Ok reply) = Ok (says_done reply)
 done_of (Err error) = Err error
 
 -- an operation was settled with the surrogate, and the result tells whether it is done
@@ -89,9 +89,9 @@ IsWindowOf route pending count =
     ForEachClient (λ client. (chosen : List Entry) × IsWindow client route pending chosen × (count ≡ length chosen))
 
 -- the room that one more entry leaves, or there is none for it
-abbrev pub HasRoom : Room → Entry → Option Room → Type 0
-HasRoom room entry None = (room.effects < length entry.effects) ⊎ (room.content < contents_size entry.effects)
-HasRoom room entry (Some left) =
+abbrev pub LeavesRoom : WindowRoom → Entry → Option WindowRoom → Type 0
+LeavesRoom room entry None = (room.effects < length entry.effects) ⊎ (room.content < contents_size entry.effects)
+LeavesRoom room entry (Some left) =
     (length entry.effects + left.effects ≡ room.effects) × (contents_size entry.effects + left.content ≡ room.content)
 
 -- what was asked for an operation: it is done, or its store is due, or it was broken off

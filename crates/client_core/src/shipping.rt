@@ -5,7 +5,7 @@ ghost use Rattle.wire_frames.specs.Frame.{IsValid};
 ghost use Rattle.world_rules.specs.declared.asking.Peer.TheVariants.{Surrogate};
 ghost use Rattle.world_rules.specs.Asking.{IsRequest};
 ghost use Rattle.client_core.specs.Syncing.{IsFirst};
-ghost use Rattle.client_core.specs.Inside.{AskedFor, OperatesTo, SettlesWindow, ShipsTo, TellsDone, is_done};
+ghost use Rattle.client_core.specs.Inside.{AskedFor, OperatesTo, SettlesWindow, ShipsTo, TellsDone, says_done};
 
 use crate::Route;
 use crate::window::{is_light, window_of};
@@ -95,7 +95,7 @@ fn settle_operation<L: Link>(
 
 /// Whether the reply says that an operation is done.
 fn is_done(reply: Option<Message>) -> bool
-    ensures { result ≡ is_done reply }
+    ensures { result ≡ says_done reply }
 {
     let done = matches!(&reply, Some(Message::Done { .. }));
     drop(reply);

@@ -11,7 +11,7 @@ ghost use Rattle.wire_frames.specs.Frame.{IsValid};
 ghost use Rattle.wire_frames.specs.Parts.{part_of};
 ghost use Rattle.world_rules.specs.InStep.{parts_of};
 ghost use Rattle.client_core.specs.Syncing.{store_alone, IsFirst, IsWindow};
-ghost use Rattle.client_core.specs.Inside.{ForEachClient, HasRoom, IsLightEntry, IsWindowOf};
+ghost use Rattle.client_core.specs.Inside.{ForEachClient, LeavesRoom, IsLightEntry, IsWindowOf};
 
 use crate::Route;
 use mod_log::{Entry, Log};
@@ -70,29 +70,29 @@ fn window_count(alloc: Global, route: &Route, log: &Log, first: &Entry) -> Resul
 
 /// For how many effects, and for how many bytes of content, a store has still room.
 #[derive(Clone, Copy)]
-struct Room {
+struct WindowRoom {
     effects: u64,
     content: u64,
 }
 
 /// The room that a store has beside its first entry.
-fn room_beside(first: &Entry) -> Room
+fn room_beside(first: &Entry) -> WindowRoom
     requires { EffectsFit first.now.effects }
     ensures effects { length first.now.effects + result.effects ≡ max_effects }
     ensures content { result.content ≡ min (max_files - contents_size first.now.effects) MAX_BESIDE }
 {
     let effects = first.effects.as_slice();
     let content = (MAX_FILES as u64).saturating_sub(contents(effects));
-    Room {
+    WindowRoom {
         effects: (MAX_EFFECTS as u64).saturating_sub(effects.len() as u64),
         content: content.min(MAX_BESIDE),
     }
 }
 
 /// The room behind one more entry; `None` where there is none for it.
-fn room_behind(room: Room, entry: &Entry) -> Option<Room>
+fn room_behind(room: WindowRoom, entry: &Entry) -> Option<WindowRoom>
     requires { EffectsFit entry.now.effects }
-    ensures { HasRoom room entry.now result }
+    ensures { LeavesRoom room entry.now result }
 {
     let effects = entry.effects.as_slice();
     let count = effects.len() as u64;
@@ -100,7 +100,7 @@ fn room_behind(room: Room, entry: &Entry) -> Option<Room>
     if count > room.effects || size > room.content {
         return None;
     }
-    Some(Room {
+    Some(WindowRoom {
         effects: room.effects - count,
         content: room.content - size,
     })

@@ -15,7 +15,7 @@ use Rattle.world_rules.specs.InStep.{InStep, HasNoCollision}
 use Rattle.world_rules.specs.Run.{AreAllOf}
 use Rattle.world_rules.proofs.Runs.{new_in_step}
 use Rattle.mem_wires.specs.Wire.{world_of, new_world}
-use Rattle.mem_net.specs.declared.parts.Parts.{Parts}
+use Rattle.mem_net.specs.declared.parts.NetworkParts.{NetworkParts}
 use Rattle.mem_net.specs.Drill.{InDrill}
 use Rattle.mem_net.specs.Handed.{is_server_failure, failures_behind, last_failures, IsByRule}
 use Rattle.client_core.specs.Trace.{Trace}
@@ -78,7 +78,7 @@ begins_in_step =
     new_in_step 1 (new_world 1 new_served) refl (omega arith) (omega arith)
     (record { tree = IsTree-empty; small = λ client. omega arith; of_none = refl; of_no_others = λ client above. refl }) refl (λ message among. absurd among)
 
-module _ (seed count : ℕ) (low : count ≤ max_steps) (runner runner_now : InDrill) (net net_now : Parts InDrill) (worked : Worked) (made : IsDrillNet seed count net)
+module _ (seed count : ℕ) (low : count ≤ max_steps) (runner runner_now : InDrill) (net net_now : NetworkParts InDrill) (worked : Worked) (made : IsDrillNet seed count net)
     (works : WorksOff (script seed count) runner runner_now net net_now worked) (rule : IsByRule (world_of net_now.wires) net_now.wires.fates) where
   abbrev old : World
   old = world_of net.wires

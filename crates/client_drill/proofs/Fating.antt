@@ -6,7 +6,7 @@ use Rattle.byte_fields.proofs.Facts.{eq_holds}
 use Rattle.world_rules.specs.declared.asking.Ask.{Ask}
 use Rattle.mem_wires.specs.declared.fate.Fate.{Fate}
 use Rattle.mem_wires.specs.declared.fate.Fate.TheVariants.{Pass, LoseRequest, LoseReply, Twice}
-use Rattle.mem_net.specs.Handed.{IsPlain, passes, OnePasses, FourPass, last_failures}
+use Rattle.mem_net.specs.Handed.{IsPlain, lets_pass, OnePasses, FourPass, last_failures}
 use Rattle.mem_net.proofs.Ruling.{few_lose}
 use Rattle.client_drill.specs.Drill.{next, number_at, fate_by, fate_at, fates_from, drill_fates}
 use Rattle.client_drill.specs.Laws.{DrillsBeginByRule}
@@ -41,8 +41,8 @@ module _ (seed count : ℕ) where
   plain_from k zero = tt
   plain_from k (suc left) = (plain_at k, plain_from (suc k) left)
 
-  passes_at : (k : ℕ) → k % 4 ≡ 3 → passes (fate_at seed count k) ≡ true
-  passes_at k is = ap (λ (b : Bool). passes (if b then Pass else fate_by (number_at seed (count + 1 + k)))) (eq_holds (k % 4) 3 is)
+  passes_at : (k : ℕ) → k % 4 ≡ 3 → lets_pass (fate_at seed count k) ≡ true
+  passes_at k is = ap (λ (b : Bool). lets_pass (if b then Pass else fate_by (number_at seed (count + 1 + k)))) (eq_holds (k % 4) 3 is)
 
   one_passes : (k : ℕ) → OnePasses (fate_at seed count k) (fate_at seed count (suc k)) (fate_at seed count (suc (suc k))) (fate_at seed count (suc (suc (suc k))))
   one_passes k = by (one_of_four k)

@@ -9,7 +9,7 @@ use Rattle.std.proofs.lemmas.Fmt.{decimal_is_IsNumeral}
 use Rattle.std.proofs.lemmas.Str.Parse.{digit_from_value}
 use Rattle.byte_fields.proofs.Facts.{eq_fails, and_holds}
 use Rattle.shell_lang.specs.Faults.{number}
-use Rattle.shell_lang.specs.Lines.{is_line_end, is_one_line, parts, whole_lines, unfinished, lines_of, with_ends}
+use Rattle.shell_lang.specs.Lines.{is_line_end, is_one_line, cut_lines, whole_lines, unfinished, lines_of, with_ends}
 use Rattle.shell_lang.specs.Commands.{read_line}
 use Rattle.shell_lang.specs.declared.line.Line.{Line}
 use Rattle.shell_lang.specs.declared.line.Line.TheVariants as lines
@@ -20,7 +20,7 @@ use Rattle.client_lines.specs.declared.input.InputEnd.{InputEnd}
 use Rattle.client_lines.specs.declared.input.InputEnd.TheVariants.{Read, Failed, TooLong}
 use Rattle.client_lines.specs.Limits.{max_input}
 use Rattle.client_lines.specs.Input.{lines_at, EndsAt}
-use Rattle.client_lines.specs.Run.{asked_for, is_quit, quits, has_quit, up_to_quit, end_of, HasLines}
+use Rattle.client_lines.specs.Run.{asked_for, is_quit, quits, has_quit, up_to_quit, ended_input, HasLines}
 use Rattle.client_lines.proofs.Quitting.{all_lines, quit_in_front, no_quit_then}
 use Rattle.client_drill.specs.Limits.{max_steps}
 use Rattle.client_drill.specs.Drill.{number_at, is_job, jobs_upto, put_line, run_line, step_line, sync_behind, lines_of_step, lines_upto, drill_lines, script}
@@ -178,18 +178,18 @@ module _ (seed count : ℕ) (low : count ≤ max_steps) where
   -- none quits in a front of the input
   front_quits : (front rest : List ℕ) → script seed count ≡ front ++ rest → has_quit (whole_lines front) ≡ false
   front_quits front rest cut =
-      no_quit_in (whole_lines front) (parts (unfinished front ++ rest)) (has_quit (whole_lines front)) refl
-      (ap has_quit (sym (pieces_are_cut_alike front rest) ∙ ap parts (sym cut) ∙ ended_parts all_lines_of one_each)
+      no_quit_in (whole_lines front) (cut_lines (unfinished front ++ rest)) (has_quit (whole_lines front)) refl
+      (ap has_quit (sym (pieces_are_cut_alike front rest) ∙ ap cut_lines (sym cut) ∙ ended_parts all_lines_of one_each)
       ∙ no_quit_then all_lines_of ([] ∷ []) none_quits refl)
 
   whole_is : lines_of (script seed count) ≡ all_lines_of
   whole_is = ended_lines_are_found all_lines_of one_each
 
-  ends_read : (end : InputEnd) (input left : List ℕ) → script seed count ≡ input ++ left → Read ≡ end_of (has_quit (lines_at end input)) end → end ≡ Read
+  ends_read : (end : InputEnd) (input left : List ℕ) → script seed count ≡ input ++ left → Read ≡ ended_input (has_quit (lines_at end input)) end → end ≡ Read
   ends_read Read input left cut is = refl
-  ends_read Failed input left cut is = sym (is ∙ ap (λ (b : Bool). end_of b Failed) (front_quits input left cut))
+  ends_read Failed input left cut is = sym (is ∙ ap (λ (b : Bool). ended_input b Failed) (front_quits input left cut))
   ends_read TooLong input left cut is =
-      sym (is ∙ ap (λ (b : Bool). end_of b TooLong)
+      sym (is ∙ ap (λ (b : Bool). ended_input b TooLong)
       (front_quits (take max_input input) (drop max_input input ++ left)
       (cut ∙ ap (λ (bytes : List ℕ). bytes ++ left) (sym (take-append-drop max_input input)) ∙ append_assoc (take max_input input) (drop max_input input) left)))
 

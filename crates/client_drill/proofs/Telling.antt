@@ -9,7 +9,7 @@ use Rattle.client_drill.specs.declared.session.Worked.{Worked}
 use Rattle.client_drill.specs.declared.summary.Summary.{Summary}
 use Rattle.client_drill.specs.Drill.{jobs_upto}
 use Rattle.client_drill.specs.Drilled.{IsCounted, summary_text}
-use Rattle.client_drill.specs.Ending.{status_of, DrillEnds}
+use Rattle.client_drill.specs.Ending.{status_of_drill, DrillEnds}
 
 -- a summary with a text of it, if there is one
 pub with_summary : {T E : Type 0} (result : Result T E) (items : T → List ℕ) (D : Summary → Type 0) (text : Summary → List ℕ) (summary : Summary) → D summary → IfOk result (λ made. items made ≡ text summary)
@@ -54,7 +54,7 @@ module _ (seed count : ℕ) where
 
     -- a summary was written, or a front of it
     pub told_so : (written : Result (Unit {0}) SinkError) → OnOk written (Adds a b text) → OnErr written ((size : ℕ) × (size ≤ length text) × Adds a b (take size text))
-        → CountsFault Failed p q written → DrillEnds seed count (status_of written) a b p q
+        → CountsFault Failed p q written → DrillEnds seed count (status_of_drill written) a b p q
     told_so (Ok done) all front counts =
         let adds : Adds a b (summary_text seed count summary) = subst (Adds a b) is all in
         let text_is = summary_text seed count summary in

@@ -4,7 +4,7 @@ use Rattle.std.specs.Prelude.{codes}
 use Rattle.std.specs.declared.alloc.AllocError.{AllocError}
 use Rattle.outside.specs.Keeper.{Images}
 use Rattle.mod_log.specs.Log.{Log, new_log}
-use Rattle.mem_net.specs.declared.parts.Parts.{Parts}
+use Rattle.mem_net.specs.declared.parts.NetworkParts.{NetworkParts}
 use Rattle.mem_net.specs.Drill.{InDrill}
 use Rattle.client_core.specs.declared.route.Route.{Route}
 use Rattle.client_core.specs.Keeping.{TellsKept}
@@ -31,7 +31,7 @@ handles route before left rest answers old new (Err stops.Sink) after kept trace
 handles route before left rest answers old new (Err stops.Keeper) after kept trace is turn = absurd (omega (arith, is))
 handles route before left rest answers old new (Err stops.Memory) after kept trace is turn = absurd (omega (arith, is))
 
-module _ (lines : List ℕ) (runner runner_now : InDrill) (net net_now : Parts InDrill) (left written : List ℕ) (images : Images) (worked : Worked) where
+module _ (lines : List ℕ) (runner runner_now : InDrill) (net net_now : NetworkParts InDrill) (left written : List ℕ) (images : Images) (worked : Worked) where
   abbrev around : Around
   around = drill_around lines [] no_images runner net
 
@@ -60,7 +60,7 @@ module _ (lines : List ℕ) (runner runner_now : InDrill) (net net_now : Parts I
       → ((log : Log) → TellsKept (Some images) (codes "drill") 1 log → worked ≡ worked_of log) → WorksOff lines runner runner_now net net_now worked
   works status well ran counted = works_by (subst (λ (n : ℕ). Ran 1 drill_route new_log around around_now n) well ran) counted
 
-module _ (lines : List ℕ) (runner runner_now : InDrill) (net net_now : Parts InDrill) (left written : List ℕ) (images : Images) (status : ℕ) where
+module _ (lines : List ℕ) (runner runner_now : InDrill) (net net_now : NetworkParts InDrill) (left written : List ℕ) (images : Images) (status : ℕ) where
   -- a session over objects that tell this
   abbrev Session : Route → List ℕ → List ℕ → Images → Type 0
   Session route input output found =

@@ -12,7 +12,7 @@ use Rattle.wire_frames.specs.declared.message.Message.TheVariants.{Done}
 use Rattle.world_rules.specs.Served.{new_served}
 use Rattle.server_core.specs.Holding.{served}
 use Rattle.mem_wires.specs.Wire.{world_of, new_world}
-use Rattle.mem_net.specs.declared.parts.Parts.{Parts}
+use Rattle.mem_net.specs.declared.parts.NetworkParts.{NetworkParts}
 use Rattle.mem_net.specs.Drill.{InDrill}
 use Rattle.shell_lang.specs.Faults.{number}
 use Rattle.shell_lang.specs.Texts.{text_of}
@@ -58,12 +58,12 @@ done_in (Done client number) = number ∷ []
 done_in message = []
 
 -- a number behind others, unless it is one of them
-abbrev pub with_one : List ℕ → ℕ → List ℕ
-with_one ns n = if list_any (λ m. m == n) ns then ns else ns ++ n ∷ []
+abbrev pub with_number : List ℕ → ℕ → List ℕ
+with_number ns n = if list_any (λ m. m == n) ns then ns else ns ++ n ∷ []
 
 -- each number once, where it comes first
 abbrev pub each_once : List ℕ → List ℕ
-each_once ns = fold with_one [] ns
+each_once ns = fold with_number [] ns
 
 -- the entries that packets say to be done, each once
 abbrev pub done_among : List Message → List ℕ
@@ -76,7 +76,7 @@ abbrev pub drill_route : Route
 drill_route = record { image = codes "drill"; server = codes "srv"; surrogate = Some (codes "sur"); work = codes "work" }
 
 -- what its objects tell: an input and an output in memory, what is kept, a runner and a network
-abbrev pub drill_around : List ℕ → List ℕ → Images → InDrill → Parts InDrill → Around
+abbrev pub drill_around : List ℕ → List ℕ → Images → InDrill → NetworkParts InDrill → Around
 drill_around left written images runner net = record {
   left = Some left;
   written = Some written;
@@ -94,7 +94,7 @@ abbrev pub new_runner : Bool → InDrill
 new_runner far = record { far = far; runs = []; calls = 0 }
 
 -- the network is as it is made for client 1, with a new server, a new surrogate with a new far runner, and the fates of a drill
-pub record IsDrillNet (seed count : ℕ) (net : Parts InDrill) : Type 0 where
+pub record IsDrillNet (seed count : ℕ) (net : NetworkParts InDrill) : Type 0 where
   pub world : world_of net.wires ≡ new_world 1 new_served
   pub fates : net.wires.fates ≡ drill_fates seed count
   pub troubles : net.wires.troubles ≡ 0
@@ -107,7 +107,7 @@ worked_of log = record { logged = log.acked + length log.pending; acked = log.ac
 
 -- The session of a new client 1 over these lines, this runner and this network ended well, and came to this: so many entries were logged,
 -- of which so many are acknowledged and so many pending then.
-pub record WorksOff (lines : List ℕ) (runner runner_now : InDrill) (net net_now : Parts InDrill) (worked : Worked) : Type 0 where
+pub record WorksOff (lines : List ℕ) (runner runner_now : InDrill) (net net_now : NetworkParts InDrill) (worked : Worked) : Type 0 where
   pub left : List ℕ
   pub written : List ℕ
   pub images : Images
@@ -126,7 +126,7 @@ pub record IsCounted (seed count : ℕ) (summary : Summary) : Type 0 where
 -- The lines of a drill were so worked off, and these are the numbers of that session, of its entries that a command made, and of the
 -- packets, the troubles and the served state of its network. Where no content that an operation may stand for has the print of another one among
 -- the packets, nothing is pending.
-pub record Drilled (seed count : ℕ) (runner runner_now : InDrill) (net net_now : Parts InDrill) (summary : Summary) : Type 0 where
+pub record Drilled (seed count : ℕ) (runner runner_now : InDrill) (net net_now : NetworkParts InDrill) (summary : Summary) : Type 0 where
   pub worked : WorksOff (script seed count) runner runner_now net net_now summary.worked
   pub counted : IsCounted seed count summary
   pub commands : summary.commands ≡ count_by was_run worked.ran.goes.trace.entries

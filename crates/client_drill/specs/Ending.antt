@@ -7,10 +7,10 @@ use Rattle.client_drill.specs.declared.summary.Summary.{Summary}
 use Rattle.client_drill.specs.Drilled.{IsCounted, summary_text}
 
 -- the status of a drill whose summary was so written
-abbrev pub status_of : Result (Unit {0}) SinkError → ℕ
-status_of (Ok done) = 0
-status_of (Err Failed) = 4
-status_of (Err Memory) = 7
+abbrev pub status_of_drill : Result (Unit {0}) SinkError → ℕ
+status_of_drill (Ok done) = 0
+status_of_drill (Err Failed) = 4
+status_of_drill (Err Memory) = 7
 
 -- What a drill of this seed and so many steps leaves that ends with this status, of the sink that it is given: what was written to it, and
 -- how often it failed. Nothing else is given to it.

@@ -4,7 +4,7 @@ ghost use Rattle.outside.specs.Outside.{Adds};
 ghost use Rattle.client_drill.specs.declared.summary.Summary.{Summary};
 ghost use Rattle.client_drill.specs.Limits.{max_steps};
 ghost use Rattle.client_drill.specs.Drilled.{summary_text, new_runner, IsDrillNet, Drilled};
-ghost use Rattle.client_drill.specs.Ending.{status_of, DrillEnds};
+ghost use Rattle.client_drill.specs.Ending.{status_of_drill, DrillEnds};
 
 use crate::fates::fates;
 use crate::script::job_count;
@@ -45,7 +45,7 @@ pub fn drill_on<O: Sink>(
 
 /// The status of a drill whose summary was so written.
 fn status_of(written: Result<(), SinkError>) -> u8
-    ensures { result ≡ status_of written }
+    ensures { result ≡ status_of_drill written }
 {
     let status = match written {
         Ok(()) => Status::Done,

@@ -7,7 +7,7 @@ ghost use Rattle.wire_frames.specs.Frame.{Spells};
 ghost use Rattle.server_core.specs.Holding.{served};
 ghost use Rattle.shell_lang.specs.Texts.{text_of};
 ghost use Rattle.shell_lang.specs.declared.answer.LineAnswer.TheVariants.{Status};
-ghost use Rattle.client_drill.specs.Drilled.{one_line, pair_line, summary_text, done_in, with_one, done_among};
+ghost use Rattle.client_drill.specs.Drilled.{one_line, pair_line, summary_text, done_in, with_number, done_among};
 
 use crate::session::Worked;
 use mem_net::{DrillRunner, MemNet};
@@ -109,7 +109,7 @@ pub(crate) fn done_count(alloc: Global, net: &MemNet<DrillRunner>) -> Result<u64
 /// Notes the entry that the frame of a message says to be done, unless it is noted.
 fn note_done(alloc: Global, done: &mut Vec<u64>, frame: &[u8]) -> Result<(), AllocError>
     ensures { (message : Message) → Spells message frame.now
-        → OnOk result (done.new.items ≡ fold with_one done.old.items (done_in message)) }
+        → OnOk result (done.new.items ≡ fold with_number done.old.items (done_in message)) }
 {
     let Ok(message) = read(alloc, frame) else {
         return Err(AllocError);

@@ -7,7 +7,7 @@ use Rattle.client_lines.specs.declared.input.InputEnd.{InputEnd}
 use Rattle.client_lines.specs.declared.input.InputEnd.TheVariants.{Read, Failed, TooLong}
 use Rattle.client_lines.specs.Limits.{max_input}
 use Rattle.client_lines.specs.Input.{last_at, Reading, IsAtEnd, EndsAt, ReadsPiece, within_limit, lines_at, HasRead}
-use Rattle.shell_lang.specs.Lines.{parts, whole_lines, unfinished, lines_of, last_line}
+use Rattle.shell_lang.specs.Lines.{cut_lines, whole_lines, unfinished, lines_of, last_line}
 use Rattle.shell_lang.proofs.Cutting.{piece_added, all_lines_taken}
 use Rattle.store_image.proofs.Appended.{take_none, take_past}
 
@@ -43,7 +43,7 @@ has_read_none left reading is = record {
   input = [];
   taken = takes_nothing left;
   count = ap (λ (r : Reading). r.count) is;
-  cut = ap parts (take_none max_input) ∙ ap parts (sym (ap (λ (r : Reading). r.bytes) is));
+  cut = ap cut_lines (take_none max_input) ∙ ap cut_lines (sym (ap (λ (r : Reading). r.bytes) is));
 }
 
 -- one more piece was read
@@ -59,14 +59,14 @@ has_read_piece left mid rest old new behind end before few reads =
       taken = takes_then left mid rest before.input reads.piece before.taken reads.taken;
       count = reads.count ∙ ap (λ (k : ℕ). k + length reads.piece) before.count ∙ sym (length-append before.input reads.piece);
       cut =
-          ap parts piece
-          ∙ piece_added behind before.input old.bytes (take (max_input - old.count) reads.piece) (ap parts (sym whole) ∙ before.cut)
-          ∙ ap (λ (l : List ℕ). behind ++ parts l) (sym reads.bytes);
+          ap cut_lines piece
+          ∙ piece_added behind before.input old.bytes (take (max_input - old.count) reads.piece) (ap cut_lines (sym whole) ∙ before.cut)
+          ∙ ap (λ (l : List ℕ). behind ++ cut_lines l) (sym reads.bytes);
     }
 
 -- no line is left: those behind, and the last one where it is a line, are the lines of the input
 pub has_read_all : (left rest : Option (List ℕ)) (reading : Reading) (behind : List (List ℕ)) (end : InputEnd) (now : HasRead left rest reading behind)
-    → parts reading.bytes ≡ reading.bytes ∷ [] → EndsAt rest reading.count end → lines_at end now.input ≡ behind ++ last_at end reading.bytes
+    → cut_lines reading.bytes ≡ reading.bytes ∷ [] → EndsAt rest reading.count end → lines_at end now.input ≡ behind ++ last_at end reading.bytes
 has_read_all left rest reading behind Read now none ended =
     let short : length now.input ≤ max_input = omega (arith, now.count, ended.1) in
     let whole : within_limit now.input ≡ now.input = take_all max_input now.input short in

@@ -5,7 +5,7 @@ use Rattle.std.proofs.lemmas.List.Folds.{list_any-append}
 use Rattle.client_lines.specs.declared.input.InputEnd.{InputEnd}
 use Rattle.client_lines.specs.declared.input.InputEnd.TheVariants.{Read, Failed, TooLong}
 use Rattle.client_lines.specs.Input.{last_at}
-use Rattle.client_lines.specs.Run.{quits, has_quit, up_to_quit, end_of}
+use Rattle.client_lines.specs.Run.{quits, has_quit, up_to_quit, ended_input}
 
 neither : (a b : Bool) → (a || b) ≡ false → (a ≡ false) × (b ≡ false)
 neither true b none = absurd (true≢false none)
@@ -80,12 +80,12 @@ last_up_to Read (b ∷ bs) = single (b ∷ bs) (quits (b ∷ bs))
 last_up_to Failed bytes = refl
 last_up_to TooLong bytes = refl
 
-read_stays : (b : Bool) → Read ≡ end_of b Read
+read_stays : (b : Bool) → Read ≡ ended_input b Read
 read_stays true = refl
 read_stays false = refl
 
 -- and whether it quits makes no other end
-pub end_stays : (end : InputEnd) (bytes : List ℕ) → end ≡ end_of (has_quit (last_at end bytes)) end
+pub end_stays : (end : InputEnd) (bytes : List ℕ) → end ≡ ended_input (has_quit (last_at end bytes)) end
 end_stays Read bytes = read_stays (has_quit (last_at Read bytes))
 end_stays Failed bytes = refl
 end_stays TooLong bytes = refl

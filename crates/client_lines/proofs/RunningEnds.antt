@@ -15,7 +15,7 @@ use Rattle.client_lines.specs.declared.run.Stop.{Stop}
 use Rattle.client_lines.specs.declared.run.Stop.TheVariants.{Sink, Keeper, Memory}
 use Rattle.client_lines.specs.Input.{EndsAt, within_limit, lines_at}
 use Rattle.client_session.specs.Session.{SessionState}
-use Rattle.client_lines.specs.Run.{status_of, closing_at, closing_line, has_quit, end_of, HasLines, StopsIn, IsInputRead}
+use Rattle.client_lines.specs.Run.{status_of, closing_at, closing_line, has_quit, ended_input, HasLines, StopsIn, IsInputRead}
 use Rattle.client_lines.specs.InsideRun.{AnswersInput, TakesInput, RunAnswers}
 
 module _ (route : Route) (before : SessionState) (left rest o : Option (List ℕ)) where
@@ -54,7 +54,7 @@ most rest count Failed stands = omega (arith, stands)
 most rest count TooLong stands = omega (arith, stands)
 
 -- a session that goes on to the end of its reading has no line that quits
-goes_on : (quit : Bool) (end ended : InputEnd) → ended ≡ end_of quit end → (ended ≡ Read → ⊥) → (quit ≡ false) × (ended ≡ end)
+goes_on : (quit : Bool) (end ended : InputEnd) → ended ≡ ended_input quit end → (ended ≡ Read → ⊥) → (quit ≡ false) × (ended ≡ end)
 goes_on true end ended is other = absurd (other is)
 goes_on false end ended is other = (refl, is)
 
@@ -66,7 +66,7 @@ module _ (l r : List ℕ) (lines : List (List ℕ)) (ended : InputEnd) (has : Ha
   read_or_quit : ended ≡ Read → (r ≡ []) ⊎ (has_quit (whole_lines (within_limit has.input)) ≡ true)
   read_or_quit is = by has.end has.stands (has_quit (lines_at has.end has.input)) refl (sym is ∙ has.ended_is)
     where
-      by : (end : InputEnd) → EndsAt (Some r) (length has.input) end → (quit : Bool) → has_quit (lines_at end has.input) ≡ quit → Read ≡ end_of quit end
+      by : (end : InputEnd) → EndsAt (Some r) (length has.input) end → (quit : Bool) → has_quit (lines_at end has.input) ≡ quit → Read ≡ ended_input quit end
           → (r ≡ []) ⊎ (has_quit (whole_lines (within_limit has.input)) ≡ true)
       by Read stands quit has_it is = inl stands.0
       by Failed stands true has_it is = inr (sym (ap has_quit (whole_are stands)) ∙ has_it)
@@ -77,15 +77,15 @@ module _ (l r : List ℕ) (lines : List (List ℕ)) (ended : InputEnd) (has : Ha
   long_ends : length has.input ≡ max_input + 1 → has_quit (whole_lines (within_limit has.input)) ≡ false → ended ≡ TooLong
   long_ends long none = by has.end has.stands has.ended_is
     where
-      by : (end : InputEnd) → EndsAt (Some r) (length has.input) end → ended ≡ end_of (has_quit (lines_at end has.input)) end → ended ≡ TooLong
+      by : (end : InputEnd) → EndsAt (Some r) (length has.input) end → ended ≡ ended_input (has_quit (lines_at end has.input)) end → ended ≡ TooLong
       by Read stands is = absurd (omega (arith, stands.1))
       by Failed stands is = absurd (omega (arith, stands))
-      by TooLong stands is = is ∙ ap (λ (quit : Bool). end_of quit TooLong) none
+      by TooLong stands is = is ∙ ap (λ (quit : Bool). ended_input quit TooLong) none
 
   too_long : ended ≡ TooLong → (length has.input ≡ max_input + 1) × (has_quit (whole_lines (within_limit has.input)) ≡ false)
   too_long is = by has.end has.stands (has_quit (lines_at has.end has.input)) refl (sym is ∙ has.ended_is)
     where
-      by : (end : InputEnd) → EndsAt (Some r) (length has.input) end → (quit : Bool) → has_quit (lines_at end has.input) ≡ quit → TooLong ≡ end_of quit end
+      by : (end : InputEnd) → EndsAt (Some r) (length has.input) end → (quit : Bool) → has_quit (lines_at end has.input) ≡ quit → TooLong ≡ ended_input quit end
           → (length has.input ≡ max_input + 1) × (has_quit (whole_lines (within_limit has.input)) ≡ false)
       by Read stands true has_it is = absurd (cc)
       by Read stands false has_it is = absurd (cc)
@@ -97,7 +97,7 @@ module _ (l r : List ℕ) (lines : List (List ℕ)) (ended : InputEnd) (has : Ha
   has_failed : ended ≡ Failed → has_quit (whole_lines has.input) ≡ false
   has_failed is = by has.end has.stands (has_quit (lines_at has.end has.input)) refl (sym is ∙ has.ended_is)
     where
-      by : (end : InputEnd) → EndsAt (Some r) (length has.input) end → (quit : Bool) → has_quit (lines_at end has.input) ≡ quit → Failed ≡ end_of quit end
+      by : (end : InputEnd) → EndsAt (Some r) (length has.input) end → (quit : Bool) → has_quit (lines_at end has.input) ≡ quit → Failed ≡ ended_input quit end
           → has_quit (whole_lines has.input) ≡ false
       by Read stands true has_it is = absurd (cc)
       by Read stands false has_it is = absurd (cc)

@@ -3,7 +3,7 @@ use Rattle.std.proofs.Common.{◌≡◌, ℕ, ◌+◌, ◌<◌, true, false, Lis
 use Rattle.client_core.specs.declared.route.Route.{Route}
 use Rattle.mod_log.specs.Log.{Log}
 use Rattle.client_core.specs.Trace.{Trace, nothing, followed}
-use Rattle.shell_lang.specs.Lines.{parts, but_last, whole_lines, unfinished, last_line, BeginsWithLine, IsCutUpTo}
+use Rattle.shell_lang.specs.Lines.{cut_lines, but_last, whole_lines, unfinished, last_line, BeginsWithLine, IsCutUpTo}
 use Rattle.shell_lang.proofs.Cutting.{parts_are, line_taken, all_lines_taken, but_last-append}
 use Rattle.client_lines.specs.declared.run.Stop.{Stop}
 use Rattle.client_session.specs.Session.{SessionState}
@@ -37,7 +37,7 @@ module _ (bytes left line : List ℕ) (lines : List (List ℕ)) (cuts : CutsFron
 
   pub line_cut : (behind : List ℕ) → behind ≡ rest → quits line ≡ false → CutsFront bytes behind (lines ++ line ∷ [])
   line_cut behind is goes_on = (
-    line_taken lines bytes left line cuts.0 begins ∙ ap (λ (l : List ℕ). (lines ++ line ∷ []) ++ parts l) (sym is),
+    line_taken lines bytes left line cuts.0 begins ∙ ap (λ (l : List ℕ). (lines ++ line ∷ []) ++ cut_lines l) (sym is),
     no_quit_then lines (line ∷ []) cuts.1 (one_line line false goes_on),
   )
 
@@ -51,7 +51,7 @@ module _ (bytes left line : List ℕ) (lines : List (List ℕ)) (cuts : CutsFron
   pub line_then : up_to_quit (whole_lines bytes) ≡ (lines ++ line ∷ []) ++ (if quits line then [] else up_to_quit (whole_lines rest))
   line_then = ap up_to_quit whole_are ∙ up_to_line lines line (whole_lines rest) cuts.1
 
-pub no_line_quits : (bytes left : List ℕ) (lines : List (List ℕ)) → CutsFront bytes left lines → parts left ≡ left ∷ [] → has_quit (whole_lines bytes) ≡ false
+pub no_line_quits : (bytes left : List ℕ) (lines : List (List ℕ)) → CutsFront bytes left lines → cut_lines left ≡ left ∷ [] → has_quit (whole_lines bytes) ≡ false
 no_line_quits bytes left lines cuts none = ap has_quit (all_lines_taken lines bytes left cuts.0 none).0 ∙ cuts.1
 
 module _ (route : Route) (a : SessionState) (bytes : List ℕ) (o : Option (List ℕ)) where
@@ -79,7 +79,7 @@ module _ (route : Route) (a : SessionState) (bytes : List ℕ) (o : Option (List
       (stops_sooner route stop a c k (front.0 ++ line ∷ []) (if quits line then [] else up_to_quit (whole_lines (drop (length line + 1) left))) o n (followed p q)
       (then_stops route stop a b c k front.0 (line ∷ []) o m n p q front.2 stops))
 
-  pub front_done : (left : List ℕ) (b : SessionState) (m : Option (List ℕ)) (p : Trace) → parts left ≡ left ∷ [] → AnswersFront route a bytes left o m b p
+  pub front_done : (left : List ℕ) (b : SessionState) (m : Option (List ℕ)) (p : Trace) → cut_lines left ≡ left ∷ [] → AnswersFront route a bytes left o m b p
       → AllAnswered route a (up_to_quit (whole_lines bytes)) o m b p
   front_done left b m p none front =
       let whole : whole_lines bytes ≡ front.0 = (all_lines_taken front.0 bytes left front.1.0 none).0 in

@@ -7,7 +7,7 @@ use Rattle.outside.specs.Outside.{Takes}
 use Rattle.client_core.specs.declared.route.Route.{Route}
 use Rattle.mod_log.specs.Log.{Log}
 use Rattle.client_core.specs.Trace.{Trace, nothing, followed}
-use Rattle.shell_lang.specs.Lines.{parts, whole_lines, unfinished, last_line}
+use Rattle.shell_lang.specs.Lines.{cut_lines, whole_lines, unfinished, last_line}
 use Rattle.shell_lang.proofs.Cutting.{parts_are}
 use Rattle.client_lines.specs.declared.input.InputEnd.{InputEnd}
 use Rattle.client_lines.specs.declared.input.InputEnd.TheVariants.{Read, Failed, TooLong}
@@ -16,7 +16,7 @@ use Rattle.client_lines.specs.declared.run.Stop.{Stop}
 use Rattle.client_lines.specs.declared.run.Stop.TheVariants.{Memory}
 use Rattle.client_lines.specs.Input.{last_at, Reading, EndsAt, GoesOnOrEnds, ReadsPiece, HasRead, within_limit, lines_at}
 use Rattle.client_session.specs.Session.{SessionState}
-use Rattle.client_lines.specs.Run.{HasLines, has_quit, up_to_quit, end_of}
+use Rattle.client_lines.specs.Run.{HasLines, has_quit, up_to_quit, ended_input}
 use Rattle.client_lines.specs.InsideRun.{AllAnswered, FrontAnswered, ReadsSoFar, AnswersSoFar, AnswersInput, HasUnfinished}
 use Rattle.client_lines.proofs.InputReading.{has_read_none, has_read_piece, has_read_all}
 use Rattle.client_lines.proofs.Quitting.{all_lines, behind_no_quit, ends_in_front, front_of, quit_behind, quit_in_front, no_quit_then, last_up_to, end_stays}
@@ -100,7 +100,7 @@ module _ (left : Option (List ℕ)) where
 
   -- the lines that count, where reading stands so
   lines_so : (rest : Option (List ℕ)) (reading : Reading) (behind lines : List (List ℕ)) (end ended : InputEnd) (now : HasRead left rest reading behind) → EndsAt rest reading.count end
-      → lines ≡ up_to_quit (lines_at end now.input) → ended ≡ end_of (has_quit (lines_at end now.input)) end → HasLines left rest lines ended
+      → lines ≡ up_to_quit (lines_at end now.input) → ended ≡ ended_input (has_quit (lines_at end now.input)) end → HasLines left rest lines ended
   lines_so rest reading behind lines end ended now ends are is = record {
     input = now.input;
     taken = now.taken;
@@ -120,7 +120,7 @@ module _ (left : Option (List ℕ)) where
       let whole = whole_lines new.bytes in
       lines_so rest new behind (behind ++ up_to_quit whole) (known end) Read now.read stands
       (sym (ap up_to_quit lines.1 ∙ behind_no_quit behind (whole ++ lines.0) now.no_quit ∙ ap (λ (ls : List (List ℕ)). behind ++ ls) (ends_in_front whole lines.0 some)))
-      (sym (ap (λ (b : Bool). end_of b (known end)) (ap has_quit lines.1 ∙ quit_behind behind (whole ++ lines.0) now.no_quit ∙ quit_in_front whole lines.0 some)))
+      (sym (ap (λ (b : Bool). ended_input b (known end)) (ap has_quit lines.1 ∙ quit_behind behind (whole ++ lines.0) now.no_quit ∙ quit_in_front whole lines.0 some)))
 
   -- a stop in the lines of a piece, or behind them
   pub stops_in : (mid rest : Option (List ℕ)) (old new : Reading) (behind : List (List ℕ)) (end : Option InputEnd) → old.count ≤ max_input → ReadsPiece mid rest old new end
@@ -132,8 +132,8 @@ module _ (left : Option (List ℕ)) where
       let whole = whole_lines new.bytes in
       let front = front_of whole lines.0 in (
         front.0,
-        end_of (has_quit (lines_at (known end) now.read.input)) (known end),
-        lines_so rest new behind ((behind ++ up_to_quit whole) ++ front.0) (known end) (end_of (has_quit (lines_at (known end) now.read.input)) (known end)) now.read stands
+        ended_input (has_quit (lines_at (known end) now.read.input)) (known end),
+        lines_so rest new behind ((behind ++ up_to_quit whole) ++ front.0) (known end) (ended_input (has_quit (lines_at (known end) now.read.input)) (known end)) now.read stands
             (sym (ap up_to_quit lines.1 ∙ behind_no_quit behind (whole ++ lines.0) now.no_quit ∙ ap (λ (ls : List (List ℕ)). behind ++ ls) front.1
             ∙ sym (append_assoc behind (up_to_quit whole) front.0)))
             refl,
@@ -149,26 +149,26 @@ module _ (left : Option (List ℕ)) where
       let now = piece_read mid rest old new behind (Some at.0) few reads so_far in
       let lines = lines_begin left rest new behind at.0 now.read at.1 in (
         up_to_quit (whole_lines new.bytes ++ lines.0),
-        end_of (has_quit (lines_at at.0 now.read.input)) at.0,
-        lines_so rest new behind (behind ++ up_to_quit (whole_lines new.bytes ++ lines.0)) at.0 (end_of (has_quit (lines_at at.0 now.read.input)) at.0) now.read at.1
+        ended_input (has_quit (lines_at at.0 now.read.input)) at.0,
+        lines_so rest new behind (behind ++ up_to_quit (whole_lines new.bytes ++ lines.0)) at.0 (ended_input (has_quit (lines_at at.0 now.read.input)) at.0) now.read at.1
             (sym (ap up_to_quit lines.1 ∙ behind_no_quit behind (whole_lines new.bytes ++ lines.0) now.no_quit))
             refl,
       )
 
   -- the end of the input
-  pub all_in : (rest : Option (List ℕ)) (reading : Reading) (behind : List (List ℕ)) (end : InputEnd) → parts reading.bytes ≡ reading.bytes ∷ [] → EndsAt rest reading.count end
+  pub all_in : (rest : Option (List ℕ)) (reading : Reading) (behind : List (List ℕ)) (end : InputEnd) → cut_lines reading.bytes ≡ reading.bytes ∷ [] → EndsAt rest reading.count end
       → ReadsSoFar left rest reading behind → HasLines left rest (behind ++ last_at end reading.bytes) end
   all_in rest reading behind end none ends now =
       let all : lines_at end now.read.input ≡ behind ++ last_at end reading.bytes = has_read_all left rest reading behind end now.read none ends in
       lines_so rest reading behind (behind ++ last_at end reading.bytes) end end now.read ends
       (sym (ap up_to_quit all ∙ behind_no_quit behind (last_at end reading.bytes) now.no_quit ∙ ap (λ (ls : List (List ℕ)). behind ++ ls) (last_up_to end reading.bytes)))
-      (end_stays end reading.bytes ∙ sym (ap (λ (b : Bool). end_of b end) (ap has_quit all ∙ quit_behind behind (last_at end reading.bytes) now.no_quit)))
+      (end_stays end reading.bytes ∙ sym (ap (λ (b : Bool). ended_input b end) (ap has_quit all ∙ quit_behind behind (last_at end reading.bytes) now.no_quit)))
 
   -- the source failed, and gave nothing
   pub failed_in : (mid rest : Option (List ℕ)) (old new : Reading) (behind : List (List ℕ)) (end : Option InputEnd) → old.count ≤ max_input → ReadsPiece mid rest old new end
-      → end ≡ Some Failed → new ≡ old → parts old.bytes ≡ old.bytes ∷ [] → ReadsSoFar left mid old behind → HasLines left rest behind Failed
+      → end ≡ Some Failed → new ≡ old → cut_lines old.bytes ≡ old.bytes ∷ [] → ReadsSoFar left mid old behind → HasLines left rest behind Failed
   failed_in mid rest old new behind end few reads failed same none so_far =
-      let no_line : parts new.bytes ≡ new.bytes ∷ [] = subst (λ (r : Reading). parts r.bytes ≡ r.bytes ∷ []) (sym same) none in
+      let no_line : cut_lines new.bytes ≡ new.bytes ∷ [] = subst (λ (r : Reading). cut_lines r.bytes ≡ r.bytes ∷ []) (sym same) none in
       let ends : EndsAt rest new.count Failed = subst (GoesOnOrEnds rest old.count new.count) failed reads.ended in
       subst (λ (ls : List (List ℕ)). HasLines left rest ls Failed) (append-nil behind)
       (all_in rest new behind Failed no_line ends (piece_read mid rest old new behind end few reads so_far))
@@ -191,7 +191,7 @@ module _ (route : Route) (a : SessionState) (left o : Option (List ℕ)) where
 
   -- the source failed
   pub so_far_failed : (mid rest : Option (List ℕ)) (old new : Reading) (end : Option InputEnd) (b : SessionState) (m : Option (List ℕ)) (p : Trace) → old.count ≤ max_input
-      → ReadsPiece mid rest old new end → end ≡ Some Failed → new ≡ old → parts old.bytes ≡ old.bytes ∷ [] → AnswersSoFar route a left mid old o m b p
+      → ReadsPiece mid rest old new end → end ≡ Some Failed → new ≡ old → cut_lines old.bytes ≡ old.bytes ∷ [] → AnswersSoFar route a left mid old o m b p
       → AnswersInput route a left rest o m (Ok Failed) b b.client.log p
   so_far_failed mid rest old new end b m p few reads failed same none so_far =
       (so_far.0, failed_in left mid rest old new so_far.0 end few reads failed same none so_far.1, so_far.2, refl)
@@ -232,7 +232,7 @@ module _ (route : Route) (a : SessionState) (left o : Option (List ℕ)) where
       )
 
   -- the end of the input
-  pub all_answered : (rest : Option (List ℕ)) (reading : Reading) (end : InputEnd) (b c : SessionState) (k : Log) (m n : Option (List ℕ)) (p q : Trace) → parts reading.bytes ≡ reading.bytes ∷ []
+  pub all_answered : (rest : Option (List ℕ)) (reading : Reading) (end : InputEnd) (b c : SessionState) (k : Log) (m n : Option (List ℕ)) (p q : Trace) → cut_lines reading.bytes ≡ reading.bytes ∷ []
       → EndsAt rest reading.count end → AnswersSoFar route a left rest reading o m b p → AllAnswered route b (last_at end reading.bytes) m n c q → k ≡ c.client.log
       → AnswersInput route a left rest o n (Ok end) c k (followed p q)
   all_answered rest reading end b c k m n p q none ends so_far answered is = (
@@ -242,7 +242,7 @@ module _ (route : Route) (a : SessionState) (left o : Option (List ℕ)) where
     is,
   )
 
-  pub all_stops : (rest : Option (List ℕ)) (reading : Reading) (end : InputEnd) (stop : Stop) (b c : SessionState) (k : Log) (m n : Option (List ℕ)) (p q : Trace) → parts reading.bytes ≡ reading.bytes ∷ []
+  pub all_stops : (rest : Option (List ℕ)) (reading : Reading) (end : InputEnd) (stop : Stop) (b c : SessionState) (k : Log) (m n : Option (List ℕ)) (p q : Trace) → cut_lines reading.bytes ≡ reading.bytes ∷ []
       → EndsAt rest reading.count end → AnswersSoFar route a left rest reading o m b p → FrontAnswered stop route b (last_at end reading.bytes) m n c k q
       → AnswersInput route a left rest o n (Err stop) c k (followed p q)
   all_stops rest reading end stop b c k m n p q none ends so_far stops = (

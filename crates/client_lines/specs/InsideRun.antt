@@ -7,7 +7,7 @@ use Rattle.client_core.specs.declared.route.Route.{Route}
 use Rattle.client_core.specs.Client.{Client}
 use Rattle.client_core.specs.Trace.{Trace}
 use Rattle.client_core.specs.Noting.{ReplacesNone, KeepsChanges}
-use Rattle.shell_lang.specs.Lines.{parts, unfinished, IsCutUpTo}
+use Rattle.shell_lang.specs.Lines.{cut_lines, unfinished, IsCutUpTo}
 use Rattle.client_lines.specs.declared.input.InputEnd.{InputEnd}
 use Rattle.client_lines.specs.declared.input.InputEnd.TheVariants.{TooLong}
 use Rattle.client_lines.specs.declared.run.Stop.{Stop}
@@ -66,7 +66,7 @@ AnswersFront route before bytes left old new after trace =
 -- all lines were cut: the bytes behind the last line end are left
 pub record HasUnfinished (old new : Reading) : Type 0 where
   pub bytes : new.bytes ≡ unfinished old.bytes
-  pub no_line : parts new.bytes ≡ new.bytes ∷ []
+  pub no_line : cut_lines new.bytes ≡ new.bytes ∷ []
   pub count : new.count ≡ old.count
 
 -- so much was read, and of the lines that are behind none quits

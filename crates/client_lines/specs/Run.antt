@@ -72,9 +72,9 @@ up_to_quit [] = []
 up_to_quit (line ∷ lines) = line ∷ (if quits line then [] else up_to_quit lines)
 
 -- how the input of a session ends: where a line quits, it ends there, and what may come behind is not asked for
-abbrev pub end_of : Bool → InputEnd → InputEnd
-end_of true end = Read
-end_of false end = end
+abbrev pub ended_input : Bool → InputEnd → InputEnd
+ended_input true end = Read
+ended_input false end = end
 
 -- Of the source's bytes some were taken, and reading them stands so. While the end is not known, it stands as it does where
 -- the source fails. These are the lines that count then, up to the first that quits, and the session's input ends so.
@@ -84,7 +84,7 @@ pub record HasLines (left rest : Option (List ℕ)) (lines : List (List ℕ)) (e
   pub end : InputEnd
   pub stands : EndsAt rest (length input) end
   pub lines_are : lines ≡ up_to_quit (lines_at end input)
-  pub ended_is : ended ≡ end_of (has_quit (lines_at end input)) end
+  pub ended_is : ended ≡ ended_input (has_quit (lines_at end input)) end
 
 -- ---- what is written
 

@@ -8,7 +8,7 @@ ghost use Rattle.client_prog.specs.Ending.{is_status};
 
 use crate::reasons::{Failures, end_shown, end_told};
 use crate::run::client_run;
-use crate::untold::Untold;
+use crate::untold::UntoldReader;
 use crate::words::{Form, form_of};
 use child_runner::ChildRunner;
 use cmd_capture::Runner;
@@ -218,7 +218,7 @@ fn run_client<
     ensures known { IsTrue (is_status (exit_status result)) }
 {
     let typed = Prompting::new(rt, rt.reader(), terminals.is_typed);
-    run_over(rt, terminals, words, Untold::new(typed), output)
+    run_over(rt, terminals, words, UntoldReader::new(typed), output)
 }
 
 /// The same over what this reader gives.

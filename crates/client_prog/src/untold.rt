@@ -9,18 +9,18 @@ use std::io::Read;
 
 /// A reader that gives what its reader gives, and tells contracts none of it. What standard input tells is its own affair.
 #[derive(Drop)]
-pub(crate) struct Untold<R: Read + Drop> {
+pub(crate) struct UntoldReader<R: Read + Drop> {
     reader: R,
 }
 
-impl<R: Read + Drop> Untold<R> {
+impl<R: Read + Drop> UntoldReader<R> {
     /// Tells nothing of this reader.
-    pub(crate) fn new(reader: R) -> Untold<R> {
-        Untold { reader }
+    pub(crate) fn new(reader: R) -> UntoldReader<R> {
+        UntoldReader { reader }
     }
 }
 
-impl<R: Read + Drop> Read for Untold<R> {
+impl<R: Read + Drop> Read for UntoldReader<R> {
     ghost remaining = { λ _. None };
 
     fn read(&mut self, buf: &mut [u8]) -> io::Result<usize>
@@ -31,6 +31,6 @@ impl<R: Read + Drop> Read for Untold<R> {
     }
 }
 
-impl<R: Read + Drop> SteadyRead for Untold<R> {
+impl<R: Read + Drop> SteadyRead for UntoldReader<R> {
     ghost steady = { λ _ _ _. refl };
 }

@@ -15,8 +15,8 @@ use Rattle.tree_proof.specs.declared.checking.CheckError.{CheckError}
 use Rattle.client_lines.specs.declared.input.InputEnd.TheVariants as ends
 use Rattle.client_lines.specs.Limits.{max_input}
 use Rattle.client_lines.proofs.Counting.{other_status, rises}
-use Rattle.client_proof.specs.Ending.{StreamFaults, is_check_status, answer_status, Answers, BreaksOff, CheckEnds}
-use Rattle.client_proof.specs.Inside.{ReadsAll, ReadsWithin, Tells}
+use Rattle.client_proof.specs.Ending.{StreamFaults, is_check_status, answer_status, WritesAnswer, BreaksAnswer, CheckEnds}
+use Rattle.client_proof.specs.Inside.{ReadsAll, ReadsWithin, TellsFinding}
 
 -- what holds of every value holds of one that is told
 of_told : {A : Type 0} (told : Option A) (P : A → Type 0) → ((x : A) → P x) → IfSome told P
@@ -121,7 +121,7 @@ module _ (root : Digest) (path : FilePath) (left rest written now : Option (List
     -- the answer was written whole
     answered_whole : (status : ℕ) → IsTrue (is_check_status status) → (status ≡ 3 → ⊥) → (status ≡ 4 → ⊥) → (status ≡ 7 → ⊥)
         → (status ≡ 8 → ⊥) → (status ≡ 0) ⊎ ((status ≡ 9) ⊎ (status ≡ 7)) → RisesWhere (status ≡ 4) before.sink after.sink
-        → Answers (checked root path bytes) status written now → CheckEnds root path status left rest written now before after
+        → WritesAnswer (checked root path bytes) status written now → CheckEnds root path status left rest written now before after
     answered_whole status known no_3 no_4 no_7 no_8 either sink answers = record {
       known = known;
       source = other_status 3 before.source after.source status no_3 source;
@@ -138,7 +138,7 @@ module _ (root : Digest) (path : FilePath) (left rest written now : Option (List
     }
 
     -- the sink failed
-    ends_unwritten : RisesWhere (◌≡◌ {A = ℕ} 4 4) before.sink after.sink → BreaksOff (checked root path bytes) written now
+    ends_unwritten : RisesWhere (◌≡◌ {A = ℕ} 4 4) before.sink after.sink → BreaksAnswer (checked root path bytes) written now
         → CheckEnds root path 4 left rest written now before after
     ends_unwritten sink front = record {
       known = refl;
@@ -156,7 +156,7 @@ module _ (root : Digest) (path : FilePath) (left rest written now : Option (List
     }
 
     -- memory ran out behind the end of the input
-    ends_broken : RisesWhere (◌≡◌ {A = ℕ} 7 4) before.sink after.sink → BreaksOff (checked root path bytes) written now
+    ends_broken : RisesWhere (◌≡◌ {A = ℕ} 7 4) before.sink after.sink → BreaksAnswer (checked root path bytes) written now
         → CheckEnds root path 7 left rest written now before after
     ends_broken sink front = record {
       known = refl;
@@ -174,11 +174,11 @@ module _ (root : Digest) (path : FilePath) (left rest written now : Option (List
     }
 
     -- a status that no answer has
-    no_such : {P : Type 0} (status : ℕ) → (status ≡ 0 → ⊥) → (status ≡ 9 → ⊥) → Answers (checked root path bytes) status written now → P
+    no_such : {P : Type 0} (status : ℕ) → (status ≡ 0 → ⊥) → (status ≡ 9 → ⊥) → WritesAnswer (checked root path bytes) status written now → P
     no_such status no_0 no_9 answers = absurd (no_answer (checked root path bytes) status no_0 no_9 answers.0)
 
     pub ends_told : (status : Status) → RisesWhere (code status ≡ 4) before.sink after.sink
-        → Tells (checked root path bytes) status written now → CheckEnds root path (code status) left rest written now before after
+        → TellsFinding (checked root path bytes) status written now → CheckEnds root path (code status) left rest written now before after
     ends_told Done sink tells =
         answered_whole 0 refl (λ is. absurd (cc is)) (λ is. absurd (cc is)) (λ is. absurd (cc is)) (λ is. absurd (cc is)) (inl refl) sink tells
     ends_told Refused sink tells =
@@ -195,8 +195,8 @@ module _ (root : Digest) (path : FilePath) (left rest written now : Option (List
 -- ---- the answer
 
 -- an answer that was written whole is told by its status
-pub told_whole : (answer : Result Finding CheckError) (status : Status) (written now : Option (List ℕ)) → Answers answer (code status) written now
-    → Tells answer status written now
+pub told_whole : (answer : Result Finding CheckError) (status : Status) (written now : Option (List ℕ)) → WritesAnswer answer (code status) written now
+    → TellsFinding answer status written now
 told_whole answer SinkFailed written now answers = absurd (no_answer answer 4 (λ is. absurd (cc is)) (λ is. absurd (cc is)) answers.0)
 told_whole answer NoMemory written now answers = absurd (no_answer answer 7 (λ is. absurd (cc is)) (λ is. absurd (cc is)) answers.0)
 told_whole answer Done written now answers = answers

@@ -27,12 +27,12 @@ answer_status (Ok finding) = 0
 answer_status (Err refused) = 9
 
 -- the whole line was written, and the status is its own
-abbrev pub Answers : Result Finding CheckError → ℕ → Option (List ℕ) → Option (List ℕ) → Type 0
-Answers answer status written now = (status ≡ answer_status answer) × Adds written now (answer_line answer)
+abbrev pub WritesAnswer : Result Finding CheckError → ℕ → Option (List ℕ) → Option (List ℕ) → Type 0
+WritesAnswer answer status written now = (status ≡ answer_status answer) × Adds written now (answer_line answer)
 
 -- a front of it was written
-abbrev pub BreaksOff : Result Finding CheckError → Option (List ℕ) → Option (List ℕ) → Type 0
-BreaksOff answer written now =
+abbrev pub BreaksAnswer : Result Finding CheckError → Option (List ℕ) → Option (List ℕ) → Type 0
+BreaksAnswer answer written now =
     (count : ℕ) × (count ≤ length (answer_line answer)) × Adds written now (take count (answer_line answer))
 
 -- What a check of the certificate that an input holds leaves, against this root and of this path, that ends with this status.
@@ -48,11 +48,11 @@ pub record CheckEnds (root : Digest) (path : FilePath) (status : ℕ) (left rest
   pub most : length input ≤ max_input + 1
   pub past : status ≡ 8 ↔ max_input < length input
   -- 0 and 9: these are all, and the answer to them is written; 9 exactly where it is a refusal
-  pub answered : (status ≡ 0) ⊎ (status ≡ 9) → IsAtEnd rest × Answers (checked root path input) status written now
+  pub answered : (status ≡ 0) ⊎ (status ≡ 9) → IsAtEnd rest × WritesAnswer (checked root path input) status written now
   -- 3 and 8: nothing is written
   pub unread : (status ≡ 3) ⊎ (status ≡ 8) → now ≡ written
   -- 4 and 7: a front of the answer is written, and none of it where memory ran out before the end
-  pub unwritten : status ≡ 4 → IsAtEnd rest × BreaksOff (checked root path input) written now
-  pub no_memory : status ≡ 7 → (now ≡ written) ⊎ (IsAtEnd rest × BreaksOff (checked root path input) written now)
+  pub unwritten : status ≡ 4 → IsAtEnd rest × BreaksAnswer (checked root path input) written now
+  pub no_memory : status ≡ 7 → (now ≡ written) ⊎ (IsAtEnd rest × BreaksAnswer (checked root path input) written now)
   pub complete : IfSome left (λ bytes. length bytes ≤ max_input → (Rose faults.source faults_now.source → ⊥)
       → (Rose faults.sink faults_now.sink → ⊥) → (status ≡ 0) ⊎ ((status ≡ 9) ⊎ (status ≡ 7)))

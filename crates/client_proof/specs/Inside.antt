@@ -10,7 +10,7 @@ use Rattle.client_lines.specs.declared.input.InputEnd.{InputEnd}
 use Rattle.client_lines.specs.declared.input.InputEnd.TheVariants.{Read, TooLong}
 use Rattle.client_lines.specs.Limits.{max_input}
 use Rattle.client_lines.specs.Input.{EndsAt, GoesOnOrEnds}
-use Rattle.client_proof.specs.Ending.{Answers, BreaksOff}
+use Rattle.client_proof.specs.Ending.{WritesAnswer, BreaksAnswer}
 
 -- a piece stands behind the bytes, within the limit; or it has the one byte past it
 abbrev pub AddsWithin : List ℕ → List ℕ → List ℕ → Option InputEnd → Type 0
@@ -36,7 +36,7 @@ abbrev pub ReadsWithin : Option (List ℕ) → Option (List ℕ) → ℕ → Typ
 ReadsWithin left rest before = (piece : List ℕ) × Takes left rest piece × (before + length piece ≤ max_input)
 
 -- the answer was written whole, or broken off
-abbrev pub Tells : Result Finding CheckError → Status → Option (List ℕ) → Option (List ℕ) → Type 0
-Tells answer SinkFailed written now = BreaksOff answer written now
-Tells answer NoMemory written now = BreaksOff answer written now
-Tells answer status written now = Answers answer (code status) written now
+abbrev pub TellsFinding : Result Finding CheckError → Status → Option (List ℕ) → Option (List ℕ) → Type 0
+TellsFinding answer SinkFailed written now = BreaksAnswer answer written now
+TellsFinding answer NoMemory written now = BreaksAnswer answer written now
+TellsFinding answer status written now = WritesAnswer answer (code status) written now

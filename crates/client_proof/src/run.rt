@@ -3,8 +3,8 @@ ghost use Rattle.std.specs.Prelude.{◌≡◌, IfOk, OnErr};
 ghost use Rattle.outside.specs.Outside.{CountsFault, RisesWhere};
 ghost use Rattle.program_words.specs.Status.{code};
 ghost use Rattle.tree_proof.specs.Checking.{checked};
-ghost use Rattle.client_proof.specs.Ending.{answer_status, Answers, BreaksOff, CheckEnds};
-ghost use Rattle.client_proof.specs.Inside.{Tells};
+ghost use Rattle.client_proof.specs.Ending.{answer_status, WritesAnswer, BreaksAnswer, CheckEnds};
+ghost use Rattle.client_proof.specs.Inside.{TellsFinding};
 
 use crate::reading::read_all;
 use crate::telling::answer_line;
@@ -62,7 +62,7 @@ fn tell<O: Sink>(
     certificate: &[u8],
     output: &mut O,
 ) -> Status
-    ensures tells { Tells (checked root.now path.now certificate.now) result (O.written output.old) (O.written output.new) }
+    ensures tells { TellsFinding (checked root.now path.now certificate.now) result (O.written output.old) (O.written output.new) }
     ensures cause { RisesWhere (code result ≡ 4) (O.faults output.old) (O.faults output.new) }
 {
     match answer(alloc, root, path, certificate, output) {
@@ -80,9 +80,9 @@ fn answer<O: Sink>(
     certificate: &[u8],
     output: &mut O,
 ) -> Result<Status, SinkError>
-    ensures all { IfOk result (λ status. Answers (checked root.now path.now certificate.now) (code status) (O.written output.old)
+    ensures all { IfOk result (λ status. WritesAnswer (checked root.now path.now certificate.now) (code status) (O.written output.old)
         (O.written output.new)) }
-    ensures front { OnErr result (BreaksOff (checked root.now path.now certificate.now) (O.written output.old) (O.written output.new)) }
+    ensures front { OnErr result (BreaksAnswer (checked root.now path.now certificate.now) (O.written output.old) (O.written output.new)) }
     ensures cause { CountsFault SinkError.Failed (O.faults output.old) (O.faults output.new) result }
 {
     let answer = checked(alloc, root, path, certificate)?;

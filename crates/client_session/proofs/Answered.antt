@@ -52,7 +52,7 @@ use Rattle.shell_lang.specs.declared.line.LineError.{LineError}
 use Rattle.shell_lang.specs.declared.answer.LineAnswer.{LineAnswer}
 use Rattle.shell_lang.specs.declared.answer.LineAnswer.TheVariants as answers
 use Rattle.client_session.specs.Session.{SessionState, is_unanswered, put_effect, make_effect, remove_effect, move_effect, sync_answer, pull_answer, local_answer, word_answer, capture_answer, job_answer, run_answer, status_answer, LogTurn, CommandTurn, LineTurn, Chain, LeavesPending}
-use Rattle.client_session.specs.Looking.{found_at, shown, listed, entered, about, cat_answer, list_answer, enter_answer}
+use Rattle.client_session.specs.Looking.{node_found, shown, listed, entered, about, cat_answer, list_answer, enter_answer}
 use Rattle.client_session.specs.Laws.{IsChange, ChangesLeadTo, UnansweredLinesCostAsks}
 use Rattle.client_session.proofs.Changing.{acknowledged_leads, line_leads, line_number}
 use Rattle.client_session.proofs.Pulls.{only_pulls}
@@ -83,8 +83,8 @@ about_quiet (Ok path) answer quiet leaves = quiet path leaves
 about_quiet (Err refusal) answer quiet leaves = leaves
 
 list_quiet : (tree : Volume) (folder : FilePath) (word : Option (List ℕ)) → NotPending (list_answer tree folder word)
-list_quiet tree folder None leaves = listed_quiet tree folder (found_at tree folder) leaves
-list_quiet tree folder (Some word) leaves = about_quiet (resolved folder word) (λ path. listed tree path (found_at tree path)) (λ path. listed_quiet tree path (found_at tree path)) leaves
+list_quiet tree folder None leaves = listed_quiet tree folder (node_found tree folder) leaves
+list_quiet tree folder (Some word) leaves = about_quiet (resolved folder word) (λ path. listed tree path (node_found tree path)) (λ path. listed_quiet tree path (node_found tree path)) leaves
 
 local_quiet : (result : Result ℕ LogError) → LeavesPending (local_answer result) → ⊥
 local_quiet (Ok number) leaves = leaves
@@ -160,12 +160,12 @@ module _ (route : Route) (before after : SessionState) (trace : Trace) (answer :
   only_syncs (Ok (lines.Move from to)) turn = log_quiet (move_effect before.folder from to) turn
   only_syncs (Ok (lines.Cat word)) turn =
       let tree : Volume = tree_of before.client.log in
-      not_so (Some (cat_answer tree before.folder word)) turn.0 (about_quiet (resolved before.folder word) (λ path. shown path (found_at tree path)) (λ path. shown_quiet path (found_at tree path)))
+      not_so (Some (cat_answer tree before.folder word)) turn.0 (about_quiet (resolved before.folder word) (λ path. shown path (node_found tree path)) (λ path. shown_quiet path (node_found tree path)))
   only_syncs (Ok (lines.List word)) turn =
       let tree : Volume = tree_of before.client.log in not_so (Some (list_answer tree before.folder word)) turn.0 (list_quiet tree before.folder word)
   only_syncs (Ok (lines.Enter word)) turn =
       let tree : Volume = tree_of before.client.log in
-      not_so (Some (enter_answer tree before.folder word)) turn.0 (about_quiet (resolved before.folder word) (λ path. entered path (found_at tree path)) (λ path. entered_quiet path (found_at tree path)))
+      not_so (Some (enter_answer tree before.folder word)) turn.0 (about_quiet (resolved before.folder word) (λ path. entered path (node_found tree path)) (λ path. entered_quiet path (node_found tree path)))
   only_syncs (Ok (lines.Run words)) turn = command_quiet (capture words before.folder) turn
   only_syncs (Ok lines.Status) turn = not_so (Some (status_answer before)) turn.0 (λ none. none)
   only_syncs (Ok lines.Sync) turn = (turn.0, turn.1, turn.3)

@@ -37,7 +37,7 @@ use Rattle.shell_lang.specs.declared.line.LineError.{LineError}
 use Rattle.shell_lang.specs.declared.answer.LineAnswer.{LineAnswer}
 use Rattle.client_session.specs.Session.{SessionState, is_unrun, put_effect, make_effect, remove_effect, move_effect, sync_answer, pull_answer, local_answer, word_answer, capture_answer, job_answer, run_answer, LogTurn, CommandTurn, LineTurn}
 use Rattle.client_session.specs.Causes.{asks_to_run}
-use Rattle.client_session.specs.Looking.{found_at, shown, listed, entered, about, list_answer}
+use Rattle.client_session.specs.Looking.{node_found, shown, listed, entered, about, list_answer}
 use Rattle.client_session.specs.Laws.{UnrunLinesAreCounted, LinesRunOnce}
 use Rattle.client_session.proofs.Acknowledged.{sync_holds}
 
@@ -106,8 +106,8 @@ about_other (Ok path) answer other = other path
 about_other (Err refusal) answer other = refl
 
 list_other : (tree : Volume) (folder : FilePath) (word : Option (List ℕ)) → IsOther (Some (list_answer tree folder word))
-list_other tree folder None = listed_other tree folder (found_at tree folder)
-list_other tree folder (Some word) = about_other (resolved folder word) (λ path. listed tree path (found_at tree path)) (λ path. listed_other tree path (found_at tree path))
+list_other tree folder None = listed_other tree folder (node_found tree folder)
+list_other tree folder (Some word) = about_other (resolved folder word) (λ path. listed tree path (node_found tree path)) (λ path. listed_other tree path (node_found tree path))
 
 pub local_other : (result : Result ℕ LogError) → IsOther (local_answer result)
 local_other (Ok number) = refl
@@ -218,11 +218,11 @@ module _ (route : Route) (before after : SessionState) (trace : Trace) (answer :
   line_counts (Ok (lines.Move from to)) turn = log_counts (move_effect before.folder from to) turn
   line_counts (Ok (lines.Cat word)) turn =
       let tree : Volume = tree_of before.client.log in
-      quiet_counts answer _ trace turn.0 (about_other (resolved before.folder word) (λ path. shown path (found_at tree path)) (λ path. shown_other path (found_at tree path))) (as_nothing trace turn.2)
+      quiet_counts answer _ trace turn.0 (about_other (resolved before.folder word) (λ path. shown path (node_found tree path)) (λ path. shown_other path (node_found tree path))) (as_nothing trace turn.2)
   line_counts (Ok (lines.List word)) turn = let tree : Volume = tree_of before.client.log in quiet_counts answer _ trace turn.0 (list_other tree before.folder word) (as_nothing trace turn.2)
   line_counts (Ok (lines.Enter word)) turn =
       let tree : Volume = tree_of before.client.log in
-      quiet_counts answer _ trace turn.0 (about_other (resolved before.folder word) (λ path. entered path (found_at tree path)) (λ path. entered_other path (found_at tree path))) (as_nothing trace turn.2)
+      quiet_counts answer _ trace turn.0 (about_other (resolved before.folder word) (λ path. entered path (node_found tree path)) (λ path. entered_other path (node_found tree path))) (as_nothing trace turn.2)
   line_counts (Ok (lines.Run words)) turn = command_counts (capture words before.folder) turn
   line_counts (Ok lines.Status) turn = quiet_counts answer _ trace turn.0 refl (as_nothing trace turn.2)
   line_counts (Ok lines.Sync) turn =

@@ -34,7 +34,7 @@ use Rattle.shell_lang.specs.declared.line.LineError.{LineError}
 use Rattle.shell_lang.specs.declared.answer.LineAnswer.{LineAnswer}
 use Rattle.shell_lang.specs.declared.answer.LineAnswer.TheVariants as answers
 use Rattle.client_session.specs.Session.{SessionState, put_effect, make_effect, remove_effect, move_effect, sync_answer, pull_answer, local_answer, word_answer, capture_answer, job_answer, run_answer, status_answer, LogTurn, CommandTurn, LineTurn, Chain}
-use Rattle.client_session.specs.Looking.{found_at, shown, listed, entered, about, cat_answer, list_answer, enter_answer}
+use Rattle.client_session.specs.Looking.{node_found, shown, listed, entered, about, cat_answer, list_answer, enter_answer}
 
 -- a pull is answered so that took no rows for what the server told
 abbrev pub IsRefusedPull : Option LineAnswer → Type 0
@@ -84,8 +84,8 @@ about_other (Ok path) answer other refused = other path refused
 about_other (Err refusal) answer other refused = refused
 
 list_other : (tree : Volume) (folder : FilePath) (word : Option (List ℕ)) → NoPull (list_answer tree folder word)
-list_other tree folder None refused = listed_other tree folder (found_at tree folder) refused
-list_other tree folder (Some word) refused = about_other (resolved folder word) (λ path. listed tree path (found_at tree path)) (λ path. listed_other tree path (found_at tree path)) refused
+list_other tree folder None refused = listed_other tree folder (node_found tree folder) refused
+list_other tree folder (Some word) refused = about_other (resolved folder word) (λ path. listed tree path (node_found tree path)) (λ path. listed_other tree path (node_found tree path)) refused
 
 local_other : (result : Result ℕ LogError) → IsFailedPull (local_answer result) → ⊥
 local_other (Ok number) refused = refused
@@ -172,12 +172,12 @@ module _ (route : Route) (before after : SessionState) (trace : Trace) (answer :
   only_pulls (Ok (lines.Move from to)) turn = log_other (move_effect before.folder from to) turn
   only_pulls (Ok (lines.Cat word)) turn =
       let tree : Volume = tree_of before.client.log in
-      not_so (Some (cat_answer tree before.folder word)) turn.0 (about_other (resolved before.folder word) (λ path. shown path (found_at tree path)) (λ path. shown_other path (found_at tree path)))
+      not_so (Some (cat_answer tree before.folder word)) turn.0 (about_other (resolved before.folder word) (λ path. shown path (node_found tree path)) (λ path. shown_other path (node_found tree path)))
   only_pulls (Ok (lines.List word)) turn =
       let tree : Volume = tree_of before.client.log in not_so (Some (list_answer tree before.folder word)) turn.0 (list_other tree before.folder word)
   only_pulls (Ok (lines.Enter word)) turn =
       let tree : Volume = tree_of before.client.log in
-      not_so (Some (enter_answer tree before.folder word)) turn.0 (about_other (resolved before.folder word) (λ path. entered path (found_at tree path)) (λ path. entered_other path (found_at tree path)))
+      not_so (Some (enter_answer tree before.folder word)) turn.0 (about_other (resolved before.folder word) (λ path. entered path (node_found tree path)) (λ path. entered_other path (node_found tree path)))
   only_pulls (Ok (lines.Run words)) turn = command_other (capture words before.folder) turn
   only_pulls (Ok lines.Status) turn = not_so (Some (status_answer before)) turn.0 (λ none. none)
   only_pulls (Ok lines.Sync) turn = not_so (sync_answer turn.0) turn.3 (sync_other turn.0)

@@ -45,7 +45,7 @@ use Rattle.client_session.specs.Looking.{enter_answer, folder_by}
 use Rattle.client_session.specs.Doing.{Telling, beside, Does, WentDoing, LineEnds, LineNoting}
 use Rattle.client_session.specs.Inside.{GivesEffect, LogEnds, LogsOrRefuses, LogsMade}
 use Rattle.client_session.specs.Causes.{HasLineCause}
-use Rattle.client_session.specs.Stops.{stop_of, or_memory, sync_result, pull_result, told}
+use Rattle.client_session.specs.Stops.{line_stop_of, or_memory, sync_result, pull_result, told}
 use Rattle.client_session.proofs.Doing.{does_none, does_as}
 
 -- what a line that asks nothing of the server does over any link, with a surrogate or without, where the keeper's images were these and
@@ -265,7 +265,7 @@ or_memory_unfaulty None r is faulty = absurd (cc (is, faulty))
 or_memory_unfaulty (Some answer) r is faulty = absurd (cc (is, faulty))
 
 -- what a keeping counts, the line counts that it stops
-pub stop_counts : {T U : Type 0} (p q : ℕ) (e : KeepError) → CountsFault {T = T} keepers.Failed p q (Err e) → CountsFault {T = U} stops.Keeper p q (Err (stop_of e))
+pub stop_counts : {T U : Type 0} (p q : ℕ) (e : KeepError) → CountsFault {T = T} keepers.Failed p q (Err e) → CountsFault {T = U} stops.Keeper p q (Err (line_stop_of e))
 stop_counts p q keepers.Failed counts = record { later = counts.later; once = λ is. counts.once refl; never = λ no. absurd (no refl) }
 stop_counts p q keepers.Memory counts = record { later = counts.later; once = λ is. absurd (cc (is)); never = λ no. counts.never (λ is. absurd (cc (is))) }
 

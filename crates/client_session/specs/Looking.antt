@@ -12,9 +12,9 @@ use Rattle.shell_lang.specs.declared.answer.LineAnswer.TheVariants.{Text, Listin
 use Rattle.shell_lang.specs.declared.answer.Fault.TheVariants as faults
 
 -- what is found at a path; at the root a folder
-abbrev pub found_at : Volume → FilePath → Option Node
-found_at tree [] = Some Folder
-found_at tree (name ∷ names) = node_at tree (name ∷ names)
+abbrev pub node_found : Volume → FilePath → Option Node
+node_found tree [] = Some Folder
+node_found tree (name ∷ names) = node_at tree (name ∷ names)
 
 -- nothing stands at the path
 abbrev pub missing : FilePath → LineAnswer
@@ -49,16 +49,16 @@ about (Err refusal) answer = Refused (faults.Path refusal)
 
 -- `cat` of a word in the current folder
 abbrev pub cat_answer : Volume → FilePath → List ℕ → LineAnswer
-cat_answer tree folder word = about (resolved folder word) (λ path. shown path (found_at tree path))
+cat_answer tree folder word = about (resolved folder word) (λ path. shown path (node_found tree path))
 
 -- `ls` of a word in the current folder, or of the current folder itself
 abbrev pub list_answer : Volume → FilePath → Option (List ℕ) → LineAnswer
-list_answer tree folder None = listed tree folder (found_at tree folder)
-list_answer tree folder (Some word) = about (resolved folder word) (λ path. listed tree path (found_at tree path))
+list_answer tree folder None = listed tree folder (node_found tree folder)
+list_answer tree folder (Some word) = about (resolved folder word) (λ path. listed tree path (node_found tree path))
 
 -- `cd` to a word in the current folder
 abbrev pub enter_answer : Volume → FilePath → List ℕ → LineAnswer
-enter_answer tree folder word = about (resolved folder word) (λ path. entered path (found_at tree path))
+enter_answer tree folder word = about (resolved folder word) (λ path. entered path (node_found tree path))
 
 -- the current folder behind an answer: another one exactly where the answer says at which
 abbrev pub folder_by : LineAnswer → FilePath → FilePath

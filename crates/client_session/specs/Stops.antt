@@ -12,9 +12,9 @@ use Rattle.client_session.specs.declared.stop.LineStop.TheVariants.{Keeper, Memo
 use Rattle.client_session.specs.Session.{sync_answer, pull_answer}
 
 -- what stops a line where the client could not be kept
-abbrev pub stop_of : KeepError → LineStop
-stop_of keepers.Failed = Keeper
-stop_of keepers.Memory = Memory
+abbrev pub line_stop_of : KeepError → LineStop
+line_stop_of keepers.Failed = Keeper
+line_stop_of keepers.Memory = Memory
 
 -- an answer that is there; where there is none, memory was wanted
 abbrev pub or_memory : Option LineAnswer → Result LineAnswer LineStop

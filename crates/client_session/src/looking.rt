@@ -3,7 +3,7 @@ ghost use Rattle.std.specs.Prelude.{◌≡◌, ◌∷◌, ◌++◌, [], false, m
 ghost use Rattle.std.specs.Option.{option_copied};
 ghost use Rattle.file_paths.specs.Path.{IsPath};
 ghost use Rattle.tree_values.specs.Tree.{is_folder, children};
-ghost use Rattle.client_session.specs.Looking.{found_at, shown, child_at, listed, entered, cat_answer, list_answer, enter_answer};
+ghost use Rattle.client_session.specs.Looking.{node_found, shown, child_at, listed, entered, cat_answer, list_answer, enter_answer};
 
 use shell_lang::{Child, Children, Fault, LineAnswer};
 use std::alloc::{AllocError, Global};
@@ -62,7 +62,7 @@ pub(crate) fn enter(
 
 /// The content of a file.
 fn shown(tree: &Tree, path: Path) -> Result<LineAnswer, AllocError>
-    ensures { IfOk result (λ answer. answer ≡ shown path (found_at tree.now path)) }
+    ensures { IfOk result (λ answer. answer ≡ shown path (node_found tree.now path)) }
 {
     if tree.is_folder(&path) {
         return Ok(LineAnswer::Refused(Fault::Tree(TreeError::IsFolder(path))));
@@ -75,7 +75,7 @@ fn shown(tree: &Tree, path: Path) -> Result<LineAnswer, AllocError>
 
 /// What stands in a folder.
 fn listed(alloc: Global, tree: &Tree, path: Path) -> Result<LineAnswer, AllocError>
-    ensures { IfOk result (λ answer. answer ≡ listed tree.now path (found_at tree.now path)) }
+    ensures { IfOk result (λ answer. answer ≡ listed tree.now path (node_found tree.now path)) }
 {
     if tree.is_folder(&path) {
         return Ok(LineAnswer::Listing(children_of(alloc, tree, &path)?));
@@ -85,7 +85,7 @@ fn listed(alloc: Global, tree: &Tree, path: Path) -> Result<LineAnswer, AllocErr
 
 /// The folder that is entered.
 fn entered(tree: &Tree, path: Path) -> LineAnswer
-    ensures { result ≡ entered path (found_at tree.now path) }
+    ensures { result ≡ entered path (node_found tree.now path) }
 {
     if tree.is_folder(&path) {
         return LineAnswer::At(path);
@@ -96,8 +96,8 @@ fn entered(tree: &Tree, path: Path) -> LineAnswer
 /// Why no folder is at a path.
 fn no_folder(tree: &Tree, path: Path) -> LineAnswer
     requires { is_folder tree.now path ≡ false }
-    ensures listed { result ≡ listed tree.now path (found_at tree.now path) }
-    ensures entered { result ≡ entered path (found_at tree.now path) }
+    ensures listed { result ≡ listed tree.now path (node_found tree.now path) }
+    ensures entered { result ≡ entered path (node_found tree.now path) }
 {
     match tree.get(&path) {
         Some(_) => LineAnswer::Refused(Fault::NotFolder(path)),

@@ -1,5 +1,5 @@
 // What stops a line.
-ghost use Rattle.client_session.specs.Stops.{stop_of};
+ghost use Rattle.client_session.specs.Stops.{line_stop_of};
 ghost use Rattle.std.specs.Prelude.{◌≡◌};
 
 use outside::KeepError;
@@ -15,7 +15,7 @@ pub enum LineStop {
 }
 
 impl From<KeepError> for LineStop {
-    ghost from_gives = { λ refused stop. stop ≡ stop_of refused };
+    ghost from_gives = { λ refused stop. stop ≡ line_stop_of refused };
 
     fn from(refused: KeepError) -> LineStop {
         match refused {

@@ -19,8 +19,8 @@ use Rattle.conflict_shelf.specs.declared.shelf.Shelved.{Shelved}
 use Rattle.conflict_shelf.specs.Shelf.{names_in}
 use Rattle.client_shelf.specs.declared.ends.Ending.{Ending}
 use Rattle.client_shelf.specs.declared.ends.Ending.TheVariants as ends
-use Rattle.client_shelf.specs.declared.ends.Stop.{Stop}
-use Rattle.client_shelf.specs.declared.ends.Stop.TheVariants as stops
+use Rattle.client_shelf.specs.declared.ends.ShelvingStop.{ShelvingStop}
+use Rattle.client_shelf.specs.declared.ends.ShelvingStop.TheVariants as stops
 use Rattle.client_shelf.specs.Shelving.{Shelving, IsUnused, appended_all}
 use Rattle.client_shelf.specs.Ending.{Standing, Leaves, PullsRows, EndsKept, EndsLogging, EndsBehind, BreaksOff}
 use Rattle.client_shelf.specs.Inside.{IsBreak, TakesRows, PullsTo, KeepsAll, LogsTo, GoesTo}
@@ -61,7 +61,7 @@ module _ (asked : Shelving) (start log : Log) (lists : List (List Effect)) (fit 
   on_rows : (rows : TakesRows asked start log old middle) (some : List (List Effect)) (r : Result Log LogError) → appended_all some log ≡ r → appended_all some (new_log_of 0 rows.seen) ≡ r
   on_rows rows some r is = subst (λ (l : Log). appended_all some l ≡ r) rows.log_is is
 
-  pub logged_so : (result : Result (Option Ending) Stop) → TakesRows asked start log old middle → KeepsAll asked.new_client asked.new_image lists log result j k → LogsTo asked start lists result old new
+  pub logged_so : (result : Result (Option Ending) ShelvingStop) → TakesRows asked start log old middle → KeepsAll asked.new_client asked.new_image lists log result j k → LogsTo asked start lists result old new
   logged_so (Ok None) rows keeps =
       let logged = on_rows rows lists (Ok keeps.0) keeps.1 in
       record { asks = rows.asks; seen = rows.seen; pulls = rows.pulls; kept = keeps.0; logged = logged; leaves = leaves_logged rows lists fit keeps.0 logged keeps.2 }
@@ -83,7 +83,7 @@ module _ (asked : Shelving) (start log : Log) (lists : List (List Effect)) (fit 
       )
 
   -- a pull that took no rows, or was broken off
-  pub unlogged_so : (result : Result (Option Ending) Stop) → result ≢ Ok None → PullsTo asked start log result old middle → LogsTo asked start lists result old middle
+  pub unlogged_so : (result : Result (Option Ending) ShelvingStop) → result ≢ Ok None → PullsTo asked start log result old middle → LogsTo asked start lists result old middle
   unlogged_so (Ok None) none pulls = absurd (none refl)
   unlogged_so (Ok (Some ending)) none pulls = λ stuck. pulls stuck lists
   unlogged_so (Err stop) none pulls = (pulls.0, pulls.1 lists)

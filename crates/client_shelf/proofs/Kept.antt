@@ -21,7 +21,7 @@ use Rattle.world_rules.proofs.Asks.{told_start, told_as, told_then}
 use Rattle.client_core.specs.declared.pulling.PullEnd.{PullEnd}
 use Rattle.client_core.specs.Causes.{PullKeeps}
 use Rattle.outside.specs.declared.errors.KeepError.TheVariants as keepers
-use Rattle.client_shelf.specs.Inside.{IsBreak, stop_by}
+use Rattle.client_shelf.specs.Inside.{IsBreak, shelving_stop_by}
 use Rattle.client_shelf.specs.Shelving.{appended_all}
 use Rattle.client_shelf.specs.Ending.{ChangesOnly}
 use Rattle.client_shelf.proofs.Logged.{LogsAs, logs_as, logged_behind}
@@ -129,6 +129,6 @@ module _ (name : List ℕ) (number : ℕ) (lists : List (List Effect)) (log afte
   some_kept journal e None None ready kept told = (0, log, refl, tt)
 
 -- what stops a shelving whose keeping was refused
-pub kept_break : (refused : KeepError) → IsBreak (stop_by refused)
+pub kept_break : (refused : KeepError) → IsBreak (shelving_stop_by refused)
 kept_break keepers.Failed = inl refl
 kept_break keepers.Memory = inr refl

@@ -26,9 +26,9 @@ use Rattle.client_core.specs.Honest.{IsTruePull}
 use Rattle.client_core.specs.Goes.{Goes, WorldGoes, Went, no_runner, stand}
 use Rattle.client_core.proofs.Going.{kept_now}
 use Rattle.client_shelf.specs.declared.ends.Ending.{Ending}
-use Rattle.client_shelf.specs.declared.ends.Stop.{Stop}
-use Rattle.client_shelf.specs.declared.ends.Stop.TheVariants as stops
-use Rattle.client_shelf.specs.Shelving.{Shelving, route_of, IsUnused}
+use Rattle.client_shelf.specs.declared.ends.ShelvingStop.{ShelvingStop}
+use Rattle.client_shelf.specs.declared.ends.ShelvingStop.TheVariants as stops
+use Rattle.client_shelf.specs.Shelving.{Shelving, new_route, IsUnused}
 use Rattle.client_shelf.specs.Ending.{Standing, Leaves, EndsPull, KeepsFront, BreaksOff}
 use Rattle.client_shelf.specs.Inside.{IsBreak, PullsTo, pulled_to}
 
@@ -84,26 +84,26 @@ module _ (asked : Shelving) (start after : Log) (unused : IsUnused start) (i j :
   -- ---- by its end
 
   abbrev Turns : PullEnd → Log → Trace → Type 0
-  Turns end kept trace = PullEnds asked.new_client (route_of asked) start end after kept trace
+  Turns end kept trace = PullEnds asked.new_client (new_route asked) start end after kept trace
 
   -- the log that a pull leaves is one with nothing but the rows
   rows_are : (seen : Volume) → after ≡ record { acked = start.acked; base = seen; pending = start.pending } → after ≡ new_log_of 0 seen
   rows_are seen is = is ∙ (λ k. record { acked = unused.0 k; base = seen; pending = unused.1 k })
 
   -- a pull that took no rows, and left all as it was
-  module _ (end : PullEnd) (kept : Log) (goes : GoesSo (Turns end kept) kept) (turn : PullTurn asked.new_client (route_of asked) start end after goes.trace) (same : j ≡ i) (is : after ≡ start) (kept_is : kept ≡ after)
+  module _ (end : PullEnd) (kept : Log) (goes : GoesSo (Turns end kept) kept) (turn : PullTurn asked.new_client (new_route asked) start end after goes.trace) (same : j ≡ i) (is : after ≡ start) (kept_is : kept ≡ after)
       (none : goes.trace.entries ≡ []) (true_so : ToldWorlds t u (λ v w. InStep asked.new_client start v → IsTruePull t.troubles u.troubles end)) where
     pub ends_pull : EndsPull asked start end old new
     ends_pull = record {
       asks = goes.trace.asks;
-      pulls = (goes.trace, subst (λ (l : Log). PullTurn asked.new_client (route_of asked) start end l goes.trace) is turn, refl);
+      pulls = (goes.trace, subst (λ (l : Log). PullTurn asked.new_client (new_route asked) start end l goes.trace) is turn, refl);
       same = same;
       leaves = subst (λ (l : Log). Leaves asked start l goes.trace.asks old new) (kept_is ∙ is) (leaves (Turns end kept) kept goes none);
       true_pull = true_so;
     }
 
   -- a pull that was broken off
-  breaks : (kept : Log) (turns : Trace → Type 0) (goes : GoesSo turns kept) → BreaksPull asked.new_client (route_of asked) start after goes.trace → (lists : List (List Effect)) → BreaksOff asked start lists old new
+  breaks : (kept : Log) (turns : Trace → Type 0) (goes : GoesSo turns kept) → BreaksPull asked.new_client (new_route asked) start after goes.trace → (lists : List (List Effect)) → BreaksOff asked start lists old new
   breaks kept turns goes (inl asking) lists =
       let trace_is = asking.4 in
       record {
@@ -127,17 +127,17 @@ module _ (asked : Shelving) (start after : Log) (unused : IsUnused start) (i j :
       record {
         asks = goes.trace.asks;
         kept = kept;
-        front = by count came.seen rows (subst (λ (l : Log). PullTurn asked.new_client (route_of asked) start (pulls.Pulled count) l goes.trace) rows came)
+        front = by count came.seen rows (subst (λ (l : Log). PullTurn asked.new_client (new_route asked) start (pulls.Pulled count) l goes.trace) rows came)
             (subst (λ (c : List Log). IsLastOrBefore start c kept) (ap (λ (x : Trace). x.changes) trace_is) goes.keeping.behind);
         leaves = leaves turns kept goes (ap (λ (x : Trace). x.entries) trace_is);
       }
     where
-      by : (count : ℕ) (seen : Volume) → after ≡ new_log_of 0 seen → PullTurn asked.new_client (route_of asked) start (pulls.Pulled count) (new_log_of 0 seen) goes.trace → IsLastOrBefore start (after ∷ []) kept
+      by : (count : ℕ) (seen : Volume) → after ≡ new_log_of 0 seen → PullTurn asked.new_client (new_route asked) start (pulls.Pulled count) (new_log_of 0 seen) goes.trace → IsLastOrBefore start (after ∷ []) kept
           → KeepsFront asked start lists kept goes.trace.asks
       by count seen rows turn (inl last) = inr (seen, 0, (count, (goes.trace, turn, refl)), ap Ok (sym (last ∙ rows)))
       by count seen rows turn (inr before) = inl (before, (after, goes.trace, inr (pulled.0, pulled.1), refl))
 
-  pub pull_went : (end : PullEnd) → Went asked.new_client false asked.new_image (PullEnds asked.new_client (route_of asked) start end after) start after i j t u
+  pub pull_went : (end : PullEnd) → Went asked.new_client false asked.new_image (PullEnds asked.new_client (new_route asked) start end after) start after i j t u
       → (is_broken_pull end ≡ false → ((count : ℕ) → end ≢ pulls.Pulled count) → j ≡ i) → ((count : ℕ) → end ≢ pulls.Pending count) → PullsTo asked start after (pulled_to end) old new
   pull_went end went same waits = by end went.0 went.1 went.1.turn same waits
     where
@@ -149,7 +149,7 @@ module _ (asked : Shelving) (start after : Log) (unused : IsUnused start) (i j :
           record {
             asks = goes.trace.asks;
             seen = came.seen;
-            pulls = (count, (goes.trace, subst (λ (l : Log). PullTurn asked.new_client (route_of asked) start (pulls.Pulled count) l goes.trace) rows came, refl));
+            pulls = (count, (goes.trace, subst (λ (l : Log). PullTurn asked.new_client (new_route asked) start (pulls.Pulled count) l goes.trace) rows came, refl));
             log_is = rows;
             leaves = subst (λ (l : Log). Leaves asked start l goes.trace.asks old new) turn.1 (leaves (Turns (pulls.Pulled count) kept) kept goes (ap (λ (x : Trace). x.entries) came.trace_is));
           }

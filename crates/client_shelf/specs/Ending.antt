@@ -20,7 +20,7 @@ use Rattle.client_core.specs.Honest.{IsTruePull}
 use Rattle.conflict_shelf.specs.Shelf.{names_in}
 use Rattle.client_shelf.specs.declared.ends.Ending.{Ending}
 use Rattle.client_shelf.specs.declared.ends.Ending.TheVariants as ends
-use Rattle.client_shelf.specs.Shelving.{Shelving, route_of, IsAbsent, IsStored, IsStoredOther, IsUnused, IsUsed}
+use Rattle.client_shelf.specs.Shelving.{Shelving, new_route, IsAbsent, IsStored, IsStoredOther, IsUnused, IsUsed}
 use Rattle.client_shelf.specs.Shelving.{planned, appended_all, Plans}
 use Rattle.client_shelf.specs.Texts.{ending_text}
 
@@ -38,7 +38,7 @@ ChangesOnly name old new = OthersStay name old new × StaysSmall name old new
 -- A pull of the new client, whose log was `start`, ended so: its log is `after` then, and these asks were made.
 abbrev pub Pulls : Shelving → Log → PullEnd → Log → List Ask → Type 0
 Pulls asked start end after asks =
-    (trace : Trace) × PullTurn asked.new_client (route_of asked) start end after trace × (asks ≡ trace.asks)
+    (trace : Trace) × PullTurn asked.new_client (new_route asked) start end after trace × (asks ≡ trace.asks)
 
 -- it took as the base the rows with which the last ask was answered
 abbrev pub PullsRows : Shelving → Log → Volume → List Ask → Type 0
@@ -47,7 +47,7 @@ PullsRows asked start seen asks = (count : ℕ) × Pulls asked start (pulls.Pull
 -- it was broken off
 abbrev pub PullBreaks : Shelving → Log → List Ask → Type 0
 PullBreaks asked start asks =
-    (after : Log) × (trace : Trace) × BreaksPull asked.new_client (route_of asked) start after trace × (asks ≡ trace.asks)
+    (after : Log) × (trace : Trace) × BreaksPull asked.new_client (new_route asked) start after trace × (asks ≡ trace.asks)
 
 -- Where the new client's log was `start`, and these asks were made, `kept` is kept of it. The troubles of the link rose by at least the
 -- asks that failed. Where it tells its world, that noted just these asks, and what is kept is in step with it, if the log was at first.
@@ -128,8 +128,8 @@ pub record GoesOn (asked : Shelving) (images : Option Images) (what : Log → Lo
   pub came : what stuck start lists
 
 -- A shelving came to this end: it was due before the pull, and nothing was kept or asked; or it came behind that.
-abbrev pub Reaches : Shelving → Ending → Standing → Standing → Type 0
-Reaches asked ending old new =
+abbrev pub ComesToEnd : Shelving → Ending → Standing → Standing → Type 0
+ComesToEnd asked ending old new =
     (IsDue asked old.images ending × (new ≡ old))
     ⊎ GoesOn asked old.images (λ stuck start lists. EndsBehind asked stuck start lists ending old new)
 
@@ -152,8 +152,8 @@ abbrev pub is_shelf_status : ℕ → Bool
 is_shelf_status status = list_any (λ known. known == status) (0 ∷ 4 ∷ 5 ∷ 6 ∷ 7 ∷ [])
 
 -- the whole text was written, or a front of it, since the sink failed or memory ran out
-abbrev pub Writes : ℕ → List ℕ → Option (List ℕ) → Option (List ℕ) → Type 0
-Writes status text old new =
+abbrev pub WritesEnding : ℕ → List ℕ → Option (List ℕ) → Option (List ℕ) → Type 0
+WritesEnding status text old new =
     ((status ≡ 0) × Adds old new text)
     ⊎ (((status ≡ 4) ⊎ (status ≡ 7)) × ((count : ℕ) × (count ≤ length text) × Adds old new (take count text)))
 
@@ -161,7 +161,7 @@ Writes status text old new =
 -- was stopped; then nothing was written.
 abbrev pub ComesTo : Shelving → ℕ → Moment → Moment → Type 0
 ComesTo asked status old new =
-    ((ending : Ending) × Reaches asked ending old.stands new.stands × Writes status (ending_text ending) old.written new.written)
+    ((ending : Ending) × ComesToEnd asked ending old.stands new.stands × WritesEnding status (ending_text ending) old.written new.written)
     ⊎ ((status ≡ 6) × IsStoredOther old.stands.images asked.image asked.client × (new.stands ≡ old.stands) × (new.written ≡ old.written))
     ⊎ (((status ≡ 5) ⊎ (status ≡ 7)) × Stops asked old.stands new.stands × (new.written ≡ old.written))
 

@@ -24,34 +24,34 @@ use Rattle.conflict_shelf.specs.declared.shelf.Shelf.{Shelf}
 use Rattle.conflict_shelf.specs.Shelf.{names_in}
 use Rattle.client_shelf.specs.declared.ends.Ending.{Ending}
 use Rattle.client_shelf.specs.declared.ends.Ending.TheVariants as ends
-use Rattle.client_shelf.specs.declared.ends.Stop.{Stop}
-use Rattle.client_shelf.specs.declared.ends.Stop.TheVariants.{Sink, Keeper, Image, Memory}
+use Rattle.client_shelf.specs.declared.ends.ShelvingStop.{ShelvingStop}
+use Rattle.client_shelf.specs.declared.ends.ShelvingStop.TheVariants.{Sink, Keeper, Image, Memory}
 use Rattle.client_shelf.specs.Shelving.{Shelving, IsAbsent, IsStored, IsStoredOther, IsUnused, IsUsed, planned_in, planned, appended_all}
-use Rattle.client_shelf.specs.Ending.{Standing, Leaves, PullsRows, EndsKept, EndsBehind, BreaksOff, Stops, Reaches}
+use Rattle.client_shelf.specs.Ending.{Standing, Leaves, PullsRows, EndsKept, EndsBehind, BreaksOff, Stops, ComesToEnd}
 
 -- ---- what stops a shelving
 
-abbrev pub stop_unopened : Unopened → Stop
+abbrev pub stop_unopened : Unopened → ShelvingStop
 stop_unopened unopened.Keeper = Keeper
 stop_unopened unopened.Image = Image
 stop_unopened unopened.Memory = Memory
 
-abbrev pub stop_of : SinkError → Stop
-stop_of sinks.Failed = Sink
-stop_of sinks.Memory = Memory
+abbrev pub shelving_stop_of : SinkError → ShelvingStop
+shelving_stop_of sinks.Failed = Sink
+shelving_stop_of sinks.Memory = Memory
 
-abbrev pub stop_by : KeepError → Stop
-stop_by keepers.Failed = Keeper
-stop_by keepers.Memory = Memory
+abbrev pub shelving_stop_by : KeepError → ShelvingStop
+shelving_stop_by keepers.Failed = Keeper
+shelving_stop_by keepers.Memory = Memory
 
-abbrev pub status_of_stop : Stop → ℕ
+abbrev pub status_of_stop : ShelvingStop → ℕ
 status_of_stop Sink = 4
 status_of_stop Keeper = 5
 status_of_stop Image = 6
 status_of_stop Memory = 7
 
 -- a load or a keeping was refused, or memory ran out
-abbrev pub IsBreak : Stop → Type 0
+abbrev pub IsBreak : ShelvingStop → Type 0
 IsBreak stop = (stop ≡ Keeper) ⊎ (stop ≡ Memory)
 
 -- ---- what is found
@@ -63,7 +63,7 @@ Finds images name number (Some client) =
     (client.number ≡ number) × (client.journal ≡ None) × IsStored images name number client.log
 
 -- bytes are kept under the name, and for no log of the client; or the load was refused, or memory ran out
-abbrev pub FindsNone : Option Images → List ℕ → ℕ → Stop → Type 0
+abbrev pub FindsNone : Option Images → List ℕ → ℕ → ShelvingStop → Type 0
 FindsNone images name number stop = ((stop ≡ Image) × IsStoredOther images name number) ⊎ IsBreak stop
 
 -- what is kept under the name is for no client that has logged nothing; or it is for this one
@@ -89,7 +89,7 @@ PlansSo folder pending (Err ending) = planned folder pending ≡ Err ending
 -- ---- what is done
 
 -- the end that a pull comes to which takes no rows, or what stops it; before it nothing is pending
-abbrev pub pulled_to : PullEnd → Result (Option Ending) Stop
+abbrev pub pulled_to : PullEnd → Result (Option Ending) ShelvingStop
 pulled_to (pulls.Pulled count) = Ok None
 pulled_to (pulls.OtherLast last acked) = Ok (Some (ends.OtherLast last))
 pulled_to (pulls.Older path theirs ours) = Ok (Some (ends.Older path theirs ours))
@@ -107,14 +107,14 @@ pub record TakesRows (asked : Shelving) (start log : Log) (old new : Standing) :
   pub leaves : Leaves asked start log asks old new
 
 -- the rows were pulled; or it came to this end, or was stopped so
-abbrev pub PullsTo : Shelving → Log → Log → Result (Option Ending) Stop → Standing → Standing → Type 0
+abbrev pub PullsTo : Shelving → Log → Log → Result (Option Ending) ShelvingStop → Standing → Standing → Type 0
 PullsTo asked start log (Ok None) old new = TakesRows asked start log old new
 PullsTo asked start log (Ok (Some ending)) old new =
     (stuck : Log) (lists : List (List Effect)) → EndsBehind asked stuck start lists ending old new
 PullsTo asked start log (Err stop) old new = IsBreak stop × ((lists : List (List Effect)) → BreaksOff asked start lists old new)
 
 -- All of these entries were logged on a log and kept; or one was refused, and nothing was kept; or a front of them is kept.
-abbrev pub KeepsAll : ℕ → List ℕ → List (List Effect) → Log → Result (Option Ending) Stop → Option Images → Option Images → Type 0
+abbrev pub KeepsAll : ℕ → List ℕ → List (List Effect) → Log → Result (Option Ending) ShelvingStop → Option Images → Option Images → Type 0
 KeepsAll number name lists log (Ok None) images now =
     (kept : Log) × (appended_all lists log ≡ Ok kept) × IsKept now name number kept
 KeepsAll number name lists log (Ok (Some ending)) images now =
@@ -123,18 +123,18 @@ KeepsAll number name lists log (Err stop) images now =
     IsBreak stop × ((count : ℕ) × (kept : Log) × (appended_all (take count lists) log ≡ Ok kept) × IsKept now name number kept)
 
 -- the entries are kept behind the rows that were pulled; or it came to this end, or was stopped so
-abbrev pub LogsTo : Shelving → Log → List (List Effect) → Result (Option Ending) Stop → Standing → Standing → Type 0
+abbrev pub LogsTo : Shelving → Log → List (List Effect) → Result (Option Ending) ShelvingStop → Standing → Standing → Type 0
 LogsTo asked start lists (Ok None) old new = EndsKept asked start lists old new
 LogsTo asked start lists (Ok (Some ending)) old new = (stuck : Log) → EndsBehind asked stuck start lists ending old new
 LogsTo asked start lists (Err stop) old new = IsBreak stop × BreaksOff asked start lists old new
 
 -- the end that came behind the pull, or what a stop left
-abbrev pub GoesTo : Shelving → Log → Log → List (List Effect) → Result Ending Stop → Standing → Standing → Type 0
+abbrev pub GoesTo : Shelving → Log → Log → List (List Effect) → Result Ending ShelvingStop → Standing → Standing → Type 0
 GoesTo asked stuck start lists (Ok ending) old new = EndsBehind asked stuck start lists ending old new
 GoesTo asked stuck start lists (Err stop) old new = IsBreak stop × BreaksOff asked start lists old new
 
 -- a shelving came to this end, or was stopped so
-abbrev pub EndsSo : Shelving → Result Ending Stop → Standing → Standing → Type 0
-EndsSo asked (Ok ending) old new = Reaches asked ending old new
+abbrev pub EndsSo : Shelving → Result Ending ShelvingStop → Standing → Standing → Type 0
+EndsSo asked (Ok ending) old new = ComesToEnd asked ending old new
 EndsSo asked (Err stop) old new =
     ((stop ≡ Image) × IsStoredOther old.images asked.image asked.client × (new ≡ old)) ⊎ (IsBreak stop × Stops asked old new)

@@ -66,8 +66,8 @@ pub record IsShelving (asked : Shelving) : Type 0 where
   pub apart : are_apart asked.image asked.new_image ≡ true
 
 -- where the new client is kept, and whom it asks: the server alone; it runs no commands
-abbrev pub route_of : Shelving → Route
-route_of asked = record { image = asked.new_image; server = asked.server; surrogate = None; work = [] }
+abbrev pub new_route : Shelving → Route
+new_route asked = record { image = asked.new_image; server = asked.server; surrogate = None; work = [] }
 
 -- ---- what is kept
 

@@ -4,14 +4,14 @@ use Rattle.file_paths.specs.Path.{path_text}
 use Rattle.shell_lang.specs.Texts.{text_of}
 use Rattle.shell_lang.specs.declared.answer.LineAnswer.TheVariants as answers
 use Rattle.shell_lang.specs.declared.answer.Fault.TheVariants as faults
-use Rattle.conflict_shelf.specs.Shelf.{place}
+use Rattle.conflict_shelf.specs.Shelf.{place_name}
 use Rattle.conflict_shelf.specs.declared.shelf.Shelved.{Shelved}
 use Rattle.client_shelf.specs.declared.ends.Ending.{Ending}
 use Rattle.client_shelf.specs.declared.ends.Ending.TheVariants as ends
 
 -- `f S.I PATH` and a line end
 abbrev pub shelved_line : Shelved → List ℕ
-shelved_line shelved = codes "f " ++ (place shelved.seq shelved.index ++ 32 ∷ (path_text shelved.path ++ 10 ∷ []))
+shelved_line shelved = codes "f " ++ (place_name shelved.seq shelved.index ++ 32 ∷ (path_text shelved.path ++ 10 ∷ []))
 
 -- `shelved E entries F files` and a line end
 abbrev pub counts_line : ℕ → ℕ → List ℕ

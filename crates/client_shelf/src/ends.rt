@@ -38,7 +38,7 @@ pub enum Ending {
 
 /// What stops a shelving before its end, or before its end is told.
 #[derive(Clone, Copy, Debug, PartialEq, Eq)]
-pub(crate) enum Stop {
+pub(crate) enum ShelvingStop {
     /// The sink failed.
     Sink,
     /// The keeper failed.
@@ -49,69 +49,69 @@ pub(crate) enum Stop {
     Memory,
 }
 
-impl From<AllocError> for Stop {
+impl From<AllocError> for ShelvingStop {
     ghost use Rattle.std.specs.Prelude.{◌≡◌};
-    ghost use Rattle.client_shelf.specs.declared.ends.Stop.TheVariants.{Memory};
+    ghost use Rattle.client_shelf.specs.declared.ends.ShelvingStop.TheVariants.{Memory};
 
     ghost from_gives = { λ _ stop. stop ≡ Memory };
 
-    fn from(_: AllocError) -> Stop {
-        Stop::Memory
+    fn from(_: AllocError) -> ShelvingStop {
+        ShelvingStop::Memory
     }
 }
 
-impl From<Unopened> for Stop {
+impl From<Unopened> for ShelvingStop {
     ghost use Rattle.std.specs.Prelude.{◌≡◌};
     ghost use Rattle.client_shelf.specs.Inside.{stop_unopened};
 
     ghost from_gives = { λ unopened stop. stop ≡ stop_unopened unopened };
 
-    fn from(unopened: Unopened) -> Stop {
+    fn from(unopened: Unopened) -> ShelvingStop {
         match unopened {
-            Unopened::Keeper => Stop::Keeper,
-            Unopened::Image => Stop::Image,
-            Unopened::Memory => Stop::Memory,
+            Unopened::Keeper => ShelvingStop::Keeper,
+            Unopened::Image => ShelvingStop::Image,
+            Unopened::Memory => ShelvingStop::Memory,
         }
     }
 }
 
-impl From<SinkError> for Stop {
+impl From<SinkError> for ShelvingStop {
     ghost use Rattle.std.specs.Prelude.{◌≡◌};
-    ghost use Rattle.client_shelf.specs.Inside.{stop_of};
+    ghost use Rattle.client_shelf.specs.Inside.{shelving_stop_of};
 
-    ghost from_gives = { λ refused stop. stop ≡ stop_of refused };
+    ghost from_gives = { λ refused stop. stop ≡ shelving_stop_of refused };
 
-    fn from(refused: SinkError) -> Stop {
+    fn from(refused: SinkError) -> ShelvingStop {
         match refused {
-            SinkError::Failed => Stop::Sink,
-            SinkError::Memory => Stop::Memory,
+            SinkError::Failed => ShelvingStop::Sink,
+            SinkError::Memory => ShelvingStop::Memory,
         }
     }
 }
 
-impl From<KeepError> for Stop {
+impl From<KeepError> for ShelvingStop {
     ghost use Rattle.std.specs.Prelude.{◌≡◌};
-    ghost use Rattle.client_shelf.specs.Inside.{stop_by};
+    ghost use Rattle.client_shelf.specs.Inside.{shelving_stop_by};
 
-    ghost from_gives = { λ refused stop. stop ≡ stop_by refused };
+    ghost from_gives = { λ refused stop. stop ≡ shelving_stop_by refused };
 
-    fn from(refused: KeepError) -> Stop {
+    fn from(refused: KeepError) -> ShelvingStop {
         match refused {
-            KeepError::Failed => Stop::Keeper,
-            KeepError::Memory => Stop::Memory,
+            KeepError::Failed => ShelvingStop::Keeper,
+            KeepError::Memory => ShelvingStop::Memory,
         }
     }
 }
 
 /// The status of a shelving that was stopped so.
-pub(crate) fn status_of_stop(stop: Stop) -> u8
+pub(crate) fn status_of_stop(stop: ShelvingStop) -> u8
     ensures { result ≡ status_of_stop stop }
 {
     let status = match stop {
-        Stop::Sink => Status::SinkFailed,
-        Stop::Keeper => Status::KeeperFailed,
-        Stop::Image => Status::OtherImage,
-        Stop::Memory => Status::NoMemory,
+        ShelvingStop::Sink => Status::SinkFailed,
+        ShelvingStop::Keeper => Status::KeeperFailed,
+        ShelvingStop::Image => Status::OtherImage,
+        ShelvingStop::Memory => Status::NoMemory,
     };
     status.code()
 }

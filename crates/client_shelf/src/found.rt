@@ -6,7 +6,7 @@ ghost use Rattle.client_shelf.specs.Shelving.{IsUnused};
 ghost use Rattle.file_paths.specs.Path.{IsPath};
 ghost use Rattle.client_shelf.specs.Inside.{IsBreak, Finds, FindsNone, FindsUnused, PlansInSo, PlansSo};
 
-use crate::ends::{Ending, Stop};
+use crate::ends::{Ending, ShelvingStop};
 use client_core::Client;
 use client_lines::opened;
 use conflict_shelf::{Shelf, ShelfError, shelf_of};
@@ -21,18 +21,18 @@ pub(crate) fn find<K: Keeper>(
     number: u8,
     name: &[u8],
     keeper: &mut K,
-) -> Result<Option<Client>, Stop>
+) -> Result<Option<Client>, ShelvingStop>
     requires low { 1 ≤ number }
     requires high { number ≤ max_client }
     ensures ok { IfOk result (Finds (K.images keeper.old) name.now number) }
     ensures err { IfErr result (FindsNone (K.images keeper.old) name.now number) }
     ensures same { K.images keeper.new ≡ K.images keeper.old }
-    ensures cause { CountsFault Stop.Keeper (K.faults keeper.old) (K.faults keeper.new) result }
+    ensures cause { CountsFault ShelvingStop.Keeper (K.faults keeper.old) (K.faults keeper.new) result }
 {
     match keeper.load(name) {
         Ok(Some(bytes)) => Ok(Some(opened(alloc, number, &bytes)?)),
         Ok(None) => Ok(None),
-        Err(refused) => Err(Stop::from(refused)),
+        Err(refused) => Err(ShelvingStop::from(refused)),
     }
 }
 
@@ -43,13 +43,13 @@ pub(crate) fn find_unused<K: Keeper>(
     number: u8,
     name: &[u8],
     keeper: &mut K,
-) -> Result<Option<Client>, Stop>
+) -> Result<Option<Client>, ShelvingStop>
     requires low { 1 ≤ number }
     requires high { number ≤ max_client }
     ensures ok { IfOk result (FindsUnused (K.images keeper.old) name.now number) }
     ensures err { IfErr result IsBreak }
     ensures same { K.images keeper.new ≡ K.images keeper.old }
-    ensures cause { CountsFault Stop.Keeper (K.faults keeper.old) (K.faults keeper.new) result }
+    ensures cause { CountsFault ShelvingStop.Keeper (K.faults keeper.old) (K.faults keeper.new) result }
 {
     match find(alloc, number, name, keeper) {
         Ok(None) => Ok(Some(Client::new(alloc, number))),
@@ -60,7 +60,7 @@ pub(crate) fn find_unused<K: Keeper>(
             drop(client);
             Ok(None)
         }
-        Err(Stop::Image) => Ok(None),
+        Err(ShelvingStop::Image) => Ok(None),
         Err(stop) => Err(stop),
     }
 }

@@ -6,12 +6,12 @@ ghost use Rattle.outside.specs.Keeper.{Images};
 ghost use Rattle.tree_values.specs.Spelling.{EffectsFit};
 ghost use Rattle.client_core.specs.Keeping.{IsKept, IsReady, IsKeptReady};
 ghost use Rattle.conflict_shelf.specs.Shelf.{names_in};
-ghost use Rattle.client_shelf.specs.Shelving.{said, route_of, IsUnused, appended_all};
+ghost use Rattle.client_shelf.specs.Shelving.{said, new_route, IsUnused, appended_all};
 ghost use Rattle.client_shelf.specs.Ending.{ChangesOnly};
 ghost use Rattle.client_shelf.specs.Inside.{PullsTo, LogsTo, GoesTo, KeepsAll, pulled_to};
 
 use crate::asked::Shelving;
-use crate::ends::{Ending, Stop};
+use crate::ends::{Ending, ShelvingStop};
 use client_core::{Client, PullEnd, Route};
 use conflict_shelf::{EffectLists, Shelf};
 use mod_log::{Log, LogError};
@@ -30,7 +30,7 @@ pub(crate) fn set_aside<K: Keeper, L: Link>(
     mut client: Client,
     keeper: &mut K,
     link: &mut L,
-) -> Result<Ending, Stop>
+) -> Result<Ending, ShelvingStop>
     requires number { client.number ≡ asked.now.new_client }
     requires unused { IsUnused client.log }
     requires kept { IsKeptReady (K.images keeper.old) asked.now.new_image.now client }
@@ -45,7 +45,7 @@ pub(crate) fn set_aside<K: Keeper, L: Link>(
     }) }
     ensures others { Told (K.images keeper.old) (K.images keeper.new) (ChangesOnly asked.now.new_image.now) }
     ensures later { (L.tells link.old).troubles ≤ (L.tells link.new).troubles }
-    ensures keeper { CountsFault Stop.Keeper (K.faults keeper.old) (K.faults keeper.new) result }
+    ensures keeper { CountsFault ShelvingStop.Keeper (K.faults keeper.old) (K.faults keeper.new) result }
 {
     let ended = log_shelf(alloc, asked, &shelf.entries, &mut client, keeper, link);
     drop(client);
@@ -75,7 +75,7 @@ fn log_shelf<K: Keeper, L: Link>(
     client: &mut Client,
     keeper: &mut K,
     link: &mut L,
-) -> Result<Option<Ending>, Stop>
+) -> Result<Option<Ending>, ShelvingStop>
     requires number { client.old.number ≡ asked.now.new_client }
     requires unused { IsUnused client.old.log }
     requires kept { IsKeptReady (K.images keeper.old) asked.now.new_image.now client.old }
@@ -89,7 +89,7 @@ fn log_shelf<K: Keeper, L: Link>(
     }) }
     ensures others { Told (K.images keeper.old) (K.images keeper.new) (ChangesOnly asked.now.new_image.now) }
     ensures later { (L.tells link.old).troubles ≤ (L.tells link.new).troubles }
-    ensures keeper { CountsFault Stop.Keeper (K.faults keeper.old) (K.faults keeper.new) result }
+    ensures keeper { CountsFault ShelvingStop.Keeper (K.faults keeper.old) (K.faults keeper.new) result }
 {
     match pull_rows(alloc, asked, client, keeper, link) {
         Ok(None) => keep_all(asked.new_image, lists, client, keeper),
@@ -105,7 +105,7 @@ fn pull_rows<K: Keeper, L: Link>(
     client: &mut Client,
     keeper: &mut K,
     link: &mut L,
-) -> Result<Option<Ending>, Stop>
+) -> Result<Option<Ending>, ShelvingStop>
     requires number { client.old.number ≡ asked.now.new_client }
     requires unused { IsUnused client.old.log }
     requires kept { IsKeptReady (K.images keeper.old) asked.now.new_image.now client.old }
@@ -120,7 +120,7 @@ fn pull_rows<K: Keeper, L: Link>(
     ensures number { client.new.number ≡ client.old.number }
     ensures others { Told (K.images keeper.old) (K.images keeper.new) (ChangesOnly asked.now.new_image.now) }
     ensures later { (L.tells link.old).troubles ≤ (L.tells link.new).troubles }
-    ensures keeper { CountsFault Stop.Keeper (K.faults keeper.old) (K.faults keeper.new) result }
+    ensures keeper { CountsFault ShelvingStop.Keeper (K.faults keeper.old) (K.faults keeper.new) result }
 {
     match route_of(alloc, asked) {
         Ok(route) => {
@@ -128,13 +128,13 @@ fn pull_rows<K: Keeper, L: Link>(
             drop(route);
             ended(end)
         }
-        Err(_refused) => Err(Stop::Memory),
+        Err(_refused) => Err(ShelvingStop::Memory),
     }
 }
 
 /// The new client's image, and the server; it has no surrogate, and runs no commands.
 fn route_of(alloc: Global, asked: &Shelving<'_>) -> Result<Route, AllocError>
-    ensures { IfOk result (λ route. route ≡ route_of (said asked.now)) }
+    ensures { IfOk result (λ route. route ≡ new_route (said asked.now)) }
 {
     Ok(Route {
         image: Content::of(alloc, asked.new_image)?,
@@ -145,7 +145,7 @@ fn route_of(alloc: Global, asked: &Shelving<'_>) -> Result<Route, AllocError>
 }
 
 /// The end that a pull comes to which takes no rows. Nothing is pending before it.
-fn ended(end: PullEnd) -> Result<Option<Ending>, Stop>
+fn ended(end: PullEnd) -> Result<Option<Ending>, ShelvingStop>
     requires { (count : ℕ) → end ≢ PullEnd.Pending count }
     ensures { result ≡ pulled_to end }
 {
@@ -154,8 +154,8 @@ fn ended(end: PullEnd) -> Result<Option<Ending>, Stop>
         PullEnd::OtherLast { last, .. } => Ok(Some(Ending::OtherLast(last))),
         PullEnd::Older { path, theirs, ours } => Ok(Some(Ending::Older { path, theirs, ours })),
         PullEnd::Unanswered => Ok(Some(Ending::Unanswered)),
-        PullEnd::KeepFault => Err(Stop::Keeper),
-        PullEnd::Memory => Err(Stop::Memory),
+        PullEnd::KeepFault => Err(ShelvingStop::Keeper),
+        PullEnd::Memory => Err(ShelvingStop::Memory),
         PullEnd::Pending(_) => unreachable!(),
     }
 }
@@ -166,20 +166,20 @@ fn keep_all<K: Keeper>(
     lists: &EffectLists,
     client: &mut Client,
     keeper: &mut K,
-) -> Result<Option<Ending>, Stop>
+) -> Result<Option<Ending>, ShelvingStop>
     requires idle { client.old.log.pending ≡ [] }
     requires kept { IsKeptReady (K.images keeper.old) name.now client.old }
     requires fit { AllByRecursion EffectsFit lists.now }
     ensures did { KeepsAll client.old.number name.now lists.now client.old.log result (K.images keeper.old) (K.images keeper.new) }
     ensures others { Told (K.images keeper.old) (K.images keeper.new) (ChangesOnly name.now) }
-    ensures keeper { CountsFault Stop.Keeper (K.faults keeper.old) (K.faults keeper.new) result }
+    ensures keeper { CountsFault ShelvingStop.Keeper (K.faults keeper.old) (K.faults keeper.new) result }
 {
     match log_all(lists, client) {
         Ok(()) => match client.keep(name, keeper) {
             Ok(()) => Ok(None),
-            Err(refused) => Err(Stop::from(refused)),
+            Err(refused) => Err(ShelvingStop::from(refused)),
         },
-        Err(LogError::Memory) => Err(Stop::Memory),
+        Err(LogError::Memory) => Err(ShelvingStop::Memory),
         Err(refusal) => Ok(Some(Ending::Unlogged(refusal))),
     }
 }

@@ -5,11 +5,11 @@ ghost use Rattle.wire_frames.specs.Limits.{max_client};
 ghost use Rattle.client_core.specs.Keeping.{IsKept};
 ghost use Rattle.client_shelf.specs.Shelving.{said, IsShelving, IsStored, IsUnused};
 ghost use Rattle.client_shelf.specs.Texts.{ending_text};
-ghost use Rattle.client_shelf.specs.Ending.{ChangesOnly, Writes, ShelveEnds};
+ghost use Rattle.client_shelf.specs.Ending.{ChangesOnly, WritesEnding, ShelveEnds};
 ghost use Rattle.client_shelf.specs.Inside.{EndsSo};
 
 use crate::asked::Shelving;
-use crate::ends::{Ending, Stop, status_of_stop};
+use crate::ends::{Ending, ShelvingStop, status_of_stop};
 use crate::found::{find, find_unused, plan};
 use crate::logging::set_aside;
 use crate::texts::text_of_ending;
@@ -62,7 +62,7 @@ pub fn shelve<O: Sink, K: Keeper, L: Link>(
 
 /// Writes how a shelving ended, and gives the status.
 fn tell<O: Sink>(alloc: Global, ending: Ending, output: &mut O) -> u8
-    ensures text { Writes result (ending_text ending) (O.written output.old) (O.written output.new) }
+    ensures text { WritesEnding result (ending_text ending) (O.written output.old) (O.written output.new) }
     ensures sink { RisesWhere (result ≡ 4) (O.faults output.old) (O.faults output.new) }
 {
     match write_ending(alloc, ending, output) {
@@ -71,12 +71,12 @@ fn tell<O: Sink>(alloc: Global, ending: Ending, output: &mut O) -> u8
     }
 }
 
-fn write_ending<O: Sink>(alloc: Global, ending: Ending, output: &mut O) -> Result<(), Stop>
+fn write_ending<O: Sink>(alloc: Global, ending: Ending, output: &mut O) -> Result<(), ShelvingStop>
     ensures all { OnOk result (Adds (O.written output.old) (O.written output.new) (ending_text ending)) }
     ensures front { OnErr result ((count : ℕ) × (count ≤ length (ending_text ending))
         × Adds (O.written output.old) (O.written output.new) (take count (ending_text ending))) }
-    ensures stop { IfErr result (λ stop. (stop ≡ Stop.Sink) ⊎ (stop ≡ Stop.Memory)) }
-    ensures cause { CountsFault Stop.Sink (O.faults output.old) (O.faults output.new) result }
+    ensures stop { IfErr result (λ stop. (stop ≡ ShelvingStop.Sink) ⊎ (stop ≡ ShelvingStop.Memory)) }
+    ensures cause { CountsFault ShelvingStop.Sink (O.faults output.old) (O.faults output.new) result }
 {
     let text = text_of_ending(alloc, ending)?;
     write_all(output, &text)?;
@@ -89,7 +89,7 @@ fn ending_of<K: Keeper, L: Link>(
     asked: &Shelving<'_>,
     keeper: &mut K,
     link: &mut L,
-) -> Result<Ending, Stop>
+) -> Result<Ending, ShelvingStop>
     requires low { 1 ≤ asked.now.client }
     requires high { asked.now.client ≤ max_client }
     requires new_low { 1 ≤ asked.now.new_client }
@@ -103,7 +103,7 @@ fn ending_of<K: Keeper, L: Link>(
     }) }
     ensures others { Told (K.images keeper.old) (K.images keeper.new) (ChangesOnly asked.now.new_image.now) }
     ensures later { (L.tells link.old).troubles ≤ (L.tells link.new).troubles }
-    ensures keeper { CountsFault Stop.Keeper (K.faults keeper.old) (K.faults keeper.new) result }
+    ensures keeper { CountsFault ShelvingStop.Keeper (K.faults keeper.old) (K.faults keeper.new) result }
 {
     match find(alloc, asked.client, asked.image, keeper) {
         Ok(None) => Ok(Ending::NoImage),
@@ -123,7 +123,7 @@ fn ending_of_log<K: Keeper, L: Link>(
     stuck: &Log,
     keeper: &mut K,
     link: &mut L,
-) -> Result<Ending, Stop>
+) -> Result<Ending, ShelvingStop>
     requires low { 1 ≤ asked.now.new_client }
     requires high { asked.now.new_client ≤ max_client }
     requires stuck { IsStored (K.images keeper.old) asked.now.image.now asked.now.client stuck.now }
@@ -136,7 +136,7 @@ fn ending_of_log<K: Keeper, L: Link>(
     }) }
     ensures others { Told (K.images keeper.old) (K.images keeper.new) (ChangesOnly asked.now.new_image.now) }
     ensures later { (L.tells link.old).troubles ≤ (L.tells link.new).troubles }
-    ensures keeper { CountsFault Stop.Keeper (K.faults keeper.old) (K.faults keeper.new) result }
+    ensures keeper { CountsFault ShelvingStop.Keeper (K.faults keeper.old) (K.faults keeper.new) result }
 {
     match find_unused(alloc, asked.new_client, asked.new_image, keeper) {
         Ok(None) => Ok(Ending::NewImage),
@@ -153,7 +153,7 @@ fn ending_by_plan<K: Keeper, L: Link>(
     client: Client,
     keeper: &mut K,
     link: &mut L,
-) -> Result<Ending, Stop>
+) -> Result<Ending, ShelvingStop>
     requires stuck { IsStored (K.images keeper.old) asked.now.image.now asked.now.client stuck.now }
     requires number { client.number ≡ asked.now.new_client }
     requires unused { IsUnused client.log }
@@ -168,7 +168,7 @@ fn ending_by_plan<K: Keeper, L: Link>(
     }) }
     ensures others { Told (K.images keeper.old) (K.images keeper.new) (ChangesOnly asked.now.new_image.now) }
     ensures later { (L.tells link.old).troubles ≤ (L.tells link.new).troubles }
-    ensures keeper { CountsFault Stop.Keeper (K.faults keeper.old) (K.faults keeper.new) result }
+    ensures keeper { CountsFault ShelvingStop.Keeper (K.faults keeper.old) (K.faults keeper.new) result }
 {
     match plan(alloc, asked.folder, stuck) {
         Ok(Ok(shelf)) => set_aside(alloc, asked, stuck, shelf, client, keeper, link),
@@ -178,7 +178,7 @@ fn ending_by_plan<K: Keeper, L: Link>(
         }
         Err(_refused) => {
             drop(client);
-            Err(Stop::Memory)
+            Err(ShelvingStop::Memory)
         }
     }
 }

@@ -17,7 +17,7 @@ use Rattle.file_paths.specs.declared.path.PathError.TheVariants.{BadName, TooDee
 use Rattle.file_paths.specs.Path.{as_u32, FilePath, IsPath, is_name, is_name_byte, path_text, text_before, pieces, path_of, resolved}
 use Rattle.file_paths.proofs.PathTexts.{name_bytes, path_of_text, text_of_path_read}
 use Rattle.file_paths.proofs.Refusals.{value_unrefused}
-use Rattle.conflict_shelf.specs.Shelf.{PutAside, place}
+use Rattle.conflict_shelf.specs.Shelf.{PutAside, place_name}
 use Rattle.conflict_shelf.specs.Laws.{file_of}
 
 -- its number and its index are printed
@@ -46,7 +46,7 @@ digits_plain (c ∷ cs) all =
     let range = digit_from_value c all.0 in
     ap (λ b. b && list_all is_plain cs) (plain_digit c (omega (arith, range))) ∙ digits_plain cs all.1
 
-place_plain : (seq index : ℕ) → seq < 2 ^ 64 → index < 2 ^ 64 → list_all is_plain (place seq index) ≡ true
+place_plain : (seq index : ℕ) → seq < 2 ^ 64 → index < 2 ^ 64 → list_all is_plain (place_name seq index) ≡ true
 place_plain seq index small small' =
     plain_digits (decimal seq) (46 ∷ decimal index) (decimal_is_IsNumeral seq small).0.1 (digits_plain (decimal index) (decimal_is_IsNumeral index small').0.1)
 
@@ -65,14 +65,14 @@ same_digits (c ∷ cs) (d ∷ ds) xs ys all all' e =
     let same = same_digits cs ds xs ys all.1 all'.1 rest in
     (ap (λ b. b ∷ cs) first ∙ ap (λ bs. d ∷ bs) same.0, same.1)
 
-pub same_place : (a b : PutAside) → IsSmall a → IsSmall b → place a.name.seq a.name.index ≡ place b.name.seq b.name.index → (a.name.seq ≡ b.name.seq) × (a.name.index ≡ b.name.index)
+pub same_place : (a b : PutAside) → IsSmall a → IsSmall b → place_name a.name.seq a.name.index ≡ place_name b.name.seq b.name.index → (a.name.seq ≡ b.name.seq) × (a.name.index ≡ b.name.index)
 same_place a b small small' e =
     let same = same_digits (decimal a.name.seq) (decimal b.name.seq) (decimal a.name.index) (decimal b.name.index) (decimal_is_IsNumeral a.name.seq small.seq).0.1 (decimal_is_IsNumeral b.name.seq small'.seq).0.1 e in
     (decimal_injective a.name.seq b.name.seq small.seq small'.seq same.0, decimal_injective a.name.index b.name.index small.index small'.index same.1)
 
 pub same_file : (folder : FilePath) (a b : PutAside) → IsSmall a → IsSmall b → file_of folder a ≡ file_of folder b → (a.name.seq ≡ b.name.seq) × (a.name.index ≡ b.name.index)
 same_file folder a b small small' e =
-    let last : place a.name.seq a.name.index ∷ [] ≡ place b.name.seq b.name.index ∷ [] = append_cancel_left folder (place a.name.seq a.name.index ∷ []) (place b.name.seq b.name.index ∷ []) e in
+    let last : place_name a.name.seq a.name.index ∷ [] ≡ place_name b.name.seq b.name.index ∷ [] = append_cancel_left folder (place_name a.name.seq a.name.index ∷ []) (place_name b.name.seq b.name.index ∷ []) e in
     same_place a b small small' (cc last)
 
 -- ---- the path of a place
@@ -140,25 +140,25 @@ module _ (folder : FilePath) (put : PutAside) (is : IsPath folder) (small : IsSm
   first_is_digit [] rest some all = absurd (omega (arith, some))
   first_is_digit (c ∷ cs) rest some all = omega (arith, digit_from_value c all.0)
 
-  long : 0 < length (place put.name.seq put.name.index)
+  long : 0 < length (place_name put.name.seq put.name.index)
   long = omega (arith, length-append (decimal put.name.seq) (46 ∷ decimal put.name.index))
 
-  pub resolved_as : resolved folder (place put.name.seq put.name.index) ≡ path_of (path_text (file_of folder put))
+  pub resolved_as : resolved folder (place_name put.name.seq put.name.index) ≡ path_of (path_text (file_of folder put))
   resolved_as =
-      resolved_within folder (place put.name.seq put.name.index) long (first_is_digit (decimal put.name.seq) (46 ∷ decimal put.name.index) numeral.0 numeral.1)
-      ∙ ap path_of (text_behind folder (place put.name.seq put.name.index))
+      resolved_within folder (place_name put.name.seq put.name.index) long (first_is_digit (decimal put.name.seq) (46 ∷ decimal put.name.index) numeral.0 numeral.1)
+      ∙ ap path_of (text_behind folder (place_name put.name.seq put.name.index))
 
   pieces_are : pieces (path_text (file_of folder put)) ≡ file_of folder put
   pieces_are =
-      some_pieces (path_text (file_of folder put)) (subst (λ (text : List ℕ). 0 < length text) (text_behind folder (place put.name.seq put.name.index)) (long_text folder (place put.name.seq put.name.index) long))
-      ∙ cut_again folder (place put.name.seq put.name.index) is.named (place_plain put.name.seq put.name.index small.seq small.index)
+      some_pieces (path_text (file_of folder put)) (subst (λ (text : List ℕ). 0 < length text) (text_behind folder (place_name put.name.seq put.name.index)) (long_text folder (place_name put.name.seq put.name.index) long))
+      ∙ cut_again folder (place_name put.name.seq put.name.index) is.named (place_plain put.name.seq put.name.index small.seq small.index)
 
   -- it is the folder's with one more name
-  pub file_is : (path : FilePath) → resolved folder (place put.name.seq put.name.index) ≡ Ok path → IsPath (file_of folder put) × (path ≡ file_of folder put)
+  pub file_is : (path : FilePath) → resolved folder (place_name put.name.seq put.name.index) ≡ Ok path → IsPath (file_of folder put) × (path ≡ file_of folder put)
   file_is path e =
       let read : path_of (path_text (file_of folder put)) ≡ Ok path = sym resolved_as ∙ e in
       let same : path ≡ file_of folder put = value_of (path_text (file_of folder put)) path read ∙ pieces_are in
       (subst IsPath same (path_of_text (path_text (file_of folder put)) path read).0, same)
 
-  pub file_stands : IsPath (file_of folder put) → resolved folder (place put.name.seq put.name.index) ≡ Ok (file_of folder put)
+  pub file_stands : IsPath (file_of folder put) → resolved folder (place_name put.name.seq put.name.index) ≡ Ok (file_of folder put)
   file_stands path = resolved_as ∙ text_of_path_read (file_of folder put) path

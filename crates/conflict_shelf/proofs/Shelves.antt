@@ -16,7 +16,7 @@ use Rattle.tree_values.specs.declared.node.Effect.TheVariants.{Make, Put, Remove
 use Rattle.mod_log.specs.declared.log.Entry.{Entry}
 use Rattle.mod_log.specs.Log.{Log, IsLog, AreEntriesOf}
 use Rattle.conflict_shelf.specs.declared.shelf.ShelfError.TheVariants.{Path}
-use Rattle.conflict_shelf.specs.Shelf.{PutAside, put_of, puts_from, puts_of, puts_in, has_put, place, set_aside, before, all_or_fault, shelved_entry, shelved}
+use Rattle.conflict_shelf.specs.Shelf.{PutAside, put_of, puts_from, puts_of, puts_in, has_put, place_name, set_aside, before, all_or_fault, shelved_entry, shelved}
 use Rattle.conflict_shelf.specs.Laws.{file_of, put_in}
 use Rattle.conflict_shelf.proofs.Files.{IsSmall, file_is, file_stands}
 use Rattle.conflict_shelf.proofs.Putting.{put_found, slice_short}
@@ -80,7 +80,7 @@ module _ (folder : FilePath) (is : IsPath folder) where
   put_there [] effects small e = (cc e, tt)
   put_there (put ∷ puts) effects small e =
       let first = first_ok (set_aside folder put) (all_or_fault (map (set_aside folder) puts)) effects e in
-      let path = placed_path (resolved folder (place put.name.seq put.name.index)) put.content first.0 first.3 in
+      let path = placed_path (resolved folder (place_name put.name.seq put.name.index)) put.content first.0 first.3 in
       let file = file_is folder put is small.0 path.0 path.1 in
       let rest = put_there puts first.1 small.1 first.4 in
       let here : first.0 ≡ put_in folder put = path.2 ∙ ap (λ p. Put p put.content) file.1 in

@@ -17,7 +17,7 @@ use Rattle.conflict_shelf.specs.declared.shelf.Shelf.{Shelf}
 use Rattle.conflict_shelf.specs.declared.shelf.Shelved.{Shelved}
 use Rattle.conflict_shelf.specs.declared.shelf.ShelfError.{ShelfError}
 use Rattle.conflict_shelf.specs.Shelf.{PutAside, put_of, puts_from, puts_of, has_put, puts_in, names_in, set_aside, before, all_or_fault, shelved_entry, shelved, IsShelfOf}
-use Rattle.conflict_shelf.specs.Inside.{shelved_effect, unless_empty}
+use Rattle.conflict_shelf.specs.Inside.{shelved_effect, list_if_any}
 
 -- ---- values or a first fault
 
@@ -137,19 +137,19 @@ same_ok r x y e e' = cc (sym e ∙ e')
 not_both : {T E : Type 0} (r : Result T E) (x : T) (fault : E) → r ≡ Ok x → r ≡ Err fault → ⊥
 not_both r x fault e e' = cc (sym e ∙ e')
 
-some_list : (effects : List Effect) (effect : Effect) (others : List Effect) → effects ≡ effect ∷ others → effects ∷ [] ≡ unless_empty effects
-some_list effects effect others is = subst (λ (es : List Effect). es ∷ [] ≡ unless_empty es) (sym is) refl
+some_list : (effects : List Effect) (effect : Effect) (others : List Effect) → effects ≡ effect ∷ others → effects ∷ [] ≡ list_if_any effects
+some_list effects effect others is = subst (λ (es : List Effect). es ∷ [] ≡ list_if_any es) (sym is) refl
 
 -- an entry more
-each_one : (folder : FilePath) (entry : Entry) (effects : List Effect) → shelved_entry folder entry ≡ Ok effects → each_entry folder (entry ∷ []) ≡ Ok (unless_empty effects)
+each_one : (folder : FilePath) (entry : Entry) (effects : List Effect) → shelved_entry folder entry ≡ Ok effects → each_entry folder (entry ∷ []) ≡ Ok (list_if_any effects)
 each_one folder entry effects is = by (puts_of entry) refl
   where
-    by : (puts : List PutAside) → puts_of entry ≡ puts → each_entry folder (entry ∷ []) ≡ Ok (unless_empty effects)
+    by : (puts : List PutAside) → puts_of entry ≡ puts → each_entry folder (entry ∷ []) ≡ Ok (list_if_any effects)
     by [] none =
         let nothing : [] ≡ effects = same_ok (shelved_entry folder entry) [] effects (ap (λ puts. all_or_fault (map (set_aside folder) puts)) none) is in
         let without : has_put entry ≡ false = ap (λ puts. nat_lt 0 (length puts)) none ∙ lt_fails 0 0 (omega arith) in
         ap (λ b. all_or_fault (map (shelved_entry folder) (cond b (entry ∷ []) []))) without
-        ∙ ap (λ es. Ok (unless_empty es)) nothing
+        ∙ ap (λ es. Ok (list_if_any es)) nothing
     by (put ∷ puts) some =
         let first = first_ok (set_aside folder put) (all_or_fault (map (set_aside folder) puts)) effects (sym (ap (λ ps. all_or_fault (map (set_aside folder) ps)) some) ∙ is) in
         ap (λ b. all_or_fault (map (shelved_entry folder) (cond b (entry ∷ []) []))) (has_some entry put puts some)
@@ -178,7 +178,7 @@ names_one entries entry =
     ∙ map-append (λ (put : PutAside). put.name) (puts_in entries) (puts_of entry)
 
 pub shelf_more : (folder : FilePath) (entries : List Entry) (entry : Entry) (old new : Shelf) (effects : List Effect) → IsShelfOf folder entries old → shelved_entry folder entry ≡ Ok effects
-    → new.entries ≡ old.entries ++ unless_empty effects → new.names ≡ old.names ++ map (λ put. put.name) (puts_of entry) → IsShelfOf folder (entries ++ entry ∷ []) new
+    → new.entries ≡ old.entries ++ list_if_any effects → new.names ≡ old.names ++ map (λ put. put.name) (puts_of entry) → IsShelfOf folder (entries ++ entry ∷ []) new
 shelf_more folder entries entry old new effects is one lists names =
     let was = behind_folder folder (each_entry folder entries) old.entries is.entries in
     record {
@@ -186,7 +186,7 @@ shelf_more folder entries entry old new effects is one lists names =
           ap (before (Ok (Make folder ∷ []))) (
           each-append folder entries (entry ∷ []) ∙ ap (λ r. behind r (each_entry folder (entry ∷ []))) was.1 ∙ ap (behind (Ok was.0)) (each_one folder entry effects one)
           )
-          ∙ ap (λ ls. Ok (ls ++ unless_empty effects)) (sym was.2) ∙ ap (λ ls. Ok ls) (sym lists);
+          ∙ ap (λ ls. Ok (ls ++ list_if_any effects)) (sym was.2) ∙ ap (λ ls. Ok ls) (sym lists);
       names = names ∙ ap (λ ns. ns ++ map (λ (put : PutAside). put.name) (puts_of entry)) is.names ∙ sym (names_one entries entry);
     }
 

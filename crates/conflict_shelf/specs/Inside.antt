@@ -11,6 +11,6 @@ abbrev pub shelved_effect : FilePath → ℕ → ℕ → Effect → Result (List
 shelved_effect folder seq index effect = all_or_fault (map (set_aside folder) (option_to_list (put_of seq index effect)))
 
 -- one list more, unless nothing is in it
-abbrev pub unless_empty : List Effect → List (List Effect)
-unless_empty [] = []
-unless_empty (effect ∷ effects) = (effect ∷ effects) ∷ []
+abbrev pub list_if_any : List Effect → List (List Effect)
+list_if_any [] = []
+list_if_any (effect ∷ effects) = (effect ∷ effects) ∷ []

@@ -8,11 +8,11 @@ use Rattle.tree_values.specs.declared.node.Effect.{Effect}
 use Rattle.tree_values.specs.declared.node.Effect.TheVariants.{Make, Put}
 use Rattle.mod_log.specs.declared.log.Entry.{Entry}
 use Rattle.mod_log.specs.Log.{Log, IsLog}
-use Rattle.conflict_shelf.specs.Shelf.{PutAside, puts_of, puts_in, has_put, place, shelved}
+use Rattle.conflict_shelf.specs.Shelf.{PutAside, puts_of, puts_in, has_put, place_name, shelved}
 
 -- the folder's file `S.I`
 abbrev pub file_of : FilePath → PutAside → FilePath
-file_of folder put = folder ++ place put.name.seq put.name.index ∷ []
+file_of folder put = folder ++ place_name put.name.seq put.name.index ∷ []
 
 -- the content is put there
 abbrev pub put_in : FilePath → PutAside → Effect

@@ -53,12 +53,12 @@ names_in entries = map (λ put. put.name) (puts_in entries)
 -- ---- where it goes
 
 -- `S.I`: the number of the entry and the index of the effect, in decimal
-abbrev pub place : ℕ → ℕ → List ℕ
-place seq index = decimal seq ++ 46 ∷ decimal index
+abbrev pub place_name : ℕ → ℕ → List ℕ
+place_name seq index = decimal seq ++ 46 ∷ decimal index
 
 -- the effect that puts a content at its place in the folder, or why that is no path
 abbrev pub set_aside : FilePath → PutAside → Result Effect ShelfError
-set_aside folder put = result_map_both (λ path. Put path put.content) Path (resolved folder (place put.name.seq put.name.index))
+set_aside folder put = result_map_both (λ path. Put path put.content) Path (resolved folder (place_name put.name.seq put.name.index))
 
 -- a value before others, or the first fault
 abbrev pub before : {T E : Type 0} → Result T E → Result (List T) E → Result (List T) E

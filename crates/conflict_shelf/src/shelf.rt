@@ -6,8 +6,8 @@ ghost use Rattle.file_paths.specs.declared.path.PathError.{PathError};
 ghost use Rattle.tree_values.specs.declared.node.Effect.TheVariants.{Put};
 ghost use Rattle.mod_log.specs.declared.log.Entry.{Entry};
 ghost use Rattle.conflict_shelf.specs.declared.shelf.ShelfError.TheVariants.{Memory};
-ghost use Rattle.conflict_shelf.specs.Shelf.{IsShelfOf, shelved, all_or_fault, set_aside, put_of, puts_from, place};
-ghost use Rattle.conflict_shelf.specs.Inside.{shelved_effect, unless_empty};
+ghost use Rattle.conflict_shelf.specs.Shelf.{IsShelfOf, shelved, all_or_fault, set_aside, put_of, puts_from, place_name};
+ghost use Rattle.conflict_shelf.specs.Inside.{shelved_effect, list_if_any};
 
 use mod_log::{Entry, Log};
 use std::alloc::{AllocError, Global};
@@ -166,9 +166,9 @@ fn put_at(path: Path, content: &Content) -> Result<Effect, AllocError>
 
 /// The path of `seq.index` in the folder.
 fn path_of(alloc: Global, folder: &Path, seq: u64, index: u32) -> Result<Path, ShelfError>
-    ensures ok { IfOk result (λ path. resolved folder.now (place seq index) ≡ Ok path) }
+    ensures ok { IfOk result (λ path. resolved folder.now (place_name seq index) ≡ Ok path) }
     ensures err { IfErr result (λ e. e ≢ ShelfError.Memory
-        → (fault : PathError) × (e ≡ ShelfError.Path fault) × (resolved folder.now (place seq index) ≡ Err fault)) }
+        → (fault : PathError) × (e ≡ ShelfError.Path fault) × (resolved folder.now (place_name seq index) ≡ Err fault)) }
 {
     let place = format!(in alloc; "{seq}.{index}")?;
     match Path::resolve(alloc, folder, place.as_bytes()) {
@@ -180,7 +180,7 @@ fn path_of(alloc: Global, folder: &Path, seq: u64, index: u32) -> Result<Path, S
 
 /// Adds the effects as those of one more entry, where there are any.
 fn push_some(entries: &mut EffectLists, effects: Effects) -> Result<(), AllocError>
-    ensures { OnOk result (entries.new ≡ entries.old ++ unless_empty effects) }
+    ensures { OnOk result (entries.new ≡ entries.old ++ list_if_any effects) }
 {
     if effects.is_empty() {
         drop(effects);

@@ -30,8 +30,8 @@ use Rattle.mem_wires.specs.declared.fate.Fate.TheVariants.{Pass, LoseRequest, Lo
 use Rattle.mem_wires.specs.Fates.{decides, is_trouble, left_by, AreTakenFrom}
 use Rattle.mem_wires.specs.Spending.{AreQuiet}
 use Rattle.mem_net.specs.Scenes.{TakesFates}
-use Rattle.mem_net.specs.Handed.{IsPlain, loses, passes, OnePasses, FourPass, losses, is_server_failure, is_failure_of, failures_behind, last_failures, WereFew, HasNoOthers, IsByRule, Handing, FewAsksFailInARow}
-use Rattle.mem_net.specs.declared.parts.Parts.{Parts}
+use Rattle.mem_net.specs.Handed.{IsPlain, loses, lets_pass, OnePasses, FourPass, losses, is_server_failure, is_failure_of, failures_behind, last_failures, WereFew, HasNoOthers, IsByRule, Handing, FewAsksFailInARow}
+use Rattle.mem_net.specs.declared.parts.NetworkParts.{NetworkParts}
 
 -- ---- fates
 
@@ -45,7 +45,7 @@ lose_more Stop fates = omega arith
 lose_more (Late k) fates = omega arith
 lose_more (Inject frame) fates = omega arith
 
-pass_ends : (fate : Fate) (fates : List Fate) → passes fate ≡ true → losses (fate ∷ fates) ≡ 0
+pass_ends : (fate : Fate) (fates : List Fate) → lets_pass fate ≡ true → losses (fate ∷ fates) ≡ 0
 pass_ends Pass fates is = refl
 pass_ends LoseRequest fates is = absurd (cc (is))
 pass_ends LoseReply fates is = absurd (cc (is))
@@ -363,7 +363,7 @@ client_kept to address request old new (Err LinkMemory) asks =
 
 -- ---- the network that is handed on
 
-abbrev pub net_of : {R : Type 0} → Handing R → Parts R
+abbrev pub net_of : {R : Type 0} → Handing R → NetworkParts R
 net_of handing = handing.net
 
 abbrev pub wanted_of : {R : Type 0} → Handing R → Bool

@@ -20,18 +20,18 @@ number_in true (word ∷ []) = printed_number 1 MAX_JOB word
 number_in named args = None
 
 -- the number of a job of a drill: its command is `/bin/job` with that number alone
-abbrev pub number_of : Job → Option ℕ
-number_of job = number_in (bytes_eq job.command.program (codes "/bin/job")) job.command.args
+abbrev pub number_of_job : Job → Option ℕ
+number_of_job job = number_in (bytes_eq job.command.program (codes "/bin/job")) job.command.args
 
 -- ---- what they come to
 
 -- how many bytes in front are others at a surrogate
-abbrev pub changed : ℕ → ℕ
-changed number = if number % 4 == 1 then 20 else if number % 4 == 2 then 34 else 0
+abbrev pub changed_bytes : ℕ → ℕ
+changed_bytes number = if number % 4 == 1 then 20 else if number % 4 == 2 then 34 else 0
 
 -- how many bytes in front are others
 abbrev pub changed_at : Bool → ℕ → ℕ
-changed_at far number = if far then changed number else 0
+changed_at far number = if far then changed_bytes number else 0
 
 -- the file that a job leaves
 abbrev pub out_of : Bool → ℕ → List ℕ
@@ -51,16 +51,16 @@ rows_with_out far number job =
     ++ record { path = codes "e/out"; node = File (out_of far number) false } ∷ []
 
 -- a job of a number that leaves three over comes to another status at a surrogate
-abbrev pub status_of : Bool → ℕ → ℕ
-status_of far number = if far && (number % 4 == 3) then 1 else 0
+abbrev pub drilled_status : Bool → ℕ → ℕ
+drilled_status far number = if far && (number % 4 == 3) then 1 else 0
 
 abbrev pub drilled_as : Option ℕ → Bool → Job → Outcome
-drilled_as (Some number) far job = record { status = status_of far number; rows = rows_with_out far number job }
+drilled_as (Some number) far job = record { status = drilled_status far number; rows = rows_with_out far number job }
 drilled_as None far job = unchanged job
 
 -- what a job comes to: a job of a drill by its number, and any other leaves its own rows with status 0
 abbrev pub drilled : Bool → Job → Outcome
-drilled far job = drilled_as (number_of job) far job
+drilled far job = drilled_as (number_of_job job) far job
 
 -- ---- the runner
 
@@ -71,9 +71,9 @@ pub record InDrill : Type 0 where
   pub calls : ℕ
 
 -- the run has the answer to its job
-abbrev pub IsAnswered : Bool → Run → Type 0
-IsAnswered far run = run.outcome ≡ drilled far run.job
+abbrev pub IsDrilled : Bool → Run → Type 0
+IsDrilled far run = run.outcome ≡ drilled far run.job
 
 -- each of these runs has
 abbrev pub AreAnswered : Bool → List Run → Type 0
-AreAnswered far runs = AllByRecursion (IsAnswered far) runs
+AreAnswered far runs = AllByRecursion (IsDrilled far) runs

@@ -13,11 +13,11 @@ use Rattle.world_rules.specs.Run.{AreAllOf}
 use Rattle.mem_wires.specs.declared.fate.Fate.{Fate}
 use Rattle.mem_wires.specs.declared.fate.Fate.TheVariants.{Pass, LoseRequest, LoseReply, Twice}
 use Rattle.mem_wires.specs.Wire.{Wire, world_of}
-use Rattle.mem_net.specs.declared.parts.Parts.{Parts}
+use Rattle.mem_net.specs.declared.parts.NetworkParts.{NetworkParts}
 
 -- the network that is handed on, and whether memory was wanted in one of its asks
 pub record Handing (R : Type 0) : Type 0 where
-  pub net : Parts R
+  pub net : NetworkParts R
   pub wanted : Bool
 
 -- ---- fates
@@ -36,13 +36,13 @@ loses LoseRequest = true
 loses LoseReply = true
 loses fate = false
 
-abbrev pub passes : Fate → Bool
-passes Pass = true
-passes fate = false
+abbrev pub lets_pass : Fate → Bool
+lets_pass Pass = true
+lets_pass fate = false
 
 -- one of four passes
 abbrev pub OnePasses : Fate → Fate → Fate → Fate → Type 0
-OnePasses a b c d = (passes a ≡ true) ⊎ (passes b ≡ true) ⊎ (passes c ≡ true) ⊎ (passes d ≡ true)
+OnePasses a b c d = (lets_pass a ≡ true) ⊎ (lets_pass b ≡ true) ⊎ (lets_pass c ≡ true) ⊎ (lets_pass d ≡ true)
 
 -- of any four of these fates in a row one passes
 abbrev pub FourPass : List Fate → Type 0
@@ -56,13 +56,13 @@ losses (fate ∷ fates) = if loses fate then suc (losses fates) else 0
 
 -- ---- asks
 
-abbrev pub has_failed : Answer → Bool
-has_failed Failed = true
-has_failed (Reply reply) = false
-has_failed Memory = false
+abbrev pub answer_failed : Answer → Bool
+answer_failed Failed = true
+answer_failed (Reply reply) = false
+answer_failed Memory = false
 
 abbrev pub is_failure_of : Peer → Answer → Bool
-is_failure_of Server answer = has_failed answer
+is_failure_of Server answer = answer_failed answer
 is_failure_of Surrogate answer = false
 
 -- whether the server was asked, and the ask failed

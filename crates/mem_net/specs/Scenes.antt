@@ -22,7 +22,7 @@ use Rattle.world_rules.specs.Settling.{failed_asks}
 use Rattle.surrogate_core.specs.Serving.{ServesTo, failures_told}
 use Rattle.mem_wires.specs.declared.fate.Fate.{Fate}
 use Rattle.mem_wires.specs.declared.fate.Fate.TheVariants.{Pass, LoseRequest, LoseReply, Twice, Old, Late, Stop}
-use Rattle.mem_net.specs.declared.parts.Parts.{Parts}
+use Rattle.mem_net.specs.declared.parts.NetworkParts.{NetworkParts}
 use Rattle.mem_wires.specs.Wire.{world_of}
 use Rattle.mem_wires.specs.Fates.{decides, left_by, befallen, answered, MeetsFate, troubles_after, IsEndOf}
 use Rattle.mem_wires.specs.Spending.{AreQuiet, TakesFront, AreGiven}
@@ -38,7 +38,7 @@ pub record Scene : Type 0 where
   pub runner : RunnerTelling
 
 -- the scene of a network, whose runner tells these runs and faults
-abbrev pub scene_of : {R : Type 0} → (R → Option (List Run)) → (R → ℕ) → Parts R → Scene
+abbrev pub scene_of : {R : Type 0} → (R → Option (List Run)) → (R → ℕ) → NetworkParts R → Scene
 scene_of runs faults net = record {
   world = world_of net.wires;
   fates = net.wires.fates;

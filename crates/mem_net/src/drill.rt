@@ -4,7 +4,7 @@ ghost use Rattle.std.specs.Option.{option_copied};
 ghost use Rattle.outside.specs.Memory.{one_more};
 ghost use Rattle.outside.specs.Outside.{raised};
 ghost use Rattle.cmd_capture.specs.Runs.{raw_row, unchanged};
-ghost use Rattle.mem_net.specs.Drill.{number_of, drilled, rows_with_out, status_of, is_e, out_of, changed};
+ghost use Rattle.mem_net.specs.Drill.{number_of_job, drilled, rows_with_out, drilled_status, is_e, out_of, changed_bytes};
 ghost use Rattle.mem_net.specs.declared.drill.TheConstants.{MAX_JOB};
 
 use cmd_capture::{Job, JobRow, Outcome, RawRow, RawRows, Run, RunError, Runner};
@@ -132,7 +132,7 @@ fn run_of(alloc: Global, work: &[u8], job: &Job, outcome: &Outcome) -> Result<Ru
 /// The number of a job of a drill; `None` for any other job.
 #[tactic(auto, using(crate::proofs::Numbering::unprinted))]
 fn number_of(job: &Job) -> Option<u32>
-    ensures number { result ≡ number_of job.now }
+    ensures number { result ≡ number_of_job job.now }
     ensures few { IfSome result (λ number. number ≤ MAX_JOB) }
 {
     if job.command.program.bytes() != b"/bin/job".as_slice() {
@@ -173,7 +173,7 @@ fn unchanged(alloc: Global, job: &Job) -> Result<Outcome, AllocError>
 
 /// The status of a job of this number.
 fn status_of(far: bool, number: u32) -> u8
-    ensures { result ≡ status_of far number }
+    ensures { result ≡ drilled_status far number }
 {
     if far && number % 4 == 3 { 1 } else { 0 }
 }
@@ -250,7 +250,7 @@ fn put_repeated(out: &mut Vec<u8>, count: usize, byte: u8) -> Result<(), AllocEr
 
 /// How many of its first bytes are others at a surrogate.
 fn changed(number: u32) -> usize
-    ensures value { result ≡ changed number }
+    ensures value { result ≡ changed_bytes number }
     ensures few { result ≤ 34 }
 {
     match number % 4 {

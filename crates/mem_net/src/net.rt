@@ -1,7 +1,7 @@
 // A network of one client, one server and one surrogate in memory.
 ghost use Rattle.std.specs.Prelude.{◌≡◌};
 
-use crate::parts::Parts;
+use crate::parts::NetworkParts;
 use cmd_capture::Runner;
 use mem_wires::{Fate, Wires};
 use server_core::Server;
@@ -15,15 +15,15 @@ use world_rules::{Link, LinkError, Peer};
 /// client, the surrogate, which is idle between the client's asks, and the runner.
 #[derive(Drop)]
 pub struct MemNet<R> {
-    parts: Parts<R>,
+    parts: NetworkParts<R>,
 }
 
 impl<R> Model for MemNet<R> {
     ghost use Rattle.std.specs.Prelude.{◌≡◌};
     ghost use Rattle.surrogate_core.specs.Handling.{Idle};
-    ghost use Rattle.mem_net.specs.declared.parts.Parts.{Parts};
+    ghost use Rattle.mem_net.specs.declared.parts.NetworkParts.{NetworkParts};
 
-    ghost Value = { Parts R };
+    ghost Value = { NetworkParts R };
 
     ghost view = { λ n. n.parts };
 
@@ -62,7 +62,7 @@ impl<R: Drop> MemNet<R> {
     {
         match Wires::new(alloc, client, server, fates) {
             Ok(wires) => Ok(MemNet {
-                parts: Parts {
+                parts: NetworkParts {
                     wires,
                     surrogate,
                     runner,

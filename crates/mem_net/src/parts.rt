@@ -27,13 +27,13 @@ use world_rules::{LinkError, Peer};
 
 /// The wires of client and server, the surrogate, and what runs its jobs. Its fields can be lent one beside the other.
 #[derive(Drop)]
-pub(crate) struct Parts<R> {
+pub(crate) struct NetworkParts<R> {
     pub(crate) wires: Wires,
     pub(crate) surrogate: Surrogate,
     pub(crate) runner: R,
 }
 
-impl<R: Runner> Parts<R> {
+impl<R: Runner> NetworkParts<R> {
     /// The surrogate serves an operation that was sent, over these wires. Its own asks are not its client's.
     fn serve(&mut self, operation: Message) -> Result<Message, AllocError>
         requires idle { self.old.surrogate.phase ≡ Idle }

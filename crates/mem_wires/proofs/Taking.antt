@@ -13,7 +13,7 @@ use Rattle.wire_frames.specs.declared.message.Message.TheVariants.{Store, Pull, 
 use Rattle.wire_frames.specs.Frame.{Echoes, IsValid, client_of, speaks_upto}
 use Rattle.world_rules.specs.declared.asking.Peer.{Peer}
 use Rattle.world_rules.specs.declared.asking.Peer.TheVariants.{Server, Surrogate}
-use Rattle.world_rules.specs.Served.{Served, IsServed, Verdict, Repeated, Early, Outdated, Refused, Taken, judged, reply, end_of, is_want_of_room, answer, state_after, served_after, passes, served_through, verdict_through, TakenEntry, entry_stored, taken_if, taken_through, taken_of}
+use Rattle.world_rules.specs.Served.{Served, IsServed, StoreVerdict, Repeated, Early, Outdated, Refused, Taken, judged, reply, end_of, is_want_of_room, answer, state_after, served_after, passes, served_through, verdict_through, TakenEntry, entry_stored, taken_if, taken_through, taken_of}
 use Rattle.world_rules.specs.World.{IsForServer}
 use Rattle.world_rules.specs.Asking.{IsRequest}
 use Rattle.world_rules.proofs.Replies.{answer-valid}
@@ -206,7 +206,7 @@ module _ (client number : ℕ) (parts : List Part) (some : 1 ≤ number + length
   refused-echoes true upto index fault within = (tt, refl, refl, omega (arith, within, some))
   refused-echoes false upto index fault within = (tt, refl, refl, omega (arith, within, some))
 
-  pub reply-echoes : (last : ℕ) (v : Verdict) → Within (reply client number end last v) → Echoes store (reply client number end last v)
+  pub reply-echoes : (last : ℕ) (v : StoreVerdict) → Within (reply client number end last v) → Echoes store (reply client number end last v)
   reply-echoes last Repeated within = (tt, refl, refl, omega (arith, within, some))
   reply-echoes last Early within = (tt, refl, refl, omega (arith, within, some))
   reply-echoes last (Outdated conflict) within = (tt, refl, refl, omega (arith, within, some))

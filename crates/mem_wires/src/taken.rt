@@ -10,25 +10,25 @@ use wire_frames::Part;
 
 /// An entry that the server took. Contracts see it as the world lists it.
 #[derive(Drop)]
-pub(crate) struct Taken {
+pub(crate) struct ListedEntry {
     client: u8,
     number: u64,
     part: Part,
 }
 
-impl Model for Taken {
+impl Model for ListedEntry {
     ghost Value = { TakenEntry };
 
     ghost view = { λ taken. entry_stored taken.client taken.number taken.part.effects taken.part.base };
 }
 
-impl Taken {
+impl ListedEntry {
     /// A copy of the client's entry of this number.
-    fn of(client: u8, number: u64, part: &Part) -> Result<Taken, AllocError>
+    fn of(client: u8, number: u64, part: &Part) -> Result<ListedEntry, AllocError>
         ensures { IfOk result (λ taken. taken ≡ entry_stored client number part.now.effects part.now.base) }
     {
         let part = part.copy()?;
-        Ok(Taken {
+        Ok(ListedEntry {
             client,
             number,
             part,
@@ -38,7 +38,7 @@ impl Taken {
 
 /// Copies of the client's entries, numbered on from this number, that are above another join these.
 pub(crate) fn note_above(
-    taken: &mut Vec<Taken>,
+    taken: &mut Vec<ListedEntry>,
     client: u8,
     number: u64,
     entries: &[Part],
@@ -51,7 +51,7 @@ pub(crate) fn note_above(
     let mut at = number;
     for entry in entries {
         if at > last {
-            let copy = Taken::of(client, at, entry)?;
+            let copy = ListedEntry::of(client, at, entry)?;
             taken.push(copy)?;
         }
         at = at.saturating_add(1);

@@ -6,7 +6,7 @@ ghost use Rattle.mem_wires.specs.Underway.{is_store};
 
 use crate::fate::Fate;
 use crate::packet::Packet;
-use crate::taken::{Taken, note_above};
+use crate::taken::{ListedEntry, note_above};
 use server_core::Server;
 use std::alloc::{AllocError, Global};
 use std::collections::VecDeque;
@@ -24,7 +24,7 @@ pub struct Wires {
     client: u8,
     opening: Server,
     server: Server,
-    taken: Vec<Taken>,
+    taken: Vec<ListedEntry>,
     packets: Vec<Packet>,
     asks: Vec<Ask>,
     fates: VecDeque<Fate>,

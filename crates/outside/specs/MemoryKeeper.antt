@@ -6,23 +6,23 @@ use Rattle.outside.specs.declared.errors.KeepError.{KeepError}
 use Rattle.outside.specs.declared.errors.KeepError.TheVariants.{Failed, Memory}
 use Rattle.outside.specs.declared.calls.Calls.{Calls}
 use Rattle.outside.specs.declared.memory_keeper.KeepFail.{KeepFail}
-use Rattle.outside.specs.declared.memory_keeper.Slot.{Slot}
+use Rattle.outside.specs.declared.memory_keeper.NamedImage.{NamedImage}
 use Rattle.outside.specs.Keeper.{Images, IsPut, followed_by}
 
 pub record KeeperInMemory : Type 0 where
   -- what is kept, each image beside its name
-  pub slots : List Slot
+  pub slots : List NamedImage
   -- which of its calls fail, counted from 0, and what they leave
   pub fails : List KeepFail
   -- the calls made of it, and its faults
   pub calls : Calls
 
 -- the slot of this name
-abbrev pub has_name : List ℕ → Slot → Bool
+abbrev pub has_name : List ℕ → NamedImage → Bool
 has_name name slot = bytes_eq slot.name.items name
 
 -- what the slots keep under each name
-abbrev pub images_of : List Slot → Images
+abbrev pub images_of : List NamedImage → Images
 images_of slots name = option_map (λ slot. slot.image.items) (find (has_name name) slots)
 
 -- how a call fails, where it is a named one
@@ -43,12 +43,12 @@ has_failed (Err Failed) = true
 has_failed _ = false
 
 -- what a failed save leaves: the new image, or all as before
-abbrev pub LeavesImage : Bool → List ℕ → List ℕ → List Slot → List Slot → Type 0
+abbrev pub LeavesImage : Bool → List ℕ → List ℕ → List NamedImage → List NamedImage → Type 0
 LeavesImage true name image old new = IsPut name image (images_of old) (images_of new)
 LeavesImage false name image old new = new ≡ old
 
 -- what a save leaves
-abbrev pub SavesAs : {T : Type 0} → List ℕ → List ℕ → Result T KeepError → KeeperInMemory → List Slot → Type 0
+abbrev pub SavesAs : {T : Type 0} → List ℕ → List ℕ → Result T KeepError → KeeperInMemory → List NamedImage → Type 0
 SavesAs name image (Ok done) old new = IsPut name image (images_of old.slots) (images_of new)
 SavesAs name image (Err Failed) old new = LeavesImage (leaves_new old) name image old.slots new
 SavesAs name image (Err Memory) old new = new ≡ old.slots
@@ -62,7 +62,7 @@ abbrev pub left_now : KeeperInMemory → List ℕ → List ℕ
 left_now keeper piece = unwrap_or (option_map (λ fail. left_of fail piece) (fail_of keeper.fails keeper.calls.made)) piece
 
 -- what an append leaves
-abbrev pub AppendsAs : {T : Type 0} → List ℕ → List ℕ → Result T KeepError → KeeperInMemory → List Slot → Type 0
+abbrev pub AppendsAs : {T : Type 0} → List ℕ → List ℕ → Result T KeepError → KeeperInMemory → List NamedImage → Type 0
 AppendsAs name piece (Ok done) old new = IsPut name (followed_by piece (images_of old.slots name)) (images_of old.slots) (images_of new)
 AppendsAs name piece (Err Failed) old new =
     IsPut name (followed_by (left_now old piece) (images_of old.slots name)) (images_of old.slots) (images_of new)

@@ -24,7 +24,7 @@ pub struct KeepFail {
 
 /// An image beside its name.
 #[derive(Drop)]
-struct Slot {
+struct NamedImage {
     name: Vec<u8>,
     image: Vec<u8>,
 }
@@ -32,7 +32,7 @@ struct Slot {
 /// A keeper of images in memory. Contracts see what is kept, the calls made, which of them fail, and the faults.
 #[derive(Drop)]
 pub struct MemKeeper {
-    slots: Vec<Slot>,
+    slots: Vec<NamedImage>,
     fails: Vec<KeepFail>,
     calls: Calls,
 }
@@ -63,7 +63,7 @@ impl MemKeeper {
     }
 }
 
-fn image_of<'a>(slots: &'a [Slot], name: &[u8]) -> Option<&'a [u8]>
+fn image_of<'a>(slots: &'a [NamedImage], name: &[u8]) -> Option<&'a [u8]>
     ensures { option_copied result ≡ images_of slots.now name.now }
 {
     match slots.iter().find(|slot| slot.name.as_slice() == name) {
@@ -170,7 +170,7 @@ impl Keeper for MemKeeper {
 }
 
 /// Keeps a copy of the piece under the name, behind what is kept there.
-fn add(slots: &mut Vec<Slot>, name: &[u8], piece: &[u8]) -> Result<(), AllocError>
+fn add(slots: &mut Vec<NamedImage>, name: &[u8], piece: &[u8]) -> Result<(), AllocError>
     ensures ok { OnOk result
         (IsPut name.now (followed_by piece.now (images_of slots.old.items name.now)) (images_of slots.old.items)
         (images_of slots.new.items)) }
@@ -181,7 +181,7 @@ fn add(slots: &mut Vec<Slot>, name: &[u8], piece: &[u8]) -> Result<(), AllocErro
 }
 
 /// A copy of what is kept under the name, and of the piece behind it.
-fn followed_by(slots: &Vec<Slot>, name: &[u8], piece: &[u8]) -> Result<Vec<u8>, AllocError>
+fn followed_by(slots: &Vec<NamedImage>, name: &[u8], piece: &[u8]) -> Result<Vec<u8>, AllocError>
     ensures { IfOk result (λ whole. whole.items ≡ followed_by piece.now (images_of slots.now.items name.now)) }
 {
     let alloc = *slots.allocator();
@@ -194,7 +194,7 @@ fn followed_by(slots: &Vec<Slot>, name: &[u8], piece: &[u8]) -> Result<Vec<u8>, 
 }
 
 /// Keeps a copy of the image under the name, in place of what is kept there.
-fn put(slots: &mut Vec<Slot>, name: &[u8], image: &[u8]) -> Result<(), AllocError>
+fn put(slots: &mut Vec<NamedImage>, name: &[u8], image: &[u8]) -> Result<(), AllocError>
     ensures ok { OnOk result (IsPut name.now image.now (images_of slots.old.items) (images_of slots.new.items)) }
     ensures err { OnErr result (slots.new.items ≡ slots.old.items) }
 {
@@ -204,14 +204,14 @@ fn put(slots: &mut Vec<Slot>, name: &[u8], image: &[u8]) -> Result<(), AllocErro
         Some(i) => slots[i].image = image,
         None => {
             let name = name.to_vec(alloc)?;
-            slots.push(Slot { name, image })?;
+            slots.push(NamedImage { name, image })?;
         }
     }
     Ok(())
 }
 
 /// Where the slot of this name stands.
-fn place_of(slots: &[Slot], name: &[u8]) -> Option<usize>
+fn place_of(slots: &[NamedImage], name: &[u8]) -> Option<usize>
     ensures { result ≡ position (has_name name.now) slots.now }
 {
     slots.iter().position(|slot| slot.name.as_slice() == name)

@@ -12,7 +12,7 @@ use Rattle.paced_talks.specs.declared.answering.Answering.{Answering}
 use Rattle.paced_talks.specs.Coming.{brought, goes_before, group, IsIdlest, LetsIdlestGo}
 use Rattle.paced_talks.specs.Talks.{most_asking}
 use Rattle.paced_talks.specs.Going.{is_idler}
-use Rattle.paced_talks.specs.Window.{head_bytes}
+use Rattle.paced_talks.specs.Window.{length_bytes}
 
 -- ---- what decides between two whose frames come in
 
@@ -120,7 +120,7 @@ are_whole {S} {R} talks i b x first all is whole =
     λ k none below.
     let last : Asking S R = get_or talks b none in
     let one : Asking S R = get_or talks k none in
-    whole_before one.is_whole (nat_le head_bytes (brought one)) last.is_whole (nat_le head_bytes (brought last)) (instant_nanos one.moved_at) (instant_nanos last.moved_at)
+    whole_before one.is_whole (nat_le length_bytes (brought one)) last.is_whole (nat_le length_bytes (brought last)) (instant_nanos one.moved_at) (instant_nanos last.moved_at)
     (first.1 k none (omega (arith, below, all)))
     (ap (λ (talk : Asking S R). talk.is_whole) (get_or_default talks b none x within ∙ sym is) ∙ whole)
 

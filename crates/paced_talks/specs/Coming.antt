@@ -7,7 +7,7 @@ use Rattle.std.specs.Time.{instant_nanos}
 use Rattle.std.specs.declared.time.Instant.{Instant}
 use Rattle.paced_talks.specs.declared.asking.Asking.{Asking}
 use Rattle.paced_talks.specs.Talks.{most_asking}
-use Rattle.paced_talks.specs.Window.{head_bytes, of_request}
+use Rattle.paced_talks.specs.Window.{length_bytes, of_request}
 
 -- how many bytes of its frame a connection has brought
 abbrev pub brought : {S : Type 0} {R : _} → Asking S R → ℕ
@@ -20,7 +20,7 @@ bytes_of talks = sum_by brought talks
 -- in which of four groups a connection is where some have to go: one whose frame is whole stands behind the others, and one that has
 -- brought its head behind those that have not
 abbrev pub group : {S : Type 0} {R : _} → Asking S R → ℕ
-group talk = (if talk.is_whole then 2 else 0) + (if nat_le head_bytes (brought talk) then 1 else 0)
+group talk = (if talk.is_whole then 2 else 0) + (if nat_le length_bytes (brought talk) then 1 else 0)
 
 -- one goes before another, of an earlier group, or of the same and idle longer
 abbrev pub goes_before : {S : Type 0} {R : _} → Asking S R → Asking S R → Bool

@@ -28,12 +28,12 @@ abbrev pub most_counted : ℕ
 most_counted = 2 ^ 64 - 1
 
 -- a count that rose by so many; it stands still at its end
-abbrev pub raised : ℕ → ℕ → ℕ
-raised by count = min (count + by) most_counted
+abbrev pub counted_up : ℕ → ℕ → ℕ
+counted_up by count = min (count + by) most_counted
 
 -- of so many connections so many are left, and each that went is counted as lost
 abbrev pub Loses : ℕ → ℕ → ℕ → ℕ → Type 0
-Loses before after lost now = (after ≤ before) × (now ≡ raised (before - after) lost)
+Loses before after lost now = (after ≤ before) × (now ≡ counted_up (before - after) lost)
 
 -- the most connections that were answered and may still send
 abbrev pub most_parting : ℕ

@@ -21,8 +21,8 @@ abbrev pub window_pace : ℕ
 window_pace = 1024
 
 -- how many bytes the head of a frame has
-abbrev pub head_bytes : ℕ
-head_bytes = 4
+abbrev pub length_bytes : ℕ
+length_bytes = 4
 
 -- within how many seconds of its connection the head of a request has to come
 abbrev pub head_seconds : ℕ
@@ -46,7 +46,7 @@ spent window now = instant_nanos now - instant_nanos window.start
 
 -- for how many nanoseconds it may go on
 abbrev pub limit : Window → ℕ
-limit window = (if nat_lt window.moved head_bytes then window.head_seconds else window_seconds) * second
+limit window = (if nat_lt window.moved length_bytes then window.head_seconds else window_seconds) * second
 
 -- a window that so many more bytes went through
 abbrev pub after_bytes : ℕ → Window → Window

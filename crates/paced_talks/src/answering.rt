@@ -4,7 +4,7 @@ ghost use Rattle.std.specs.Io.KnownBytes.{Appends};
 ghost use Rattle.paced_talks.specs.Talks.{HasMoved, MovedAt};
 ghost use Rattle.paced_talks.specs.Window.{fresh};
 
-use crate::step::{Step, passing};
+use crate::step::{Progress, passing};
 use crate::window::{Window, later};
 use std::alloc::{AllocError, Global};
 use std::io;
@@ -56,11 +56,11 @@ impl<S: Write + Drop> Answering<S> {
     ///
     /// `TimedOut` where its time is over, and the stream's.
     #[tactic(auto, using(crate::proofs::Moving::stays, crate::proofs::Moving::moves_none, crate::proofs::Moving::moves_some, crate::proofs::Moving::moved_now, crate::proofs::Moving::moved_before))]
-    pub(crate) fn step(&mut self, now: Instant) -> io::Result<Step>
+    pub(crate) fn step(&mut self, now: Instant) -> io::Result<Progress>
         ensures bytes { OnOk result (Appends (S.contents self.old.stream) (S.contents self.new.stream)
             (take (self.new.sent - self.old.sent) (drop self.old.sent self.old.rest.items))) }
         ensures forth { self.old.sent ≤ self.new.sent }
-        ensures ended { IfOk result (λ step. step ≡ Step.Ended → self.new.sent ≡ length self.new.rest.items) }
+        ensures ended { IfOk result (λ step. step ≡ Progress.Ended → self.new.sent ≡ length self.new.rest.items) }
         ensures rest { self.new.rest.items ≡ self.old.rest.items }
         ensures window { OnOk result (HasMoved self.old.sent self.new.sent self.old.window self.new.window) }
         ensures moved_at { OnOk result (MovedAt self.old.sent self.new.sent now self.old.moved_at self.new.moved_at) }
@@ -73,9 +73,9 @@ impl<S: Write + Drop> Answering<S> {
                 self.moved_at = now;
                 self.sent += count;
                 Ok(if self.sent == self.rest.len() {
-                    Step::Ended
+                    Progress::Ended
                 } else {
-                    Step::Moved
+                    Progress::Moved
                 })
             }
             Err(error) => passing(error),

@@ -6,7 +6,7 @@ ghost use Rattle.paced_talks.specs.Talks.{most_answering, most_held};
 ghost use Rattle.paced_talks.specs.Going.{bytes_of, is_idler, IsIdlest, HasRoom, IsAtStart, IsQueued};
 
 use crate::answering::{Answering, send_front};
-use crate::step::{Step, sooner};
+use crate::step::{Progress, sooner};
 use std::alloc::{AllocError, Global};
 use std::io;
 use std::io::{ErrorKind, Write};
@@ -78,12 +78,12 @@ impl<S: Write + Drop> Answers<S> {
         let mut place = 0;
         while place < self.talks.len() {
             match self.talks[place].step(now) {
-                Ok(Step::Ended) => return (true, Some(self.remove(place).stream)),
-                Ok(Step::Moved) => {
+                Ok(Progress::Ended) => return (true, Some(self.remove(place).stream)),
+                Ok(Progress::Moved) => {
                     moved = true;
                     place += 1;
                 }
-                Ok(Step::Waits) => place += 1,
+                Ok(Progress::Waits) => place += 1,
                 Err(_) => drop(self.remove(place)),
             }
         }

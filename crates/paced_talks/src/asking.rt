@@ -3,10 +3,10 @@ ghost use Rattle.std.specs.Prelude.{◌≡◌, ◌≤◌, ◌<◌, ◌+◌, [], 
 ghost use Rattle.std.specs.Io.KnownBytes.{Keeps, prepend_known};
 ghost use Rattle.paced_talks.specs.Frames.{block_bytes};
 ghost use Rattle.paced_talks.specs.Talks.{IsBegun, IsFirstFrame, HasMoved, MovedAt};
-ghost use Rattle.paced_talks.specs.Window.{head_bytes, of_request};
+ghost use Rattle.paced_talks.specs.Window.{length_bytes, of_request};
 
 use crate::frames::{BLOCK, missing, read_at_once};
-use crate::step::Step;
+use crate::step::Progress;
 use crate::window::{HEAD_BYTES, Window, later};
 use std::alloc::Global;
 use std::io;
@@ -48,7 +48,7 @@ impl<S: Read + Drop> Asking<S> {
     ///
     /// `TimedOut` where its time is over, the stream's, and want of memory.
     #[tactic(auto, using(crate::proofs::Pieces::begun_after, crate::proofs::Pieces::same_after, crate::proofs::Pieces::grows_after, crate::proofs::Pieces::same_waiting, crate::proofs::Pieces::same_self, crate::proofs::Pieces::ends_after, crate::proofs::Pieces::whole_is_first, crate::proofs::Moving::stays, crate::proofs::Moving::moves_none, crate::proofs::Moving::moves_some, crate::proofs::Moving::moved_now, crate::proofs::Moving::moved_before))]
-    pub(crate) fn step(&mut self, now: Instant, block: &mut [u8; BLOCK]) -> io::Result<Step>
+    pub(crate) fn step(&mut self, now: Instant, block: &mut [u8; BLOCK]) -> io::Result<Progress>
         ensures same { OnOk result (Keeps (prepend_known self.old.frame.items (S.remaining self.old.stream))
             (prepend_known self.new.frame.items (S.remaining self.new.stream))) }
         ensures window { OnOk result
@@ -60,19 +60,19 @@ impl<S: Read + Drop> Asking<S> {
         let wanted = missing(&self.frame);
         if self.is_whole || wanted == 0 {
             self.is_whole = true;
-            return Ok(Step::Ended);
+            return Ok(Progress::Ended);
         }
         self.window = self.window.go_on(now)?;
         match read_at_once(&mut self.stream, block, wanted, &mut self.frame)? {
             Ok(0) => {
                 self.is_whole = true;
-                Ok(Step::Moved)
+                Ok(Progress::Moved)
             }
             Ok(count) => {
                 self.window = self.window.after(count);
                 self.moved_at = now;
                 self.is_whole = missing(&self.frame) == 0;
-                Ok(Step::Moved)
+                Ok(Progress::Moved)
             }
             Err(step) => Ok(step),
         }
@@ -80,7 +80,7 @@ impl<S: Read + Drop> Asking<S> {
 
     /// Whether it has brought its head.
     pub(crate) fn has_head(&self) -> bool
-        ensures { result ≡ nat_le head_bytes (length self.now.frame.items) }
+        ensures { result ≡ nat_le length_bytes (length self.now.frame.items) }
     {
         self.frame.len() as u64 >= HEAD_BYTES
     }

@@ -4,7 +4,7 @@ ghost use Rattle.std.specs.Io.KnownBytes.{Keeps};
 ghost use Rattle.paced_talks.specs.Frames.{frame_limit, block_bytes, announced_bytes, first_frame, missing_bytes};
 ghost use Rattle.paced_talks.specs.Inside.{ReadsBlock, ReadsUpTo};
 
-use crate::step::{Step, passing};
+use crate::step::{Progress, passing};
 use std::alloc::Global;
 use std::io;
 use std::io::{ErrorKind, Read};
@@ -34,7 +34,7 @@ pub(crate) fn read_at_once<S: Read>(
     block: &mut [u8; BLOCK],
     most: usize,
     frame: &mut Vec<u8>,
-) -> io::Result<Result<usize, Step>>
+) -> io::Result<Result<usize, Progress>>
     requires { 0 < most }
     ensures came { IfOk result (λ came. IfOk came
         (ReadsBlock most (S.remaining stream.old) (S.remaining stream.new) frame.old.items frame.new.items)) }

@@ -2,12 +2,12 @@
 ghost use Rattle.std.specs.Prelude.{◌≡◌, ◌⊎◌, ◌≤◌, ◌<◌, ◌+◌, [], ◌∷◌, ◌++◌, length};
 ghost use Rattle.std.specs.Prelude.{remove, true, false, All, slice_index_or, OnOk, IfSome, IfNone, MatchOption};
 ghost use Rattle.paced_talks.specs.Frames.{frame_limit, block_bytes};
-ghost use Rattle.paced_talks.specs.Talks.{IsFirstFrame, most_asking, most_gathered, most_counted, raised, Loses};
+ghost use Rattle.paced_talks.specs.Talks.{IsFirstFrame, most_asking, most_gathered, most_counted, counted_up, Loses};
 ghost use Rattle.paced_talks.specs.Coming.{bytes_of, goes_before, IsIdlest, LetsIdlestGo, HasLetIn, IsFirstWhole};
 
 use crate::asking::Asking;
 use crate::frames::BLOCK;
-use crate::step::{Step, sooner};
+use crate::step::{Progress, sooner};
 use std::alloc::{AllocError, Global};
 use std::io;
 use std::io::Read;
@@ -102,7 +102,7 @@ impl<S: Read + Drop> Gathering<S> {
                 return self.make_room();
             }
             match self.step_at(place, now, &mut block) {
-                Ok(Step::Moved) => {
+                Ok(Progress::Moved) => {
                     moved = true;
                     place += 1;
                 }
@@ -147,7 +147,7 @@ impl<S: Read + Drop> Gathering<S> {
 
     /// Counts a connection that was lost before it was let in.
     pub fn count_lost(&mut self)
-        ensures lost { self.new.lost ≡ raised 1 self.old.lost }
+        ensures lost { self.new.lost ≡ counted_up 1 self.old.lost }
         ensures talks { self.new.talks ≡ self.old.talks }
     {
         self.lost = self.lost.saturating_add(1);
@@ -183,7 +183,12 @@ impl<S: Read + Drop> Gathering<S> {
     }
 
     /// Has the connection at a place read what has come.
-    fn step_at(&mut self, place: usize, now: Instant, block: &mut [u8; BLOCK]) -> io::Result<Step>
+    fn step_at(
+        &mut self,
+        place: usize,
+        now: Instant,
+        block: &mut [u8; BLOCK],
+    ) -> io::Result<Progress>
         requires there { place < length self.old.talks.items }
         requires room { self.old.bytes + block_bytes ≤ most_gathered }
         ensures talks { length self.new.talks.items ≡ length self.old.talks.items }
@@ -251,7 +256,7 @@ impl<S: Read + Drop> Gathering<S> {
         requires { place < length self.old.talks.items }
         ensures talks { self.new.talks.items ≡ remove self.old.talks.items place }
         ensures fewer { length self.new.talks.items + 1 ≡ length self.old.talks.items }
-        ensures lost { self.new.lost ≡ raised 1 self.old.lost }
+        ensures lost { self.new.lost ≡ counted_up 1 self.old.lost }
     {
         drop(self.remove(place));
         self.count_lost();

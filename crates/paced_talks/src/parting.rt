@@ -4,7 +4,7 @@ ghost use Rattle.std.specs.Duration.{as_nanos};
 ghost use Rattle.paced_talks.specs.Talks.{parting_left};
 
 use crate::frames::BLOCK;
-use crate::step::{Step, passing, sooner};
+use crate::step::{Progress, passing, sooner};
 use std::alloc::{AllocError, Global};
 use std::io;
 use std::io::Read;
@@ -31,17 +31,17 @@ struct Parting<S: Read + Drop> {
 
 impl<S: Read + Drop> Parting<S> {
     /// Reads what has come, a block at most, and drops it. The block is one that several use.
-    fn step(&mut self, now: Instant, block: &mut [u8; BLOCK]) -> io::Result<Step> {
+    fn step(&mut self, now: Instant, block: &mut [u8; BLOCK]) -> io::Result<Progress> {
         let step = match self.stream.read(block) {
-            Ok(0) => Step::Ended,
+            Ok(0) => Progress::Ended,
             Ok(_) => {
                 self.heard_at = now;
-                Step::Moved
+                Progress::Moved
             }
             Err(error) => passing(error)?,
         };
         if self.left(now).is_zero() {
-            return Ok(Step::Ended);
+            return Ok(Progress::Ended);
         }
         Ok(step)
     }
@@ -103,12 +103,12 @@ impl<S: Read + OpenStream + Drop> Partings<S> {
         let mut place = 0;
         while place < self.talks.len() {
             match self.talks[place].step(now, &mut block) {
-                Ok(Step::Moved) => {
+                Ok(Progress::Moved) => {
                     moved = true;
                     place += 1;
                 }
-                Ok(Step::Waits) => place += 1,
-                Ok(Step::Ended) | Err(_) => drop(self.talks.remove(place)),
+                Ok(Progress::Waits) => place += 1,
+                Ok(Progress::Ended) | Err(_) => drop(self.talks.remove(place)),
             }
         }
         moved

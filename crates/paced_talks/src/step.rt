@@ -7,7 +7,7 @@ use std::time::Duration;
 
 /// What a step came to.
 #[derive(Clone, Copy, Debug, PartialEq, Eq)]
-pub(crate) enum Step {
+pub(crate) enum Progress {
     /// Nothing can be done before the peer does something.
     Waits,
     /// Something was done, and more may be at once.
@@ -22,12 +22,12 @@ pub fn is_passing(error: &io::Error) -> bool {
 }
 
 /// What a call came to that moved nothing, where that is no fault: that is never the end.
-pub(crate) fn passing(error: io::Error) -> io::Result<Step>
-    ensures { IfOk result (λ step. step ≡ Step.Ended → ⊥) }
+pub(crate) fn passing(error: io::Error) -> io::Result<Progress>
+    ensures { IfOk result (λ step. step ≡ Progress.Ended → ⊥) }
 {
     match error.kind() {
-        ErrorKind::Interrupted => Ok(Step::Moved),
-        ErrorKind::WouldBlock => Ok(Step::Waits),
+        ErrorKind::Interrupted => Ok(Progress::Moved),
+        ErrorKind::WouldBlock => Ok(Progress::Waits),
         _ => Err(error),
     }
 }

@@ -36,13 +36,13 @@ after_silence Server address silent = silent
 after_silence Surrogate address silent = with_address address silent
 
 -- and after an answer
-abbrev pub after_answer : Peer → List ℕ → List (List ℕ) → List (List ℕ)
-after_answer Server address silent = silent
-after_answer Surrogate address silent = without_address address silent
+abbrev pub silent_after : Peer → List ℕ → List (List ℕ) → List (List ℕ)
+silent_after Server address silent = silent
+silent_after Surrogate address silent = without_address address silent
 
 -- which were silent, after an ask of the address of which this came: an answer, none in time, or a connection that failed; memory may
 -- be wanted for one more
 abbrev pub RemembersSilence : {T E : Type 0} → Peer → List ℕ → Result (Option T) E → List (List ℕ) → List (List ℕ) → Type 0
-RemembersSilence to address (Ok (Some reply)) old new = new ≡ after_answer to address old
+RemembersSilence to address (Ok (Some reply)) old new = new ≡ silent_after to address old
 RemembersSilence to address (Ok None) old new = (new ≡ after_silence to address old) ⊎ (new ≡ old)
 RemembersSilence to address (Err e) old new = new ≡ old

@@ -2,10 +2,10 @@
 ghost use Rattle.std.specs.Prelude.{◌≡◌, ◌↔◌, None, Ok, IfOk, IsOk, OnErr, IsErr};
 ghost use Rattle.outside.specs.Outside.{Told, CountsFault};
 ghost use Rattle.outside.specs.Keeper.{Images, Loads, Saves, Appends};
-ghost use Rattle.real_edge.specs.Held.{Holds, HoldsAt, StayHeld};
+ghost use Rattle.real_edge.specs.HeldLock.{Holds, HoldsAt, StayHeld};
 
-use crate::lock::Held;
-use crate::trouble::{Refusal, Step, Trouble, Troubled, Troubles, at};
+use crate::lock::HeldLock;
+use crate::trouble::{FileStep, Refusal, Trouble, Troubled, Troubles, at};
 use outside::{KeepError, Keeper};
 use std::alloc::Global;
 use std::fs::File;
@@ -22,7 +22,7 @@ use std::rt::Files;
 pub struct FileKeeper<'a, R: Files<File = File>> {
     alloc: Global,
     files: &'a R,
-    held: Vec<Held>,
+    held: Vec<HeldLock>,
     troubles: Troubles,
 }
 
@@ -68,8 +68,11 @@ impl<'a, R: Files<File = File>> FileKeeper<'a, R> {
         ensures same { self.new.troubles ≡ self.old.troubles }
     {
         let place = self.held.len();
-        let held = at(Step::Lock, Held::take(self.alloc, self.files, name))?;
-        at(Step::Lock, self.held.push(held).map_err(io::Error::from))?;
+        let held = at(FileStep::Lock, HeldLock::take(self.alloc, self.files, name))?;
+        at(
+            FileStep::Lock,
+            self.held.push(held).map_err(io::Error::from),
+        )?;
         Ok(place)
     }
 
@@ -80,7 +83,10 @@ impl<'a, R: Files<File = File>> FileKeeper<'a, R> {
         ensures same { self.new.troubles ≡ self.old.troubles }
     {
         let place = self.hold(name)?;
-        at(Step::Read, self.held[place].read(self.alloc, self.files))
+        at(
+            FileStep::Read,
+            self.held[place].read(self.alloc, self.files),
+        )
     }
 
     /// Takes the image's lock, and writes the image.
@@ -100,7 +106,7 @@ impl<'a, R: Files<File = File>> FileKeeper<'a, R> {
         ensures same { self.new.troubles ≡ self.old.troubles }
     {
         let place = self.hold(name)?;
-        at(Step::Append, self.held[place].append(self.files, piece))
+        at(FileStep::Append, self.held[place].append(self.files, piece))
     }
 }
 

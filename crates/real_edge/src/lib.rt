@@ -35,4 +35,4 @@ pub use prompting::{Prompting, Terminals};
 pub use steady::{SteadyRead, SteadyWrite};
 pub use streams::{StdSink, StdSource};
 pub use telling::{Teller, Untold};
-pub use trouble::{Step, Trouble, Troubled, tell_trouble};
+pub use trouble::{FileStep, Trouble, Troubled, tell_trouble};

@@ -7,7 +7,7 @@ ghost use Rattle.world_rules.specs.World.{World};
 ghost use Rattle.world_rules.specs.Asking.{IsRequest, IsReplyTo, AsksOnce, IsDirect};
 ghost use Rattle.paced_talks.specs.Window.{HasWaited};
 ghost use Rattle.real_edge.specs.Addresses.{without_address};
-ghost use Rattle.real_edge.specs.Patience.{patience, in_buffers, pause, after_silence, after_answer, RemembersSilence};
+ghost use Rattle.real_edge.specs.Patience.{patience, in_buffers, pause, after_silence, silent_after, RemembersSilence};
 ghost use Rattle.real_edge.specs.Inside.{IsEchoTo};
 
 use crate::addresses::Addresses;
@@ -101,9 +101,9 @@ impl<'a, N: Net + Clock, T: Teller + Drop> TcpLink<'a, N, T> {
         ensures reply { IfOk result (λ bytes. IsEchoTo request bytes.items) }
         ensures troubles { self.new.troubles ≡ self.old.troubles }
         // whoever answers is silent no more
-        ensures answered { IfOk result (λ _. self.new.silent ≡ after_answer to address.now self.old.silent) }
+        ensures answered { IfOk result (λ _. self.new.silent ≡ silent_after to address.now self.old.silent) }
         // memory may be wanted for an address
-        ensures silent { (self.new.silent ≡ after_answer to address.now self.old.silent)
+        ensures silent { (self.new.silent ≡ silent_after to address.now self.old.silent)
             ⊎ (self.new.silent ≡ after_silence to address.now self.old.silent) ⊎ (self.new.silent ≡ self.old.silent) }
     {
         thread::sleep(

@@ -3,7 +3,7 @@ ghost use Rattle.std.specs.Prelude.{◌≡◌, ◌+◌, ◌↔◌, IsTrue, IfOk,
 ghost use Rattle.store_image.specs.declared.image.TheConstants.{MAX_LOADED};
 
 use crate::names::{beside, folder_of, name_text};
-use crate::trouble::{Refusal, Step, at};
+use crate::trouble::{FileStep, Refusal, at};
 use std::alloc::Global;
 use std::fs::{self, File, Files, OpenFile, OpenOptions, Permissions};
 use std::io::{self, ErrorKind, Read, Write};
@@ -19,23 +19,23 @@ const OWNERS_ALONE: u32 = 0o600;
 /// The lock of an image: its file beside the image, which no other program has locked. It ends with this value. The image is read
 /// and written by who has its lock alone.
 #[derive(Drop)]
-pub(crate) struct Held {
+pub(crate) struct HeldLock {
     name: Vec<u8>,
     _file: File,
 }
 
-impl Held {
+impl HeldLock {
     /// Takes the lock of the image with this name.
     pub(crate) fn take<R: Files<File = File>>(
         alloc: Global,
         files: &R,
         name: &[u8],
-    ) -> io::Result<Held>
+    ) -> io::Result<HeldLock>
         ensures { IfOk result (λ held. held.name.items ≡ name.now) }
     {
         let file = lock_beside(alloc, files, name)?;
         match Vec::from_slice(alloc, name) {
-            Ok(name) => Ok(Held { name, _file: file }),
+            Ok(name) => Ok(HeldLock { name, _file: file }),
             Err(error) => {
                 drop(file);
                 Err(io::Error::from(error))
@@ -66,9 +66,9 @@ impl Held {
         files: &R,
         bytes: &[u8],
     ) -> Result<(), Refusal> {
-        let name = at(Step::Write, name_text(&self.name))?;
+        let name = at(FileStep::Write, name_text(&self.name))?;
         let beside = at(
-            Step::Write,
+            FileStep::Write,
             beside(alloc, name, ".new").map_err(io::Error::from),
         )?;
         let written = write_over(files, beside.as_str(), name, bytes);
@@ -129,9 +129,9 @@ fn read_bytes<F: Read + Drop>(alloc: Global, file: F) -> io::Result<Vec<u8>>
 
 /// Writes the file beside an image, and renames it over that.
 fn write_over<R: Files>(files: &R, beside: &str, name: &str, bytes: &[u8]) -> Result<(), Refusal> {
-    at(Step::Write, write_fresh(files, beside, name, bytes))?;
-    at(Step::Replace, fs::rename(files, beside, name))?;
-    at(Step::Settle, sync_folder(files, folder_of(name)))
+    at(FileStep::Write, write_fresh(files, beside, name, bytes))?;
+    at(FileStep::Replace, fs::rename(files, beside, name))?;
+    at(FileStep::Settle, sync_folder(files, folder_of(name)))
 }
 
 /// Writes the file anew, never through a link that stands there. It is for its owner alone, or has the rights of the image.

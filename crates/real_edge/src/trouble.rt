@@ -8,7 +8,7 @@ use std::io::{self, ErrorKind};
 
 /// What a keeper does with the files of an image.
 #[derive(Clone, Copy, Debug, PartialEq, Eq)]
-pub enum Step {
+pub enum FileStep {
     /// Locks the file beside the image.
     Lock,
     /// Reads the image.
@@ -26,12 +26,12 @@ pub enum Step {
 /// A step that the platform refused.
 #[derive(Drop)]
 pub(crate) struct Refusal {
-    pub(crate) step: Step,
+    pub(crate) step: FileStep,
     pub(crate) error: io::Error,
 }
 
 /// What came of a step.
-pub(crate) fn at<T>(step: Step, came: io::Result<T>) -> Result<T, Refusal>
+pub(crate) fn at<T>(step: FileStep, came: io::Result<T>) -> Result<T, Refusal>
     ensures ok { IfOk came (λ value. result ≡ Ok value) }
     ensures err { OnErr came (IsErr result) }
 {
@@ -46,7 +46,7 @@ pub(crate) fn at<T>(step: Step, came: io::Result<T>) -> Result<T, Refusal>
 pub enum Trouble {
     /// A step with an image's files. Without its name, where memory for that was wanted.
     OfImage {
-        step: Step,
+        step: FileStep,
         image: String,
         error: io::Error,
     },
@@ -81,21 +81,21 @@ pub fn tell_trouble<R: Eprint>(rt: &R, program: &str, trouble: Option<&Trouble>)
 
 /// Tells a step that was refused.
 fn tell_step<W: fmt::Write>(
-    step: Step,
+    step: FileStep,
     image: &str,
     error: &io::Error,
     f: &mut Formatter<W>,
 ) -> fmt::Result {
     match step {
-        Step::Lock if error.kind() == ErrorKind::WouldBlock => {
+        FileStep::Lock if error.kind() == ErrorKind::WouldBlock => {
             write!(f, "{image}.lock is held by another program")
         }
-        Step::Lock => write!(f, "cannot lock {image}.lock: {error}"),
-        Step::Read => write!(f, "cannot read {image}: {error}"),
-        Step::Write => write!(f, "cannot write {image}.new: {error}"),
-        Step::Replace => write!(f, "cannot rename {image}.new to {image}: {error}"),
-        Step::Append => write!(f, "cannot append to {image}: {error}"),
-        Step::Settle => write!(f, "cannot sync the folder of {image}: {error}"),
+        FileStep::Lock => write!(f, "cannot lock {image}.lock: {error}"),
+        FileStep::Read => write!(f, "cannot read {image}: {error}"),
+        FileStep::Write => write!(f, "cannot write {image}.new: {error}"),
+        FileStep::Replace => write!(f, "cannot rename {image}.new to {image}: {error}"),
+        FileStep::Append => write!(f, "cannot append to {image}: {error}"),
+        FileStep::Settle => write!(f, "cannot sync the folder of {image}: {error}"),
     }
 }
 

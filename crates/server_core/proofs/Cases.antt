@@ -12,7 +12,7 @@ use Rattle.vol_tree.proofs.Steps.{apply_all-append}
 use Rattle.wire_frames.specs.declared.message.Message.TheVariants.{Store, Pull, Unfit, Full}
 use Rattle.wire_frames.specs.declared.parts.Part.{Part}
 use Rattle.wire_frames.specs.Parts.{part_of}
-use Rattle.world_rules.specs.Served.{Served, Verdict, Repeated, Early, Outdated, Refused, Taken, judged, verdict, served_after, passes, served_through, verdict_through, refusal, end_of, reply}
+use Rattle.world_rules.specs.Served.{Served, StoreVerdict, Repeated, Early, Outdated, Refused, Taken, judged, verdict, served_after, passes, served_through, verdict_through, refusal, end_of, reply}
 use Rattle.server_core.specs.Inside.{is_outdated, conflict_at}
 use Rattle.server_core.specs.Laws.{IsServedAs, GoesOn, IsCurrent, RepeatsChangeNothing, GapsChangeNothing, KnownEntriesArePassed, StaleEntriesEndStores, FullEntriesEndStores, UnfitEntriesEndStores, OtherEntriesAreTaken, PullsTellTheRows, OthersAreMalformed}
 
@@ -79,7 +79,7 @@ taken client number effects base s new next current found =
     decided client number effects base s false false None (Ok new) (le_fails _ _ (omega (arith, next))) (lt_fails _ _ (omega (arith, next))) current found
 
 -- what is made of a client's next entry whose base is current: it is taken, or refused
-abbrev pub judged_current : Result Volume (ℕ × TreeError) → Verdict
+abbrev pub judged_current : Result Volume (ℕ × TreeError) → StoreVerdict
 judged_current (Ok volume) = Taken volume
 judged_current (Err cause) = Refused cause
 
@@ -101,11 +101,11 @@ found_none volume bases e = sym (first_conflict-find volume bases) ∙ ap (optio
 -- ---- the cases of a store in the subject's words
 
 -- the first entry of a store ends it, where the verdict on it is one that does
-ends : (client number : ℕ) (first : Part) (later : List Part) (s : Served) (judgement : Verdict) → verdict client number first.effects first.base s ≡ judgement → passes judgement ≡ false → served_after client number judgement s ≡ s
+ends : (client number : ℕ) (first : Part) (later : List Part) (s : Served) (judgement : StoreVerdict) → verdict client number first.effects first.base s ≡ judgement → passes judgement ≡ false → served_after client number judgement s ≡ s
     → IsServedAs (Store client number (first ∷ later)) s (reply client number (end_of number (first ∷ later)) (s.last client) judgement) s
 ends client number first later s judgement is stops same =
-    let through : Verdict → Served = λ j. if passes j then served_through client (number + 1) later (served_after client number j s) else served_after client number j s in
-    let at : Verdict → Verdict = λ j. if passes j then verdict_through client (number + 1) later (served_after client number j s) else j in
+    let through : StoreVerdict → Served = λ j. if passes j then served_through client (number + 1) later (served_after client number j s) else served_after client number j s in
+    let at : StoreVerdict → StoreVerdict = λ j. if passes j then verdict_through client (number + 1) later (served_after client number j s) else j in
     let state : through (verdict client number first.effects first.base s) ≡ s =
     ap through is ∙ ap (λ (b : Bool). if b then served_through client (number + 1) later (served_after client number judgement s) else served_after client number judgement s) stops ∙ same in
     let end : at (verdict client number first.effects first.base s) ≡ judgement =
@@ -113,12 +113,12 @@ ends client number first later s judgement is stops same =
     record { replies = λ i. reply client number (end_of number (first ∷ later)) ((state i).last client) (end i); holds = state }
 
 -- the first entry of a store is passed, where the verdict on it says so
-goes : (client number : ℕ) (first : Part) (later : List Part) (s : Served) (judgement : Verdict) → verdict client number first.effects first.base s ≡ judgement → passes judgement ≡ true
+goes : (client number : ℕ) (first : Part) (later : List Part) (s : Served) (judgement : StoreVerdict) → verdict client number first.effects first.base s ≡ judgement → passes judgement ≡ true
     → GoesOn client number first later s (served_after client number judgement s)
 goes client number first later s judgement is on = record {
-  holds = ap (λ (j : Verdict). if passes j then served_through client (number + 1) later (served_after client number j s) else served_after client number j s) is
+  holds = ap (λ (j : StoreVerdict). if passes j then served_through client (number + 1) later (served_after client number j s) else served_after client number j s) is
       ∙ ap (λ (b : Bool). if b then served_through client (number + 1) later (served_after client number judgement s) else served_after client number judgement s) on;
-  ends = ap (λ (j : Verdict). if passes j then verdict_through client (number + 1) later (served_after client number j s) else j) is
+  ends = ap (λ (j : StoreVerdict). if passes j then verdict_through client (number + 1) later (served_after client number j s) else j) is
       ∙ ap (λ (b : Bool). if b then verdict_through client (number + 1) later (served_after client number judgement s) else judgement) on;
 }
 

@@ -6,7 +6,7 @@ use Rattle.tree_values.specs.Tree.{Volume}
 use Rattle.tree_values.specs.declared.node.TreeError.{TreeError}
 use Rattle.file_paths.specs.Path.{FilePath}
 use Rattle.wire_frames.specs.declared.parts.Part.{Part}
-use Rattle.world_rules.specs.Served.{Served, IsServed, Verdict, Repeated, Early, Outdated, Refused, Taken, verdict, served_after, passes, served_through, verdict_through}
+use Rattle.world_rules.specs.Served.{Served, IsServed, StoreVerdict, Repeated, Early, Outdated, Refused, Taken, verdict, served_after, passes, served_through, verdict_through}
 use Rattle.world_rules.specs.Served.{TakenEntry, entry_stored, taken_if, taken_through}
 use Rattle.server_core.specs.declared.server.Underway.{Underway}
 use Rattle.server_core.specs.declared.server.Looked.{Looked}
@@ -16,7 +16,7 @@ use Rattle.vol_tree.specs.Undos.{undone_all}
 use Rattle.wire_frames.specs.Frame.{IsValid}
 use Rattle.server_core.specs.Holding.{Holding, last_number}
 use Rattle.server_core.specs.Framing.{is_any}
-use Rattle.server_core.specs.Inside.{IsUnderway, IsLookedAs, CanTakeBack, reply_to, reply_through, taken_back}
+use Rattle.server_core.specs.Inside.{IsUnderway, IsLookedAs, CanTakeBack, reply_to, reply_through, store_undone}
 use Rattle.server_core.proofs.Underway.{first_sound}
 use Rattle.server_core.proofs.Numbers.{back_is}
 
@@ -28,7 +28,7 @@ is_on looks.Repeated = true
 is_on (looks.Taken undos) = true
 is_on looked = false
 
-pub seen_on : (j : Verdict) (looked : Looked) → IsLookedAs j looked → is_on looked ≡ true → passes j ≡ true
+pub seen_on : (j : StoreVerdict) (looked : Looked) → IsLookedAs j looked → is_on looked ≡ true → passes j ≡ true
 seen_on Repeated looked seen on = refl
 seen_on (Taken volume) looked seen on = refl
 seen_on Early looks.Repeated seen on = absurd seen
@@ -47,28 +47,28 @@ seen_on (Refused cause) (looks.Outdated path theirs ours) seen on = absurd seen
 seen_on (Refused cause) (looks.Refused index fault) seen on = on
 seen_on (Refused cause) (looks.Taken undos) seen on = absurd seen
 
-pub seen_early : (j : Verdict) → IsLookedAs j looks.Early → j ≡ Early
+pub seen_early : (j : StoreVerdict) → IsLookedAs j looks.Early → j ≡ Early
 seen_early Repeated seen = absurd seen
 seen_early Early seen = refl
 seen_early (Outdated conflict) seen = absurd seen
 seen_early (Refused cause) seen = absurd seen
 seen_early (Taken volume) seen = absurd seen
 
-pub seen_outdated : (j : Verdict) (path : FilePath) (theirs ours : ℕ) → IsLookedAs j (looks.Outdated path theirs ours) → j ≡ Outdated (record { path = path; theirs = theirs; ours = ours })
+pub seen_outdated : (j : StoreVerdict) (path : FilePath) (theirs ours : ℕ) → IsLookedAs j (looks.Outdated path theirs ours) → j ≡ Outdated (record { path = path; theirs = theirs; ours = ours })
 seen_outdated Repeated path theirs ours seen = absurd seen
 seen_outdated Early path theirs ours seen = absurd seen
 seen_outdated (Outdated conflict) path theirs ours seen = ap (λ c. Outdated c) seen
 seen_outdated (Refused cause) path theirs ours seen = absurd seen
 seen_outdated (Taken volume) path theirs ours seen = absurd seen
 
-pub seen_refused : (j : Verdict) (index : ℕ) (fault : TreeError) → IsLookedAs j (looks.Refused index fault) → j ≡ Refused (index, fault)
+pub seen_refused : (j : StoreVerdict) (index : ℕ) (fault : TreeError) → IsLookedAs j (looks.Refused index fault) → j ≡ Refused (index, fault)
 seen_refused Repeated index fault seen = absurd seen
 seen_refused Early index fault seen = absurd seen
 seen_refused (Outdated conflict) index fault seen = absurd seen
 seen_refused (Refused cause) index fault seen = ap (λ c. Refused c) seen
 seen_refused (Taken volume) index fault seen = absurd seen
 
-pub seen_taken : (j : Verdict) (undos : Vec (List Row) Global) → IsLookedAs j (looks.Taken undos) → (volume : Volume) × (j ≡ Taken volume)
+pub seen_taken : (j : StoreVerdict) (undos : Vec (List Row) Global) → IsLookedAs j (looks.Taken undos) → (volume : Volume) × (j ≡ Taken volume)
 seen_taken Repeated undos seen = absurd seen
 seen_taken Early undos seen = absurd seen
 seen_taken (Outdated conflict) undos seen = absurd seen
@@ -100,7 +100,7 @@ idle_behind (entry ∷ entries) second none = absurd (true≢false none)
 -- ---- how the store goes on
 
 module _ (store : Underway) (done : ℕ) (part : Part) (parts : List Part) (s : Served) where
-  abbrev j : Verdict
+  abbrev j : StoreVerdict
   j = verdict store.client (store.number + done) part.effects part.base s
 
   abbrev next : Served
@@ -139,32 +139,32 @@ module _ (store : Underway) (done : ℕ) (part : Part) (parts : List Part) (s : 
   taken_any volume is =
       let stored = entry_stored store.client (store.number + done) part.effects part.base in
       ap
-      (λ (v : Verdict). is_any (taken_if v stored ++ (if passes v then taken_through store.client (store.number + done + 1) parts (served_after store.client (store.number + done) v s) else [])))
+      (λ (v : StoreVerdict). is_any (taken_if v stored ++ (if passes v then taken_through store.client (store.number + done + 1) parts (served_after store.client (store.number + done) v s) else [])))
       is
 
   -- at an entry that is not
-  pub ends_state : (judgement : Verdict) → j ≡ judgement → passes judgement ≡ false → served_after store.client (store.number + done) judgement s ≡ s → served_through store.client (store.number + done) (part ∷ parts) s ≡ s
+  pub ends_state : (judgement : StoreVerdict) → j ≡ judgement → passes judgement ≡ false → served_after store.client (store.number + done) judgement s ≡ s → served_through store.client (store.number + done) (part ∷ parts) s ≡ s
   ends_state judgement is stops same =
-      ap (λ (v : Verdict). if passes v then served_through store.client (store.number + done + 1) parts (served_after store.client (store.number + done) v s) else served_after store.client (store.number + done) v s) is
+      ap (λ (v : StoreVerdict). if passes v then served_through store.client (store.number + done + 1) parts (served_after store.client (store.number + done) v s) else served_after store.client (store.number + done) v s) is
       ∙ ap (λ (b : Bool). if b then served_through store.client (store.number + done + 1) parts (served_after store.client (store.number + done) judgement s) else served_after store.client (store.number + done) judgement s) stops
       ∙ same
 
-  ends_end : (judgement : Verdict) → j ≡ judgement → passes judgement ≡ false → verdict_through store.client (store.number + done) (part ∷ parts) s ≡ judgement
+  ends_end : (judgement : StoreVerdict) → j ≡ judgement → passes judgement ≡ false → verdict_through store.client (store.number + done) (part ∷ parts) s ≡ judgement
   ends_end judgement is stops =
-      ap (λ (v : Verdict). if passes v then verdict_through store.client (store.number + done + 1) parts (served_after store.client (store.number + done) v s) else v) is
+      ap (λ (v : StoreVerdict). if passes v then verdict_through store.client (store.number + done + 1) parts (served_after store.client (store.number + done) v s) else v) is
       ∙ ap (λ (b : Bool). if b then verdict_through store.client (store.number + done + 1) parts (served_after store.client (store.number + done) judgement s) else judgement) stops
 
-  pub ends_reply : (judgement : Verdict) → j ≡ judgement → passes judgement ≡ false → served_after store.client (store.number + done) judgement s ≡ s → reply_to store (s.last store.client) judgement ≡ reply_through store done (part ∷ parts) s
+  pub ends_reply : (judgement : StoreVerdict) → j ≡ judgement → passes judgement ≡ false → served_after store.client (store.number + done) judgement s ≡ s → reply_to store (s.last store.client) judgement ≡ reply_through store done (part ∷ parts) s
   ends_reply judgement is stops same =
       let state = ends_state judgement is stops same in
       let end = ends_end judgement is stops in
       sym (λ i. reply_to store ((state i).last store.client) (end i))
 
   -- its reply is valid
-  pub ends_valid : IsUnderway store done (part ∷ parts) s → IsServed s → (last : ℕ) → last ≡ s.last store.client → (judgement : Verdict) → j ≡ judgement → passes judgement ≡ false → IsValid (reply_to store last judgement)
+  pub ends_valid : IsUnderway store done (part ∷ parts) s → IsServed s → (last : ℕ) → last ≡ s.last store.client → (judgement : StoreVerdict) → j ≡ judgement → passes judgement ≡ false → IsValid (reply_to store last judgement)
   ends_valid under legal last same judgement is stops =
       let sound = first_sound store done part parts s under legal in
-      let valid = sound.valid (ap (λ (v : Verdict). passes v) is ∙ stops) in
+      let valid = sound.valid (ap (λ (v : StoreVerdict). passes v) is ∙ stops) in
       let back = sym same in
       let told : reply_to store (s.last store.client) j ≡ reply_to store last judgement = λ i. reply_to store (back i) (is i) in
       subst IsValid told valid
@@ -172,8 +172,8 @@ module _ (store : Underway) (done : ℕ) (part : Part) (parts : List Part) (s : 
 -- ---- taking an entry back
 
 pub back_to : (client number last : ℕ) (old seen mid : Holding) (items : List (List Row)) → undone_all items seen.rows ≡ old.rows → seen.last ≡ set old.last (client - 1) number → mid ≡ seen
-    → last ≡ last_number old.last client → 1 ≤ client → client ≤ length old.last → taken_back client last items mid ≡ old
+    → last ≡ last_number old.last client → 1 ≤ client → client ≤ length old.last → store_undone client last items mid ≡ old
 back_to client number last old seen mid items rows lasts mid_is last_is low high =
     let mid_rows : undone_all items mid.rows ≡ old.rows = ap (λ (h : Holding). undone_all items h.rows) mid_is ∙ rows in
     let mid_lasts : mid.last ≡ set old.last (client - 1) number = ap (λ (h : Holding). h.last) mid_is ∙ lasts in
-    ap (λ (n : ℕ). taken_back client n items mid) last_is ∙ back_is old mid client number items low high mid_rows mid_lasts
+    ap (λ (n : ℕ). store_undone client n items mid) last_is ∙ back_is old mid client number items low high mid_rows mid_lasts

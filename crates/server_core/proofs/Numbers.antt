@@ -9,7 +9,7 @@ use Rattle.vol_tree.proofs.Behind.{IsTree-empty}
 use Rattle.world_rules.specs.Served.{IsServed, new_served, with_last}
 use Rattle.tree_values.specs.declared.node.Row.{Row}
 use Rattle.vol_tree.specs.Undos.{undone_all}
-use Rattle.server_core.specs.Inside.{taken_back}
+use Rattle.server_core.specs.Inside.{store_undone}
 use Rattle.server_core.specs.Holding.{Holding, last_number, served}
 
 -- ---- raising a number
@@ -49,7 +49,7 @@ number_back last (suc k) number low high =
 
 -- taking an entry back gives what was held before
 pub back_is : (old new : Holding) (client number : ℕ) (undos : List (List Row)) → 1 ≤ client → client ≤ length old.last → undone_all undos new.rows ≡ old.rows → new.last ≡ set old.last (client - 1) number
-    → taken_back client (last_number old.last client) undos new ≡ old
+    → store_undone client (last_number old.last client) undos new ≡ old
 back_is old new client number undos low high rows last =
     let lasts = ap (λ (l : List ℕ). set l (client - 1) (last_number old.last client)) last ∙ number_back old.last client number low high in
     λ i. record { rows = rows i; last = lasts i }

@@ -23,13 +23,13 @@ use Rattle.wire_frames.specs.Parts.{PartFits, effects_count, contents_count}
 use Rattle.wire_frames.specs.Frame.{IsValid}
 use Rattle.wire_frames.specs.declared.message.Message.{Message}
 use Rattle.wire_frames.specs.declared.message.Message.TheVariants.{Store}
-use Rattle.world_rules.specs.Served.{Served, IsServed, TakenEntry, entry_stored, Verdict, judged, served_after, passes, served_through, state_after, taken_if, taken_through, taken_of, with_last}
+use Rattle.world_rules.specs.Served.{Served, IsServed, TakenEntry, entry_stored, StoreVerdict, judged, served_after, passes, served_through, state_after, taken_if, taken_through, taken_of, with_last}
 use Rattle.world_rules.proofs.Sending.{no_parts}
 use Rattle.world_rules.proofs.Replies.{state_after-legal}
 use Rattle.server_core.specs.Holding.{last_number, served}
 use Rattle.server_core.specs.Framing.{is_any}
 use Rattle.server_core.specs.Inside.{effects_numbered_above, effects_between, record_with}
-use Rattle.server_core.specs.Keeping.{holding_of, Leads, NoteLeads, last_taken, record_of_all, WholeIsKept, RecordsLeadOn, TornRecordsAreDropped}
+use Rattle.server_core.specs.Keeping.{holding_of, Leads, NoteLeads, number_after, record_of_all, WholeIsKept, RecordsLeadOn, TornRecordsAreDropped}
 use Rattle.server_core.proofs.Cases.{early}
 use Rattle.server_core.proofs.Through.{raised_to, next_number}
 use Rattle.server_core.proofs.Many.{raised, Changes}
@@ -159,7 +159,7 @@ effects_in taken = flat_map (λ (entry : TakenEntry). entry.effects) taken
 -- What was taken of entries of a client's store, numbered on from this number, and what that led to.
 record AreBehind (client number : ℕ) (parts : List Part) (s : Served) (taken : List TakenEntry) (t : Served) : Type 0 where
   own : AllByRecursion (λ (entry : TakenEntry). entry.client ≡ client) taken
-  lasts : last_taken (s.last client) taken ≡ t.last client
+  lasts : number_after (s.last client) taken ≡ t.last client
   up : s.last client ≤ t.last client
   some : (taken ≡ [] → ⊥) → (s.last client < t.last client) × (1 ≤ length (effects_in taken))
   effects : effects_in taken ≡ effects_of number parts (s.last client) (t.last client)
@@ -200,7 +200,7 @@ behind_taken client number part parts new s t taken full next applies rest =
     rest.effects ∙ ap (λ n. effects_of (number + 1) parts n (t.last client)) here ∙ above_either (number + 1) parts number (s.last client) (t.last client) (omega arith) (omega (arith, next)) in
     record {
       own = (refl, rest.own);
-      lasts = subst (λ n. last_taken n taken ≡ t.last client) here rest.lasts;
+      lasts = subst (λ n. number_after n taken ≡ t.last client) here rest.lasts;
       up = omega (arith, above, next);
       some = λ none. (omega (arith, above, next), omega (arith, ap length whole, length-append part.effects (effects_in taken), full));
       effects = whole
@@ -235,8 +235,8 @@ beyond : (client number : ℕ) (part : Part) (parts : List Part) (s : Served) �
 beyond client number part parts s lt =
     let is = early client number part.effects part.base s lt in
     let stored = entry_stored client number part.effects part.base in (
-      ap (λ (j : Verdict). taken_if j stored ++ (if passes j then taken_through client (number + 1) parts (served_after client number j s) else [])) is,
-      ap (λ (j : Verdict). if passes j then served_through client (number + 1) parts (served_after client number j s) else served_after client number j s) is,
+      ap (λ (j : StoreVerdict). taken_if j stored ++ (if passes j then taken_through client (number + 1) parts (served_after client number j s) else [])) is,
+      ap (λ (j : StoreVerdict). if passes j then served_through client (number + 1) parts (served_after client number j s) else served_after client number j s) is,
     )
 
 -- ---- the record of a store
@@ -281,11 +281,11 @@ leads_all client number parts s t (entry ∷ entries) valid legal behind changed
     record {
       some = subst (λ c. 1 ≤ c) (sym own) (le_of 1 client of_client.0);
       few = subst (λ c. c ≤ 64) (sym own) (le_of client 64 of_client.1);
-      higher = subst (λ c. s.last c < last_taken entry.number entries) (sym own) (subst (λ n. s.last client < n) (sym behind.lasts) full.0);
+      higher = subst (λ c. s.last c < number_after entry.number entries) (sym own) (subst (λ n. s.last client < n) (sym behind.lasts) full.0);
       small = subst (λ n. n < 2 ^ 64) (sym behind.lasts) (legal.small client);
       effects = record { some = full.1; few = omega (arith, all.few, valid.body_fits.few); each = all.each; all_contents = omega (arith, all.contents, valid.body_fits.all_contents) };
       applies = behind.applies;
-      numbered = subst (λ c. t.last ≡ with_last s.last c (last_taken entry.number entries)) (sym own) (subst (λ n. t.last ≡ with_last s.last client n) (sym behind.lasts) behind.others);
+      numbered = subst (λ c. t.last ≡ with_last s.last c (number_after entry.number entries)) (sym own) (subst (λ n. t.last ≡ with_last s.last client n) (sym behind.lasts) behind.others);
     }
 
 pub taken_leads : (message : Message) (s : Served) → IsValid message → IsServed s → NoteLeads (record_of_all (taken_of message s)) s (state_after message s)

@@ -10,7 +10,7 @@ use Rattle.tree_values.specs.Effects.{apply_all, Conflict, first_conflict}
 use Rattle.wire_frames.specs.declared.parts.Part.{Part}
 use Rattle.wire_frames.specs.declared.message.Message.{Message}
 use Rattle.wire_frames.specs.declared.message.Message.TheVariants.{Store}
-use Rattle.world_rules.specs.Served.{Served, TakenEntry, entry_stored, with_last, Verdict, Repeated, Early, Outdated, Refused, Taken, judged, verdict, served_after, passes, served_through, state_after, taken_if, taken_through, taken_of}
+use Rattle.world_rules.specs.Served.{Served, TakenEntry, entry_stored, with_last, StoreVerdict, Repeated, Early, Outdated, Refused, Taken, judged, verdict, served_after, passes, served_through, state_after, taken_if, taken_through, taken_of}
 use Rattle.server_core.specs.Laws.{state_after_all, taken_among}
 
 -- the served state once a client's entry of this number led to this volume
@@ -49,7 +49,7 @@ module _ (P : Served → List TakenEntry → Served → Type 0) (rule : Rule P) 
       let judgement = verdict client number part.effects part.base s in
       by judgement (of_entry client number part.effects part.base s) (of_entries client (number + 1) parts (served_after client number judgement s))
     where
-      by : (j : Verdict) → P s (taken_if j (entry_stored client number part.effects part.base)) (served_after client number j s) → P (served_after client number j s) (taken_through client (number + 1) parts (served_after client number j s)) (served_through client (number + 1) parts (served_after client number j s))
+      by : (j : StoreVerdict) → P s (taken_if j (entry_stored client number part.effects part.base)) (served_after client number j s) → P (served_after client number j s) (taken_through client (number + 1) parts (served_after client number j s)) (served_through client (number + 1) parts (served_after client number j s))
           → P s (taken_if j (entry_stored client number part.effects part.base) ++ (if passes j then taken_through client (number + 1) parts (served_after client number j s) else [])) (if passes j then served_through client (number + 1) parts (served_after client number j s) else served_after client number j s)
       by Repeated one rest = rest
       by Early one rest = one

@@ -1,14 +1,14 @@
 -- What holds while the entries of a store are gone through: each step leaves the others to be gone through, and each reply is valid.
 use Rattle.std.proofs.Common.{◌≡◌, inr, ℕ, ◌+◌, true, List, ◌∷◌, ◌∙◌, arith}
 use Rattle.wire_frames.specs.declared.parts.Part.{Part}
-use Rattle.world_rules.specs.Served.{Served, IsServed, Verdict, verdict, served_after, passes, end_of}
+use Rattle.world_rules.specs.Served.{Served, IsServed, StoreVerdict, verdict, served_after, passes, end_of}
 use Rattle.world_rules.proofs.Sending.{client_ok, number_ok}
 use Rattle.world_rules.proofs.Replies.{IsSound, entry_sound}
 use Rattle.server_core.specs.declared.server.Underway.{Underway}
 use Rattle.server_core.specs.Inside.{IsUnderway}
 
 module _ (store : Underway) (done : ℕ) (part : Part) (parts : List Part) (s : Served) (under : IsUnderway store done (part ∷ parts) s) (served : IsServed s) where
-  abbrev judgement : Verdict
+  abbrev judgement : StoreVerdict
   judgement = verdict store.client (store.number + done) part.effects part.base s
 
   -- the verdict on the first is sound

@@ -16,7 +16,7 @@ use Rattle.wire_frames.specs.declared.message.Message.{Message}
 use Rattle.wire_frames.specs.Parts.{PartFits}
 use Rattle.wire_frames.specs.Frame.{frame}
 use Rattle.store_image.specs.declared.record.ServerRecord.{ServerRecord}
-use Rattle.world_rules.specs.Served.{Served, Verdict, Repeated, Early, Outdated, Refused, Taken, with_last, served_through}
+use Rattle.world_rules.specs.Served.{Served, StoreVerdict, Repeated, Early, Outdated, Refused, Taken, with_last, served_through}
 use Rattle.world_rules.specs.Served.{verdict_through, end_of, reply}
 use Rattle.server_core.specs.declared.server.Underway.{Underway}
 use Rattle.server_core.specs.declared.server.Answered.{Answered}
@@ -35,7 +35,7 @@ conflict_at volume base = record { path = base.path; theirs = version_at volume 
 -- ---- replies
 
 -- the reply to a store by the verdict at which it ends
-abbrev pub reply_to : Underway → ℕ → Verdict → Message
+abbrev pub reply_to : Underway → ℕ → StoreVerdict → Message
 reply_to store last judgement = reply store.client store.number store.upto last judgement
 
 -- the reply to a store of which these entries are left, behind so many
@@ -65,7 +65,7 @@ pub record IsUnderway (store : Underway) (done : ℕ) (parts : List Part) (serve
   pub next : (store.number + done ≡ store.number) ⊎ (store.number + done ≤ served.last store.client + 1)
 
 -- what was seen of an entry is the verdict on it
-abbrev pub IsLookedAs : Verdict → Looked → Type 0
+abbrev pub IsLookedAs : StoreVerdict → Looked → Type 0
 IsLookedAs Repeated looks.Repeated = Unit {0}
 IsLookedAs Early looks.Early = Unit {0}
 IsLookedAs (Outdated conflict) (looks.Outdated path theirs ours) = conflict ≡ record { path = path; theirs = theirs; ours = ours }
@@ -85,8 +85,8 @@ served_with client number (Ok volume) served = record { volume = volume; last = 
 served_with client number (Err cause) served = served
 
 -- what is held once these effects are undone, and the client's last number is this one
-abbrev pub taken_back : ℕ → ℕ → List (List Row) → Holding → Holding
-taken_back client last undos held = record { rows = undone_all undos held.rows; last = set held.last (client - 1) last }
+abbrev pub store_undone : ℕ → ℕ → List (List Row) → Holding → Holding
+store_undone client last undos held = record { rows = undone_all undos held.rows; last = set held.last (client - 1) last }
 
 -- an entry of this number that was taken can be taken back; where none was, nothing has changed
 abbrev pub CanTakeBack : ℕ → ℕ → Holding → Holding → Looked → Type 0

@@ -67,9 +67,9 @@ NoteLeads None before after = after ≡ before
 NoteLeads (Some note) before after = Leads note before after
 
 -- the number of the last of these entries
-abbrev pub last_taken : ℕ → List TakenEntry → ℕ
-last_taken number [] = number
-last_taken number (entry ∷ entries) = last_taken entry.number entries
+abbrev pub number_after : ℕ → List TakenEntry → ℕ
+number_after number [] = number
+number_after number (entry ∷ entries) = number_after entry.number entries
 
 -- One record of all entries that were taken of a store, which are of one client: whose they are, the number of the last, and their
 -- effects, one after the other. There is none where none was taken.
@@ -77,7 +77,7 @@ abbrev pub record_of_all : List TakenEntry → Option ServerRecord
 record_of_all [] = None
 record_of_all (entry ∷ entries) = Some (record {
   client = entry.client;
-  last = last_taken entry.number entries;
+  last = number_after entry.number entries;
   effects = flat_map (λ taken. taken.effects) (entry ∷ entries);
 })
 

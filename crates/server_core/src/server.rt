@@ -15,7 +15,7 @@ ghost use Rattle.server_core.specs.Keeping.{holding_of, IsKeptWholeForServed, Is
 ghost use Rattle.server_core.specs.Framing.{frame_answer, frame_after, is_any, takes};
 ghost use Rattle.server_core.specs.Inside.{is_outdated, effects_numbered_above, effects_between, record_with};
 ghost use Rattle.server_core.specs.Inside.{reply_to, reply_through, IsAnsweredBy, IsUnderway, IsLookedAs, IsTakenAs};
-ghost use Rattle.server_core.specs.Inside.{served_with, CanTakeBack, taken_back};
+ghost use Rattle.server_core.specs.Inside.{served_with, CanTakeBack, store_undone};
 ghost use Rattle.store_image.specs.declared.image.TheConstants.{MAX_SERVER_IMAGE};
 
 use std::alloc::{AllocError, Global};
@@ -414,8 +414,8 @@ impl Server {
         requires low { 1 ≤ client }
         requires high { client ≤ CLIENTS }
         requires undo { CanUndoAll undos.items self.old.rows }
-        requires legal { IsServed (served (taken_back client last undos.items self.old)) }
-        ensures held { self.new ≡ taken_back client last undos.items self.old }
+        requires legal { IsServed (served (store_undone client last undos.items self.old)) }
+        ensures held { self.new ≡ store_undone client last undos.items self.old }
         ensures legal { IsServed (served self.new) }
     {
         undo_all(&mut self.tree, undos);

@@ -11,8 +11,8 @@ use Rattle.store_image.specs.Records.{server_record}
 use Rattle.world_rules.specs.Served.{Served}
 use Rattle.server_core.specs.Keeping.{IsKeptWholeForServed, IsImageForServed, Leads}
 use Rattle.server_core.proofs.Records.{whole_is_kept, records_lead_on, torn_records_are_dropped}
-use Rattle.server_prog.specs.declared.journal.Journal.{Journal}
-use Rattle.server_prog.specs.declared.journal.Journal.TheVariants.{Unsaved, Saved}
+use Rattle.server_prog.specs.declared.journal.ServerJournal.{ServerJournal}
+use Rattle.server_prog.specs.declared.journal.ServerJournal.TheVariants.{Unsaved, Saved}
 use Rattle.server_prog.specs.Serving.{IsKeptNow, KeptAs, IsImageWithRecords}
 use Rattle.server_prog.specs.Inside.{is_saved, room_for, IsJournaled, Journals, PutsRecord, Puts, KeepsOn, ServerMayKeep}
 use Rattle.server_prog.proofs.Kept.{Kept, told_with}
@@ -23,7 +23,7 @@ now_kept : (records : ℕ) (s : Served) (now : Option (List ℕ)) → IsJournale
 now_kept records s now is = record { bytes = is.bytes; here = is.here; kept = whole_is_kept s is.bytes is.whole; small = omega (arith, is.small, is.few) }
 
 -- what the journal says stays so while nothing is kept
-pub still : (j : Journal) (s : Served) (k : Kept) → Journals j s k → Told k k (KeptAs (is_saved j) s)
+pub still : (j : ServerJournal) (s : Served) (k : Kept) → Journals j s k → Told k k (KeptAs (is_saved j) s)
 still Unsaved s None journals = refl
 still Unsaved s (Some now) journals = refl
 still (Saved records) s None journals = refl
@@ -51,10 +51,10 @@ tells_now (Some o) None P told = absurd told
 tells_now (Some o) (Some n) P told = told
 
 -- the record was kept, and so many bytes of records stand there now
-abbrev IsPutOn : Journal → ServerRecord → ℕ → Served → Option (List ℕ) → Option (List ℕ) → Type 0
+abbrev IsPutOn : ServerJournal → ServerRecord → ℕ → Served → Option (List ℕ) → Option (List ℕ) → Type 0
 IsPutOn j note records after o n = IsJournaled records after n × Puts (Some note) j (Saved records) after o n
 
-kept_on : (j : Journal) (note : ServerRecord) (records : ℕ) (after : Served) (a b : Kept) → Told a b (IsPutOn j note records after) → KeepsOn (Some note) j (Saved records) after a b
+kept_on : (j : ServerJournal) (note : ServerRecord) (records : ℕ) (after : Served) (a b : Kept) → Told a b (IsPutOn j note records after) → KeepsOn (Some note) j (Saved records) after a b
 kept_on j note records after a b told = record {
   saved = sym (or_true (is_saved j));
   journals = tells_now a b (IsJournaled records after) (told_with a b (IsPutOn j note records after) (λ o n. IsJournaled records after n) (λ o n is. is.0) told);
@@ -63,19 +63,19 @@ kept_on j note records after a b told = record {
 }
 
 -- without a record all is as before
-pub puts_none : (j : Journal) (s : Served) (k : Kept) → Told k k (Puts None j j s)
+pub puts_none : (j : ServerJournal) (s : Served) (k : Kept) → Told k k (Puts None j j s)
 puts_none j s None = refl
 puts_none j s (Some now) = (refl, refl)
 
 -- what it may be where the keeping is refused
-abbrev OldOrNew : Journal → Served → Served → Option (List ℕ) → Option (List ℕ) → Type 0
+abbrev OldOrNew : ServerJournal → Served → Served → Option (List ℕ) → Option (List ℕ) → Type 0
 OldOrNew j before after o n = KeptAs (is_saved j) before o n ⊎ KeptAs true after o n
 
 -- nothing was done
-pub not_kept : (changed : Bool) (j : Journal) (before after : Served) (k : Kept) → Journals j before k → ServerMayKeep changed j before after k k
+pub not_kept : (changed : Bool) (j : ServerJournal) (before after : Served) (k : Kept) → Journals j before k → ServerMayKeep changed j before after k k
 not_kept changed j before after k journals = told_with k k (KeptAs (is_saved j) before) (λ o n. KeptAs (is_saved j) before o n ⊎ KeptAs changed after o n) (λ o n is. inl is) (still j before k journals)
 
-stands : (j : Journal) (before after : Served) (name : List ℕ) (o n : Images) → Journals j before (Some (o name)) → n ≡ o → OldOrNew j before after (o name) (n name)
+stands : (j : ServerJournal) (before after : Served) (name : List ℕ) (o n : Images) → Journals j before (Some (o name)) → n ≡ o → OldOrNew j before after (o name) (n name)
 stands j before after name o n journals same = inl (subst (λ (i : Images). KeptAs (is_saved j) before (o name) (i name)) (sym same) (still j before (Some (o name)) journals))
 
 -- ---- a save
@@ -84,7 +84,7 @@ stands j before after name o n journals same = inl (subst (λ (i : Images). Kept
 whole_of : (s : Served) (bytes : List ℕ) → IsImageForServed s bytes → IsKeptWholeForServed s bytes
 whole_of s bytes is = record { image = is.image; kept = is.kept; serves = is.serves }
 
-module _ (name image : List ℕ) (j : Journal) (before after : Served) (old new : Option Images) (is : IsImageForServed after image) (small : length image ≤ MAX_SERVER_IMAGE) (journals : Journals j before (kept_under name old)) where
+module _ (name image : List ℕ) (j : ServerJournal) (before after : Served) (old new : Option Images) (is : IsImageForServed after image) (small : length image ≤ MAX_SERVER_IMAGE) (journals : Journals j before (kept_under name old)) where
   put_journaled : (o n : Images) → IsPut name image o n → IsJournaled 0 after (n name)
   put_journaled o n put = record { bytes = image; here = put.here; whole = whole_of after image is; few = omega arith; small = omega (arith, small) }
 
@@ -109,7 +109,7 @@ module _ (name image : List ℕ) (j : Journal) (before after : Served) (old new 
 -- ---- an append
 
 -- there was room for one more record
-room : (j : Journal) (size total : ℕ) → room_for j size ≡ Some total → (records : ℕ) × (j ≡ Saved records) × (total ≡ records + size) × (total ≤ MAX_RECORDS)
+room : (j : ServerJournal) (size total : ℕ) → room_for j size ≡ Some total → (records : ℕ) × (j ≡ Saved records) × (total ≡ records + size) × (total ≤ MAX_RECORDS)
 room Unsaved size total some = absurd (cc some)
 room (Saved records) size total some = by (nat_le (records + size) MAX_RECORDS) refl some
   where
@@ -169,7 +169,7 @@ module _ (name : List ℕ) (note : ServerRecord) (records total : ℕ) (before a
 
 -- ---- the calls that keep a record
 
-module _ (name : List ℕ) (j : Journal) (note : ServerRecord) (before after : Served) (old new : Option Images) (leads : Leads note before after) (journals : Journals j before (kept_under name old)) where
+module _ (name : List ℕ) (j : ServerJournal) (note : ServerRecord) (before after : Served) (old new : Option Images) (leads : Leads note before after) (journals : Journals j before (kept_under name old)) where
   -- the record has so many bytes
   sized : (items : List ℕ) (size : ℕ) → items ≡ server_record note → size ≡ length items → room_for j (length (server_record note)) ≡ room_for j size
   sized items size spelled size_is = ap (room_for j) (sym (size_is ∙ ap length spelled))
@@ -185,22 +185,22 @@ module _ (name : List ℕ) (j : Journal) (note : ServerRecord) (before after : S
     total_is = let all : length items ≡ length (server_record note) = ap length spelled in omega (arith, placed.2, size_is, all)
 
     of_saved : Journals (Saved placed.0) before (kept_under name old)
-    of_saved = subst (λ (k : Journal). Journals k before (kept_under name old)) placed.1 journals
+    of_saved = subst (λ (k : ServerJournal). Journals k before (kept_under name old)) placed.1 journals
 
     some_is : room_for (Saved placed.0) (length (server_record note)) ≡ Some total
-    some_is = subst (λ (k : Journal). room_for k (length (server_record note)) ≡ Some total) placed.1 (sized items size spelled size_is ∙ sym fits)
+    some_is = subst (λ (k : ServerJournal). room_for k (length (server_record note)) ≡ Some total) placed.1 (sized items size spelled size_is ∙ sym fits)
 
     pub record_kept : Told old new (λ o n. IsPut name (followed_by piece (o name)) o n) → KeepsOn (Some note) j (Saved total) after (kept_under name old) (kept_under name new)
     record_kept told =
         let is : Told old new (λ o n. IsPut name (followed_by (server_record note) (o name)) o n) = subst (λ (p : List ℕ). Told old new (λ o n. IsPut name (followed_by p (o name)) o n)) (same ∙ spelled) told in
-        subst (λ (k : Journal). KeepsOn (Some note) k (Saved total) after (kept_under name old) (kept_under name new)) (sym placed.1)
+        subst (λ (k : ServerJournal). KeepsOn (Some note) k (Saved total) after (kept_under name old) (kept_under name new)) (sym placed.1)
         (appended name note placed.0 total before after leads total_is placed.3 old new some_is of_saved is)
 
     pub record_refused : Told old new (λ o n. (n ≡ o) ⊎ ((count : ℕ) × IsPut name (followed_by (take count piece) (o name)) o n)) → ServerMayKeep true j before after (kept_under name old) (kept_under name new)
     record_refused told =
         let is : Told old new (λ o n. (n ≡ o) ⊎ ((count : ℕ) × IsPut name (followed_by (take count (server_record note)) (o name)) o n)) =
         subst (λ (p : List ℕ). Told old new (λ o n. (n ≡ o) ⊎ ((count : ℕ) × IsPut name (followed_by (take count p) (o name)) o n))) (same ∙ spelled) told in
-        subst (λ (k : Journal). ServerMayKeep true k before after (kept_under name old) (kept_under name new)) (sym placed.1)
+        subst (λ (k : ServerJournal). ServerMayKeep true k before after (kept_under name old) (kept_under name new)) (sym placed.1)
         (not_appended name note placed.0 total before after leads total_is placed.3 old new of_saved is)
 
   module _ (items image : List ℕ) (same : image ≡ items) (is : IsImageForServed after items) (small : length items ≤ MAX_SERVER_IMAGE) where

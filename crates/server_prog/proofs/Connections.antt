@@ -17,8 +17,8 @@ use Rattle.store_image.specs.declared.record.ServerRecord.{ServerRecord}
 use Rattle.world_rules.specs.Served.{Served}
 use Rattle.server_core.specs.Framing.{frame_answer, frame_after, frames_after, takes, change}
 use Rattle.server_core.specs.Keeping.{records_taken}
-use Rattle.server_prog.specs.declared.journal.Journal.{Journal}
-use Rattle.server_prog.specs.declared.journal.Journal.TheVariants.{Unsaved}
+use Rattle.server_prog.specs.declared.journal.ServerJournal.{ServerJournal}
+use Rattle.server_prog.specs.declared.journal.ServerJournal.TheVariants.{Unsaved}
 use Rattle.server_prog.specs.Serving.{ServedBy, KeptAs, IsKeptAfter, PerhapsKept, first_and_records, IsRecordedAfter, ServesConnections, ServerTelling}
 use Rattle.server_prog.specs.Inside.{is_saved, Journals, Puts, KeepsOn, ServerMayKeep, IsJournalOf, ServesNext, BreaksConnection, ServesSoFar, ServesAll, ServesFront}
 use Rattle.server_prog.proofs.Appending.{still, puts_none}
@@ -56,7 +56,7 @@ serves_more xs ys s t u a b c first second = record {
 pub is_at_hand : (how : Taking) (frame : Vec ℕ Global) (a b : PortTelling) → how ≡ taking.Taken frame → TakesConnection how a b → IsAtHand (frame.items ∷ []) a b
 is_at_hand how frame a b is leads = subst (λ (t : Taking). TakesConnection t a b) is leads
 
-module _ (j : Journal) (s : Served) (a b : ServerTelling) where
+module _ (j : ServerJournal) (s : Served) (a b : ServerTelling) where
   -- nothing was kept
   stays : Journals j s a.kept → b.kept ≡ a.kept → Journals j s b.kept
   stays journals same = subst (Journals j s) (sym same) journals
@@ -117,12 +117,12 @@ module _ (j : Journal) (s : Served) (a b : ServerTelling) where
     breaks_unkept at_hand may = record { frames = frame ∷ []; at_hand = at_hand; kept = perhaps_one (is_some note) (is_saved j) frame s t a.kept b.kept is after may }
 
     -- it was not answered
-    pub breaks_unanswered : (next : Journal) → IsAtHand (frame ∷ []) a.port b.port → KeepsOn note j next t a.kept b.kept → BreaksConnection j s a b
+    pub breaks_unanswered : (next : ServerJournal) → IsAtHand (frame ∷ []) a.port b.port → KeepsOn note j next t a.kept b.kept → BreaksConnection j s a b
     breaks_unanswered next at_hand keeps =
         breaks_unkept at_hand (told_with a.kept b.kept (KeptAs (is_some note) t) (λ o n. KeptAs (is_saved j) s o n ⊎ KeptAs (is_some note) t o n) (λ o n k. inr k) keeps.kept)
 
     -- it was answered, or the port failed to
-    pub was_served : (how : Came) (reply : List ℕ) (next : Journal) → Replies how frame reply a.port b.port → reply ≡ frame_answer frame s → option_to_list note ≡ records_taken (frame ∷ []) s → KeepsOn note j next t a.kept b.kept
+    pub was_served : (how : Came) (reply : List ℕ) (next : ServerJournal) → Replies how frame reply a.port b.port → reply ≡ frame_answer frame s → option_to_list note ≡ records_taken (frame ∷ []) s → KeepsOn note j next t a.kept b.kept
         → ServesNext how j next s t a b
     was_served how reply next replies answers noted keeps = by how replies.is replies.uses
       where
@@ -176,7 +176,7 @@ so_far_begins tally s a none = record {
 }
 
 -- one more take
-pub so_far_next : (takes : ℕ) (tally new : Tally) (how : Came) (j k : Journal) (s t u : Served) (a b c : ServerTelling) → (how ≡ came.NoConnection → ⊥) → new ≡ tallied tally how → ServesSoFar takes tally j s t a b → ServesNext how j k t u b c
+pub so_far_next : (takes : ℕ) (tally new : Tally) (how : Came) (j k : ServerJournal) (s t u : Served) (a b c : ServerTelling) → (how ≡ came.NoConnection → ⊥) → new ≡ tallied tally how → ServesSoFar takes tally j s t a b → ServesNext how j k t u b c
     → ServesSoFar (takes + 1) new k s u a c
 so_far_next takes tally new how j k s t u a b c other is before one =
     let last = connection_of how one.frame one.reply in
@@ -197,7 +197,7 @@ so_far_next takes tally new how j k s t u a b c other is before one =
     }
 
 -- no connection is left
-pub all_came : (count takes : ℕ) (tally : Tally) (how : Came) (j k : Journal) (s t u : Served) (a b c : ServerTelling) → takes ≤ count → how ≡ came.NoConnection → ServesSoFar takes tally j s t a b → ServesNext how j k t u b c → ServesAll count tally s u a c
+pub all_came : (count takes : ℕ) (tally : Tally) (how : Came) (j k : ServerJournal) (s t u : Served) (a b c : ServerTelling) → takes ≤ count → how ≡ came.NoConnection → ServesSoFar takes tally j s t a b → ServesNext how j k t u b c → ServesAll count tally s u a c
 all_came count takes tally how j k s t u a b c few is before one =
     let none : connection_of how one.frame one.reply ≡ [] = ap (λ (h : Came). connection_of h one.frame one.reply) is in
     let uses = subst (λ (xs : List Connection). Uses xs b.port c.port) none one.uses in
@@ -216,7 +216,7 @@ all_came count takes tally how j k s t u a b c few is before one =
     }
 
 -- all takes were made
-pub all_made : (count takes : ℕ) (tally : Tally) (j : Journal) (s t : Served) (a b : ServerTelling) → takes ≡ count → ServesSoFar takes tally j s t a b → ServesAll count tally s t a b
+pub all_made : (count takes : ℕ) (tally : Tally) (j : ServerJournal) (s t : Served) (a b : ServerTelling) → takes ≡ count → ServesSoFar takes tally j s t a b → ServesAll count tally s t a b
 all_made count takes tally j s t a b full before = record {
   connections = before.connections;
   port = ports.all_made count takes tally before.connections a.port b.port full before.port;
@@ -226,7 +226,7 @@ all_made count takes tally j s t a b full before = record {
 }
 
 -- the next take was broken off
-pub front : (count takes : ℕ) (tally : Tally) (j : Journal) (s t : Served) (a b c : ServerTelling) → takes < count → ServesSoFar takes tally j s t a b → BreaksConnection j t b c → ServesFront count s a c
+pub front : (count takes : ℕ) (tally : Tally) (j : ServerJournal) (s t : Served) (a b c : ServerTelling) → takes < count → ServesSoFar takes tally j s t a b → BreaksConnection j t b c → ServesFront count s a c
 front count takes tally j s t a b c more before broken =
     let fs = frames_taken before.connections in
     record {

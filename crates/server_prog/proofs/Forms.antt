@@ -6,15 +6,15 @@ use Rattle.outside.specs.Outside.{Rose, RisesWhere}
 use Rattle.server_prog.specs.declared.words.RunWords.{RunWords}
 use Rattle.server_prog.specs.declared.words.Form.{Form}
 use Rattle.server_prog.specs.declared.words.Form.TheVariants as forms
-use Rattle.server_prog.specs.Words.{ServerInvocation, ServerForm, Run, Prove, server_run_of, is_prove, with_path, form_of, run_said, HasForm}
-use Rattle.server_prog.specs.Run.{is_server_status, Objects, told_of, ServerRan, OthersKept, Tells, Ends}
+use Rattle.server_prog.specs.Words.{ServerInvocation, ServerForm, Run, Prove, server_run_of, is_prove_word, with_path, form_of, run_said, HasForm}
+use Rattle.server_prog.specs.Run.{is_server_status, Objects, told_of, ServerRan, OthersKept, TellsForm, Ends}
 
 -- what the reader says of the words, by its form
 pub has_run : (words : List (List ℕ)) (form : Form) (run : RunWords) → form ≡ forms.Run run → HasForm words form → server_run_of words ≡ Some (run_said run)
 has_run words form run is has = (subst (HasForm words) is has).0
 
 -- the words `prove IMAGE PATH`
-pub prove_is : (prove image text : List ℕ) (path : FilePath) → is_prove prove image ≡ true → path_of text ≡ Ok path → form_of (prove ∷ image ∷ text ∷ []) ≡ Some (Prove image path)
+pub prove_is : (prove image text : List ℕ) (path : FilePath) → is_prove_word prove image ≡ true → path_of text ≡ Ok path → form_of (prove ∷ image ∷ text ∷ []) ≡ Some (Prove image path)
 prove_is prove image text path word is =
     ap (λ (b : Bool). if b then with_path image (path_of text) else None) word ∙ ap (with_path image) is
 
@@ -62,7 +62,7 @@ run_ends words run status old new is other known sink keeper complete served oth
       keeper = keeper;
       complete = subst (λ (o : Option ServerForm). IfSome o (λ form. (Rose old.sink_faults new.sink_faults → ⊥) → (Rose old.keeper_faults new.keeper_faults → ⊥) → (status ≡ 0) ⊎ ((status ≡ 6) ⊎ (status ≡ 7)))) (sym formed) complete;
       served = subst (λ (o : Option ServerInvocation). IfSome o (λ r. ServerRan r.count status (told_of r.image old) (told_of r.image new) old.written new.written)) (sym is) served;
-      told = subst (λ (o : Option ServerForm). IfSome o (λ form. Tells form status old new)) (sym formed) tt;
+      told = subst (λ (o : Option ServerForm). IfSome o (λ form. TellsForm form status old new)) (sym formed) tt;
       others = subst (λ (o : Option ServerInvocation). IfSome o (λ r. OthersKept r.image old.images new.images)) (sym is) others;
     }
 
@@ -70,7 +70,7 @@ run_ends words run status old new is other known sink keeper complete served oth
 pub tells_ends : (words : List (List ℕ)) (form : ServerForm) (status : ℕ) (old new : Objects) → form_of words ≡ Some form → ((run : ServerInvocation) → form ≢ Run run) → status ≢ 2 → IsTrue (is_server_status status)
     → RisesWhere (status ≡ 4) old.sink_faults new.sink_faults → RisesWhere (status ≡ 5) old.keeper_faults new.keeper_faults
     → ((Rose old.sink_faults new.sink_faults → ⊥) → (Rose old.keeper_faults new.keeper_faults → ⊥) → (status ≡ 0) ⊎ ((status ≡ 6) ⊎ (status ≡ 7)))
-    → Tells form status old new → Ends words status old new
+    → TellsForm form status old new → Ends words status old new
 tells_ends words form status old new formed no_runs other known sink keeper complete told =
     let none : server_run_of words ≡ None = no_run words form formed no_runs in
     record {
@@ -82,5 +82,5 @@ tells_ends words form status old new formed no_runs other known sink keeper comp
       complete = subst (λ (o : Option ServerForm). IfSome o (λ form. (Rose old.sink_faults new.sink_faults → ⊥) → (Rose old.keeper_faults new.keeper_faults → ⊥) → (status ≡ 0) ⊎ ((status ≡ 6) ⊎ (status ≡ 7)))) (sym formed) complete;
       served = subst (λ (o : Option ServerInvocation). IfSome o (λ r. ServerRan r.count status (told_of r.image old) (told_of r.image new) old.written new.written)) (sym none) tt;
       others = subst (λ (o : Option ServerInvocation). IfSome o (λ r. OthersKept r.image old.images new.images)) (sym none) tt;
-      told = subst (λ (o : Option ServerForm). IfSome o (λ form. Tells form status old new)) (sym formed) told;
+      told = subst (λ (o : Option ServerForm). IfSome o (λ form. TellsForm form status old new)) (sym formed) told;
     }

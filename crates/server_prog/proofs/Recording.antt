@@ -17,8 +17,8 @@ use Rattle.server_core.specs.Laws.{taken_among}
 use Rattle.server_core.proofs.Frames.{entries_tell}
 use Rattle.server_core.proofs.Noting.{taken_frames_change}
 use Rattle.server_core.proofs.Records.{any_is_noted}
-use Rattle.server_prog.specs.declared.journal.Journal.{Journal}
-use Rattle.server_prog.specs.declared.journal.Journal.TheVariants.{Unsaved, Saved}
+use Rattle.server_prog.specs.declared.journal.ServerJournal.{ServerJournal}
+use Rattle.server_prog.specs.declared.journal.ServerJournal.TheVariants.{Unsaved, Saved}
 use Rattle.server_prog.specs.Serving.{first_and_records, IsKeptWith, IsRecordedAfter}
 use Rattle.server_prog.specs.Inside.{PutsRecord, Puts, IsJournalOf}
 use Rattle.server_prog.proofs.Kept.{Kept, told_then, told_with}
@@ -35,11 +35,11 @@ counted_none None = refl
 counted_none (Some now) = (refl, refl)
 
 -- what is counted is kept
-kept_of : (j : Journal) (first : First) (x y : Option (List ℕ)) → IsJournalOf j first x y → IsKeptWith first x y
+kept_of : (j : ServerJournal) (first : First) (x y : Option (List ℕ)) → IsJournalOf j first x y → IsKeptWith first x y
 kept_of j None x y is = is.1
 kept_of j (Some first) x y is = λ few. (is few).1
 
-pub recorded : (j : Journal) (frames : List (List ℕ)) (s : Served) (a b : Kept) → Told a b (IsJournalOf j (first_and_records frames s)) → Told a b (IsRecordedAfter frames s)
+pub recorded : (j : ServerJournal) (frames : List (List ℕ)) (s : Served) (a b : Kept) → Told a b (IsJournalOf j (first_and_records frames s)) → Told a b (IsRecordedAfter frames s)
 recorded j frames s a b told = told_with a b (IsJournalOf j (first_and_records frames s)) (IsRecordedAfter frames s) (kept_of j (first_and_records frames s)) told
 
 -- ---- frames and their records
@@ -120,13 +120,13 @@ spelled-last notes one =
     flat_map-append server_record notes (one ∷ []) ∙ ap (λ (l : List ℕ). server_records notes ++ l) (flat_map-cons server_record one [] ∙ append-nil (server_record one))
 
 -- the first one leaves an image
-counted_first : (j k : Journal) (one : ServerRecord) (u : Served) (x y z : Option (List ℕ)) → j ≡ Unsaved → Puts (Some one) j k u y z → IsJournalOf k (Some (u, [])) x z
+counted_first : (j k : ServerJournal) (one : ServerRecord) (u : Served) (x y z : Option (List ℕ)) → j ≡ Unsaved → Puts (Some one) j k u y z → IsJournalOf k (Some (u, [])) x z
 counted_first j k one u x y z unsaved puts =
-    let alone : PutsRecord None one k u y z = subst (λ (i : Journal). Puts (Some one) i k u y z) unsaved puts in
+    let alone : PutsRecord None one k u y z = subst (λ (i : ServerJournal). Puts (Some one) i k u y z) unsaved puts in
     λ few. alone
 
 -- a later one leaves its record
-module _ (j k : Journal) (notes : List ServerRecord) (one : ServerRecord) (state u : Served) (y z : Option (List ℕ)) where
+module _ (j k : ServerJournal) (notes : List ServerRecord) (one : ServerRecord) (state u : Served) (y z : Option (List ℕ)) where
   abbrev piece : List ℕ
   piece = server_record one
 
@@ -139,7 +139,7 @@ module _ (j k : Journal) (notes : List ServerRecord) (one : ServerRecord) (state
   -- there is room for it
   put_behind : length (server_records (notes ++ one ∷ [])) ≤ MAX_RECORDS → j ≡ Saved (length (server_records notes)) → Puts (Some one) j k u y z → PutsRecord (Some (length (server_records notes) + length piece)) one k u y z
   put_behind few is puts =
-      let puts_on : Puts (Some one) (Saved (length (server_records notes))) k u y z = subst (λ (i : Journal). Puts (Some one) i k u y z) is puts in
+      let puts_on : Puts (Some one) (Saved (length (server_records notes))) k u y z = subst (λ (i : ServerJournal). Puts (Some one) i k u y z) is puts in
       let room : nat_le (length (server_records notes) + length piece) MAX_RECORDS ≡ true = le-leb (length (server_records notes) + length piece) MAX_RECORDS (omega (arith, size, few)) in
       subst (λ (b : Bool). PutsRecord (if b then Some (length (server_records notes) + length piece) else None) one k u y z) room puts_on
 
@@ -156,11 +156,11 @@ module _ (j k : Journal) (notes : List ServerRecord) (one : ServerRecord) (state
 -- ---- what more frames leave
 
 -- the same where no record joins
-counted_same : (j k : Journal) (first other : First) (x y z : Option (List ℕ)) → first ≡ other → (k ≡ j) × (z ≡ y) → IsJournalOf j first x y → IsJournalOf k other x z
+counted_same : (j k : ServerJournal) (first other : First) (x y z : Option (List ℕ)) → first ≡ other → (k ≡ j) × (z ≡ y) → IsJournalOf j first x y → IsJournalOf k other x z
 counted_same j k first other x y z same puts is =
-    subst (λ (f : First). IsJournalOf k f x z) same (subst (λ (i : Journal). IsJournalOf i first x z) (sym puts.0) (subst (λ (w : Option (List ℕ)). IsJournalOf j first x w) (sym puts.1) is))
+    subst (λ (f : First). IsJournalOf k f x z) same (subst (λ (i : ServerJournal). IsJournalOf i first x z) (sym puts.0) (subst (λ (w : Option (List ℕ)). IsJournalOf j first x w) (sym puts.1) is))
 
-counted_more : (j k : Journal) (first : First) (ys : List (List ℕ)) (note : Option ServerRecord) (t u : Served) → u ≡ frames_after ys t → option_to_list note ≡ records_taken ys t
+counted_more : (j k : ServerJournal) (first : First) (ys : List (List ℕ)) (note : Option ServerRecord) (t u : Served) → u ≡ frames_after ys t → option_to_list note ≡ records_taken ys t
     → (x y z : Option (List ℕ)) → IsJournalOf j first x y → Puts note j k u y z → IsJournalOf k (joined first (first_and_records ys t) (records_taken ys t)) x z
 counted_more j k None ys None t u after noted x y z is puts = counted_same j k None (first_and_records ys t) x y z (sym (idle ys t (sym noted)).1) puts is
 counted_more j k (Some first) ys None t u after noted x y z is puts =
@@ -172,7 +172,7 @@ counted_more j k None ys (Some one) t u after noted x y z is puts =
 counted_more j k (Some first) ys (Some one) t u after noted x y z is puts =
     subst (λ (l : List ServerRecord). IsJournalOf k (Some (first.0, first.1 ++ l)) x z) noted (counted_later j k first.1 one first.0 u y z x is puts)
 
-pub counted_frames : (j k : Journal) (xs ys : List (List ℕ)) (note : Option ServerRecord) (s t u : Served) (a b c : Kept) → t ≡ frames_after xs s → u ≡ frames_after ys t → option_to_list note ≡ records_taken ys t
+pub counted_frames : (j k : ServerJournal) (xs ys : List (List ℕ)) (note : Option ServerRecord) (s t u : Served) (a b c : Kept) → t ≡ frames_after xs s → u ≡ frames_after ys t → option_to_list note ≡ records_taken ys t
     → Told a b (IsJournalOf j (first_and_records xs s)) → Told b c (Puts note j k u) → Told a c (IsJournalOf k (first_and_records (xs ++ ys) s))
 counted_frames j k xs ys note s t u a b c is is' noted first second =
     let all : first_and_records (xs ++ ys) s ≡ joined (first_and_records xs s) (first_and_records ys t) (records_taken ys t) =

@@ -8,12 +8,12 @@ use Rattle.tree_values.specs.Tree.{Volume}
 use Rattle.world_rules.specs.Served.{Served}
 use Rattle.server_prog.specs.declared.run.Stopped.{Stopped}
 use Rattle.server_prog.specs.declared.run.Stopped.TheVariants as stops
-use Rattle.server_prog.specs.Run.{Opens, OpensNone, Writes}
+use Rattle.server_prog.specs.Run.{Opens, OpensNone, WritesByEnd}
 use Rattle.server_prog.specs.Inside.{stopped_by_sink}
 
 module _ (text : Volume → List ℕ) (kept : Option (Option (List ℕ))) (written : Option (List ℕ)) where
   -- no server was opened
-  pub writes_none : {T : Type 0} (e : Stopped) → (IsErrOf {T = T} (Err e) stops.Sink → ⊥) → (IsErrOf {T = T} (Err e) stops.Image → OpensNone kept) → Writes text kept written written (Err e)
+  pub writes_none : {T : Type 0} (e : Stopped) → (IsErrOf {T = T} (Err e) stops.Sink → ⊥) → (IsErrOf {T = T} (Err e) stops.Image → OpensNone kept) → WritesByEnd text kept written written (Err e)
   writes_none stops.Sink no_sink none = absurd (no_sink refl)
   writes_none stops.Keeper no_sink none = refl
   writes_none stops.Image no_sink none = (refl, none refl)
@@ -21,10 +21,10 @@ module _ (text : Volume → List ℕ) (kept : Option (Option (List ℕ))) (writt
 
   module _ (now : Option (List ℕ)) (first : Served) (opens : Opens kept first) (items : List ℕ) (is : items ≡ text first.volume) where
     -- the whole text was written
-    pub writes_all : Adds written now items → Writes text kept written now (Ok tt)
+    pub writes_all : Adds written now items → WritesByEnd text kept written now (Ok tt)
     writes_all adds = (first, opens, subst (Adds written now) is adds)
 
     -- a front of it
-    pub writes_front : (e : SinkError) → ((bytes : ℕ) × (bytes ≤ length items) × Adds written now (take bytes items)) → Writes text kept written now (Err (stopped_by_sink e))
+    pub writes_front : (e : SinkError) → ((bytes : ℕ) × (bytes ≤ length items) × Adds written now (take bytes items)) → WritesByEnd text kept written now (Err (stopped_by_sink e))
     writes_front Failed front = (first, front.0, opens, subst (λ (l : List ℕ). Adds written now (take front.0 l)) is front.2)
     writes_front Memory front = inr (first, front.0, opens, subst (λ (l : List ℕ). Adds written now (take front.0 l)) is front.2)

@@ -18,8 +18,8 @@ use Rattle.outside.specs.Keeper.{followed_by}
 use Rattle.world_rules.specs.Served.{Served}
 use Rattle.server_core.specs.Framing.{change}
 use Rattle.server_core.specs.Keeping.{IsKeptWholeForServed, records_taken}
-use Rattle.server_prog.specs.declared.journal.Journal.{Journal}
-use Rattle.server_prog.specs.declared.journal.Journal.TheVariants as journals
+use Rattle.server_prog.specs.declared.journal.ServerJournal.{ServerJournal}
+use Rattle.server_prog.specs.declared.journal.ServerJournal.TheVariants as journals
 use Rattle.server_prog.specs.declared.run.Stopped.{Stopped}
 use Rattle.server_prog.specs.declared.run.Stopped.TheVariants as stops
 use Rattle.server_prog.specs.Serving.{KeptAs, IsKeptAfter, PerhapsKept, IsImageWithRecords, first_and_records, IsRecordedAfter}
@@ -28,12 +28,12 @@ use Rattle.server_prog.specs.Serving.{ServedBy, ServesConnections, ServerTelling
 -- ---- what this run has kept
 
 -- whether an image was saved
-abbrev pub is_saved : Journal → Bool
+abbrev pub is_saved : ServerJournal → Bool
 is_saved journals.Unsaved = false
 is_saved (journals.Saved records) = true
 
 -- the bytes of the records with one more of this size, where so few may stand behind a saved image
-abbrev pub room_for : Journal → ℕ → Option ℕ
+abbrev pub room_for : ServerJournal → ℕ → Option ℕ
 room_for journals.Unsaved size = None
 room_for (journals.Saved records) size = if nat_le (records + size) MAX_RECORDS then Some (records + size) else None
 
@@ -46,22 +46,22 @@ pub record IsJournaled (records : ℕ) (state : Served) (now : Option (List ℕ)
   pub small : length bytes ≤ MAX_SERVER_IMAGE + records
 
 -- what the journal says of what is kept, where the keeper tells it
-abbrev pub Journals : Journal → Served → Option (Option (List ℕ)) → Type 0
+abbrev pub Journals : ServerJournal → Served → Option (Option (List ℕ)) → Type 0
 Journals journals.Unsaved state kept = Unit {0}
 Journals (journals.Saved records) state kept = IfSome kept (IsJournaled records state)
 
 -- the record stands behind what was kept, where there is room for it, and else an image for the state after it is kept
-abbrev pub PutsRecord : Option ℕ → ServerRecord → Journal → Served → Option (List ℕ) → Option (List ℕ) → Type 0
+abbrev pub PutsRecord : Option ℕ → ServerRecord → ServerJournal → Served → Option (List ℕ) → Option (List ℕ) → Type 0
 PutsRecord (Some total) note next after old new = (next ≡ journals.Saved total) × (new ≡ Some (followed_by (server_record note) old))
 PutsRecord None note next after old new = (next ≡ journals.Saved 0) × IsImageWithRecords after [] new
 
 -- the same where there is a record; else all is as before
-abbrev pub Puts : Option ServerRecord → Journal → Journal → Served → Option (List ℕ) → Option (List ℕ) → Type 0
+abbrev pub Puts : Option ServerRecord → ServerJournal → ServerJournal → Served → Option (List ℕ) → Option (List ℕ) → Type 0
 Puts None journal next after old new = (next ≡ journal) × (new ≡ old)
 Puts (Some note) journal next after old new = PutsRecord (room_for journal (length (server_record note))) note next after old new
 
 -- what changed was kept, where anything did, and the journal goes on with it
-pub record KeepsOn (note : Option ServerRecord) (journal next : Journal) (after : Served)
+pub record KeepsOn (note : Option ServerRecord) (journal next : ServerJournal) (after : Served)
     (old new : Option (Option (List ℕ))) : Type 0 where
   pub saved : is_saved next ≡ (is_saved journal || is_some note)
   pub journals : Journals next after new
@@ -70,20 +70,20 @@ pub record KeepsOn (note : Option ServerRecord) (journal next : Journal) (after 
 
 -- the journal of frames, of which this is the state after the first that changed it, with the records of the later ones: nothing was
 -- saved where none did; else it counts the bytes of the records behind an image for that state, where a run appends so many
-abbrev pub IsJournalOf : Journal → Option (Served × List ServerRecord) → Option (List ℕ) → Option (List ℕ) → Type 0
+abbrev pub IsJournalOf : ServerJournal → Option (Served × List ServerRecord) → Option (List ℕ) → Option (List ℕ) → Type 0
 IsJournalOf journal None old new = (journal ≡ journals.Unsaved) × (new ≡ old)
 IsJournalOf journal (Some first) old new =
     length (server_records first.1) ≤ MAX_RECORDS
     → (journal ≡ journals.Saved (length (server_records first.1))) × IsImageWithRecords first.0 first.1 new
 
 -- its keeping was refused: what is kept has the change or not
-abbrev pub ServerMayKeep : Bool → Journal → Served → Served → Option (Option (List ℕ)) → Option (Option (List ℕ)) → Type 0
+abbrev pub ServerMayKeep : Bool → ServerJournal → Served → Served → Option (Option (List ℕ)) → Option (Option (List ℕ)) → Type 0
 ServerMayKeep changed journal before after old new = Told old new (λ o n. KeptAs (is_saved journal) before o n ⊎ KeptAs changed after o n)
 
 -- ---- connections
 
 -- one connection was used up and served, or none was left
-pub record ServesNext (how : Came) (journal next : Journal) (before after : Served) (old new : ServerTelling) : Type 0 where
+pub record ServesNext (how : Came) (journal next : ServerJournal) (before after : Served) (old new : ServerTelling) : Type 0 where
   pub frame : List ℕ
   pub reply : List ℕ
   pub uses : Uses (connection_of how frame reply) old.port new.port
@@ -96,13 +96,13 @@ pub record ServesNext (how : Came) (journal next : Journal) (before after : Serv
   pub puts : Told old.kept new.kept (Puts note journal next after)
 
 -- want of memory, or a fault of the keeper, broke off the connection at hand
-pub record BreaksConnection (journal : Journal) (before : Served) (old new : ServerTelling) : Type 0 where
+pub record BreaksConnection (journal : ServerJournal) (before : Served) (old new : ServerTelling) : Type 0 where
   pub frames : List (List ℕ)
   pub at_hand : IsAtHand frames old.port new.port
   pub kept : Told old.kept new.kept (λ o n. KeptAs (is_saved journal) before o n ⊎ IsKeptAfter frames before o n)
 
 -- connections were served and counted, one for each take so far
-pub record ServesSoFar (made : ℕ) (tally : Tally) (journal : Journal) (before after : Served) (old new : ServerTelling) : Type 0 where
+pub record ServesSoFar (made : ℕ) (tally : Tally) (journal : ServerJournal) (before after : Served) (old new : ServerTelling) : Type 0 where
   pub connections : List Connection
   pub port : UsesSoFar made tally connections old.port new.port
   pub serves : ServesConnections connections before after old.kept new.kept

@@ -111,18 +111,18 @@ abbrev pub WritesText : (Volume → List ℕ) → Option (Option (List ℕ)) →
 WritesText text kept written now = (first : Served) × Opens kept first × Adds written now (text first.volume)
 
 -- a front of it was written
-abbrev pub WritesFront : (Volume → List ℕ) → Option (Option (List ℕ)) → Option (List ℕ) → Option (List ℕ) → Type 0
-WritesFront text kept written now =
+abbrev pub WritesTextFront : (Volume → List ℕ) → Option (Option (List ℕ)) → Option (List ℕ) → Option (List ℕ) → Type 0
+WritesTextFront text kept written now =
     (first : Served) × (bytes : ℕ) × Opens kept first × Adds written now (take bytes (text first.volume))
 
 -- what was written by how it ended
-abbrev pub Writes :
+abbrev pub WritesByEnd :
     (Volume → List ℕ) → Option (Option (List ℕ)) → Option (List ℕ) → Option (List ℕ) → Result (Unit {0}) Stopped → Type 0
-Writes text kept written now (Ok done) = WritesText text kept written now
-Writes text kept written now (Err Sink) = WritesFront text kept written now
-Writes text kept written now (Err Keeper) = now ≡ written
-Writes text kept written now (Err Image) = (now ≡ written) × OpensNone kept
-Writes text kept written now (Err Memory) = (now ≡ written) ⊎ WritesFront text kept written now
+WritesByEnd text kept written now (Ok done) = WritesText text kept written now
+WritesByEnd text kept written now (Err Sink) = WritesTextFront text kept written now
+WritesByEnd text kept written now (Err Keeper) = now ≡ written
+WritesByEnd text kept written now (Err Image) = (now ≡ written) × OpensNone kept
+WritesByEnd text kept written now (Err Memory) = (now ≡ written) ⊎ WritesTextFront text kept written now
 
 -- what a port, a keeper and a sink tell
 pub record Objects : Type 0 where
@@ -144,15 +144,15 @@ OthersKept name old new = Told old new (λ before after. (other : List ℕ) → 
 pub record HasWritten (text : Volume → List ℕ) (name : List ℕ) (status : ℕ) (old new : Objects) : Type 0 where
   pub ended : Result (Unit {0}) Stopped
   pub gives : status ≡ server_status_of ended
-  pub writes : Writes text (kept_under name old.images) old.written new.written ended
+  pub writes : WritesByEnd text (kept_under name old.images) old.written new.written ended
   pub port : new.port ≡ old.port
   pub images : new.images ≡ old.images
 
 -- what is written where the words ask for no run
-abbrev pub Tells : ServerForm → ℕ → Objects → Objects → Type 0
-Tells (Run run) status old new = Unit {0}
-Tells (Root image) status old new = HasWritten root_line image status old new
-Tells (Prove image path) status old new = HasWritten (path_proof path) image status old new
+abbrev pub TellsForm : ServerForm → ℕ → Objects → Objects → Type 0
+TellsForm (Run run) status old new = Unit {0}
+TellsForm (Root image) status old new = HasWritten root_line image status old new
+TellsForm (Prove image path) status old new = HasWritten (path_proof path) image status old new
 
 -- What a run on these words does, by the status that it gives:
 -- 0: as many connections were used up as the words say, or none is left, and the output is the last line; or what the words ask
@@ -173,4 +173,4 @@ pub record Ends (words : List (List ℕ)) (status : ℕ) (old new : Objects) : T
   pub served : IfSome (server_run_of words)
       (λ run. ServerRan run.count status (told_of run.image old) (told_of run.image new) old.written new.written)
   pub others : IfSome (server_run_of words) (λ run. OthersKept run.image old.images new.images)
-  pub told : IfSome (form_of words) (λ form. Tells form status old new)
+  pub told : IfSome (form_of words) (λ form. TellsForm form status old new)

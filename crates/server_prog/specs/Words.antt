@@ -39,11 +39,11 @@ pub data ServerForm : Type 0 where
   Prove : List ℕ → FilePath → ServerForm
 
 -- the word `root`, or `prove`, and an image that is not empty
-abbrev pub is_root : List ℕ → List ℕ → Bool
-is_root root image = bytes_eq root (codes "root") && nat_lt 0 (length image)
+abbrev pub is_root_word : List ℕ → List ℕ → Bool
+is_root_word root image = bytes_eq root (codes "root") && nat_lt 0 (length image)
 
-abbrev pub is_prove : List ℕ → List ℕ → Bool
-is_prove prove image = bytes_eq prove (codes "prove") && nat_lt 0 (length image)
+abbrev pub is_prove_word : List ℕ → List ℕ → Bool
+is_prove_word prove image = bytes_eq prove (codes "prove") && nat_lt 0 (length image)
 
 abbrev pub with_path : List ℕ → Result FilePath PathError → Option ServerForm
 with_path image (Ok path) = Some (Prove image path)
@@ -51,8 +51,8 @@ with_path image (Err refused) = None
 
 -- the form that the words have: `root IMAGE`, `prove IMAGE PATH`, or that of a run; other words have none
 abbrev pub form_of : List (List ℕ) → Option ServerForm
-form_of (root ∷ image ∷ []) = if is_root root image then Some (Root image) else None
-form_of (prove ∷ image ∷ path ∷ []) = if is_prove prove image then with_path image (path_of path) else None
+form_of (root ∷ image ∷ []) = if is_root_word root image then Some (Root image) else None
+form_of (prove ∷ image ∷ path ∷ []) = if is_prove_word prove image then with_path image (path_of path) else None
 form_of words = option_map Run (server_run_of words)
 
 -- what the words of a run say, as the code has them

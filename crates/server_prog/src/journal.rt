@@ -17,21 +17,21 @@ use store_image::{MAX_RECORDS, ServerRecord, write_server_record};
 
 /// What this run has kept of the server.
 #[derive(Clone, Copy)]
-pub(crate) enum Journal {
+pub(crate) enum ServerJournal {
     /// Nothing yet. What an earlier run has left may end in a torn record.
     Unsaved,
     /// The whole image, and behind it whole records of so many bytes.
     Saved(usize),
 }
 
-impl Journal {
+impl ServerJournal {
     /// The bytes of the records with one more of this size, where it may stand behind them.
     fn room_for(self, size: usize) -> Option<usize>
         ensures { result ≡ room_for self size }
     {
         match self {
-            Journal::Unsaved => None,
-            Journal::Saved(records) => {
+            ServerJournal::Unsaved => None,
+            ServerJournal::Saved(records) => {
                 let total = records.saturating_add(size);
                 (total <= MAX_RECORDS).then_some(total)
             }
@@ -54,12 +54,12 @@ fn spelled(note: ServerRecord) -> Result<Vec<u8>, AllocError>
 /// saves the whole image.
 #[tactic(auto, using(crate::proofs::Others::others_none, crate::proofs::Others::others_saved, crate::proofs::Others::others_appended))]
 fn keep_record<K: Keeper>(
-    journal: Journal,
+    journal: ServerJournal,
     note: ServerRecord,
     server: &Server,
     name: &[u8],
     keeper: &mut K,
-) -> Result<Journal, KeepError>
+) -> Result<ServerJournal, KeepError>
     requires fits { EffectsFit note.effects }
     ensures ok { (before : Served) → Leads note before (served server.now)
         → Journals journal before (kept_under name.now (K.images keeper.old))
@@ -76,13 +76,13 @@ fn keep_record<K: Keeper>(
     match journal.room_for(piece.len()) {
         Some(records) => {
             keeper.append(name, &piece)?;
-            Ok(Journal::Saved(records))
+            Ok(ServerJournal::Saved(records))
         }
         None => {
             drop(piece);
             let image = server.image()?;
             keeper.save(name, &image)?;
-            Ok(Journal::Saved(0))
+            Ok(ServerJournal::Saved(0))
         }
     }
 }
@@ -90,12 +90,12 @@ fn keep_record<K: Keeper>(
 /// Keeps what a frame has changed, where there is a record of it, and gives the journal that is then.
 #[tactic(auto, using(crate::proofs::Others::others_none))]
 pub(crate) fn keep<K: Keeper>(
-    journal: Journal,
+    journal: ServerJournal,
     note: Option<ServerRecord>,
     server: &Server,
     name: &[u8],
     keeper: &mut K,
-) -> Result<Journal, KeepError>
+) -> Result<ServerJournal, KeepError>
     requires fits { IfSome note (λ note. EffectsFit note.effects) }
     ensures ok { (before : Served) → NoteLeads note before (served server.now)
         → Journals journal before (kept_under name.now (K.images keeper.old))

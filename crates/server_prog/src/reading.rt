@@ -5,7 +5,7 @@ ghost use Rattle.outside.specs.Keeper.{Images, Loads, Saves, Appends};
 ghost use Rattle.store_image.specs.declared.image.TheConstants.{MAX_LOADED};
 
 use outside::{KeepError, Keeper};
-use real_edge::{Step, Trouble, Troubled};
+use real_edge::{FileStep, Trouble, Troubled};
 use std::alloc::Global;
 use std::fs::File;
 use std::io::{self, ErrorKind, Read};
@@ -37,7 +37,12 @@ impl<'a, R: Files<File = File>> ReadKeeper<'a, R> {
     }
 
     /// What came of a call, where a failure is counted and told.
-    fn counted<T>(&mut self, step: Step, came: io::Result<T>, name: &[u8]) -> Result<T, KeepError>
+    fn counted<T>(
+        &mut self,
+        step: FileStep,
+        came: io::Result<T>,
+        name: &[u8],
+    ) -> Result<T, KeepError>
         ensures ok { IfOk came (λ value. result ≡ Ok value) }
         ensures err { OnErr came (IsErr result) }
         ensures cause { CountsFault KeepError.Failed self.old.faults self.new.faults result }
@@ -115,7 +120,7 @@ impl<'a, R: Files<File = File>> Keeper for ReadKeeper<'a, R> {
         ensures cause { CountsFault KeepError.Failed self.old.faults self.new.faults result }
     {
         let read = read_image(self.alloc, self.files, name);
-        self.counted(Step::Read, read, name)
+        self.counted(FileStep::Read, read, name)
     }
 
     /// Is refused, and touches nothing.
@@ -125,7 +130,7 @@ impl<'a, R: Files<File = File>> Keeper for ReadKeeper<'a, R> {
 
         ensures refused { IsErr result }
     {
-        self.counted(Step::Write, refusal(), name)
+        self.counted(FileStep::Write, refusal(), name)
     }
 
     /// Is refused, and touches nothing.
@@ -135,6 +140,6 @@ impl<'a, R: Files<File = File>> Keeper for ReadKeeper<'a, R> {
 
         ensures refused { IsErr result }
     {
-        self.counted(Step::Append, refusal(), name)
+        self.counted(FileStep::Append, refusal(), name)
     }
 }

@@ -7,7 +7,7 @@ ghost use Rattle.server_prog.specs.Serving.{server_telling};
 ghost use Rattle.server_prog.specs.Inside.{Journals, ServesNext, BreaksConnection, ServesAll, ServesFront};
 ghost use Rattle.server_prog.specs.Run.{OthersKept};
 
-use crate::journal::{Journal, keep};
+use crate::journal::{ServerJournal, keep};
 use outside::{KeepError, Keeper, Port};
 use port_serving::{Came, Taking, Tally, answer_frame, take_frame, tallied};
 use server_core::Server;
@@ -16,7 +16,7 @@ use server_core::Server;
 #[tactic(auto, using(crate::proofs::Others::others_none))]
 fn serve_next<P: Port, K: Keeper>(
     server: &mut Server,
-    journal: &mut Journal,
+    journal: &mut ServerJournal,
     port: &mut P,
     name: &[u8],
     keeper: &mut K,
@@ -61,7 +61,7 @@ pub(crate) fn serve<P: Port, K: Keeper>(
     ensures cause { CountsFault KeepError.Failed (K.faults keeper.old) (K.faults keeper.new) result }
 {
     let mut tally = Tally::new();
-    let mut journal = Journal::Unsaved;
+    let mut journal = ServerJournal::Unsaved;
     for _take in 0..count {
         match serve_next(server, &mut journal, port, name, keeper)? {
             Came::NoConnection => break,

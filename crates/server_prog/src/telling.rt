@@ -4,7 +4,7 @@ ghost use Rattle.outside.specs.Outside.{CountsFault};
 ghost use Rattle.outside.specs.Keeper.{kept_under};
 ghost use Rattle.hex.specs.Hex.{encode_lower};
 ghost use Rattle.file_paths.specs.Path.{FilePath, path_of};
-ghost use Rattle.server_prog.specs.Run.{Writes, root_line, path_proof};
+ghost use Rattle.server_prog.specs.Run.{WritesByEnd, root_line, path_proof};
 
 use crate::run::{Stopped, opened};
 use hex::encode_to_slice;
@@ -20,7 +20,7 @@ pub(crate) fn tell_root<K: Keeper, O: Sink>(
     keeper: &mut K,
     output: &mut O,
 ) -> Result<(), Stopped>
-    ensures writes { Writes root_line (kept_under name.now (K.images keeper.old)) (O.written output.old) (O.written output.new) result }
+    ensures writes { WritesByEnd root_line (kept_under name.now (K.images keeper.old)) (O.written output.old) (O.written output.new) result }
     ensures images { K.images keeper.new ≡ K.images keeper.old }
     ensures sink { CountsFault Stopped.Sink (O.faults output.old) (O.faults output.new) result }
     ensures keeper { CountsFault Stopped.Keeper (K.faults keeper.old) (K.faults keeper.new) result }
@@ -41,7 +41,7 @@ pub(crate) fn tell_proof<K: Keeper, O: Sink>(
     output: &mut O,
 ) -> Result<(), Stopped>
     ensures writes { (path : FilePath) → path_of text.now ≡ Ok path
-        → Writes (path_proof path) (kept_under name.now (K.images keeper.old)) (O.written output.old) (O.written output.new) result }
+        → WritesByEnd (path_proof path) (kept_under name.now (K.images keeper.old)) (O.written output.old) (O.written output.new) result }
     ensures images { K.images keeper.new ≡ K.images keeper.old }
     ensures sink { CountsFault Stopped.Sink (O.faults output.old) (O.faults output.new) result }
     ensures keeper { CountsFault Stopped.Keeper (K.faults keeper.old) (K.faults keeper.new) result }

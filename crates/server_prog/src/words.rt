@@ -2,7 +2,7 @@
 ghost use Rattle.std.specs.Prelude.{◌≡◌, ◌≤◌, [], ◌∷◌, IfSome, MatchOption, None, Some, map};
 ghost use Rattle.std.specs.String.{string_bytes};
 ghost use Rattle.port_serving.specs.Words.{most_connections};
-ghost use Rattle.server_prog.specs.Words.{server_run_of, is_server_run, is_root, is_prove, run_said, form_of, HasForm};
+ghost use Rattle.server_prog.specs.Words.{server_run_of, is_server_run, is_root_word, is_prove_word, run_said, form_of, HasForm};
 
 use port_serving::connection_count;
 use program_words::is_path_text;
@@ -100,13 +100,13 @@ fn is_run(run: &[u8], address: &[u8], image: &[u8]) -> bool
 }
 
 fn is_root(root: &[u8], image: &[u8]) -> bool
-    ensures { result ≡ is_root root.now image.now }
+    ensures { result ≡ is_root_word root.now image.now }
 {
     root == b"root".as_slice() && !image.is_empty()
 }
 
 fn is_prove(prove: &[u8], image: &[u8]) -> bool
-    ensures { result ≡ is_prove prove.now image.now }
+    ensures { result ≡ is_prove_word prove.now image.now }
 {
     prove == b"prove".as_slice() && !image.is_empty()
 }

@@ -7,8 +7,8 @@ use Rattle.shell_lang.specs.declared.line.Line.{Line}
 use Rattle.shell_lang.specs.declared.line.Line.TheVariants as lines
 use Rattle.shell_lang.specs.declared.line.LineError.{LineError}
 use Rattle.shell_lang.specs.declared.line.LineError.TheVariants.{UnknownWord}
-use Rattle.shell_lang.specs.declared.command.Command.{Command}
-use Rattle.shell_lang.specs.declared.command.Command.TheVariants as commands
+use Rattle.shell_lang.specs.declared.command.Verb.{Verb}
+use Rattle.shell_lang.specs.declared.command.Verb.TheVariants as commands
 use Rattle.shell_lang.specs.Words.{words_of, ◌>>=◌}
 use Rattle.shell_lang.specs.Spelling.{Spelling, spelled, spelled_line, words_spelled}
 use Rattle.shell_lang.specs.Reading.{IsSpelling}
@@ -27,7 +27,7 @@ found test [] x is = absurd (cc (is))
 found {X} test (y ∷ ys) x is = found_by (test y) test y ys x refl is (found test ys x)
 
 -- the only command that makes it of any words
-quit_of : (command : Command) (words : List (List ℕ)) → line_of command words ≡ Ok lines.Quit → (command ≡ commands.Quit) × (words ≡ [])
+quit_of : (command : Verb) (words : List (List ℕ)) → line_of command words ≡ Ok lines.Quit → (command ≡ commands.Quit) × (words ≡ [])
 quit_of commands.Put [] is = absurd (cc (is))
 quit_of commands.Put (a ∷ []) is = absurd (cc (is))
 quit_of commands.Put (a ∷ b ∷ []) is = absurd (cc (is))
@@ -63,10 +63,10 @@ quit_of commands.Quit (a ∷ more) is = absurd (cc (is))
 
 first_is_quit : (first : List ℕ) → command_of first ≡ Some commands.Quit → first ≡ codes "quit"
 first_is_quit first is =
-    (bytes_eq-Decides first (codes "quit")).0 (found (λ (command : Command). bytes_eq first (command_word command)) all_commands commands.Quit is)
+    (bytes_eq-Decides first (codes "quit")).0 (found (λ (command : Verb). bytes_eq first (command_word command)) all_commands commands.Quit is)
 
-named : (first : List ℕ) (words : List (List ℕ)) (o : Option Command) → command_of first ≡ o
-    → (ok_or o UnknownWord >>= (λ (command : Command). line_of command words)) ≡ Ok lines.Quit → first ∷ words ≡ codes "quit" ∷ []
+named : (first : List ℕ) (words : List (List ℕ)) (o : Option Verb) → command_of first ≡ o
+    → (ok_or o UnknownWord >>= (λ (command : Verb). line_of command words)) ≡ Ok lines.Quit → first ∷ words ≡ codes "quit" ∷ []
 named first words None is reads = absurd (cc (reads))
 named first words (Some command) is reads =
     let both = quit_of command words reads in

@@ -7,17 +7,17 @@ use Rattle.shell_lang.specs.declared.line.Line.{Line}
 use Rattle.shell_lang.specs.declared.line.Line.TheVariants as lines
 use Rattle.shell_lang.specs.declared.line.LineError.{LineError}
 use Rattle.shell_lang.specs.declared.line.LineError.TheVariants.{UnknownWord, WrongCount}
-use Rattle.shell_lang.specs.declared.command.Command.{Command}
-use Rattle.shell_lang.specs.declared.command.Command.TheVariants as commands
+use Rattle.shell_lang.specs.declared.command.Verb.{Verb}
+use Rattle.shell_lang.specs.declared.command.Verb.TheVariants as commands
 
 -- the commands that a line may name
-abbrev pub all_commands : List Command
+abbrev pub all_commands : List Verb
 all_commands =
     commands.Put ∷ commands.Make ∷ commands.Remove ∷ commands.Move ∷ commands.Cat ∷ commands.List
     ∷ commands.Enter ∷ commands.Run ∷ commands.Status ∷ commands.Sync ∷ commands.Pull ∷ commands.Quit ∷ []
 
 -- the word that names a command
-abbrev pub command_word : Command → List ℕ
+abbrev pub command_word : Verb → List ℕ
 command_word commands.Put = codes "put"
 command_word commands.Make = codes "mkdir"
 command_word commands.Remove = codes "rm"
@@ -32,7 +32,7 @@ command_word commands.Pull = codes "pull"
 command_word commands.Quit = codes "quit"
 
 -- the command that a word names
-abbrev pub command_of : List ℕ → Option Command
+abbrev pub command_of : List ℕ → Option Verb
 command_of word = find (λ command. bytes_eq word (command_word command)) all_commands
 
 -- a command with another number of words than these
@@ -52,7 +52,7 @@ with_two made (v ∷ w ∷ []) = Ok (made v w)
 with_two made words = wrong_count words
 
 -- what a command asks for with these words, unless their number is another
-abbrev pub line_of : Command → List (List ℕ) → Result Line LineError
+abbrev pub line_of : Verb → List (List ℕ) → Result Line LineError
 line_of commands.Put words = with_two lines.Put words
 line_of commands.Make words = with_one lines.Make words
 line_of commands.Remove words = with_one lines.Remove words

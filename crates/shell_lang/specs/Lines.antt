@@ -6,8 +6,8 @@ abbrev pub is_line_end : ℕ → Bool
 is_line_end b = b == 10
 
 -- the input cut at each line end
-abbrev pub parts : List ℕ → List (List ℕ)
-parts input = slice_split is_line_end input
+abbrev pub cut_lines : List ℕ → List (List ℕ)
+cut_lines input = slice_split is_line_end input
 
 abbrev pub but_last : List (List ℕ) → List (List ℕ)
 but_last [] = []
@@ -21,11 +21,11 @@ last_part (part ∷ next ∷ more) = last_part (next ∷ more)
 
 -- the lines that have their ends
 abbrev pub whole_lines : List ℕ → List (List ℕ)
-whole_lines input = but_last (parts input)
+whole_lines input = but_last (cut_lines input)
 
 -- the bytes behind the last line end
 abbrev pub unfinished : List ℕ → List ℕ
-unfinished input = last_part (parts input)
+unfinished input = last_part (cut_lines input)
 
 -- bytes behind the last line end are a line too, where there are any
 abbrev pub last_line : List ℕ → List (List ℕ)
@@ -39,7 +39,7 @@ lines_of input = whole_lines input ++ last_line (unfinished input)
 -- a line and its end stand at the front of the bytes, which are then cut on behind them
 pub record BeginsWithLine (bytes line : List ℕ) : Type 0 where
   pub inside : length line < length bytes
-  pub cut : parts bytes ≡ line ∷ parts (drop (length line + 1) bytes)
+  pub cut : cut_lines bytes ≡ line ∷ cut_lines (drop (length line + 1) bytes)
 
 -- each line with its end
 abbrev pub with_ends : List (List ℕ) → List ℕ
@@ -47,12 +47,12 @@ with_ends lines = flat_map (λ line. line ++ 10 ∷ []) lines
 
 -- the first line of the bytes that has its end, and none exactly where no byte ends a line
 abbrev pub FirstLine : List ℕ → Option (List ℕ) → Type 0
-FirstLine bytes None = parts bytes ≡ bytes ∷ []
+FirstLine bytes None = cut_lines bytes ≡ bytes ∷ []
 FirstLine bytes (Some line) = BeginsWithLine bytes line
 
 -- of the input these lines are behind, and the lines of these bytes are still to come
 abbrev pub IsCutUpTo : List ℕ → List (List ℕ) → List ℕ → Type 0
-IsCutUpTo input behind bytes = parts input ≡ behind ++ parts bytes
+IsCutUpTo input behind bytes = cut_lines input ≡ behind ++ cut_lines bytes
 
 -- what a buffer holds of an input
 pub record Buffered : Type 0 where
@@ -69,17 +69,17 @@ is_one_line part = not (list_any is_line_end part)
 
 -- joined by line ends, the parts give the input back
 abbrev pub JoinedPartsAreTheInput : Type 0
-JoinedPartsAreTheInput = (input : List ℕ) → join_with_byte 10 (parts input) ≡ input
+JoinedPartsAreTheInput = (input : List ℕ) → join_with_byte 10 (cut_lines input) ≡ input
 
 -- no part has a line end inside
 abbrev pub PartsAreOneLineEach : Type 0
-PartsAreOneLineEach = (input : List ℕ) → IsTrue (list_all is_one_line (parts input))
+PartsAreOneLineEach = (input : List ℕ) → IsTrue (list_all is_one_line (cut_lines input))
 
 -- whatever pieces without a line end are joined by line ends, these are the parts
 abbrev pub JoinedLinesAreFound : Type 0
 JoinedLinesAreFound =
     (first : List ℕ) (more : List (List ℕ)) → IsTrue (list_all is_one_line (first ∷ more))
-    → parts (join_with_byte 10 (first ∷ more)) ≡ first ∷ more
+    → cut_lines (join_with_byte 10 (first ∷ more)) ≡ first ∷ more
 
 -- lines without a line end inside that are each given one are the lines
 abbrev pub EndedLinesAreFound : Type 0
@@ -87,4 +87,4 @@ EndedLinesAreFound = (lines : List (List ℕ)) → IsTrue (list_all is_one_line 
 
 -- an input that comes in two pieces: the whole lines of the first, and then the parts of what it left and the second
 abbrev pub PiecesAreCutAlike : Type 0
-PiecesAreCutAlike = (xs ys : List ℕ) → parts (xs ++ ys) ≡ whole_lines xs ++ parts (unfinished xs ++ ys)
+PiecesAreCutAlike = (xs ys : List ℕ) → cut_lines (xs ++ ys) ≡ whole_lines xs ++ cut_lines (unfinished xs ++ ys)

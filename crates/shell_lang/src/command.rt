@@ -13,7 +13,7 @@ use vol_tree::{Content, TryCopy};
 
 /// What the first word of a line names.
 #[derive(Copy, Clone, Drop)]
-pub(crate) enum Command {
+pub(crate) enum Verb {
     Put,
     Make,
     Remove,
@@ -29,39 +29,39 @@ pub(crate) enum Command {
 }
 
 /// All commands that a line may name.
-const COMMANDS: [Command; 12] = [
-    Command::Put,
-    Command::Make,
-    Command::Remove,
-    Command::Move,
-    Command::Cat,
-    Command::List,
-    Command::Enter,
-    Command::Run,
-    Command::Status,
-    Command::Sync,
-    Command::Pull,
-    Command::Quit,
+const COMMANDS: [Verb; 12] = [
+    Verb::Put,
+    Verb::Make,
+    Verb::Remove,
+    Verb::Move,
+    Verb::Cat,
+    Verb::List,
+    Verb::Enter,
+    Verb::Run,
+    Verb::Status,
+    Verb::Sync,
+    Verb::Pull,
+    Verb::Quit,
 ];
 
-impl Command {
+impl Verb {
     /// The word that names the command.
     fn word(self) -> &'static [u8]
         ensures { result.now ≡ command_word self }
     {
         match self {
-            Command::Put => b"put",
-            Command::Make => b"mkdir",
-            Command::Remove => b"rm",
-            Command::Move => b"mv",
-            Command::Cat => b"cat",
-            Command::List => b"ls",
-            Command::Enter => b"cd",
-            Command::Run => b"run",
-            Command::Status => b"status",
-            Command::Sync => b"sync",
-            Command::Pull => b"pull",
-            Command::Quit => b"quit",
+            Verb::Put => b"put",
+            Verb::Make => b"mkdir",
+            Verb::Remove => b"rm",
+            Verb::Move => b"mv",
+            Verb::Cat => b"cat",
+            Verb::List => b"ls",
+            Verb::Enter => b"cd",
+            Verb::Run => b"run",
+            Verb::Status => b"status",
+            Verb::Sync => b"sync",
+            Verb::Pull => b"pull",
+            Verb::Quit => b"quit",
         }
     }
 }
@@ -112,7 +112,7 @@ fn line_of_words(alloc: Global, words: &[Content]) -> Result<Line, LineError>
 }
 
 /// The command that the word names.
-fn command_of(word: &[u8]) -> Option<Command>
+fn command_of(word: &[u8]) -> Option<Verb>
     ensures { result ≡ command_of word.now }
 {
     COMMANDS
@@ -122,23 +122,23 @@ fn command_of(word: &[u8]) -> Option<Command>
 }
 
 /// What the command asks for with these words.
-fn line_of(alloc: Global, command: Command, words: &[Content]) -> Result<Line, LineError>
+fn line_of(alloc: Global, command: Verb, words: &[Content]) -> Result<Line, LineError>
     ensures { GivesLine result (line_of command words.now) }
 {
     match (command, words) {
-        (Command::Put, [path, text]) => Ok(Line::Put(path.copy()?, text.copy()?)),
-        (Command::Make, [path]) => Ok(Line::Make(path.copy()?)),
-        (Command::Remove, [path]) => Ok(Line::Remove(path.copy()?)),
-        (Command::Move, [from, to]) => Ok(Line::Move(from.copy()?, to.copy()?)),
-        (Command::Cat, [path]) => Ok(Line::Cat(path.copy()?)),
-        (Command::List, []) => Ok(Line::List(None)),
-        (Command::List, [path]) => Ok(Line::List(Some(path.copy()?))),
-        (Command::Enter, [path]) => Ok(Line::Enter(path.copy()?)),
-        (Command::Run, words) => Ok(Line::Run(copies_of(alloc, words)?)),
-        (Command::Status, []) => Ok(Line::Status),
-        (Command::Sync, []) => Ok(Line::Sync),
-        (Command::Pull, []) => Ok(Line::Pull),
-        (Command::Quit, []) => Ok(Line::Quit),
+        (Verb::Put, [path, text]) => Ok(Line::Put(path.copy()?, text.copy()?)),
+        (Verb::Make, [path]) => Ok(Line::Make(path.copy()?)),
+        (Verb::Remove, [path]) => Ok(Line::Remove(path.copy()?)),
+        (Verb::Move, [from, to]) => Ok(Line::Move(from.copy()?, to.copy()?)),
+        (Verb::Cat, [path]) => Ok(Line::Cat(path.copy()?)),
+        (Verb::List, []) => Ok(Line::List(None)),
+        (Verb::List, [path]) => Ok(Line::List(Some(path.copy()?))),
+        (Verb::Enter, [path]) => Ok(Line::Enter(path.copy()?)),
+        (Verb::Run, words) => Ok(Line::Run(copies_of(alloc, words)?)),
+        (Verb::Status, []) => Ok(Line::Status),
+        (Verb::Sync, []) => Ok(Line::Sync),
+        (Verb::Pull, []) => Ok(Line::Pull),
+        (Verb::Quit, []) => Ok(Line::Quit),
         _ => Err(LineError::WrongCount(saturate_u32(words.len()))),
     }
 }

@@ -2,7 +2,7 @@
 use Rattle.std.proofs.Common.{◌≡◌, ℕ, ◌<◌, Bool, true, false, ◌∙◌, sym, ap, subst, arith, refl}
 use Rattle.tree_values.specs.Tree.{Volume}
 use Rattle.cmd_capture.specs.Runs.{IsAskedAtMostOnce}
-use Rattle.surrogate_core.specs.declared.machine.State.{State}
+use Rattle.surrogate_core.specs.declared.machine.Stage.{Stage}
 use Rattle.surrogate_core.specs.Handling.{Phase, Idle, Fetching, Holding, Machine, is_fetching}
 use Rattle.surrogate_core.specs.Inside.{phase_of, asks_left}
 
@@ -29,7 +29,7 @@ pub fetched_once : (old new : Phase) (start now : ℕ) → asks_left new < asks_
 fetched_once old new start now fewer is = not_both (is_fetching new) (unfetched old new fewer) is
 
 -- none is awaited where a machine without one is as it was
-pub still_unfetched : (state : State) (old new : Volume) (machine : Machine) (start now : ℕ) → record { copy = old; phase = phase_of state old } ≡ machine → machine.phase ≡ Idle
+pub still_unfetched : (state : Stage) (old new : Volume) (machine : Machine) (start now : ℕ) → record { copy = old; phase = phase_of state old } ≡ machine → machine.phase ≡ Idle
     → new ≡ old → is_fetching (phase_of state new) ≡ true → now ≡ start
 still_unfetched state old new machine start now view waits same is =
     not_both (is_fetching (phase_of state new))

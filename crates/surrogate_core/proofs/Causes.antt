@@ -30,10 +30,10 @@ use Rattle.world_rules.specs.declared.asking.Answer.TheVariants.{Reply}
 use Rattle.world_rules.specs.Settling.{IsSettling, failures, settled, failed_asks}
 use Rattle.world_rules.specs.Asking.{ask_of}
 use Rattle.world_rules.specs.declared.asking.Ask.{Ask}
-use Rattle.surrogate_core.specs.declared.step.Step.TheVariants as steps
+use Rattle.surrogate_core.specs.declared.step.NextStep.TheVariants as steps
 use Rattle.surrogate_core.specs.Handling.{job_print, Phase, Idle, Fetching, Holding, Reaction, answering, declining, prepared, job_for, held_by, unless_clash, unless_unfit, after_verdict, AfterJob, runs_of_job, Tries, closed, refusal_kind, HandlesCome, Round, IsRound, GoesOn}
 use Rattle.surrogate_core.specs.Laws.{IsTried, IsPulled, IsJudged, IsAgreed, CausesDecline, DeclinesHaveCauses}
-use Rattle.surrogate_core.specs.declared.step.Step.{Step}
+use Rattle.surrogate_core.specs.declared.step.NextStep.{NextStep}
 use Rattle.world_rules.proofs.Settled.{failed-append}
 use Rattle.vol_tree.proofs.Behind.{IsIn-right}
 
@@ -52,7 +52,7 @@ module _ (sketched : SketchEntry) (copy : Volume) where
   CausedReply runs asks (Declined c n cause) = CausesDecline sketched copy asks runs cause
   CausedReply runs asks reply = Unit {0}
 
-  abbrev CausedOn : List Run → List Ask → Step → Phase → Type 0
+  abbrev CausedOn : List Run → List Ask → NextStep → Phase → Type 0
   CausedOn runs asks (steps.Answer reply) phase = CausedReply runs asks reply
   CausedOn runs asks (steps.Ask request) Idle = ⊥
   CausedOn runs asks (steps.Ask request) (Fetching c s) = (s ≡ sketched) × (runs ≡ [])
@@ -161,7 +161,7 @@ module _ (sketched : SketchEntry) (copy : Volume) where
       subst (Caused (runs ++ more) (asks ++ made)) (sym handles.0)
       (closed_caused server asks made (runs ++ more) settles.0 c n now before request reply settles.4 (refusal_kind reply) refl)
 
-  round_caused : (server work : List ℕ) (runs : List Run) (asks : List Ask) (step : Step) (phase : Phase) (now : Volume) (round : Round) → CausedOn runs asks step phase
+  round_caused : (server work : List ℕ) (runs : List Run) (asks : List Ask) (step : NextStep) (phase : Phase) (now : Volume) (round : Round) → CausedOn runs asks step phase
       → IsRound server work (record { step = step; after = record { copy = now; phase = phase } }) round → Caused (runs ++ round.runs) (asks ++ round.asks) round.after
   round_caused server work runs asks (steps.Answer reply) phase now round on is = absurd is
   round_caused server work runs asks (steps.Ask request) Idle now round on is = absurd on

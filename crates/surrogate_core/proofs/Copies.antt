@@ -31,11 +31,11 @@ use Rattle.world_rules.specs.Settling.{IsSettling, BreaksSettling, failures, set
 use Rattle.world_rules.specs.Asking.{ask_of}
 use Rattle.world_rules.specs.declared.asking.Ask.{Ask}
 use Rattle.world_rules.specs.declared.asking.Answer.{Answer}
-use Rattle.surrogate_core.specs.declared.step.Step.TheVariants as steps
+use Rattle.surrogate_core.specs.declared.step.NextStep.TheVariants as steps
 use Rattle.surrogate_core.specs.Handling.{Phase, Idle, Fetching, Holding, Reaction, answering, declining, job_for, held_by, unless_clash, unless_unfit, after_verdict, AfterJob, Tries, closed, refusal_kind, HandlesCome, Round, IsRound, GoesOn, Handled, Handling, BreaksHandling, copy_before}
 use Rattle.surrogate_core.specs.Serving.{MayAsk}
 use Rattle.surrogate_core.specs.Laws.{IsTried, EndsOperation}
-use Rattle.surrogate_core.specs.declared.step.Step.{Step}
+use Rattle.surrogate_core.specs.declared.step.NextStep.{NextStep}
 
 module _ (agreements_fill : AgreementsFill) (client : ℕ) (sketched : SketchEntry) (copy : Volume) where
   -- a store was asked, on this copy that was tried
@@ -49,7 +49,7 @@ module _ (agreements_fill : AgreementsFill) (client : ℕ) (sketched : SketchEnt
     pub applied : apply_all 0 effects before ≡ Ok now
 
   -- what a step and the phase after it say
-  abbrev pub IsOn : List Ask → Step → Phase → Volume → Type 0
+  abbrev pub IsOn : List Ask → NextStep → Phase → Volume → Type 0
   IsOn asks (steps.Answer reply) Idle now = EndsOperation client sketched copy asks now reply
   IsOn asks (steps.Ask request) (Fetching c s) now = (c ≡ client) × (s ≡ sketched) × (now ≡ copy) × (request ≡ Pull client (sketched.seq - 1))
   IsOn asks (steps.Ask request) (Holding c n before) now = Asks asks c n before request now
@@ -189,7 +189,7 @@ module _ (agreements_fill : AgreementsFill) (client : ℕ) (sketched : SketchEnt
       (subst (λ m. IsAt (asks ++ m) (closed now c n before (refusal_kind reply))) (sym settles.4)
       (closed_on server asks settles.0 n c before now request reply held settles.2 settles.3 (refusal_kind reply) refl))
 
-  round_on : (server work : List ℕ) (asks : List Ask) (step : Step) (phase : Phase) (now : Volume) (round : Round) → IsOn asks step phase now
+  round_on : (server work : List ℕ) (asks : List Ask) (step : NextStep) (phase : Phase) (now : Volume) (round : Round) → IsOn asks step phase now
       → IsRound server work (record { step = step; after = record { copy = now; phase = phase } }) round → IsAt (asks ++ round.asks) round.after
   round_on server work asks (steps.Answer reply) phase now round on is = absurd is
   round_on server work asks (steps.Ask request) Idle now round on is = absurd on
@@ -261,7 +261,7 @@ module _ (agreements_fill : AgreementsFill) (client : ℕ) (sketched : SketchEnt
       last ask (inl is) = subst (λ a. (a.to ≡ Server) × (a.address ≡ server) × MayAsk client sketched a.request) (sym is) (refl, refl, may)
       last ask (inr none) = absurd none
 
-  round_of : (server work : List ℕ) (asks : List Ask) (step : Step) (phase : Phase) (now : Volume) (round : Round) → IsOn asks step phase now
+  round_of : (server work : List ℕ) (asks : List Ask) (step : NextStep) (phase : Phase) (now : Volume) (round : Round) → IsOn asks step phase now
       → IsRound server work (record { step = step; after = record { copy = now; phase = phase } }) round → AreOf server round.asks
   round_of server work asks (steps.Answer reply) phase now round on is = absurd is
   round_of server work asks (steps.Ask request) phase now round on is = settling_of server request round.came round.asks (may_ask_on asks request phase now on) is.0

@@ -19,11 +19,11 @@ use Rattle.world_rules.specs.Settling.{IsSettling, failures, settled}
 use Rattle.world_rules.specs.Asking.{ask_of}
 use Rattle.world_rules.specs.declared.asking.Answer.{Answer}
 use Rattle.world_rules.specs.declared.asking.Ask.{Ask}
-use Rattle.surrogate_core.specs.declared.step.Step.TheVariants as steps
+use Rattle.surrogate_core.specs.declared.step.NextStep.TheVariants as steps
 use Rattle.surrogate_core.specs.Handling.{Phase, Idle, Fetching, Holding, Reaction, answering, declining, job_for, held_by, after_verdict, AfterJob, runs_of_job, HandlesReply, HandlesCome, Round, IsRound, GoesOn}
 use Rattle.surrogate_core.specs.Laws.{EndsOperation, AcceptedHandlingsAreDone, UnpreparedTriesAreDeclined, UnrunTriesAreDeclined, JudgedTriesGoOn}
 use Rattle.surrogate_core.proofs.Copies.{keeps_the_copy}
-use Rattle.surrogate_core.specs.declared.step.Step.{Step}
+use Rattle.surrogate_core.specs.declared.step.NextStep.{NextStep}
 
 -- ---- each try has its one end
 
@@ -112,7 +112,7 @@ module _ (server work : List ℕ) (ask : Ask) (k m u : ℕ) (e : ask.answer ≡ 
       came_done phase now runs reaction (subst (λ r. HandlesReply phase now r work runs reaction)
       (answered_so server request reply (Accepted k m u) settles.0 ask (subst (IsIn ask) settles.4 among) e) handles)
 
-  round_done : (step : Step) (phase : Phase) (now : Volume) (round : Round) → IsIn ask round.asks
+  round_done : (step : NextStep) (phase : Phase) (now : Volume) (round : Round) → IsIn ask round.asks
       → IsRound server work (record { step = step; after = record { copy = now; phase = phase } }) round → IsDone round.after
   round_done (steps.Answer reply) phase now round among is = absurd is
   round_done (steps.Ask request) phase now round among is = settled_done request phase now round.asks round.came round.runs round.after among is.0 is.1
@@ -129,7 +129,7 @@ module _ (server work : List ℕ) (ask : Ask) (k m u : ℕ) (e : ask.answer ≡ 
       (λ later. goes_done rounds round.after last later goes.1)
       (apart ask round.asks (flat_map (λ r. r.asks) rounds) among)
 
-abbrev answer_of : Step → Message → Message
+abbrev answer_of : NextStep → Message → Message
 answer_of (steps.Answer reply) m = reply
 answer_of (steps.Ask request) m = m
 

@@ -16,7 +16,7 @@ use Rattle.world_rules.specs.Asking.{AnswersStand}
 use Rattle.world_rules.specs.Settling.{Settled}
 use Rattle.world_rules.specs.Telling.{LinkTelling}
 use Rattle.world_rules.proofs.Asks.{told_as}
-use Rattle.surrogate_core.specs.declared.step.Step.TheVariants as steps
+use Rattle.surrogate_core.specs.declared.step.NextStep.TheVariants as steps
 use Rattle.surrogate_core.specs.Handling.{Phase, Idle, Fetching, Holding, Machine, Reaction, Held, job_for, held_by, after_verdict, AfterJob, Tries, closed, refusal_kind, HandlesReply, IsSilenced}
 use Rattle.surrogate_core.specs.Serving.{Steps, failed_step}
 use Rattle.surrogate_core.specs.Inside.{Asked, Follows, asks_left}

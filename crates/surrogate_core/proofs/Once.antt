@@ -16,17 +16,17 @@ use Rattle.wire_frames.specs.declared.cause.Cause.TheVariants.{OtherJob, NoMemor
 use Rattle.wire_frames.specs.declared.message.Message.TheVariants.{Store, Operate, Pull, Accepted, Stale, Unfit, Gap, Snapshot, Done, Declined, Full, Malformed}
 use Rattle.wire_frames.specs.declared.cause.Cause.{Cause}
 use Rattle.wire_frames.specs.declared.message.Message.{Message}
-use Rattle.surrogate_core.specs.declared.step.Step.TheVariants as steps
+use Rattle.surrogate_core.specs.declared.step.NextStep.TheVariants as steps
 use Rattle.surrogate_core.specs.Handling.{job_print, Phase, Idle, Fetching, Holding, Reaction, Held, declining, prepared, job_for, held_by, after_verdict, AfterJob, runs_of_job, Tries, closed, refusal_kind, HandlesCome, Round, IsRound, GoesOn, answering}
 use Rattle.surrogate_core.specs.Laws.{IsOfJob, HandlingsRunOnce, BrokenHandlingsRunOnce}
-use Rattle.surrogate_core.specs.declared.step.Step.{Step}
+use Rattle.surrogate_core.specs.declared.step.NextStep.{NextStep}
 
 abbrev job_in : Result Job Cause → Job → Job
 job_in (Ok job) other = job
 job_in (Err cause) other = other
 
 module _ (sketched : SketchEntry) (work : List ℕ) where
-  abbrev OnceOn : List Run → Step → Phase → Type 0
+  abbrev OnceOn : List Run → NextStep → Phase → Type 0
   OnceOn runs (steps.Answer reply) phase = IsOfJob sketched work runs
   OnceOn runs (steps.Ask request) Idle = ⊥
   OnceOn runs (steps.Ask request) (Fetching c s) = (s ≡ sketched) × (runs ≡ [])
@@ -107,7 +107,7 @@ module _ (sketched : SketchEntry) (work : List ℕ) where
       subst (Once (runs ++ more)) (sym handles.0)
       (closed_once c n now before (runs ++ more) (refusal_kind reply) (subst (IsOfJob sketched work) (sym (ap (λ l. runs ++ l) handles.1 ∙ append-nil runs)) once))
 
-  round_once : (server : List ℕ) (runs : List Run) (step : Step) (phase : Phase) (now : Volume) (round : Round) → OnceOn runs step phase
+  round_once : (server : List ℕ) (runs : List Run) (step : NextStep) (phase : Phase) (now : Volume) (round : Round) → OnceOn runs step phase
       → IsRound server work (record { step = step; after = record { copy = now; phase = phase } }) round → Once (runs ++ round.runs) round.after
   round_once server runs (steps.Answer reply) phase now round on is = absurd is
   round_once server runs (steps.Ask request) Idle now round on is = absurd on

@@ -20,8 +20,8 @@ use Rattle.world_rules.specs.Settling.{failed_asks}
 use Rattle.world_rules.specs.Telling.{LinkTelling, ToldWorlds, HadTroubles}
 use Rattle.world_rules.proofs.Asks.{moved_by_then, moved_by_none, moved_packets, told_then, told_start, answers_append, answers_stay}
 use Rattle.world_rules.proofs.Settled.{failed-append}
-use Rattle.surrogate_core.specs.declared.step.Step.{Step as Turn}
-use Rattle.surrogate_core.specs.declared.step.Step.TheVariants as steps
+use Rattle.surrogate_core.specs.declared.step.NextStep.{NextStep as Turn}
+use Rattle.surrogate_core.specs.declared.step.NextStep.TheVariants as steps
 use Rattle.surrogate_core.specs.Handling.{Phase, Idle, Fetching, Holding, Machine, Reaction, idle, answering, copy_before, Round, IsRound, GoesOn, Handled, Tries, Operates}
 use Rattle.surrogate_core.specs.Serving.{MayAsk, Serves, Steps, failed_step}
 use Rattle.surrogate_core.specs.Inside.{Awaits, Asked, Follows, Breaks, Serving, ServingOf}

@@ -25,8 +25,8 @@ use Rattle.wire_frames.specs.declared.message.Message.TheVariants.{Snapshot, Dec
 use Rattle.world_rules.specs.declared.asking.Peer.TheVariants.{Server}
 use Rattle.world_rules.specs.declared.asking.Ask.{Ask}
 use Rattle.world_rules.specs.Settling.{IsSettling, failures}
-use Rattle.surrogate_core.specs.declared.step.Step.{Step}
-use Rattle.surrogate_core.specs.declared.step.Step.TheVariants as steps
+use Rattle.surrogate_core.specs.declared.step.NextStep.{NextStep}
+use Rattle.surrogate_core.specs.declared.step.NextStep.TheVariants as steps
 use Rattle.surrogate_core.specs.Handling.{Phase, Idle, Fetching, Holding, Reaction, answering, prepared, job_for, job_print, held_by, unless_clash, unless_unfit, after_verdict, AfterJob, Tries, closed, refusal_kind, HandlesReply, IsSilenced, HandlesCome, Round, IsRound, GoesOn}
 use Rattle.surrogate_core.specs.Laws.{FailedEight, SilencesAreOfOneRequest}
 
@@ -43,7 +43,7 @@ module _ (server : List ℕ) (asks : List Ask) where
   OfReply (Declined client number cause) = OfCause cause
   OfReply _ = Unit {0}
 
-  abbrev OfStep : Step → Type 0
+  abbrev OfStep : NextStep → Type 0
   OfStep (steps.Answer reply) = OfReply reply
   OfStep (steps.Ask request) = Unit {0}
 
@@ -107,7 +107,7 @@ module _ (server work : List ℕ) where
       silenced_of server (asks ++ made) phase copy reaction (request, asks, [], ap (λ (l : List Ask). asks ++ l) (settles ∙ sym (append-nil (failures Server server request 8)))) handles.0
   came_of asks made request phase copy (Some reply) runs reaction settles handles = replied_of server (asks ++ made) phase copy reply work runs reaction handles
 
-  round_of : (asks : List Ask) (step : Step) (phase : Phase) (copy : Volume) (round : Round) → IsRound server work (record { step = step; after = record { copy = copy; phase = phase } }) round
+  round_of : (asks : List Ask) (step : NextStep) (phase : Phase) (copy : Volume) (round : Round) → IsRound server work (record { step = step; after = record { copy = copy; phase = phase } }) round
       → OfStep server (asks ++ round.asks) round.after.step
   round_of asks (steps.Answer reply) phase copy round is = absurd is
   round_of asks (steps.Ask request) phase copy round is = came_of asks round.asks request phase copy round.came round.runs round.after is.0 is.1

@@ -16,10 +16,10 @@ use Rattle.wire_frames.specs.declared.cause.Cause.TheVariants.{NotRun, NoMemory}
 use Rattle.wire_frames.specs.declared.message.Message.{Message}
 use Rattle.wire_frames.specs.declared.parts.Part.{Part}
 use Rattle.wire_frames.specs.declared.message.Message.TheVariants as messages
-use Rattle.surrogate_core.specs.declared.step.Step.{Step}
-use Rattle.surrogate_core.specs.declared.step.Step.TheVariants as steps
-use Rattle.surrogate_core.specs.declared.machine.State.{State}
-use Rattle.surrogate_core.specs.declared.machine.State.TheVariants.{Idle as IsIdle}
+use Rattle.surrogate_core.specs.declared.step.NextStep.{NextStep}
+use Rattle.surrogate_core.specs.declared.step.NextStep.TheVariants as steps
+use Rattle.surrogate_core.specs.declared.machine.Stage.{Stage}
+use Rattle.surrogate_core.specs.declared.machine.Stage.TheVariants.{Idle as IsIdle}
 use Rattle.surrogate_core.specs.declared.replaying.Held.{Held}
 use Rattle.surrogate_core.specs.Handling.{Phase, Idle, Fetching, Holding, Machine, Reaction, idle, declining, job_for, after_verdict, held_by, AfterJob, runs_of_job, Tries, HandlesReply}
 use Rattle.surrogate_core.specs.Serving.{Steps, failed_step}
@@ -72,7 +72,7 @@ module _ (pulled : Bool) (copy : Volume) (client : ℕ) (sketched : SketchEntry)
       told = subst (λ (k : ℕ). HasRun [] k old new) (sym failed) told;
     }
 
-    pub ran_tries : (outcome : Outcome) (now : Volume) (result : Result Held Cause) (step : Step) (state : State) → IsJudgedReplay copy now sketched job outcome result
+    pub ran_tries : (outcome : Outcome) (now : Volume) (result : Result Held Cause) (step : NextStep) (state : Stage) → IsJudgedReplay copy now sketched job outcome result
         → IsConcluded client sketched result step state → failed_step step ≡ 0 → HasRun (record { work = work; job = job; outcome = outcome } ∷ []) 0 old new
         → Steps (Tries pulled copy client sketched work) (reaction_of step state now) old new
     ran_tries outcome now result step state replayed concluded failed told = record {
@@ -90,15 +90,15 @@ module _ (pulled : Bool) (copy : Volume) (client : ℕ) (sketched : SketchEntry)
             → reaction_of step state now ≡ after_verdict copy client sketched (held_by copy job replayed.verdict)
         by (Ok held) replayed concluded =
             let asks = steps.Ask (messages.Store client sketched.seq held.entries) in
-            ap (λ (s : Step). reaction_of s state now) concluded.0
-            ∙ ap (λ (s : State). reaction_of asks s now) concluded.1
+            ap (λ (s : NextStep). reaction_of s state now) concluded.0
+            ∙ ap (λ (s : Stage). reaction_of asks s now) concluded.1
             ∙ ap (λ (before : Volume). record { step = asks; after = record { copy = now; phase = Holding client sketched.seq before } }) replayed.held.undoes
             ∙ ap (λ (parts : List Part). record { step = steps.Ask (messages.Store client sketched.seq parts); after = record { copy = now; phase = Holding client sketched.seq copy } }) replayed.held.entry
             ∙ sym (ap (after_verdict copy client sketched) replayed.held.is_wanted)
         by (Err cause) replayed concluded =
             let answers = steps.Answer (messages.Declined client sketched.seq cause) in
-            ap (λ (s : Step). reaction_of s state now) concluded.0
-            ∙ ap (λ (s : State). reaction_of answers s now) concluded.1
+            ap (λ (s : NextStep). reaction_of s state now) concluded.0
+            ∙ ap (λ (s : Stage). reaction_of answers s now) concluded.1
             ∙ ap (λ (rows : Volume). reaction_of answers IsIdle rows) replayed.held.1
             ∙ sym (ap (after_verdict copy client sketched) replayed.held.0)
 
@@ -127,18 +127,18 @@ module _ (pulled : Bool) (copy : Volume) (client : ℕ) (sketched : SketchEntry)
 pub is_idle : (machine : Machine) → machine.phase ≡ Idle → machine ≡ idle machine.copy
 is_idle machine waits = ap (λ (phase : Phase). record { copy = machine.copy; phase = phase }) waits
 
-idle_still : (state : State) (old new : Volume) → new ≡ old → phase_of state old ≡ Idle → record { copy = new; phase = phase_of state new } ≡ idle old
+idle_still : (state : Stage) (old new : Volume) → new ≡ old → phase_of state old ≡ Idle → record { copy = new; phase = phase_of state new } ≡ idle old
 idle_still state old new same waits = ap (λ (rows : Volume). record { copy = rows; phase = phase_of state rows }) same ∙ ap (λ (phase : Phase). record { copy = old; phase = phase }) waits
 
 -- memory was wanted, and the machine is as it was
-pub starved_still : (pulled : Bool) (client : ℕ) (sketched : SketchEntry) (work : List ℕ) (machine : Machine) (state : State) (old new : Volume) (step : Step) (runner ran : RunnerTelling)
+pub starved_still : (pulled : Bool) (client : ℕ) (sketched : SketchEntry) (work : List ℕ) (machine : Machine) (state : Stage) (old new : Volume) (step : NextStep) (runner ran : RunnerTelling)
     → record { copy = old; phase = phase_of state old } ≡ machine → machine.phase ≡ Idle → new ≡ old → step ≡ steps.Answer (messages.Declined client sketched.seq NoMemory)
     → Starves work (job_for old sketched) runner ran
     → Steps (Tries pulled machine.copy client sketched work) (record { step = step; after = record { copy = new; phase = phase_of state new } }) runner ran
 starved_still pulled client sketched work machine state old new step runner ran view waits same step_is starves =
     subst (λ (copy : Volume). Steps (Tries pulled copy client sketched work) (record { step = step; after = record { copy = new; phase = phase_of state new } }) runner ran) (ap (λ (m : Machine). m.copy) view)
     (starved_tries pulled old client sketched work (record { step = step; after = record { copy = new; phase = phase_of state new } }) runner ran
-    (ap (λ (s : Step). record { step = s; after = record { copy = new; phase = phase_of state new } }) step_is
+    (ap (λ (s : NextStep). record { step = s; after = record { copy = new; phase = phase_of state new } }) step_is
     ∙ ap (λ (after : Machine). record { step = steps.Answer (messages.Declined client sketched.seq NoMemory); after = after })
     (idle_still state old new same (ap (λ (m : Machine). m.phase) view ∙ waits)))
     starves)
@@ -159,17 +159,17 @@ starved_snapshot client sketched copy (messages.Declined c n why) rows work reac
 starved_snapshot client sketched copy (messages.Full c n u i fault) rows work reaction found is = absurd (cc)
 starved_snapshot client sketched copy (messages.Malformed code offset) rows work reaction found is = absurd (cc)
 
-pub snapshot_starved : (client : ℕ) (sketched : SketchEntry) (machine : Machine) (reply : Message) (rows : Volume) (work : List ℕ) (step : Step) (runner : RunnerTelling) → machine.phase ≡ Idle
+pub snapshot_starved : (client : ℕ) (sketched : SketchEntry) (machine : Machine) (reply : Message) (rows : Volume) (work : List ℕ) (step : NextStep) (runner : RunnerTelling) → machine.phase ≡ Idle
     → snapshot_rows reply ≡ Some rows → step ≡ steps.Answer (messages.Declined client sketched.seq NoMemory)
     → Steps (HandlesReply (Fetching client sketched) machine.copy reply work) (record { step = step; after = machine }) runner runner
 snapshot_starved client sketched machine reply rows work step runner waits found step_is =
     let declines : record { step = step; after = machine } ≡ declining machine.copy client sketched.seq NoMemory =
-    ap (λ (s : Step). record { step = s; after = machine }) step_is
+    ap (λ (s : NextStep). record { step = s; after = machine }) step_is
     ∙ ap (λ (after : Machine). record { step = steps.Answer (messages.Declined client sketched.seq NoMemory); after = after }) (is_idle machine waits) in
     record {
       runs = [];
       does = starved_snapshot client sketched machine.copy reply rows work (record { step = step; after = machine }) found declines;
-      told = subst (λ (s : Step). HasRun [] (failed_step s) runner runner) (sym step_is) (runs_none runner);
+      told = subst (λ (s : NextStep). HasRun [] (failed_step s) runner runner) (sym step_is) (runs_none runner);
     }
 
 -- a snapshot on which the operation is tried again

@@ -33,8 +33,8 @@ use Rattle.world_rules.specs.Asking.{IsRequest}
 use Rattle.world_rules.specs.Settling.{IsSettling, BreaksSettling}
 use Rattle.world_rules.specs.declared.asking.Peer.TheVariants.{Server}
 use Rattle.world_rules.specs.declared.asking.Ask.{Ask}
-use Rattle.surrogate_core.specs.declared.step.Step.{Step}
-use Rattle.surrogate_core.specs.declared.step.Step.TheVariants as steps
+use Rattle.surrogate_core.specs.declared.step.NextStep.{NextStep}
+use Rattle.surrogate_core.specs.declared.step.NextStep.TheVariants as steps
 
 -- ---- what a surrogate is
 
@@ -76,7 +76,7 @@ is_fetching phase = false
 
 -- a step, and what the surrogate is after it
 pub record Reaction : Type 0 where
-  pub step : Step
+  pub step : NextStep
   pub after : Machine
 
 abbrev pub answering : Volume → Message → Reaction
@@ -86,7 +86,7 @@ abbrev pub declining : Volume → ℕ → ℕ → Cause → Reaction
 declining copy client number cause = answering copy (Declined client number cause)
 
 -- the message of a step has a spelling, and what is asked is a request to the server
-abbrev pub IsFitStep : Step → Type 0
+abbrev pub IsFitStep : NextStep → Type 0
 IsFitStep (steps.Ask request) = IsValid request × IsRequest Server request
 IsFitStep (steps.Answer reply) = IsValid reply
 
@@ -225,7 +225,7 @@ pub record Round : Type 0 where
 abbrev pub IsRound : List ℕ → List ℕ → Reaction → Round → Type 0
 IsRound server work before round = by before.step
   where
-    by : Step → Type 0
+    by : NextStep → Type 0
     by (steps.Ask request) = IsSettling Server server request round.came round.asks
         × HandlesCome before.after round.came work round.runs round.after
     by (steps.Answer reply) = ⊥

@@ -22,10 +22,10 @@ use Rattle.world_rules.specs.Asking.{AnswersStand}
 use Rattle.world_rules.specs.Settling.{BreaksSettling, failed_asks}
 use Rattle.world_rules.specs.Telling.{LinkTelling, ToldWorlds, HadTroubles}
 use Rattle.world_rules.specs.declared.asking.Peer.TheVariants.{Server}
-use Rattle.surrogate_core.specs.declared.step.Step.{Step}
-use Rattle.surrogate_core.specs.declared.step.Step.TheVariants as steps
-use Rattle.surrogate_core.specs.declared.machine.State.{State}
-use Rattle.surrogate_core.specs.declared.machine.State.TheVariants.{Idle as IsIdle, Fetching as IsFetching, Holding as IsHolding}
+use Rattle.surrogate_core.specs.declared.step.NextStep.{NextStep}
+use Rattle.surrogate_core.specs.declared.step.NextStep.TheVariants as steps
+use Rattle.surrogate_core.specs.declared.machine.Stage.{Stage}
+use Rattle.surrogate_core.specs.declared.machine.Stage.TheVariants.{Idle as IsIdle, Fetching as IsFetching, Holding as IsHolding}
 use Rattle.surrogate_core.specs.declared.replaying.Held.{Held}
 use Rattle.surrogate_core.specs.Handling.{Held as HeldEffects, Phase, Idle, Fetching, Holding, Reaction, Round, IsRound, Handled, held_by}
 use Rattle.surrogate_core.specs.Handling.{runs_of_job, answering}
@@ -33,18 +33,18 @@ use Rattle.surrogate_core.specs.Serving.{MayAsk, failed_step}
 
 -- ---- the machine's fields
 
-abbrev pub phase_of : State → Volume → Phase
+abbrev pub phase_of : Stage → Volume → Phase
 phase_of IsIdle copy = Idle
 phase_of (IsFetching client sketched) copy = Fetching client sketched
 phase_of (IsHolding client number undos) copy = Holding client number (undone_all undos.items copy)
 
 -- what is open can be taken back, and can be answered
-abbrev pub IsSound : State → Volume → Type 0
+abbrev pub IsSound : Stage → Volume → Type 0
 IsSound IsIdle copy = Unit {0}
 IsSound (IsFetching client sketched) copy = IsValid (Operate client sketched)
 IsSound (IsHolding client number undos) copy = IsValid (Done client number) × CanUndoAll undos.items copy
 
-abbrev pub reaction_of : Step → State → Volume → Reaction
+abbrev pub reaction_of : NextStep → Stage → Volume → Reaction
 reaction_of step state copy = record { step = step; after = record { copy = copy; phase = phase_of state copy } }
 
 -- ---- parts of messages
@@ -80,7 +80,7 @@ pub record IsJudgedReplay (old new : Volume) (sketched : SketchEntry) (job : Job
   pub held : IsHeld old new sketched.base (held_by old job verdict) result
 
 -- the step and the state behind a run: the store of what is held is asked, or the operation is declined
-abbrev pub IsConcluded : ℕ → SketchEntry → Result Held Cause → Step → State → Type 0
+abbrev pub IsConcluded : ℕ → SketchEntry → Result Held Cause → NextStep → Stage → Type 0
 IsConcluded client sketched (Ok held) step state =
     (step ≡ steps.Ask (Store client sketched.seq held.entries)) × (state ≡ IsHolding client sketched.seq held.undos)
 IsConcluded client sketched (Err cause) step state = (step ≡ steps.Answer (Declined client sketched.seq cause)) × (state ≡ IsIdle)

@@ -14,8 +14,8 @@ use Rattle.world_rules.specs.World.{World, MovedBy, AreFilled}
 use Rattle.world_rules.specs.Asking.{AnswersStand}
 use Rattle.world_rules.specs.Settling.{failed_asks}
 use Rattle.world_rules.specs.Telling.{LinkTelling, ToldWorlds, HadTroubles}
-use Rattle.surrogate_core.specs.declared.step.Step.{Step}
-use Rattle.surrogate_core.specs.declared.step.Step.TheVariants as steps
+use Rattle.surrogate_core.specs.declared.step.NextStep.{NextStep}
+use Rattle.surrogate_core.specs.declared.step.NextStep.TheVariants as steps
 use Rattle.surrogate_core.specs.Handling.{Reaction, Handling, BreaksHandling}
 
 -- ---- a step of the machine
@@ -30,7 +30,7 @@ abbrev pub failed_runs : Message → ℕ
 failed_runs (Declined client number cause) = failed_cause cause
 failed_runs reply = 0
 
-abbrev pub failed_step : Step → ℕ
+abbrev pub failed_step : NextStep → ℕ
 failed_step (steps.Answer reply) = failed_runs reply
 failed_step (steps.Ask request) = 0
 

@@ -13,4 +13,4 @@ pub use laws::{
     handlings_are_of_their_operation, handlings_keep_the_copy, tries_have_one_end,
 };
 pub use machine::Surrogate;
-pub use step::Step;
+pub use step::NextStep;

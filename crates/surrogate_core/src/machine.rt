@@ -8,8 +8,8 @@ ghost use Rattle.wire_frames.specs.Cause.{CauseFits};
 ghost use Rattle.wire_frames.specs.declared.cause.Cause.TheVariants.{Refused};
 ghost use Rattle.wire_frames.specs.Frame.{IsValid};
 ghost use Rattle.wire_frames.specs.declared.message.Message.TheVariants.{Store, Operate, Done, Declined};
-ghost use Rattle.surrogate_core.specs.declared.step.Step.TheVariants as steps;
-ghost use Rattle.surrogate_core.specs.declared.machine.State.TheVariants as states;
+ghost use Rattle.surrogate_core.specs.declared.step.NextStep.TheVariants as steps;
+ghost use Rattle.surrogate_core.specs.declared.machine.Stage.TheVariants as states;
 ghost use Rattle.surrogate_core.specs.Handling.{Idle, Fetching, IsAsking, is_fetching, idle, copy_before, job_for};
 ghost use Rattle.surrogate_core.specs.Handling.{closed, refusal_kind, Tries, Operates, AfterJob, Expects, HandlesReply};
 ghost use Rattle.surrogate_core.specs.Handling.{IsSilenced, IsFitStep};
@@ -18,7 +18,7 @@ ghost use Rattle.surrogate_core.specs.Serving.{Steps, failed_cause, failed_step}
 ghost use Rattle.surrogate_core.specs.Inside.{IsSound, IsConcluded, Starves, phase_of, reaction_of, operation_in, snapshot_rows};
 
 use crate::replaying::{Held, prepare, replay};
-use crate::step::Step;
+use crate::step::NextStep;
 use cmd_capture::{Job, RunError, Runner};
 use mod_log::SketchEntry;
 use std::alloc::{AllocError, Global};
@@ -29,7 +29,7 @@ use wire_frames::{Cause, Message, not_for_this_node};
 
 /// What the surrogate waits for.
 #[derive(Drop)]
-enum State {
+enum Stage {
     Idle,
     /// For a snapshot, to try this client's operation on it.
     Fetching {
@@ -49,7 +49,7 @@ enum State {
 pub struct Surrogate {
     alloc: Global,
     copy: Tree,
-    state: State,
+    state: Stage,
 }
 
 impl Model for Surrogate {
@@ -71,7 +71,7 @@ impl Surrogate {
         Surrogate {
             alloc,
             copy: Tree::new(alloc),
-            state: State::Idle,
+            state: Stage::Idle,
         }
     }
 
@@ -89,7 +89,12 @@ impl Surrogate {
 
     /// Begins to handle an operation, for which the runner is asked once at most, and not where a snapshot is awaited then.
     /// Any other message is malformed.
-    pub fn on_operate<R: Runner>(&mut self, request: Message, work: &[u8], runner: &mut R) -> Step
+    pub fn on_operate<R: Runner>(
+        &mut self,
+        request: Message,
+        work: &[u8],
+        runner: &mut R,
+    ) -> NextStep
         requires idle { self.old.phase ≡ Idle }
         requires valid { IsValid request }
         ensures steps { Steps (Operates self.old.copy work.now request) (record {
@@ -103,12 +108,12 @@ impl Surrogate {
     {
         match operation(request) {
             Some((client, sketched)) => self.try_on(false, client, sketched, work, runner),
-            None => Step::Answer(not_for_this_node()),
+            None => NextStep::Answer(not_for_this_node()),
         }
     }
 
     /// Goes on with the server's reply. The runner is asked once at most, and only where a snapshot was awaited.
-    pub fn on_server<R: Runner>(&mut self, reply: Message, work: &[u8], runner: &mut R) -> Step
+    pub fn on_server<R: Runner>(&mut self, reply: Message, work: &[u8], runner: &mut R) -> NextStep
         requires { Expects self.old.phase reply }
         ensures steps { Steps (HandlesReply self.old.phase self.old.copy reply work.now) (record {
           step = result;
@@ -119,12 +124,12 @@ impl Surrogate {
         ensures asked { IsAskedAtMostOnce (R.calls runner.old) (R.calls runner.new) }
         ensures unasked { is_fetching self.old.phase ≡ false → R.calls runner.new ≡ R.calls runner.old }
     {
-        match mem::replace(&mut self.state, State::Idle) {
-            State::Idle => Step::Answer(reply),
-            State::Fetching { client, sketched } => {
+        match mem::replace(&mut self.state, Stage::Idle) {
+            Stage::Idle => NextStep::Answer(reply),
+            Stage::Fetching { client, sketched } => {
                 self.on_snapshot(client, sketched, reply, work, runner)
             }
-            State::Holding {
+            Stage::Holding {
                 client,
                 number,
                 undos,
@@ -137,19 +142,19 @@ impl Surrogate {
     }
 
     /// Gives up, since no reply came. It takes no memory.
-    pub fn on_silence(&mut self) -> Step
+    pub fn on_silence(&mut self) -> NextStep
         requires { IsAsking self.old.phase }
         ensures silenced { IsSilenced self.old.phase self.old.copy (record { step = result; after = self.new }) }
         ensures sent { IsFitStep result }
     {
-        match mem::replace(&mut self.state, State::Idle) {
-            State::Idle => unreachable!(),
-            State::Fetching { client, sketched } => {
+        match mem::replace(&mut self.state, Stage::Idle) {
+            Stage::Idle => unreachable!(),
+            Stage::Fetching { client, sketched } => {
                 let number = sketched.seq;
                 drop(sketched);
                 declined(client, number, Cause::NoServer)
             }
-            State::Holding {
+            Stage::Holding {
                 client,
                 number,
                 undos,
@@ -164,10 +169,10 @@ impl Surrogate {
     pub(crate) fn give_up(&mut self)
         ensures { self.new ≡ idle (copy_before self.old) }
     {
-        match mem::replace(&mut self.state, State::Idle) {
-            State::Idle => {}
-            State::Fetching { sketched, .. } => drop(sketched),
-            State::Holding { undos, .. } => undo_all(&mut self.copy, undos),
+        match mem::replace(&mut self.state, Stage::Idle) {
+            Stage::Idle => {}
+            Stage::Fetching { sketched, .. } => drop(sketched),
+            Stage::Holding { undos, .. } => undo_all(&mut self.copy, undos),
         }
     }
 
@@ -179,7 +184,7 @@ impl Surrogate {
         reply: Message,
         work: &[u8],
         runner: &mut R,
-    ) -> Step
+    ) -> NextStep
         requires idle { self.old.phase ≡ Idle }
         requires valid { IsValid (Operate client sketched) }
         requires snapshot { Expects (Fetching client sketched) reply }
@@ -216,7 +221,7 @@ impl Surrogate {
         sketched: SketchEntry,
         work: &[u8],
         runner: &mut R,
-    ) -> Step
+    ) -> NextStep
         requires idle { self.old.phase ≡ Idle }
         requires valid { IsValid (Operate client sketched) }
         ensures steps { Steps (Tries pulled self.old.copy client sketched work.now) (record {
@@ -249,13 +254,13 @@ impl Surrogate {
 
 /// The step that answers that the operation is declined.
 #[tactic(auto, using(crate::proofs::Valid::declined_valid))]
-fn declined(client: u8, number: u64, cause: Cause) -> Step
+fn declined(client: u8, number: u64, cause: Cause) -> NextStep
     requires valid { IsValid (Done client number) }
     requires cause { CauseFits cause }
     ensures step { result ≡ steps.Answer (Declined client number cause) }
     ensures sent { IsFitStep result }
 {
-    Step::Answer(Message::Declined {
+    NextStep::Answer(Message::Declined {
         client,
         number,
         cause,
@@ -271,7 +276,7 @@ fn advance<R: Runner>(
     sketched: SketchEntry,
     work: &[u8],
     runner: &mut R,
-) -> Result<(Step, State), AllocError>
+) -> Result<(NextStep, Stage), AllocError>
     requires { IsValid (Operate client sketched) }
     ensures ok { IfOk result (λ x. Steps (Tries pulled copy.old client sketched work.now) (reaction_of x.0 x.1 copy.new)
         (telling (R.runs runner.old) (R.faults runner.old)) (telling (R.runs runner.new) (R.faults runner.new))) }
@@ -295,7 +300,7 @@ fn advance<R: Runner>(
 
 /// The step where the copy has no such job, for this cause.
 #[tactic(auto, using(crate::proofs::Valid::pull_valid, crate::proofs::Valid::done_valid))]
-fn without_job(pulled: bool, client: u8, sketched: SketchEntry, cause: Cause) -> (Step, State)
+fn without_job(pulled: bool, client: u8, sketched: SketchEntry, cause: Cause) -> (NextStep, Stage)
     requires valid { IsValid (Operate client sketched) }
     requires cause { CauseFits cause }
     requires none_failed { failed_cause cause ≡ 0 }
@@ -307,13 +312,13 @@ fn without_job(pulled: bool, client: u8, sketched: SketchEntry, cause: Cause) ->
     if pulled {
         let number = sketched.seq;
         drop(sketched);
-        return (declined(client, number, cause), State::Idle);
+        return (declined(client, number, cause), Stage::Idle);
     }
     drop(cause);
     let number = sketched.seq.saturating_sub(1);
     (
-        Step::Ask(Message::Pull { client, number }),
-        State::Fetching { client, sketched },
+        NextStep::Ask(Message::Pull { client, number }),
+        Stage::Fetching { client, sketched },
     )
 }
 
@@ -327,7 +332,7 @@ fn perform<R: Runner>(
     job: Job,
     work: &[u8],
     runner: &mut R,
-) -> Result<(Step, State), AllocError>
+) -> Result<(NextStep, Stage), AllocError>
     requires valid { IsValid (Operate client sketched) }
     requires job { job_for copy.old sketched ≡ Ok job }
     requires rows { AreJobRows job.rows }
@@ -360,7 +365,7 @@ fn perform<R: Runner>(
             drop(job);
             drop(sketched);
             match error {
-                RunError::Failed => Ok((declined(client, number, Cause::NotRun), State::Idle)),
+                RunError::Failed => Ok((declined(client, number, Cause::NotRun), Stage::Idle)),
                 RunError::Memory => Err(AllocError),
             }
         }
@@ -369,7 +374,7 @@ fn perform<R: Runner>(
 
 /// The step behind a run: the store of what the copy has taken, or why it has taken nothing.
 #[tactic(auto, using(crate::proofs::Valid::done_valid))]
-fn conclude(client: u8, sketched: SketchEntry, held: Result<Held, Cause>) -> (Step, State)
+fn conclude(client: u8, sketched: SketchEntry, held: Result<Held, Cause>) -> (NextStep, Stage)
     requires valid { IsValid (Operate client sketched) }
     requires store { IfOk held (λ held. IsValid (Store client sketched.seq held.entries)) }
     requires cause { IfErr held CauseFits }
@@ -384,13 +389,13 @@ fn conclude(client: u8, sketched: SketchEntry, held: Result<Held, Cause>) -> (St
         Err(cause) => {
             let number = sketched.seq;
             drop(sketched);
-            (declined(client, number, cause), State::Idle)
+            (declined(client, number, cause), Stage::Idle)
         }
     }
 }
 
 /// Asks for the store of effects that the copy has taken.
-fn hold(client: u8, sketched: SketchEntry, held: Held) -> (Step, State)
+fn hold(client: u8, sketched: SketchEntry, held: Held) -> (NextStep, Stage)
     requires { IsValid (Store client sketched.seq held.entries) }
     ensures step { result.0 ≡ steps.Ask (Store client sketched.seq held.entries) }
     ensures state { result.1 ≡ states.Holding client sketched.seq held.undos }
@@ -400,12 +405,12 @@ fn hold(client: u8, sketched: SketchEntry, held: Held) -> (Step, State)
     drop(sketched);
     let Held { entries, undos } = held;
     (
-        Step::Ask(Message::Store {
+        NextStep::Ask(Message::Store {
             client,
             number,
             entries,
         }),
-        State::Holding {
+        Stage::Holding {
             client,
             number,
             undos,
@@ -414,7 +419,7 @@ fn hold(client: u8, sketched: SketchEntry, held: Held) -> (Step, State)
 }
 
 /// Keeps the effects where the server accepted them, and else takes them back. It takes no memory.
-fn close(copy: &mut Tree, client: u8, number: u64, undos: Vec<Undo>, kind: Option<u8>) -> Step
+fn close(copy: &mut Tree, client: u8, number: u64, undos: Vec<Undo>, kind: Option<u8>) -> NextStep
     requires valid { IsValid (Done client number) }
     requires kind { IfSome kind (λ kind. CauseFits (Refused kind)) }
     requires can_undo { CanUndoAll undos.items copy.old }
@@ -428,7 +433,7 @@ fn close(copy: &mut Tree, client: u8, number: u64, undos: Vec<Undo>, kind: Optio
     match kind {
         None => {
             drop(undos);
-            Step::Answer(Message::Done { client, number })
+            NextStep::Answer(Message::Done { client, number })
         }
         Some(kind) => {
             undo_all(copy, undos);

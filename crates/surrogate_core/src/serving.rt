@@ -2,14 +2,14 @@
 ghost use Rattle.std.specs.Prelude.{◌≡◌, ◌<◌, false, IfOk, OnErr};
 ghost use Rattle.wire_frames.specs.Frame.{IsValid};
 ghost use Rattle.world_rules.specs.Asking.{IsRequest};
-ghost use Rattle.surrogate_core.specs.declared.step.Step.TheVariants as steps;
+ghost use Rattle.surrogate_core.specs.declared.step.NextStep.TheVariants as steps;
 ghost use Rattle.surrogate_core.specs.Handling.{Idle, is_fetching, idle, copy_before, IsFitStep};
 ghost use Rattle.cmd_capture.specs.Runs.{telling, IsAskedAtMostOnce};
 ghost use Rattle.surrogate_core.specs.Serving.{Serves};
 ghost use Rattle.surrogate_core.specs.Inside.{Awaits, Follows, Breaks, asks_left};
 
 use crate::machine::Surrogate;
-use crate::step::Step;
+use crate::step::NextStep;
 use cmd_capture::Runner;
 use std::alloc::AllocError;
 use wire_frames::Message;
@@ -43,8 +43,8 @@ impl Surrogate {
         let mut step = self.on_operate(request, work, runner);
         'asking: loop {
             match step {
-                Step::Answer(reply) => return Ok(reply),
-                Step::Ask(asked) => {
+                NextStep::Answer(reply) => return Ok(reply),
+                NextStep::Ask(asked) => {
                     let followed = self.follow(&asked, work, runner, link, server);
                     drop(asked);
                     step = match followed {
@@ -68,7 +68,7 @@ impl Surrogate {
         runner: &mut R,
         link: &mut L,
         server: &[u8],
-    ) -> Result<Step, AllocError>
+    ) -> Result<NextStep, AllocError>
         requires awaits { Awaits self.old.phase asked.now }
         requires valid { IsValid asked.now }
         requires request { IsRequest Peer.Server asked.now }

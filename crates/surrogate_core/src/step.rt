@@ -4,7 +4,7 @@ use wire_frames::Message;
 
 /// What a surrogate does next.
 #[derive(Debug, Drop)]
-pub enum Step {
+pub enum NextStep {
     /// Ask the server.
     Ask(Message),
     /// Answer the client.

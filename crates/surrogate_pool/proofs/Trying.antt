@@ -20,7 +20,7 @@ use Rattle.world_rules.specs.declared.link.LinkError.TheVariants.{Failed as Link
 use Rattle.world_rules.specs.World.{World, Is, Moved}
 use Rattle.world_rules.specs.Asking.{ask_of, AsksOnce}
 use Rattle.world_rules.proofs.Asks.{moved_then, moved_none, moved_packets}
-use Rattle.surrogate_pool.specs.Rounds.{is_done, tells_done, better, pooled, is_answer, is_answered, AsksEach, IsRound}
+use Rattle.surrogate_pool.specs.Rounds.{is_done, tells_done, better, pooled, is_answer, is_answered, AsksEach, IsPoolRound}
 use Rattle.surrogate_pool.specs.Addresses.{addresses_in}
 use Rattle.surrogate_pool.specs.Inside.{is_answer_of, round_of, IsSentReply, IsPooled, HasAsked}
 
@@ -158,7 +158,7 @@ module _ (request : Message) (list : List ℕ) where
     moved = moved;
     asks = subst (AllByRecursion (λ ask. (ask.to ≡ Surrogate) × (ask.request ≡ request))) (sym kept)
         (all_both (λ ask. ask.to ≡ Surrogate) (λ ask. ask.request ≡ request) asked of_surrogates of_request);
-    round = subst (λ asks. IsRound (round_of list tries result) asks) (sym kept) (many, inr each);
+    round = subst (λ asks. IsPoolRound (round_of list tries result) asks) (sym kept) (many, inr each);
     some = some;
     pools = subst (λ asks. IsPooled request result (pooled asks) w) (sym kept) pools;
   }

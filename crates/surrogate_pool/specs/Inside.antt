@@ -13,7 +13,7 @@ use Rattle.world_rules.specs.declared.link.LinkError.{LinkError}
 use Rattle.world_rules.specs.declared.link.LinkError.TheVariants.{Failed as LinkFailed, Memory as LinkMemory}
 use Rattle.world_rules.specs.World.{World, Moved}
 use Rattle.surrogate_pool.specs.declared.pool.Round.{Round}
-use Rattle.surrogate_pool.specs.Rounds.{pooled, is_answered, IsRound}
+use Rattle.surrogate_pool.specs.Rounds.{pooled, is_answered, IsPoolRound}
 
 -- an ask with this result was answered, or failed
 abbrev pub is_answer_of : Result (Vec ℕ Global) LinkError → Bool
@@ -41,6 +41,6 @@ pub record HasAsked (to : Peer) (address : List ℕ) (request : Message) (tries 
   pub made : List Ask
   pub moved : Moved request made old new
   pub asks : AllByRecursion (λ ask. (ask.to ≡ to) × (ask.request ≡ request)) (filter is_answered made)
-  pub round : IsRound (round_of address tries result) (filter is_answered made)
+  pub round : IsPoolRound (round_of address tries result) (filter is_answered made)
   pub some : is_answer_of result ≡ true → 1 ≤ tries
   pub pools : IsPooled request result (pooled (filter is_answered made)) new

@@ -115,15 +115,15 @@ pub record PassesOn (answered : Bool) (address : List ℕ) (asks : List Ask) : T
   pub once : length asks ≡ (if answered then 1 else 0)
 
 -- what a pool asked in one round
-abbrev pub IsRound : Round → List Ask → Type 0
-IsRound round asks =
+abbrev pub IsPoolRound : Round → List Ask → Type 0
+IsPoolRound round asks =
     (length asks ≡ round.tries) × (PassesOn round.answered round.address asks ⊎ AsksEach round.answered (addresses_in round.address) asks)
 
 -- and in these, one after the other
 abbrev pub AreRounds : List Round → List Ask → Type 0
 AreRounds [] asks = asks ≡ []
 AreRounds (round ∷ rounds) asks =
-    (first : List Ask) × (rest : List Ask) × (asks ≡ first ++ rest) × IsRound round first × AreRounds rounds rest
+    (first : List Ask) × (rest : List Ask) × (asks ≡ first ++ rest) × IsPoolRound round first × AreRounds rounds rest
 
 -- between two moments a pool kept these rounds more, and its link's asks grew by theirs
 pub record AddsRounds (before after : List Round) (old new : World) : Type 0 where

@@ -79,8 +79,8 @@ pub record Outside : Type 0 where
   pub runner : RunnerTelling
   pub link : LinkTelling
 
-abbrev pub told : Option (List Run) → ℕ → LinkTelling → Outside
-told runs faults link = record { runner = record { runs = runs; faults = faults }; link = link }
+abbrev pub outside_told : Option (List Run) → ℕ → LinkTelling → Outside
+outside_told runs faults link = record { runner = record { runs = runs; faults = faults }; link = link }
 
 -- Between two moments the runner made these runs, and failed so often; the link had trouble for each ask that failed, and its
 -- world moved by these asks, for operations among the frames.

@@ -3,7 +3,7 @@ ghost use Rattle.std.specs.Prelude.{◌≡◌, ◌≢◌, ◌↔◌, None, Some,
 ghost use Rattle.std.specs.String.{string_bytes};
 ghost use Rattle.std.specs.Process.{exit_status};
 ghost use Rattle.program_words.specs.Pages.{page_asked};
-ghost use Rattle.surrogate_prog.specs.Serving.{told};
+ghost use Rattle.surrogate_prog.specs.Serving.{outside_told};
 ghost use Rattle.surrogate_prog.specs.Run.{is_surrogate_exit, SurrogateEnds};
 ghost use Rattle.surrogate_prog.specs.Words.{Run, form_of, run_said};
 
@@ -215,13 +215,13 @@ pub fn served<E: Eprint, P: Port, L: Link, R: Runner, O: Sink + Troubled>(
     ensures { SurrogateEnds (map string_bytes words.now) (exit_status result)
         (record {
           port = P.tells port.old;
-          outside = told (R.runs runner.old) (R.faults runner.old) (L.tells link.old);
+          outside = outside_told (R.runs runner.old) (R.faults runner.old) (L.tells link.old);
           written = O.written output.old;
           sink_faults = O.faults output.old;
         })
         (record {
           port = P.tells port.new;
-          outside = told (R.runs runner.new) (R.faults runner.new) (L.tells link.new);
+          outside = outside_told (R.runs runner.new) (R.faults runner.new) (L.tells link.new);
           written = O.written output.new;
           sink_faults = O.faults output.new;
         }) }

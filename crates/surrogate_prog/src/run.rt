@@ -3,11 +3,11 @@ ghost use Rattle.std.specs.Prelude.{◌≡◌, ◌≤◌, IsTrue, map};
 ghost use Rattle.std.specs.String.{string_bytes};
 ghost use Rattle.outside.specs.Outside.{CountsFault};
 ghost use Rattle.surrogate_prog.specs.Words.{run_said};
-ghost use Rattle.surrogate_prog.specs.Serving.{told};
+ghost use Rattle.surrogate_prog.specs.Serving.{outside_told};
 ghost use Rattle.surrogate_prog.specs.Run.{surrogate_status_of, is_surrogate_status, surrogate_telling, SurrogateRun, SurrogateEnds};
 ghost use Rattle.surrogate_prog.specs.Inside.{surrogate_stopped_by_sink};
 
-use crate::serving::{Route, serve};
+use crate::serving::{SurrogateRoute, serve};
 use crate::words::{Form, RunWords, form_of};
 use cmd_capture::Runner;
 use outside::{Port, Sink, SinkError};
@@ -71,12 +71,12 @@ fn run<P: Port, R: Runner, L: Link, O: Sink>(
 ) -> Result<(), Stopped>
     requires { words.now.count ≤ 65536 }
     ensures turn { SurrogateRun (run_said words.now)
-        (surrogate_telling (P.tells port.old) (told (R.runs runner.old) (R.faults runner.old) (L.tells link.old)))
-        (surrogate_telling (P.tells port.new) (told (R.runs runner.new) (R.faults runner.new) (L.tells link.new)))
+        (surrogate_telling (P.tells port.old) (outside_told (R.runs runner.old) (R.faults runner.old) (L.tells link.old)))
+        (surrogate_telling (P.tells port.new) (outside_told (R.runs runner.new) (R.faults runner.new) (L.tells link.new)))
         (O.written output.old) (O.written output.new) result }
     ensures sink { CountsFault Stopped.Sink (O.faults output.old) (O.faults output.new) result }
 {
-    let route = Route {
+    let route = SurrogateRoute {
         server: words.server.as_bytes(),
         work: words.work.as_bytes(),
     };
@@ -109,13 +109,13 @@ pub fn surrogate_run<P: Port, O: Sink, R: Runner, L: Link>(
     ensures { SurrogateEnds (map string_bytes words.now) result
         (record {
           port = P.tells port.old;
-          outside = told (R.runs runner.old) (R.faults runner.old) (L.tells link.old);
+          outside = outside_told (R.runs runner.old) (R.faults runner.old) (L.tells link.old);
           written = O.written output.old;
           sink_faults = O.faults output.old;
         })
         (record {
           port = P.tells port.new;
-          outside = told (R.runs runner.new) (R.faults runner.new) (L.tells link.new);
+          outside = outside_told (R.runs runner.new) (R.faults runner.new) (L.tells link.new);
           written = O.written output.new;
           sink_faults = O.faults output.new;
         }) }

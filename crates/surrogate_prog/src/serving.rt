@@ -2,7 +2,7 @@
 ghost use Rattle.std.specs.Prelude.{◌≡◌, ◌≤◌, IfOk, OnErr};
 ghost use Rattle.wire_frames.specs.Frame.{IsValid, frame};
 ghost use Rattle.surrogate_core.specs.Handling.{Idle};
-ghost use Rattle.surrogate_prog.specs.Serving.{told};
+ghost use Rattle.surrogate_prog.specs.Serving.{outside_told};
 ghost use Rattle.surrogate_prog.specs.Inside.{RepliesTo, BreaksReply, IsMessageHandled, BreaksHandled, SurrogateServesNext, BreaksTaking};
 ghost use Rattle.surrogate_prog.specs.Inside.{SurrogateServesAll, SurrogateServesFront};
 
@@ -16,7 +16,7 @@ use world_rules::Link;
 
 /// Whom a surrogate asks, and where it works.
 #[derive(Clone, Copy)]
-pub(crate) struct Route<'a> {
+pub(crate) struct SurrogateRoute<'a> {
     /// Its server's address.
     pub(crate) server: &'a [u8],
     /// The folder in which commands are run.
@@ -28,7 +28,7 @@ fn handle<R: Runner, L: Link>(
     alloc: Global,
     surrogate: &mut Surrogate,
     request: Message,
-    route: &Route<'_>,
+    route: &SurrogateRoute<'_>,
     runner: &mut R,
     link: &mut L,
 ) -> Result<Vec<u8>, AllocError>
@@ -36,11 +36,11 @@ fn handle<R: Runner, L: Link>(
     requires valid { IsValid request }
     ensures idle { surrogate.new.phase ≡ Idle }
     ensures ok { IfOk result (λ bytes. IsMessageHandled route.now.server.now route.now.work.now surrogate.old.copy request bytes.items
-        surrogate.new.copy (told (R.runs runner.old) (R.faults runner.old) (L.tells link.old))
-        (told (R.runs runner.new) (R.faults runner.new) (L.tells link.new))) }
+        surrogate.new.copy (outside_told (R.runs runner.old) (R.faults runner.old) (L.tells link.old))
+        (outside_told (R.runs runner.new) (R.faults runner.new) (L.tells link.new))) }
     ensures err { OnErr result (BreaksHandled route.now.server.now route.now.work.now surrogate.old.copy request
-        (told (R.runs runner.old) (R.faults runner.old) (L.tells link.old))
-        (told (R.runs runner.new) (R.faults runner.new) (L.tells link.new))) }
+        (outside_told (R.runs runner.old) (R.faults runner.old) (L.tells link.old))
+        (outside_told (R.runs runner.new) (R.faults runner.new) (L.tells link.new))) }
 {
     let reply = surrogate.serve(request, route.work, runner, link, route.server)?;
     in_frame(alloc, reply)
@@ -60,18 +60,18 @@ fn reply_to<R: Runner, L: Link>(
     alloc: Global,
     surrogate: &mut Surrogate,
     bytes: &[u8],
-    route: &Route<'_>,
+    route: &SurrogateRoute<'_>,
     runner: &mut R,
     link: &mut L,
 ) -> Result<Vec<u8>, AllocError>
     requires idle { surrogate.old.phase ≡ Idle }
     ensures idle { surrogate.new.phase ≡ Idle }
     ensures ok { IfOk result (λ reply. RepliesTo route.now.server.now route.now.work.now bytes.now reply.items surrogate.old.copy
-        surrogate.new.copy (told (R.runs runner.old) (R.faults runner.old) (L.tells link.old))
-        (told (R.runs runner.new) (R.faults runner.new) (L.tells link.new))) }
+        surrogate.new.copy (outside_told (R.runs runner.old) (R.faults runner.old) (L.tells link.old))
+        (outside_told (R.runs runner.new) (R.faults runner.new) (L.tells link.new))) }
     ensures err { OnErr result (BreaksReply route.now.server.now route.now.work.now bytes.now surrogate.old.copy
-        (told (R.runs runner.old) (R.faults runner.old) (L.tells link.old))
-        (told (R.runs runner.new) (R.faults runner.new) (L.tells link.new))) }
+        (outside_told (R.runs runner.old) (R.faults runner.old) (L.tells link.old))
+        (outside_told (R.runs runner.new) (R.faults runner.new) (L.tells link.new))) }
 {
     match read(alloc, bytes) {
         Ok(request) => handle(alloc, surrogate, request, route, runner, link),
@@ -85,18 +85,18 @@ fn serve_next<P: Port, R: Runner, L: Link>(
     alloc: Global,
     surrogate: &mut Surrogate,
     port: &mut P,
-    route: &Route<'_>,
+    route: &SurrogateRoute<'_>,
     runner: &mut R,
     link: &mut L,
 ) -> Result<Came, AllocError>
     requires idle { surrogate.old.phase ≡ Idle }
     ensures idle { surrogate.new.phase ≡ Idle }
     ensures ok { IfOk result (λ came. SurrogateServesNext route.now.server.now route.now.work.now came surrogate.old.copy surrogate.new.copy
-        (P.tells port.old) (P.tells port.new) (told (R.runs runner.old) (R.faults runner.old) (L.tells link.old))
-        (told (R.runs runner.new) (R.faults runner.new) (L.tells link.new))) }
+        (P.tells port.old) (P.tells port.new) (outside_told (R.runs runner.old) (R.faults runner.old) (L.tells link.old))
+        (outside_told (R.runs runner.new) (R.faults runner.new) (L.tells link.new))) }
     ensures err { OnErr result (BreaksTaking route.now.server.now route.now.work.now surrogate.old.copy (P.tells port.old)
-        (P.tells port.new) (told (R.runs runner.old) (R.faults runner.old) (L.tells link.old))
-        (told (R.runs runner.new) (R.faults runner.new) (L.tells link.new))) }
+        (P.tells port.new) (outside_told (R.runs runner.old) (R.faults runner.old) (L.tells link.old))
+        (outside_told (R.runs runner.new) (R.faults runner.new) (L.tells link.new))) }
 {
     let bytes = match take_frame(port)? {
         Taking::Taken(bytes) => bytes,
@@ -112,7 +112,7 @@ pub(crate) fn serve<P: Port, R: Runner, L: Link>(
     alloc: Global,
     surrogate: &mut Surrogate,
     port: &mut P,
-    route: &Route<'_>,
+    route: &SurrogateRoute<'_>,
     count: u32,
     runner: &mut R,
     link: &mut L,
@@ -120,11 +120,11 @@ pub(crate) fn serve<P: Port, R: Runner, L: Link>(
     requires idle { surrogate.old.phase ≡ Idle }
     requires count { count ≤ 65536 }
     ensures ok { IfOk result (λ tally. SurrogateServesAll route.now.server.now route.now.work.now count tally surrogate.old.copy
-        (P.tells port.old) (P.tells port.new) (told (R.runs runner.old) (R.faults runner.old) (L.tells link.old))
-        (told (R.runs runner.new) (R.faults runner.new) (L.tells link.new))) }
+        (P.tells port.old) (P.tells port.new) (outside_told (R.runs runner.old) (R.faults runner.old) (L.tells link.old))
+        (outside_told (R.runs runner.new) (R.faults runner.new) (L.tells link.new))) }
     ensures err { OnErr result (SurrogateServesFront route.now.server.now route.now.work.now count surrogate.old.copy (P.tells port.old)
-        (P.tells port.new) (told (R.runs runner.old) (R.faults runner.old) (L.tells link.old))
-        (told (R.runs runner.new) (R.faults runner.new) (L.tells link.new))) }
+        (P.tells port.new) (outside_told (R.runs runner.old) (R.faults runner.old) (L.tells link.old))
+        (outside_told (R.runs runner.new) (R.faults runner.new) (L.tells link.new))) }
 {
     let mut tally = Tally::new();
     for _take in 0..count {

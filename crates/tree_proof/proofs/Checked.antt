@@ -30,9 +30,9 @@ use Rattle.tree_values.specs.declared.node.Row.{Row}
 use Rattle.tree_values.specs.Tree.{Volume, IsRow, IsTree, AreInOrder, row_at, node_size}
 use Rattle.tree_values.proofs.Places.{stands_at, belongs_at}
 use Rattle.tree_proof.specs.declared.slim.SlimRow.{SlimRow}
-use Rattle.tree_proof.specs.declared.certificate.Kind.{Kind}
-use Rattle.tree_proof.specs.declared.certificate.Kind.TheVariants.{Present, Absent}
-use Rattle.tree_proof.specs.declared.certificate.Head.{Head}
+use Rattle.tree_proof.specs.declared.certificate.Presence.{Presence}
+use Rattle.tree_proof.specs.declared.certificate.Presence.TheVariants.{Present, Absent}
+use Rattle.tree_proof.specs.declared.certificate.CertificateHead.{CertificateHead}
 use Rattle.tree_proof.specs.declared.certificate.Leaf.{Leaf}
 use Rattle.tree_proof.specs.declared.certificate.Places.{Places}
 use Rattle.tree_proof.specs.declared.checking.Finding.{Finding}
@@ -44,7 +44,7 @@ use Rattle.tree_proof.specs.Trees.{slim_row, leaves, root_of, tree_texts, found_
 use Rattle.tree_proof.specs.Tops.{Digest, leaf_text, root_text, leaf_of, root_over, top_within, top, climbed_within, way_within}
 use Rattle.tree_proof.specs.Texts.{top_texts, way_texts, shown_texts, certificate_texts, read_texts}
 use Rattle.tree_proof.specs.Certificate.{Certificate, first_place, certificate_spelling, place_limit, next_place, certificate_at, certificate_in}
-use Rattle.tree_proof.specs.Checking.{stands_so, is_in_place, other_path, computed, roots_of, wrong_root, finding_of, judged, checked_read}
+use Rattle.tree_proof.specs.Checking.{stands_so, is_in_place, other_path, computed, roots_of, wrong_root, finding_of, checked_finding, checked_read}
 use Rattle.tree_proof.specs.Laws.{FindingsAreTrue}
 use Rattle.tree_proof.specs.Inside.{HasWay}
 use Rattle.tree_proof.proofs.Lists.{in_front, in_back, same_fronts, all_got, each_implies, all_mapped, got_alike}
@@ -196,7 +196,7 @@ roots_right count (l ∷ ls) root all =
     each_implies (λ leaf. not (bytes_eq (computed count leaf) root) ≡ false) (λ leaf. computed count leaf ≡ root) (l ∷ ls) (λ leaf is. (bytes_eq-Decides (computed count leaf) root).0 (not_false_of (bytes_eq (computed count leaf) root) is)) (all_mapped (λ computed. not (bytes_eq computed root) ≡ false) (computed count) (l ∷ ls) all)
 
 -- what is known of a row that is shown
-pub record IsPlaced (head : Head) (rows : Volume) (asked : FilePath) (place : ℕ) (leaf : Leaf) (d : Row) : Type 0 where
+pub record IsPlaced (head : CertificateHead) (rows : Volume) (asked : FilePath) (place : ℕ) (leaf : Leaf) (d : Row) : Type 0 where
   pub count : head.count ≡ length rows
   pub row : leaf.row ≡ slim_row (get_or rows place d)
   pub place_is : leaf.place ≡ place
@@ -225,11 +225,11 @@ abbrev no_row : Row
 no_row = record { path = []; version = 0; node = None }
 
 -- the row of its own path
-present_is : (head : Head) (rows : Volume) (asked : FilePath) (leaf : Leaf) → IsTree rows → head.kind ≡ Present → head.index < length rows
+present_is : (head : CertificateHead) (rows : Volume) (asked : FilePath) (leaf : Leaf) → IsTree rows → head.kind ≡ Present → head.index < length rows
     → IsPlaced head rows asked head.index leaf no_row → found.Row leaf.row ≡ found_at rows asked
 present_is head rows asked leaf tree kind within here =
     let row = get_or rows head.index no_row in
-    let same : is_same_path leaf.row.path asked ≡ true = subst (λ (k : Kind). stands_so k head.index asked leaf ≡ true) kind here.stands in
+    let same : is_same_path leaf.row.path asked ≡ true = subst (λ (k : Presence). stands_so k head.index asked leaf ≡ true) kind here.stands in
     let path : row.path ≡ asked = sym (ap (λ (r : SlimRow). r.path) here.row) ∙ tied_path leaf.row.path asked same in
     let own : (e : Row) → get_or rows head.index e ≡ row = λ e. got_alike rows head.index e no_row within in
     let at = stands_at rows head.index asked tree.in_order
@@ -266,22 +266,22 @@ greater_of Equal e = absurd cc
 greater_of Greater e = refl
 
 -- by its place a row that is shown for a path without one is below it, or above
-side_low : (head : Head) (asked : FilePath) (leaf : Leaf) (place : ℕ) → head.kind ≡ Absent → leaf.place ≡ place → place < head.index → is_in_place head asked leaf ≡ true → path_cmp leaf.row.path asked ≡ Less
+side_low : (head : CertificateHead) (asked : FilePath) (leaf : Leaf) (place : ℕ) → head.kind ≡ Absent → leaf.place ≡ place → place < head.index → is_in_place head asked leaf ≡ true → path_cmp leaf.row.path asked ≡ Less
 side_low head asked leaf place kind at lt stands =
-    let here : stands_so Absent head.index asked leaf ≡ true = subst (λ (k : Kind). stands_so k head.index asked leaf ≡ true) kind stands in
+    let here : stands_so Absent head.index asked leaf ≡ true = subst (λ (k : Presence). stands_so k head.index asked leaf ≡ true) kind stands in
     let less : nat_lt leaf.place head.index ≡ true = lt_holds leaf.place head.index (omega (arith, at)) in
     is_less (path_cmp leaf.row.path asked) (rw less at here)
 
-side_high : (head : Head) (asked : FilePath) (leaf : Leaf) (place : ℕ) → head.kind ≡ Absent → leaf.place ≡ place → head.index ≤ place → is_in_place head asked leaf ≡ true → path_cmp leaf.row.path asked ≡ Greater
+side_high : (head : CertificateHead) (asked : FilePath) (leaf : Leaf) (place : ℕ) → head.kind ≡ Absent → leaf.place ≡ place → head.index ≤ place → is_in_place head asked leaf ≡ true → path_cmp leaf.row.path asked ≡ Greater
 side_high head asked leaf place kind at le stands =
-    let here : stands_so Absent head.index asked leaf ≡ true = subst (λ (k : Kind). stands_so k head.index asked leaf ≡ true) kind stands in
+    let here : stands_so Absent head.index asked leaf ≡ true = subst (λ (k : Presence). stands_so k head.index asked leaf ≡ true) kind stands in
     let more : nat_lt leaf.place head.index ≡ false = lt_fails leaf.place head.index (omega (arith, at)) in
     greater_of (path_cmp leaf.row.path asked) (rw more at here)
 
 abbrev no_leaf : Leaf
 no_leaf = record { place = 0; row = slim_row no_row; beside = [] }
 
-finding_first : (kind : Kind) (ls : List Leaf) → kind ≡ Present → 0 < length ls → finding_of kind ls ≡ found.Row (get_or ls 0 no_leaf).row
+finding_first : (kind : Presence) (ls : List Leaf) → kind ≡ Present → 0 < length ls → finding_of kind ls ≡ found.Row (get_or ls 0 no_leaf).row
 finding_first kind [] is some = absurd (omega arith)
 finding_first kind (l ∷ ls) is some = rw is refl
 
@@ -306,7 +306,7 @@ module _ (certificate : Certificate) (root : Digest) (asked : FilePath) (rows : 
       let head = certificate.head in
       let number : length certificate.leaves ≡ head.index + 1 - head.index = fits.count ∙ rw kind refl in
       let first : first_place head.kind head.index + 0 ≡ head.index = rw kind (omega arith) in
-      let within : head.index < head.count = subst (λ (k : Kind). head.index < place_limit k head.count) kind fits.head.place in
+      let within : head.index < head.count = subst (λ (k : Presence). head.index < place_limit k head.count) kind fits.head.place in
       let some : 0 < length certificate.leaves = omega arith in
       let here = at_place 0 head.index first some within in
       finding_first head.kind certificate.leaves kind some
@@ -317,7 +317,7 @@ module _ (certificate : Certificate) (root : Digest) (asked : FilePath) (rows : 
   counted kind =
       let head = certificate.head in
       let number : length certificate.leaves ≡ min (head.index + 1) head.count - (head.index - 1) = fits.count ∙ rw kind refl in
-      let within : head.index < head.count + 1 = subst (λ (k : Kind). head.index < place_limit k head.count) kind fits.head.place in
+      let within : head.index < head.count + 1 = subst (λ (k : Presence). head.index < place_limit k head.count) kind fits.head.place in
       let first : first_place head.kind head.index + 0 ≡ head.index - 1 = rw kind (omega arith) in
       elim (cases_lt 0 head.count) [
         | inl some ↦ (at_place 0 (head.index - 1) first (omega arith) (omega arith)).count
@@ -332,7 +332,7 @@ module _ (certificate : Certificate) (root : Digest) (asked : FilePath) (rows : 
   found_absent kind =
       let head = certificate.head in
       let number : length certificate.leaves ≡ min (head.index + 1) head.count - (head.index - 1) = fits.count ∙ rw kind refl in
-      let within : head.index < head.count + 1 = subst (λ (k : Kind). head.index < place_limit k head.count) kind fits.head.place in
+      let within : head.index < head.count + 1 = subst (λ (k : Presence). head.index < place_limit k head.count) kind fits.head.place in
       let count = counted kind in
       let nothing : finding_of head.kind certificate.leaves ≡ found.NoRow = rw kind refl in
       nothing ∙ absent_is rows asked head.index tree (omega (arith, count))
@@ -347,7 +347,7 @@ module _ (certificate : Certificate) (root : Digest) (asked : FilePath) (rows : 
   found_true : finding_of certificate.head.kind certificate.leaves ≡ found_at rows asked
   found_true = by certificate.head.kind refl
     where
-      by : (k : Kind) → certificate.head.kind ≡ k → finding_of certificate.head.kind certificate.leaves ≡ found_at rows asked
+      by : (k : Presence) → certificate.head.kind ≡ k → finding_of certificate.head.kind certificate.leaves ≡ found_at rows asked
       by Present kind = found_present kind
       by Absent kind = found_absent kind
 
@@ -357,7 +357,7 @@ empty_right count [] root all e = (bytes_eq-Decides (root_over count []) root).0
 empty_right count (l ∷ ls) root all e = absurd cc
 
 pub judged_true : (certificate : Certificate) (root : Digest) (asked : FilePath) (finding : Finding) (rows : Volume) → CertificateFits certificate → IsTree rows
-    → judged certificate root asked ≡ Ok finding → root_of rows ≡ root
+    → checked_finding certificate root asked ≡ Ok finding → root_of rows ≡ root
     → Distinct (λ text. IsIn text (certificate_texts certificate.head.count certificate.leaves)) (λ text. IsIn text (tree_texts rows)) → finding ≡ found_at rows asked
 judged_true certificate root asked finding rows fits tree e is apart =
     let all = other_path certificate asked ∷ wrong_root certificate root ∷ [] in

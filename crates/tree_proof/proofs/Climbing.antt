@@ -7,7 +7,7 @@ use Rattle.sha2.specs.Sha256.{sha256}
 use Rattle.sha2.proofs.Facts256.{length-sha256}
 use Rattle.tree_values.specs.Lists.{IsIn}
 use Rattle.rs_parity.specs.Sketches.{Distinct}
-use Rattle.tree_proof.specs.Tops.{Digest, pair_text, pair_of, top_within, way_within, beside_within, front_of, last_of, climbed_within}
+use Rattle.tree_proof.specs.Tops.{Digest, pair_text, pair_of, top_within, way_within, beside_within, front_of, topmost, climbed_within}
 use Rattle.tree_proof.specs.Texts.{top_texts, way_texts}
 use Rattle.tree_proof.proofs.Lists.{in_front, in_back, same_fronts, all_taken, all_dropped, all_got, all_both, last_behind, front_before}
 use Rattle.tree_proof.proofs.Levels.{top_low, top_high, texts_low, texts_high, way_low, way_left, way_right, beside_low, beside_left, beside_right, climbed_low, climbed_left, climbed_right, way_texts_low, way_texts_left, way_texts_right}
@@ -69,8 +69,8 @@ climbed_is_digest (suc levels) count place leaf beside is =
     elim (cases_lt (2 ^ levels) count) [
       | inr le ↦ rw (climbed_low levels count place leaf beside le) (climbed_is_digest levels count place leaf beside is)
       | inl lt ↦ elim (cases_lt place (2 ^ levels)) [
-        | inl left ↦ rw (climbed_left levels count place leaf beside lt left) (pair_is_digest (climbed_within levels (2 ^ levels) place leaf (front_of beside)) (last_of beside))
-        | inr right ↦ rw (climbed_right levels count place leaf beside lt right) (pair_is_digest (last_of beside) (climbed_within levels (count - 2 ^ levels) (place - 2 ^ levels) leaf (front_of beside)))
+        | inl left ↦ rw (climbed_left levels count place leaf beside lt left) (pair_is_digest (climbed_within levels (2 ^ levels) place leaf (front_of beside)) (topmost beside))
+        | inr right ↦ rw (climbed_right levels count place leaf beside lt right) (pair_is_digest (topmost beside) (climbed_within levels (count - 2 ^ levels) (place - 2 ^ levels) leaf (front_of beside)))
       ]
     ]
 
@@ -162,10 +162,10 @@ climbs_alone (suc levels) digests place leaf beside lt few is all apart e =
             let other = top_within levels (drop (2 ^ levels) digests) in
             let here = way_texts_left levels (length digests) place leaf beside more left in
             let there = texts_high levels digests more in
-            let same : sha256 (pair_text mine (last_of beside)) ≡ sha256 (pair_text theirs other) =
+            let same : sha256 (pair_text mine (topmost beside)) ≡ sha256 (pair_text theirs other) =
             sym (climbed_left levels (length digests) place leaf beside more left) ∙ e ∙ top_high levels digests more in
-            let texts : pair_text mine (last_of beside) ≡ pair_text theirs other = apart (pair_text mine (last_of beside)) (pair_text theirs other) (rw here (inl refl)) (rw there (inl refl)) same in
-            let parts = pair_parts mine (last_of beside) theirs other texts
+            let texts : pair_text mine (topmost beside) ≡ pair_text theirs other = apart (pair_text mine (topmost beside)) (pair_text theirs other) (rw here (inl refl)) (rw there (inl refl)) same in
+            let parts = pair_parts mine (topmost beside) theirs other texts
             (climbed_is_digest levels (2 ^ levels) place leaf front is ∙ sym (top_is_digest levels (take (2 ^ levels) digests) (omega (arith, low, some_of levels)) (all_taken IsDigest (2 ^ levels) digests all))) in
             let inner = climbs_alone levels (take (2 ^ levels) digests) place leaf front (omega (arith, low)) (omega (arith, low)) is (all_taken IsDigest (2 ^ levels) digests all)
             (λ x y among also.
@@ -182,10 +182,10 @@ climbs_alone (suc levels) digests place leaf beside lt few is all apart e =
             let other = top_within levels (take (2 ^ levels) digests) in
             let here = way_texts_right levels (length digests) place leaf beside more right in
             let there = texts_high levels digests more in
-            let same : sha256 (pair_text (last_of beside) mine) ≡ sha256 (pair_text other theirs) =
+            let same : sha256 (pair_text (topmost beside) mine) ≡ sha256 (pair_text other theirs) =
             sym (climbed_right levels (length digests) place leaf beside more right) ∙ e ∙ top_high levels digests more in
-            let texts : pair_text (last_of beside) mine ≡ pair_text other theirs = apart (pair_text (last_of beside) mine) (pair_text other theirs) (rw here (inl refl)) (rw there (inl refl)) same in
-            let parts = pair_ends (last_of beside) mine other theirs texts
+            let texts : pair_text (topmost beside) mine ≡ pair_text other theirs = apart (pair_text (topmost beside) mine) (pair_text other theirs) (rw here (inl refl)) (rw there (inl refl)) same in
+            let parts = pair_ends (topmost beside) mine other theirs texts
             (climbed_is_digest levels (length digests - 2 ^ levels) (place - 2 ^ levels) leaf front is ∙ sym (top_is_digest levels (drop (2 ^ levels) digests) (omega (arith, high)) (all_dropped IsDigest (2 ^ levels) digests all))) in
             let inner = climbs_alone levels (drop (2 ^ levels) digests) (place - 2 ^ levels) leaf front (omega (arith, high)) (omega (arith, high, doubled levels)) is (all_dropped IsDigest (2 ^ levels) digests all)
             (λ x y among also.

@@ -4,7 +4,7 @@ use Rattle.std.proofs.lemmas.Bool.{cases_lt}
 use Rattle.std.proofs.lemmas.List.{length-take-le, append-nil}
 use Rattle.std.proofs.lemmas.List.Concat.{flat_map-cons}
 use Rattle.byte_fields.proofs.Facts.{le_holds, le_fails, lt_holds, lt_fails}
-use Rattle.tree_proof.specs.Tops.{Digest, pair_text, pair_of, top_within, way_within, beside_within, front_of, last_of, climbed_within}
+use Rattle.tree_proof.specs.Tops.{Digest, pair_text, pair_of, top_within, way_within, beside_within, front_of, topmost, climbed_within}
 use Rattle.tree_proof.specs.Texts.{top_texts, way_texts}
 use Rattle.tree_proof.specs.Certificate.{digests_spelling}
 
@@ -68,12 +68,12 @@ unfolding climbed_within
 climbed_low levels count place leaf beside le = rw (le_holds _ _ le) refl
 
 pub climbed_left : (levels count place : ℕ) (leaf : Digest) (beside : List Digest) → 2 ^ levels < count → place < 2 ^ levels
-    → climbed_within (suc levels) count place leaf beside ≡ pair_of (climbed_within levels (2 ^ levels) place leaf (front_of beside)) (last_of beside)
+    → climbed_within (suc levels) count place leaf beside ≡ pair_of (climbed_within levels (2 ^ levels) place leaf (front_of beside)) (topmost beside)
 unfolding climbed_within
 climbed_left levels count place leaf beside lt left = rw (le_fails _ _ lt, lt_holds _ _ left) refl
 
 pub climbed_right : (levels count place : ℕ) (leaf : Digest) (beside : List Digest) → 2 ^ levels < count → 2 ^ levels ≤ place
-    → climbed_within (suc levels) count place leaf beside ≡ pair_of (last_of beside) (climbed_within levels (count - 2 ^ levels) (place - 2 ^ levels) leaf (front_of beside))
+    → climbed_within (suc levels) count place leaf beside ≡ pair_of (topmost beside) (climbed_within levels (count - 2 ^ levels) (place - 2 ^ levels) leaf (front_of beside))
 unfolding climbed_within
 climbed_right levels count place leaf beside lt right = rw (le_fails _ _ lt, lt_fails _ _ right) refl
 
@@ -83,13 +83,13 @@ unfolding way_texts
 way_texts_low levels count place leaf beside le = rw (le_holds _ _ le) refl
 
 pub way_texts_left : (levels count place : ℕ) (leaf : Digest) (beside : List Digest) → 2 ^ levels < count → place < 2 ^ levels
-    → way_texts (suc levels) count place leaf beside ≡ pair_text (climbed_within levels (2 ^ levels) place leaf (front_of beside)) (last_of beside)
+    → way_texts (suc levels) count place leaf beside ≡ pair_text (climbed_within levels (2 ^ levels) place leaf (front_of beside)) (topmost beside)
     ∷ way_texts levels (2 ^ levels) place leaf (front_of beside)
 unfolding way_texts
 way_texts_left levels count place leaf beside lt left = rw (le_fails _ _ lt, lt_holds _ _ left) refl
 
 pub way_texts_right : (levels count place : ℕ) (leaf : Digest) (beside : List Digest) → 2 ^ levels < count → 2 ^ levels ≤ place
-    → way_texts (suc levels) count place leaf beside ≡ pair_text (last_of beside) (climbed_within levels (count - 2 ^ levels) (place - 2 ^ levels) leaf (front_of beside))
+    → way_texts (suc levels) count place leaf beside ≡ pair_text (topmost beside) (climbed_within levels (count - 2 ^ levels) (place - 2 ^ levels) leaf (front_of beside))
     ∷ way_texts levels (count - 2 ^ levels) (place - 2 ^ levels) leaf (front_of beside)
 unfolding way_texts
 way_texts_right levels count place leaf beside lt right = rw (le_fails _ _ lt, lt_fails _ _ right) refl
@@ -159,15 +159,15 @@ climbed_low_at levels count place leaf beside some le =
     subst (λ (n : ℕ). climbed_within n count place leaf beside ≡ climbed_within (levels - 1) count place leaf beside) (one_less levels some) (climbed_low (levels - 1) count place leaf beside le)
 
 pub climbed_left_at : (levels count place : ℕ) (leaf : Digest) (beside : List Digest) → 0 < levels → 2 ^ (levels - 1) < count → place < 2 ^ (levels - 1)
-    → climbed_within levels count place leaf beside ≡ pair_of (climbed_within (levels - 1) (2 ^ (levels - 1)) place leaf (front_of beside)) (last_of beside)
+    → climbed_within levels count place leaf beside ≡ pair_of (climbed_within (levels - 1) (2 ^ (levels - 1)) place leaf (front_of beside)) (topmost beside)
 climbed_left_at levels count place leaf beside some lt left =
-    subst (λ (n : ℕ). climbed_within n count place leaf beside ≡ pair_of (climbed_within (levels - 1) (2 ^ (levels - 1)) place leaf (front_of beside)) (last_of beside))
+    subst (λ (n : ℕ). climbed_within n count place leaf beside ≡ pair_of (climbed_within (levels - 1) (2 ^ (levels - 1)) place leaf (front_of beside)) (topmost beside))
     (one_less levels some) (climbed_left (levels - 1) count place leaf beside lt left)
 
 pub climbed_right_at : (levels count place : ℕ) (leaf : Digest) (beside : List Digest) → 0 < levels → 2 ^ (levels - 1) < count → 2 ^ (levels - 1) ≤ place
-    → climbed_within levels count place leaf beside ≡ pair_of (last_of beside) (climbed_within (levels - 1) (count - 2 ^ (levels - 1)) (place - 2 ^ (levels - 1)) leaf (front_of beside))
+    → climbed_within levels count place leaf beside ≡ pair_of (topmost beside) (climbed_within (levels - 1) (count - 2 ^ (levels - 1)) (place - 2 ^ (levels - 1)) leaf (front_of beside))
 climbed_right_at levels count place leaf beside some lt right =
-    subst (λ (n : ℕ). climbed_within n count place leaf beside ≡ pair_of (last_of beside) (climbed_within (levels - 1) (count - 2 ^ (levels - 1)) (place - 2 ^ (levels - 1)) leaf (front_of beside)))
+    subst (λ (n : ℕ). climbed_within n count place leaf beside ≡ pair_of (topmost beside) (climbed_within (levels - 1) (count - 2 ^ (levels - 1)) (place - 2 ^ (levels - 1)) leaf (front_of beside)))
     (one_less levels some) (climbed_right (levels - 1) count place leaf beside lt right)
 
 -- ---- how many stand below the last

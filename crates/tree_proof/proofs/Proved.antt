@@ -15,16 +15,16 @@ use Rattle.file_paths.proofs.Order.{path_tied}
 use Rattle.tree_values.specs.declared.node.Row.{Row}
 use Rattle.tree_values.specs.Tree.{Volume, IsRow, IsTree, AreInOrder, row_at, rows_below, rows_above}
 use Rattle.tree_values.proofs.Ordered.{split_at_path, all_below, all_above, is_at_equal}
-use Rattle.tree_proof.specs.declared.certificate.Kind.{Kind}
-use Rattle.tree_proof.specs.declared.certificate.Kind.TheVariants.{Present, Absent}
-use Rattle.tree_proof.specs.declared.certificate.Head.{Head}
+use Rattle.tree_proof.specs.declared.certificate.Presence.{Presence}
+use Rattle.tree_proof.specs.declared.certificate.Presence.TheVariants.{Present, Absent}
+use Rattle.tree_proof.specs.declared.certificate.CertificateHead.{CertificateHead}
 use Rattle.tree_proof.specs.declared.certificate.Leaf.{Leaf}
 use Rattle.tree_proof.specs.declared.checking.Finding.TheVariants as found
 use Rattle.tree_proof.specs.Limits.{most_levels}
 use Rattle.tree_proof.specs.Tops.{Digest, leaf_of, root_over, top_within, top, climbed_within, beside_within, way_within}
 use Rattle.tree_proof.specs.Certificate.{first_place, place_behind, leaf_count, place_limit, next_place}
-use Rattle.tree_proof.specs.Checking.{is_in_place, computed, roots_of, finding_of, judged}
-use Rattle.tree_proof.specs.Trees.{slim_row, leaves, root_of, kind_of, head_of, leaves_from, shown_rows, certificate_for, finding_at, found_at}
+use Rattle.tree_proof.specs.Checking.{is_in_place, computed, roots_of, finding_of, checked_finding}
+use Rattle.tree_proof.specs.Trees.{slim_row, leaves, root_of, presence_of, certificate_head_of, leaves_from, shown_rows, certificate_for, finding_at, found_at}
 use Rattle.tree_proof.specs.Laws.{ProofsAreTaken}
 use Rattle.tree_proof.proofs.Lists.{all_got, mapped_all, got_alike}
 use Rattle.tree_proof.proofs.Climbing.{beside_length, beside_are_digests, climbs}
@@ -65,7 +65,7 @@ length_from all place (x ∷ xs) = ap suc (length_from all (place + 1) xs)
 -- ---- the place of a path
 
 -- the place of a path in rows: those before it are below the path, and its own row is there, or those behind it are above
-pub record IsHead (rows : Volume) (asked : FilePath) (head : Head) : Type 0 where
+pub record IsHead (rows : Volume) (asked : FilePath) (head : CertificateHead) : Type 0 where
   pub count : head.count ≡ length rows
   pub within : head.index < place_limit head.kind head.count
   pub below : (k : ℕ) (d : Row) → k < head.index → path_cmp (get_or rows k d).path asked ≡ Less
@@ -74,8 +74,8 @@ pub record IsHead (rows : Volume) (asked : FilePath) (head : Head) : Type 0 wher
   pub none : head.kind ≡ Absent → row_at rows asked ≡ None
   pub above : head.kind ≡ Absent → (k : ℕ) (d : Row) → head.index ≤ k → k < length rows → path_cmp (get_or rows k d).path asked ≡ Greater
 
-head_with : Volume → FilePath → Option Row → Head
-head_with rows asked found = record { count = length rows; kind = kind_of found; index = length (rows_below rows asked) }
+head_with : Volume → FilePath → Option Row → CertificateHead
+head_with rows asked found = record { count = length rows; kind = presence_of found; index = length (rows_below rows asked) }
 
 -- what is looked up has the path
 found_path : (rows : Volume) (asked : FilePath) (r : Row) → row_at rows asked ≡ Some r → r.path ≡ asked
@@ -86,10 +86,10 @@ found_path (x ∷ xs) asked r e = first (is_same_path x.path asked) refl e (foun
     first true same at rest = let is : x ≡ r = (let here : Some x ≡ Some r = rw same at at in cc) in sym (ap (λ (row : Row). row.path) is) ∙ is_at_equal x asked same
     first false other at rest = rest (rw other at at)
 
-head_is : (rows : Volume) (asked : FilePath) → AreInOrder rows → IsHead rows asked (head_of rows asked)
+head_is : (rows : Volume) (asked : FilePath) → AreInOrder rows → IsHead rows asked (certificate_head_of rows asked)
 head_is rows asked order = by (row_at rows asked) refl
   where
-    by : (o : Option Row) → row_at rows asked ≡ o → IsHead rows asked (record { count = length rows; kind = kind_of o; index = length (rows_below rows asked) })
+    by : (o : Option Row) → row_at rows asked ≡ o → IsHead rows asked (record { count = length rows; kind = presence_of o; index = length (rows_below rows asked) })
     by (Some r) e =
         let split : rows ≡ rows_below rows asked ++ (r ∷ rows_above rows asked) =
         subst (λ (o : Option Row). rows ≡ rows_below rows asked ++ option_to_list o ++ rows_above rows asked) e (split_at_path rows asked order)
@@ -129,17 +129,17 @@ of_none : (rs : Volume) → length rs ≡ 0 → root_over (length rs) [] ≡ roo
 of_none [] e = refl
 of_none (r ∷ rs) e = absurd (omega (arith, e))
 
-module _ (rows : Volume) (asked : FilePath) (head : Head) (tree : IsTree rows) (is : IsHead rows asked head) where
+module _ (rows : Volume) (asked : FilePath) (head : CertificateHead) (tree : IsTree rows) (is : IsHead rows asked head) where
   -- the rows that are shown stand in the tree
   shown_number : first_place head.kind head.index + leaf_count head ≤ length rows
   shown_number = by head.kind refl
     where
-      by : (k : Kind) → head.kind ≡ k → first_place head.kind head.index + leaf_count head ≤ length rows
+      by : (k : Presence) → head.kind ≡ k → first_place head.kind head.index + leaf_count head ≤ length rows
       by Present kind =
-          let within : head.index < head.count = subst (λ (k : Kind). head.index < place_limit k head.count) kind is.within in
+          let within : head.index < head.count = subst (λ (k : Presence). head.index < place_limit k head.count) kind is.within in
           rw kind (omega (arith, is.count, within))
       by Absent kind =
-          let within : head.index < head.count + 1 = subst (λ (k : Kind). head.index < place_limit k head.count) kind is.within in
+          let within : head.index < head.count + 1 = subst (λ (k : Presence). head.index < place_limit k head.count) kind is.within in
           rw kind (omega (arith, is.count, within))
 
   shown_length : length (shown_rows rows head) ≡ leaf_count head
@@ -187,10 +187,10 @@ module _ (rows : Volume) (asked : FilePath) (head : Head) (tree : IsTree rows) (
           → is_in_place head asked (leaf_for (leaves rows) place row) ≡ true
       stands place row lt from to at = by head.kind refl
         where
-          by : (k : Kind) → head.kind ≡ k → is_in_place head asked (leaf_for (leaves rows) place row) ≡ true
+          by : (k : Presence) → head.kind ≡ k → is_in_place head asked (leaf_for (leaves rows) place row) ≡ true
           by Present kind =
-              let first : head.index ≤ place = subst (λ (k : Kind). first_place k head.index ≤ place) kind from in
-              let last : place < head.index + (head.index + 1 - head.index) = subst (λ (k : Kind). place < first_place k head.index + (place_behind k head.count head.index - first_place k head.index)) kind to in
+              let first : head.index ≤ place = subst (λ (k : Presence). first_place k head.index ≤ place) kind from in
+              let last : place < head.index + (head.index + 1 - head.index) = subst (λ (k : Presence). place < first_place k head.index + (place_behind k head.count head.index - first_place k head.index)) kind to in
               let own : place ≡ head.index = omega arith in
               let path : row.path ≡ asked = ap (λ (r : Row). r.path) (at row ∙ ap (λ (n : ℕ). get_or rows n row) own) ∙ is.own_path kind row in
               rw kind (path_tied row.path asked path)
@@ -220,13 +220,13 @@ module _ (rows : Volume) (asked : FilePath) (head : Head) (tree : IsTree rows) (
   each_right = each_shown (λ leaf. computed head.count leaf ≡ root_of rows) (λ place row lt from to at. computes place row lt at)
 
   -- no row is shown only where the tree has none
-  no_rows : (k : Kind) → head.kind ≡ k → 0 ≡ leaf_count head → root_over head.count [] ≡ root_of rows
+  no_rows : (k : Presence) → head.kind ≡ k → 0 ≡ leaf_count head → root_over head.count [] ≡ root_of rows
   no_rows Present kind number =
-      let one : 0 ≡ head.index + 1 - head.index = subst (λ (k : Kind). 0 ≡ place_behind k head.count head.index - first_place k head.index) kind number in
+      let one : 0 ≡ head.index + 1 - head.index = subst (λ (k : Presence). 0 ≡ place_behind k head.count head.index - first_place k head.index) kind number in
       absurd (omega (arith, one))
   no_rows Absent kind number =
-      let nothing : 0 ≡ min (head.index + 1) head.count - (head.index - 1) = subst (λ (k : Kind). 0 ≡ place_behind k head.count head.index - first_place k head.index) kind number in
-      let within : head.index < head.count + 1 = subst (λ (k : Kind). head.index < place_limit k head.count) kind is.within in
+      let nothing : 0 ≡ min (head.index + 1) head.count - (head.index - 1) = subst (λ (k : Presence). 0 ≡ place_behind k head.count head.index - first_place k head.index) kind number in
+      let within : head.index < head.count + 1 = subst (λ (k : Presence). head.index < place_limit k head.count) kind is.within in
       let empty : length rows ≡ 0 = omega (arith, is.count, nothing, within) in
       ap (λ (n : ℕ). root_over n []) is.count ∙ of_none rows empty
 
@@ -255,19 +255,19 @@ module _ (rows : Volume) (asked : FilePath) (head : Head) (tree : IsTree rows) (
       first_row place [] r some at = absurd (omega arith)
       first_row place (x ∷ xs) r some at = ap (λ (row : Row). found.Row (slim_row row)) at
 
-      by : (k : Kind) → head.kind ≡ k → finding_of head.kind (certificate_for rows head).leaves ≡ found_at rows asked
+      by : (k : Presence) → head.kind ≡ k → finding_of head.kind (certificate_for rows head).leaves ≡ found_at rows asked
       by Absent kind = rw (kind, is.none kind) refl
       by Present kind =
           let r = get_or rows head.index (record { path = []; version = 0; node = None }) in
           let number : leaf_count head ≡ head.index + 1 - head.index = rw kind refl in
           let first : first_place head.kind head.index + 0 ≡ head.index = rw kind (omega arith) in
-          let within : head.index < head.count = subst (λ (k : Kind). head.index < place_limit k head.count) kind is.within in
+          let within : head.index < head.count = subst (λ (k : Presence). head.index < place_limit k head.count) kind is.within in
           let at : get_or (shown_rows rows head) 0 r ≡ r = shown_got 0 r (omega arith) ∙ ap (λ (n : ℕ). get_or rows n r) first ∙ got_alike rows head.index r (record { path = []; version = 0; node = None }) (omega (arith, is.count)) in
-          ap (λ (k : Kind). finding_of k (certificate_for rows head).leaves) kind
+          ap (λ (k : Presence). finding_of k (certificate_for rows head).leaves) kind
           ∙ first_row (first_place head.kind head.index) (shown_rows rows head) r (omega (arith, shown_length, number)) at
           ∙ sym (ap finding_at (is.own kind (record { path = []; version = 0; node = None })))
 
-  judged_so : judged (certificate_for rows head) (root_of rows) asked ≡ Ok (found_at rows asked)
+  judged_so : checked_finding (certificate_for rows head) (root_of rows) asked ≡ Ok (found_at rows asked)
   judged_so =
       let leaves_shown = (certificate_for rows head).leaves in
       rw (none_is_found (λ leaf. not (is_in_place head asked leaf)) leaves_shown each_in_place, none_is_found (λ computed. not (bytes_eq computed (root_of rows))) (roots_of head.count leaves_shown) right_roots)
@@ -275,6 +275,6 @@ module _ (rows : Volume) (asked : FilePath) (head : Head) (tree : IsTree rows) (
 
 pub proofs_taken : ProofsAreTaken
 proofs_taken rows asked tree =
-    let head = head_of rows asked in
+    let head = certificate_head_of rows asked in
     let is = head_is rows asked tree.in_order in
     rw (spelled_read (certificate_for rows head) (certificate_fits rows asked head tree is)) (judged_so rows asked head tree is)

@@ -18,15 +18,15 @@ use Rattle.tree_values.specs.Tree.{is_root}
 use Rattle.tree_proof.specs.declared.slim.SlimNode.{SlimNode}
 use Rattle.tree_proof.specs.declared.slim.SlimNode.TheVariants as slims
 use Rattle.tree_proof.specs.declared.slim.SlimRow.{SlimRow}
-use Rattle.tree_proof.specs.declared.certificate.Kind.{Kind}
-use Rattle.tree_proof.specs.declared.certificate.Kind.TheVariants.{Present, Absent}
-use Rattle.tree_proof.specs.declared.certificate.Head.{Head}
+use Rattle.tree_proof.specs.declared.certificate.Presence.{Presence}
+use Rattle.tree_proof.specs.declared.certificate.Presence.TheVariants.{Present, Absent}
+use Rattle.tree_proof.specs.declared.certificate.CertificateHead.{CertificateHead}
 use Rattle.tree_proof.specs.declared.certificate.Leaf.{Leaf}
 use Rattle.tree_proof.specs.declared.certificate.Places.{Places}
 use Rattle.tree_proof.specs.Limits.{most_levels}
 use Rattle.tree_proof.specs.Slim.{node_spelling, slim_spelling, slim_file_at, slim_kinds, slim_node_at, slim_at}
 use Rattle.tree_proof.specs.Tops.{Digest, way_within}
-use Rattle.tree_proof.specs.Certificate.{Certificate, leaf_count, first_place, place_limit, kind_byte, head_spelling, digests_spelling, leaf_spelling, certificate_spelling, kinds, kind_at, head_at, digests_at, leaf_at, next_place, leaves_at, certificate_at}
+use Rattle.tree_proof.specs.Certificate.{Certificate, leaf_count, first_place, place_limit, kind_byte, head_spelling, digests_spelling, leaf_spelling, certificate_spelling, presences, kind_at, head_at, digests_at, leaf_at, next_place, leaves_at, certificate_at}
 use Rattle.tree_proof.proofs.Climbing.{IsDigest}
 
 -- ---- slim rows
@@ -155,33 +155,33 @@ leaf_codec places = record {
 
 -- ---- certificates
 
-pub record HeadFits (head : Head) : Type 0 where
+pub record HeadFits (head : CertificateHead) : Type 0 where
   pub few : head.count ≤ max_rows
   pub place : head.index < place_limit head.kind head.count
 
-kind_again : (bytes : List ℕ) (at : ℕ) (x : Kind) (next : ℕ) → Stands bytes at (kind_byte x ∷ []) next → Unit {0} → kind_at bytes at ≡ Ok (x, next)
+kind_again : (bytes : List ℕ) (at : ℕ) (x : Presence) (next : ℕ) → Stands bytes at (kind_byte x ∷ []) next → Unit {0} → kind_at bytes at ≡ Ok (x, next)
 unfolding kind_at
-kind_again bytes at Present next stands fits = tagged_again0 kinds 1 (lit< tt) Present bytes at next refl stands
-kind_again bytes at Absent next stands fits = tagged_again0 kinds 2 (lit< tt) Absent bytes at next refl stands
+kind_again bytes at Present next stands fits = tagged_again0 presences 1 (lit< tt) Present bytes at next refl stands
+kind_again bytes at Absent next stands fits = tagged_again0 presences 2 (lit< tt) Absent bytes at next refl stands
 
 kind_codec : IsCodec kind_at (λ kind. kind_byte kind ∷ []) (λ kind. Unit {0})
 unfolding kind_at
 kind_codec = record {
-  found = tagged_found (λ kind. kind_byte kind ∷ []) (λ kind. Unit {0}) kinds (branch0 (lit< tt) Present refl tt, (branch0 (lit< tt) Absent refl tt, tt));
-  fault = tagged_fault (λ kind. kind_byte kind ∷ []) (λ kind. Unit {0}) kinds (branch0 (lit< tt) Present refl tt, (branch0 (lit< tt) Absent refl tt, tt));
+  found = tagged_found (λ kind. kind_byte kind ∷ []) (λ kind. Unit {0}) presences (branch0 (lit< tt) Present refl tt, (branch0 (lit< tt) Absent refl tt, tt));
+  fault = tagged_fault (λ kind. kind_byte kind ∷ []) (λ kind. Unit {0}) presences (branch0 (lit< tt) Present refl tt, (branch0 (lit< tt) Absent refl tt, tt));
   again = kind_again;
 }
 
 count_part : IsCodec (ruled (λ n. nat_le n max_rows) (number_at w32)) (digits w32) (λ n. (n < 2 ^ 32) × (nat_le n max_rows ≡ true))
 count_part = ruled_codec (λ n. nat_le n max_rows) u32_codec
 
-index_part : (count : ℕ) (kind : Kind) → IsCodec (ruled (λ n. nat_lt n (place_limit kind count)) (number_at w32)) (digits w32) (λ n. (n < 2 ^ 32) × (nat_lt n (place_limit kind count) ≡ true))
+index_part : (count : ℕ) (kind : Presence) → IsCodec (ruled (λ n. nat_lt n (place_limit kind count)) (number_at w32)) (digits w32) (λ n. (n < 2 ^ 32) × (nat_lt n (place_limit kind count) ≡ true))
 index_part count kind = ruled_codec (λ n. nat_lt n (place_limit kind count)) u32_codec
 
-abbrev head_of_parts : ℕ → Kind → ℕ → Head
+abbrev head_of_parts : ℕ → Presence → ℕ → CertificateHead
 head_of_parts count kind index = record { count = count; kind = kind; index = index }
 
-limit_is : (kind : Kind) (count : ℕ) → count ≤ max_rows → place_limit kind count < 2 ^ 32
+limit_is : (kind : Presence) (count : ℕ) → count ≤ max_rows → place_limit kind count < 2 ^ 32
 limit_is Present count le = omega (arith, le)
 limit_is Absent count le = omega (arith, le)
 
@@ -191,7 +191,7 @@ head_codec = record {
   fault = λ bytes at place fits le e. fault3 count_part (λ _ _. kind_codec) (λ count kind _ _. index_part count kind) head_of_parts bytes at place fits le e;
   found = λ bytes at x next fits le e.
       let r = found3 count_part (λ _ _. kind_codec) (λ count kind _ _. index_part count kind) head_of_parts bytes at x next fits le e in
-      subst (λ (y : Head). Stands bytes at (head_spelling y) next × HeadFits y) r.is
+      subst (λ (y : CertificateHead). Stands bytes at (head_spelling y) next × HeadFits y) r.is
       (r.stands, record { few = le_of r.first max_rows r.first_fits.1; place = lt_of r.third (place_limit r.second r.first) r.third_fits.1 });
   again = λ bytes at x next stands fits.
       again3 count_part (λ _ _. kind_codec) (λ count kind _ _. index_part count kind) head_of_parts bytes at x.count x.kind x.index next stands
@@ -199,7 +199,7 @@ head_codec = record {
 }
 
 -- where the first row stands that is shown
-abbrev pub begin_of : Head → Places
+abbrev pub begin_of : CertificateHead → Places
 begin_of head = record { count = head.count; next = first_place head.kind head.index }
 
 pub record CertificateFits (certificate : Certificate) : Type 0 where
@@ -207,11 +207,11 @@ pub record CertificateFits (certificate : Certificate) : Type 0 where
   pub count : length certificate.leaves ≡ leaf_count certificate.head
   pub each : EachFits LeafFits next_place (begin_of certificate.head) certificate.leaves
 
-leaves_part : (head : Head) → IsCodec (leaves_at head) (flat_map leaf_spelling) (λ leaves. (length leaves ≡ leaf_count head) × EachFits LeafFits next_place (begin_of head) leaves)
+leaves_part : (head : CertificateHead) → IsCodec (leaves_at head) (flat_map leaf_spelling) (λ leaves. (length leaves ≡ leaf_count head) × EachFits LeafFits next_place (begin_of head) leaves)
 unfolding leaves_at
 leaves_part head = each_codec leaf_at next_place leaf_spelling LeafFits leaf_codec (leaf_count head) (begin_of head)
 
-abbrev whole_of : Head → List Leaf → Certificate
+abbrev whole_of : CertificateHead → List Leaf → Certificate
 whole_of head leaves = record { head = head; leaves = leaves }
 
 pub certificate_codec : IsCodec certificate_at certificate_spelling CertificateFits

@@ -4,9 +4,9 @@ use Rattle.std.specs.Int.{w32}
 use Rattle.std.specs.List.{flat_map}
 use Rattle.byte_fields.specs.Field.{Reader, ◌>>=◌, digits, number_at, span_at, ruled, none, two, three, tagged_at, each_at}
 use Rattle.tree_values.specs.Limits.{max_rows}
-use Rattle.tree_proof.specs.declared.certificate.Kind.{Kind}
-use Rattle.tree_proof.specs.declared.certificate.Kind.TheVariants.{Present, Absent}
-use Rattle.tree_proof.specs.declared.certificate.Head.{Head}
+use Rattle.tree_proof.specs.declared.certificate.Presence.{Presence}
+use Rattle.tree_proof.specs.declared.certificate.Presence.TheVariants.{Present, Absent}
+use Rattle.tree_proof.specs.declared.certificate.CertificateHead.{CertificateHead}
 use Rattle.tree_proof.specs.declared.certificate.Leaf.{Leaf}
 use Rattle.tree_proof.specs.declared.certificate.Places.{Places}
 use Rattle.tree_proof.specs.Limits.{most_levels}
@@ -15,32 +15,32 @@ use Rattle.tree_proof.specs.Tops.{Digest, way_within}
 
 -- how many rows the tree has, whether the path has one, and at which place it stands or would stand; and the rows that show it
 pub record Certificate : Type 0 where
-  pub head : Head
+  pub head : CertificateHead
   pub leaves : List Leaf
 
 -- ---- which rows
 
 -- the first row that is shown: the path's own, or the one before its place
-abbrev pub first_place : Kind → ℕ → ℕ
+abbrev pub first_place : Presence → ℕ → ℕ
 first_place Present index = index
 first_place Absent index = index - 1
 
 -- the place behind the last row that is shown: behind the path's own, or behind the one that would follow it
-abbrev pub place_behind : Kind → ℕ → ℕ → ℕ
+abbrev pub place_behind : Presence → ℕ → ℕ → ℕ
 place_behind Present count index = index + 1
 place_behind Absent count index = min (index + 1) count
 
 -- how many rows are shown
-abbrev pub leaf_count : Head → ℕ
+abbrev pub leaf_count : CertificateHead → ℕ
 leaf_count head = place_behind head.kind head.count head.index - first_place head.kind head.index
 
 -- ---- spelling
 
-abbrev pub kind_byte : Kind → ℕ
+abbrev pub kind_byte : Presence → ℕ
 kind_byte Present = 1
 kind_byte Absent = 2
 
-abbrev pub head_spelling : Head → List ℕ
+abbrev pub head_spelling : CertificateHead → List ℕ
 head_spelling head = digits w32 head.count ++ (kind_byte head.kind ∷ [] ++ digits w32 head.index)
 
 -- digests one after the other
@@ -57,19 +57,19 @@ certificate_spelling certificate = head_spelling certificate.head ++ flat_map le
 -- ---- reading
 
 -- 1 where the path has a row, 2 where it has none
-abbrev pub kinds : List (ℕ × Reader Kind)
-kinds = (1, none Present) ∷ (2, none Absent) ∷ []
+abbrev pub presences : List (ℕ × Reader Presence)
+presences = (1, none Present) ∷ (2, none Absent) ∷ []
 
-unfoldable pub kind_at : Reader Kind
-kind_at = tagged_at kinds
+unfoldable pub kind_at : Reader Presence
+kind_at = tagged_at presences
 
 -- the greatest place of a row, or of a path without one
-abbrev pub place_limit : Kind → ℕ → ℕ
+abbrev pub place_limit : Presence → ℕ → ℕ
 place_limit Present count = count
 place_limit Absent count = count + 1
 
 -- at most 16,384 rows, a kind, and a place among so many rows
-unfoldable pub head_at : Reader Head
+unfoldable pub head_at : Reader CertificateHead
 head_at =
     three (ruled (λ n. nat_le n max_rows) (number_at w32)) (λ count. kind_at)
     (λ count kind. ruled (λ n. nat_lt n (place_limit kind count)) (number_at w32))
@@ -90,7 +90,7 @@ abbrev pub next_place : Places → Leaf → Places
 next_place places leaf = record { count = places.count; next = min (places.next + 1) places.count }
 
 -- the rows that are shown, in their order
-unfoldable pub leaves_at : Head → Reader (List Leaf)
+unfoldable pub leaves_at : CertificateHead → Reader (List Leaf)
 leaves_at head = each_at leaf_at next_place (leaf_count head) (record { count = head.count; next = first_place head.kind head.index })
 
 unfoldable pub certificate_at : Reader Certificate

@@ -6,9 +6,9 @@ use Rattle.std.specs.Ordering.{is_lt, is_gt}
 use Rattle.byte_fields.specs.Numbers.{as_u32}
 use Rattle.file_paths.specs.Refusals.{unless_refused}
 use Rattle.file_paths.specs.Path.{FilePath, path_cmp, is_same_path}
-use Rattle.tree_proof.specs.declared.certificate.Kind.{Kind}
-use Rattle.tree_proof.specs.declared.certificate.Kind.TheVariants.{Present, Absent}
-use Rattle.tree_proof.specs.declared.certificate.Head.{Head}
+use Rattle.tree_proof.specs.declared.certificate.Presence.{Presence}
+use Rattle.tree_proof.specs.declared.certificate.Presence.TheVariants.{Present, Absent}
+use Rattle.tree_proof.specs.declared.certificate.CertificateHead.{CertificateHead}
 use Rattle.tree_proof.specs.declared.certificate.Leaf.{Leaf}
 use Rattle.tree_proof.specs.declared.checking.Finding.{Finding}
 use Rattle.tree_proof.specs.declared.checking.Finding.TheVariants as found
@@ -19,12 +19,12 @@ use Rattle.tree_proof.specs.Tops.{Digest, leaf_of, root_over, climbed_within}
 use Rattle.tree_proof.specs.Certificate.{Certificate, certificate_in}
 
 -- whether a row that is shown stands as its place says: it is the path's own, or below the path before its place, and else above
-abbrev pub stands_so : Kind → ℕ → FilePath → Leaf → Bool
+abbrev pub stands_so : Presence → ℕ → FilePath → Leaf → Bool
 stands_so Present index asked leaf = is_same_path leaf.row.path asked
 stands_so Absent index asked leaf =
     if nat_lt leaf.place index then is_lt (path_cmp leaf.row.path asked) else is_gt (path_cmp leaf.row.path asked)
 
-abbrev pub is_in_place : Head → FilePath → Leaf → Bool
+abbrev pub is_in_place : CertificateHead → FilePath → Leaf → Bool
 is_in_place head asked leaf = stands_so head.kind head.index asked leaf
 
 -- the first row that does not
@@ -48,17 +48,17 @@ wrong_root certificate root =
     (find (λ computed. not (bytes_eq computed root)) (roots_of certificate.head.count certificate.leaves))
 
 -- what is found: the row that is shown, or that there is none
-abbrev pub finding_of : Kind → List Leaf → Finding
+abbrev pub finding_of : Presence → List Leaf → Finding
 finding_of Absent leaves = found.NoRow
 finding_of Present [] = found.NoRow
 finding_of Present (leaf ∷ leaves) = found.Row leaf.row
 
-abbrev pub judged : Certificate → Digest → FilePath → Result Finding CheckError
-judged certificate root asked =
+abbrev pub checked_finding : Certificate → Digest → FilePath → Result Finding CheckError
+checked_finding certificate root asked =
     unless_refused (other_path certificate asked ∷ wrong_root certificate root ∷ []) (finding_of certificate.head.kind certificate.leaves)
 
 abbrev pub checked_read : Result Certificate ℕ → Digest → FilePath → Result Finding CheckError
-checked_read (Ok certificate) root asked = judged certificate root asked
+checked_read (Ok certificate) root asked = checked_finding certificate root asked
 checked_read (Err place) root asked = Err (BadCert (as_u32 place))
 
 -- what the bytes say of the path in a tree with this root, or the first cause why they are refused

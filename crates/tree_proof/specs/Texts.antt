@@ -4,7 +4,7 @@ use Rattle.std.specs.Prelude.{◌∷◌, ◌++◌, length, take, drop, Result, O
 use Rattle.std.specs.List.{flat_map}
 use Rattle.tree_proof.specs.declared.certificate.Leaf.{Leaf}
 use Rattle.tree_proof.specs.Limits.{most_levels}
-use Rattle.tree_proof.specs.Tops.{Digest, leaf_text, pair_text, root_text, leaf_of, top_within, climbed_within, front_of, last_of}
+use Rattle.tree_proof.specs.Tops.{Digest, leaf_text, pair_text, root_text, leaf_of, top_within, climbed_within, front_of, topmost}
 use Rattle.tree_proof.specs.Certificate.{Certificate, certificate_in}
 
 -- those of the pairs below a top
@@ -21,9 +21,9 @@ way_texts zero count place leaf beside = []
 way_texts (suc levels) count place leaf beside =
     if nat_le count (2 ^ levels) then way_texts levels count place leaf beside
     else (if nat_lt place (2 ^ levels)
-    then pair_text (climbed_within levels (2 ^ levels) place leaf (front_of beside)) (last_of beside)
+    then pair_text (climbed_within levels (2 ^ levels) place leaf (front_of beside)) (topmost beside)
     ∷ way_texts levels (2 ^ levels) place leaf (front_of beside)
-    else pair_text (last_of beside) (climbed_within levels (count - 2 ^ levels) (place - 2 ^ levels) leaf (front_of beside))
+    else pair_text (topmost beside) (climbed_within levels (count - 2 ^ levels) (place - 2 ^ levels) leaf (front_of beside))
     ∷ way_texts levels (count - 2 ^ levels) (place - 2 ^ levels) leaf (front_of beside))
 
 -- those of one row that is shown

@@ -71,8 +71,8 @@ beside_within (suc levels) digests place =
     else beside_within levels (drop (2 ^ levels) digests) (place - 2 ^ levels) ++ top_within levels (take (2 ^ levels) digests) ∷ [])
 
 -- the digest nearest to the top, and those below it
-abbrev pub last_of : List Digest → Digest
-last_of digests = slice_index_or digests (length digests - 1) []
+abbrev pub topmost : List Digest → Digest
+topmost digests = slice_index_or digests (length digests - 1) []
 
 abbrev pub front_of : List Digest → List Digest
 front_of digests = take (length digests - 1) digests
@@ -83,5 +83,5 @@ climbed_within zero count place leaf beside = leaf
 climbed_within (suc levels) count place leaf beside =
     if nat_le count (2 ^ levels) then climbed_within levels count place leaf beside
     else (if nat_lt place (2 ^ levels)
-    then pair_of (climbed_within levels (2 ^ levels) place leaf (front_of beside)) (last_of beside)
-    else pair_of (last_of beside) (climbed_within levels (count - 2 ^ levels) (place - 2 ^ levels) leaf (front_of beside)))
+    then pair_of (climbed_within levels (2 ^ levels) place leaf (front_of beside)) (topmost beside)
+    else pair_of (topmost beside) (climbed_within levels (count - 2 ^ levels) (place - 2 ^ levels) leaf (front_of beside)))

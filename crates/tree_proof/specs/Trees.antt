@@ -9,9 +9,9 @@ use Rattle.tree_values.specs.Tree.{Volume, row_at, rows_below}
 use Rattle.tree_proof.specs.declared.slim.SlimNode.{SlimNode}
 use Rattle.tree_proof.specs.declared.slim.SlimNode.TheVariants as slims
 use Rattle.tree_proof.specs.declared.slim.SlimRow.{SlimRow}
-use Rattle.tree_proof.specs.declared.certificate.Kind.{Kind}
-use Rattle.tree_proof.specs.declared.certificate.Kind.TheVariants.{Present, Absent}
-use Rattle.tree_proof.specs.declared.certificate.Head.{Head}
+use Rattle.tree_proof.specs.declared.certificate.Presence.{Presence}
+use Rattle.tree_proof.specs.declared.certificate.Presence.TheVariants.{Present, Absent}
+use Rattle.tree_proof.specs.declared.certificate.CertificateHead.{CertificateHead}
 use Rattle.tree_proof.specs.declared.certificate.Leaf.{Leaf}
 use Rattle.tree_proof.specs.declared.checking.Finding.{Finding}
 use Rattle.tree_proof.specs.declared.checking.Finding.TheVariants as found
@@ -53,13 +53,13 @@ tree_texts rows =
 
 -- ---- certificates
 
-abbrev pub kind_of : Option Row → Kind
-kind_of None = Absent
-kind_of (Some row) = Present
+abbrev pub presence_of : Option Row → Presence
+presence_of None = Absent
+presence_of (Some row) = Present
 
 -- the place of a path is behind all rows below it
-abbrev pub head_of : Volume → FilePath → Head
-head_of rows asked = record { count = length rows; kind = kind_of (row_at rows asked); index = length (rows_below rows asked) }
+abbrev pub certificate_head_of : Volume → FilePath → CertificateHead
+certificate_head_of rows asked = record { count = length rows; kind = presence_of (row_at rows asked); index = length (rows_below rows asked) }
 
 -- each of these rows, which stand in a tree with these digests from a place on, with the digests beside its way
 abbrev pub leaves_from : List Digest → ℕ → List Row → List Leaf
@@ -68,13 +68,13 @@ leaves_from all place (row ∷ rows) =
     record { place = place; row = slim_row row; beside = beside_within most_levels all place } ∷ leaves_from all (place + 1) rows
 
 -- the rows that are shown
-abbrev pub shown_rows : Volume → Head → List Row
+abbrev pub shown_rows : Volume → CertificateHead → List Row
 shown_rows rows head = take (leaf_count head) (drop (first_place head.kind head.index) rows)
 
-abbrev pub certificate_for : Volume → Head → Certificate
+abbrev pub certificate_for : Volume → CertificateHead → Certificate
 certificate_for rows head =
     record { head = head; leaves = leaves_from (leaves rows) (first_place head.kind head.index) (shown_rows rows head) }
 
 -- the certificate of a tree for a path, in bytes
 abbrev pub proof_of : Volume → FilePath → List ℕ
-proof_of rows asked = certificate_spelling (certificate_for rows (head_of rows asked))
+proof_of rows asked = certificate_spelling (certificate_for rows (certificate_head_of rows asked))

@@ -9,17 +9,17 @@ use file_paths::List;
 
 /// Whether a tree has a row at a path.
 #[derive(Clone, Copy, Debug, PartialEq, Eq)]
-pub(crate) enum Kind {
+pub(crate) enum Presence {
     Present,
     Absent,
 }
 
 /// What is said of a path in a tree.
 #[derive(Clone, Copy, Debug)]
-pub(crate) struct Head {
+pub(crate) struct CertificateHead {
     /// How many rows the tree has.
     pub count: u32,
-    pub kind: Kind,
+    pub kind: Presence,
     /// The place of the path's row, or that which it would have.
     pub index: u32,
 }
@@ -42,14 +42,14 @@ pub(crate) struct Places {
     pub next: u32,
 }
 
-impl Head {
+impl CertificateHead {
     /// The place of the first row that is shown.
     pub fn first_place(self) -> u32
         ensures { result ≡ first_place self.kind self.index }
     {
         match self.kind {
-            Kind::Present => self.index,
-            Kind::Absent => self.index.saturating_sub(1),
+            Presence::Present => self.index,
+            Presence::Absent => self.index.saturating_sub(1),
         }
     }
 
@@ -62,8 +62,8 @@ impl Head {
         ensures within { first_place self.kind self.index + result ≤ self.count }
     {
         match self.kind {
-            Kind::Present => 1,
-            Kind::Absent => (self.index + 1).min(self.count) - self.first_place(),
+            Presence::Present => 1,
+            Presence::Absent => (self.index + 1).min(self.count) - self.first_place(),
         }
     }
 }

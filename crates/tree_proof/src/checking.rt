@@ -7,10 +7,10 @@ ghost use Rattle.std.specs.Option.{option_copied};
 ghost use Rattle.byte_fields.specs.Codec.{IsBytes};
 ghost use Rattle.byte_fields.specs.Numbers.{as_u32};
 ghost use Rattle.tree_proof.specs.declared.checking.CheckError.TheVariants.{Memory};
-ghost use Rattle.tree_proof.specs.Checking.{is_in_place, computed, roots_of, finding_of, judged, checked};
+ghost use Rattle.tree_proof.specs.Checking.{is_in_place, computed, roots_of, finding_of, checked_finding, checked};
 ghost use Rattle.tree_proof.specs.Inside.{HasWay};
 
-use crate::certificate::{Head, Kind, Leaf};
+use crate::certificate::{CertificateHead, Leaf, Presence};
 use crate::slim::{SlimRow, put_slim};
 use crate::taking::certificate_in;
 use crate::tops::{MAX_LEVELS, climbed_within, leaf_digest, root_over};
@@ -95,13 +95,13 @@ fn judge(
     alloc: Global,
     root: &[u8; 32],
     path: &Path,
-    head: Head,
+    head: CertificateHead,
     leaves: &[Leaf],
 ) -> Result<Finding, CheckError>
     requires { AllByRecursion (HasWay head.count) leaves.now }
-    ensures ok { IfOk result (λ finding. judged (record { head = head; leaves = leaves.now }) root.now path.now ≡ Ok finding) }
+    ensures ok { IfOk result (λ finding. checked_finding (record { head = head; leaves = leaves.now }) root.now path.now ≡ Ok finding) }
     ensures err { IfErr result (λ e. e ≢ CheckError.Memory
-        → judged (record { head = head; leaves = leaves.now }) root.now path.now ≡ Err e) }
+        → checked_finding (record { head = head; leaves = leaves.now }) root.now path.now ≡ Err e) }
 {
     if let Some(leaf) = other_leaf(head, path, leaves) {
         return Err(CheckError::OtherPath(leaf.row.path.copy()?));
@@ -116,20 +116,20 @@ fn judge(
 }
 
 /// The first row that is shown and does not stand as its place says.
-fn other_leaf<'a>(head: Head, path: &Path, leaves: &'a [Leaf]) -> Option<&'a Leaf>
+fn other_leaf<'a>(head: CertificateHead, path: &Path, leaves: &'a [Leaf]) -> Option<&'a Leaf>
     ensures { option_copied result ≡ find (λ leaf. not (is_in_place head path.now leaf)) leaves.now }
 {
     leaves.iter().find(|leaf| !is_in_place(head, path, leaf))
 }
 
-fn is_in_place(head: Head, path: &Path, leaf: &Leaf) -> bool
+fn is_in_place(head: CertificateHead, path: &Path, leaf: &Leaf) -> bool
     ensures { result ≡ is_in_place head path.now leaf.now }
 {
     let order = leaf.row.path.cmp(path);
     match head.kind {
-        Kind::Present => order.is_eq(),
-        Kind::Absent if leaf.place < head.index => order.is_lt(),
-        Kind::Absent => order.is_gt(),
+        Presence::Present => order.is_eq(),
+        Presence::Absent if leaf.place < head.index => order.is_lt(),
+        Presence::Absent => order.is_gt(),
     }
 }
 
@@ -196,11 +196,11 @@ fn computed(alloc: Global, count: u32, leaf: &Leaf) -> Result<[u8; 32], AllocErr
 }
 
 /// What is found: the row that is shown, or that there is none.
-fn finding_of(kind: Kind, leaves: &[Leaf]) -> Result<Finding, AllocError>
+fn finding_of(kind: Presence, leaves: &[Leaf]) -> Result<Finding, AllocError>
     ensures { IfOk result (λ finding. finding ≡ finding_of kind leaves.now) }
 {
     match (kind, leaves.first()) {
-        (Kind::Present, Some(leaf)) => Ok(Finding::Row(leaf.row.copy()?)),
+        (Presence::Present, Some(leaf)) => Ok(Finding::Row(leaf.row.copy()?)),
         _ => Ok(Finding::NoRow),
     }
 }

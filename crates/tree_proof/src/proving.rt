@@ -8,9 +8,9 @@ ghost use Rattle.tree_values.specs.Limits.{max_rows};
 ghost use Rattle.tree_values.specs.Tree.{IsTree, IsRow, AreInOrder, node_size};
 ghost use Rattle.tree_values.specs.Inside.{StandsAt, BelongsAt};
 ghost use Rattle.tree_proof.specs.Certificate.{head_spelling, kind_byte, leaf_spelling, first_place, place_limit};
-ghost use Rattle.tree_proof.specs.Trees.{root_of, leaves, slim_node, head_of, leaves_from, shown_rows, proof_of};
+ghost use Rattle.tree_proof.specs.Trees.{root_of, leaves, slim_node, certificate_head_of, leaves_from, shown_rows, proof_of};
 
-use crate::certificate::{Head, Kind};
+use crate::certificate::{CertificateHead, Presence};
 use crate::slim::{SlimNode, put_slim};
 use crate::tops::{MAX_LEVELS, leaf_digest, put_beside, root_of_leaves};
 use byte_fields::put_u32;
@@ -44,21 +44,21 @@ pub fn prove(tree: &Tree, path: &Path) -> Result<Vec<u8>, AllocError>
 
 /// What is said of a path in a tree of these rows.
 #[tactic(auto, using(crate::proofs::Heads::head_stands, crate::proofs::Heads::head_belongs))]
-fn head_of(rows: &[Row], path: &Path) -> Head
+fn head_of(rows: &[Row], path: &Path) -> CertificateHead
     requires { IsTree rows.now }
-    ensures value { result ≡ head_of rows.now path.now }
+    ensures value { result ≡ certificate_head_of rows.now path.now }
     ensures place { result.index < place_limit result.kind result.count }
 {
     let count = rows.len() as u32;
     match locate(rows, path) {
-        Ok(index) => Head {
+        Ok(index) => CertificateHead {
             count,
-            kind: Kind::Present,
+            kind: Presence::Present,
             index: index as u32,
         },
-        Err(index) => Head {
+        Err(index) => CertificateHead {
             count,
-            kind: Kind::Absent,
+            kind: Presence::Absent,
             index: index as u32,
         },
     }
@@ -73,7 +73,7 @@ fn locate(rows: &[Row], path: &Path) -> Result<usize, usize>
     rows.binary_search_by(|row| row.path.cmp(path))
 }
 
-fn put_head(head: Head, out: &mut Vec<u8>) -> Result<(), AllocError>
+fn put_head(head: CertificateHead, out: &mut Vec<u8>) -> Result<(), AllocError>
     ensures { OnOk result (out.new.items ≡ out.old.items ++ head_spelling head) }
 {
     put_u32(out, head.count)?;
@@ -81,12 +81,12 @@ fn put_head(head: Head, out: &mut Vec<u8>) -> Result<(), AllocError>
     put_u32(out, head.index)
 }
 
-fn kind_byte(kind: Kind) -> u8
+fn kind_byte(kind: Presence) -> u8
     ensures { result ≡ kind_byte kind }
 {
     match kind {
-        Kind::Present => 1,
-        Kind::Absent => 2,
+        Presence::Present => 1,
+        Presence::Absent => 2,
     }
 }
 
@@ -94,7 +94,7 @@ fn kind_byte(kind: Kind) -> u8
 fn put_shown(
     rows: &[Row],
     digests: &[[u8; 32]],
-    head: Head,
+    head: CertificateHead,
     out: &mut Vec<u8>,
 ) -> Result<(), AllocError>
     requires tree { IsTree rows.now }

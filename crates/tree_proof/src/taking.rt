@@ -8,7 +8,7 @@ ghost use Rattle.tree_proof.specs.Slim.{slim_file_at, slim_node_at, slim_at};
 ghost use Rattle.tree_proof.specs.Certificate.{kind_at, place_limit, head_at, digests_at, leaf_at};
 ghost use Rattle.tree_proof.specs.Certificate.{next_place, leaves_at, certificate_at, certificate_in};
 
-use crate::certificate::{Head, Kind, Leaf, Places};
+use crate::certificate::{CertificateHead, Leaf, Places, Presence};
 use crate::slim::{SlimNode, SlimRow};
 use crate::tops::{MAX_LEVELS, way_within};
 use byte_fields::{Item, TakeError, span_at, take_each, u8_at, u32_at, u64_at};
@@ -76,30 +76,30 @@ fn slim_at(alloc: Global, bytes: &[u8], at: usize) -> Result<(SlimRow, usize), T
 }
 
 #[tactic(auto, unfolding(crate::specs::Certificate::kind_at))]
-fn kind_at(bytes: &[u8], at: usize) -> Result<(Kind, usize), TakeError>
+fn kind_at(bytes: &[u8], at: usize) -> Result<(Presence, usize), TakeError>
     ensures { Gives result (kind_at bytes.now at) }
 {
     let (kind, start) = u8_at(bytes, at)?;
     match kind {
-        1 => Ok((Kind::Present, start)),
-        2 => Ok((Kind::Absent, start)),
+        1 => Ok((Presence::Present, start)),
+        2 => Ok((Presence::Absent, start)),
         _ => Err(TakeError::At(at)),
     }
 }
 
 /// How many places a path may have among so many rows.
-fn place_limit(kind: Kind, count: u32) -> u32
+fn place_limit(kind: Presence, count: u32) -> u32
     requires { count ≤ max_rows }
     ensures { result ≡ place_limit kind count }
 {
     match kind {
-        Kind::Present => count,
-        Kind::Absent => count + 1,
+        Presence::Present => count,
+        Presence::Absent => count + 1,
     }
 }
 
 #[tactic(auto, unfolding(crate::specs::Certificate::head_at, byte_fields::specs::Field::ruled))]
-fn head_at(bytes: &[u8], at: usize) -> Result<(Head, usize), TakeError>
+fn head_at(bytes: &[u8], at: usize) -> Result<(CertificateHead, usize), TakeError>
     ensures read { Gives result (head_at bytes.now at) }
     ensures few { IfOk result (λ x. x.0.count ≤ max_rows) }
     ensures place { IfOk result (λ x. x.0.index < place_limit x.0.kind x.0.count) }
@@ -113,7 +113,7 @@ fn head_at(bytes: &[u8], at: usize) -> Result<(Head, usize), TakeError>
     if index >= place_limit(kind, count) {
         return Err(TakeError::At(after_kind));
     }
-    Ok((Head { count, kind, index }, next))
+    Ok((CertificateHead { count, kind, index }, next))
 }
 
 /// So many digests at the place, and the place after them.
@@ -162,7 +162,10 @@ impl Item<Places> for Leaf {
 ///
 /// `At` the first faulty field or the first byte that is left, or `Memory`.
 #[tactic(auto, unfolding(crate::specs::Certificate::certificate_in, crate::specs::Certificate::certificate_at, crate::specs::Certificate::leaves_at))]
-pub(crate) fn certificate_in(alloc: Global, bytes: &[u8]) -> Result<(Head, Vec<Leaf>), TakeError>
+pub(crate) fn certificate_in(
+    alloc: Global,
+    bytes: &[u8],
+) -> Result<(CertificateHead, Vec<Leaf>), TakeError>
     ensures { Answers (λ x. record { head = x.0; leaves = x.1.items }) place_of result (certificate_in bytes.now) }
 {
     let (head, start) = head_at(bytes, 0)?;

@@ -8,7 +8,7 @@ use Rattle.byte_fields.specs.Field.{digits}
 use Rattle.wire_frames.specs.declared.message.Message.{Message}
 use Rattle.wire_frames.specs.declared.head.Head.{Head}
 use Rattle.wire_frames.specs.declared.message.Message.TheVariants as messages
-use Rattle.wire_frames.specs.Frame.{kind, client_of, number_of, entries_of, code_of, frame, IsValid, Spells, Echoes}
+use Rattle.wire_frames.specs.Frame.{kind, client_of, number_of, entry_count, code_of, frame, IsValid, Spells, Echoes}
 use Rattle.wire_frames.specs.Head.{head_of, head_at, entries_told, IsEchoedBy}
 use Rattle.wire_frames.proofs.Frames.{kind_again}
 use Rattle.wire_frames.proofs.Echoing.{kinds_decide}
@@ -18,12 +18,12 @@ unfolding digits
 number_again n small = from_be_bytes-to_be_bytes_8 n small
 
 head_by : (bytes : List ℕ) (m : Message) → leb 15 (length bytes) ≡ true → get_or bytes 5 0 ≡ code_of (kind m) → get_or bytes 6 0 ≡ client_of m
-    → take 8 (drop 7 bytes) ≡ digits w64 (number_of m) → number_of m < 2 ^ 64 → entries_told bytes (kind m) ≡ entries_of m → head_at bytes ≡ Some (head_of m)
+    → take 8 (drop 7 bytes) ≡ digits w64 (number_of m) → number_of m < 2 ^ 64 → entries_told bytes (kind m) ≡ entry_count m → head_at bytes ≡ Some (head_of m)
 head_by bytes m long code client number small entries =
     rw (long, code, kind_again (kind m), client, number, number_again (number_of m) small, entries) refl
 
 -- behind the number of a store's frame stands how many entries it carries
-told_again : (m : Message) → entries_told (frame m) (kind m) ≡ entries_of m
+told_again : (m : Message) → entries_told (frame m) (kind m) ≡ entry_count m
 unfolding digits
 told_again (messages.Store client number ps) = refl
 told_again (messages.Operate client entry) = refl

@@ -232,19 +232,19 @@ MayAnswer (messages.Full client number upto index fault) reply = ⊥
 MayAnswer (messages.Malformed code offset) reply = ⊥
 
 -- how many entries a store carries; 1 for any other message
-abbrev pub entries_of : Message → ℕ
-entries_of (messages.Store client number ps) = length ps
-entries_of (messages.Operate client entry) = 1
-entries_of (messages.Pull client number) = 1
-entries_of (messages.Accepted client number upto) = 1
-entries_of (messages.Stale client number upto p theirs ours) = 1
-entries_of (messages.Unfit client number upto index fault) = 1
-entries_of (messages.Gap client number last) = 1
-entries_of (messages.Snapshot client number last rs) = 1
-entries_of (messages.Done client number) = 1
-entries_of (messages.Declined client number why) = 1
-entries_of (messages.Full client number upto index fault) = 1
-entries_of (messages.Malformed code offset) = 1
+abbrev pub entry_count : Message → ℕ
+entry_count (messages.Store client number ps) = length ps
+entry_count (messages.Operate client entry) = 1
+entry_count (messages.Pull client number) = 1
+entry_count (messages.Accepted client number upto) = 1
+entry_count (messages.Stale client number upto p theirs ours) = 1
+entry_count (messages.Unfit client number upto index fault) = 1
+entry_count (messages.Gap client number last) = 1
+entry_count (messages.Snapshot client number last rs) = 1
+entry_count (messages.Done client number) = 1
+entry_count (messages.Declined client number why) = 1
+entry_count (messages.Full client number upto index fault) = 1
+entry_count (messages.Malformed code offset) = 1
 
 -- the greatest number of an entry of which a reply to a store speaks: the last that is taken, or the one behind it, which is
 -- refused; 0 for any other message
@@ -265,4 +265,4 @@ speaks_upto (messages.Malformed code offset) = 0
 -- The reply may answer the request, is of its client and its number, and speaks of no entry behind those of the request.
 abbrev pub Echoes : Message → Message → Type 0
 Echoes request reply = MayAnswer request reply × (client_of request ≡ client_of reply) × (number_of request ≡ number_of reply)
-    × (speaks_upto reply < number_of request + entries_of request)
+    × (speaks_upto reply < number_of request + entry_count request)

@@ -5,13 +5,13 @@ use Rattle.wire_frames.specs.declared.message.Message.{Message}
 use Rattle.wire_frames.specs.declared.message.Kind.{Kind}
 use Rattle.wire_frames.specs.declared.message.Kind.TheVariants.{Store}
 use Rattle.wire_frames.specs.declared.head.Head.{Head}
-use Rattle.wire_frames.specs.Frame.{kind, client_of, number_of, entries_of, speaks_upto}
+use Rattle.wire_frames.specs.Frame.{kind, client_of, number_of, entry_count, speaks_upto}
 use Rattle.wire_frames.specs.Reading.{kind_of}
 use Rattle.wire_frames.specs.Laws.{IsReplyKind}
 
 -- of which kind a message is, of which client and of which number, and how many entries it carries
 abbrev pub head_of : Message → Head
-head_of m = record { kind = kind m; client = client_of m; number = number_of m; entries = entries_of m }
+head_of m = record { kind = kind m; client = client_of m; number = number_of m; entries = entry_count m }
 
 -- the entries of a store are counted by the byte behind the number
 abbrev pub entries_told : List ℕ → Kind → ℕ

@@ -17,7 +17,7 @@ use Rattle.wire_frames.specs.declared.message.Kind.TheVariants.{Store, Operate, 
 use Rattle.wire_frames.specs.declared.message.Kind.TheVariants.{Full}
 use Rattle.wire_frames.specs.declared.message.FrameError.TheVariants.{BadLength, BadVersion, BadKind, BadClient, BadField, Trailing}
 use Rattle.wire_frames.specs.Frame.{frame_version, kind, client_of, number_of, code_of, client_rule, frame, IsValid}
-use Rattle.wire_frames.specs.Frame.{entries_of, speaks_upto, Echoes}
+use Rattle.wire_frames.specs.Frame.{entry_count, speaks_upto, Echoes}
 use Rattle.wire_frames.specs.Parts.{part_of}
 use Rattle.wire_frames.specs.Fields.{message_fields}
 use Rattle.wire_frames.specs.Reading.{is_sized, frame_of}
@@ -94,4 +94,4 @@ abbrev pub KindsDecideReplies : Type 0
 KindsDecideReplies = (request reply : Message)
     → Echoes request reply
     ↔ (IsReplyKind (kind request) (kind reply) × (client_of request ≡ client_of reply) × (number_of request ≡ number_of reply)
-    × (speaks_upto reply < number_of request + entries_of request))
+    × (speaks_upto reply < number_of request + entry_count request))

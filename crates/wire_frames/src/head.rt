@@ -3,7 +3,7 @@
 ghost use Rattle.std.specs.Prelude.{◌≡◌, ◌↔◌, ◌+◌, ◌<◌, ◌≤◌, IsTrue, length, take, Some};
 ghost use Rattle.std.specs.Int.{w64, from_be_bytes};
 ghost use Rattle.wire_frames.specs.declared.message.Message.{Message};
-ghost use Rattle.wire_frames.specs.Frame.{Spells, entries_of, speaks_upto};
+ghost use Rattle.wire_frames.specs.Frame.{Spells, entry_count, speaks_upto};
 ghost use Rattle.wire_frames.specs.Laws.{IsReplyKind};
 ghost use Rattle.wire_frames.specs.Head.{head_of, head_at, entries_told, IsEchoedBy};
 
@@ -90,7 +90,7 @@ impl Message {
 
     /// How many entries a store carries; 1 for any other message.
     fn entries(&self) -> u64
-        ensures { result ≡ entries_of self.now }
+        ensures { result ≡ entry_count self.now }
     {
         match self {
             Message::Store { entries, .. } => entries.len() as u64,

@@ -20,7 +20,7 @@ use Rattle.wire_frames.specs.declared.message.Message.TheVariants.{Store, Operat
 use Rattle.wire_frames.specs.declared.parts.Part.{Part}
 use Rattle.wire_frames.specs.Parts.{PartFits, PartsFit}
 use Rattle.wire_frames.specs.Frame.{client_of, IsValid}
-use Rattle.world_rules.specs.Served.{Served, TakenEntry, entry_stored, IsServed, with_last, Verdict, Repeated, Early, Outdated, Refused, Taken, judged, verdict, served_after, passes, served_through, verdict_through, is_want_of_room, end_of, reply, answer, state_after, taken_if, taken_through, taken_of}
+use Rattle.world_rules.specs.Served.{Served, TakenEntry, entry_stored, IsServed, with_last, StoreVerdict, Repeated, Early, Outdated, Refused, Taken, judged, verdict, served_after, passes, served_through, verdict_through, is_want_of_room, end_of, reply, answer, state_after, taken_if, taken_through, taken_of}
 use Rattle.world_rules.specs.World.{World, Step, Send, Deliver, Other, Relay, sent, delivered, happens, noted, IsForServer, IsLicensed, IsAllowed}
 use Rattle.world_rules.specs.InStep.{ahead, IsSendable, IsPendingAt, ArePendingAbove, IsFitting, InStep, MaySend, HasNoCollision}
 use Rattle.world_rules.specs.Run.{own, OthersSpare, taken_by}
@@ -72,21 +72,21 @@ raised-own client number last = ap (λ b. if b then number else last client) (eq
 raised-other : (of client number : ℕ) (last : ℕ → ℕ) → of ≢ client → with_last last of number client ≡ last client
 raised-other of client number last differ = ap (λ b. if b then number else last client) (test_other client of (λ e. differ (sym e)))
 
-last-own : (client number : ℕ) (judgement : Verdict) (served : Served) → (served_after client number judgement served).last client ≡ last_after number (served.last client) judgement
+last-own : (client number : ℕ) (judgement : StoreVerdict) (served : Served) → (served_after client number judgement served).last client ≡ last_after number (served.last client) judgement
 last-own client number Repeated served = refl
 last-own client number Early served = refl
 last-own client number (Outdated conflict) served = refl
 last-own client number (Refused cause) served = refl
 last-own client number (Taken volume) served = raised-own client number served.last
 
-volume-own : (of number : ℕ) (judgement : Verdict) (served : Served) → (served_after of number judgement served).volume ≡ volume_after served.volume judgement
+volume-own : (of number : ℕ) (judgement : StoreVerdict) (served : Served) → (served_after of number judgement served).volume ≡ volume_after served.volume judgement
 volume-own of number Repeated served = refl
 volume-own of number Early served = refl
 volume-own of number (Outdated conflict) served = refl
 volume-own of number (Refused cause) served = refl
 volume-own of number (Taken volume) served = refl
 
-client-reply : (of number end last : ℕ) (judgement : Verdict) → client_of (reply of number end last judgement) ≡ of
+client-reply : (of number end last : ℕ) (judgement : StoreVerdict) → client_of (reply of number end last judgement) ≡ of
 client-reply of number end last Repeated = refl
 client-reply of number end last Early = refl
 client-reply of number end last (Outdated conflict) = refl
@@ -131,21 +131,21 @@ other_same client log served of number effects base path differ false false None
     ∙ sym (version-untouched effects served.volume path (spared (entry_stored of number effects base) (inl refl) differ))
     ∙ ap (λ v. version_at v path) (sym (applied-changes effects 0 served.volume after d))
 
-own-own : (client number : ℕ) (effects : List Effect) (base : List Base) (judgement : Verdict) → own client (taken_if judgement (entry_stored client number effects base)) ≡ taken_if judgement (entry_stored client number effects base)
+own-own : (client number : ℕ) (effects : List Effect) (base : List Base) (judgement : StoreVerdict) → own client (taken_if judgement (entry_stored client number effects base)) ≡ taken_if judgement (entry_stored client number effects base)
 own-own client number effects base Repeated = refl
 own-own client number effects base Early = refl
 own-own client number effects base (Outdated conflict) = refl
 own-own client number effects base (Refused cause) = refl
 own-own client number effects base (Taken volume) = ap (λ b. if b then entry_stored client number effects base ∷ [] else []) (eq_itself client)
 
-own-other : (client of number : ℕ) (effects : List Effect) (base : List Base) → of ≢ client → (judgement : Verdict) → own client (taken_if judgement (entry_stored of number effects base)) ≡ []
+own-other : (client of number : ℕ) (effects : List Effect) (base : List Base) → of ≢ client → (judgement : StoreVerdict) → own client (taken_if judgement (entry_stored of number effects base)) ≡ []
 own-other client of number effects base differ Repeated = refl
 own-other client of number effects base differ Early = refl
 own-other client of number effects base differ (Outdated conflict) = refl
 own-other client of number effects base differ (Refused cause) = refl
 own-other client of number effects base differ (Taken volume) = ap (λ b. if b then entry_stored of number effects base ∷ [] else []) (test_other of client differ)
 
-last-other : (client of number : ℕ) → of ≢ client → (judgement : Verdict) (served : Served) → (served_after of number judgement served).last client ≡ served.last client
+last-other : (client of number : ℕ) → of ≢ client → (judgement : StoreVerdict) (served : Served) → (served_after of number judgement served).last client ≡ served.last client
 last-other client of number differ Repeated served = refl
 last-other client of number differ Early served = refl
 last-other client of number differ (Outdated conflict) served = refl
@@ -179,7 +179,7 @@ module _ (client : ℕ) (log : Log) (packets : List Message) where
   -- ---- of the client's own store
 
   -- what is agreed on after one entry, and what the verdict on it says
-  record OneOwn (number : ℕ) (served : Served) (stored : TakenEntry) (judgement : Verdict) : Type 0 where
+  record OneOwn (number : ℕ) (served : Served) (stored : TakenEntry) (judgement : StoreVerdict) : Type 0 where
     passed : Passed client log packets served (served_after client number judgement served) (taken_if judgement stored)
     up : passes judgement ≡ true → number ≤ (served_after client number judgement served).last client
     fits : passes judgement ≡ false → (of end : ℕ) → IsFitting log (served.last client) served.volume (reply client of end (served.last client) judgement)
@@ -206,7 +206,7 @@ module _ (client : ℕ) (log : Log) (packets : List Message) where
       }
 
   -- what is agreed on after entries of the client, and that the reply which ends them fits, whatever the store's own number
-  record AllOwn (number : ℕ) (parts : List Part) (served next : Served) (taken : List TakenEntry) (judgement : Verdict) : Type 0 where
+  record AllOwn (number : ℕ) (parts : List Part) (served next : Served) (taken : List TakenEntry) (judgement : StoreVerdict) : Type 0 where
     passed : Passed client log packets served next taken
     fits : (of : ℕ) → IsFitting log (next.last client) next.volume (reply client of (end_of number parts) (next.last client) judgement)
 
@@ -225,14 +225,14 @@ module _ (client : ℕ) (log : Log) (packets : List Message) where
       ends : end_of (number + 1) parts ≡ end_of number (part ∷ parts)
       ends = omega arith
 
-      going : (j : Verdict) → Passed client log packets served (served_after client number j served) (taken_if j (entry_stored client number part.effects part.base)) → AllOwn (number + 1) parts (served_after client number j served) (served_through client (number + 1) parts (served_after client number j served)) (taken_through client (number + 1) parts (served_after client number j served)) (verdict_through client (number + 1) parts (served_after client number j served))
+      going : (j : StoreVerdict) → Passed client log packets served (served_after client number j served) (taken_if j (entry_stored client number part.effects part.base)) → AllOwn (number + 1) parts (served_after client number j served) (served_through client (number + 1) parts (served_after client number j served)) (taken_through client (number + 1) parts (served_after client number j served)) (verdict_through client (number + 1) parts (served_after client number j served))
           → AllOwn number (part ∷ parts) served (served_through client (number + 1) parts (served_after client number j served)) (taken_if j (entry_stored client number part.effects part.base) ++ taken_through client (number + 1) parts (served_after client number j served)) (verdict_through client (number + 1) parts (served_after client number j served))
       going j one rest = record {
         passed = passed_then served (served_after client number j served) (served_through client (number + 1) parts (served_after client number j served)) (taken_if j (entry_stored client number part.effects part.base)) (taken_through client (number + 1) parts (served_after client number j served)) one rest.passed;
         fits = λ of. subst (λ (end : ℕ). let last = served_through client (number + 1) parts (served_after client number j served) in IsFitting log (last.last client) last.volume (reply client of end (last.last client) (verdict_through client (number + 1) parts (served_after client number j served)))) ends (rest.fits of);
       }
 
-      by : (j : Verdict) → OneOwn number served (entry_stored client number part.effects part.base) j
+      by : (j : StoreVerdict) → OneOwn number served (entry_stored client number part.effects part.base) j
           → (number ≤ (served_after client number j served).last client → AllOwn (number + 1) parts (served_after client number j served) (served_through client (number + 1) parts (served_after client number j served)) (taken_through client (number + 1) parts (served_after client number j served)) (verdict_through client (number + 1) parts (served_after client number j served)))
           → AllOwn number (part ∷ parts) served (if passes j then served_through client (number + 1) parts (served_after client number j served) else served_after client number j served)
           (taken_if j (entry_stored client number part.effects part.base) ++ (if passes j then taken_through client (number + 1) parts (served_after client number j served) else []))
@@ -264,7 +264,7 @@ module _ (client : ℕ) (log : Log) (packets : List Message) where
       let first = one_other of number part.effects part.base served differ (legal_each part.effects fits.0.0.each) now in
       by judgement first (all_other of (number + 1) parts (served_after of number judgement served) differ fits.1 first.state)
     where
-      by : (j : Verdict) → Passed client log packets served (served_after of number j served) (taken_if j (entry_stored of number part.effects part.base))
+      by : (j : StoreVerdict) → Passed client log packets served (served_after of number j served) (taken_if j (entry_stored of number part.effects part.base))
           → Passed client log packets (served_after of number j served) (served_through of (number + 1) parts (served_after of number j served)) (taken_through of (number + 1) parts (served_after of number j served))
           → Passed client log packets served (if passes j then served_through of (number + 1) parts (served_after of number j served) else served_after of number j served) (taken_if j (entry_stored of number part.effects part.base) ++ (if passes j then taken_through of (number + 1) parts (served_after of number j served) else []))
       by Repeated one rest = rest

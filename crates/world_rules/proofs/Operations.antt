@@ -9,7 +9,7 @@ use Rattle.wire_frames.specs.declared.message.Message.{Message}
 use Rattle.wire_frames.specs.declared.message.Message.TheVariants.{Store, Operate, Pull, Unfit, Full}
 use Rattle.wire_frames.specs.Frame.{client_of}
 use Rattle.world_rules.specs.declared.asking.Ask.{Ask}
-use Rattle.world_rules.specs.Served.{Served, Verdict, Repeated, Early, Outdated, Refused, Taken, served_through, verdict_through, is_want_of_room, end_of, reply, answer}
+use Rattle.world_rules.specs.Served.{Served, StoreVerdict, Repeated, Early, Outdated, Refused, Taken, served_through, verdict_through, is_want_of_room, end_of, reply, answer}
 use Rattle.world_rules.specs.World.{Step, Send, Deliver, Other, Relay, happens, IsForServer, IsLicensed, IsAllowed}
 use Rattle.world_rules.specs.InStep.{MaySend, HasNoOperation, HasNoCollision}
 use Rattle.world_rules.specs.Run.{State, Move, Network, Notes, Logs, Acknowledges, Pulls, Saves, moved, IsPossible, AllPossible, moved_by, MaySendKept, Runs}
@@ -35,7 +35,7 @@ other_is_none : (client : ℕ) (message : Message) → client_of message ≢ cli
 other_is_none client (Operate of sketched) differs is = differs is
 other_is_none client _ differs is = is
 
-reply_is_none : (client of number end last : ℕ) (judgement : Verdict) → IsOperation client (reply of number end last judgement) → ⊥
+reply_is_none : (client of number end last : ℕ) (judgement : StoreVerdict) → IsOperation client (reply of number end last judgement) → ⊥
 reply_is_none client of number end last Repeated is = is
 reply_is_none client of number end last Early is = is
 reply_is_none client of number end last (Outdated conflict) is = is

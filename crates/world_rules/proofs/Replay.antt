@@ -4,7 +4,7 @@ use Rattle.wire_frames.specs.declared.parts.Part.{Part}
 use Rattle.std.proofs.Common.{◌≡◌, ℕ, ◌+◌, Bool, List, [], ◌∷◌, ◌++◌, refl, sym, ◌∙◌, ap, subst}
 use Rattle.wire_frames.specs.declared.message.Message.{Message}
 use Rattle.wire_frames.specs.declared.message.Message.TheVariants.{Store, Pull}
-use Rattle.world_rules.specs.Served.{Served, TakenEntry, entry_stored, Verdict, Repeated, Early, Outdated, Refused, Taken, verdict, served_after, passes, served_through, state_after, taken_if, taken_through, taken_of, state_behind, replay}
+use Rattle.world_rules.specs.Served.{Served, TakenEntry, entry_stored, StoreVerdict, Repeated, Early, Outdated, Refused, Taken, verdict, served_after, passes, served_through, state_after, taken_if, taken_through, taken_of, state_behind, replay}
 use Rattle.mod_log.specs.declared.log.Entry.{Entry}
 use Rattle.world_rules.specs.declared.asking.Ask.{Ask}
 use Rattle.world_rules.specs.World.{World, Step, Send, Deliver, Other, Relay, happens, happen, IsReplayed}
@@ -14,7 +14,7 @@ pub replay-append : (xs ys : List TakenEntry) (served : Served) → replay (xs +
 replay-append [] ys served = refl
 replay-append (x ∷ xs) ys served = replay-append xs ys (state_behind x served)
 
-replay_if : (of number : ℕ) (effects : _) (base : _) (served : Served) (judgement : Verdict) → verdict of number effects base served ≡ judgement → replay (taken_if judgement (entry_stored of number effects base)) served ≡ served_after of number judgement served
+replay_if : (of number : ℕ) (effects : _) (base : _) (served : Served) (judgement : StoreVerdict) → verdict of number effects base served ≡ judgement → replay (taken_if judgement (entry_stored of number effects base)) served ≡ served_after of number judgement served
 replay_if of number effects base served Repeated is = refl
 replay_if of number effects base served Early is = refl
 replay_if of number effects base served (Outdated conflict) is = refl
@@ -28,7 +28,7 @@ replay-through of number (part ∷ parts) served =
     let judgement = verdict of number part.effects part.base served in
     by judgement (replay_if of number part.effects part.base served judgement refl) (replay-through of (number + 1) parts (served_after of number judgement served))
   where
-    by : (j : Verdict) → replay (taken_if j (entry_stored of number part.effects part.base)) served ≡ served_after of number j served
+    by : (j : StoreVerdict) → replay (taken_if j (entry_stored of number part.effects part.base)) served ≡ served_after of number j served
         → replay (taken_through of (number + 1) parts (served_after of number j served)) (served_after of number j served) ≡ served_through of (number + 1) parts (served_after of number j served)
         → replay (taken_if j (entry_stored of number part.effects part.base) ++ (if passes j then taken_through of (number + 1) parts (served_after of number j served) else [])) served
         ≡ (if passes j then served_through of (number + 1) parts (served_after of number j served) else served_after of number j served)

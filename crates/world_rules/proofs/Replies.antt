@@ -23,7 +23,7 @@ use Rattle.wire_frames.specs.declared.message.Message.{Message}
 use Rattle.wire_frames.specs.declared.message.Message.TheVariants.{Store, Pull, Accepted, Unfit, Full}
 use Rattle.wire_frames.specs.declared.parts.Part.{Part}
 use Rattle.wire_frames.specs.Parts.{PartFits}
-use Rattle.world_rules.specs.Served.{Served, IsServed, with_last, Verdict, Repeated, Early, Outdated, Refused, Taken, judged, verdict, served_after, passes, served_through, verdict_through, is_want_of_room, refusal, end_of, reply, answer, state_after}
+use Rattle.world_rules.specs.Served.{Served, IsServed, with_last, StoreVerdict, Repeated, Early, Outdated, Refused, Taken, judged, verdict, served_after, passes, served_through, verdict_through, is_want_of_room, refusal, end_of, reply, answer, state_after}
 use Rattle.world_rules.specs.World.{IsForServer}
 use Rattle.world_rules.proofs.Sending.{some_parts, small_parts}
 use Rattle.byte_fields.proofs.Facts.{eq_itself, le_holds, le_of, lt_of, not_lt_of}
@@ -253,7 +253,7 @@ module _ (client number end : ℕ) (client_fits : (nat_le 1 client && nat_le cli
 
   -- What the verdict on the entry of number `n` says: what is served then is legal, where the next is looked at, too, this one is
   -- taken, and where it is not, a valid reply is given.
-  pub record IsSound (n : ℕ) (s : Served) (judgement : Verdict) : Type 0 where
+  pub record IsSound (n : ℕ) (s : Served) (judgement : StoreVerdict) : Type 0 where
     pub legal : IsServed (served_after client n judgement s)
     pub up : passes judgement ≡ true → n ≤ (served_after client n judgement s).last client
     pub valid : passes judgement ≡ false → IsValid (reply client number end (s.last client) judgement)
@@ -302,7 +302,7 @@ module _ (client number end : ℕ) (client_fits : (nat_le 1 client && nat_le cli
 
   -- ---- the entries of a store
 
-  record AreSound (next : Served) (judgement : Verdict) : Type 0 where
+  record AreSound (next : Served) (judgement : StoreVerdict) : Type 0 where
     legal : IsServed next
     valid : IsValid (reply client number end (next.last client) judgement)
 
@@ -314,7 +314,7 @@ module _ (client number end : ℕ) (client_fits : (nat_le 1 client && nat_le cli
       let first = entry_sound n part s fits.0 served low (omega (arith, small)) next in
       by judgement first (λ up. entries_sound (n + 1) parts (served_after client n judgement s) fits.1 first.legal (omega (arith, low)) (omega (arith, small)) (inr (omega (arith, up))))
     where
-      by : (j : Verdict) → IsSound n s j → (n ≤ (served_after client n j s).last client → AreSound (served_through client (n + 1) parts (served_after client n j s)) (verdict_through client (n + 1) parts (served_after client n j s)))
+      by : (j : StoreVerdict) → IsSound n s j → (n ≤ (served_after client n j s).last client → AreSound (served_through client (n + 1) parts (served_after client n j s)) (verdict_through client (n + 1) parts (served_after client n j s)))
           → AreSound (if passes j then served_through client (n + 1) parts (served_after client n j s) else served_after client n j s) (if passes j then verdict_through client (n + 1) parts (served_after client n j s) else j)
       by Repeated one rest = rest (one.up refl)
       by (Taken volume) one rest = rest (one.up refl)

@@ -17,7 +17,7 @@ use Rattle.mod_log.specs.Log.{Log, tree_at, IsLog}
 use Rattle.wire_frames.specs.declared.message.Message.{Message}
 use Rattle.wire_frames.specs.declared.message.Message.TheVariants.{Store, Operate, Pull, Accepted, Stale, Unfit, Gap, Snapshot, Done, Declined, Full, Malformed}
 use Rattle.wire_frames.specs.Frame.{client_of}
-use Rattle.world_rules.specs.Served.{TakenEntry, entry_stored, Verdict, Taken, judged, passes, is_want_of_room, reply, taken_if}
+use Rattle.world_rules.specs.Served.{TakenEntry, entry_stored, StoreVerdict, Taken, judged, passes, is_want_of_room, reply, taken_if}
 use Rattle.world_rules.specs.InStep.{ahead, IsTakenUpTo, IsPendingAt, IsRefusedBehind, IsFitting}
 use Rattle.world_rules.proofs.Asks.{IsIn-push}
 use Rattle.world_rules.proofs.Next.{IsNext, tree_at-next, next_within, next_fits, next_pending, above_later, TakesInOrder}
@@ -117,16 +117,16 @@ module _ (client : ℕ) (log : Log) (last : ℕ) (entry : Entry) (low : log.acke
 
 -- ---- the verdict on an entry of the client's store
 
-abbrev pub last_after : ℕ → ℕ → Verdict → ℕ
+abbrev pub last_after : ℕ → ℕ → StoreVerdict → ℕ
 last_after number last (Taken volume) = number
 last_after number last _ = last
 
-abbrev pub volume_after : Volume → Verdict → Volume
+abbrev pub volume_after : Volume → StoreVerdict → Volume
 volume_after volume (Taken after) = after
 volume_after volume _ = volume
 
 -- What is agreed on holds after the verdict, and a reply that tells it fits.
-pub record Judged (client : ℕ) (log : Log) (last : ℕ) (volume : Volume) (packets : List Message) (number : ℕ) (stored : TakenEntry) (judgement : Verdict) : Type 0 where
+pub record Judged (client : ℕ) (log : Log) (last : ℕ) (volume : Volume) (packets : List Message) (number : ℕ) (stored : TakenEntry) (judgement : StoreVerdict) : Type 0 where
   pub state : Agree client log (last_after number last judgement) (volume_after volume judgement) packets
   pub taken : TakesInOrder client log last (last_after number last judgement) (taken_if judgement stored)
   -- where the next entry is looked at, too, this one is taken

@@ -12,7 +12,7 @@ use Rattle.wire_frames.specs.declared.message.Message.{Message}
 use Rattle.wire_frames.specs.declared.message.Message.TheVariants.{Store, Operate, Pull, Stale, Unfit, Full}
 use Rattle.wire_frames.specs.Frame.{client_of}
 use Rattle.world_rules.specs.declared.asking.Ask.{Ask}
-use Rattle.world_rules.specs.Served.{Served, Verdict, Repeated, Early, Outdated, Refused, Taken, served_through, verdict_through, is_want_of_room, end_of, reply, answer}
+use Rattle.world_rules.specs.Served.{Served, StoreVerdict, Repeated, Early, Outdated, Refused, Taken, served_through, verdict_through, is_want_of_room, end_of, reply, answer}
 use Rattle.world_rules.specs.World.{World, Step, Send, Deliver, Other, Relay, happens, IsForServer, IsLicensed, IsAllowed}
 use Rattle.world_rules.specs.InStep.{InStep, MaySend, IsRefusal, HasNoCollision}
 use Rattle.world_rules.specs.Run.{State, Move, Network, Notes, Logs, Acknowledges, Pulls, Saves, moved, IsPossible, AllPossible, moved_by, entry_in, ask_in, taken_in_move, taken_in, AreAllOf, Runs}
@@ -53,7 +53,7 @@ refused_before client log world now same number message is among = by (nat_le nu
 
 -- ---- a refusal that the server gives is of the entry behind those that it has taken
 
-refuses_next : (client number of stored end last : ℕ) (judgement : Verdict) → IsRefusal client number (reply of stored end last judgement) → (of ≡ client) × (last + 1 ≡ number)
+refuses_next : (client number of stored end last : ℕ) (judgement : StoreVerdict) → IsRefusal client number (reply of stored end last judgement) → (of ≡ client) × (last + 1 ≡ number)
 refuses_next client number of stored end last Repeated is = absurd is
 refuses_next client number of stored end last Early is = absurd is
 refuses_next client number of stored end last (Outdated conflict) is = is

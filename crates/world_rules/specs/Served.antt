@@ -32,16 +32,16 @@ abbrev pub with_last : (ℕ → ℕ) → ℕ → ℕ → (ℕ → ℕ)
 with_last last client number other = if other == client then number else last other
 
 -- what becomes of an entry of a store
-pub data Verdict : Type 0 where
-  Repeated : Verdict
-  Early : Verdict
-  Outdated : Conflict → Verdict
-  Refused : ℕ × TreeError → Verdict
-  Taken : Volume → Verdict
+pub data StoreVerdict : Type 0 where
+  Repeated : StoreVerdict
+  Early : StoreVerdict
+  Outdated : Conflict → StoreVerdict
+  Refused : ℕ × TreeError → StoreVerdict
+  Taken : Volume → StoreVerdict
 
 -- by cases, in this order: the number was accepted before; it is beyond the next; a version of the base is not the
 -- volume's; an effect is refused; else the effects are applied
-abbrev pub judged : Bool → Bool → Option Conflict → Result Volume (ℕ × TreeError) → Verdict
+abbrev pub judged : Bool → Bool → Option Conflict → Result Volume (ℕ × TreeError) → StoreVerdict
 judged true beyond conflict applied = Repeated
 judged false true conflict applied = Early
 judged false false (Some conflict) applied = Outdated conflict
@@ -49,7 +49,7 @@ judged false false None (Err refusal) = Refused refusal
 judged false false None (Ok volume) = Taken volume
 
 -- what becomes of an entry of this client, with this number, these effects and this base
-abbrev pub verdict : ℕ → ℕ → List Effect → List Base → Served → Verdict
+abbrev pub verdict : ℕ → ℕ → List Effect → List Base → Served → StoreVerdict
 verdict client number effects base served =
     judged
     (nat_le number (served.last client))
@@ -58,14 +58,14 @@ verdict client number effects base served =
     (apply_all 0 effects served.volume)
 
 -- the served state after an entry
-abbrev pub served_after : ℕ → ℕ → Verdict → Served → Served
+abbrev pub served_after : ℕ → ℕ → StoreVerdict → Served → Served
 served_after client number (Taken volume) served = record { volume = volume; last = with_last served.last client number }
 served_after client number _ served = served
 
 -- ---- the entries of a store, one after the other
 
 -- whether the next entry is looked at, too: this one is taken, now or before
-abbrev pub passes : Verdict → Bool
+abbrev pub passes : StoreVerdict → Bool
 passes Repeated = true
 passes (Taken volume) = true
 passes _ = false
@@ -79,7 +79,7 @@ served_through client number (part ∷ parts) served =
     if passes judgement then served_through client (number + 1) parts next else next
 
 -- what becomes of the first of them that is not taken; where all are, the last is as one that was taken before
-abbrev pub verdict_through : ℕ → ℕ → List Part → Served → Verdict
+abbrev pub verdict_through : ℕ → ℕ → List Part → Served → StoreVerdict
 verdict_through client number [] served = Repeated
 verdict_through client number (part ∷ parts) served =
     let judgement = verdict client number part.effects part.base served in
@@ -101,7 +101,7 @@ refusal client number upto index fault =
 
 -- The reply to a store of this number, which ends with entry `end`, where `last` is the number of the client's last accepted entry
 -- once the store was gone through, and the verdict is that on the first of its entries that is not taken.
-abbrev pub reply : ℕ → ℕ → ℕ → ℕ → Verdict → Message
+abbrev pub reply : ℕ → ℕ → ℕ → ℕ → StoreVerdict → Message
 reply client number end last Repeated = Accepted client number end
 reply client number end last Early = Gap client number last
 reply client number end last (Outdated conflict) = Stale client number last conflict.path conflict.theirs conflict.ours
@@ -139,7 +139,7 @@ abbrev pub entry_stored : ℕ → ℕ → List Effect → List Base → TakenEnt
 entry_stored client number effects base = record { client = client; number = number; effects = effects; base = base }
 
 -- the entry, where the verdict on it is that it is taken
-abbrev pub taken_if : Verdict → TakenEntry → List TakenEntry
+abbrev pub taken_if : StoreVerdict → TakenEntry → List TakenEntry
 taken_if (Taken volume) entry = entry ∷ []
 taken_if _ entry = []
 

@@ -1,6 +1,6 @@
 use Rattle.std.proofs.Common.{rules, ◌≡◌, Bool, false, true, ◌++◌, ◌∷◌, [], Some, Ok, Err, refl, sym, ap, ◌∙◌, subst, arith}
 use Rattle.std.proofs.lemmas.Result.{err_from_is_err_and}
-use Rattle.shell_lang.specs.Lines.{whole_lines, parts}
+use Rattle.shell_lang.specs.Lines.{whole_lines, cut_lines}
 use Rattle.cmd_capture.specs.Runs.{telling}
 use Rattle.client_session.specs.Session.{state_of}
 use Rattle.client_session.specs.Doing.{beside}
@@ -27,7 +27,7 @@ loop-reader-init g c =
     let reader = c.new-reader.result in
     record {
       few = omega (arith, ap (λ (x : Reading). x.count) c.new-reader.ensures);
-      no_line = ap (λ (x : Reading). parts x.bytes) c.new-reader.ensures ∙ ap (λ (x : Reading). x.bytes ∷ []) (sym c.new-reader.ensures);
+      no_line = ap (λ (x : Reading). cut_lines x.bytes) c.new-reader.ensures ∙ ap (λ (x : Reading). x.bytes ∷ []) (sym c.new-reader.ensures);
       taken = ([], reads_none left reader c.new-reader.ensures);
       later = omega arith;
       runner_later = omega arith;

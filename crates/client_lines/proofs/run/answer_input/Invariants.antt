@@ -1,5 +1,5 @@
 use Rattle.std.proofs.Common.{◌≡◌, ◌≤◌, ◌-◌, ℕ, List, [], ◌∷◌}
-use Rattle.shell_lang.specs.Lines.{parts}
+use Rattle.shell_lang.specs.Lines.{cut_lines}
 use Rattle.client_core.specs.Keeping.{IsKeptReady}
 use Rattle.cmd_capture.specs.Runs.{telling}
 use Rattle.client_session.specs.Session.{state_of}
@@ -12,7 +12,7 @@ use Rattle.client_lines.proofs.run.answer_input.Given as goal
 abbrev pub invariant-loop-reader : goal.invariant-loop-reader
 invariant-loop-reader g l = record {
   few : l.reader.count ≤ max_input;
-  no_line : parts l.reader.bytes ≡ l.reader.bytes ∷ [];
+  no_line : cut_lines l.reader.bytes ≡ l.reader.bytes ∷ [];
   taken : (behind : List (List ℕ)) × ReadsSoFar (g.I.Source.left l.fn.input) (g.I.Source.left l.input) l.reader behind;
   later : (g.L.Link.tells l.fn.link).troubles ≤ (g.L.Link.tells l.link).troubles;
   runner_later : g.R.Runner.faults l.fn.runner ≤ g.R.Runner.faults l.runner;

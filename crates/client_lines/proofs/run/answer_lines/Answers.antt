@@ -1,6 +1,6 @@
 use Rattle.std.proofs.Common.{◌≡◌, Bool, true, false, [], ◌∷◌, ◌++◌, Ok, Err, refl, sym, ap, ◌∙◌, arith}
 use Rattle.std.proofs.lemmas.Result.{err_from_is_err_and}
-use Rattle.shell_lang.specs.Lines.{whole_lines, BeginsWithLine, parts}
+use Rattle.shell_lang.specs.Lines.{whole_lines, BeginsWithLine, cut_lines}
 use Rattle.shell_lang.proofs.Cutting.{all_lines_taken}
 use Rattle.cmd_capture.specs.Runs.{telling}
 use Rattle.client_session.specs.Session.{state_of}
@@ -133,7 +133,7 @@ returns-clause-did g c =
     let m = g.O.Sink.written c.loop-line.output in
     let bytes = c.args.reader.now.bytes in
     let left = c.loop-line.reader.bytes in
-    let none : parts left ≡ left ∷ [] = c.in_default.ensures in
+    let none : cut_lines left ≡ left ∷ [] = c.in_default.ensures in
     noting_as r {E = Stop} (Ok false) (AnswersFront r a bytes left o m b) (AnswersLines r a (up_to_quit (whole_lines bytes)) o m (Ok false) b) c.args.session.now c.loop-line.session (g.K.Keeper.images c.args.keeper.now) (g.K.Keeper.images c.loop-line.keeper)
     (beside (g.L.Link.tells c.args.link.now) (telling (g.R.Runner.runs c.args.runner.now) (g.R.Runner.faults c.args.runner.now))) (beside (g.L.Link.tells c.loop-line.link) (telling (g.R.Runner.runs c.loop-line.runner) (g.R.Runner.faults c.loop-line.runner))) c.loop-line.invariant.did
     (λ p front. (front_done r a bytes o left b m p none front, refl))
@@ -146,7 +146,7 @@ returns-clause-quit g c =
 pub returns-clause-left : goal.returns-clause-left
 returns-clause-left g c =
     let left = c.loop-line.reader.bytes in
-    let none : parts left ≡ left ∷ [] = c.in_default.ensures in
+    let none : cut_lines left ≡ left ∷ [] = c.in_default.ensures in
     λ on. record {
       bytes = sym (all_lines_taken c.loop-line.invariant.cut.0 c.args.reader.now.bytes left c.loop-line.invariant.cut.1.0 none).1;
       no_line = none;

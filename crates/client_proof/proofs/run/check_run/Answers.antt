@@ -4,7 +4,7 @@ use Rattle.tree_proof.specs.Checking.{checked}
 use Rattle.client_lines.specs.declared.input.InputEnd.{InputEnd}
 use Rattle.client_lines.specs.declared.input.InputEnd.TheVariants.{Read, Failed, TooLong}
 use Rattle.client_proof.specs.Ending.{StreamFaults, CheckEnds}
-use Rattle.client_proof.specs.Inside.{ReadsAll, Tells}
+use Rattle.client_proof.specs.Inside.{ReadsAll, TellsFinding}
 use Rattle.client_proof.proofs.Ends.{ends_failed, ends_long, ends_unread, ends_told}
 use Rattle.client_proof.proofs.run.check_run.Goals.{in-Ok-Read, in-Ok-Failed, in-Ok-TooLong, in-Err}
 use Rattle.client_proof.proofs.run.check_run.Goals as goal
@@ -24,7 +24,7 @@ returns g c =
       | in-Ok-Read w ↦
           let is : c.read_all.result ≡ Ok Read = w.in-Ok-Read.is ∙ ap (λ (e : InputEnd). Ok e) w.in-Ok-Read.field-0-is in
           let reads : ReadsAll left rest bytes Read = subst (ReadsAll left rest bytes) w.in-Ok-Read.field-0-is w.in-Ok-Read.ensures.ok in
-          let tells = subst (λ (b : List ℕ). Tells (checked r p b) w.tell-status.result written (g.O.Sink.written w.tell-status.new.output)) w.deref.ensures.value w.tell-status.ensures.tells in
+          let tells = subst (λ (b : List ℕ). TellsFinding (checked r p b) w.tell-status.result written (g.O.Sink.written w.tell-status.new.output)) w.deref.ensures.value w.tell-status.ensures.tells in
           let told : StreamFaults = record { source = after.source; sink = g.O.Sink.faults w.tell-status.new.output } in
           let same : after.source ≡ before.source = c.read_all.ensures.cause.never (λ failed. absurd (cc (is, failed))) in
           rw (c.code.ensures, w.status-is, w.output-is) (ends_told r p left rest written (g.O.Sink.written w.tell-status.new.output) before told bytes reads same w.tell-status.result w.tell-status.ensures.cause tells)

@@ -1,6 +1,6 @@
 use Rattle.std.proofs.Common.{Some, ap}
-use Rattle.surrogate_core.specs.declared.step.Step.{Step}
-use Rattle.surrogate_core.specs.declared.machine.State.TheVariants.{Idle}
+use Rattle.surrogate_core.specs.declared.step.NextStep.{NextStep}
+use Rattle.surrogate_core.specs.declared.machine.Stage.TheVariants.{Idle}
 use Rattle.surrogate_core.specs.Serving.{failed_step}
 use Rattle.surrogate_core.specs.Inside.{reaction_of}
 use Rattle.surrogate_core.proofs.Faults.{store_valid}
@@ -24,5 +24,5 @@ returns-in-Err-replayed-clause-err g c =
 pub returns-in-Failed-clause-ok : goal.returns-in-Failed-clause-ok
 returns-in-Failed-clause-ok g c = λ pulled.
     failed_tries pulled c.args.copy.now c.args.client c.args.sketched c.args.work.now c.args.job c.requires.job _ _ (reaction_of c.declined.result Idle c.args.copy.now)
-    (ap (λ (step : Step). reaction_of step Idle c.args.copy.now) c.declined.ensures.step) (ap failed_step c.declined.ensures.step)
+    (ap (λ (step : NextStep). reaction_of step Idle c.args.copy.now) c.declined.ensures.step) (ap failed_step c.declined.ensures.step)
     (ran_refused c.args.work.now c.args.job _ _ _ _ c.in-Err.error c.in-Failed.is c.in-Err.ensures.runs c.in-Err.ensures.cause)

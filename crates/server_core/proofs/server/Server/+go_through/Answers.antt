@@ -2,7 +2,7 @@ use Rattle.std.proofs.Common.{◌≡◌, ◌+◌, ◌≤◌, ℕ, List, ◌∷�
 use Rattle.wire_frames.specs.declared.parts.Part.{Part}
 use Rattle.wire_frames.specs.declared.message.Message.{Message}
 use Rattle.wire_frames.specs.Frame.{IsValid}
-use Rattle.world_rules.specs.Served.{IsServed, Verdict, Refused, verdict, taken_through}
+use Rattle.world_rules.specs.Served.{IsServed, StoreVerdict, Refused, verdict, taken_through}
 use Rattle.server_core.specs.declared.server.Looked.{Looked}
 use Rattle.server_core.specs.Holding.{Holding, served}
 use Rattle.server_core.specs.Framing.{is_any}
@@ -99,7 +99,7 @@ returns-in-Refused-clause-ok t c =
     let j = verdict store.client (store.number + done) entry.effects entry.base s in
     let looked = subst (λ (l : Looked). IsLookedAs j l) c.in-Refused.is c.in_ok-look.ensures.ok in
     let is = seen_refused j c.in-Refused.index c.in-Refused.fault looked in
-    let judgement : Verdict = Refused (c.in-Refused.index, c.in-Refused.fault) in
+    let judgement : StoreVerdict = Refused (c.in-Refused.index, c.in-Refused.fault) in
     let told = c.refusal.ensures ∙ ap (λ (n : ℕ). reply_to store n judgement) c.last-before.ensures.last ∙ ends_reply store done entry later s judgement is refl refl ∙ sym (ap (λ (l : List Part). reply_through store done l s) split) in
     subst (λ (m : Message). IfOk c.framed-in-Refused.result (IsAnsweredBy m)) told c.framed-in-Refused.ensures
 

@@ -1,4 +1,4 @@
-use Rattle.surrogate_core.specs.declared.step.Step.TheVariants as steps
+use Rattle.surrogate_core.specs.declared.step.NextStep.TheVariants as steps
 use Rattle.surrogate_core.proofs.Calls.{calls_then, fetched_once}
 use Rattle.surrogate_core.proofs.Served.{first_step, same_step, awaited, waits_again, answered, goes_on, broken_off}
 use Rattle.surrogate_core.proofs.machine.Surrogate.serve.Goals as goal
