@@ -9,6 +9,6 @@ abbrev pub raw_size : List RawRow → ℕ
 raw_size rows = sum_by (λ row. node_size (Some row.node)) rows
 
 -- no more rows, and no more bytes in their files, than a tree has
-pub record IsSmall (rows : List RawRow) : Type 0 where
+pub record HasTreeSize (rows : List RawRow) : Type 0 where
   pub few : length rows ≤ max_rows
   pub small : raw_size rows ≤ max_files

@@ -2,7 +2,7 @@
 ghost use Rattle.std.specs.Prelude.{◌≡◌, ◌≤◌, ◌+◌, ◌++◌, ◌∷◌, [], length, Some, OnOk};
 ghost use Rattle.tree_values.specs.Tree.{node_size};
 ghost use Rattle.tree_values.specs.Limits.{max_rows, max_files};
-ghost use Rattle.child_runner.specs.Found.{raw_size, IsSmall};
+ghost use Rattle.child_runner.specs.Found.{raw_size, HasTreeSize};
 
 use crate::trouble::RunTrouble;
 use cmd_capture::{RawRow, RawRows};
@@ -31,13 +31,13 @@ pub(crate) struct Found {
 impl Model for Found {
     ghost use Rattle.std.specs.Prelude.{◌≡◌, List};
     ghost use Rattle.cmd_capture.specs.declared.job.RawRow.{RawRow};
-    ghost use Rattle.child_runner.specs.Found.{raw_size, IsSmall};
+    ghost use Rattle.child_runner.specs.Found.{raw_size, HasTreeSize};
 
     ghost Value = { List RawRow };
 
     ghost view = { λ found. found.rows };
 
-    ghost invariant = { λ found. IsSmall found.rows × (found.bytes ≡ raw_size found.rows) };
+    ghost invariant = { λ found. HasTreeSize found.rows × (found.bytes ≡ raw_size found.rows) };
 }
 
 impl Found {
@@ -108,7 +108,7 @@ impl Found {
     /// The rows.
     pub(crate) fn into_rows(self) -> RawRows
         ensures rows { result ≡ self }
-        ensures small { IsSmall result }
+        ensures small { HasTreeSize result }
     {
         self.rows
     }

@@ -1,7 +1,7 @@
 // A folder that is read back.
 ghost use Rattle.std.specs.Prelude.{◌≡◌, ◌≤◌, ◌+◌, length, IfOk, OnOk};
 ghost use Rattle.tree_values.specs.Limits.{max_rows};
-ghost use Rattle.child_runner.specs.Found.{IsSmall};
+ghost use Rattle.child_runner.specs.Found.{HasTreeSize};
 
 use crate::found::{Found, OWNER_RUNS, TOO_MANY_BYTES, TOO_MANY_ROWS};
 use crate::limits::Stopwatch;
@@ -32,7 +32,7 @@ pub(crate) struct Reading<'a, R> {
 impl<'a, R: Files<File = File> + AllocGlobal + Clock> Reading<'a, R> {
     /// Reads what stands in the folder, in the order of its paths.
     pub(crate) fn rows(&self) -> Result<RawRows, RunTrouble>
-        ensures { IfOk result (λ rows. IsSmall rows) }
+        ensures { IfOk result (λ rows. HasTreeSize rows) }
     {
         let mut found = Found::new(self.host.alloc());
         match self.read_all(&mut found) {

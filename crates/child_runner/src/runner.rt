@@ -4,7 +4,7 @@ ghost use Rattle.std.specs.Duration.{as_nanos};
 ghost use Rattle.outside.specs.Outside.{Told, CountsFault, RisesWhere};
 ghost use Rattle.cmd_capture.specs.declared.runner.Run.{Run};
 ghost use Rattle.cmd_capture.specs.Runs.{AddsRun, IsAskedOnce};
-ghost use Rattle.child_runner.specs.Found.{IsSmall};
+ghost use Rattle.child_runner.specs.Found.{HasTreeSize};
 ghost use Rattle.child_runner.specs.Waiting.{reading_nanos};
 
 use crate::clearing::remove_left;
@@ -119,7 +119,7 @@ impl<'a, R: Files<File = File> + Processes + AllocGlobal + Clock + Eprint> Child
     /// Runs the job in a folder of its own, which is removed whether or not the job ran. Where it cannot be removed the outcome stands
     /// all the same: its rows were read, and as long as the folder is there its name is taken.
     fn run_placed(&self, work: &[u8], job: &Job) -> Result<Outcome, RunTrouble>
-        ensures { IfOk result (λ outcome. IsSmall outcome.rows) }
+        ensures { IfOk result (λ outcome. HasTreeSize outcome.rows) }
     {
         let watch = Stopwatch::begin(self.host, "it took", self.limits.whole)?;
         let print = job_print(self.host.alloc(), job)?;
@@ -156,7 +156,7 @@ impl<'a, R: Files<File = File> + Processes + AllocGlobal + Clock + Eprint> Child
 
     /// What the program left.
     fn read_in(&self, place: &Place, status: u8, watch: &Stopwatch) -> Result<Outcome, RunTrouble>
-        ensures { IfOk result (λ outcome. IsSmall outcome.rows) }
+        ensures { IfOk result (λ outcome. HasTreeSize outcome.rows) }
     {
         let reading = Reading {
             host: self.host,
@@ -189,7 +189,7 @@ impl<'a, R: Files<File = File> + Processes + AllocGlobal + Clock + Eprint> Runne
         ensures cause { CountsFault RunError.Failed self.old.faults self.new.faults result }
         ensures called { IsAskedOnce self.old.calls self.new.calls }
 
-        ensures small { IfOk result (λ outcome. IsSmall outcome.rows) }
+        ensures small { IfOk result (λ outcome. HasTreeSize outcome.rows) }
     {
         count(&mut self.calls);
         match self.run_placed(work, job) {

@@ -27,7 +27,7 @@ use Rattle.client_core.specs.declared.keeping.Piece.{Piece}
 use Rattle.client_core.specs.Client.{Client}
 use Rattle.client_core.specs.Journal.{last_logged, notes_since, bytes_with, may_add, next_notes, bytes_after, journal_with, journal_after}
 use Rattle.client_core.specs.Keeping.{IsKept, log_until, IsReadyFor, IsReady, IsKeptNext, AddsSome, StillKeeps, OthersStay, IsSmall, StaysSmall, most_records, LeavesKept, KeepsNext}
-use Rattle.client_core.specs.Inside.{LeadsTo, MayKeep, IsPiece, IsWithin, IsCounted}
+use Rattle.client_core.specs.Inside.{LeadsTo, MayKeep, IsPiece, IsWithin, IsCountedBy}
 
 -- ---- what stands under the name
 
@@ -142,7 +142,7 @@ module _ (name : List ℕ) (number : ℕ) where
 
   module _ (log : Log) where
     -- the log that stands there is one under which the client may go on
-    pub current_ready : (journal : Option Journal) (i : Option Images) → JournalIsCurrent i name number log journal → IsCounted i name journal → IsReady i name (record { number = number; log = log; journal = journal })
+    pub current_ready : (journal : Option Journal) (i : Option Images) → JournalIsCurrent i name number log journal → IsCountedBy i name journal → IsReady i name (record { number = number; log = log; journal = journal })
     current_ready journal None current counted = tt
     current_ready None (Some i) current counted = tt
     current_ready (Some j) (Some i) current counted = record {
@@ -155,7 +155,7 @@ module _ (name : List ℕ) (number : ℕ) where
     }
 
     -- and what stands there is counted
-    pub ready_counted : (journal : Option Journal) (i : Option Images) → IsReady i name (record { number = number; log = log; journal = journal }) → IsCounted i name journal
+    pub ready_counted : (journal : Option Journal) (i : Option Images) → IsReady i name (record { number = number; log = log; journal = journal }) → IsCountedBy i name journal
     ready_counted None i ready = tt
     ready_counted (Some j) None ready = tt
     ready_counted (Some j) (Some i) ready = subst (λ (found : Option (List ℕ)). IfSome found (λ bytes. length bytes ≤ MAX_CLIENT_IMAGE + j.bytes)) (sym ready.stands) ready.small
@@ -300,7 +300,7 @@ module _ {E : Type 0} (name : List ℕ) (number : ℕ) (log : Log) where
   next_current journal notes (Ok done) (Some x) (Some y) told = record { bytes = told.bytes; stands = told.here; last = refl; whole = told.whole }
 
   -- an image that was saved has no records behind it
-  pub saved_counted : (r : Result (Unit {0}) E) (i j : Option Images) → Told i j (KeepsNext name number log None r) → IsCounted j name (journal_with 0 log r)
+  pub saved_counted : (r : Result (Unit {0}) E) (i j : Option Images) → Told i j (KeepsNext name number log None r) → IsCountedBy j name (journal_with 0 log r)
   saved_counted (Err e) i j told = tt
   saved_counted (Ok done) i None told = tt
   saved_counted (Ok done) None (Some y) told = absurd (cc)
@@ -403,7 +403,7 @@ record RoomFor (journal : Option Journal) (notes : List ClientRecord) (name : Li
   sum : bytes_after (Some notes) journal ≡ records + length (client_records notes)
   few : records + length (client_records notes) ≤ MAX_RECORDS
 
-room_for : (journal : Option Journal) (notes : List ClientRecord) (name : List ℕ) (i : Option Images) → HasRoom journal (Some notes) → IsCounted i name journal → RoomFor journal notes name i
+room_for : (journal : Option Journal) (notes : List ClientRecord) (name : List ℕ) (i : Option Images) → HasRoom journal (Some notes) → IsCountedBy i name journal → RoomFor journal notes name i
 room_for None notes name i room counted = absurd room
 room_for (Some j) notes name i room counted = record { records = j.bytes; within = counted; sum = refl; few = room }
 
@@ -422,7 +422,7 @@ module _ (journal : Option Journal) where
   piece_bytes notes found piece is found_is = (piece_is notes piece (subst (IsPiece journal notes) found_is is)).3
 
   module _ (notes : Option (List ClientRecord)) (found : Option Piece) (piece : Piece) (is : IsPiece journal notes found) (found_is : found ≡ Some piece) (room : HasRoom journal notes) (name : List ℕ) (log : Log) where
-    pub piece_keeps : (number : ℕ) (r : Result (Unit {0}) KeepError) (i j : Option Images) → IsCounted i name journal → MayKeep notes i name number log → Told i j (λ old new. Appends name piece.records.items r old new)
+    pub piece_keeps : (number : ℕ) (r : Result (Unit {0}) KeepError) (i j : Option Images) → IsCountedBy i name journal → MayKeep notes i name number log → Told i j (λ old new. Appends name piece.records.items r old new)
         → Told i j (KeepsNext name number log notes r)
     piece_keeps number r i j counted may told =
         let p = piece_is notes piece (subst (IsPiece journal notes) found_is is) in
@@ -431,7 +431,7 @@ module _ (journal : Option Journal) where
         (appended_keeps name number log p.0 fits.records fits.few r i j fits.within (subst (λ (n : Option (List ClientRecord)). MayKeep n i name number log) p.1 may)
         (subst (λ (text : List ℕ). Told i j (λ old new. Appends name text r old new)) p.2 told))
 
-    pub piece_counted : (r : Result (Unit {0}) KeepError) (i j : Option Images) → IsCounted i name journal → Told i j (λ old new. Appends name piece.records.items r old new) → IsCounted j name (journal_with piece.bytes log r)
+    pub piece_counted : (r : Result (Unit {0}) KeepError) (i j : Option Images) → IsCountedBy i name journal → Told i j (λ old new. Appends name piece.records.items r old new) → IsCountedBy j name (journal_with piece.bytes log r)
     piece_counted (Err e) i j counted told = tt
     piece_counted (Ok done) i j counted told =
         let p = piece_is notes piece (subst (IsPiece journal notes) found_is is) in

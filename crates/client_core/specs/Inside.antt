@@ -197,9 +197,9 @@ IsWithin None name records = Unit {0}
 IsWithin (Some images) name records = IfSome (images name) (λ bytes. length bytes ≤ MAX_CLIENT_IMAGE + records)
 
 -- no more than the largest image and the records that the journal counts
-abbrev pub IsCounted : Option Images → List ℕ → Option Journal → Type 0
-IsCounted images name None = Unit {0}
-IsCounted images name (Some journal) = IsWithin images name journal.bytes
+abbrev pub IsCountedBy : Option Images → List ℕ → Option Journal → Type 0
+IsCountedBy images name None = Unit {0}
+IsCountedBy images name (Some journal) = IsWithin images name journal.bytes
 
 -- the piece is the records of the notes, and with them all records have so many bytes; there is none where the image is to be saved
 abbrev pub IsPiece : Option Journal → Option (List ClientRecord) → Option Piece → Type 0

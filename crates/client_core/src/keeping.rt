@@ -7,7 +7,7 @@ ghost use Rattle.store_image.specs.declared.record.ClientRecord.TheVariants.{Log
 ghost use Rattle.store_image.specs.Records.{client_records};
 ghost use Rattle.client_core.specs.Journal.{acked_notes, next_notes, journal_with, journal_after};
 ghost use Rattle.client_core.specs.Keeping.{KeepsNext};
-ghost use Rattle.client_core.specs.Inside.{MayKeep, IsPiece, IsCounted};
+ghost use Rattle.client_core.specs.Inside.{MayKeep, IsPiece, IsCountedBy};
 
 use mod_log::Log;
 use outside::{KeepError, Keeper};
@@ -43,11 +43,11 @@ pub(crate) fn keep_log<K: Keeper>(
     requires low { 1 ≤ client }
     requires high { client ≤ 64 }
     requires ready { MayKeep (next_notes journal.old rose log.now) (K.images keeper.old) name.now client log.now }
-    requires counted { IsCounted (K.images keeper.old) name.now journal.old }
+    requires counted { IsCountedBy (K.images keeper.old) name.now journal.old }
     ensures kept { Told (K.images keeper.old) (K.images keeper.new)
         (KeepsNext name.now client log.now (next_notes journal.old rose log.now) result) }
     ensures journal { journal.new ≡ journal_after journal.old (next_notes journal.old rose log.now) log.now result }
-    ensures counted { IsCounted (K.images keeper.new) name.now journal.new }
+    ensures counted { IsCountedBy (K.images keeper.new) name.now journal.new }
     ensures cause { CountsFault KeepError.Failed (K.faults keeper.old) (K.faults keeper.new) result }
 {
     let piece = match next_piece(log, *journal, rose) {
@@ -93,7 +93,7 @@ fn save_log<K: Keeper>(
     requires high { client ≤ 64 }
     ensures kept { Told (K.images keeper.old) (K.images keeper.new) (KeepsNext name.now client log.now None result) }
     ensures journal { journal.new ≡ journal_with 0 log.now result }
-    ensures counted { IsCounted (K.images keeper.new) name.now journal.new }
+    ensures counted { IsCountedBy (K.images keeper.new) name.now journal.new }
     ensures cause { CountsFault KeepError.Failed (K.faults keeper.old) (K.faults keeper.new) result }
 {
     let kept = save_image(client, log, name, keeper);

@@ -9,7 +9,7 @@ ghost use Rattle.client_core.specs.Causes.{HasSyncCause, AcknowledgesSome, SyncK
 ghost use Rattle.client_core.specs.Keeping.{IsReady, IsKeptReady};
 ghost use Rattle.client_core.specs.Noting.{SyncsNoting};
 ghost use Rattle.client_core.specs.Journal.{next_notes};
-ghost use Rattle.client_core.specs.Inside.{MayKeep, IsCounted, KeepsUpto};
+ghost use Rattle.client_core.specs.Inside.{MayKeep, IsCountedBy, KeepsUpto};
 ghost use Rattle.client_core.specs.Honest.{FromInStepApart, IsTrueSync, IsComplete};
 
 use crate::keeping::{Journal, keep_log};
@@ -148,11 +148,11 @@ fn keep_upto<K: Keeper>(
     requires pending { upto ≤ log.old.acked + length log.old.pending }
     requires ready { log.old.acked < upto → MayKeep (next_notes journal.old true (acknowledged upto log.old))
         (K.images keeper.old) name.now client (acknowledged upto log.old) }
-    requires counted { IsCounted (K.images keeper.old) name.now journal.old }
+    requires counted { IsCountedBy (K.images keeper.old) name.now journal.old }
     ensures log { log.new ≡ acknowledged upto log.old }
     ensures kept { KeepsUpto name.now client log.old upto journal.old journal.new result
         (K.images keeper.old) (K.images keeper.new) }
-    ensures counted { IsCounted (K.images keeper.new) name.now journal.new }
+    ensures counted { IsCountedBy (K.images keeper.new) name.now journal.new }
     ensures cause { CountsFault KeepError.Failed (K.faults keeper.old) (K.faults keeper.new) result }
 {
     if upto <= log.acked() {

@@ -8,7 +8,7 @@ use Rattle.outside.proofs.Writing.{adds_nothing}
 use Rattle.client_drill.specs.declared.session.Worked.{Worked}
 use Rattle.client_drill.specs.declared.summary.Summary.{Summary}
 use Rattle.client_drill.specs.Drill.{jobs_upto}
-use Rattle.client_drill.specs.Drilled.{IsCounted, summary_text}
+use Rattle.client_drill.specs.Drilled.{IsTallied, summary_text}
 use Rattle.client_drill.specs.Ending.{status_of_drill, DrillEnds}
 
 -- a summary with a text of it, if there is one
@@ -38,7 +38,7 @@ module _ (seed count : ℕ) where
     front = (some_summary, 0, record { logged = refl; all = omega arith; commands = refl }, adds_nothing written);
   }
 
-  module _ (text : List ℕ) (summary : Summary) (counted : IsCounted seed count summary) (is : text ≡ summary_text seed count summary) (a b : Option (List ℕ)) (p q : ℕ) where
+  module _ (text : List ℕ) (summary : Summary) (counted : IsTallied seed count summary) (is : text ≡ summary_text seed count summary) (a b : Option (List ℕ)) (p q : ℕ) where
     -- a front of a summary was written
     in_part : (status : ℕ) → (status ≡ 4) ⊎ (status ≡ 7) → RisesWhere (status ≡ 4) p q → (size : ℕ) → Adds a b (take size text) → DrillEnds seed count status a b p q
     in_part status ends sink size adds = record {

@@ -118,7 +118,7 @@ pub record WorksOff (lines : List ℕ) (runner runner_now : InDrill) (net net_no
 
 -- Each step logged an entry, as did the two lines that make folders; those that are acknowledged and those that are pending add up to them;
 -- and the steps run so many jobs.
-pub record IsCounted (seed count : ℕ) (summary : Summary) : Type 0 where
+pub record IsTallied (seed count : ℕ) (summary : Summary) : Type 0 where
   pub logged : summary.worked.logged ≡ count + 2
   pub all : summary.worked.acked + summary.worked.pending ≡ summary.worked.logged
   pub commands : summary.commands ≡ jobs_upto seed count
@@ -128,7 +128,7 @@ pub record IsCounted (seed count : ℕ) (summary : Summary) : Type 0 where
 -- the packets, nothing is pending.
 pub record Drilled (seed count : ℕ) (runner runner_now : InDrill) (net net_now : NetworkParts InDrill) (summary : Summary) : Type 0 where
   pub worked : WorksOff (script seed count) runner runner_now net net_now summary.worked
-  pub counted : IsCounted seed count summary
+  pub counted : IsTallied seed count summary
   pub commands : summary.commands ≡ count_by was_run worked.ran.goes.trace.entries
   pub done : summary.done ≡ length (done_among net_now.wires.packets)
   pub troubles : summary.troubles ≡ net_now.wires.troubles

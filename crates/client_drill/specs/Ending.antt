@@ -4,7 +4,7 @@ use Rattle.outside.specs.Outside.{Adds, RisesWhere}
 use Rattle.outside.specs.declared.errors.SinkError.{SinkError}
 use Rattle.outside.specs.declared.errors.SinkError.TheVariants.{Failed, Memory}
 use Rattle.client_drill.specs.declared.summary.Summary.{Summary}
-use Rattle.client_drill.specs.Drilled.{IsCounted, summary_text}
+use Rattle.client_drill.specs.Drilled.{IsTallied, summary_text}
 
 -- the status of a drill whose summary was so written
 abbrev pub status_of_drill : Result (Unit {0}) SinkError → ℕ
@@ -18,7 +18,7 @@ pub record DrillEnds (seed count status : ℕ) (written written_now : Option (Li
   pub known : (status ≡ 0) ⊎ (status ≡ 4) ⊎ (status ≡ 7)
   -- the sink failed once where that ended the drill, and else never
   pub sink : RisesWhere (status ≡ 4) faults faults_now
-  pub told : status ≡ 0 → (summary : Summary) × IsCounted seed count summary × Adds written written_now (summary_text seed count summary)
+  pub told : status ≡ 0 → (summary : Summary) × IsTallied seed count summary × Adds written written_now (summary_text seed count summary)
   -- a front of such a text is written, whatever ends it
-  pub front : (summary : Summary) × (size : ℕ) × IsCounted seed count summary
+  pub front : (summary : Summary) × (size : ℕ) × IsTallied seed count summary
       × Adds written written_now (take size (summary_text seed count summary))

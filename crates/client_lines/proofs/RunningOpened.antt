@@ -80,7 +80,7 @@ none_read u status left is = subst (λ (n : ℕ). Told left left (IsInputRead n)
 -- ---- the session of a run
 
 -- a session that began: the client's number, and where its image, peers and commands are
-pub record Begun : Type 0 where
+pub record BegunRun : Type 0 where
   pub client : ℕ
   pub route : Route
 
@@ -89,7 +89,7 @@ abbrev pub around : Option (List ℕ) → Option (List ℕ) → Option Images �
 around left written images told = record { left = left; written = written; images = images; runner = told.runner; link = told.link }
 
 -- Over a keeper that tells its images, from the log that is kept.
-abbrev pub RanFrom : Option Images → Option Images → Option (List ℕ) → Option (List ℕ) → Option (List ℕ) → Option (List ℕ) → ℕ → Telling → Telling → Begun → Type 0
+abbrev pub RanFrom : Option Images → Option Images → Option (List ℕ) → Option (List ℕ) → Option (List ℕ) → Option (List ℕ) → ℕ → Telling → Telling → BegunRun → Type 0
 RanFrom i j left rest o n status t u run =
     (start : Log) → TellsKept i run.route.image run.client start → Ran run.client run.route start (around left o i t) (around rest n j u) status
 
@@ -97,7 +97,7 @@ kept_so : {T E : Type 0} (r : Result T E) (P K : Type 0) → (P → K) → IfOk 
 kept_so (Ok done) P K to is = to is
 kept_so (Err e) P K to is = tt
 
-opened_from : (run : Begun) (client : Client) (i j : Option Images) (left rest o n : Option (List ℕ)) (ended : Result InputEnd Stop) (after : Sitting) (status : ℕ) (t u : Telling)
+opened_from : (run : BegunRun) (client : Client) (i j : Option Images) (left rest o n : Option (List ℕ)) (ended : Result InputEnd Stop) (after : Sitting) (status : ℕ) (t u : Telling)
     → client.number ≡ run.client → client.journal ≡ None → status ≡ status_of ended
     → WentNoting run.route ended (RunAnswers run.route (opened client.number client.log) left rest o n ended (state_of after)) (record { client = client; folder = [] }) after i j t u
     → Ran run.client run.route client.log (around left o i t) (around rest n j u) status
@@ -116,7 +116,7 @@ opened_from run client i j left rest o n ended after status t u number new is we
     subst (λ (m : ℕ). WentDoing route (RunRecords route (opened m client.log) left rest o n ended now i j) (opened m client.log) now i j t u) number all in
     ran run.client route client.log (around left o i t) (around rest n j u) ended now goes.0 status is goes.1.goes
 
-pub opened_ran : (run : Begun) (client : Client) (i j : Option Images) (left rest o n : Option (List ℕ)) (ended : Result InputEnd Stop) (after : Sitting) (status : ℕ) (t u : Telling)
+pub opened_ran : (run : BegunRun) (client : Client) (i j : Option Images) (left rest o n : Option (List ℕ)) (ended : Result InputEnd Stop) (after : Sitting) (status : ℕ) (t u : Telling)
     → client.number ≡ run.client → client.journal ≡ None → ((start : Log) → TellsKept i run.route.image run.client start → client.log ≡ start) → status ≡ status_of ended
     → WentNoting run.route ended (RunAnswers run.route (opened client.number client.log) left rest o n ended (state_of after)) (record { client = client; folder = [] }) after i j t u
     → RanFrom i j left rest o n status t u run
@@ -125,22 +125,22 @@ opened_ran run client i j left rest o n ended after status t u number new only i
     (opened_from run client i j left rest o n ended after status t u number new is went)
 
 -- The same over any keeper.
-pub opened_some : (run : Begun) (client : Client) (i j : Option Images) (left rest o n : Option (List ℕ)) (ended : Result InputEnd Stop) (after : Sitting) (status : ℕ) (t u : Telling)
+pub opened_some : (run : BegunRun) (client : Client) (i j : Option Images) (left rest o n : Option (List ℕ)) (ended : Result InputEnd Stop) (after : Sitting) (status : ℕ) (t u : Telling)
     → client.number ≡ run.client → client.journal ≡ None → IsKept i run.route.image run.client client.log → status ≡ status_of ended
     → WentNoting run.route ended (RunAnswers run.route (opened client.number client.log) left rest o n ended (state_of after)) (record { client = client; folder = [] }) after i j t u
     → RanFromSome run.client run.route (around left o i t) (around rest n j u) status
 opened_some run client i j left rest o n ended after status t u number new kept is went =
     inr (client.log, kept, opened_from run client i j left rest o n ended after status t u number new is went)
 
-pub unopened_some : (run : Begun) (u : Unopened) (i j : Option Images) (left o : Option (List ℕ)) (status : ℕ) (t : Telling) → status ≡ status_unopened u → j ≡ i
+pub unopened_some : (run : BegunRun) (u : Unopened) (i j : Option Images) (left o : Option (List ℕ)) (status : ℕ) (t : Telling) → status ≡ status_unopened u → j ≡ i
     → RanFromSome run.client run.route (around left o i t) (around left o j t) status
 unopened_some run u i j left o status t is same = inl (ap (λ (k : Option Images). around left o k t) same, is_unopened u status is)
 
-stopped_ran : (stop : Stop) (run : Begun) (i : Option Images) (left o : Option (List ℕ)) (status : ℕ) (t : Telling) → status ≡ status_of (Err stop) → RanFrom i i left left o o status t t run
+stopped_ran : (stop : Stop) (run : BegunRun) (i : Option Images) (left o : Option (List ℕ)) (status : ℕ) (t : Telling) → status ≡ status_of (Err stop) → RanFrom i i left left o o status t t run
 stopped_ran stop run i left o status t is = λ start told.
     nothing_ran run.client run.route start (around left o i t) stop status (tells_so i run.route.image run.client start told) is
 
-pub unopened_ran : (run : Begun) (u : Unopened) (i j : Option Images) (left o : Option (List ℕ)) (status : ℕ) (t : Telling) → status ≡ status_unopened u → j ≡ i
+pub unopened_ran : (run : BegunRun) (u : Unopened) (i j : Option Images) (left o : Option (List ℕ)) (status : ℕ) (t : Telling) → status ≡ status_unopened u → j ≡ i
     → (u ≡ Image → (start : Log) → TellsKept i run.route.image run.client start → ⊥) → RanFrom i j left left o o status t t run
 unopened_ran run u i j left o status t is same image =
     subst (λ (k : Option Images). RanFrom i k left left o o status t t run) (sym same) (by u is image)
@@ -152,14 +152,14 @@ unopened_ran run u i j left o status t is same image =
 
 -- ---- without faults
 
-abbrev pub EndsWellFrom : Option Images → Option (List ℕ) → ℕ → ℕ → ℕ → ℕ → ℕ → ℕ → ℕ → Begun → Type 0
+abbrev pub EndsWellFrom : Option Images → Option (List ℕ) → ℕ → ℕ → ℕ → ℕ → ℕ → ℕ → ℕ → BegunRun → Type 0
 EndsWellFrom i left a b c d e f status run = IfSome left (λ bytes. (start : Log) → TellsKept i run.route.image run.client start → length bytes ≤ max_input → (Rose a b → ⊥) → (Rose c d → ⊥) → (Rose e f → ⊥) → (status ≡ 0) ⊎ (status ≡ 7))
 
-pub opened_well : (run : Begun) (i : Option Images) (left : Option (List ℕ)) (a b c d e f status : ℕ) → EndsWell left a b c d e f status → EndsWellFrom i left a b c d e f status run
+pub opened_well : (run : BegunRun) (i : Option Images) (left : Option (List ℕ)) (a b c d e f status : ℕ) → EndsWell left a b c d e f status → EndsWellFrom i left a b c d e f status run
 opened_well run i None a b c d e f status well = tt
 opened_well run i (Some l) a b c d e f status well = λ start told. well
 
-pub unopened_well : (run : Begun) (u : Unopened) (i : Option Images) (left : Option (List ℕ)) (a b c d e f status : ℕ) → status ≡ status_unopened u → (u ≡ Keeper → Rose e f)
+pub unopened_well : (run : BegunRun) (u : Unopened) (i : Option Images) (left : Option (List ℕ)) (a b c d e f status : ℕ) → status ≡ status_unopened u → (u ≡ Keeper → Rose e f)
     → (u ≡ Image → (start : Log) → TellsKept i run.route.image run.client start → ⊥) → EndsWellFrom i left a b c d e f status run
 unopened_well run u i None a b c d e f status is rose image = tt
 unopened_well run Keeper i (Some l) a b c d e f status is rose image = λ start told short calm quiet sound. absurd (sound (rose refl))
@@ -191,5 +191,5 @@ wanted_ends client route around faults = record {
 
 -- ---- opening
 
-pub opened_of_none : (run : Begun) (i : Option Images) (log : Log) (status : ℕ) → IsKept i run.route.image run.client log → IsKeptOfNone i run.route.image run.client → (status ≡ 5) ⊎ (status ≡ 6) ⊎ (status ≡ 7)
+pub opened_of_none : (run : BegunRun) (i : Option Images) (log : Log) (status : ℕ) → IsKept i run.route.image run.client log → IsKeptOfNone i run.route.image run.client → (status ≡ 5) ⊎ (status ≡ 6) ⊎ (status ≡ 7)
 opened_of_none run i log status keeps none = absurd (none_kept i run.route.image run.client log none keeps)

@@ -22,8 +22,8 @@ use Rattle.client_shelf.specs.declared.ends.Ending.TheVariants as ends
 use Rattle.client_shelf.specs.declared.ends.ShelvingStop.{ShelvingStop}
 use Rattle.client_shelf.specs.declared.ends.ShelvingStop.TheVariants as stops
 use Rattle.client_shelf.specs.Shelving.{Shelving, IsUnused, appended_all}
-use Rattle.client_shelf.specs.Ending.{Standing, Leaves, PullsRows, EndsKept, EndsLogging, EndsBehind, BreaksOff}
-use Rattle.client_shelf.specs.Inside.{IsBreak, TakesRows, PullsTo, KeepsAll, LogsTo, GoesTo}
+use Rattle.client_shelf.specs.Ending.{Standing, LeavesShelved, PullsRows, EndsKept, EndsLogging, EndsBehind, ShelvingBreaks}
+use Rattle.client_shelf.specs.Inside.{IsBreak, TakesPulledRows, PullsTo, KeepsAll, LogsTo, GoesTo}
 use Rattle.client_shelf.proofs.Logged.{logs_in_step}
 
 -- ---- logging behind the rows
@@ -38,10 +38,10 @@ module _ (asked : Shelving) (start log : Log) (lists : List (List Effect)) (fit 
   abbrev new : Standing
   new = record { images = k; link = u }
 
-  module _ (rows : TakesRows asked start log old middle) where
+  module _ (rows : TakesPulledRows asked start log old middle) where
     -- a log that entries led to is in step where the rows were
     pub leaves_logged : (some : List (List Effect)) → AllByRecursion EffectsFit some → (kept : Log) → appended_all some (new_log_of 0 rows.seen) ≡ Ok kept → IsKept k asked.new_image asked.new_client kept
-        → Leaves asked start kept rows.asks old new
+        → LeavesShelved asked start kept rows.asks old new
     leaves_logged some each kept logged keeps = record {
       kept_is = keeps;
       rose = rows.leaves.rose;
@@ -58,10 +58,10 @@ module _ (asked : Shelving) (start log : Log) (lists : List (List Effect)) (fit 
   fits_front P (suc count) [] all = tt
   fits_front P (suc count) (x ∷ xs) all = (all.0, fits_front P count xs all.1)
 
-  on_rows : (rows : TakesRows asked start log old middle) (some : List (List Effect)) (r : Result Log LogError) → appended_all some log ≡ r → appended_all some (new_log_of 0 rows.seen) ≡ r
+  on_rows : (rows : TakesPulledRows asked start log old middle) (some : List (List Effect)) (r : Result Log LogError) → appended_all some log ≡ r → appended_all some (new_log_of 0 rows.seen) ≡ r
   on_rows rows some r is = subst (λ (l : Log). appended_all some l ≡ r) rows.log_is is
 
-  pub logged_so : (result : Result (Option Ending) ShelvingStop) → TakesRows asked start log old middle → KeepsAll asked.new_client asked.new_image lists log result j k → LogsTo asked start lists result old new
+  pub logged_so : (result : Result (Option Ending) ShelvingStop) → TakesPulledRows asked start log old middle → KeepsAll asked.new_client asked.new_image lists log result j k → LogsTo asked start lists result old new
   logged_so (Ok None) rows keeps =
       let logged = on_rows rows lists (Ok keeps.0) keeps.1 in
       record { asks = rows.asks; seen = rows.seen; pulls = rows.pulls; kept = keeps.0; logged = logged; leaves = leaves_logged rows lists fit keeps.0 logged keeps.2 }

@@ -29,7 +29,7 @@ use Rattle.client_shelf.specs.declared.ends.Ending.{Ending}
 use Rattle.client_shelf.specs.declared.ends.ShelvingStop.{ShelvingStop}
 use Rattle.client_shelf.specs.declared.ends.ShelvingStop.TheVariants as stops
 use Rattle.client_shelf.specs.Shelving.{Shelving, new_route, IsUnused}
-use Rattle.client_shelf.specs.Ending.{Standing, Leaves, EndsPull, KeepsFront, BreaksOff}
+use Rattle.client_shelf.specs.Ending.{Standing, LeavesShelved, EndsPull, KeepsFront, ShelvingBreaks}
 use Rattle.client_shelf.specs.Inside.{IsBreak, PullsTo, pulled_to}
 
 -- two lists that have nothing
@@ -63,7 +63,7 @@ module _ (asked : Shelving) (start after : Log) (unused : IsUnused start) (i j :
       λ now. (both_in_step asked.new_client false goes.trace.entries goes.trace.asks (kept_at start v) (stand after kept w) (record { in_memory = now; kept = now }) went.runs (all_apart w)).kept,
     )
 
-    pub leaves : Leaves asked start kept goes.trace.asks old new
+    pub leaves : LeavesShelved asked start kept goes.trace.asks old new
     leaves = record {
       kept_is = kept_now asked.new_image asked.new_client start after kept goes.trace.changes i j goes.keeping;
       rose = goes.rose;
@@ -98,12 +98,12 @@ module _ (asked : Shelving) (start after : Log) (unused : IsUnused start) (i j :
       asks = goes.trace.asks;
       pulls = (goes.trace, subst (λ (l : Log). PullTurn asked.new_client (new_route asked) start end l goes.trace) is turn, refl);
       same = same;
-      leaves = subst (λ (l : Log). Leaves asked start l goes.trace.asks old new) (kept_is ∙ is) (leaves (Turns end kept) kept goes none);
+      leaves = subst (λ (l : Log). LeavesShelved asked start l goes.trace.asks old new) (kept_is ∙ is) (leaves (Turns end kept) kept goes none);
       true_pull = true_so;
     }
 
   -- a pull that was broken off
-  breaks : (kept : Log) (turns : Trace → Type 0) (goes : GoesSo turns kept) → BreaksPull asked.new_client (new_route asked) start after goes.trace → (lists : List (List Effect)) → BreaksOff asked start lists old new
+  breaks : (kept : Log) (turns : Trace → Type 0) (goes : GoesSo turns kept) → BreaksPull asked.new_client (new_route asked) start after goes.trace → (lists : List (List Effect)) → ShelvingBreaks asked start lists old new
   breaks kept turns goes (inl asking) lists =
       let trace_is = asking.4 in
       record {
@@ -151,7 +151,7 @@ module _ (asked : Shelving) (start after : Log) (unused : IsUnused start) (i j :
             seen = came.seen;
             pulls = (count, (goes.trace, subst (λ (l : Log). PullTurn asked.new_client (new_route asked) start (pulls.Pulled count) l goes.trace) rows came, refl));
             log_is = rows;
-            leaves = subst (λ (l : Log). Leaves asked start l goes.trace.asks old new) turn.1 (leaves (Turns (pulls.Pulled count) kept) kept goes (ap (λ (x : Trace). x.entries) came.trace_is));
+            leaves = subst (λ (l : Log). LeavesShelved asked start l goes.trace.asks old new) turn.1 (leaves (Turns (pulls.Pulled count) kept) kept goes (ap (λ (x : Trace). x.entries) came.trace_is));
           }
       by (pulls.Pulled count) kept goes (inr broken) same waits = absurd (cc (broken.0))
       by (pulls.OtherLast last acked) kept goes (inl turn) same waits = λ stuck lists.
@@ -186,7 +186,7 @@ module _ (asked : Shelving) (start : Log) (unused : IsUnused start) (i : Option 
   abbrev same : Standing
   same = record { images = i; link = t }
 
-  nothing_left : Leaves asked start start [] same same
+  nothing_left : LeavesShelved asked start start [] same same
   nothing_left = record {
     kept_is = kept;
     rose = omega arith;

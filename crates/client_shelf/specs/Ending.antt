@@ -51,7 +51,7 @@ PullBreaks asked start asks =
 
 -- Where the new client's log was `start`, and these asks were made, `kept` is kept of it. The troubles of the link rose by at least the
 -- asks that failed. Where it tells its world, that noted just these asks, and what is kept is in step with it, if the log was at first.
-pub record Leaves (asked : Shelving) (start kept : Log) (asks : List Ask) (old new : Standing) : Type 0 where
+pub record LeavesShelved (asked : Shelving) (start kept : Log) (asks : List Ask) (old new : Standing) : Type 0 where
   pub kept_is : IsKept new.images asked.new_image asked.new_client kept
   pub rose : HadTroubles (failed_asks asks) old.link new.link
   pub told : ToldWorlds old.link new.link
@@ -63,7 +63,7 @@ pub record EndsPull (asked : Shelving) (start : Log) (end : PullEnd) (old new : 
   pub asks : List Ask
   pub pulls : Pulls asked start end start asks
   pub same : new.images ≡ old.images
-  pub leaves : Leaves asked start start asks old new
+  pub leaves : LeavesShelved asked start start asks old new
   pub true_pull : ToldWorlds old.link new.link
       (λ before after. InStep asked.new_client start before → IsTruePull old.link.troubles new.link.troubles end)
 
@@ -74,7 +74,7 @@ pub record EndsLogging (asked : Shelving) (start : Log) (lists : List (List Effe
   pub seen : Volume
   pub pulls : PullsRows asked start seen asks
   pub refused : appended_all lists (new_log_of 0 seen) ≡ Err refusal
-  pub leaves : Leaves asked start (new_log_of 0 seen) asks old new
+  pub leaves : LeavesShelved asked start (new_log_of 0 seen) asks old new
 
 -- The rows were pulled, these entries are pending behind them, and this is kept.
 pub record EndsKept (asked : Shelving) (start : Log) (lists : List (List Effect)) (old new : Standing) : Type 0 where
@@ -83,7 +83,7 @@ pub record EndsKept (asked : Shelving) (start : Log) (lists : List (List Effect)
   pub pulls : PullsRows asked start seen asks
   pub kept : Log
   pub logged : appended_all lists (new_log_of 0 seen) ≡ Ok kept
-  pub leaves : Leaves asked start kept asks old new
+  pub leaves : LeavesShelved asked start kept asks old new
 
 -- What is kept is the log from before, and the pull was broken off; or it is a front of these entries behind the rows that were pulled.
 abbrev pub KeepsFront : Shelving → Log → List (List Effect) → Log → List Ask → Type 0
@@ -92,11 +92,11 @@ KeepsFront asked start lists kept asks =
     ⊎ ((seen : Volume) × (count : ℕ) × PullsRows asked start seen asks × (appended_all (take count lists) (new_log_of 0 seen) ≡ Ok kept))
 
 -- The pull was begun, and it, the logging or the keeping broken off.
-pub record BreaksOff (asked : Shelving) (start : Log) (lists : List (List Effect)) (old new : Standing) : Type 0 where
+pub record ShelvingBreaks (asked : Shelving) (start : Log) (lists : List (List Effect)) (old new : Standing) : Type 0 where
   pub asks : List Ask
   pub kept : Log
   pub front : KeepsFront asked start lists kept asks
-  pub leaves : Leaves asked start kept asks old new
+  pub leaves : LeavesShelved asked start kept asks old new
 
 -- ---- the ends
 
@@ -120,7 +120,7 @@ EndsBehind asked stuck start lists (ends.Shelved entries names) old new =
 EndsBehind asked stuck start lists ending old new = ⊥
 
 -- no end before the pull was due, and this came of the stuck log, of that of the new client, and of the entries that it was to log
-pub record GoesOn (asked : Shelving) (images : Option Images) (what : Log → Log → List (List Effect) → Type 0) : Type 0 where
+pub record GoesOnShelving (asked : Shelving) (images : Option Images) (what : Log → Log → List (List Effect) → Type 0) : Type 0 where
   pub stuck : Log
   pub start : Log
   pub lists : List (List Effect)
@@ -131,11 +131,11 @@ pub record GoesOn (asked : Shelving) (images : Option Images) (what : Log → Lo
 abbrev pub ComesToEnd : Shelving → Ending → Standing → Standing → Type 0
 ComesToEnd asked ending old new =
     (IsDue asked old.images ending × (new ≡ old))
-    ⊎ GoesOn asked old.images (λ stuck start lists. EndsBehind asked stuck start lists ending old new)
+    ⊎ GoesOnShelving asked old.images (λ stuck start lists. EndsBehind asked stuck start lists ending old new)
 
 -- It was stopped before it came to an end: a load or a keeping was refused, or memory ran out.
 abbrev pub Stops : Shelving → Standing → Standing → Type 0
-Stops asked old new = (new ≡ old) ⊎ GoesOn asked old.images (λ stuck start lists. BreaksOff asked start lists old new)
+Stops asked old new = (new ≡ old) ⊎ GoesOnShelving asked old.images (λ stuck start lists. ShelvingBreaks asked start lists old new)
 
 -- ---- by the status
 

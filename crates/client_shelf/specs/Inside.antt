@@ -27,7 +27,7 @@ use Rattle.client_shelf.specs.declared.ends.Ending.TheVariants as ends
 use Rattle.client_shelf.specs.declared.ends.ShelvingStop.{ShelvingStop}
 use Rattle.client_shelf.specs.declared.ends.ShelvingStop.TheVariants.{Sink, Keeper, Image, Memory}
 use Rattle.client_shelf.specs.Shelving.{Shelving, IsAbsent, IsStored, IsStoredOther, IsUnused, IsUsed, planned_in, planned, appended_all}
-use Rattle.client_shelf.specs.Ending.{Standing, Leaves, PullsRows, EndsKept, EndsBehind, BreaksOff, Stops, ComesToEnd}
+use Rattle.client_shelf.specs.Ending.{Standing, LeavesShelved, PullsRows, EndsKept, EndsBehind, ShelvingBreaks, Stops, ComesToEnd}
 
 -- ---- what stops a shelving
 
@@ -99,19 +99,19 @@ pulled_to pulls.Memory = Err Memory
 pulled_to (pulls.Pending count) = Err Memory
 
 -- The rows were pulled, and the log is that.
-pub record TakesRows (asked : Shelving) (start log : Log) (old new : Standing) : Type 0 where
+pub record TakesPulledRows (asked : Shelving) (start log : Log) (old new : Standing) : Type 0 where
   pub asks : List Ask
   pub seen : Volume
   pub pulls : PullsRows asked start seen asks
   pub log_is : log ≡ new_log_of 0 seen
-  pub leaves : Leaves asked start log asks old new
+  pub leaves : LeavesShelved asked start log asks old new
 
 -- the rows were pulled; or it came to this end, or was stopped so
 abbrev pub PullsTo : Shelving → Log → Log → Result (Option Ending) ShelvingStop → Standing → Standing → Type 0
-PullsTo asked start log (Ok None) old new = TakesRows asked start log old new
+PullsTo asked start log (Ok None) old new = TakesPulledRows asked start log old new
 PullsTo asked start log (Ok (Some ending)) old new =
     (stuck : Log) (lists : List (List Effect)) → EndsBehind asked stuck start lists ending old new
-PullsTo asked start log (Err stop) old new = IsBreak stop × ((lists : List (List Effect)) → BreaksOff asked start lists old new)
+PullsTo asked start log (Err stop) old new = IsBreak stop × ((lists : List (List Effect)) → ShelvingBreaks asked start lists old new)
 
 -- All of these entries were logged on a log and kept; or one was refused, and nothing was kept; or a front of them is kept.
 abbrev pub KeepsAll : ℕ → List ℕ → List (List Effect) → Log → Result (Option Ending) ShelvingStop → Option Images → Option Images → Type 0
@@ -126,12 +126,12 @@ KeepsAll number name lists log (Err stop) images now =
 abbrev pub LogsTo : Shelving → Log → List (List Effect) → Result (Option Ending) ShelvingStop → Standing → Standing → Type 0
 LogsTo asked start lists (Ok None) old new = EndsKept asked start lists old new
 LogsTo asked start lists (Ok (Some ending)) old new = (stuck : Log) → EndsBehind asked stuck start lists ending old new
-LogsTo asked start lists (Err stop) old new = IsBreak stop × BreaksOff asked start lists old new
+LogsTo asked start lists (Err stop) old new = IsBreak stop × ShelvingBreaks asked start lists old new
 
 -- the end that came behind the pull, or what a stop left
 abbrev pub GoesTo : Shelving → Log → Log → List (List Effect) → Result Ending ShelvingStop → Standing → Standing → Type 0
 GoesTo asked stuck start lists (Ok ending) old new = EndsBehind asked stuck start lists ending old new
-GoesTo asked stuck start lists (Err stop) old new = IsBreak stop × BreaksOff asked start lists old new
+GoesTo asked stuck start lists (Err stop) old new = IsBreak stop × ShelvingBreaks asked start lists old new
 
 -- a shelving came to this end, or was stopped so
 abbrev pub EndsSo : Shelving → Result Ending ShelvingStop → Standing → Standing → Type 0

@@ -169,7 +169,7 @@ steps_keep_client (Relay message ∷ steps) world = steps_keep_client steps (hap
 -- ---- what is taken
 
 -- no number of a client fell, and where no other client has one then, what was taken is the client's
-record Goes (client : ℕ) (s : Served) (taken : List TakenEntry) (t : Served) : Type 0 where
+record GoesRuled (client : ℕ) (s : Served) (taken : List TakenEntry) (t : Served) : Type 0 where
   pub up : (other : ℕ) → s.last other ≤ t.last other
   pub own : HasNoOthers client t → AreAllOf client taken
 
@@ -189,11 +189,11 @@ other_of client of = by (of == client) refl
     by false is = inr (λ same. absurd (cc (sym is ∙ ap (λ (c : ℕ). c == client) same ∙ eq_itself client)))
 
 module _ (client : ℕ) where
-  none_goes : (s : Served) → Goes client s [] s
+  none_goes : (s : Served) → GoesRuled client s [] s
   none_goes s = record { up = λ other. le_refl (s.last other); own = λ none entry among. absurd among }
 
   one_goes : (of number : ℕ) (effects : List Effect) (base : List Base) (new : Volume) (s : Served) → number ≡ s.last of + 1
-      → Goes client s (entry_stored of number effects base ∷ []) (raised_to of number new s)
+      → GoesRuled client s (entry_stored of number effects base ∷ []) (raised_to of number new s)
   one_goes of number effects base new s next = record {
     up = λ other. raised_up s.last of number other next;
     own = λ none entry among.
@@ -202,7 +202,7 @@ module _ (client : ℕ) where
         ⊎_elim (λ is. ap (λ (e : TakenEntry). e.client) is ∙ same) (λ nowhere. absurd nowhere) among;
   }
 
-  goes_on : (s t u : Served) (first second : List TakenEntry) → Goes client s first t → Goes client t second u → Goes client s (first ++ second) u
+  goes_on : (s t u : Served) (first second : List TakenEntry) → GoesRuled client s first t → GoesRuled client t second u → GoesRuled client s (first ++ second) u
   goes_on s t u first second one two = record {
     up = λ other. le_trans (one.up other) (two.up other);
     own = λ none entry among.
@@ -210,7 +210,7 @@ module _ (client : ℕ) where
         ⊎_elim (one.own before entry) (two.own none entry) (in_either entry first second among);
   }
 
-  goes_rule : Rule (Goes client)
+  goes_rule : Rule (GoesRuled client)
   goes_rule = record {
     nothing = none_goes;
     one = λ of number effects base new s next applied. one_goes of number effects base new s next;
@@ -227,7 +227,7 @@ module _ (client : ℕ) where
 
   delivered_goes : (message : Message) (joins : Bool) (world : World) → StepGoes world (happens (Deliver message joins) world)
   delivered_goes message joins world =
-      let goes = of_message (Goes client) goes_rule message world.served in
+      let goes = of_message (GoesRuled client) goes_rule message world.served in
       record {
         up = goes.up;
         own = λ none own entry among. ⊎_elim (own entry) (goes.own none entry) (in_either entry world.taken (taken_of message world.served) among);

@@ -14,7 +14,7 @@ use Rattle.wire_frames.specs.declared.parts.Part.{Part}
 use Rattle.wire_frames.specs.Parts.{part_of}
 use Rattle.world_rules.specs.Served.{Served, StoreVerdict, Repeated, Early, Outdated, Refused, Taken, judged, verdict, served_after, passes, served_through, verdict_through, refusal, end_of, reply}
 use Rattle.server_core.specs.Inside.{is_outdated, conflict_at}
-use Rattle.server_core.specs.Laws.{IsServedAs, GoesOn, IsCurrent, RepeatsChangeNothing, GapsChangeNothing, KnownEntriesArePassed, StaleEntriesEndStores, FullEntriesEndStores, UnfitEntriesEndStores, OtherEntriesAreTaken, PullsTellTheRows, OthersAreMalformed}
+use Rattle.server_core.specs.Laws.{IsServedAs, GoesOnBehind, IsCurrent, RepeatsChangeNothing, GapsChangeNothing, KnownEntriesArePassed, StaleEntriesEndStores, FullEntriesEndStores, UnfitEntriesEndStores, OtherEntriesAreTaken, PullsTellTheRows, OthersAreMalformed}
 
 -- ---- the first path of a base that has another version
 
@@ -114,7 +114,7 @@ ends client number first later s judgement is stops same =
 
 -- the first entry of a store is passed, where the verdict on it says so
 goes : (client number : ℕ) (first : Part) (later : List Part) (s : Served) (judgement : StoreVerdict) → verdict client number first.effects first.base s ≡ judgement → passes judgement ≡ true
-    → GoesOn client number first later s (served_after client number judgement s)
+    → GoesOnBehind client number first later s (served_after client number judgement s)
 goes client number first later s judgement is on = record {
   holds = ap (λ (j : StoreVerdict). if passes j then served_through client (number + 1) later (served_after client number j s) else served_after client number j s) is
       ∙ ap (λ (b : Bool). if b then served_through client (number + 1) later (served_after client number judgement s) else served_after client number judgement s) on;

@@ -33,7 +33,7 @@ pub record IsServedAs (message : Message) (served : Served) (reply : Message) (a
   pub holds : state_after message served ≡ after
 
 -- The entries of a store behind its first are gone through from the state behind that one, and end the store as they would without it.
-pub record GoesOn (client number : ℕ) (first : Part) (later : List Part) (served middle : Served) : Type 0 where
+pub record GoesOnBehind (client number : ℕ) (first : Part) (later : List Part) (served middle : Served) : Type 0 where
   pub holds : served_through client number (first ∷ later) served ≡ served_through client (number + 1) later middle
   pub ends : verdict_through client number (first ∷ later) served ≡ verdict_through client (number + 1) later middle
 
@@ -54,7 +54,7 @@ GapsChangeNothing = (client number : ℕ) (first : Part) (later : List Part) (se
 -- an entry whose number was accepted before is passed, and changes nothing
 abbrev pub KnownEntriesArePassed : Type 0
 KnownEntriesArePassed = (client number : ℕ) (first : Part) (later : List Part) (served : Served) → number ≤ served.last client
-    → GoesOn client number first later served served
+    → GoesOnBehind client number first later served served
 
 -- the entry of the next number is refused at the first path of its base that has another version, and the store with it
 abbrev pub StaleEntriesEndStores : Type 0
@@ -92,7 +92,7 @@ OtherEntriesAreTaken = (client : ℕ) (effects : List Effect) (base : List Base)
     → AllByRecursion (IsCurrent served.volume) base → apply_all 0 effects served.volume ≡ Ok new
     → let number = served.last client + 1 in
     let after : Served = record { volume = new; last = with_last served.last client number } in
-    GoesOn client number (part_of effects base) later served after
+    GoesOnBehind client number (part_of effects base) later served after
 
 -- a pull is answered by all rows and the client's last number
 abbrev pub PullsTellTheRows : Type 0

@@ -12,7 +12,7 @@ use Rattle.mod_log.specs.declared.sketching.SketchEntry.{SketchEntry}
 use Rattle.mod_log.specs.Log.{Log, after, tree_at, IsLog, logged, acknowledged, new_log}
 use Rattle.wire_frames.specs.declared.message.Message.{Message}
 use Rattle.wire_frames.specs.declared.message.Message.TheVariants.{Store, Operate, Pull, Accepted, Stale, Unfit, Gap, Snapshot, Done, Declined, Full, Malformed}
-use Rattle.world_rules.specs.InStep.{IsTakenUpTo, IsSendable, IsPendingAt, IsRefusedBehind, IsSketchPending, IsFitting}
+use Rattle.world_rules.specs.InStep.{IsTakenUpTo, IsSendable, IsPendingAt, IsRefusedAfter, IsSketchPending, IsFitting}
 use Rattle.world_rules.proofs.Next.{tree_at-acked, tree_at-acknowledged, left_behind, above_as}
 use Rattle.world_rules.proofs.Steps.{Agree}
 use Rattle.mod_log.proofs.Entries.{acknowledged_is_log}
@@ -37,7 +37,7 @@ module _ (client : ℕ) (log : Log) (last : ℕ) (volume : Volume) (packets : Li
   sendable-logged : (entry : Entry) (number : ℕ) → IsSendable log number → IsSendable (logged entry log) number
   sendable-logged entry number may = record { at_most_next = may.at_most_next; at_most_logged = omega (arith, may.at_most_logged, length-append log.pending (entry ∷ [])) }
 
-  refused-logged : (entry : Entry) (upto : ℕ) → IsRefusedBehind log last upto → IsRefusedBehind (logged entry log) last upto
+  refused-logged : (entry : Entry) (upto : ℕ) → IsRefusedAfter log last upto → IsRefusedAfter (logged entry log) last upto
   refused-logged entry upto is = record { at_most_taken = is.at_most_taken; one_is_left = omega (arith, is.one_is_left, length-append log.pending (entry ∷ [])) }
 
   fitting-logged : (entry : Entry) (message : Message) → IsFitting log last volume message → IsFitting (logged entry log) last volume message
@@ -78,7 +78,7 @@ module _ (client : ℕ) (log : Log) (upto last : ℕ) (volume : Volume) (packets
   sendable-acknowledged number may =
       record { at_most_next = omega (arith, may.at_most_next, low); at_most_logged = omega (arith, may.at_most_logged, left_length, low, high, now.not_higher.at_most_logged) }
 
-  refused-acknowledged : (told : ℕ) → IsRefusedBehind log last told → IsRefusedBehind next_log last told
+  refused-acknowledged : (told : ℕ) → IsRefusedAfter log last told → IsRefusedAfter next_log last told
   refused-acknowledged told is =
       record { at_most_taken = is.at_most_taken; one_is_left = omega (arith, is.one_is_left, left_length, low, high, now.not_higher.at_most_logged) }
 

@@ -18,7 +18,7 @@ use Rattle.wire_frames.specs.declared.message.Message.{Message}
 use Rattle.wire_frames.specs.declared.message.Message.TheVariants.{Store, Operate, Pull, Accepted, Stale, Unfit, Gap, Snapshot, Done, Declined, Full, Malformed}
 use Rattle.wire_frames.specs.Frame.{client_of}
 use Rattle.world_rules.specs.Served.{TakenEntry, entry_stored, StoreVerdict, Taken, judged, passes, is_want_of_room, reply, taken_if}
-use Rattle.world_rules.specs.InStep.{ahead, IsTakenUpTo, IsPendingAt, IsRefusedBehind, IsFitting}
+use Rattle.world_rules.specs.InStep.{ahead, IsTakenUpTo, IsPendingAt, IsRefusedAfter, IsFitting}
 use Rattle.world_rules.proofs.Asks.{IsIn-push}
 use Rattle.world_rules.proofs.Next.{IsNext, tree_at-next, next_within, next_fits, next_pending, above_later, TakesInOrder}
 use Rattle.byte_fields.proofs.Facts.{lt_of, le_of, not_le_of}
@@ -85,7 +85,7 @@ module _ (client : ℕ) (log : Log) (last : ℕ) (entry : Entry) (low : log.acke
       subst (λ t. version_at t path < version_at (changed_all entry.effects volume) path) (sym (tree_at-next log last entry low next))
       (lt-changes entry.effects (tree_at last log) volume path lt)
 
-  still_refused : (upto : ℕ) → IsRefusedBehind log last upto → IsRefusedBehind log (last + 1) upto
+  still_refused : (upto : ℕ) → IsRefusedAfter log last upto → IsRefusedAfter log (last + 1) upto
   still_refused upto is = record { at_most_taken = omega (arith, is.at_most_taken); one_is_left = is.one_is_left }
 
   IsFitting-taken : (volume : Volume) → (message : Message) → IsFitting log last volume message → IsFitting log (last + 1) (changed_all entry.effects volume) message
@@ -137,7 +137,7 @@ pub record Judged (client : ℕ) (log : Log) (last : ℕ) (volume : Volume) (pac
   pub same : (path : FilePath) → version_at (tree_at last log) path ≡ version_at volume path → version_at (tree_at (last_after number last judgement) log) path ≡ version_at (volume_after volume judgement) path
 
 module _ (client : ℕ) (log : Log) (last : ℕ) (volume : Volume) (packets : List Message) (number : ℕ) (effects : List Effect) (base : List Base) where
-  refusal_fits : (of index : ℕ) (cause : TreeError) (full : Bool) → IsRefusedBehind log last last → IsAhead volume (tree_at last log)
+  refusal_fits : (of index : ℕ) (cause : TreeError) (full : Bool) → IsRefusedAfter log last last → IsAhead volume (tree_at last log)
       → IsFitting log last volume (if full then Full client of last index cause else Unfit client of last index cause)
   refusal_fits of index cause true left ahead = (left, λ e. ahead)
   refusal_fits of index cause false left ahead = (left, λ e. ahead)
@@ -158,7 +158,7 @@ module _ (client : ℕ) (log : Log) (last : ℕ) (volume : Volume) (packets : Li
       let fits = next_fits log last entry now.log_is is.1 in
       let found : first_conflict (base_of entry.effects (tree_at last log)) volume ≡ Some conflict = ap (λ k. first_conflict k volume) (sym (is.3 ∙ fits.based)) ∙ c in
       let lt = ahead_at_conflict (tree_at last log) volume entry.effects conflict now.behind found in
-      let left : IsRefusedBehind log last last = record { at_most_taken = omega arith; one_is_left = omega (arith, next_within log last entry now.not_lower is.1) } in
+      let left : IsRefusedAfter log last last = record { at_most_taken = omega arith; one_is_left = omega (arith, next_within log last entry now.not_lower is.1) } in
       record {
         state = now;
         taken = refl;
@@ -174,7 +174,7 @@ module _ (client : ℕ) (log : Log) (last : ℕ) (volume : Volume) (packets : Li
       let fits = next_fits log last entry now.log_is is.1 in
       let refused : apply_all 0 entry.effects volume ≡ Err cause = ap (λ k. apply_all 0 k volume) (sym is.2) ∙ d in
       let ahead = ahead_where_refused (tree_at last log) volume entry.effects _ cause now.behind (holds_trees log (last - log.acked) now.log_is) now.tree fits.applies refused in
-      let left : IsRefusedBehind log last last = record { at_most_taken = omega arith; one_is_left = omega (arith, next_within log last entry now.not_lower is.1) } in
+      let left : IsRefusedAfter log last last = record { at_most_taken = omega arith; one_is_left = omega (arith, next_within log last entry now.not_lower is.1) } in
       record {
         state = now;
         taken = refl;

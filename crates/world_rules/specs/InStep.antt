@@ -53,7 +53,7 @@ ArePendingAbove log last number (part ∷ parts) =
     (last < number → IsPendingAt log number part.effects part.base) × ArePendingAbove log last (number + 1) parts
 
 -- A refusal tells up to which number the client's entries were taken: no more than are, and one is left that it refuses.
-pub record IsRefusedBehind (log : Log) (last upto : ℕ) : Type 0 where
+pub record IsRefusedAfter (log : Log) (last upto : ℕ) : Type 0 where
   pub at_most_taken : upto ≤ last
   pub one_is_left : upto < log.acked + length log.pending
 
@@ -68,15 +68,15 @@ IsFitting log last volume (Operate client sketched) = IsSendable log sketched.se
 IsFitting log last volume (Pull client number) = number ≤ last
 IsFitting log last volume (Accepted client number upto) = upto ≤ last
 IsFitting log last volume (Stale client number upto path theirs ours) =
-    IsRefusedBehind log last upto × (log.acked ≤ upto → version_at (tree_at last log) path < version_at volume path)
+    IsRefusedAfter log last upto × (log.acked ≤ upto → version_at (tree_at last log) path < version_at volume path)
 IsFitting log last volume (Unfit client number upto index fault) =
-    IsRefusedBehind log last upto × (log.acked ≤ upto → IsAhead volume (tree_at last log))
+    IsRefusedAfter log last upto × (log.acked ≤ upto → IsAhead volume (tree_at last log))
 IsFitting log last volume (Gap client number beyond) = ⊥
 IsFitting log last volume (Snapshot client number then seen) = (number ≤ then) × (then ≤ last) × IsBehind seen volume × IsTree seen
 IsFitting log last volume (Done client number) = number ≤ last
 IsFitting log last volume (Declined client number cause) = Unit {0}
 IsFitting log last volume (Full client number upto index fault) =
-    IsRefusedBehind log last upto × (log.acked ≤ upto → IsAhead volume (tree_at last log))
+    IsRefusedAfter log last upto × (log.acked ≤ upto → IsAhead volume (tree_at last log))
 IsFitting log last volume (Malformed code offset) = Unit {0}
 
 -- a client's log is in step with the world about it

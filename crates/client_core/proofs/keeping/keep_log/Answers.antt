@@ -7,7 +7,7 @@ use Rattle.client_core.specs.Journal.{next_notes, bytes_after, journal_with}
 use Rattle.client_core.specs.Keeping.{KeepsNext}
 use Rattle.client_core.proofs.Counting.{unrisen}
 use Rattle.client_core.specs.declared.keeping.Journal.{Journal}
-use Rattle.client_core.specs.Inside.{IsCounted}
+use Rattle.client_core.specs.Inside.{IsCountedBy}
 use Rattle.client_core.proofs.Journal.{no_piece, piece_bytes, next_room, piece_keeps, piece_counted}
 use Rattle.client_core.proofs.Putting.{unwritten_keeps}
 use Rattle.client_core.proofs.keeping.keep_log.Goals as goal
@@ -30,7 +30,7 @@ pub returns-in-Some-clause-counted : goal.returns-in-Some-clause-counted
 returns-in-Some-clause-counted g c =
     let notes = next_notes c.args.journal.now c.args.rose c.args.log.now in
     let j = g.K.Keeper.images c.append_piece.new.keeper in
-    subst (λ (now : Option Journal). IsCounted j c.args.name.now now) (sym c.append_piece.ensures.journal)
+    subst (λ (now : Option Journal). IsCountedBy j c.args.name.now now) (sym c.append_piece.ensures.journal)
     (piece_counted c.args.journal.now notes c.in-Ok.piece c.in-Some.piece c.in-Ok.ensures c.in-Some.is (next_room c.args.journal.now c.args.rose c.args.log.now) c.args.name.now c.args.log.now
     c.append_piece.result (g.K.Keeper.images c.args.keeper.now) j c.requires.counted c.append_piece.ensures.appended)
 

@@ -15,7 +15,7 @@ use Rattle.client_session.specs.Doing.{beside}
 use Rattle.client_lines.specs.InsideRun.{WentNoting, RunAnswers}
 use Rattle.client_lines.proofs.Counting.{source_status, sink_status, keeper_status, source_unopened, sink_unopened, keeper_unopened, same_at_six, rises, rose}
 use Rattle.client_lines.proofs.RunningEnds.{is_read, ends_well}
-use Rattle.client_lines.proofs.RunningOpened.{Begun, not_six, image_is, is_unopened, none_read, around, opened_ran, opened_some, unopened_ran, unopened_some, opened_well, unopened_well, opened_of_none}
+use Rattle.client_lines.proofs.RunningOpened.{BegunRun, not_six, image_is, is_unopened, none_read, around, opened_ran, opened_some, unopened_ran, unopened_some, opened_well, unopened_well, opened_of_none}
 use Rattle.client_lines.proofs.run.session_run.Goals as goal
 
 -- ---- a client was opened
@@ -34,7 +34,7 @@ run-ended-requires g c =
 pub returns-in-Ok : goal.returns-in-Ok
 returns-in-Ok g c =
     let route = c.args.route.now in
-    let run : Begun = record { client = c.args.number; route = route } in
+    let run : BegunRun = record { client = c.args.number; route = route } in
     let left = g.I.Source.left c.args.input.now in
     let o = g.O.Sink.written c.args.output.now in
     let i = g.K.Keeper.images c.args.keeper.now in
@@ -86,7 +86,7 @@ returns-in-Ok g c =
 pub returns-in-Err : goal.returns-in-Err
 returns-in-Err g c =
     let route = c.args.route.now in
-    let run : Begun = record { client = c.args.number; route = route } in
+    let run : BegunRun = record { client = c.args.number; route = route } in
     let left = g.I.Source.left c.args.input.now in
     let o = g.O.Sink.written c.args.output.now in
     let i = g.K.Keeper.images c.args.keeper.now in

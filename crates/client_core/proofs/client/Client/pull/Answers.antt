@@ -5,7 +5,7 @@ use Rattle.client_core.specs.Client.{Client}
 use Rattle.client_core.specs.declared.pulling.PullEnd.{PullEnd}
 use Rattle.client_core.specs.declared.pulling.PullEnd.TheVariants.{Pulled, KeepFault}
 use Rattle.mod_log.specs.Log.{Log}
-use Rattle.client_core.specs.Inside.{PullLeaves, IsCounted}
+use Rattle.client_core.specs.Inside.{PullLeaves, IsCountedBy}
 use Rattle.client_core.specs.Pulling.{PullEnds, is_broken_pull}
 use Rattle.client_core.specs.Keeping.{IsKept, IsReady, KeepsNext}
 use Rattle.client_core.specs.Causes.{HasPullCause, PullKeeps}
@@ -195,7 +195,7 @@ returns-clause-ready g c =
     let told : Told i l (KeepsNext route.image client after None r) = subst (λ (n : List ℕ). Told i l (KeepsNext n client after None r)) c.bytes.ensures.value c.keep_log-kept.ensures.kept in
     current_ready route.image client after c.keep_log-kept.new.journal l
     (subst (JournalIsCurrent l route.image client after) (sym c.keep_log-kept.ensures.journal) (next_current route.image client after None None r i l told))
-    (subst (λ (n : List ℕ). IsCounted l n c.keep_log-kept.new.journal) c.bytes.ensures.value c.keep_log-kept.ensures.counted)
+    (subst (λ (n : List ℕ). IsCountedBy l n c.keep_log-kept.new.journal) c.bytes.ensures.value c.keep_log-kept.ensures.counted)
 
 pub returns-in_default-clause-ready : goal.returns-in_default-clause-ready
 returns-in_default-clause-ready g c =

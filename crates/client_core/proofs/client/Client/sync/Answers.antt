@@ -8,7 +8,7 @@ use Rattle.client_core.specs.declared.syncing.SyncEnd.TheVariants.{Synced, KeepF
 use Rattle.client_core.specs.Causes.{HasSyncCause}
 use Rattle.client_core.specs.Syncing.{IsFirst, taken_upto, end_by, unkept_end}
 use Rattle.client_core.specs.Journal.{next_notes}
-use Rattle.client_core.specs.Inside.{MayKeep, IsCounted, KeepsUpto}
+use Rattle.client_core.specs.Inside.{MayKeep, IsCountedBy, KeepsUpto}
 use Rattle.client_core.specs.Keeping.{IsKept, IsReady}
 use Rattle.client_core.proofs.Counting.{rose_once, unrisen, unkept_rises, end_by_reply}
 use Rattle.client_core.proofs.Journal.{JournalIsCurrent, current_ready, ready_current, ready_counted, may_keep_acked}
@@ -172,7 +172,7 @@ pub keep_upto-requires-clause-counted : goal.keep_upto-requires-clause-counted
 keep_upto-requires-clause-counted g c =
     let now = c.loop-entry.self-inside.journal in
     let j = g.K.Keeper.images c.loop-entry.keeper in
-    subst (λ (n : List ℕ). IsCounted j n now) (sym c.bytes-image.ensures.value) c.loop-entry.invariant.counted
+    subst (λ (n : List ℕ). IsCountedBy j n now) (sym c.bytes-image.ensures.value) c.loop-entry.invariant.counted
 
 -- ---- that could not be kept
 
@@ -274,7 +274,7 @@ returns-in-Err-keep_upto-clause-ready g c =
     let newly : JournalIsCurrent l route.image client c.keep_upto.new.log later = subst (λ (log : Log). JournalIsCurrent l route.image client log later) next_is (current_now client route before journal mid now entry is first i j t u v so_far came shipped later l current (Err c.in-Err-keep_upto.refused) kept) in
     subst (λ (n : ℕ). IsReady l route.image (record { number = n; log = c.keep_upto.new.log; journal = later })) (sym c.loop-entry.invariant.number)
     (current_ready route.image client c.keep_upto.new.log later l newly
-    (subst (λ (n : List ℕ). IsCounted l n later) c.bytes-image.ensures.value c.in-Err-keep_upto.ensures.counted))
+    (subst (λ (n : List ℕ). IsCountedBy l n later) c.bytes-image.ensures.value c.in-Err-keep_upto.ensures.counted))
 
 -- ---- what came ends the sync
 
@@ -393,7 +393,7 @@ returns-in-Some-end_by-clause-ready g c =
     let newly : JournalIsCurrent l route.image client c.keep_upto.new.log later = subst (λ (log : Log). JournalIsCurrent l route.image client log later) next_is (current_now client route before journal mid now entry is first i j t u v so_far came shipped later l current (Ok c.in_default-keep_upto.field-0) kept) in
     subst (λ (n : ℕ). IsReady l route.image (record { number = n; log = c.keep_upto.new.log; journal = later })) (sym c.loop-entry.invariant.number)
     (current_ready route.image client c.keep_upto.new.log later l newly
-    (subst (λ (n : List ℕ). IsCounted l n later) c.bytes-image.ensures.value c.in_default-keep_upto.ensures.counted))
+    (subst (λ (n : List ℕ). IsCountedBy l n later) c.bytes-image.ensures.value c.in_default-keep_upto.ensures.counted))
 
 -- ---- the sync goes on
 
@@ -452,7 +452,7 @@ loop-entry-preserved g c =
       faults = c.in_default-keep_upto.ensures.cause.never (λ is. absurd (cc)) ∙ c.loop-entry.invariant.faults;
       number = c.loop-entry.invariant.number;
       current = newly;
-      counted = subst (λ (n : List ℕ). IsCounted l n later) c.bytes-image.ensures.value c.in_default-keep_upto.ensures.counted;
+      counted = subst (λ (n : List ℕ). IsCountedBy l n later) c.bytes-image.ensures.value c.in_default-keep_upto.ensures.counted;
       did = subst (λ (log : Log). WentSoFar client route before journal log later i l t v) next_is (acked_more client route before journal mid now entry is first i j t u v so_far came shipped later l current c.in_default-keep_upto.field-0 kept c.saturating_add.result on);
     }
 
