@@ -124,8 +124,8 @@ pub record IsTallied (seed count : ℕ) (summary : Summary) : Type 0 where
   pub commands : summary.commands ≡ jobs_upto seed count
 
 -- The lines of a drill were so worked off, and these are the numbers of that session, of its entries that a command made, and of the
--- packets, the troubles and the served state of its network. Where no content that an operation may stand for has the print of another one among
--- the packets, nothing is pending.
+-- packets, the troubles and the served state of its network. Where no content that an operation may stand for has the print of another
+-- one among the packets, nothing is pending.
 pub record Drilled (seed count : ℕ) (runner runner_now : InDrill) (net net_now : NetworkParts InDrill) (summary : Summary) : Type 0 where
   pub worked : WorksOff (script seed count) runner runner_now net net_now summary.worked
   pub counted : IsTallied seed count summary

@@ -6,10 +6,11 @@ use Rattle.outside.proofs.Taking.{takes_nothing, takes_then, takes_read}
 use Rattle.client_lines.specs.declared.input.InputEnd.{InputEnd}
 use Rattle.client_lines.specs.declared.input.InputEnd.TheVariants.{Read, Failed, TooLong}
 use Rattle.client_lines.specs.Limits.{max_input}
-use Rattle.client_lines.specs.Input.{last_at, Reading, IsAtEnd, EndsAt, ReadsPiece, within_limit, lines_at, HasRead}
+use Rattle.client_lines.specs.Input.{last_at, Reading, IsAtEnd, EndsAt, ReadsPiece, within_limit, lines_at}
 use Rattle.shell_lang.specs.Lines.{cut_lines, whole_lines, unfinished, lines_of, last_line}
 use Rattle.shell_lang.proofs.Cutting.{piece_added, all_lines_taken}
 use Rattle.store_image.proofs.Appended.{take_none, take_past}
+use Rattle.client_lines.proofs.SoFar.{HasRead}
 
 -- nothing was read
 pub no_piece : (left rest : Option (List ℕ)) (reading : Reading) (end : InputEnd) → Takes left rest [] → EndsAt rest reading.count end → ReadsPiece left rest reading reading (Some end)

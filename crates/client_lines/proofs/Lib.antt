@@ -14,3 +14,4 @@ pub mod RunningPeers
 pub mod RunningPieces
 pub mod RunningRecords
 pub mod Completing
+pub mod SoFar

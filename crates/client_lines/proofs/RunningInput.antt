@@ -8,9 +8,10 @@ use Rattle.shell_lang.proofs.Cutting.{parts_are, line_taken, all_lines_taken, bu
 use Rattle.client_lines.specs.declared.run.Stop.{Stop}
 use Rattle.client_session.specs.Session.{SessionState}
 use Rattle.client_lines.specs.Run.{quits, has_quit, up_to_quit}
-use Rattle.client_lines.specs.InsideRun.{AllAnswered, FrontAnswered, CutsFront, AnswersFront}
+use Rattle.client_lines.specs.InsideRun.{AllAnswered, FrontAnswered}
 use Rattle.client_lines.proofs.Quitting.{no_quit_then, one_line, up_to_line, quit_at, quit_behind, quit_in_front, all_lines}
 use Rattle.client_lines.proofs.RunningLines.{answers_nothing, answers_then, then_stops, stops_sooner}
+use Rattle.client_lines.proofs.SoFar.{CutsFront, AnswersFront}
 
 -- the whole lines are those behind, and then those of the bytes that are left
 pub cut_whole : (text bytes : List ℕ) (behind : List (List ℕ)) → IsCutUpTo text behind bytes → whole_lines text ≡ behind ++ whole_lines bytes

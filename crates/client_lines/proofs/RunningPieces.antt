@@ -14,14 +14,15 @@ use Rattle.client_lines.specs.declared.input.InputEnd.TheVariants.{Read, Failed,
 use Rattle.client_lines.specs.Limits.{max_input}
 use Rattle.client_lines.specs.declared.run.Stop.{Stop}
 use Rattle.client_lines.specs.declared.run.Stop.TheVariants.{Memory}
-use Rattle.client_lines.specs.Input.{last_at, Reading, EndsAt, GoesOnOrEnds, ReadsPiece, HasRead, within_limit, lines_at}
+use Rattle.client_lines.specs.Input.{last_at, Reading, EndsAt, GoesOnOrEnds, ReadsPiece, within_limit, lines_at}
 use Rattle.client_session.specs.Session.{SessionState}
 use Rattle.client_lines.specs.Run.{HasLines, has_quit, up_to_quit, ended_input}
-use Rattle.client_lines.specs.InsideRun.{AllAnswered, FrontAnswered, ReadsSoFar, AnswersSoFar, AnswersInput, HasUnfinished}
+use Rattle.client_lines.specs.InsideRun.{AllAnswered, FrontAnswered, AnswersInput, HasUnfinished}
 use Rattle.client_lines.proofs.InputReading.{has_read_none, has_read_piece, has_read_all}
 use Rattle.client_lines.proofs.Quitting.{all_lines, behind_no_quit, ends_in_front, front_of, quit_behind, quit_in_front, no_quit_then, last_up_to, end_stays}
 use Rattle.client_lines.proofs.RunningLines.{answers_nothing, answers_then, then_stops, stops_sooner, stops_behind}
 use Rattle.client_lines.proofs.RunningInput.{cut_whole}
+use Rattle.client_lines.proofs.SoFar.{HasRead, ReadsSoFar, AnswersSoFar}
 
 -- ---- how reading stands
 

@@ -45,13 +45,6 @@ lines_at Read input = lines_of input
 lines_at Failed input = whole_lines input
 lines_at TooLong input = whole_lines (within_limit input)
 
--- of the bytes that were taken of a source these lines are behind, and the rest within the limit is still to be cut
-pub record HasRead (left rest : Option (List ℕ)) (reading : Reading) (behind : List (List ℕ)) : Type 0 where
-  pub input : List ℕ
-  pub taken : Takes left rest input
-  pub count : reading.count ≡ length input
-  pub cut : IsCutUpTo (within_limit input) behind reading.bytes
-
 -- the line that the end of an input makes of the bytes behind its last line end
 abbrev pub last_at : InputEnd → List ℕ → List (List ℕ)
 last_at Read bytes = last_line bytes

@@ -1,5 +1,5 @@
 -- Words that only contracts below the whole run cite, of its input and of its lines.
-use Rattle.std.specs.Prelude.{◌≡◌, ℕ, false, List, [], ◌∷◌, Option, None, Some, Result, Ok, Err, IfOk, nat_lt, if◌then◌else◌}
+use Rattle.std.specs.Prelude.{◌≡◌, ℕ, List, [], ◌∷◌, Option, None, Some, Result, Ok, Err, IfOk, nat_lt, if◌then◌else◌}
 use Rattle.outside.specs.Outside.{Adds}
 use Rattle.outside.specs.Keeper.{Images}
 use Rattle.mod_log.specs.Log.{Log}
@@ -7,16 +7,16 @@ use Rattle.client_core.specs.declared.route.Route.{Route}
 use Rattle.client_core.specs.Client.{Client}
 use Rattle.client_core.specs.Trace.{Trace}
 use Rattle.client_core.specs.Noting.{ReplacesNone, KeepsChanges}
-use Rattle.shell_lang.specs.Lines.{cut_lines, unfinished, IsCutUpTo}
+use Rattle.shell_lang.specs.Lines.{cut_lines, unfinished}
 use Rattle.client_lines.specs.declared.input.InputEnd.{InputEnd}
 use Rattle.client_lines.specs.declared.input.InputEnd.TheVariants.{TooLong}
 use Rattle.client_lines.specs.declared.run.Stop.{Stop}
 use Rattle.client_lines.specs.Limits.{max_input}
-use Rattle.client_lines.specs.Input.{Reading, HasRead}
+use Rattle.client_lines.specs.Input.{Reading}
 use Rattle.shell_lang.specs.declared.answer.LineAnswer.{LineAnswer}
 use Rattle.client_session.specs.Session.{SessionState, Sitting, state_of, Chain, AreTexts}
 use Rattle.client_session.specs.Doing.{Telling, WentDoing}
-use Rattle.client_lines.specs.Run.{HasLines, StopsIn, WholeRun, asked_for, has_quit}
+use Rattle.client_lines.specs.Run.{HasLines, StopsIn, WholeRun, asked_for}
 
 -- the end of an input of which so many bytes were read, where one is past the limit
 abbrev pub end_by_count : ℕ → Option InputEnd
@@ -54,31 +54,11 @@ AnswersLines route before lines old new (Ok done) after kept trace =
     AllAnswered route before lines old new after trace × (kept ≡ after.client.log)
 AnswersLines route before lines old new (Err stop) after kept trace = FrontAnswered stop route before lines old new after kept trace
 
--- the lines in front of the bytes that are left, of which none quits
-abbrev pub CutsFront : List ℕ → List ℕ → List (List ℕ) → Type 0
-CutsFront bytes left lines = IsCutUpTo bytes lines left × (has_quit lines ≡ false)
-
--- they were answered
-abbrev pub AnswersFront : Route → SessionState → List ℕ → List ℕ → Option (List ℕ) → Option (List ℕ) → SessionState → Trace → Type 0
-AnswersFront route before bytes left old new after trace =
-    (lines : List (List ℕ)) × CutsFront bytes left lines × AllAnswered route before lines old new after trace
-
 -- all lines were cut: the bytes behind the last line end are left
 pub record HasUnfinished (old new : Reading) : Type 0 where
   pub bytes : new.bytes ≡ unfinished old.bytes
   pub no_line : cut_lines new.bytes ≡ new.bytes ∷ []
   pub count : new.count ≡ old.count
-
--- so much was read, and of the lines that are behind none quits
-pub record ReadsSoFar (left rest : Option (List ℕ)) (reading : Reading) (behind : List (List ℕ)) : Type 0 where
-  pub read : HasRead left rest reading behind
-  pub no_quit : has_quit behind ≡ false
-
--- they were answered
-abbrev pub AnswersSoFar : Route → SessionState → Option (List ℕ) → Option (List ℕ) → Reading → Option (List ℕ) → Option (List ℕ)
-    → SessionState → Trace → Type 0
-AnswersSoFar route before left rest reading old new after trace =
-    (behind : List (List ℕ)) × ReadsSoFar left rest reading behind × AllAnswered route before behind old new after trace
 
 -- an input was taken, and came to an end or was stopped
 abbrev pub TakesInput : Option (List ℕ) → Option (List ℕ) → Result InputEnd Stop → Type 0

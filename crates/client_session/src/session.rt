@@ -276,8 +276,9 @@ impl Session {
             (LineNoting route.now self.old (Ok Line.Sync) (told result) self.new (K.images keeper.old) (K.images keeper.new))
             (state_of self.old) (state_of self.new) (K.images keeper.old) (K.images keeper.new)
             (beside (L.tells link.old) runner) (beside (L.tells link.new) runner) }
-        ensures cause { (runner : RunnerTelling) → HasLineCause route.now (state_of self.old) (Ok Line.Sync) (told result) (state_of self.new)
-            (beside (L.tells link.old) runner) (beside (L.tells link.new) runner) (K.faults keeper.old) (K.faults keeper.new) }
+        ensures cause { (runner : RunnerTelling) → HasLineCause route.now (state_of self.old) (Ok Line.Sync) (told result)
+            (state_of self.new) (beside (L.tells link.old) runner) (beside (L.tells link.new) runner)
+            (K.faults keeper.old) (K.faults keeper.new) }
         ensures kept { IfOk result (λ answer. IsKeptReady (K.images keeper.new) route.now.image self.new.client) }
         ensures later { (L.tells link.old).troubles ≤ (L.tells link.new).troubles }
         ensures keeper { CountsFault LineStop.Keeper (K.faults keeper.old) (K.faults keeper.new) result }
@@ -294,11 +295,12 @@ impl Session {
     ) -> Result<LineAnswer, LineStop>
         requires { IsKeptReady (K.images keeper.old) route.now.image self.old.client }
         ensures did { (runner : RunnerTelling) → WentDoing route.now
-            (LineEnds route.now (state_of self.old) (Ok Line.Pull) (told result) (state_of self.new)) (state_of self.old) (state_of self.new)
-            (K.images keeper.old) (K.images keeper.new)
+            (LineEnds route.now (state_of self.old) (Ok Line.Pull) (told result) (state_of self.new)) (state_of self.old)
+            (state_of self.new) (K.images keeper.old) (K.images keeper.new)
             (beside (L.tells link.old) runner) (beside (L.tells link.new) runner) }
-        ensures cause { (runner : RunnerTelling) → HasLineCause route.now (state_of self.old) (Ok Line.Pull) (told result) (state_of self.new)
-            (beside (L.tells link.old) runner) (beside (L.tells link.new) runner) (K.faults keeper.old) (K.faults keeper.new) }
+        ensures cause { (runner : RunnerTelling) → HasLineCause route.now (state_of self.old) (Ok Line.Pull) (told result)
+            (state_of self.new) (beside (L.tells link.old) runner) (beside (L.tells link.new) runner)
+            (K.faults keeper.old) (K.faults keeper.new) }
         ensures kept { IfOk result (λ answer. IsKeptReady (K.images keeper.new) route.now.image self.new.client) }
         ensures records { IfOk result (λ answer. has_pulled (Ok Line.Pull) (Some answer) ≡ false
             → KeepsLogged route.now.image self.old.client self.new.client (K.images keeper.old) (K.images keeper.new)) }

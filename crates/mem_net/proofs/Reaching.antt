@@ -22,11 +22,19 @@ use Rattle.mem_wires.specs.Spending.{AreQuiet, TakesFront, quiet_front, quiet_be
 use Rattle.mem_net.specs.Scenes.{Scene, with_world, with_fates, IsHandled, IsLateOperation, Befalls, FrontDecides, Reaches, IsReached, TakesFates}
 use Rattle.mem_net.specs.Scenes.{IsUnhandled, BefallsInPart, AllBefall, IsCutBefore}
 use Rattle.mem_wires.specs.Underway.{MovedFree}
-use Rattle.mem_net.specs.Inside.{GoesFree, FrontWaits, Nears, TakesBeside}
+use Rattle.mem_net.specs.Inside.{GoesFree, FrontWaits, TakesBeside}
 use Rattle.mem_wires.proofs.Steps.{free_none, free_then, free_as}
 use Rattle.mem_wires.proofs.Deciding.{left_by_waiting, gone_waiting, taken_is_end}
 use Rattle.mem_wires.proofs.Spent.{takes_none, takes_then, quiet_after, taken_as}
 use Rattle.mem_net.proofs.Handling.{scene_by, stays_by}
+
+-- Fates that decide nothing happened: whatever is reached from here is reached from before.
+pub record Nears (start now : Scene) (old new : Wire) : Type 0 where
+  pub steps : ℕ
+  pub reaches : (count : ℕ) (fate : Fate) (reached : Scene) → Reaches count now fate reached → Reaches (steps + count) start fate reached
+  pub befell : AllBefall steps start now
+  pub goes : GoesFree old new
+  pub front : (new.fates ≡ old.fates) ⊎ FrontWaits old.fates
 
 -- ---- moves of no client's own, in a row
 

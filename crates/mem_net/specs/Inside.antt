@@ -1,11 +1,10 @@
 -- Words that only contracts inside the network in memory cite.
-use Rattle.std.specs.Prelude.{◌≡◌, ◌⊎◌, ℕ, ◌+◌, ◌≤◌, false, List, ◌∷◌}
+use Rattle.std.specs.Prelude.{◌≡◌, ℕ, ◌≤◌, false, List, ◌∷◌}
 use Rattle.mem_wires.specs.declared.fate.Fate.{Fate}
 use Rattle.mem_wires.specs.Wire.{Wire, world_of}
 use Rattle.mem_wires.specs.Fates.{decides, is_trouble, AreTakenFrom}
 use Rattle.mem_wires.specs.Spending.{AreQuiet, TakesFront}
 use Rattle.mem_wires.specs.Underway.{MovedFree}
-use Rattle.mem_net.specs.Scenes.{Scene, Reaches, AllBefall}
 
 -- what goes on while a request is not yet answered: moves of no client's own, and fates from the front
 pub record GoesFree (old new : Wire) : Type 0 where
@@ -15,14 +14,6 @@ pub record GoesFree (old new : Wire) : Type 0 where
 -- the first of the fates, where there is one, decides no ask
 abbrev pub FrontWaits : List Fate → Type 0
 FrontWaits fates = (first : Fate) (rest : List Fate) → fates ≡ first ∷ rest → decides first ≡ false
-
--- Fates that decide nothing happened: whatever is reached from here is reached from before.
-pub record Nears (start now : Scene) (old new : Wire) : Type 0 where
-  pub steps : ℕ
-  pub reaches : (count : ℕ) (fate : Fate) (reached : Scene) → Reaches count now fate reached → Reaches (steps + count) start fate reached
-  pub befell : AllBefall steps start now
-  pub goes : GoesFree old new
-  pub front : (new.fates ≡ old.fates) ⊎ FrontWaits old.fates
 
 -- Fates were taken from the front while this fate was met. Where it is no trouble, and none of them is, none was counted.
 pub record TakesBeside (fate : Fate) (fates left : List Fate) (troubles now : ℕ) : Type 0 where

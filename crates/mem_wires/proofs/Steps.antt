@@ -7,7 +7,7 @@ use Rattle.tree_values.specs.Lists.{IsIn}
 use Rattle.vol_tree.proofs.Behind.{IsIn-left}
 use Rattle.wire_frames.specs.declared.message.Message.{Message}
 use Rattle.wire_frames.specs.declared.message.FrameError.{FrameError}
-use Rattle.wire_frames.specs.Frame.{IsValid, client_of}
+use Rattle.wire_frames.specs.Frame.{IsValid, Spells, client_of}
 use Rattle.world_rules.specs.declared.asking.Peer.{Peer}
 use Rattle.world_rules.specs.declared.asking.Ask.{Ask}
 use Rattle.world_rules.specs.declared.asking.Answer.{Answer}
@@ -21,8 +21,20 @@ use Rattle.world_rules.proofs.Asks.{IsIn-last, moved_by_then, moved_by_none, mov
 use Rattle.mem_wires.specs.declared.fate.Fate.{Fate}
 use Rattle.mem_wires.specs.declared.fate.Fate.TheVariants.{Pass, LoseRequest, LoseReply, Twice, Old, Late, Inject, Stop}
 use Rattle.mem_wires.specs.Fates.{answered, IsAnswered, IsAnsweredByOld, is_trouble, troubles_after}
-use Rattle.mem_wires.specs.Underway.{MovedFree, IsSent, AsksSent, IsDirectlySent, MeetsUnlessMemory}
+use Rattle.mem_wires.specs.Underway.{MovedFree, IsSent, AsksSent, MeetsUnlessMemory}
 use Rattle.mem_wires.proofs.Taking.{answer-echoes, rose_if}
+
+-- the answer spells what the server answers at some moment after the request was sent
+record IsFreshSent (to : Peer) (address : List ℕ) (request reply : Message) (old new : World) : Type 0 where
+  pub moment : World
+  pub before : MovedBy (Is request) [] old moment
+  pub after : MovedBy (Is request) (ask_of to address request (Reply reply) ∷ []) moment new
+  pub is : reply ≡ answer request moment.served
+
+abbrev IsDirectlySent : Peer → List ℕ → Message → World → World → Result (Vec ℕ Global) LinkError → Type 0
+IsDirectlySent to address request old new (Ok frame) =
+    (reply : Message) × Spells reply frame.items × IsFreshSent to address request reply old new
+IsDirectlySent to address request old new (Err error) = Unit {0}
 
 -- the packet of a number is among the packets
 pub got_in : (xs : List Message) (k : ℕ) (x : Message) → slice_get xs k ≡ Some x → IsIn x xs

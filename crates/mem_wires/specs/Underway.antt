@@ -37,18 +37,6 @@ AsksSent to address request old new (Err Failed) = MovedBy (Is request) (ask_of 
 AsksSent to address request old new (Err Memory) =
     MovedBy (Is request) (ask_of to address request answers.Memory ∷ []) old new ⊎ MovedBy (Is request) [] old new
 
--- the answer spells what the server answers at some moment after the request was sent
-pub record IsFreshSent (to : Peer) (address : List ℕ) (request reply : Message) (old new : World) : Type 0 where
-  pub moment : World
-  pub before : MovedBy (Is request) [] old moment
-  pub after : MovedBy (Is request) (ask_of to address request (Reply reply) ∷ []) moment new
-  pub is : reply ≡ answer request moment.served
-
-abbrev pub IsDirectlySent : Peer → List ℕ → Message → World → World → Result (Vec ℕ Global) LinkError → Type 0
-IsDirectlySent to address request old new (Ok frame) =
-    (reply : Message) × Spells reply frame.items × IsFreshSent to address request reply old new
-IsDirectlySent to address request old new (Err error) = Unit {0}
-
 -- the fates and the troubles are as before
 abbrev pub KeepsFates : Wire → Wire → Type 0
 KeepsFates old new = (new.fates ≡ old.fates) × (new.troubles ≡ old.troubles)

@@ -20,7 +20,8 @@ pub(crate) fn tell_root<K: Keeper, O: Sink>(
     keeper: &mut K,
     output: &mut O,
 ) -> Result<(), Stopped>
-    ensures writes { WritesByEnd root_line (kept_under name.now (K.images keeper.old)) (O.written output.old) (O.written output.new) result }
+    ensures writes { WritesByEnd root_line (kept_under name.now (K.images keeper.old)) (O.written output.old) (O.written output.new)
+        result }
     ensures images { K.images keeper.new ≡ K.images keeper.old }
     ensures sink { CountsFault Stopped.Sink (O.faults output.old) (O.faults output.new) result }
     ensures keeper { CountsFault Stopped.Keeper (K.faults keeper.old) (K.faults keeper.new) result }

@@ -59,7 +59,8 @@ presence_of (Some row) = Present
 
 -- the place of a path is behind all rows below it
 abbrev pub certificate_head_of : Volume → FilePath → CertificateHead
-certificate_head_of rows asked = record { count = length rows; kind = presence_of (row_at rows asked); index = length (rows_below rows asked) }
+certificate_head_of rows asked =
+    record { count = length rows; kind = presence_of (row_at rows asked); index = length (rows_below rows asked) }
 
 -- each of these rows, which stand in a tree with these digests from a place on, with the digests beside its way
 abbrev pub leaves_from : List Digest → ℕ → List Row → List Leaf

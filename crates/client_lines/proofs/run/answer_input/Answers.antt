@@ -11,12 +11,13 @@ use Rattle.client_lines.specs.declared.run.Stop.TheVariants.{Memory}
 use Rattle.client_lines.specs.declared.run.Stop.TheVariants as stops
 use Rattle.client_lines.specs.Input.{last_at, Reading, EndsAt, GoesOnOrEnds}
 use Rattle.client_lines.specs.Run.{has_quit, up_to_quit}
-use Rattle.client_lines.specs.InsideRun.{AnswersLines, AnswersSoFar, AnswersInput, HasUnfinished}
+use Rattle.client_lines.specs.InsideRun.{AnswersLines, AnswersInput, HasUnfinished}
 use Rattle.client_lines.proofs.Counting.{no_fault, no_source_fault, same_fault, wanted_fault}
 use Rattle.client_lines.proofs.RunningPieces.{reads_none, reads_more, failed_in, quits_in, stops_in, lost_in, all_in, ends_at, so_far_none, so_far_more, so_far_failed, so_far_quits, so_far_stops, so_far_lost, all_answered, all_stops}
 use Rattle.client_lines.proofs.RunningRecords.{KeptNoting, noting_none, noting_as, noting_then, noting_next, noting_stops}
 use Rattle.client_lines.proofs.run.answer_input.Goals.{in-Some+in-Read-1, in-None-1}
 use Rattle.client_lines.proofs.run.answer_input.Goals as goal
+use Rattle.client_lines.proofs.SoFar.{AnswersSoFar}
 
 pub loop-reader-init : goal.loop-reader-init
 loop-reader-init g c =

@@ -5,9 +5,9 @@ use Rattle.cmd_capture.specs.Runs.{telling}
 use Rattle.client_session.specs.Session.{state_of}
 use Rattle.client_session.specs.Doing.{beside}
 use Rattle.client_lines.specs.Limits.{max_input}
-use Rattle.client_lines.specs.InsideRun.{ReadsSoFar, AnswersSoFar}
 use Rattle.client_lines.proofs.RunningRecords.{KeptNoting}
 use Rattle.client_lines.proofs.run.answer_input.Given as goal
+use Rattle.client_lines.proofs.SoFar.{ReadsSoFar, AnswersSoFar}
 
 abbrev pub invariant-loop-reader : goal.invariant-loop-reader
 invariant-loop-reader g l = record {

@@ -9,11 +9,12 @@ use Rattle.client_lines.specs.declared.run.Stop.{Stop}
 use Rattle.client_lines.specs.declared.run.Stop.TheVariants as stops
 use Rattle.client_lines.specs.Input.{Reading}
 use Rattle.client_lines.specs.Run.{quits, up_to_quit}
-use Rattle.client_lines.specs.InsideRun.{AnswersLines, AnswersFront}
+use Rattle.client_lines.specs.InsideRun.{AnswersLines}
 use Rattle.client_lines.proofs.Counting.{no_fault, same_fault}
 use Rattle.client_lines.proofs.RunningInput.{line_cut, one_quits, no_line_quits, front_none, front_line, front_quits, front_stops, front_done}
 use Rattle.client_lines.proofs.RunningRecords.{noting_none, noting_as, noting_then, noting_next, noting_stops}
 use Rattle.client_lines.proofs.run.answer_lines.Goals as goal
+use Rattle.client_lines.proofs.SoFar.{AnswersFront}
 
 pub loop-line-init : goal.loop-line-init
 loop-line-init g c =

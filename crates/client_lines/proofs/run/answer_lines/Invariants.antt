@@ -3,9 +3,9 @@ use Rattle.client_core.specs.Keeping.{IsKeptReady}
 use Rattle.cmd_capture.specs.Runs.{telling}
 use Rattle.client_session.specs.Session.{state_of}
 use Rattle.client_session.specs.Doing.{beside}
-use Rattle.client_lines.specs.InsideRun.{CutsFront, AnswersFront}
 use Rattle.client_lines.proofs.RunningRecords.{KeptNoting}
 use Rattle.client_lines.proofs.run.answer_lines.Given as goal
+use Rattle.client_lines.proofs.SoFar.{CutsFront, AnswersFront}
 
 abbrev pub invariant-loop-line : goal.invariant-loop-line
 invariant-loop-line g l = record {

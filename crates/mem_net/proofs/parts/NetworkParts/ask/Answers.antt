@@ -19,7 +19,7 @@ use Rattle.mem_net.proofs.Meeting.{quiet_meets, quiet_operates, alone_met, rose_
 use Rattle.mem_net.proofs.Meeting.{stays_met, is_cut, is_cut_before}
 use Rattle.mem_wires.proofs.Deciding.{left_is_end}
 use Rattle.mem_net.proofs.Early.{reached_early, lone_in_want, lone_met}
-use Rattle.mem_net.proofs.parts.Parts.ask.Goals as goal
+use Rattle.mem_net.proofs.parts.NetworkParts.ask.Goals as goal
 
 -- ---- want of memory before the ask is decided
 

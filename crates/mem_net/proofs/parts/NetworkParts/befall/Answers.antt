@@ -4,7 +4,7 @@ use Rattle.cmd_capture.specs.Runs.{telling}
 use Rattle.mem_wires.specs.declared.fate.Fate.{Fate}
 use Rattle.mem_net.specs.Scenes.{scene_of, Befalls, BefallsInPart}
 use Rattle.mem_net.proofs.Reaching.{kept_in_part}
-use Rattle.mem_net.proofs.parts.Parts.befall.Goals as goal
+use Rattle.mem_net.proofs.parts.NetworkParts.befall.Goals as goal
 
 pub returns-in_ok-late-in-Late-clause-befalls : goal.returns-in_ok-late-in-Late-clause-befalls
 returns-in_ok-late-in-Late-clause-befalls g c =

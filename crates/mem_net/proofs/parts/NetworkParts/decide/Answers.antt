@@ -6,7 +6,7 @@ use Rattle.mem_wires.specs.declared.fate.Fate.TheVariants.{Pass}
 use Rattle.mem_net.specs.Scenes.{Scene, scene_of, Befalls, IsReached, BefallsInPart}
 use Rattle.mem_wires.proofs.Deciding.{undecided, decided_by, gone_waiting}
 use Rattle.mem_net.proofs.Reaching.{goes_on, taken_scene, untaken_scene, nears_on, reached_by, fewer_left, cut_on, reached_end}
-use Rattle.mem_net.proofs.parts.Parts.decide.Goals as goal
+use Rattle.mem_net.proofs.parts.NetworkParts.decide.Goals as goal
 
 pub returns-in_err-decided-clause-goes : goal.returns-in_err-decided-clause-goes
 returns-in_err-decided-clause-goes g c =

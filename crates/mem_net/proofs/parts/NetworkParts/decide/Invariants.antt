@@ -1,8 +1,8 @@
 use Rattle.std.proofs.Common.{◌≡◌, length}
 use Rattle.surrogate_core.specs.Handling.{Idle}
 use Rattle.mem_net.specs.Scenes.{scene_of}
-use Rattle.mem_net.specs.Inside.{Nears}
-use Rattle.mem_net.proofs.parts.Parts.decide.Given as goal
+use Rattle.mem_net.proofs.Reaching.{Nears}
+use Rattle.mem_net.proofs.parts.NetworkParts.decide.Given as goal
 
 abbrev pub invariant-loop-fate : goal.invariant-loop-fate
 invariant-loop-fate g l = record {

@@ -10,7 +10,7 @@ use Rattle.mem_wires.specs.declared.fate.Fate.TheVariants.{Late}
 use Rattle.mem_wires.proofs.Steps.{got_in}
 use Rattle.byte_fields.proofs.Fronts.{on_error}
 use Rattle.mem_net.proofs.Reaching.{kept_in_part, stays_in_part, operation_in_part}
-use Rattle.mem_net.proofs.parts.Parts.late.Goals as goal
+use Rattle.mem_net.proofs.parts.NetworkParts.late.Goals as goal
 
 pub operate-handled-requires-clause-sent : goal.operate-handled-requires-clause-sent
 operate-handled-requires-clause-sent g c =

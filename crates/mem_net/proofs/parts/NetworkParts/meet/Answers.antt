@@ -10,7 +10,7 @@ use Rattle.mem_net.specs.Scenes.{scene_of, UnlessMemory, MeetsOperation, OnMemor
 use Rattle.mem_wires.proofs.Steps.{asks_later, lost_once}
 use Rattle.mem_wires.proofs.Spent.{takes_then}
 use Rattle.mem_net.proofs.Meeting.{alone_met, lost_reply_met, twice_met, old_once, beside_quiet, on_memory, stays_met, cut_after}
-use Rattle.mem_net.proofs.parts.Parts.meet.Goals as goal
+use Rattle.mem_net.proofs.parts.NetworkParts.meet.Goals as goal
 
 -- ---- the reply is lost
 

@@ -4,7 +4,7 @@ use Rattle.wire_frames.specs.declared.message.Message.{Message}
 use Rattle.cmd_capture.specs.Runs.{telling}
 use Rattle.mem_net.specs.Scenes.{scene_of, HasServed}
 use Rattle.mem_net.proofs.Handling.{joined_handled, joined_not, joined_goes, stays_as_it_is}
-use Rattle.mem_net.proofs.parts.Parts.operate.Goals as goal
+use Rattle.mem_net.proofs.parts.NetworkParts.operate.Goals as goal
 
 pub returns-in-Ok-clause-handled : goal.returns-in-Ok-clause-handled
 returns-in-Ok-clause-handled g c =

@@ -2,7 +2,7 @@ use Rattle.std.proofs.Common.{inl, inr}
 use Rattle.cmd_capture.specs.Runs.{telling}
 use Rattle.mem_net.specs.Scenes.{scene_of}
 use Rattle.mem_net.proofs.Meeting.{pass_met, pass_once, cut_passing}
-use Rattle.mem_net.proofs.parts.Parts.pass.Goals as goal
+use Rattle.mem_net.proofs.parts.NetworkParts.pass.Goals as goal
 
 pub returns-in-Ok-clause-met : goal.returns-in-Ok-clause-met
 returns-in-Ok-clause-met g c =

@@ -9,7 +9,7 @@ use Rattle.mem_net.specs.Scenes.{scene_of}
 use Rattle.mem_wires.specs.Underway.{IsSent}
 use Rattle.mem_wires.proofs.Delivering.{sent_among, always, was_sent}
 use Rattle.mem_net.proofs.Reaching.{unsent, cut_sent}
-use Rattle.mem_net.proofs.parts.Parts.reach.Goals as goal
+use Rattle.mem_net.proofs.parts.NetworkParts.reach.Goals as goal
 
 pub returns-clause-moved : goal.returns-clause-moved
 returns-clause-moved g c =

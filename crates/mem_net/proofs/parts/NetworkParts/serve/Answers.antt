@@ -2,7 +2,7 @@ use Rattle.std.proofs.Common.{◌∙◌, ap, take}
 use Rattle.cmd_capture.specs.Runs.{telling}
 use Rattle.mem_wires.specs.Wire.{Wire}
 use Rattle.mem_net.proofs.Handling.{serve_goes, has_served, serve_echoes, serve_free}
-use Rattle.mem_net.proofs.parts.Parts.serve.Goals as goal
+use Rattle.mem_net.proofs.parts.NetworkParts.serve.Goals as goal
 
 pub returns-clause-served : goal.returns-clause-served
 returns-clause-served g c =
