@@ -74,6 +74,6 @@ LeadsOn window next =
     (next ≡ window) ⊎ ((window_bytes ≤ window.moved) × (now : Instant) × (limit window ≤ spent window now) × (next ≡ fresh now))
 
 -- a call moved so many bytes in the window that held then, or it failed
-abbrev pub Moves : {E : Type 0} → Result ℕ E → Window → Window → Type 0
-Moves (Ok count) before after = (window : Window) × LeadsOn before window × (after ≡ after_bytes count window)
-Moves (Err e) before after = LeadsOn before after
+abbrev pub MovesBytes : {E : Type 0} → Result ℕ E → Window → Window → Type 0
+MovesBytes (Ok count) before after = (window : Window) × LeadsOn before window × (after ≡ after_bytes count window)
+MovesBytes (Err e) before after = LeadsOn before after

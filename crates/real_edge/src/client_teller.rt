@@ -13,7 +13,7 @@ const ASKS: u32 = 8;
 
 /// What came of the command of an entry.
 #[derive(Drop)]
-enum Outcome {
+enum CommandEnd {
     /// No surrogate has answered yet.
     Unanswered,
     /// A surrogate declined it: why, in words.
@@ -24,14 +24,14 @@ enum Outcome {
 
 /// An entry whose command a surrogate was asked to run.
 #[derive(Drop)]
-struct Command {
+struct ToldCommand {
     client: u8,
     number: u64,
     /// How many bytes its operation has.
     bytes: usize,
     /// How many bytes the contents have for which that stands.
     contents: Option<u64>,
-    outcome: Outcome,
+    outcome: CommandEnd,
     /// How many bytes its store has, once that is asked.
     store_bytes: usize,
     /// How many asks of the store have failed.
@@ -47,7 +47,7 @@ pub struct ClientTeller<'a, R: Eprint + Clock + AllocGlobal> {
     progress: Progress<'a, R>,
     /// The request that is asked now.
     asked: Option<Head>,
-    command: Option<Command>,
+    command: Option<ToldCommand>,
 }
 
 impl<'a, R: Eprint + Clock + AllocGlobal> ClientTeller<'a, R> {
@@ -94,7 +94,7 @@ impl<'a, R: Eprint + Clock + AllocGlobal> ClientTeller<'a, R> {
     }
 
     /// Takes note of an operation's answer. Answers whether the entry is settled.
-    fn is_operated(&self, command: &mut Command, reply: Option<&[u8]>) -> bool {
+    fn is_operated(&self, command: &mut ToldCommand, reply: Option<&[u8]>) -> bool {
         let Some(reply) = reply else {
             return false;
         };
@@ -107,7 +107,7 @@ impl<'a, R: Eprint + Clock + AllocGlobal> ClientTeller<'a, R> {
     }
 
     /// Takes note of a store's answer. Answers whether the entry is settled.
-    fn is_stored(&self, command: &mut Command, reply: Option<&[u8]>) -> bool {
+    fn is_stored(&self, command: &mut ToldCommand, reply: Option<&[u8]>) -> bool {
         match reply {
             Some(reply) if is_of_kind(reply, Kind::Accepted) => self.tell_files(command),
             Some(_) => self.tell_declined(command),
@@ -123,7 +123,7 @@ impl<'a, R: Eprint + Clock + AllocGlobal> ClientTeller<'a, R> {
     }
 
     /// Tells that the entry went as its command.
-    fn tell_done(&self, command: &Command) {
+    fn tell_done(&self, command: &ToldCommand) {
         let (program, number) = (self.program, command.number);
         let sent = bytes(command.bytes);
         if let Some(contents) = command.contents {
@@ -135,31 +135,31 @@ impl<'a, R: Eprint + Clock + AllocGlobal> ClientTeller<'a, R> {
     }
 
     /// Tells that the entry's files went in place of its command, and why.
-    fn tell_files(&self, command: &Command) {
+    fn tell_files(&self, command: &ToldCommand) {
         let (program, number) = (self.program, command.number);
         let sent = bytes(command.store_bytes);
         let _ = match &command.outcome {
-            Outcome::Unanswered => eprintln!(self.rt;
+            CommandEnd::Unanswered => eprintln!(self.rt;
                 "{program}: entry {number}: no surrogate answered; its files went, {sent} bytes"
             ),
-            Outcome::Declined(cause) => eprintln!(self.rt;
+            CommandEnd::Declined(cause) => eprintln!(self.rt;
                 "{program}: entry {number}: declined: {cause}; its files went, {sent} bytes"
             ),
-            Outcome::Unknown => Ok(()),
+            CommandEnd::Unknown => Ok(()),
         };
     }
 
     /// Tells why the entry's command was declined, where it was.
-    fn tell_declined(&self, command: &Command) {
+    fn tell_declined(&self, command: &ToldCommand) {
         let (program, number) = (self.program, command.number);
-        if let Outcome::Declined(cause) = &command.outcome {
+        if let CommandEnd::Declined(cause) = &command.outcome {
             let _ = eprintln!(self.rt; "{program}: entry {number}: declined: {cause}");
         }
     }
 }
 
 /// Whether the request is about the command's entry.
-fn is_about(command: &Option<Command>, request: Head) -> bool {
+fn is_about(command: &Option<ToldCommand>, request: Head) -> bool {
     match command {
         Some(command) => command.client == request.client && command.number == request.number,
         None => false,
@@ -167,13 +167,13 @@ fn is_about(command: &Option<Command>, request: Head) -> bool {
 }
 
 /// The command of the entry that this frame of an operation is about.
-fn command_of(alloc: Global, request: Head, frame: &[u8]) -> Command {
-    Command {
+fn command_of(alloc: Global, request: Head, frame: &[u8]) -> ToldCommand {
+    ToldCommand {
         client: request.client,
         number: request.number,
         bytes: frame.len(),
         contents: contents_of(alloc, frame),
-        outcome: Outcome::Unanswered,
+        outcome: CommandEnd::Unanswered,
         store_bytes: 0,
         failed: 0,
     }
@@ -209,9 +209,9 @@ fn bytes_of(entry: &SketchEntry) -> u64 {
 }
 
 /// What a reply to an operation says, which is not that it is done.
-fn outcome_of(alloc: Global, reply: &[u8]) -> Outcome {
+fn outcome_of(alloc: Global, reply: &[u8]) -> CommandEnd {
     let Ok(message) = read(alloc, reply) else {
-        return Outcome::Unknown;
+        return CommandEnd::Unknown;
     };
     let text = match &message {
         Message::Declined { cause, .. } => cause_text(alloc, cause).ok(),
@@ -219,8 +219,8 @@ fn outcome_of(alloc: Global, reply: &[u8]) -> Outcome {
     };
     drop(message);
     match text {
-        Some(text) => Outcome::Declined(text),
-        None => Outcome::Unknown,
+        Some(text) => CommandEnd::Declined(text),
+        None => CommandEnd::Unknown,
     }
 }
 

@@ -10,7 +10,7 @@ use wire_frames::{Head, Kind, head_of};
 
 /// A request that was taken and not answered yet.
 #[derive(Clone, Copy)]
-struct Taken {
+struct LoggedRequest {
     head: Option<Head>,
     bytes: usize,
     at: Option<Instant>,
@@ -18,18 +18,18 @@ struct Taken {
 
 /// What is told of requests.
 #[derive(Drop)]
-struct Log<'a, R: Eprint + Clock> {
+struct PortLog<'a, R: Eprint + Clock> {
     rt: &'a R,
     program: &'static str,
     is_logged: bool,
-    taken: Option<Taken>,
+    taken: Option<LoggedRequest>,
 }
 
 /// A port over another one, which tells each request on standard error where it is logged: of which client and of which number, how
 /// it was answered, the bytes both ways, and how long that took. It does what that port does.
 #[derive(Drop)]
 pub struct LoggedPort<'a, R: Eprint + Clock, P: Port + Drop> {
-    log: Log<'a, R>,
+    log: PortLog<'a, R>,
     port: P,
 }
 
@@ -39,7 +39,7 @@ impl<'a, R: Eprint + Clock, P: Port + Drop> LoggedPort<'a, R, P> {
         ensures { result.port ≡ port }
     {
         LoggedPort {
-            log: Log {
+            log: PortLog {
                 rt,
                 program,
                 is_logged,
@@ -59,7 +59,7 @@ impl<'a, R: Eprint + Clock, P: Port + Drop> LoggedPort<'a, R, P> {
     }
 }
 
-impl<'a, R: Eprint + Clock> Log<'a, R> {
+impl<'a, R: Eprint + Clock> PortLog<'a, R> {
     /// Takes note of a frame, and tells where none could be taken.
     fn take(&mut self, came: &Result<Option<Vec<u8>>, PortError>) {
         if !self.is_logged {
@@ -69,7 +69,7 @@ impl<'a, R: Eprint + Clock> Log<'a, R> {
         let program = self.program;
         match came {
             Ok(Some(frame)) => {
-                self.taken = Some(Taken {
+                self.taken = Some(LoggedRequest {
                     head: head_of(frame.as_slice()),
                     bytes: frame.len(),
                     at: Instant::now(self.rt).ok(),

@@ -3,7 +3,7 @@ ghost use Rattle.std.specs.Prelude.{◌≡◌, ◌-◌, ◌*◌, ◌≤◌, ◌<
 ghost use Rattle.std.specs.Duration.{as_nanos};
 ghost use Rattle.std.specs.Io.{ReadsAtMost, WritesAtMost};
 ghost use Rattle.std.specs.Io.KnownBytes.{Keeps, ReadConsumes, WriteAppends};
-ghost use Rattle.paced_talks.specs.Window.{fresh, after_bytes, StartsBy, LeadsOn, Moves, Lasts, HasWaited};
+ghost use Rattle.paced_talks.specs.Window.{fresh, after_bytes, StartsBy, LeadsOn, MovesBytes, Lasts, HasWaited};
 
 use crate::telling::Teller;
 use paced_talks::{Window, is_passing};
@@ -129,7 +129,7 @@ impl<'a, S: Read + Write + OpenStream + Drop, C: Clock> Read for Paced<'a, S, C>
         ensures bound { ReadsAtMost result buf.new }
         ensures bytes { ReadConsumes (S.remaining self.old.stream) (S.remaining self.new.stream) result buf.new }
 
-        ensures window { Moves result self.old.window self.new.window }
+        ensures window { MovesBytes result self.old.window self.new.window }
     {
         for _ in 0..TRIES {
             self.limit_read()?;
@@ -154,7 +154,7 @@ impl<'a, S: Read + Write + OpenStream + Drop, C: Clock> Write for Paced<'a, S, C
         ensures bound { WritesAtMost result buf.now }
         ensures bytes { WriteAppends (S.contents self.old.stream) (S.contents self.new.stream) result buf.now }
 
-        ensures window { Moves result self.old.window self.new.window }
+        ensures window { MovesBytes result self.old.window self.new.window }
     {
         for _ in 0..TRIES {
             self.limit_write()?;

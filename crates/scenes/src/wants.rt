@@ -7,7 +7,7 @@ use run_probe::{Network, account_of_network, rows_of_server, sent_packets};
 use scene_files::{Fault, Report, number, small};
 use server_core::Server;
 use std::alloc::{AllocError, Global};
-use surrogate_pool::Round;
+use surrogate_pool::PoolRound;
 
 impl OutsideClients {
     /// Looks at what is kept, or at the server.
@@ -139,7 +139,7 @@ fn look_at_troubles(report: &mut Report, net: &Network, words: &[&str]) -> Resul
 }
 
 /// How many asks of the network were made for each ask.
-fn look_at_tries(report: &mut Report, rounds: &[Round], words: &[&str]) -> Result<(), Fault> {
+fn look_at_tries(report: &mut Report, rounds: &[PoolRound], words: &[&str]) -> Result<(), Fault> {
     report.compare_numbers(rounds.len() as u64, words.len() as u64)?;
     for (round, word) in rounds.iter().zip(words) {
         report.compare_numbers(round.tries as u64, u64::from(number(word)?))?;

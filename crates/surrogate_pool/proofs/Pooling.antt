@@ -20,7 +20,7 @@ use Rattle.world_rules.specs.World.{World, Step, Send, Deliver, Other, Relay, no
 use Rattle.world_rules.specs.Telling.{LinkTelling, ToldWorlds}
 use Rattle.world_rules.specs.Asking.{ask_of, AsksOnce, IsDirect}
 use Rattle.world_rules.proofs.Asks.{moved_none, told_start, told_as}
-use Rattle.surrogate_pool.specs.declared.pool.Round.{Round}
+use Rattle.surrogate_pool.specs.declared.pool.PoolRound.{PoolRound}
 use Rattle.surrogate_pool.specs.Rounds.{pooled, is_answered, as_one, in_rounds, with_asks, pool_world, pool_tells, AddsRounds}
 use Rattle.surrogate_pool.specs.Inside.{is_answer_of, round_of, HasAsked}
 
@@ -84,7 +84,7 @@ length-filter_most (ask ∷ asks) =
     elim (is_answered ask) as (λ b. length (cond b (ask ∷ filter is_answered asks) (filter is_answered asks)) ≤ length (ask ∷ asks))
     [ true ↦ omega (arith, length-filter_most asks) | false ↦ omega (arith, length-filter_most asks) ]
 
-in_rounds-more : (round : Round) (earlier : List Round) (a m : List Ask) → length m ≡ round.tries
+in_rounds-more : (round : PoolRound) (earlier : List PoolRound) (a m : List Ask) → length m ≡ round.tries
     → in_rounds (round ∷ earlier) (a ++ m) ≡ in_rounds earlier a ++ as_one round m
 in_rounds-more round earlier a m many =
     let before : length (a ++ m) - round.tries ≡ length a = omega (arith, length-append a m, many) in
@@ -93,11 +93,11 @@ in_rounds-more round earlier a m many =
     ∙ ap (λ asks. in_rounds earlier a ++ as_one round asks) (drop-append_seam a m)
 
 -- the asks that a pool tells, before and after a round in which its link made these
-pool_asks : (rounds : List Round) (round : Round) (made : List Ask) (v w : World) → w.asks ≡ v.asks ++ made
+pool_asks : (rounds : List PoolRound) (round : PoolRound) (made : List Ask) (v w : World) → w.asks ≡ v.asks ++ made
     → length (filter is_answered made) ≡ round.tries
     → (pool_world (rounds ++ round ∷ []) w).asks ≡ (pool_world rounds v).asks ++ as_one round (filter is_answered made)
 pool_asks rounds round made v w grew many =
-    ap (λ (newest : List Round). in_rounds newest (filter is_answered w.asks)) (reverse-append rounds (round ∷ []))
+    ap (λ (newest : List PoolRound). in_rounds newest (filter is_answered w.asks)) (reverse-append rounds (round ∷ []))
     ∙ ap (λ (asks : List Ask). in_rounds (round ∷ reverse rounds) (filter is_answered asks)) grew
     ∙ ap (in_rounds (round ∷ reverse rounds)) (filter-append is_answered v.asks made)
     ∙ in_rounds-more round (reverse rounds) (filter is_answered v.asks) (filter is_answered made) many
@@ -118,7 +118,7 @@ of_request : (to : Peer) (address : List ℕ) (request : Message) (answer : Answ
 of_request to address request answer ask (inl e) = ap (λ (x : Ask). x.request) e
 of_request to address request answer ask (inr none) = absurd none
 
-module _ (rounds : List Round) (to : Peer) (address : List ℕ) (request : Message) (tries : ℕ) (v w : World) where
+module _ (rounds : List PoolRound) (to : Peer) (address : List ℕ) (request : Message) (tries : ℕ) (v w : World) where
   abbrev pool_after : Result (Vec ℕ Global) LinkError → World
   pool_after result = pool_world (rounds ++ round_of address tries result ∷ []) w
 
@@ -187,7 +187,7 @@ module _ (rounds : List Round) (to : Peer) (address : List ℕ) (request : Messa
 
 -- ---- a fresh reply of the server
 
-module _ (rounds : List Round) (address : List ℕ) (request : Message) (v w : World) where
+module _ (rounds : List PoolRound) (address : List ℕ) (request : Message) (v w : World) where
   fresh_as : (reply : Message) (a b : List Ask) → IsFresh request reply (ask_of Server address request (Reply reply) ∷ []) v w
       → b ≡ a ++ ask_of Server address request (Reply reply) ∷ []
       → IsFresh request reply (ask_of Server address request (Reply reply) ∷ []) (with_asks a v) (with_asks b w)
@@ -230,8 +230,8 @@ told_map (Some x) (Some y) f g P Q told goes_on = goes_on x y told
 told_map (Some x) None f g P Q told goes_on = told
 told_map {A} None b f g P Q told goes_on = ap (option_map g) told
 
-module _ (rounds : List Round) (to : Peer) (address : List ℕ) (request : Message) (tries : ℕ) (answer : Result (Vec ℕ Global) LinkError) (t u : LinkTelling) where
-  abbrev with_round : List Round
+module _ (rounds : List PoolRound) (to : Peer) (address : List ℕ) (request : Message) (tries : ℕ) (answer : Result (Vec ℕ Global) LinkError) (t u : LinkTelling) where
+  abbrev with_round : List PoolRound
   with_round = rounds ++ round_of address tries answer ∷ []
 
   pub told_once : ToldWorlds t u (HasAsked to address request tries answer)
@@ -243,7 +243,7 @@ module _ (rounds : List Round) (to : Peer) (address : List ℕ) (request : Messa
   told_rounds asked = told_as t.world u.world (HasAsked to address request tries answer) (AddsRounds rounds with_round) asked
       (λ v w so. adds_round rounds to address request tries v w answer so)
 
-pub told_directly : (rounds : List Round) (address : List ℕ) (request : Message) (tries : ℕ) (answer : Result (Vec ℕ Global) LinkError)
+pub told_directly : (rounds : List PoolRound) (address : List ℕ) (request : Message) (tries : ℕ) (answer : Result (Vec ℕ Global) LinkError)
     (t u : LinkTelling) → OnOk answer (tries ≡ 1)
     → ToldWorlds t u (λ v w. IsDirect {E = LinkError} Server address request v w answer)
     → ToldWorlds (pool_tells rounds t) (pool_tells (rounds ++ round_of address tries answer ∷ []) u) (λ v w. IsDirect {E = LinkError} Server address request v w answer)
@@ -255,7 +255,7 @@ told_directly rounds address request tries (Err error) t u once direct = told_ma
     (λ v w. IsDirect {E = LinkError} Server address request v w (Err error)) direct (λ v w so. tt)
 
 -- where there was no room to keep an ask, nothing was asked
-pub told_nothing : (rounds : List Round) (to : Peer) (address : List ℕ) (request : Message) (t : LinkTelling)
+pub told_nothing : (rounds : List PoolRound) (to : Peer) (address : List ℕ) (request : Message) (t : LinkTelling)
     → ToldWorlds (pool_tells rounds t) (pool_tells rounds t) (λ v w. AsksOnce to address request v w (Err LinkMemory))
 told_nothing rounds to address request t =
     told_start (option_map (pool_world rounds) t.world) (λ v w. AsksOnce to address request v w (Err LinkMemory)) (λ v. inr (moved_none request v))
@@ -263,15 +263,15 @@ told_nothing rounds to address request t =
 -- ---- what is kept
 
 -- the last of what is kept, with another in its place
-pub noted_last : (items before : List Round) (round new : Round) (last : ℕ) → items ≡ before ++ round ∷ [] → last + 1 ≡ length items
+pub noted_last : (items before : List PoolRound) (round new : PoolRound) (last : ℕ) → items ≡ before ++ round ∷ [] → last + 1 ≡ length items
     → slice_set items last new ≡ before ++ new ∷ []
 noted_last items before round new last is at =
-    let many : last ≡ length before = omega (arith, at, ap (λ (l : List Round). length l) is, length-append before (round ∷ [])) in
+    let many : last ≡ length before = omega (arith, at, ap (λ (l : List PoolRound). length l) is, length-append before (round ∷ [])) in
     ap (λ l. slice_set l last new) is ∙ ap (λ n. slice_set (before ++ round ∷ []) n new) many ∙ set-append_seam before round [] new
 
 -- and the address of that last one
-pub address_of_last : (items before : List Round) (round other : Round) (last : ℕ) → items ≡ before ++ round ∷ [] → last + 1 ≡ length items
+pub address_of_last : (items before : List PoolRound) (round other : PoolRound) (last : ℕ) → items ≡ before ++ round ∷ [] → last + 1 ≡ length items
     → get_or items last other ≡ round
 address_of_last items before round other last is at =
-    let many : last ≡ length before = omega (arith, at, ap (λ (l : List Round). length l) is, length-append before (round ∷ [])) in
+    let many : last ≡ length before = omega (arith, at, ap (λ (l : List PoolRound). length l) is, length-append before (round ∷ [])) in
     ap (λ l. get_or l last other) is ∙ ap (λ n. get_or (before ++ round ∷ []) n other) many ∙ get_or-append_seam before round [] other

@@ -12,7 +12,7 @@ use Rattle.world_rules.specs.declared.asking.Answer.TheVariants.{Reply, Failed}
 use Rattle.world_rules.specs.declared.link.LinkError.{LinkError}
 use Rattle.world_rules.specs.declared.link.LinkError.TheVariants.{Failed as LinkFailed, Memory as LinkMemory}
 use Rattle.world_rules.specs.World.{World, Moved}
-use Rattle.surrogate_pool.specs.declared.pool.Round.{Round}
+use Rattle.surrogate_pool.specs.declared.pool.PoolRound.{PoolRound}
 use Rattle.surrogate_pool.specs.Rounds.{pooled, is_answered, IsPoolRound}
 
 -- an ask with this result was answered, or failed
@@ -22,7 +22,7 @@ is_answer_of (Err LinkFailed) = true
 is_answer_of (Err LinkMemory) = false
 
 -- what is kept of an ask at this address that made so many and came to this
-abbrev pub round_of : List ℕ → ℕ → Result (Vec ℕ Global) LinkError → Round
+abbrev pub round_of : List ℕ → ℕ → Result (Vec ℕ Global) LinkError → PoolRound
 round_of address tries result = record { address = address; tries = tries; answered = is_answer_of result }
 
 -- the frame spells a reply to the request that was sent

@@ -7,10 +7,10 @@ use Rattle.outside.specs.Outside.{Told}
 use Rattle.world_rules.specs.declared.asking.Ask.{Ask}
 use Rattle.world_rules.specs.World.{World}
 use Rattle.world_rules.proofs.Asks.{told_then, told_start}
-use Rattle.surrogate_pool.specs.declared.pool.Round.{Round}
+use Rattle.surrogate_pool.specs.declared.pool.PoolRound.{PoolRound}
 use Rattle.surrogate_pool.specs.Rounds.{is_answered, AreRounds, AddsRounds}
 
-rounds_append : (m n : List Round) (first second : List Ask) → AreRounds m first → AreRounds n second → AreRounds (m ++ n) (first ++ second)
+rounds_append : (m n : List PoolRound) (first second : List Ask) → AreRounds m first → AreRounds n second → AreRounds (m ++ n) (first ++ second)
 rounds_append [] n first second a b = subst (λ asks. AreRounds n (asks ++ second)) (sym a) b
 rounds_append (round ∷ m) n first second a b = (
   a.0,
@@ -20,7 +20,7 @@ rounds_append (round ∷ m) n first second a b = (
   rounds_append m n a.1 second a.4 b,
 )
 
-pub adds_none : (rounds : List Round) (world : Option World) → Told world world (AddsRounds rounds rounds)
+pub adds_none : (rounds : List PoolRound) (world : Option World) → Told world world (AddsRounds rounds rounds)
 adds_none rounds world = told_start world (AddsRounds rounds rounds) (λ w. record {
   rounds = [];
   made = [];
@@ -29,7 +29,7 @@ adds_none rounds world = told_start world (AddsRounds rounds rounds) (λ w. reco
   are = refl;
 })
 
-adds_both : (a b c : List Round) (x y z : World) → AddsRounds a b x y → AddsRounds b c y z → AddsRounds a c x z
+adds_both : (a b c : List PoolRound) (x y z : World) → AddsRounds a b x y → AddsRounds b c y z → AddsRounds a c x z
 adds_both a b c x y z first second = record {
   rounds = first.rounds ++ second.rounds;
   made = first.made ++ second.made;
@@ -39,7 +39,7 @@ adds_both a b c x y z first second = record {
       (rounds_append first.rounds second.rounds (filter is_answered first.made) (filter is_answered second.made) first.are second.are);
 }
 
-pub adds_then : (a b c : List Round) (x y z : Option World) → Told x y (AddsRounds a b) → Told y z (AddsRounds b c)
+pub adds_then : (a b c : List PoolRound) (x y z : Option World) → Told x y (AddsRounds a b) → Told y z (AddsRounds b c)
     → Told x z (AddsRounds a c)
 adds_then a b c x y z first second =
     told_then x y z (AddsRounds a b) (AddsRounds b c) (AddsRounds a c) first second (λ u v w one two. adds_both a b c u v w one two)

@@ -14,7 +14,7 @@ use Rattle.world_rules.specs.declared.asking.Answer.TheVariants.{Reply, Failed, 
 use Rattle.world_rules.specs.World.{World}
 use Rattle.world_rules.specs.Telling.{LinkTelling}
 use Rattle.world_rules.specs.Asking.{ask_of}
-use Rattle.surrogate_pool.specs.declared.pool.Round.{Round}
+use Rattle.surrogate_pool.specs.declared.pool.PoolRound.{PoolRound}
 use Rattle.surrogate_pool.specs.Addresses.{addresses_in}
 
 -- ---- what is made of several answers
@@ -65,13 +65,13 @@ abbrev pub is_answered : Ask → Bool
 is_answered ask = is_answer ask.answer
 
 -- the ask that a pool was asked, where it made these for it; none where memory ran out in it
-abbrev pub as_one : Round → List Ask → List Ask
+abbrev pub as_one : PoolRound → List Ask → List Ask
 as_one round [] = []
 as_one round (ask ∷ asks) =
     if round.answered then ask_of ask.to round.address ask.request (pooled (ask ∷ asks)) ∷ [] else []
 
 -- the last asks of a link, each behind the others by these rounds, the last round first, as asks of the pool
-abbrev pub in_rounds : List Round → List Ask → List Ask
+abbrev pub in_rounds : List PoolRound → List Ask → List Ask
 in_rounds [] asks = asks
 in_rounds (round ∷ earlier) asks =
     let before = length asks - round.tries in in_rounds earlier (take before asks) ++ as_one round (drop before asks)
@@ -88,11 +88,11 @@ with_asks asks world = record {
 }
 
 -- the world that a pool tells over a link that tells this one
-abbrev pub pool_world : List Round → World → World
+abbrev pub pool_world : List PoolRound → World → World
 pool_world rounds world = with_asks (in_rounds (reverse rounds) (filter is_answered world.asks)) world
 
 -- what a pool tells over a link that tells this
-abbrev pub pool_tells : List Round → LinkTelling → LinkTelling
+abbrev pub pool_tells : List PoolRound → LinkTelling → LinkTelling
 pool_tells rounds telling = record { world = option_map (pool_world rounds) telling.world; troubles = telling.troubles }
 
 -- ---- what a pool asks
@@ -115,19 +115,19 @@ pub record PassesOn (answered : Bool) (address : List ℕ) (asks : List Ask) : T
   pub once : length asks ≡ (if answered then 1 else 0)
 
 -- what a pool asked in one round
-abbrev pub IsPoolRound : Round → List Ask → Type 0
+abbrev pub IsPoolRound : PoolRound → List Ask → Type 0
 IsPoolRound round asks =
     (length asks ≡ round.tries) × (PassesOn round.answered round.address asks ⊎ AsksEach round.answered (addresses_in round.address) asks)
 
 -- and in these, one after the other
-abbrev pub AreRounds : List Round → List Ask → Type 0
+abbrev pub AreRounds : List PoolRound → List Ask → Type 0
 AreRounds [] asks = asks ≡ []
 AreRounds (round ∷ rounds) asks =
     (first : List Ask) × (rest : List Ask) × (asks ≡ first ++ rest) × IsPoolRound round first × AreRounds rounds rest
 
 -- between two moments a pool kept these rounds more, and its link's asks grew by theirs
-pub record AddsRounds (before after : List Round) (old new : World) : Type 0 where
-  pub rounds : List Round
+pub record AddsRounds (before after : List PoolRound) (old new : World) : Type 0 where
+  pub rounds : List PoolRound
   pub made : List Ask
   pub kept : after ≡ before ++ rounds
   pub asked : new.asks ≡ old.asks ++ made

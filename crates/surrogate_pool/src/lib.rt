@@ -8,4 +8,4 @@ mod tries;
 
 pub use addresses::{MAX_ADDRESSES, are_addresses};
 pub use laws::pools_ask_each_surrogate;
-pub use pool::{Pool, Round};
+pub use pool::{Pool, PoolRound};

@@ -1,5 +1,5 @@
 // A link that asks several surrogates.
-ghost use Rattle.surrogate_pool.specs.declared.pool.Round.{Round};
+ghost use Rattle.surrogate_pool.specs.declared.pool.PoolRound.{PoolRound};
 ghost use Rattle.surrogate_pool.specs.Inside.{round_of};
 ghost use Rattle.std.specs.Prelude.{◌≡◌, ◌++◌, ◌∷◌, [], List, OnOk, OnErr, false};
 
@@ -11,7 +11,7 @@ use world_rules::{Link, LinkError, Peer};
 /// What is kept of one ask: its address, how many asks of the link were made for it and answered or failed, and whether it was answered
 /// or failed itself.
 #[derive(Drop)]
-pub struct Round {
+pub struct PoolRound {
     pub address: Content,
     pub tries: usize,
     pub answered: bool,
@@ -23,7 +23,7 @@ pub struct Round {
 pub struct Pool<L> {
     alloc: Global,
     link: L,
-    rounds: Vec<Round>,
+    rounds: Vec<PoolRound>,
 }
 
 impl<L: Link> Pool<L> {
@@ -47,7 +47,7 @@ impl<L: Link> Pool<L> {
     }
 
     /// What is kept of each ask, in order.
-    pub fn rounds(&self) -> &[Round]
+    pub fn rounds(&self) -> &[PoolRound]
         ensures { result.now ≡ self.now.rounds.items }
     {
         &self.rounds
@@ -61,7 +61,7 @@ impl<L: Link> Pool<L> {
         ensures link { self.new.link ≡ self.old.link }
     {
         let address = Content::of(self.alloc, address)?;
-        self.rounds.push(Round {
+        self.rounds.push(PoolRound {
             address,
             tries: 0,
             answered: false,
@@ -71,7 +71,7 @@ impl<L: Link> Pool<L> {
 
     /// Notes what the last ask came to.
     fn note(&mut self, tries: &Tries)
-        ensures rounds { (before : List Round) (round : Round) → self.old.rounds.items ≡ before ++ round ∷ []
+        ensures rounds { (before : List PoolRound) (round : PoolRound) → self.old.rounds.items ≡ before ++ round ∷ []
             → self.new.rounds.items ≡ before ++ round_of round.address tries.now.count tries.now.answer ∷ [] }
         ensures link { self.new.link ≡ self.old.link }
     {
