@@ -1,5 +1,5 @@
 -- Which entries of a session a command made, and which lines of a drill run one.
-use Rattle.std.proofs.Common.{◌≡◌, inl, inr, ℕ, zero, suc, ◌+◌, ◌-◌, ◌≤◌, ◌==◌, ◌%◌, Bool, true, false, List, [], ◌∷◌, ◌++◌, length, length-append, decimal, Option, Some, None, Result, Ok, Err, refl, sym, ◌∙◌, ap, subst, arith, append_assoc, map}
+use Rattle.std.proofs.Common.{◌≡◌, ℕ, zero, suc, ◌+◌, ◌-◌, ◌≤◌, ◌==◌, ◌%◌, Bool, true, false, List, [], ◌∷◌, ◌++◌, length, length-append, decimal, Option, Result, Ok, Err, refl, sym, ◌∙◌, ap, subst, arith}
 use Rattle.std.specs.Prelude.{codes, replicate, cond, if◌then◌else◌, ◌/◌}
 use Rattle.std.specs.List.{count_by}
 use Rattle.std.proofs.lemmas.List.{map-append}
@@ -11,7 +11,6 @@ use Rattle.cmd_capture.specs.declared.capturing.CaptureError.{CaptureError}
 use Rattle.cmd_capture.specs.Capture.{capture}
 use Rattle.mod_log.specs.declared.log.Entry.{Entry}
 use Rattle.mod_log.specs.declared.log.LogError.{LogError}
-use Rattle.mod_log.specs.Log.{Log}
 use Rattle.client_core.specs.declared.route.Route.{Route}
 use Rattle.client_core.specs.declared.syncing.SyncEnd.{SyncEnd}
 use Rattle.client_core.specs.declared.pulling.PullEnd.{PullEnd}
@@ -19,9 +18,9 @@ use Rattle.client_core.specs.declared.pulling.PullEnd.TheVariants.{Pulled, Pendi
 use Rattle.client_core.specs.declared.running.RunEnd.{RunEnd}
 use Rattle.client_core.specs.declared.running.RunEnd.TheVariants as runs
 use Rattle.client_core.specs.Running.{RunTurn}
-use Rattle.client_core.specs.Trace.{Trace, nothing, followed, asking, changing}
+use Rattle.client_core.specs.Trace.{Trace, nothing}
 use Rattle.client_core.specs.Logging.{LocalTurn}
-use Rattle.client_core.specs.Syncing.{Ships, SyncTurn}
+use Rattle.client_core.specs.Syncing.{SyncTurn}
 use Rattle.client_core.specs.Pulling.{PullsSnapshot, PullTurn}
 use Rattle.shell_lang.specs.declared.line.Line.{Line}
 use Rattle.shell_lang.specs.declared.line.Line.TheVariants as lines

@@ -1,8 +1,7 @@
 -- How many entries of a session are acknowledged and pending.
-use Rattle.std.proofs.Common.{◌≡◌, ◌≢◌, inl, inr, ℕ, zero, suc, ◌+◌, ◌-◌, ◌<◌, List, [], ◌∷◌, ◌++◌, length, length-append, Option, Some, None, Result, Ok, Err, refl, sym, ◌∙◌, ap, subst, arith}
+use Rattle.std.proofs.Common.{◌≡◌, inl, inr, ℕ, zero, suc, ◌+◌, ◌-◌, List, [], ◌∷◌, length, length-append, Option, Some, None, Result, Ok, Err, refl, sym, ◌∙◌, ap, subst, arith}
 use Rattle.std.proofs.lemmas.List.{length-drop}
 use Rattle.tree_values.specs.declared.node.Effect.{Effect}
-use Rattle.tree_values.specs.Tree.{Volume}
 use Rattle.file_paths.specs.declared.path.PathError.{PathError}
 use Rattle.cmd_capture.specs.declared.command.Command.{Command}
 use Rattle.cmd_capture.specs.declared.capturing.CaptureError.{CaptureError}
@@ -10,7 +9,6 @@ use Rattle.cmd_capture.specs.Capture.{capture}
 use Rattle.mod_log.specs.declared.log.Entry.{Entry}
 use Rattle.mod_log.specs.declared.log.LogError.{LogError}
 use Rattle.mod_log.specs.Log.{Log, logged}
-use Rattle.world_rules.specs.declared.asking.Ask.{Ask}
 use Rattle.client_core.specs.declared.route.Route.{Route}
 use Rattle.client_core.specs.declared.syncing.SyncEnd.{SyncEnd}
 use Rattle.client_core.specs.declared.pulling.PullEnd.{PullEnd}
@@ -21,7 +19,7 @@ use Rattle.client_core.specs.Causes.{AcknowledgesSome}
 use Rattle.client_core.specs.Running.{origin_of, changes_of, RunTurn}
 use Rattle.client_core.specs.Trace.{Trace, nothing, followed, asking, changing}
 use Rattle.client_core.specs.Logging.{LocalTurn}
-use Rattle.client_core.specs.Syncing.{Acknowledges, acknowledging, EndsSync, SyncTurn}
+use Rattle.client_core.specs.Syncing.{Acknowledges, EndsSync, SyncTurn}
 use Rattle.client_core.specs.Pulling.{PullsSnapshot, PullTurn}
 use Rattle.client_core.proofs.Acknowledging.{turn_some}
 use Rattle.client_core.proofs.Locals.{appended-is}

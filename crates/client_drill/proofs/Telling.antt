@@ -1,11 +1,10 @@
 -- How a drill ends, by what it wrote.
-use Rattle.std.proofs.Common.{◌≡◌, ◌⊎◌, inl, inr, ℕ, ◌+◌, ◌≤◌, List, length, take, Option, Result, Ok, Err, IfOk, OnOk, OnErr, refl, sym, ap, subst, arith}
+use Rattle.std.proofs.Common.{◌≡◌, ◌⊎◌, inl, inr, ℕ, ◌+◌, ◌≤◌, List, length, take, Option, Result, Ok, Err, IfOk, OnOk, OnErr, refl, sym, subst, arith}
 use Rattle.std.proofs.lemmas.List.{take_all}
 use Rattle.outside.specs.Outside.{Adds, RisesWhere, CountsFault}
 use Rattle.outside.specs.declared.errors.SinkError.{SinkError}
 use Rattle.outside.specs.declared.errors.SinkError.TheVariants.{Failed, Memory}
 use Rattle.outside.proofs.Writing.{adds_nothing}
-use Rattle.client_drill.specs.declared.session.Worked.{Worked}
 use Rattle.client_drill.specs.declared.summary.Summary.{Summary}
 use Rattle.client_drill.specs.Drill.{jobs_upto}
 use Rattle.client_drill.specs.Drilled.{IsTallied, summary_text}

@@ -1,6 +1,7 @@
 // A drill is worked off and told of.
 ghost use Rattle.std.specs.Prelude.{◌≡◌, ◌≤◌, false, IfOk};
 ghost use Rattle.outside.specs.Outside.{Adds};
+ghost use Rattle.program_words.specs.Status.{code};
 ghost use Rattle.client_drill.specs.declared.summary.Summary.{Summary};
 ghost use Rattle.client_drill.specs.Limits.{max_steps};
 ghost use Rattle.client_drill.specs.Drilled.{summary_text, new_runner, IsDrillNet, Drilled};
@@ -38,21 +39,20 @@ pub fn drill_on<O: Sink>(
         × Adds (O.written output.old) (O.written output.new) (summary_text seed count summary) }
 {
     match told(alloc, seed, count, runner, net) {
-        Ok(text) => status_of(write_all(output, &text)),
+        Ok(text) => status_of(write_all(output, &text)).code(),
         Err(_wanted) => Status::NoMemory.code(),
     }
 }
 
 /// The status of a drill whose summary was so written.
-fn status_of(written: Result<(), SinkError>) -> u8
-    ensures { result ≡ status_of_drill written }
+fn status_of(written: Result<(), SinkError>) -> Status
+    ensures { code result ≡ status_of_drill written }
 {
-    let status = match written {
+    match written {
         Ok(()) => Status::Done,
         Err(SinkError::Failed) => Status::SinkFailed,
         Err(SinkError::Memory) => Status::NoMemory,
-    };
-    status.code()
+    }
 }
 
 /// Works a drill off over a network that is made for it, and writes what came of it. The statuses are those of `drill_on`.

@@ -6,7 +6,7 @@ use Rattle.file_paths.specs.declared.path.PathError.{PathError}
 use Rattle.tree_proof.specs.Tops.{Digest}
 use Rattle.client_proof.specs.Words.{root_of_word}
 use Rattle.program_words.proofs.Naming.{path_named}
-use Rattle.client_prog.specs.Words.{CheckInvocation, check_by, checked_by}
+use Rattle.client_prog.specs.Words.{check_by, checked_by}
 
 -- no path, no check
 refused : (root : Option Digest) (read : Result FilePath PathError) → is_ok read ≡ false → check_by root read ≡ None

@@ -1,8 +1,8 @@
 -- How a check ends.
-use Rattle.std.proofs.Common.{◌≡◌, ◌⊎◌, inl, inr, ℕ, ◌+◌, ◌≤◌, ◌<◌, List, ◌++◌, length, Option, None, Some, Result, Ok, Err, refl, sym, ap, subst, arith}
+use Rattle.std.proofs.Common.{◌≡◌, ◌⊎◌, inl, inr, ℕ, ◌+◌, ◌≤◌, ◌<◌, List, length, Option, None, Some, Result, Ok, Err, refl, sym, ap, subst, arith}
 use Rattle.std.specs.Prelude.{IsTrue, IfSome}
 use Rattle.std.proofs.lemmas.List.{length-append}
-use Rattle.outside.specs.Outside.{Takes, RisesWhere, Rose}
+use Rattle.outside.specs.Outside.{Takes, RisesWhere}
 use Rattle.file_paths.specs.Path.{FilePath}
 use Rattle.program_words.specs.Status.{code}
 use Rattle.program_words.specs.declared.status.Status.{Status}

@@ -1,13 +1,12 @@
 -- A certificate that is read piece by piece.
-use Rattle.std.proofs.Common.{◌≡◌, ℕ, ◌+◌, ◌≤◌, ◌<◌, List, [], ◌++◌, length, take, Option, None, Some, Result, Ok, Err, refl, sym, ◌∙◌, ap, subst, arith}
+use Rattle.std.proofs.Common.{◌≡◌, ℕ, ◌+◌, ◌≤◌, ◌<◌, List, ◌++◌, length, take, Option, None, Some, Result, Ok, Err, sym, ◌∙◌, ap, subst, arith}
 use Rattle.std.specs.Prelude.{IfOk}
 use Rattle.std.proofs.lemmas.List.{length-append, length-take-le}
 use Rattle.outside.specs.Outside.{Told, Reads, Takes}
-use Rattle.outside.proofs.Taking.{takes_nothing, takes_then, takes_read}
+use Rattle.outside.proofs.Taking.{takes_then, takes_read}
 use Rattle.client_lines.specs.declared.input.InputEnd.{InputEnd}
-use Rattle.client_lines.specs.declared.input.InputEnd.TheVariants.{Read, Failed, TooLong}
 use Rattle.client_lines.specs.Limits.{max_input}
-use Rattle.client_lines.specs.Input.{EndsAt, GoesOnOrEnds}
+use Rattle.client_lines.specs.Input.{EndsAt}
 use Rattle.client_proof.specs.Inside.{AddsPiece, AddsWithin, ReadsAll, ReadsWithin}
 
 -- a piece was read, and stands within the limit or past it

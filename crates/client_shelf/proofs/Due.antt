@@ -1,8 +1,8 @@
 -- At most one end is due before the pull.
-use Rattle.std.proofs.Common.{◌≡◌, ◌≢◌, ◌⊎◌, inl, inr, ℕ, List, Option, None, Some, Result, Ok, Err, refl, sym, ◌∙◌, ap, subst}
+use Rattle.std.proofs.Common.{◌≡◌, ℕ, List, Option, None, Some, Err, refl, sym, ◌∙◌, ap}
 use Rattle.outside.specs.Keeper.{Images}
 use Rattle.tree_values.specs.declared.node.Effect.{Effect}
-use Rattle.mod_log.specs.Log.{Log, new_log}
+use Rattle.mod_log.specs.Log.{Log}
 use Rattle.store_image.specs.Image.{Keeps}
 use Rattle.store_image.proofs.Keeping.{client_once}
 use Rattle.client_shelf.specs.declared.ends.Ending.{Ending}

@@ -1,29 +1,23 @@
 -- What a shelving leaves, put together from what its parts did.
-use Rattle.std.proofs.Common.{◌≡◌, ◌≢◌, ◌⊎◌, inl, inr, ⊎_elim, ℕ, zero, suc, List, [], ◌∷◌, ◌++◌, length, take, Option, None, Some, Result, Ok, Err, refl, sym, ◌∙◌, ap, subst}
+use Rattle.std.proofs.Common.{◌≡◌, ◌≢◌, inr, ℕ, zero, suc, List, [], ◌∷◌, ◌++◌, length, take, Option, None, Some, Result, Ok, Err, refl, sym, subst}
 use Rattle.std.specs.List.{AllByRecursion}
-use Rattle.outside.specs.Outside.{Told}
 use Rattle.outside.specs.Keeper.{Images}
-use Rattle.tree_values.specs.Tree.{Volume}
 use Rattle.tree_values.specs.Spelling.{EffectsFit}
 use Rattle.tree_values.specs.declared.node.Effect.{Effect}
-use Rattle.mod_log.specs.declared.log.Entry.{Entry}
 use Rattle.mod_log.specs.declared.log.LogError.{LogError}
 use Rattle.mod_log.specs.Log.{Log, new_log_of}
-use Rattle.world_rules.specs.declared.asking.Ask.{Ask}
-use Rattle.world_rules.specs.World.{World}
 use Rattle.world_rules.specs.Telling.{LinkTelling}
 use Rattle.world_rules.specs.InStep.{InStep}
-use Rattle.world_rules.proofs.Asks.{told_as, told_then}
-use Rattle.client_core.specs.Keeping.{IsKept, OthersStay}
+use Rattle.world_rules.proofs.Asks.{told_as}
+use Rattle.client_core.specs.Keeping.{IsKept}
 use Rattle.conflict_shelf.specs.declared.shelf.Shelved.{Shelved}
 use Rattle.conflict_shelf.specs.Shelf.{names_in}
 use Rattle.client_shelf.specs.declared.ends.Ending.{Ending}
 use Rattle.client_shelf.specs.declared.ends.Ending.TheVariants as ends
 use Rattle.client_shelf.specs.declared.ends.ShelvingStop.{ShelvingStop}
-use Rattle.client_shelf.specs.declared.ends.ShelvingStop.TheVariants as stops
-use Rattle.client_shelf.specs.Shelving.{Shelving, IsUnused, appended_all}
-use Rattle.client_shelf.specs.Ending.{Standing, LeavesShelved, PullsRows, EndsKept, EndsLogging, EndsBehind, ShelvingBreaks}
-use Rattle.client_shelf.specs.Inside.{IsBreak, TakesPulledRows, PullsTo, KeepsAll, LogsTo, GoesTo}
+use Rattle.client_shelf.specs.Shelving.{Shelving, appended_all}
+use Rattle.client_shelf.specs.Ending.{Standing, LeavesShelved, EndsBehind}
+use Rattle.client_shelf.specs.Inside.{TakesPulledRows, PullsTo, KeepsAll, LogsTo, GoesTo}
 use Rattle.client_shelf.proofs.Logged.{logs_in_step}
 
 -- ---- logging behind the rows

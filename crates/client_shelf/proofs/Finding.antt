@@ -1,24 +1,20 @@
 -- What is found under a name, and what is planned of it.
-use Rattle.std.proofs.Common.{◌≡◌, ◌≢◌, ◌⊎◌, inl, inr, ℕ, length, List, [], ◌∷◌, Option, None, Some, Result, Ok, Err, refl, sym, ◌∙◌, ap, subst, arith}
-use Rattle.std.specs.List.{AllByRecursion}
+use Rattle.std.proofs.Common.{◌≡◌, ◌≢◌, ℕ, length, List, [], ◌∷◌, Option, None, Some, Result, Ok, Err, refl, ◌∙◌, ap, subst, arith}
 use Rattle.std.specs.Prelude.{IfOk}
 use Rattle.std.specs.Result.{result_map_both}
 use Rattle.std.specs.declared.alloc.AllocError.{AllocError}
 use Rattle.outside.specs.Keeper.{Images}
 use Rattle.file_paths.specs.Path.{FilePath, IsPath, path_of}
 use Rattle.file_paths.specs.declared.path.PathError.{PathError}
-use Rattle.tree_values.specs.Spelling.{EffectsFit}
-use Rattle.tree_values.specs.declared.node.Effect.{Effect}
 use Rattle.mod_log.specs.declared.log.Entry.{Entry}
 use Rattle.mod_log.specs.Log.{Log, IsLog}
-use Rattle.store_image.specs.Image.{Keeps}
 use Rattle.conflict_shelf.specs.declared.shelf.Shelf.{Shelf}
 use Rattle.conflict_shelf.specs.declared.shelf.ShelfError.{ShelfError}
-use Rattle.conflict_shelf.specs.Shelf.{shelved, names_in, IsShelfOf}
+use Rattle.conflict_shelf.specs.Shelf.{shelved, IsShelfOf}
 use Rattle.conflict_shelf.proofs.Shelves.{in_order}
 use Rattle.client_shelf.specs.declared.ends.Ending.{Ending}
 use Rattle.client_shelf.specs.declared.ends.Ending.TheVariants as ends
-use Rattle.client_shelf.specs.Shelving.{IsStored, IsUnused, IsUsed, unshelved, planned_in, planned_by, planned}
+use Rattle.client_shelf.specs.Shelving.{IsStored, IsUnused, IsUsed, unshelved, planned_in, planned_by}
 use Rattle.client_shelf.specs.Inside.{PlansInSo, PlansSo}
 use Rattle.client_shelf.proofs.Due.{keeps_once}
 

@@ -1,5 +1,5 @@
 -- What the keeping of entries that were logged together leaves.
-use Rattle.std.proofs.Common.{Bool, true, false, ◌≡◌, ◌≢◌, ◌⊎◌, inl, inr, ⊎_elim, ℕ, suc, ◌+◌, ◌-◌, ◌≤◌, length, List, [], ◌∷◌, ◌++◌, map, take, drop, Option, None, Some, Result, Ok, Err, refl, sym, ◌∙◌, ap, subst, arith}
+use Rattle.std.proofs.Common.{Bool, true, false, ◌≡◌, ◌⊎◌, inl, inr, ℕ, suc, ◌+◌, ◌-◌, ◌≤◌, length, List, [], ◌++◌, map, take, drop, Option, None, Some, Result, Ok, Err, refl, sym, ◌∙◌, ap, subst, arith}
 use Rattle.std.specs.Prelude.{if◌then◌else◌}
 use Rattle.std.proofs.lemmas.List.{append-nil, take_all}
 use Rattle.outside.specs.Outside.{Told}
@@ -14,7 +14,7 @@ use Rattle.store_image.specs.Records.{with_records}
 use Rattle.store_image.specs.Image.{Keeps}
 use Rattle.store_image.proofs.Appended.{records_are_appended}
 use Rattle.client_core.specs.declared.keeping.Journal.{Journal}
-use Rattle.client_core.specs.Journal.{last_logged, notes_since, may_add, next_notes}
+use Rattle.client_core.specs.Journal.{notes_since, may_add, next_notes}
 use Rattle.client_core.specs.Keeping.{IsKept, IsReady, IsReadyFor, IsSmall, StaysSmall, Kept, most_records, StillKeeps, AddsSome, LeavesKept, KeepsNext}
 use Rattle.store_image.specs.declared.image.TheConstants.{MAX_CLIENT_IMAGE, MAX_RECORDS}
 use Rattle.world_rules.proofs.Asks.{told_start, told_as, told_then}

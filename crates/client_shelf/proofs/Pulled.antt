@@ -1,14 +1,11 @@
 -- What the pull of a client that has logged nothing leaves.
-use Rattle.std.proofs.Common.{Bool, true, false, ◌≡◌, ◌≢◌, ◌⊎◌, inl, inr, ⊎_elim, ℕ, List, [], ◌∷◌, ◌++◌, take, Option, None, Some, Result, Ok, Err, refl, sym, ◌∙◌, ap, subst, arith}
-use Rattle.outside.specs.Outside.{Told}
+use Rattle.std.proofs.Common.{false, ◌≡◌, ◌≢◌, inl, inr, ℕ, List, [], ◌∷◌, ◌++◌, Option, Ok, Err, refl, sym, ◌∙◌, ap, subst, arith}
 use Rattle.outside.specs.Keeper.{Images}
 use Rattle.tree_values.specs.Tree.{Volume}
 use Rattle.tree_values.specs.Lists.{IsIn}
 use Rattle.tree_values.specs.declared.node.Effect.{Effect}
 use Rattle.mod_log.specs.declared.log.Entry.{Entry}
 use Rattle.mod_log.specs.Log.{Log, new_log_of}
-use Rattle.wire_frames.specs.declared.message.Message.{Message}
-use Rattle.world_rules.specs.declared.asking.Ask.{Ask}
 use Rattle.world_rules.specs.World.{World}
 use Rattle.world_rules.specs.Telling.{LinkTelling, ToldWorlds}
 use Rattle.world_rules.specs.InStep.{InStep, HasNoCollision}
@@ -21,16 +18,14 @@ use Rattle.world_rules.proofs.Runs.{both_in_step, run_asked}
 use Rattle.client_core.specs.declared.pulling.PullEnd.{PullEnd}
 use Rattle.client_core.specs.declared.pulling.PullEnd.TheVariants as pulls
 use Rattle.client_core.specs.Trace.{Trace, asking, IsLastOrBefore}
-use Rattle.client_core.specs.Pulling.{Meets, PullsSnapshot, PullTurn, BreaksPull, PullEnds, is_broken_pull}
+use Rattle.client_core.specs.Pulling.{PullTurn, BreaksPull, PullEnds, is_broken_pull}
 use Rattle.client_core.specs.Honest.{IsTruePull}
 use Rattle.client_core.specs.Goes.{Goes, WorldGoes, Went, no_runner, stand}
 use Rattle.client_core.proofs.Going.{kept_now}
-use Rattle.client_shelf.specs.declared.ends.Ending.{Ending}
-use Rattle.client_shelf.specs.declared.ends.ShelvingStop.{ShelvingStop}
 use Rattle.client_shelf.specs.declared.ends.ShelvingStop.TheVariants as stops
 use Rattle.client_shelf.specs.Shelving.{Shelving, new_route, IsUnused}
 use Rattle.client_shelf.specs.Ending.{Standing, LeavesShelved, EndsPull, KeepsFront, ShelvingBreaks}
-use Rattle.client_shelf.specs.Inside.{IsBreak, PullsTo, pulled_to}
+use Rattle.client_shelf.specs.Inside.{PullsTo, pulled_to}
 
 -- two lists that have nothing
 both_empty : (xs ys : List Entry) → xs ≡ [] → ys ≡ [] → xs ++ ys ≡ []

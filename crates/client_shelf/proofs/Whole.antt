@@ -1,8 +1,8 @@
 -- What a whole shelving comes to.
-use Rattle.std.proofs.Common.{◌≡◌, ◌≢◌, ◌⊎◌, inl, inr, ⊎_elim, ℕ, ◌≤◌, true, List, [], ◌∷◌, ◌++◌, length, take, Option, None, Some, Result, Ok, Err, refl, sym, ◌∙◌, ap, subst, arith}
-use Rattle.std.specs.Prelude.{IsTrue, IfErr, OnOk, OnErr}
+use Rattle.std.proofs.Common.{◌≡◌, ◌≢◌, ◌⊎◌, inl, inr, ⊎_elim, ℕ, ◌≤◌, List, [], ◌∷◌, Option, None, Some, Result, Ok, Err, refl, sym, ◌∙◌, ap, subst, arith}
+use Rattle.std.specs.Prelude.{IsTrue}
 use Rattle.std.specs.Result.{result_map_both}
-use Rattle.outside.specs.Outside.{Told, Adds, RisesWhere, CountsFault}
+use Rattle.outside.specs.Outside.{Told, RisesWhere, CountsFault}
 use Rattle.outside.specs.Keeper.{Images}
 use Rattle.file_paths.specs.Path.{FilePath, path_of}
 use Rattle.file_paths.specs.declared.path.PathError.{PathError}
@@ -19,9 +19,9 @@ use Rattle.client_shelf.specs.declared.ends.Ending.{Ending}
 use Rattle.client_shelf.specs.declared.ends.Ending.TheVariants as ends
 use Rattle.client_shelf.specs.declared.ends.ShelvingStop.{ShelvingStop}
 use Rattle.client_shelf.specs.declared.ends.ShelvingStop.TheVariants as stops
-use Rattle.client_shelf.specs.Shelving.{Shelving, IsStored, IsUnused, unshelved, planned_in, planned_by, planned, Plans}
+use Rattle.client_shelf.specs.Shelving.{Shelving, IsStored, IsUnused, unshelved, planned_by, planned, Plans}
 use Rattle.client_shelf.specs.Texts.{ending_text}
-use Rattle.client_shelf.specs.Ending.{Standing, ChangesOnly, Moment, IsDue, ComesToEnd, Stops, WritesEnding, ComesTo, ShelveEnds, is_shelf_status}
+use Rattle.client_shelf.specs.Ending.{Standing, ChangesOnly, Moment, IsDue, WritesEnding, ComesTo, ShelveEnds, is_shelf_status}
 use Rattle.client_shelf.specs.Inside.{IsBreak, GoesTo, EndsSo, status_of_stop}
 
 -- ---- which ends a plan has

@@ -1,5 +1,5 @@
 -- Words that only the contracts of private functions and the proofs cite.
-use Rattle.std.specs.Prelude.{◌≡◌, ◌≢◌, ◌⊎◌, ℕ, List, [], Option, None, Some, Result, Ok, Err, take}
+use Rattle.std.specs.Prelude.{◌≡◌, ◌⊎◌, ℕ, List, Option, None, Some, Result, Ok, Err, take}
 use Rattle.std.specs.List.{AllByRecursion}
 use Rattle.outside.specs.Keeper.{Images}
 use Rattle.outside.specs.declared.errors.SinkError.{SinkError}
@@ -17,7 +17,7 @@ use Rattle.world_rules.specs.declared.asking.Ask.{Ask}
 use Rattle.client_core.specs.declared.pulling.PullEnd.{PullEnd}
 use Rattle.client_core.specs.declared.pulling.PullEnd.TheVariants as pulls
 use Rattle.client_core.specs.Client.{Client}
-use Rattle.client_core.specs.Keeping.{IsKept, IsReady, OthersStay}
+use Rattle.client_core.specs.Keeping.{IsKept}
 use Rattle.client_lines.specs.declared.opening.Unopened.{Unopened}
 use Rattle.client_lines.specs.declared.opening.Unopened.TheVariants as unopened
 use Rattle.conflict_shelf.specs.declared.shelf.Shelf.{Shelf}

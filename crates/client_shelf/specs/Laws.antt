@@ -1,5 +1,5 @@
 -- What holds of shelvings: their ends exclude one another, and what they leave pending is the shelf.
-use Rattle.std.specs.Prelude.{◌≡◌, ℕ, List, map, Some, None, Ok}
+use Rattle.std.specs.Prelude.{◌≡◌, List, map, Some, None, Ok}
 use Rattle.std.specs.List.{AllByRecursion}
 use Rattle.outside.specs.Keeper.{Images}
 use Rattle.tree_values.specs.Tree.{Volume}

@@ -1,6 +1,6 @@
 // How a shelving ends, and what stops one.
-ghost use Rattle.std.specs.Prelude.{◌≡◌, IsTrue};
-ghost use Rattle.client_shelf.specs.Ending.{is_shelf_status};
+ghost use Rattle.std.specs.Prelude.{◌≡◌};
+ghost use Rattle.program_words.specs.Status.{code};
 ghost use Rattle.client_shelf.specs.Inside.{status_of_stop};
 
 use client_lines::Unopened;
@@ -104,14 +104,13 @@ impl From<KeepError> for ShelvingStop {
 }
 
 /// The status of a shelving that was stopped so.
-pub(crate) fn status_of_stop(stop: ShelvingStop) -> u8
-    ensures { result ≡ status_of_stop stop }
+pub(crate) fn status_of_stop(stop: ShelvingStop) -> Status
+    ensures { code result ≡ status_of_stop stop }
 {
-    let status = match stop {
+    match stop {
         ShelvingStop::Sink => Status::SinkFailed,
         ShelvingStop::Keeper => Status::KeeperFailed,
         ShelvingStop::Image => Status::OtherImage,
         ShelvingStop::Memory => Status::NoMemory,
-    };
-    status.code()
+    }
 }

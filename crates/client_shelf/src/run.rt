@@ -1,6 +1,7 @@
 // A whole shelving.
 ghost use Rattle.std.specs.Prelude.{◌≡◌, ◌≤◌, ◌⊎◌, ℕ, None, length, take, IfErr, OnOk, OnErr};
 ghost use Rattle.outside.specs.Outside.{Told, Adds, CountsFault, RisesWhere};
+ghost use Rattle.program_words.specs.Status.{code};
 ghost use Rattle.wire_frames.specs.Limits.{max_client};
 ghost use Rattle.client_core.specs.Keeping.{IsKept};
 ghost use Rattle.client_shelf.specs.Shelving.{said, IsShelving, IsStored, IsUnused};
@@ -54,19 +55,20 @@ pub fn shelve<O: Sink, K: Keeper, L: Link>(
       keeper_faults = K.faults keeper.new;
     }) }
 {
-    match ending_of(alloc, shelving, keeper, link) {
+    let status = match ending_of(alloc, shelving, keeper, link) {
         Ok(ending) => tell(alloc, ending, output),
         Err(stop) => status_of_stop(stop),
-    }
+    };
+    status.code()
 }
 
 /// Writes how a shelving ended, and gives the status.
-fn tell<O: Sink>(alloc: Global, ending: Ending, output: &mut O) -> u8
-    ensures text { WritesEnding result (ending_text ending) (O.written output.old) (O.written output.new) }
-    ensures sink { RisesWhere (result ≡ 4) (O.faults output.old) (O.faults output.new) }
+fn tell<O: Sink>(alloc: Global, ending: Ending, output: &mut O) -> Status
+    ensures text { WritesEnding (code result) (ending_text ending) (O.written output.old) (O.written output.new) }
+    ensures sink { RisesWhere (code result ≡ 4) (O.faults output.old) (O.faults output.new) }
 {
     match write_ending(alloc, ending, output) {
-        Ok(()) => Status::Done.code(),
+        Ok(()) => Status::Done,
         Err(stop) => status_of_stop(stop),
     }
 }

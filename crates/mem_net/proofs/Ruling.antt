@@ -1,5 +1,5 @@
 -- The rule that a network keeps which is handed on.
-use Rattle.std.proofs.Common.{◌≡◌, ◌≢◌, ◌⊎◌, inl, inr, ⊎_elim, ℕ, zero, suc, ◌+◌, ◌≤◌, Bool, true, false, List, [], ◌∷◌, ◌++◌, length, Result, Ok, Err, Vec, refl, sym, ◌∙◌, ap, subst, arith, eqb-true}
+use Rattle.std.proofs.Common.{◌≡◌, ◌≢◌, ◌⊎◌, inl, inr, ⊎_elim, ℕ, suc, ◌+◌, ◌≤◌, Bool, true, false, List, [], ◌∷◌, ◌++◌, length, Result, Ok, Err, Vec, refl, sym, ◌∙◌, ap, subst, arith, eqb-true}
 use Rattle.std.specs.Prelude.{◌==◌, if◌then◌else◌}
 use Rattle.std.proofs.Math.Nat.{le_refl, le_trans}
 use Rattle.std.specs.declared.alloc.Global.{Global}
@@ -9,7 +9,6 @@ use Rattle.tree_values.specs.Lists.{IsIn}
 use Rattle.tree_values.specs.Tree.{Volume}
 use Rattle.tree_values.specs.declared.node.Base.{Base}
 use Rattle.tree_values.specs.declared.node.Effect.{Effect}
-use Rattle.tree_values.specs.Effects.{apply_all}
 use Rattle.wire_frames.specs.declared.message.Message.{Message}
 use Rattle.world_rules.specs.declared.asking.Ask.{Ask}
 use Rattle.world_rules.specs.declared.asking.Peer.{Peer}
@@ -18,7 +17,7 @@ use Rattle.world_rules.specs.declared.asking.Answer.{Answer}
 use Rattle.world_rules.specs.declared.asking.Answer.TheVariants.{Reply, Failed, Memory}
 use Rattle.world_rules.specs.declared.link.LinkError.{LinkError}
 use Rattle.world_rules.specs.declared.link.LinkError.TheVariants.{Failed as LinkFailed, Memory as LinkMemory}
-use Rattle.world_rules.specs.Served.{Served, TakenEntry, entry_stored, state_after, taken_of, with_last}
+use Rattle.world_rules.specs.Served.{Served, TakenEntry, entry_stored, taken_of, with_last}
 use Rattle.world_rules.specs.World.{World, Step, Send, Deliver, Other, Relay, happens, happen, Moved}
 use Rattle.world_rules.specs.Asking.{ask_of, AsksOnce}
 use Rattle.world_rules.specs.Run.{AreAllOf}
@@ -30,7 +29,7 @@ use Rattle.mem_wires.specs.declared.fate.Fate.TheVariants.{Pass, LoseRequest, Lo
 use Rattle.mem_wires.specs.Fates.{decides, is_trouble, left_by, AreTakenFrom}
 use Rattle.mem_wires.specs.Spending.{AreQuiet}
 use Rattle.mem_net.specs.Scenes.{TakesFates}
-use Rattle.mem_net.specs.Handed.{IsPlain, loses, lets_pass, OnePasses, FourPass, losses, is_server_failure, is_failure_of, failures_behind, last_failures, WereFew, HasNoOthers, IsByRule, Handing, FewAsksFailInARow}
+use Rattle.mem_net.specs.Handed.{IsPlain, lets_pass, OnePasses, FourPass, losses, is_server_failure, is_failure_of, failures_behind, last_failures, WereFew, HasNoOthers, IsByRule, Handing, FewAsksFailInARow}
 use Rattle.mem_net.specs.declared.parts.NetworkParts.{NetworkParts}
 
 -- ---- fates

@@ -12,7 +12,7 @@ use Rattle.world_rules.specs.declared.link.LinkError.{LinkError}
 use Rattle.world_rules.specs.declared.link.LinkError.TheVariants.{Failed, Memory}
 use Rattle.world_rules.specs.declared.asking.Answer.TheVariants.{Reply}
 use Rattle.world_rules.specs.declared.asking.Answer.TheVariants as answers
-use Rattle.world_rules.specs.Served.{TakenEntry, entry_stored, answer}
+use Rattle.world_rules.specs.Served.{TakenEntry, entry_stored}
 use Rattle.world_rules.specs.World.{World, Is, MovedBy, sendings}
 use Rattle.world_rules.specs.Asking.{ask_of}
 use Rattle.mem_wires.specs.declared.fate.Fate.{Fate}

@@ -1,5 +1,5 @@
 -- Calls that are made again within one window of a connection's time, or two.
-use Rattle.std.proofs.Common.{◌≡◌, inl, inr, ℕ, ◌∙◌, ◌≤◌, min, List, ◌++◌, length, take, drop, Option, None, Some, Result, Ok, Err, refl, sym, subst, ap, arith}
+use Rattle.std.proofs.Common.{◌≡◌, inl, inr, ℕ, ◌∙◌, min, List, ◌++◌, length, take, drop, Option, None, Some, Result, Ok, Err, refl, sym, subst, ap, arith}
 use Rattle.std.proofs.KnownBytes.{Keeps-trans}
 use Rattle.std.proofs.lemmas.List.{length-take, take-append-drop, take-append-le}
 use Rattle.std.specs.Io.{WritesAtMost}

@@ -1,5 +1,5 @@
 -- What a reply is to a head.
-use Rattle.std.specs.Prelude.{◌≡◌, ℕ, List}
+use Rattle.std.specs.Prelude.{ℕ, List}
 use Rattle.wire_frames.specs.declared.message.Message.{Message}
 use Rattle.wire_frames.specs.declared.head.Head.{Head}
 use Rattle.wire_frames.specs.Frame.{Spells}

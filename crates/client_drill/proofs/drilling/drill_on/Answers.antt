@@ -10,7 +10,7 @@ returns-in-Ok-clause-ends g c =
     let p = g.O.Sink.faults c.args.output.now in
     let q = g.O.Sink.faults c.write_all.new.output in
     let told = c.in-Ok.ensures in
-    subst (λ (status : ℕ). DrillEnds c.args.seed c.args.count status a b p q) (sym c.status_of.ensures)
+    subst (λ (status : ℕ). DrillEnds c.args.seed c.args.count status a b p q) (sym (c.code.ensures ∙ c.status_of.ensures))
     (told_so c.args.seed c.args.count c.deref.result.now told.0 told.1.counted (c.deref.ensures.value ∙ told.2) a b p q c.write_all.result c.write_all.ensures.all
     c.write_all.ensures.front c.write_all.ensures.cause)
 

@@ -1,4 +1,4 @@
-use Rattle.std.proofs.Common.{◌≡◌, ◌∙◌, ◌+◌, ap, ℕ, List, length, arith}
+use Rattle.std.proofs.Common.{◌≡◌, ◌∙◌, ◌+◌, ap, length, arith}
 use Rattle.tree_values.specs.Tree.{Volume, total_size}
 use Rattle.server_core.specs.Holding.{Holding, served}
 use Rattle.client_drill.specs.declared.session.Worked.{Worked}

@@ -1,4 +1,3 @@
-use Rattle.std.proofs.Common.{List, ℕ}
 use Rattle.client_drill.specs.declared.summary.Summary.{Summary}
 use Rattle.client_drill.specs.Drilled.{summary_text, Drilled}
 use Rattle.client_drill.proofs.Telling.{with_summary}

@@ -1,4 +1,4 @@
-use Rattle.std.proofs.Common.{◌≡◌, ◌∙◌, ◌+◌, ◌-◌, ◌*◌, ◌∷◌, ◌++◌, [], ap, List, arith}
+use Rattle.std.proofs.Common.{◌∙◌, ◌+◌, ◌-◌, ◌*◌, ◌∷◌, ◌++◌, [], ap, List, arith}
 use Rattle.mem_wires.specs.declared.fate.Fate.{Fate}
 use Rattle.client_drill.specs.Drill.{fates_from}
 use Rattle.client_drill.proofs.Fating.{number_more, fate_more}

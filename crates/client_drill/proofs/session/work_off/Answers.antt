@@ -1,4 +1,4 @@
-use Rattle.std.proofs.Common.{◌≡◌, ◌∙◌, ap, subst, sym, List, ℕ, false, IfOk}
+use Rattle.std.proofs.Common.{◌∙◌, ap, subst, sym, List, ℕ, IfOk}
 use Rattle.mem_wires.specs.Wire.{world_of, new_world}
 use Rattle.mem_wires.specs.declared.fate.Fate.{Fate}
 use Rattle.world_rules.specs.Served.{new_served}

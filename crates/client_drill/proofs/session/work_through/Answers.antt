@@ -1,9 +1,6 @@
-use Rattle.std.proofs.Common.{◌≡◌, ◌∙◌, ap, subst, sym, List, [], ℕ, Option, Some, IfOk, arith, refl}
-use Rattle.outside.specs.Keeper.{Images}
+use Rattle.std.proofs.Common.{◌≡◌, ap, arith}
 use Rattle.outside.specs.MemoryKeeper.{KeeperInMemory, images_of}
-use Rattle.mod_log.specs.Log.{new_log}
-use Rattle.client_core.specs.declared.route.Route.{Route}
-use Rattle.client_drill.specs.Drilled.{drill_route, no_images}
+use Rattle.client_drill.specs.Drilled.{no_images}
 use Rattle.client_drill.proofs.Working.{works_if}
 use Rattle.client_drill.proofs.session.work_through.Goals as goal
 

@@ -1,4 +1,4 @@
-use Rattle.std.proofs.Common.{◌≡◌, ◌∙◌, ap, subst, sym, length, take, List, ℕ, Option, refl}
+use Rattle.std.proofs.Common.{◌∙◌, ap, subst, length, List, ℕ, Option}
 use Rattle.std.specs.Prelude.{IfSome, fold}
 use Rattle.std.proofs.lemmas.List.{take_all}
 use Rattle.wire_frames.specs.declared.message.Message.{Message}

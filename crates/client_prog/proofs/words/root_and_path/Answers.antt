@@ -1,4 +1,4 @@
-use Rattle.std.proofs.Common.{rules, ◌≡◌, ◌∙◌, ℕ, Bool, true, List, sym, ap}
+use Rattle.std.proofs.Common.{rules, ◌∙◌, ℕ, List, sym, ap}
 use Rattle.std.specs.Prelude.{is_ok}
 use Rattle.file_paths.specs.Path.{path_of}
 use Rattle.client_proof.specs.Words.{root_of_word}

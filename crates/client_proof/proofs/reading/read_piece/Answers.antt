@@ -1,4 +1,4 @@
-use Rattle.std.proofs.Common.{rules, arith}
+use Rattle.std.proofs.Common.{rules}
 use Rattle.outside.specs.declared.errors.Failed.{Failed}
 use Rattle.client_proof.proofs.Piecing.{read_added}
 use Rattle.client_proof.proofs.reading.read_piece.Goals as goal

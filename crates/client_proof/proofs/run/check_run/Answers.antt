@@ -1,4 +1,4 @@
-use Rattle.std.proofs.Common.{◌≡◌, ◌∙◌, ℕ, List, Result, Ok, refl, sym, ap, subst}
+use Rattle.std.proofs.Common.{◌≡◌, ◌∙◌, ℕ, List, Ok, sym, ap, subst}
 use Rattle.program_words.specs.Status.{code}
 use Rattle.tree_proof.specs.Checking.{checked}
 use Rattle.client_lines.specs.declared.input.InputEnd.{InputEnd}

@@ -1,5 +1,4 @@
-use Rattle.std.proofs.Common.{◌≡◌, Option, sym, subst}
-use Rattle.client_core.specs.Client.{Client}
+use Rattle.std.proofs.Common.{sym, subst}
 use Rattle.client_shelf.specs.Shelving.{IsUnused}
 use Rattle.client_shelf.specs.Inside.{Finds}
 use Rattle.client_shelf.proofs.Finding.{is_used}

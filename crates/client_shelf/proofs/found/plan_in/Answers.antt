@@ -1,4 +1,4 @@
-use Rattle.std.proofs.Common.{◌≡◌, arith}
+use Rattle.std.proofs.Common.{arith}
 use Rattle.client_shelf.proofs.Finding.{planned_shelf}
 use Rattle.client_shelf.proofs.found.plan_in.Goals as goal
 

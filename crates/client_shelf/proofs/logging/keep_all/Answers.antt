@@ -1,10 +1,9 @@
-use Rattle.std.proofs.Common.{◌≡◌, ℕ, Option, Err, false, sym, subst}
+use Rattle.std.proofs.Common.{ℕ, Option, Err, false, sym, subst}
 use Rattle.outside.specs.Outside.{Told}
 use Rattle.outside.specs.declared.errors.KeepError.{KeepError}
 use Rattle.client_core.specs.declared.keeping.Journal.{Journal}
 use Rattle.client_core.specs.Journal.{next_notes}
 use Rattle.client_core.specs.Keeping.{IsKept, KeepsNext}
-use Rattle.client_shelf.specs.declared.ends.ShelvingStop.{ShelvingStop}
 use Rattle.client_shelf.specs.Inside.{IsBreak}
 use Rattle.client_shelf.proofs.Kept.{all_kept, some_kept, kept_break}
 use Rattle.client_shelf.proofs.logging.keep_all.Goals as goal

@@ -1,6 +1,5 @@
-use Rattle.std.proofs.Common.{◌≡◌, ◌∙◌, ℕ, Option, Result, Ok, subst}
+use Rattle.std.proofs.Common.{◌∙◌, ℕ, Option, Ok, subst}
 use Rattle.client_shelf.specs.declared.ends.Ending.{Ending}
-use Rattle.client_shelf.specs.declared.ends.ShelvingStop.{ShelvingStop}
 use Rattle.client_shelf.specs.Shelving.{Shelving, said}
 use Rattle.client_shelf.specs.Inside.{PullsTo, KeepsAll}
 use Rattle.client_shelf.proofs.Ended.{logged_so}

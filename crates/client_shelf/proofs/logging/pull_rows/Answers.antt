@@ -1,4 +1,4 @@
-use Rattle.std.proofs.Common.{◌≡◌, ◌≢◌, ℕ, is_some, Option, Result, sym, subst}
+use Rattle.std.proofs.Common.{ℕ, is_some, Option, Result, sym, subst}
 use Rattle.client_core.specs.declared.pulling.PullEnd.{PullEnd}
 use Rattle.client_core.specs.declared.route.Route.{Route}
 use Rattle.client_core.specs.Keeping.{IsKept}

@@ -1,4 +1,4 @@
-use Rattle.std.proofs.Common.{◌≡◌, ℕ, Result, subst}
+use Rattle.std.proofs.Common.{ℕ, subst}
 use Rattle.client_core.specs.Keeping.{IsKept}
 use Rattle.client_shelf.specs.Shelving.{Shelving, said}
 use Rattle.client_shelf.specs.Inside.{PlansSo}
