@@ -7,16 +7,19 @@ use Rattle.client_lines.specs.Headline.{Around}
 use Rattle.client_lines.specs.Run.{is_session_status}
 use Rattle.client_lines.specs.Ending.{Faults, SessionEnds}
 use Rattle.client_drill.specs.Ending.{DrillEnds}
-use Rattle.client_shelf.specs.Shelving.{Shelving}
+use Rattle.client_shelf.specs.declared.asked.Shelving.{Shelving as ShelvingWords}
+use Rattle.client_shelf.specs.Shelving.{Shelving, said}
 use Rattle.client_shelf.specs.Ending.{ShelveEnds, is_shelf_status}
 use Rattle.client_proof.specs.Ending.{CheckEnds, is_check_status}
 use Rattle.client_prog.specs.Words.{ClientForm, Run, Drill, Shelve, Check, Invocation, DrillInvocation, CheckInvocation, form_of, route_of}
 use Rattle.client_prog.specs.Ending.{is_status, moment, EndsAs, ClientEnds}
 use Rattle.file_paths.specs.Path.{FilePath, path_of}
+use Rattle.client_prog.specs.declared.words.RunWords.{RunWords}
+use Rattle.client_prog.specs.declared.words.DrillWords.{DrillWords}
 use Rattle.client_prog.specs.declared.words.CheckWords.{CheckWords}
 use Rattle.client_prog.specs.declared.words.Form.{Form}
 use Rattle.client_prog.specs.declared.words.Form.TheVariants as forms
-use Rattle.client_prog.specs.Inside.{IsForm}
+use Rattle.client_prog.specs.Inside.{run_said, drill_said, IsForm}
 
 -- ---- statuses
 
@@ -103,3 +106,13 @@ no_form words status old faults two none = record {
 pub has_check : (words : List (List ℕ)) (form : Form) (check : CheckWords) → form ≡ forms.Check check → IsForm form words
     → (path : FilePath) × (path_of check.path.now ≡ Ok path) × (form_of words ≡ Some (Check (record { root = check.root; path = path })))
 has_check words form check is has = subst (λ (f : Form). IsForm f words) is has
+
+-- and what it says of a run, of a drill and of a shelf
+pub has_run : (words : List (List ℕ)) (form : Form) (run : RunWords) → form ≡ forms.Run run → IsForm form words → form_of words ≡ Some (Run (run_said run))
+has_run words form run is has = (subst (λ (f : Form). IsForm f words) is has).0
+
+pub has_drill : (words : List (List ℕ)) (form : Form) (drill : DrillWords) → form ≡ forms.Drill drill → IsForm form words → form_of words ≡ Some (Drill (drill_said drill))
+has_drill words form drill is has = (subst (λ (f : Form). IsForm f words) is has).0
+
+pub has_shelf : (words : List (List ℕ)) (form : Form) (asked : ShelvingWords) → form ≡ forms.Shelve asked → IsForm form words → form_of words ≡ Some (Shelve (said asked))
+has_shelf words form asked is has = (subst (λ (f : Form). IsForm f words) is has).0

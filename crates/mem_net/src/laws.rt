@@ -1,6 +1,6 @@
 // How a network in memory begins, and what one that is handed on keeps, as contracts of calls that do nothing.
 ghost use Rattle.mem_net.specs.Handed.{FewAsksFailInARow};
-ghost use Rattle.mem_net.specs.Laws.{NewNetworksAreInStep};
+ghost use Rattle.mem_net.specs.Laws.{NewNetworksAreInStep, StopsStay};
 
 /// A client's new log is in step with a network that was just made, where its server has taken nothing of the client.
 pub fn new_networks_are_in_step()
@@ -10,4 +10,9 @@ pub fn new_networks_are_in_step()
 /// Law: of any four asks in a row over a network that is handed on by its rule one did not fail, or was not of the server.
 pub fn few_asks_fail_in_a_row()
     ensures { FewAsksFailInARow }
+{}
+
+/// Law: an ask that meets a stop fails, changes nothing but what was sent and the count of troubles, and leaves the stop where it is.
+pub fn stops_stay()
+    ensures { StopsStay }
 {}
