@@ -25,13 +25,13 @@ use Rattle.mem_wires.specs.Underway.{MovedFree, IsSent, AsksSent, MeetsUnlessMem
 use Rattle.mem_wires.proofs.Taking.{answer-echoes, rose_if}
 
 -- the answer spells what the server answers at some moment after the request was sent
-record IsFreshSent (to : Peer) (address : List ℕ) (request reply : Message) (old new : World) : Type 0 where
+pub record IsFreshSent (to : Peer) (address : List ℕ) (request reply : Message) (old new : World) : Type 0 where
   pub moment : World
   pub before : MovedBy (Is request) [] old moment
   pub after : MovedBy (Is request) (ask_of to address request (Reply reply) ∷ []) moment new
   pub is : reply ≡ answer request moment.served
 
-abbrev IsDirectlySent : Peer → List ℕ → Message → World → World → Result (Vec ℕ Global) LinkError → Type 0
+abbrev pub IsDirectlySent : Peer → List ℕ → Message → World → World → Result (Vec ℕ Global) LinkError → Type 0
 IsDirectlySent to address request old new (Ok frame) =
     (reply : Message) × Spells reply frame.items × IsFreshSent to address request reply old new
 IsDirectlySent to address request old new (Err error) = Unit {0}
