@@ -2,7 +2,7 @@
 ghost use Rattle.std.specs.Prelude.{◌≡◌, ◌↔◌, None, Ok, IfOk, IsOk, OnErr, IsErr};
 ghost use Rattle.outside.specs.Outside.{Told, CountsFault};
 ghost use Rattle.outside.specs.Keeper.{Images, Loads, Saves, Appends};
-ghost use Rattle.real_edge.specs.HeldLock.{Holds, HoldsAt, StayHeld};
+ghost use Rattle.real_edge.specs.Held.{Holds, HoldsAt, StayHeld};
 
 use crate::lock::HeldLock;
 use crate::trouble::{FileStep, Refusal, Trouble, Troubled, Troubles, at};
