@@ -2,6 +2,7 @@
 ghost use Rattle.std.specs.Prelude.{◌≡◌, ◌≢◌, ◌≤◌, ◌∷◌, ℕ, [], false, Ok, Err, IfOk, OnOk, OnErr, IsTrue, take};
 ghost use Rattle.outside.specs.Outside.{Adds, CountsFault, RisesWhere};
 ghost use Rattle.wire_frames.specs.Limits.{max_client};
+ghost use Rattle.program_words.specs.Status.{code};
 ghost use Rattle.client_core.specs.Keeping.{IsKeptReady};
 ghost use Rattle.shell_lang.specs.Lines.{whole_lines, last_line};
 ghost use Rattle.shell_lang.specs.Commands.{read_line};
@@ -77,19 +78,18 @@ impl From<LineStop> for Stop {
 }
 
 /// The status of a run whose input ended so, or that was stopped before.
-fn status_of(ended: Result<InputEnd, Stop>) -> u8
-    ensures status { result ≡ status_of ended }
-    ensures known { IsTrue (is_session_status result) }
+fn status_of(ended: Result<InputEnd, Stop>) -> Status
+    ensures status { code result ≡ status_of ended }
+    ensures known { IsTrue (is_session_status (code result)) }
 {
-    let status = match ended {
+    match ended {
         Ok(InputEnd::Read) => Status::Done,
         Ok(InputEnd::Failed) => Status::SourceFailed,
         Ok(InputEnd::TooLong) => Status::TooLong,
         Err(Stop::Sink) => Status::SinkFailed,
         Err(Stop::Keeper) => Status::KeeperFailed,
         Err(Stop::Memory) => Status::NoMemory,
-    };
-    status.code()
+    }
 }
 
 /// What a line asks for, or why it is refused. Want of memory is the only error.
@@ -380,16 +380,15 @@ fn run<I: Source, O: Sink, K: Keeper, R: Runner, L: Link>(
 }
 
 /// The status of a run that has no client to begin with.
-fn status_unopened(unopened: Unopened) -> u8
-    ensures status { result ≡ status_unopened unopened }
-    ensures known { IsTrue (is_session_status result) }
+fn status_unopened(unopened: Unopened) -> Status
+    ensures status { code result ≡ status_unopened unopened }
+    ensures known { IsTrue (is_session_status (code result)) }
 {
-    let status = match unopened {
+    match unopened {
         Unopened::Keeper => Status::KeeperFailed,
         Unopened::Image => Status::OtherImage,
         Unopened::Memory => Status::NoMemory,
-    };
-    status.code()
+    }
 }
 
 /// Runs the session of the client of this number: opens what is kept of it, reads lines, answers each before it reads on, and ships
@@ -453,8 +452,8 @@ pub fn session_run<I: Source, O: Sink, K: Keeper, R: Runner, L: Link>(
                 link,
             );
             drop(session);
-            status_of(ended)
+            status_of(ended).code()
         }
-        Err(unopened) => status_unopened(unopened),
+        Err(unopened) => status_unopened(unopened).code(),
     }
 }

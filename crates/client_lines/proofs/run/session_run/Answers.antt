@@ -1,4 +1,4 @@
-use Rattle.std.proofs.Common.{rules, ◌≡◌, ℕ, List, [], Option, Err, sym, ap, subst, arith}
+use Rattle.std.proofs.Common.{rules, ◌≡◌, ℕ, List, [], Option, Err, IsTrue, sym, ap, subst, ◌∙◌, arith}
 use Rattle.outside.specs.Outside.{Told}
 use Rattle.outside.specs.Keeper.{Images}
 use Rattle.mod_log.specs.Log.{Log}
@@ -9,7 +9,7 @@ use Rattle.client_lines.specs.declared.run.Stop.TheVariants as stops
 use Rattle.client_lines.specs.declared.opening.Unopened.TheVariants.{Image, Keeper}
 use Rattle.client_session.specs.Session.{Sitting, state_of, opened}
 use Rattle.client_lines.specs.Opening.{status_unopened}
-use Rattle.client_lines.specs.Run.{status_of, IsInputRead}
+use Rattle.client_lines.specs.Run.{status_of, is_session_status, IsInputRead}
 use Rattle.cmd_capture.specs.Runs.{telling}
 use Rattle.client_session.specs.Doing.{beside}
 use Rattle.client_lines.specs.InsideRun.{WentNoting, RunAnswers}
@@ -42,8 +42,8 @@ returns-in-Ok g c =
     let at : c.bytes.result.now ≡ route.image = c.bytes.ensures.value in
     let client = c.in-Ok.client in
     let ended = c.run-ended.result in
-    let status = c.status_of.result in
-    let is : status ≡ status_of ended = c.status_of.ensures.status in
+    let status = c.code.result in
+    let is : status ≡ status_of ended = c.code.ensures ∙ c.status_of.ensures.status in
     let rest = g.I.Source.left c.run-ended.new.input in
     let n = g.O.Sink.written c.run-ended.new.output in
     let j = g.K.Keeper.images c.run-ended.new.keeper in
@@ -63,7 +63,7 @@ returns-in-Ok g c =
     (subst (λ (told : Option Images). WentNoting route ended (RunAnswers route (state_of c.new-session.result) left rest o n ended now) c.new-session.result after told j t u) c.in-Ok.ensures.same c.run-ended.ensures.did)) in
     let kept : IsKept i route.image c.args.number client.log = subst (λ (name : List ℕ). IsKept i name c.args.number client.log) at c.in-Ok.ensures.kept in
     record {
-      known = c.status_of.ensures.known;
+      known = subst (λ (number : ℕ). IsTrue (is_session_status number)) (sym c.code.ensures) c.status_of.ensures.known;
       unopened = λ six. absurd (not_six ended status is six);
       image = λ six. absurd (not_six ended status is six);
       no_image = opened_of_none run i client.log status kept;
@@ -94,8 +94,8 @@ returns-in-Err g c =
     let t = beside (g.L.Link.tells c.args.link.now) (telling (g.R.Runner.runs c.args.runner.now) (g.R.Runner.faults c.args.runner.now)) in
     let at : c.bytes.result.now ≡ route.image = c.bytes.ensures.value in
     let unopened = c.in-Err.unopened in
-    let status = c.status_unopened.result in
-    let is : status ≡ status_unopened unopened = c.status_unopened.ensures.status in
+    let status = c.code-in-Err.result in
+    let is : status ≡ status_unopened unopened = c.code-in-Err.ensures ∙ c.status_unopened.ensures.status in
     let image = λ (cause : unopened ≡ Image) (start : Log) (told : TellsKept i route.image c.args.number start).
     c.in-Err.ensures.image (ap Err cause) start (subst (λ (name : List ℕ). TellsKept i name c.args.number start) (sym at) told) in
     let a = g.I.Source.faults c.args.input.now in
@@ -103,7 +103,7 @@ returns-in-Err g c =
     let p = g.K.Keeper.faults c.args.keeper.now in
     let q = g.K.Keeper.faults c.«open».new.keeper in
     record {
-      known = c.status_unopened.ensures.known;
+      known = subst (λ (number : ℕ). IsTrue (is_session_status number)) (sym c.code-in-Err.ensures) c.status_unopened.ensures.known;
       unopened = λ six. (
         ap (λ (k : Option Images). around left o k t) c.in-Err.ensures.same,
         ap (λ (k : ℕ). record { source = a; sink = d; keeper = k }) (same_at_six p q status unopened is c.in-Err.ensures.cause six),
